@@ -1,23 +1,29 @@
-# make          proves all that the programs stand on, and builds them: bin/tp and bin/samples (half an hour on four cores
-#               the first time); what tp stands on comes first, and `make bin/tp` builds nothing else
-# make demo     two runs of the program, unproved (a minute)
-# make test     every test and every program, unproved (some minutes)
-# make mpi      tree search over Open MPI with the detector for distributed programs, up to 16 processes (a few minutes)
-# make gate     the gate: every proof from nothing, its mutants, each test, each program (see docs/GATE.md)
+# make          proves the programs with all that they use, and builds them: bin/tp and bin/samples (half an hour on four
+#               cores the first time); tp comes first, and `make bin/tp` builds nothing else
+# make demo     two runs of the program, without proofs (a minute)
+# make test     every test and every program, without proofs (some minutes)
+# make mpi      tree search with the detector for distributed programs, and Cholesky with a task graph in each process, over
+#               Open MPI, up to 16 processes (a few minutes)
+# make gate     the gate: every proof from scratch, its mutants, each test, each program (see docs/GATE.md)
 # make mutants  tries all mutants of the crates that changed (ALL=1: of every crate; CRATE=tp_wave: of one)
-# make times    the gate, and its processor seconds by crate
-# make soak     each sample pool 200 times at 8 nodes with 8 workers each, compares what they make and audits their traces;
-#               then the program with strange streams and texts, at a terminal, every stored text cut after each byte, and
-#               texts by chance; the programs over lent data at a terminal
+# make times    the gate, with the processor seconds of each crate
+# make soak     runs each sample pool 200 times at 8 nodes with 8 workers each, compares the outputs and audits the traces;
+#               then runs the program with unusual streams and texts, at a terminal, with every stored text truncated after
+#               each byte, and with random texts; and the programs over borrowed data at a terminal
 # make lib      proves the library for other languages, and builds it: lib/libgerfmuod.a, libgerfmuod.so.0, the headers for C
 #               and C++, the module for Fortran and a pkg-config file
-# make bench    what a step costs that a program in C tells the library, and all programs beside others that do the same, in a
-#               quick form of some minutes (FULL=1: all cases, kept as the numbers of docs/PERFORMANCE.md; see bench/README.md)
-# make docs     draws the pictures of docs/figures anew: of runs by bin/samples, of the crates and of a wave by tools/pictures.py
-# make install PREFIX=/usr/local     puts the proved programs and the library in place
-.PHONY: all lib demo test mpi gate mutants times soak bench docs install clean
-
-PREFIX ?= /usr/local
+# make bench    measures the cost of a step that a program in C reports to the library, and compares all programs with others
+#               that do the same; the quick form takes some minutes (FULL=1: all cases, stored as the numbers of
+#               docs/PERFORMANCE.md; see bench/README.md)
+# make docs     draws the pictures of docs/figures again: runs by bin/samples, the crates and a wave by tools/pictures.py
+# make install  installs the proved programs and the library, with the manual, the completion for bash, the documents, and
+#               packages for pkg-config and CMake. It takes DESTDIR, PREFIX (/usr/local), EXEC_PREFIX, BINDIR, LIBDIR,
+#               INCLUDEDIR, DATADIR, MANDIR, DOCDIR and PYTHONDIR (defaults: `tools/dev install --help`), also in small
+#               letters; BUILT=FOLDER installs what is in FOLDER/bin and FOLDER/lib instead of building it
+# make uninstall  removes what make install put there; it takes the same DESTDIR, PREFIX and DATADIR
+# make dist     packs the committed files into gerfmuod-VERSION.tar.gz
+# make clean    removes everything that was proved and built
+.PHONY: all lib demo test mpi gate mutants times soak bench docs install uninstall dist clean
 
 all: bin/samples
 
@@ -26,7 +32,7 @@ SOURCES := $(shell find crates -name out -prune -o \( -name '*.rt' -o -name '*.a
 bin/tp: $(SOURCES) crates.txt
 	@tools/dev build tp
 
-# (it builds bin/tp, too)
+# (also builds bin/tp)
 bin/samples: $(SOURCES) crates.txt
 	@tools/dev build
 
@@ -44,6 +50,7 @@ test:
 	@tools/dev try
 	@tools/dev capi
 	@tools/dev dag
+	@tools/dev package
 	@tools/dev docs
 	@tools/dev bench --check
 	@tools/dev mutants --stale
@@ -51,7 +58,7 @@ test:
 mpi: lib/libgerfmuod.a
 	@tools/dev mpi
 
-# (one job a check: each further job of a check loads the libraries anew)
+# (one job per check: each further job of a check loads the libraries again)
 gate:
 	RT_JOBS=$$(tools/dev lanes) rt ci
 
@@ -77,16 +84,19 @@ docs: bin/samples
 	@tools/dev draw
 	@tools/pictures.py
 
-install: bin/samples lib/libgerfmuod.a
-	install -D -m 755 bin/tp $(DESTDIR)$(PREFIX)/bin/tp
-	install -D -m 755 bin/samples $(DESTDIR)$(PREFIX)/bin/samples
-	install -D -m 644 lib/libgerfmuod.a $(DESTDIR)$(PREFIX)/lib/libgerfmuod.a
-	install -D -m 755 lib/libgerfmuod.so.0 $(DESTDIR)$(PREFIX)/lib/libgerfmuod.so.0
-	ln -sf libgerfmuod.so.0 $(DESTDIR)$(PREFIX)/lib/libgerfmuod.so
-	install -d $(DESTDIR)$(PREFIX)/include
-	install -m 644 $(addprefix capi/,$(HEADERS)) $(DESTDIR)$(PREFIX)/include
-	install -d $(DESTDIR)$(PREFIX)/lib/pkgconfig
-	sed 's|@LIBRARIES@|$(PREFIX)/lib|; s|@HEADERS@|$(PREFIX)/include|' capi/gerfmuod.pc.in > $(DESTDIR)$(PREFIX)/lib/pkgconfig/gerfmuod.pc
+BUILT ?= .
+FOLDERS := DESTDIR PREFIX EXEC_PREFIX BINDIR LIBDIR INCLUDEDIR DATADIR MANDIR DOCDIR PYTHONDIR
+FOLDERS += prefix exec_prefix bindir libdir includedir datadir mandir docdir pythondir
+GIVEN = $(foreach name,$(FOLDERS),$(if $($(name)),'$(name)=$($(name))'))
+
+install: $(BUILT)/bin/samples $(BUILT)/lib/libgerfmuod.a
+	@tools/dev install --built '$(BUILT)' $(GIVEN)
+
+uninstall:
+	@tools/dev install --remove $(GIVEN)
+
+dist:
+	@tools/dev dist
 
 clean:
 	rm -rf bin lib crates/*/out

@@ -1,7 +1,7 @@
-/* What a checked event costs. `bench time N` prints nanoseconds: of a counter that is raised under a mutex, of a step
- * under the same mutex, and of a step with no mutex. `bench count KIND N` takes N steps of a kind and prints the bytes
- * of memory that the process then has: a tool that counts instructions runs it at two counts. `bench stack` prints how
- * deep the calls go. */
+/* bench.c: the cost of a step. `bench time N` prints nanoseconds: for a counter that is incremented under a mutex, for a
+ * step under the same mutex, and for a step without a mutex. `bench count KIND N` takes N steps of a kind and prints the
+ * resident memory in bytes: a tool that counts instructions runs it with two values of N. `bench stack` prints the stack
+ * that the calls use. */
 #define _XOPEN_SOURCE 700
 #include "gerfmuod.h"
 
@@ -21,7 +21,7 @@ static double now(void) {
     return (double)t.tv_sec * 1e9 + (double)t.tv_nsec;
 }
 
-/* The bytes of memory that the process has, as Linux tells them; 0 where it does not. */
+/* Returns the resident memory in bytes, as Linux reports it; 0 if it does not. */
 static long resident(void) {
     long all = 0, here = 0;
     FILE *told = fopen("/proc/self/statm", "r");
@@ -81,7 +81,7 @@ static unsigned long counted(gerfmuod_core *core, uint32_t steps) {
     return 0;
 }
 
-/* The best of five runs, in nanoseconds a step. */
+/* The best of five runs, in nanoseconds per step. */
 static double best(unsigned long (*run)(gerfmuod_core *, uint32_t), uint32_t steps) {
     double least = 1e300;
     for (int round = 0; round < 5; round++) {
@@ -112,7 +112,7 @@ static void *take_steps(void *unused) {
     return unused;
 }
 
-/* Numbers that lie far apart are kept in a tree. */
+/* Numbers that are far apart are stored in a tree. */
 static void *take_far_steps(void *unused) {
     gerfmuod_core far;
     if (gerfmuod_open(&far, 8)) exit(1);
@@ -141,7 +141,7 @@ static void *close_core(void *unused) {
     return unused;
 }
 
-/* How many bytes of a painted stack a call has written to, less those that a thread takes itself. */
+/* Returns the number of bytes of a painted stack that a call has written to, less those that an empty thread writes to. */
 static size_t depth_of(void *(*job)(void *)) {
     const size_t size = 1 << 20;
     unsigned char *stack = NULL;

@@ -1,14 +1,14 @@
-/* epochs.c: n processes in one program, epoch after epoch, over a network that delays, reorders and doubles.
+/* epochs.c: n processes in one program, epoch after epoch, over a network that delays, reorders and duplicates messages.
  *
  *   cc -O2 -Icapi capi/epochs.c -Llib -lgerfmuod -o epochs
  *   ./epochs PROCESSES EPOCHS RUNS [right|unmarked|dropped]
  *
- * Each process reopens when it likes. Checked: when a process learns of the end of an epoch, all processes have come to the
+ * Each process reopens at a random time. Checked: when a process learns of the end of an epoch, all processes have come to the
  * epoch, none in it has work, and no message of it is under way; no message comes after the end of its epoch; no message is
  * refused as LATE; the epochs of two processes differ by at most one; and all processes reach the end of the last epoch.
  *
- * The others are wrong programs. unmarked: counts a message under its receiver's epoch. dropped: throws away what is refused
- * as NOT_YET. The exit status is 1 for a wrong end, 2 if a run does not end. */
+ * The others are faulty variants, which have to be detected. unmarked: counts a message under its receiver's epoch. dropped:
+ * drops messages that are refused as NOT_YET. The exit status is 1 for a wrong end, 2 if a run does not end. */
 #include "gerfmuod_process.h"
 #include <inttypes.h>
 #include <stdio.h>
@@ -29,7 +29,7 @@ static message *messages;
 static gerfmuod_control_message *controls;
 static size_t room, in_flight, controls_in_flight;
 static uint64_t budget[MAX_EPOCHS];
-static uint64_t *known; /* of how many epochs a process knows the end */
+static uint64_t *known; /* for each process, the number of epochs whose end it knows */
 static uint64_t ends, early, after_the_end, far_apart, late_messages, late_controls, kept;
 
 static uint64_t seed;
@@ -55,7 +55,7 @@ static void do_work(uint32_t i) {
     }
 }
 
-/* A message comes; gives its receiver. */
+/* A message arrives. Returns its receiver. */
 static uint32_t message_comes(void) {
     size_t which = draw((uint32_t)in_flight);
     uint32_t i = messages[which].to;
@@ -106,7 +106,7 @@ static void ask_detector(uint32_t i) {
     }
 }
 
-/* How many processes know the end of the last epoch. */
+/* Returns the number of processes that know the end of the last epoch. */
 static uint32_t informed(void) {
     uint32_t count = 0;
     uint64_t low = process[0].epoch, high = process[0].epoch;

@@ -1,4 +1,4 @@
-! gerfmuod.f90: task graphs from Fortran, over gerfmuod_team.h, which says what each call does and when it is refused.
+! gerfmuod.f90: task graphs from Fortran, over gerfmuod_team.h, which describes each call and its refusals.
 !
 ! Tasks, nodes and classes are counted from 0, as in C. Compile this file with your program and link with -lgerfmuod -pthread.
 module gerfmuod
@@ -10,7 +10,7 @@ module gerfmuod
   integer(c_int32_t), parameter :: gerfmuod_none = -1_c_int32_t
   ! what a turn returned
   integer(c_int32_t), parameter :: gerfmuod_run = 1, gerfmuod_over = 3
-  ! refusals; gerfmuod_name and gerfmuod_meaning have texts for them
+  ! refusals; gerfmuod_name and gerfmuod_meaning return texts for them
   integer(c_int32_t), parameter :: gerfmuod_ok = 0, gerfmuod_no_node = 1, gerfmuod_no_task = 4, gerfmuod_wrong_life = 5
   integer(c_int32_t), parameter :: gerfmuod_inactive = 6, gerfmuod_ended = 15
   integer(c_int32_t), parameter :: gerfmuod_history_full = 16, gerfmuod_no_memory = 17, gerfmuod_bad_spec = 26
@@ -22,7 +22,7 @@ module gerfmuod
   end type
 
   abstract interface
-    ! The body of all tasks: runs one of them. 0: the task is done. Another value: it failed, and the team stops.
+    ! The body of all tasks: runs one of them. Returns 0 if the task is done; another value if it failed, and the team stops.
     function gerfmuod_body(context, task) bind(c) result(failed)
       import :: c_ptr, c_int, c_int32_t
       type(c_ptr), value :: context
@@ -61,6 +61,22 @@ module gerfmuod
       integer(c_int32_t), value :: tasks
       integer(c_int8_t), intent(in), optional :: nodes(*), classes(*)
       integer(c_int32_t), intent(in) :: offsets(*), inputs(*)
+      integer(c_int32_t) :: refused
+    end function
+
+    ! One more input from outside for a task: it does not run before gerfmuod_team_release was called once for each.
+    function gerfmuod_team_outside(team, task) bind(c) result(refused)
+      import :: c_ptr, c_int32_t
+      type(c_ptr), value :: team
+      integer(c_int32_t), value :: task
+      integer(c_int32_t) :: refused
+    end function
+
+    ! One input from outside of a task is there. Any thread may call it.
+    function gerfmuod_team_release(team, task) bind(c) result(refused)
+      import :: c_ptr, c_int32_t
+      type(c_ptr), value :: team
+      integer(c_int32_t), value :: task
       integer(c_int32_t) :: refused
     end function
 
@@ -131,14 +147,14 @@ module gerfmuod
 
 contains
 
-  ! The name of a refusal, as 'NoTask'.
+  ! Returns the name of a refusal, such as 'NoTask'.
   function gerfmuod_name(refused) result(text)
     integer(c_int32_t), intent(in) :: refused
     character(:), allocatable :: text
     text = text_of(name_in_c(refused))
   end function
 
-  ! A sentence that explains a refusal.
+  ! Returns a sentence that explains a refusal.
   function gerfmuod_meaning(refused) result(text)
     integer(c_int32_t), intent(in) :: refused
     character(:), allocatable :: text

@@ -1,29 +1,30 @@
-/* gerfmuod.h: the proved detector of Gerfmuod for C, C++, Rust, Fortran and whatever else calls C.
+/* gerfmuod.h: the proved termination detector of Gerfmuod, for C and every language that can call C.
  *
- * A core is handed each event of a pool of tasks as it happens, one call an event. It keeps the list of those that it
- * took, refuses each that is not lawful after them, and judges the end of the pool by the four counters of F. Mattern
- * (1987). What is proved of it holds whatever it is handed: where it tells GERFMUOD_ENDED with the number of a wave, or
- * gerfmuod_settle answers one, no task was unfinished, no action open and no message under way when that wave ended,
- * and each task of that generation had been inserted, begun and done, each once. It speaks of the events that it was
- * handed: tell it each one, a send before its message can be received, a receipt before the message is acted on.
+ * The caller reports each event of a task pool to a core as it happens, one call per event (a step). The core records
+ * the steps that it took, refuses a step that is not lawful after them, and detects termination with the four counter
+ * method of F. Mattern (1987). Proved, for any sequence of calls: if a step returns GERFMUOD_ENDED with the number of a
+ * wave, or gerfmuod_settle returns one, then no task was unfinished, no action open and no message under way when that
+ * wave ended, and each task of that generation had been inserted, begun and done, each once. The guarantee is about the
+ * events that were reported. Report every event: a send before its message can be received, and a receipt before the
+ * message has any effect.
  *
- * What the caller owes, and nothing checks:
- *   - a gerfmuod_core that was opened and not closed, at an address that is a multiple of 8. It is the library's until
- *     it is closed: nobody else writes to it. Between two calls it may be moved by memcpy, and the old place is dead;
- *   - one call on a core at a time: put a mutex round the calls. Different cores may be called at once;
- *   - a text or a room is as long as the length beside it says, and no call is handed one that overlaps the core. NULL
- *     will do where the length is 0;
- *   - no call from a signal handler, nor in the forked child of a process that has threads;
- *   - 16 KB of room on the stack, of which 6 are known to be used;
- *   - malloc, realloc and free of one allocator: the library calls them. It calls nothing else, and starts no thread.
- * Every other wrong argument is told by a refusal or by an outcome, and then nothing has changed.
+ * Preconditions, which nothing checks:
+ *   - the gerfmuod_core was opened and not closed, and its address is a multiple of 8. No other code writes to it until
+ *     it is closed. Between two calls it may be moved with memcpy; the old copy must not be used again;
+ *   - one call on a core at a time: protect the calls with a mutex. Different cores may be used at the same time;
+ *   - a text or a buffer has the length that is passed with it, and does not overlap the core. NULL is valid if the
+ *     length is 0;
+ *   - no call is made from a signal handler, or in the forked child of a process that has threads;
+ *   - 16 KB of stack are free; the calls were measured to use 6 KB;
+ *   - malloc, realloc and free belong to one allocator. The library calls nothing else, and starts no thread.
+ * Every other invalid argument is reported by a refusal or an outcome, and then nothing has changed.
  *
- * Units: nodes, tasks, actions, messages, generations, waves and steps are counted; lengths and rooms are bytes. Nodes
- * count from 0, generations from 1, and in each generation waves from 1. Numbers of tasks, actions and messages are the
- * caller's, any uint32_t: one row of numbers for the tasks of all nodes, one for all messages, one for the actions of
- * each node. A text that is written ends with no zero byte: print it by its length.
+ * Units: lengths are in bytes. Nodes are numbered from 0, generations from 1, and the waves of each generation from 1.
+ * The caller chooses the numbers of tasks, actions and messages, which may be any uint32_t. The tasks of all nodes share
+ * one set of numbers, all messages share another, and the actions of each node have one. Texts are not terminated by a
+ * zero byte: print them by their length.
  *
- * Link with -lgerfmuod alone, or by pkg-config gerfmuod.
+ * Link with -lgerfmuod, or use pkg-config gerfmuod.
  */
 #ifndef GERFMUOD_H
 #define GERFMUOD_H
@@ -36,23 +37,23 @@
 extern "C" {
 #endif
 
-/* 0.1.0. gerfmuod_version() tells the library's. */
+/* 0.1.0. gerfmuod_version() returns that of the library. */
 #define GERFMUOD_VERSION 100u
 #define GERFMUOD_MAX_NODES 8u
-/* Of all generations of a core together. A task takes 3 and one for each input; a message 3; a wave 3 a node;
- * gerfmuod_settle at most 9 a node, where it is not refused. */
+/* The number of steps of a core, of all generations together. A task takes 3 steps and one for each input, a message 3,
+ * a wave 3 for each node, and gerfmuod_settle at most 9 for each node. */
 #define GERFMUOD_MAX_STEPS 1048576u
 #define GERFMUOD_MAX_INPUTS 16u
 /* The generation of a pool that was not reopened. */
 #define GERFMUOD_FIRST_GENERATION 1u
 
-/* Room for a core: on the stack, in a struct, on the heap. */
+/* The memory of a core: on the stack, in a struct, or on the heap. */
 typedef struct gerfmuod_core {
     uint64_t words[64];
 } gerfmuod_core;
 
-/* The kinds of steps, and their numbers in the order in which gerfmuod_step takes them. Those that a kind has not are
- * not looked at. */
+/* The kinds of steps, and their arguments in the order in which gerfmuod_step takes them. Arguments that a kind does
+ * not have are ignored. */
 enum {
     GERFMUOD_STEP_INSERT = 0,       /* node, task, inputs */
     GERFMUOD_STEP_SUPPLY = 1,       /* task */
@@ -72,7 +73,7 @@ enum {
     GERFMUOD_STEP_REOPEN = 15
 };
 
-/* Why a call was refused. gerfmuod_refusal_name and gerfmuod_refusal_meaning have texts for them. */
+/* Why a call was refused. gerfmuod_refusal_name and gerfmuod_refusal_meaning return texts for them. */
 enum {
     GERFMUOD_REFUSED_NO_NODE = 1,         /* there is no node of this number */
     GERFMUOD_REFUSED_SAME_NODE = 2,       /* the sender and the receiver are one node */
@@ -84,33 +85,33 @@ enum {
     GERFMUOD_REFUSED_NO_ACTION = 8,       /* the action is not open there */
     GERFMUOD_REFUSED_MESSAGE_KNOWN = 9,   /* a message of this number was sent before */
     GERFMUOD_REFUSED_NO_MESSAGE = 10,     /* no such message is under way to that node */
-    GERFMUOD_REFUSED_NOT_IDLE = 11,       /* the node is active, or something is left */
+    GERFMUOD_REFUSED_NOT_IDLE = 11,       /* the node is active, or the pool is not quiet */
     GERFMUOD_REFUSED_NO_TOKEN = 12,       /* the wave has not come so far, or has passed */
     GERFMUOD_REFUSED_WAVE_OPEN = 13,      /* a wave is open, or has ended and is not judged */
     GERFMUOD_REFUSED_WAVE_NOT_ENDED = 14, /* no ended wave waits for judgement */
     GERFMUOD_REFUSED_ENDED = 15,          /* the end was judged */
     GERFMUOD_REFUSED_HISTORY_FULL = 16,   /* there is no room for more steps */
-    GERFMUOD_REFUSED_NO_MEMORY = 17,      /* memory was refused */
+    GERFMUOD_REFUSED_NO_MEMORY = 17,      /* out of memory */
     GERFMUOD_REFUSED_STRANGER = 19,       /* the message is of another generation */
-    GERFMUOD_REFUSED_BAD_SPEC = 26        /* there is no such step, or there cannot be so many nodes */
+    GERFMUOD_REFUSED_BAD_SPEC = 26        /* there is no such step, or a pool cannot have that many nodes */
 };
 
-/* What is told of a step that was taken. */
+/* What a step that was taken showed. */
 enum {
-    GERFMUOD_PLAIN = 0,   /* no more */
-    GERFMUOD_WAVE = 1,    /* a wave ended: its number, and what it adds up as sent and received */
-    GERFMUOD_NOT = 2,     /* its sums and those of the wave before it do not tell the end */
-    GERFMUOD_ENDED = 3,   /* the pool had ended when the wave of this number ended */
+    GERFMUOD_PLAIN = 0,   /* nothing more */
+    GERFMUOD_WAVE = 1,    /* a wave ended: its number, and the messages that it counted as sent and received */
+    GERFMUOD_NOT = 2,     /* the sums of the last two waves do not show termination */
+    GERFMUOD_ENDED = 3,   /* the pool had terminated when the wave of this number ended */
     GERFMUOD_REOPENED = 4 /* the generation of this number begins */
 };
 
-/* The answer to a step: 16 bytes, by value. */
+/* The result of a step: 16 bytes, by value. */
 typedef struct gerfmuod_answer {
-    uint16_t refused;  /* 0: the step was taken. Else its refusal, and nothing has changed */
-    uint16_t told;     /* GERFMUOD_PLAIN to GERFMUOD_REOPENED; 0 where it was refused */
-    uint32_t number;   /* the wave, or the generation; at GERFMUOD_REFUSED_HISTORY_FULL how many steps were taken */
-    uint32_t sent;     /* at GERFMUOD_WAVE; else 0 */
-    uint32_t received; /* likewise */
+    uint16_t refused;  /* 0: the step was taken. Else the refusal, and nothing has changed */
+    uint16_t told;     /* GERFMUOD_PLAIN to GERFMUOD_REOPENED; 0 if the step was refused */
+    uint32_t number;   /* a wave or a generation; at GERFMUOD_REFUSED_HISTORY_FULL the number of steps that were taken */
+    uint32_t sent;     /* messages sent, at GERFMUOD_WAVE; else 0 */
+    uint32_t received; /* messages received, at GERFMUOD_WAVE; else 0 */
 } gerfmuod_answer;
 
 /* The counters of a node in the present generation. */
@@ -124,34 +125,34 @@ typedef struct gerfmuod_counters {
 /* The pool as a whole. */
 typedef struct gerfmuod_pool {
     uint32_t steps;     /* steps that were taken, of all generations */
-    uint32_t room;      /* how many more can be: GERFMUOD_MAX_STEPS less those */
+    uint32_t room;      /* steps that can still be taken: GERFMUOD_MAX_STEPS less those */
     uint32_t under_way; /* messages that were sent and not received */
     bool quiet;         /* no task is unfinished, no action is open, no message is under way */
 } gerfmuod_pool;
 
-/* The answer of gerfmuod_settle. */
+/* The result of gerfmuod_settle. */
 typedef struct gerfmuod_settled {
-    uint32_t refused; /* 0: the end was judged. Else its refusal, and nothing has changed */
-    uint32_t wave;    /* the pool had ended when this wave ended */
-    uint32_t steps;   /* how many steps that took; at GERFMUOD_REFUSED_HISTORY_FULL how many there were before */
+    uint32_t refused; /* 0: termination was detected. Else the refusal, and nothing has changed */
+    uint32_t wave;    /* the pool had terminated when this wave ended */
+    uint32_t steps;   /* the steps that it took; at GERFMUOD_REFUSED_HISTORY_FULL the steps taken before */
 } gerfmuod_settled;
 
-/* What became of a text. */
+/* The outcomes of writing a text. */
 enum {
-    GERFMUOD_WRITTEN = 0,       /* it stands in the room. An audit's: the trace is sound */
-    GERFMUOD_COMPLAINT = 1,     /* it stands in the room, and says which line of the trace is at fault */
+    GERFMUOD_WRITTEN = 0,       /* the text is in the buffer; for an audit: the trace is sound */
+    GERFMUOD_COMPLAINT = 1,     /* the text is in the buffer, and says which line of the trace is invalid */
     GERFMUOD_TOO_LONG = 2,      /* the trace has more than 33,554,432 bytes: nothing is written */
-    GERFMUOD_OUT_OF_MEMORY = 3, /* memory was refused: nothing is written */
-    GERFMUOD_NO_ROOM = 4,       /* nothing is written: the text has `length` bytes, more than the room */
+    GERFMUOD_OUT_OF_MEMORY = 3, /* an allocation failed: nothing is written */
+    GERFMUOD_NO_ROOM = 4,       /* nothing is written: the buffer is shorter than the `length` bytes of the text */
     GERFMUOD_NO_TEXT = 5        /* nothing is written: there is no such text */
 };
 
 typedef struct gerfmuod_written {
     uint32_t outcome; /* GERFMUOD_WRITTEN to GERFMUOD_NO_TEXT */
-    size_t length;    /* how many bytes the text has. No zero byte stands behind them */
+    size_t length;    /* of the text, in bytes. No zero byte follows them */
 } gerfmuod_written;
 
-/* These sizes are the library's, which proves its own. */
+/* The library has the same sizes, which are proved. */
 typedef char gerfmuod_core_has_512_bytes[sizeof(gerfmuod_core) == 512 ? 1 : -1];
 typedef char gerfmuod_answer_has_16_bytes[sizeof(gerfmuod_answer) == 16 ? 1 : -1];
 typedef char gerfmuod_counters_have_16_bytes[sizeof(gerfmuod_counters) == 16 ? 1 : -1];
@@ -159,24 +160,24 @@ typedef char gerfmuod_pool_has_16_bytes[sizeof(gerfmuod_pool) == 16 ? 1 : -1];
 typedef char gerfmuod_settled_has_12_bytes[sizeof(gerfmuod_settled) == 12 ? 1 : -1];
 typedef char gerfmuod_written_has_16_bytes[sizeof(gerfmuod_written) == 16 ? 1 : -1];
 
-/* The version of the library: 10000 for each of the first number, 100 for the second, 1 for the third. */
+/* The version of the library: 10000 * major + 100 * minor + patch. */
 uint32_t gerfmuod_version(void);
 
-/* How many bytes of a gerfmuod_core are in use: at most 512. */
+/* The number of bytes of a gerfmuod_core that the library uses, at most 512. */
 size_t gerfmuod_core_size(void);
 
-/* Opens a core over the nodes 0 to nodes - 1. It takes no memory. Each node begins with one pending: its opening,
- * which gerfmuod_ready closes. Refused: BAD_SPEC where there are not 1 to 8 nodes; the core is then open over one
- * node, so that no later call is undefined, and is closed like any other. */
+/* Opens a core with the nodes 0 to nodes - 1. It allocates nothing. Each node begins with one pending action, its
+ * opening, which gerfmuod_ready closes. Refused: BAD_SPEC if nodes is not 1 to 8; the core is then open with one node,
+ * so that no later call is undefined, and is closed like any other. */
 uint32_t gerfmuod_open(gerfmuod_core *core, uint32_t nodes);
 
-/* Frees what the core took. Its memory may then be opened anew. */
+/* Frees what the core allocated. Its memory may then be opened again. */
 void gerfmuod_close(gerfmuod_core *core);
 
-/* Takes the next step, where it is lawful and there is room for it. Refused for the first that holds: BAD_SPEC for a
- * kind above 15 or an insert with more than 16 inputs; what its kind is checked for, in the order that stands at the
- * calls below; HISTORY_FULL; NO_MEMORY, where the step asks for some: of a task, an action that is opened or a
- * message that is sent, and once in 1,024 steps. */
+/* Takes the next step, if it is lawful and there is room for it. Refused for the first reason that applies: BAD_SPEC
+ * for a kind above 15 or an insert with more than 16 inputs; the checks of its kind, in the order that is given at the
+ * calls below; HISTORY_FULL; NO_MEMORY if an allocation fails. Allocations are for a task, for an action that is opened,
+ * for a message that is sent, and once in 1,024 steps. */
 gerfmuod_answer gerfmuod_step(gerfmuod_core *core, uint32_t kind, uint32_t first, uint32_t second, uint32_t third,
                               uint32_t generation);
 
@@ -186,29 +187,29 @@ gerfmuod_counters gerfmuod_numbers(gerfmuod_core *core, uint32_t node);
 /* The pool as a whole. */
 gerfmuod_pool gerfmuod_whole(gerfmuod_core *core);
 
-/* Starts and judges waves until the end is judged, where nothing is left: at most two waves and 9 steps a node. Refused
- * for the first that holds: ENDED where the end was judged; NOT_IDLE where something is left, which costs no step;
- * HISTORY_FULL where there is no room for 9 steps a node; NO_MEMORY. */
+/* Runs waves until termination is detected, if the pool is quiet: at most two waves, and 9 steps for each node. Refused
+ * for the first reason that applies: ENDED if termination was detected before; NOT_IDLE if the pool is not quiet, which
+ * costs no step; HISTORY_FULL if there is no room for 9 steps for each node; NO_MEMORY. */
 gerfmuod_settled gerfmuod_settle(gerfmuod_core *core);
 
-/* Writes the steps that were taken as a trace, which gerfmuod_audit and `tp audit` judge: 16 bytes, and at most 24 a
- * step. With no room it tells how many there are. NO_TEXT where a number of more than six digits was used. */
+/* Writes the steps that were taken as a trace, which gerfmuod_audit and `tp audit` judge: 16 bytes, and at most 24 for
+ * each step. If room_length is 0, returns the length only. NO_TEXT if a number of more than six digits was used. */
 gerfmuod_written gerfmuod_trace(gerfmuod_core *core, char *room, size_t room_length);
 
-/* Judges a trace as `tp audit` does: WRITTEN or COMPLAINT, with the same text. 256 bytes of room are enough. */
+/* Judges a trace as `tp audit` does, and writes the same text: WRITTEN or COMPLAINT. 256 bytes are enough. */
 gerfmuod_written gerfmuod_audit(const char *text, size_t text_length, char *room, size_t room_length);
 
-/* Writes the name of a refusal, as NoMessage: at most 12 bytes. NO_TEXT where there is none of this number, 1 to 26. */
+/* Writes the name of a refusal, such as NoMessage: at most 12 bytes. NO_TEXT if the number is not 1 to 26. */
 gerfmuod_written gerfmuod_refusal_name(uint32_t refused, char *room, size_t room_length);
 
-/* Writes what a refusal says: at most 128 bytes. NO_TEXT likewise. */
+/* Writes a sentence that explains a refusal: at most 128 bytes. NO_TEXT if the number is not 1 to 26. */
 gerfmuod_written gerfmuod_refusal_meaning(uint32_t refused, char *room, size_t room_length);
 
-/* ---- each kind of step by its name, with what it is checked for, in that order. These are inline functions over
- * gerfmuod_step, and no symbols of the library: a language that does not read this header calls gerfmuod_step with the
+/* ---- One function for each kind of step, with the refusals of its checks, in order. They are inline functions over
+ * gerfmuod_step, not symbols of the library: a language that does not read this header calls gerfmuod_step with the
  * number of the kind. */
 
-/* A fresh task waits at its home node for so many inputs, 0 to 16; it is ready where there are none.
+/* Inserts a task at its home node, which must be active. It waits for 0 to 16 inputs, and is ready if there are none.
  * BAD_SPEC, NO_NODE, TASK_KNOWN, INACTIVE. */
 static inline gerfmuod_answer gerfmuod_insert(gerfmuod_core *core, uint32_t node, uint32_t task, uint32_t inputs) {
     return gerfmuod_step(core, GERFMUOD_STEP_INSERT, node, task, inputs, 0);
@@ -229,78 +230,78 @@ static inline gerfmuod_answer gerfmuod_done(gerfmuod_core *core, uint32_t task) 
     return gerfmuod_step(core, GERFMUOD_STEP_DONE, task, 0, 0, 0);
 }
 
-/* An action opens at a node that is active: it keeps the node so. NO_NODE, ACTION_KNOWN, INACTIVE. */
+/* An action opens at an active node, which stays active until it closes. NO_NODE, ACTION_KNOWN, INACTIVE. */
 static inline gerfmuod_answer gerfmuod_action_open(gerfmuod_core *core, uint32_t node, uint32_t action) {
     return gerfmuod_step(core, GERFMUOD_STEP_ACTION_OPEN, node, action, 0, 0);
 }
 
-/* It closes. NO_NODE, NO_ACTION. */
+/* An action closes. NO_NODE, NO_ACTION. */
 static inline gerfmuod_answer gerfmuod_action_close(gerfmuod_core *core, uint32_t node, uint32_t action) {
     return gerfmuod_step(core, GERFMUOD_STEP_ACTION_CLOSE, node, action, 0, 0);
 }
 
-/* The opening of a node closes: it has what it begins with. NO_NODE, NO_ACTION. */
+/* The opening of a node closes: its first tasks are inserted. NO_NODE, NO_ACTION. */
 static inline gerfmuod_answer gerfmuod_ready(gerfmuod_core *core, uint32_t node) {
     return gerfmuod_step(core, GERFMUOD_STEP_READY, node, 0, 0, 0);
 }
 
-/* A node that is active sends a message to another; a number is used once in a generation.
+/* An active node sends a message to another node. A number is used once in a generation.
  * NO_NODE, STRANGER, SAME_NODE, MESSAGE_KNOWN, INACTIVE. */
 static inline gerfmuod_answer gerfmuod_send(gerfmuod_core *core, uint32_t from, uint32_t to, uint32_t message,
                                             uint32_t generation) {
     return gerfmuod_step(core, GERFMUOD_STEP_SEND, from, to, message, generation);
 }
 
-/* A node receives it, which opens an action there. NO_NODE, STRANGER, NO_MESSAGE. */
+/* A node receives a message, which opens an action there. NO_NODE, STRANGER, NO_MESSAGE. */
 static inline gerfmuod_answer gerfmuod_receive(gerfmuod_core *core, uint32_t node, uint32_t message,
                                                uint32_t generation) {
     return gerfmuod_step(core, GERFMUOD_STEP_RECEIVE, node, message, 0, generation);
 }
 
-/* The message was acted on: its action closes. NO_NODE, STRANGER, NO_ACTION. */
+/* A received message has had its effects: its action closes. NO_NODE, STRANGER, NO_ACTION. */
 static inline gerfmuod_answer gerfmuod_message_end(gerfmuod_core *core, uint32_t node, uint32_t message,
                                                    uint32_t generation) {
     return gerfmuod_step(core, GERFMUOD_STEP_MESSAGE_END, node, message, 0, generation);
 }
 
-/* The next wave opens at node 0. Nodes make a tree: node i above 0 lies below node (i - 1) / 2. ENDED, WAVE_OPEN. */
+/* The next wave starts at node 0. The nodes form a tree: the parent of node i is node (i - 1) / 2. ENDED, WAVE_OPEN. */
 static inline gerfmuod_answer gerfmuod_start(gerfmuod_core *core) {
     return gerfmuod_step(core, GERFMUOD_STEP_START, 0, 0, 0, 0);
 }
 
-/* A node above 0 takes the token of the wave from the node above it. NO_NODE, ENDED, NO_TOKEN. */
+/* A node other than 0 takes the token of the wave from its parent. NO_NODE, ENDED, NO_TOKEN. */
 static inline gerfmuod_answer gerfmuod_down(gerfmuod_core *core, uint32_t node) {
     return gerfmuod_step(core, GERFMUOD_STEP_DOWN, node, 0, 0, 0);
 }
 
-/* An idle node gives its counters, behind those below it; at node 0 the wave ends, and GERFMUOD_WAVE is told.
+/* An idle node reports its counters, after its children did; at node 0 the wave ends, with GERFMUOD_WAVE.
  * NO_NODE, ENDED, NO_TOKEN, NOT_IDLE. */
 static inline gerfmuod_answer gerfmuod_give(gerfmuod_core *core, uint32_t node) {
     return gerfmuod_step(core, GERFMUOD_STEP_GIVE, node, 0, 0, 0);
 }
 
-/* The node above takes what a node above 0 gave. NO_NODE, ENDED, NO_TOKEN. */
+/* The parent of a node takes what the node reported. NO_NODE, ENDED, NO_TOKEN. */
 static inline gerfmuod_answer gerfmuod_up(gerfmuod_core *core, uint32_t node) {
     return gerfmuod_step(core, GERFMUOD_STEP_UP, node, 0, 0, 0);
 }
 
-/* The wave that ended is judged: GERFMUOD_NOT or GERFMUOD_ENDED. ENDED, WAVE_NOT_ENDED. */
+/* Judges the wave that ended: GERFMUOD_NOT or GERFMUOD_ENDED. ENDED, WAVE_NOT_ENDED. */
 static inline gerfmuod_answer gerfmuod_judge(gerfmuod_core *core) {
     return gerfmuod_step(core, GERFMUOD_STEP_JUDGE, 0, 0, 0, 0);
 }
 
-/* The next generation begins, with everything as when the core was opened but for the list of steps, which goes on:
- * GERFMUOD_REOPENED. WRONG_LIFE where the end was not judged. */
+/* Begins the next generation: GERFMUOD_REOPENED. Everything is as in a new core, except the list of steps, which goes on.
+ * WRONG_LIFE if termination was not detected. */
 static inline gerfmuod_answer gerfmuod_reopen(gerfmuod_core *core) {
     return gerfmuod_step(core, GERFMUOD_STEP_REOPEN, 0, 0, 0, 0);
 }
 
-/* How many steps were taken, of all generations. */
+/* The number of steps that were taken, of all generations. */
 static inline uint32_t gerfmuod_length(gerfmuod_core *core) {
     return gerfmuod_whole(core).steps;
 }
 
-/* How many more can be. */
+/* The number of steps that can still be taken. */
 static inline uint32_t gerfmuod_room(gerfmuod_core *core) {
     return gerfmuod_whole(core).room;
 }

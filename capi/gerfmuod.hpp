@@ -8,7 +8,8 @@
 //     pool.run(4);
 //
 // A body runs once, after all tasks that it waits for, and sees what they wrote. A pool is used by one thread, except that
-// run() calls the bodies on several threads. If a body throws, the pool stops, and run() throws that exception.
+// run() calls the bodies on several threads, and that any thread may call outside() and release(). If a body throws, the
+// pool stops, and run() throws that exception.
 // Link with -lgerfmuod -pthread.
 #ifndef GERFMUOD_HPP
 #define GERFMUOD_HPP
@@ -44,12 +45,12 @@ class Refused : public std::runtime_error {
     }
 };
 
-// A task of the pool that made it, for the inputs of later tasks.
+// A task of the pool that created it, to be used as an input of later tasks.
 struct Task {
     std::uint32_t number;
 };
 
-// Where a task runs, and how early: a node, below the pool's number of nodes, and a class, 0 (first) to 3.
+// Where a task runs, and its priority: a node, below the pool's number of nodes, and a class, 0 (first) to 3.
 struct Place {
     std::uint32_t node = 0;
     std::uint32_t class_ = 0;
@@ -67,7 +68,7 @@ class Pool {
         check(refused, GERFMUOD_DAG_NONE);
     }
 
-    // Describes one more task, which waits for the tasks of `after`. Throws Refused, as gerfmuod_team_task says.
+    // Describes one more task, which waits for the tasks in `after`. Throws Refused when gerfmuod_team_task is refused.
     Task task(Body body, const std::vector<Task> &after = {}, Place place = {}) {
         std::vector<std::uint32_t> inputs;
         inputs.reserve(after.size());
@@ -76,22 +77,31 @@ class Pool {
         check(gerfmuod_team_task(team.get(), place.node, place.class_, inputs.data(), inputs.size(), &made.number));
         try {
             bodies.push_back(std::move(body));
-        } catch (...) { // no memory: a task without a body must not run
+        } catch (...) { // out of memory: a task without a body must not run
             gerfmuod_team_stop(team.get(), made.number);
             throw;
         }
         return made;
     }
 
-    // Runs all tasks on `threads` threads, of which the caller is one. Throws what a body threw first, or Refused, as
-    // gerfmuod_team_run says.
+    // One more input from outside for a task, such as a message, a timer or a device: its body does not run before release()
+    // was called once for each. A body may call it, for a task that waits for that body. Throws Refused when
+    // gerfmuod_team_outside is refused.
+    void outside(Task task) { check(gerfmuod_team_outside(team.get(), task.number)); }
+
+    // One input from outside of a task is there; the body sees what this thread wrote before. If the input cannot come, release
+    // it all the same, and let the body throw. Throws Refused when gerfmuod_team_release is refused.
+    void release(Task task) { check(gerfmuod_team_release(team.get(), task.number)); }
+
+    // Runs all tasks on `threads` threads, of which the caller is one. Throws the first exception that a body threw, or
+    // Refused when gerfmuod_team_run is refused.
     void run(std::uint32_t threads = default_threads()) {
         std::uint32_t refused = gerfmuod_team_run(team.get(), threads, call, this);
         if (thrown) std::rethrow_exception(std::exchange(thrown, nullptr));
         check(refused);
     }
 
-    // How many tasks were described.
+    // The number of tasks that were described.
     std::size_t size() const { return bodies.size(); }
 
     // The steps of the pool as a trace, which `tp audit` judges.
@@ -118,7 +128,7 @@ class Pool {
         if (refused) throw Refused(refused, task);
     }
 
-    // The body that the team calls: no exception leaves it.
+    // The body that the team calls. No exception leaves it.
     static int call(void *context, std::uint32_t task) noexcept {
         Pool *pool = static_cast<Pool *>(context);
         try {

@@ -2,24 +2,29 @@
  *
  * You describe a graph: tasks, and for each task the earlier tasks that it waits for (its inputs). Then each of your
  * threads repeats three calls: gerfmuod_dag_next returns a task, the thread runs the task on your data, and
- * gerfmuod_dag_done reports that the task is done. The pool never sees your data, and it starts no thread.
- * gerfmuod_team.h adds the lock, the waiting and the threads; begin there.
+ * gerfmuod_dag_done reports that the task is done. A task may also wait for inputs from outside, such as a message, a
+ * timer or a device: gerfmuod_dag_outside announces one, gerfmuod_dag_release reports that it is there. The pool never sees
+ * your data, and it starts no thread. gerfmuod_team.h adds the lock, the waiting and the threads; begin there.
  *
  * Proved, for every sequence of calls that come one at a time, whatever their arguments:
  *   - gerfmuod_dag_next returns a task at most once, only at the node of that task, and only after each of its inputs was
- *     reported as done, and was received as a message if it comes from another node;
+ *     reported as done, and was received as a message if it comes from another node, and each of its inputs from outside was
+ *     released;
  *   - it returns GERFMUOD_DAG_OVER only if each task of the graph was returned and reported as done, each once, and no
  *     message is under way;
- *   - a call is refused for the first reason that holds, in the order named below, and then changes nothing. Refused because
- *     steps or memory run out, it leaves the graph as it was described.
+ *   - no silent wait: while not all tasks are done and no input from outside is awaited, some task runs, or
+ *     gerfmuod_dag_next at some node returns a task or receives a message;
+ *   - a call is refused for the first reason that applies, in the order named below, and then changes nothing. If it is
+ *     refused because steps or memory run out, the graph stays as it was described; if memory ran out, the call may be repeated.
  *
- * Not proved: that a task which could run is found (tested; ready lists are hints that the pool checks), anything about time,
- * the two headers and gerfmuod_team.c, which are C, and your bodies. What the caller owes:
- *   - one call on a pool at a time: put a mutex round the calls. Different pools may be used at once;
+ * Not proved: that any thread makes the call that the third guarantee names, anything about time, the two headers and
+ * gerfmuod_team.c, which are C, and your bodies. Preconditions, which nothing checks:
+ *   - one call on a pool at a time: protect the calls with a mutex. Different pools may be used at the same time;
  *   - memory of a pool that was opened at least once, at an address that is a multiple of 8. No other code reads or writes it;
  *   - gerfmuod_dag_done is called after the last write of a body, gerfmuod_dag_next before the first read of the next one.
- *     The mutex round both then orders them (happens-before);
- *   - each node that has tasks has a thread that asks, or its tasks never run and the pool never ends.
+ *     The mutex then orders them (happens-before);
+ *   - each node that has tasks has a thread that calls gerfmuod_dag_next, or its tasks never run and the pool never ends;
+ *   - gerfmuod_dag_release is called once for each input from outside, or its task never runs.
  *
  * Tasks, inputs, nodes and steps are counted from 0. Link with -lgerfmuod.
  */
@@ -41,17 +46,17 @@ extern "C" {
 /* The most steps of a pool: 3 for each task, 3 for each input that comes from another node, at most 10 for each node. */
 #define GERFMUOD_DAG_MAX_STEPS 1048576u
 
-/* Why a call was refused. A refused call changes nothing, except as gerfmuod_dag_start, gerfmuod_dag_next and
- * gerfmuod_dag_done say of NO_MEMORY. The names and numbers are those of gerfmuod.h. Every call but gerfmuod_dag_open is refused
- * as NO_POOL if the pool is not open, before anything else is looked at. */
+/* Why a call was refused. A refused call changes nothing, except for NO_MEMORY as described at gerfmuod_dag_start,
+ * gerfmuod_dag_next and gerfmuod_dag_done. The names and numbers are those of gerfmuod.h. Every call except gerfmuod_dag_open
+ * is refused as NO_POOL if the pool is not open, before any other check. */
 enum gerfmuod_dag_refusal {
     GERFMUOD_DAG_OK = 0,            /* the call was not refused */
     GERFMUOD_DAG_NO_NODE = 1,       /* there is no such node, or the task is at another node */
     GERFMUOD_DAG_NO_TASK = 4,       /* there is no such task, or an input is not lower than its task */
     GERFMUOD_DAG_WRONG_LIFE = 5,    /* the task, or the pool, is not in the state that the call needs */
-    GERFMUOD_DAG_INACTIVE = 6,      /* a start that was refused memory has begun at this node */
+    GERFMUOD_DAG_INACTIVE = 6,      /* a start that ran out of memory has begun at this node */
     GERFMUOD_DAG_ENDED = 15,        /* the pool is over */
-    GERFMUOD_DAG_HISTORY_FULL = 16, /* the graph needs more steps than GERFMUOD_DAG_MAX_STEPS */
+    GERFMUOD_DAG_HISTORY_FULL = 16, /* a number would be above GERFMUOD_DAG_MAX_STEPS: of steps, or what the call says */
     GERFMUOD_DAG_NO_MEMORY = 17,    /* an allocation failed */
     GERFMUOD_DAG_NO_POOL = 24,      /* the pool is not open: it was closed, or its opening was refused */
     GERFMUOD_DAG_BAD_SPEC = 26      /* a pool cannot have that many nodes, or there is no such class */
@@ -61,11 +66,11 @@ enum gerfmuod_dag_refusal {
 enum gerfmuod_dag_told {
     GERFMUOD_DAG_PLAIN = 0, /* nothing more */
     GERFMUOD_DAG_RUN = 1,   /* run the task `number`, then call gerfmuod_dag_done */
-    GERFMUOD_DAG_WAIT = 2,  /* no task of this node is ready: wait for news, then ask again */
+    GERFMUOD_DAG_WAIT = 2,  /* no task of this node is ready: wait for news, then call again */
     GERFMUOD_DAG_OVER = 3   /* all tasks are done. `number` is the wave that confirmed it */
 };
 
-/* Room for a pool: on the stack, in a struct, on the heap. */
+/* The memory of a pool: on the stack, in a struct, or on the heap. */
 typedef struct gerfmuod_dag {
     uint64_t words[192];
 } gerfmuod_dag;
@@ -75,7 +80,7 @@ typedef struct gerfmuod_dag_answer {
     uint32_t refused; /* GERFMUOD_DAG_OK, or why the call was refused */
     uint32_t told;    /* an enum gerfmuod_dag_told */
     uint32_t number;  /* a task or a wave; if the refusal is HISTORY_FULL, the number of steps */
-    uint32_t news;    /* bit i is set if a thread that waits at node i should ask again */
+    uint32_t news;    /* bit i is set if a thread that waits at node i should call again */
 } gerfmuod_dag_answer;
 
 /* A step of the history, for a trace. */
@@ -88,28 +93,41 @@ typedef struct gerfmuod_dag_taken {
  * 1 to 8: the pool is then not open. Do not open a pool that is open: what it allocated would be lost. */
 uint32_t gerfmuod_dag_open(gerfmuod_dag *dag, uint32_t nodes);
 
-/* Describes one more task, at a node and of a class, with no input so far. `number` of the result is its number: how many
- * tasks there were. Refused, for the first reason that holds: WRONG_LIFE if the pool was started, NO_NODE, BAD_SPEC (class),
- * HISTORY_FULL if there are GERFMUOD_DAG_MAX_STEPS tasks, NO_MEMORY, INACTIVE. */
+/* Describes one more task, at a node and of a class, with no input so far. `number` of the result is its number: the
+ * number of tasks before it. Refused, for the first reason that applies: WRONG_LIFE if the pool was started, NO_NODE,
+ * BAD_SPEC (class), HISTORY_FULL if there are GERFMUOD_DAG_MAX_STEPS tasks, NO_MEMORY, INACTIVE. */
 gerfmuod_dag_answer gerfmuod_dag_task(gerfmuod_dag *dag, uint32_t node, uint32_t class_);
 
 /* The newest task waits for one more task, whose number is lower. An input may be given twice. Refused, for the first reason
- * that holds: WRONG_LIFE if the pool was started, NO_TASK, HISTORY_FULL if there are GERFMUOD_DAG_MAX_STEPS inputs, NO_MEMORY. */
+ * that applies: WRONG_LIFE if the pool was started, NO_TASK, HISTORY_FULL if there are GERFMUOD_DAG_MAX_STEPS inputs,
+ * NO_MEMORY. */
 gerfmuod_dag_answer gerfmuod_dag_input(gerfmuod_dag *dag, uint32_t task);
 
-/* All tasks are described: gerfmuod_dag_next may return them. Refused before any task runs, for the first reason that holds:
+/* One more input from outside for a task, which is not returned before gerfmuod_dag_release was called once for each of them.
+ * The call is valid before the start, and after it for a task that still waits: a body may announce an input of a task that
+ * waits for it. Refused, for the first reason that applies: NO_TASK; WRONG_LIFE if gerfmuod_dag_next returned the task, or if
+ * the pool was started and the task waits for nothing, so that it may be returned at any time; HISTORY_FULL if the task awaits
+ * GERFMUOD_DAG_MAX_STEPS of them. */
+gerfmuod_dag_answer gerfmuod_dag_outside(gerfmuod_dag *dag, uint32_t task);
+
+/* One input from outside of a task is there, before the start or after it. `news` has the bit of the task's node if the task
+ * now waits for nothing. Refused, for the first reason that applies: NO_TASK; WRONG_LIFE if the task awaits none. */
+gerfmuod_dag_answer gerfmuod_dag_release(gerfmuod_dag *dag, uint32_t task);
+
+/* All tasks are described: gerfmuod_dag_next may return them. Refused before any task runs, for the first reason that applies:
  * WRONG_LIFE if the pool was started before; HISTORY_FULL if the whole graph needs more steps than there are; NO_MEMORY,
  * after which gerfmuod_dag_start may be called again. */
 gerfmuod_dag_answer gerfmuod_dag_start(gerfmuod_dag *dag);
 
 /* What a thread of this node does next: GERFMUOD_DAG_RUN, WAIT or OVER. If it is RUN and the node has another ready task,
- * `news` has the bit of this node. Refused, for the first reason that holds: WRONG_LIFE if the pool was not started, NO_NODE;
- * NO_MEMORY, after which the pool may wait for ever: close it. */
+ * `news` has the bit of this node. Refused, for the first reason that applies: WRONG_LIFE if the pool was not started, NO_NODE;
+ * NO_MEMORY, after which gerfmuod_dag_next may be called again: no task was returned, but messages may have been received. */
 gerfmuod_dag_answer gerfmuod_dag_next(gerfmuod_dag *dag, uint32_t node);
 
-/* A task of this node was run. `news` has the bits of the other nodes that received a message. Refused, for the first reason
- * that holds: NO_TASK, WRONG_LIFE if gerfmuod_dag_next did not return the task or it is done already, NO_NODE; NO_MEMORY,
- * after which the pool may wait for ever: close it. */
+/* A task of this node was run. `news` has the bits of the other nodes to which it sent a message. Refused, for the first
+ * reason that applies: NO_TASK, WRONG_LIFE if gerfmuod_dag_next did not return the task or it is done already, NO_NODE;
+ * NO_MEMORY, after which gerfmuod_dag_done may be called again: some messages may have been sent, none is sent twice, and the
+ * `news` of the call that succeeds has the nodes of all of them. */
 gerfmuod_dag_answer gerfmuod_dag_done(gerfmuod_dag *dag, uint32_t node, uint32_t task);
 
 /* The step with number k, from 0. Its kind is 255 if there is none, or if the pool is not open. */
@@ -118,7 +136,7 @@ gerfmuod_dag_taken gerfmuod_dag_step(const gerfmuod_dag *dag, uint32_t k);
 /* Frees what the pool allocated. The pool is then not open, and may be opened again. Refused: NO_POOL. */
 gerfmuod_dag_answer gerfmuod_dag_close(gerfmuod_dag *dag);
 
-/* The sizes are those of the library, which proves its own. */
+/* The library has the same sizes, which are proved. */
 #if defined(__cplusplus)
 #define GERFMUOD_DAG_ASSERT(name, holds) static_assert(holds, #name)
 #elif defined(__STDC_VERSION__) && __STDC_VERSION__ >= 201112L

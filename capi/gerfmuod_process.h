@@ -6,7 +6,7 @@
  *
  *   begin       gerfmuod_process_init(&p, number, n): one piece of work is open, the beginning of the process.
  *   work        gerfmuod_process_add_work(&p) before another piece of work; gerfmuod_process_finish_work(&p) after each.
- *   send        gerfmuod_process_count_sent(&p). If it returns 0, hand the message to the transport, with p.epoch.
+ *   send        gerfmuod_process_count_sent(&p). If it returns 0, pass the message to the transport, with p.epoch.
  *   receive     gerfmuod_process_count_received(&p, epoch of the message), before the message has any effect: it is a piece
  *               of work. After its last effect (work added, replies counted as sent): gerfmuod_process_finish_work(&p).
  *   a control   gerfmuod_process_take(&p, &message). A refusal is no error, except NOT_YET below: the message came late, or
@@ -17,7 +17,7 @@
  *               AGAIN: see whether a message has come, then call again, at once or after a pause. ENDED: in this epoch no
  *               process has work, and no counted message is under way. A loop also has to stop at NOT_OPEN.
  *   once more   after ENDED, gerfmuod_process_reopen(&p) begins the next epoch. It waits for no other process. If a message
- *               or control message is refused as NOT_YET, keep it and hand it in again after gerfmuod_process_reopen: it is
+ *               or control message is refused as NOT_YET, keep it and pass it again after gerfmuod_process_reopen: it is
  *               of the next epoch, never of a later one. Drop a control message that is refused as LATE. No counted
  *               message is ever late. A program of one epoch ignores epochs: all of them are 0.
  *
@@ -28,14 +28,14 @@
  *   - at most (2 waves + 1)(n - 1) control messages are sent in an epoch;
  *   - if n <= 2^20, then until ENDED is returned everywhere, a call of gerfmuod_process_next or a control message that was
  *     sent does something; and one that has come need not come again;
- *   - if n <= 2^20, over a network that brings each control message once, in any order: where nothing is left to do, all
+ *   - if n <= 2^20, over a network that brings each control message once, in any order: if nothing is left to do, all
  *     processes have come to the last epoch and know its end, and no control message is refused as LATE.
  *
- * What the caller owes, and nothing checks:
- *   - hand a message to the transport after gerfmuod_process_count_sent, and only if that returned 0;
+ * Preconditions, which nothing checks:
+ *   - pass a message to the transport after gerfmuod_process_count_sent, and only if that returned 0;
  *   - count a message as received once, at its destination, after it came and before it has an effect. If a data message
- *     is doubled and counted twice, nothing is guaranteed;
- *   - outside open work a process sends no counted message. Messages that make no work, such as a request for work, need
+ *     is duplicated and counted twice, nothing is guaranteed;
+ *   - outside open work a process sends no counted message. Messages that create no work, such as a request for work, need
  *     not be counted;
  *   - no control message is forged or altered. No message goes with another epoch than its sender's at the time of
  *     gerfmuod_process_count_sent, no control message with another than gerfmuod_process_next wrote into it;
@@ -61,7 +61,7 @@ extern "C" {
 #define GERFMUOD_PROCESS_MAX_COUNT ((uint64_t)1 << 43)
 
 /* Why a call was refused. A refused call changes nothing; gerfmuod_process_init alone leaves a process that is not open.
- * A call that is refused for two reasons returns the one that stands first behind its name below. Each refusal is above
+ * A call that is refused for two reasons returns the one that is listed first at its declaration below. Each refusal is above
  * 100, so it is no result of gerfmuod_process_next, and no refusal of gerfmuod.h. */
 enum {
     GERFMUOD_PROCESS_OK = 0,
@@ -76,7 +76,7 @@ enum {
     GERFMUOD_PROCESS_MALFORMED = 109   /* there is no such control message */
 };
 
-/* What gerfmuod_process_next returns, if it is not refused: only as GERFMUOD_PROCESS_NOT_OPEN, which is above 100. */
+/* What gerfmuod_process_next returns. Its only refusal is GERFMUOD_PROCESS_NOT_OPEN, which is above 100. */
 enum {
     GERFMUOD_PROCESS_NOTHING = 0, /* wait for a message, for a control message, or until the process is idle */
     GERFMUOD_PROCESS_SEND = 1,    /* send the control message that was written, to process message.to */
@@ -92,12 +92,12 @@ typedef struct gerfmuod_process {
     uint32_t processes; /* at most 2^20 for the guarantee that all learn of the end */
     uint64_t pending;   /* open pieces of work: the process is idle if there are none */
     uint64_t sent;      /* messages counted as sent in this epoch */
-    uint64_t received;  /* and as received */
+    uint64_t received;  /* messages counted as received in this epoch */
     uint64_t wave;      /* the newest wave that came here in this epoch, from 1 */
     uint64_t taken_sent;
     uint64_t taken_received;
     uint64_t last_received;
-    uint8_t known; /* a byte that is not 0 says yes, here and below */
+    uint8_t known; /* a flag, set if it is not 0; so are the bytes below */
     uint8_t here;
     uint8_t down_left;
     uint8_t down_right;
@@ -122,8 +122,8 @@ typedef struct gerfmuod_control_message {
     uint64_t to;
     uint64_t wave;
     uint64_t token;    /* 0, 1 or 2, as above */
-    uint64_t sent;     /* of a wave that comes back up: messages sent by `from` and all processes below it */
-    uint64_t received; /* and received */
+    uint64_t sent;     /* at token 1: messages sent by `from` and all processes below it */
+    uint64_t received; /* at token 1: messages received by them */
 } gerfmuod_control_message;
 
 #if defined(__cplusplus) && __cplusplus >= 201103L
@@ -193,17 +193,18 @@ uint32_t gerfmuod_process_outgoing_message_start(gerfmuod_process *process);
 uint32_t gerfmuod_process_incoming_message_start(gerfmuod_process *process, uint64_t epoch);
 uint32_t gerfmuod_process_incoming_message_end(gerfmuod_process *process);
 
-/* Takes a control message: any bytes, of which only forged ones can do harm. NOT_OPEN, MALFORMED, NOT_YET, LATE, NOT_DUE. */
+/* Takes a control message. Any bytes are safe to pass, but a forged message voids the guarantees. NOT_OPEN, MALFORMED,
+ * NOT_YET, LATE, NOT_DUE. */
 uint32_t gerfmuod_process_take(gerfmuod_process *process, const gerfmuod_control_message *message);
 
-/* What to do next. `message` is written only if it returns SEND. NOT_OPEN. */
+/* Returns what to do next. `message` is written only if it returns SEND. NOT_OPEN. */
 uint32_t gerfmuod_process_next(gerfmuod_process *process, gerfmuod_control_message *message);
 
-/* Begins the next epoch, with one piece of work open; after ENDED it is refused FULL alone, at epoch 2^64 - 1. NOT_OPEN,
+/* Begins the next epoch, with one piece of work open. After ENDED the only refusal is FULL, in epoch 2^64 - 1. NOT_OPEN,
  * NOT_ENDED, FULL. */
 uint32_t gerfmuod_process_reopen(gerfmuod_process *process);
 
-/* These only read, and refuse nothing. A process that is not open is not over. */
+/* These calls only read, and are never refused. A process that is not open is not over. */
 bool gerfmuod_process_is_open(const gerfmuod_process *process);
 bool gerfmuod_process_is_over(const gerfmuod_process *process);
 uint64_t gerfmuod_process_epoch(const gerfmuod_process *process);
@@ -212,14 +213,15 @@ uint64_t gerfmuod_process_sent(const gerfmuod_process *process);
 uint64_t gerfmuod_process_received(const gerfmuod_process *process);
 uint64_t gerfmuod_process_wave(const gerfmuod_process *process);
 
-/* What became of the text: outcome 0, it was written; 4, it has no room, and nothing was written. The text has `length`
- * bytes, and no zero byte at the end. */
+/* The result of writing a text. Outcome 0: it was written; 4: the buffer is too short, and nothing was written. The text
+ * has `length` bytes, and no zero byte at the end. */
 typedef struct gerfmuod_process_text {
     uint32_t outcome;
     size_t length;
 } gerfmuod_process_text;
 
-/* Writes into `room` what a refusal says; of OK and of a number that is no refusal it says that. 100 bytes hold each. */
+/* Writes a sentence that explains a refusal to `room`, also for OK and for a number that is no refusal. 100 bytes are
+ * enough. */
 gerfmuod_process_text gerfmuod_process_meaning(uint32_t refused, char *room, size_t room_length);
 
 #ifdef __cplusplus

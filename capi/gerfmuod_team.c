@@ -1,7 +1,8 @@
-/* gerfmuod_team.c: a pool of gerfmuod_dag.h with its lock, its waiting and its threads. C over pthreads, not proved.
+/* gerfmuod_team.c: a pool of gerfmuod_dag.h with a lock and threads that wait. C over pthreads, not proved.
  *
  * One mutex protects the pool and every field. A thread that finds no task first spins on a counter of its node, if there
- * is a processor for it, and then sleeps on a condition variable of its node. */
+ * is a processor for it, and then sleeps on a condition variable of its node. News of a node, from a task that is done or
+ * from outside, raises its counter and wakes one of its threads. */
 #ifndef _GNU_SOURCE
 #define _GNU_SOURCE /* sched_getaffinity */
 #endif
@@ -15,7 +16,7 @@
 #include <string.h>
 #include <unistd.h>
 
-/* How often a thread polls in one turn before it sleeps: some 20 to 100 microseconds. */
+/* The number of polls of a thread in one turn before it sleeps: 20 to 100 microseconds. */
 enum { SPINS = 2000, ALL_NODES = (1 << GERFMUOD_DAG_MAX_NODES) - 1 };
 
 struct gerfmuod_team {
@@ -30,8 +31,8 @@ struct gerfmuod_team {
     uint32_t executing;         /* tasks that were returned and are not done */
     uint32_t waiting, spinning; /* threads that wait, and those of them that spin */
     bool is_over, is_in_run;
-    char apart[64]; /* keeps what spinning threads read off the cache lines above */
-    uint32_t version[GERFMUOD_DAG_MAX_NODES]; /* raised at news; read without the lock */
+    char apart[64]; /* keeps the counters that spinning threads read off the cache lines above */
+    uint32_t version[GERFMUOD_DAG_MAX_NODES]; /* incremented at news; read without the lock */
 };
 
 /* ---- opening and describing */
@@ -74,7 +75,7 @@ void gerfmuod_team_close(gerfmuod_team *team) {
     free(team);
 }
 
-/* Raises the counters of these nodes (bits) and wakes one sleeping thread of each, or all. */
+/* Increments the counters of these nodes (bits) and wakes one sleeping thread of each, or all. */
 static void wake(gerfmuod_team *team, uint32_t nodes, bool wake_all) {
     for (uint32_t i = 0; nodes >> i; i++) {
         if (!(nodes >> i & 1)) continue;
@@ -88,13 +89,13 @@ static inline void tell(gerfmuod_team *team, uint32_t nodes, bool wake_all) {
     if (nodes && team->waiting) wake(team, nodes, wake_all);
 }
 
-/* A refusal about a task. */
+/* Records and returns a refusal about a task. */
 static uint32_t refuse(gerfmuod_team *team, uint32_t refused, uint32_t task) {
     team->at = task;
     return refused;
 }
 
-/* A refusal after which the team cannot go on: every later turn gets it. */
+/* Records a refusal after which the team cannot go on: every later turn returns it. */
 static uint32_t fail(gerfmuod_team *team, uint32_t refused, uint32_t task) {
     if (!team->fault) {
         team->fault = refuse(team, refused, task);
@@ -103,12 +104,12 @@ static uint32_t fail(gerfmuod_team *team, uint32_t refused, uint32_t task) {
     return team->fault;
 }
 
-/* Whether the pool is as it was before it refused. */
+/* Returns whether the refused call changed nothing. */
 static bool changes_nothing(uint32_t refused) {
     return refused != GERFMUOD_DAG_NO_MEMORY && refused != GERFMUOD_DAG_HISTORY_FULL;
 }
 
-/* A task and its inputs, while the graph may grow. A refusal changes nothing, or ends the team. */
+/* Describes a task and its inputs. A refusal changes nothing, or ends the team. */
 static inline uint32_t describe_task(gerfmuod_team *team, uint32_t node, uint32_t class_, const uint32_t *inputs, size_t count) {
     uint32_t number = team->tasks, refused;
     for (size_t k = 0; k < count; k++)
@@ -124,7 +125,7 @@ static inline uint32_t describe_task(gerfmuod_team *team, uint32_t node, uint32_
     return GERFMUOD_DAG_OK;
 }
 
-/* Whether tasks may be described. */
+/* Returns the refusal if no task may be described now. */
 static uint32_t check_description(gerfmuod_team *team) {
     if (team->fault) return team->fault;
     return team->threads ? refuse(team, GERFMUOD_DAG_WRONG_LIFE, team->tasks) : GERFMUOD_DAG_OK;
@@ -155,9 +156,34 @@ uint32_t gerfmuod_team_describe(gerfmuod_team *team, uint32_t tasks, const uint8
     return refused;
 }
 
+/* ---- inputs from outside */
+
+/* Returns the refusal of a call about a task, which left the pool as it was. If there is none, wakes the threads with news. */
+static uint32_t result_of(gerfmuod_team *team, gerfmuod_dag_answer answer, uint32_t task) {
+    if (answer.refused) return refuse(team, answer.refused, task);
+    tell(team, answer.news, false);
+    return GERFMUOD_DAG_OK;
+}
+
+uint32_t gerfmuod_team_outside(gerfmuod_team *team, uint32_t task) {
+    pthread_mutex_lock(&team->lock);
+    uint32_t refused = team->fault;
+    if (!refused) refused = result_of(team, gerfmuod_dag_outside(&team->dag, task), task);
+    pthread_mutex_unlock(&team->lock);
+    return refused;
+}
+
+uint32_t gerfmuod_team_release(gerfmuod_team *team, uint32_t task) {
+    pthread_mutex_lock(&team->lock);
+    uint32_t refused = team->fault;
+    if (!refused) refused = result_of(team, gerfmuod_dag_release(&team->dag, task), task);
+    pthread_mutex_unlock(&team->lock);
+    return refused;
+}
+
 /* ---- running */
 
-/* Whether each node that has a task has one of so many threads. */
+/* Returns the refusal if a node that has a task would have none of the threads. */
 static uint32_t check_threads(gerfmuod_team *team, uint32_t threads) {
     for (uint32_t i = threads; i < team->nodes; i++)
         if (!threads || team->first_task[i] != GERFMUOD_DAG_NONE)
@@ -165,7 +191,7 @@ static uint32_t check_threads(gerfmuod_team *team, uint32_t threads) {
     return GERFMUOD_DAG_OK;
 }
 
-/* Whether the pool may be started with so many threads. */
+/* Returns the refusal if the pool may not be started with this number of threads. */
 static uint32_t check_start(gerfmuod_team *team, uint32_t threads) {
     if (team->fault) return team->fault;
     if (team->is_in_run) return refuse(team, GERFMUOD_TEAM_RUNNING, GERFMUOD_DAG_NONE);
@@ -174,7 +200,7 @@ static uint32_t check_start(gerfmuod_team *team, uint32_t threads) {
     return check_threads(team, threads);
 }
 
-/* Starts the pool. Tasks may have been described since check_start, so it looks at the threads again. */
+/* Starts the pool. Tasks may have been described since check_start, so this checks the threads again. */
 static uint32_t start(gerfmuod_team *team, uint32_t threads) {
     uint32_t refused = check_threads(team, threads);
     if (refused) return refused;
@@ -207,7 +233,7 @@ static void sleep_until_news(gerfmuod_team *team, uint32_t node) {
     team->sleeping[node]--;
 }
 
-/* Polls until there is news, without the lock. Returns the polls that are left. */
+/* Polls until there is news, without the lock. Returns the number of polls that are left. */
 static uint32_t spin_until_news(gerfmuod_team *team, uint32_t node, uint32_t spins) {
     uint32_t seen = __atomic_load_n(&team->version[node], __ATOMIC_RELAXED);
     team->spinning++;
@@ -221,7 +247,7 @@ static uint32_t spin_until_news(gerfmuod_team *team, uint32_t node, uint32_t spi
     return spins;
 }
 
-/* Waits for news at a node: spins if polls are left and a processor has nothing else to do. Returns the polls that are left. */
+/* Waits for news at a node: spins if polls are left and a processor is idle. Returns the number of polls that are left. */
 static uint32_t wait_for_news(gerfmuod_team *team, uint32_t node, uint32_t spins) {
     team->waiting++;
     if (spins > 0 && team->spinning + team->executing < team->processors) spins = spin_until_news(team, node, spins);
@@ -230,7 +256,7 @@ static uint32_t wait_for_news(gerfmuod_team *team, uint32_t node, uint32_t spins
     return spins;
 }
 
-/* The next task of a node, as soon as there is one; the end; or the refusal that ends every turn. */
+/* Returns the next task of a node, waiting for it; the end; or the refusal that ends every turn. */
 static gerfmuod_dag_answer take(gerfmuod_team *team, uint32_t node) {
     gerfmuod_dag_answer answer = {0, 0, 0, 0};
     for (uint32_t spins = SPINS; !team->fault; spins = wait_for_news(team, node, spins)) {
@@ -277,7 +303,7 @@ void gerfmuod_team_stop(gerfmuod_team *team, uint32_t task) {
     pthread_mutex_unlock(&team->lock);
 }
 
-/* What the threads of one run share. They wait at the gate until it is known that all of them are there. */
+/* The state that the threads of one run share. They wait at the gate until it is known that all of them started. */
 struct run {
     gerfmuod_team *team;
     gerfmuod_team_body body;
@@ -370,9 +396,9 @@ static const struct refusal {
     {GERFMUOD_DAG_NO_NODE, "NoNode", "there is no such node, or the task is at another node"},
     {GERFMUOD_DAG_NO_TASK, "NoTask", "there is no such task, or an input is not lower than its task"},
     {GERFMUOD_DAG_WRONG_LIFE, "WrongLife", "the task or the pool is not in the state that the call needs"},
-    {GERFMUOD_DAG_INACTIVE, "Inactive", "a start that was refused memory has begun at this node"},
+    {GERFMUOD_DAG_INACTIVE, "Inactive", "a start that ran out of memory has begun at this node"},
     {GERFMUOD_DAG_ENDED, "Ended", "the pool is over"},
-    {GERFMUOD_DAG_HISTORY_FULL, "HistoryFull", "the graph needs more steps than a pool has"},
+    {GERFMUOD_DAG_HISTORY_FULL, "HistoryFull", "the graph needs more steps than a pool has, or a task awaits too many inputs"},
     {GERFMUOD_DAG_NO_MEMORY, "NoMemory", "an allocation failed"},
     {GERFMUOD_DAG_NO_POOL, "NoPool", "the pool is not open"},
     {GERFMUOD_DAG_BAD_SPEC, "BadSpec", "a number of nodes, a class or an array is out of its range"},
@@ -393,7 +419,7 @@ const char *gerfmuod_team_name(uint32_t refused) { return refusal_of(refused)->n
 
 const char *gerfmuod_team_meaning(uint32_t refused) { return refusal_of(refused)->meaning; }
 
-/* A step in the words of a trace, and how many of its numbers follow. The order is that of GERFMUOD_STEP_* in gerfmuod.h. */
+/* The keyword of a step in a trace, and the number of its arguments. The order is that of GERFMUOD_STEP_* in gerfmuod.h. */
 static const struct word {
     const char *word;
     int numbers;
@@ -419,7 +445,7 @@ static void append_number(struct text *text, uint32_t number) {
     append(text, digits);
 }
 
-/* The last judgement of a pool that is over found its end, in the wave before it. */
+/* The last judgement of a pool that is over detected termination, with the wave before it. */
 static void append_step(struct text *text, gerfmuod_dag_taken step, uint32_t waves, uint32_t last_wave) {
     const uint32_t numbers[] = {step.first, step.second, step.third};
     append(text, words[step.kind].word);

@@ -1,4 +1,4 @@
-/* gerfmuod_team.h: runs a task graph on POSIX threads: a pool of gerfmuod_dag.h with its lock, its waiting and its threads.
+/* gerfmuod_team.h: runs a task graph on POSIX threads. A team is a pool of gerfmuod_dag.h with a lock and threads that wait.
  *
  *     gerfmuod_team *team;
  *     uint32_t root, last;
@@ -10,12 +10,12 @@
  *     gerfmuod_team_close(team);
  *
  * A node is a group of tasks with a ready list of its own. One node with all threads is the right choice in most cases. More
- * nodes decide which threads run a task (locality) and give traces with messages; all share one lock. Class 0 tasks are
+ * nodes determine which threads run a task (locality) and result in traces with messages; all share one lock. Class 0 tasks are
  * returned before those of classes 1 to 3.
  *
  * This file and gerfmuod_team.c are C: they are tested, not proved. What the pool below guarantees is in gerfmuod_dag.h.
- * Every function except open, run and close may be called by several threads at once, also from a body. Each returns
- * GERFMUOD_DAG_OK or why it was refused: an enum gerfmuod_dag_refusal or an enum gerfmuod_team_refusal.
+ * Every function except open, run and close may be called by several threads at once, also from a body, and by threads that
+ * run no tasks. Each returns GERFMUOD_DAG_OK or the refusal: an enum gerfmuod_dag_refusal or an enum gerfmuod_team_refusal.
  *
  * Link with -lgerfmuod -pthread.
  */
@@ -32,13 +32,13 @@ typedef struct gerfmuod_team gerfmuod_team;
 
 /* Refusals of the team, in addition to those of the pool. */
 enum gerfmuod_team_refusal {
-    GERFMUOD_TEAM_NO_THREAD = 64,    /* a node with a task gets no thread: `threads` is too small */
+    GERFMUOD_TEAM_NO_THREAD = 64,    /* a node with a task has no thread: `threads` is too small */
     GERFMUOD_TEAM_NOT_STARTED = 65,  /* the operating system started too few threads; no body ran */
     GERFMUOD_TEAM_STOPPED = 66,      /* a body failed, or gerfmuod_team_stop was called */
     GERFMUOD_TEAM_RUNNING = 67       /* gerfmuod_team_run was called while it runs */
 };
 
-/* The body of all tasks: runs one of them. 0: the task is done. Another value: it failed, and the team stops. */
+/* The body of all tasks: runs one of them. Returns 0 if the task is done; another value if it failed, and the team stops. */
 typedef int (*gerfmuod_team_body)(void *context, uint32_t task);
 
 /* Opens a team with an empty graph. Refused: BAD_SPEC if `nodes` is not 1 to 8; NO_MEMORY. *team is then NULL. */
@@ -48,17 +48,29 @@ uint32_t gerfmuod_team_open(gerfmuod_team **team, uint32_t nodes);
 void gerfmuod_team_close(gerfmuod_team *team);
 
 /* Describes one more task that waits for `count` earlier tasks, and writes its number to *number, unless that is NULL.
- * Refused, and the graph is as before: WRONG_LIFE if the pool was started; NO_TASK if an input is not the number of an earlier
- * task; NO_NODE; BAD_SPEC (class). Refused, and every later call is refused for the same reason: HISTORY_FULL, NO_MEMORY. */
+ * Refused, and the graph does not change: WRONG_LIFE if the pool was started; NO_TASK if an input is not the number of an
+ * earlier task; NO_NODE; BAD_SPEC (class). Refused, and every later call is refused for the same reason: HISTORY_FULL,
+ * NO_MEMORY. */
 uint32_t gerfmuod_team_task(gerfmuod_team *team, uint32_t node, uint32_t class_, const uint32_t *inputs, size_t count,
                             uint32_t *number);
 
 /* Describes a whole graph as arrays. Task t is at nodes[t], of class classes[t], and waits for inputs[offsets[t]] to
  * inputs[offsets[t + 1] - 1], which are numbers below t. `offsets` has tasks + 1 elements. If `nodes` or `classes` is NULL,
  * each node or class is 0. Refused: WRONG_LIFE if the team has a task; BAD_SPEC if offsets decrease; and as
- * gerfmuod_team_task. gerfmuod_team_at is then the first task at fault, and the graph has the tasks before it. */
+ * gerfmuod_team_task. gerfmuod_team_at then returns the first invalid task, and the graph has the tasks before it. */
 uint32_t gerfmuod_team_describe(gerfmuod_team *team, uint32_t tasks, const uint8_t *nodes, const uint8_t *classes,
                                 const uint32_t *offsets, const uint32_t *inputs);
+
+/* One more input from outside for a task, such as a message, a timer or a device: the task does not run before
+ * gerfmuod_team_release was called once for each of them. The call is valid while the graph is described, and later for a task
+ * that still waits: a body can begin a transfer, and let a task that waits for the body wait for the transfer, too. Refused,
+ * and nothing changes: as gerfmuod_dag_outside, and for the reason that ends every turn. */
+uint32_t gerfmuod_team_outside(gerfmuod_team *team, uint32_t task);
+
+/* One input from outside of a task is there. The task sees what the calling thread wrote before. While inputs are awaited,
+ * threads that find no task sleep; if an input never comes, gerfmuod_team_run returns only after gerfmuod_team_stop. Refused,
+ * and nothing changes: as gerfmuod_dag_release, and for the reason that ends every turn. */
+uint32_t gerfmuod_team_release(gerfmuod_team *team, uint32_t task);
 
 /* Runs all tasks on `threads` threads, of which the caller is one, and returns when all are done. Thread w is at node
  * w modulo the number of nodes. Refused before any body runs: RUNNING, ENDED, WRONG_LIFE if gerfmuod_team_start was called;
@@ -66,10 +78,10 @@ uint32_t gerfmuod_team_describe(gerfmuod_team *team, uint32_t tasks, const uint8
  * NO_MEMORY. */
 uint32_t gerfmuod_team_run(gerfmuod_team *team, uint32_t threads, gerfmuod_team_body body, void *context);
 
-/* The task that the last refusal is about, or GERFMUOD_DAG_NONE. */
+/* Returns the task that the last refusal is about, or GERFMUOD_DAG_NONE. */
 uint32_t gerfmuod_team_at(gerfmuod_team *team);
 
-/* The name of a refusal, as "NoTask", and a sentence that explains it. Static strings. */
+/* Return the name of a refusal, such as "NoTask", and a sentence that explains it, as static strings. */
 const char *gerfmuod_team_name(uint32_t refused);
 const char *gerfmuod_team_meaning(uint32_t refused);
 
@@ -77,15 +89,15 @@ const char *gerfmuod_team_meaning(uint32_t refused);
  * Returns the length of the whole text without that byte, as snprintf does. */
 size_t gerfmuod_team_trace(gerfmuod_team *team, char *room, size_t length);
 
-/* ---- with threads of your own, as those of OpenMP or Python, in place of gerfmuod_team_run */
+/* ---- with your own threads, such as those of OpenMP or Python, instead of gerfmuod_team_run */
 
-/* All tasks are described, and will run on `threads` threads of yours. Refused as gerfmuod_team_run, before any body runs.
- * Turns that were begun before wait for it. */
+/* All tasks are described, and will run on `threads` of your threads. Refused as gerfmuod_team_run is, before any body runs.
+ * Turns that began earlier wait for this call. */
 uint32_t gerfmuod_team_start(gerfmuod_team *team, uint32_t threads);
 
 /* One turn of a thread: reports the task that it ran as done (or GERFMUOD_DAG_NONE: none), and takes the next one. Waits
- * until the node has a task or the pool is over, so `told` is GERFMUOD_DAG_RUN or OVER. A refusal holds for every later
- * turn: the thread has to leave. */
+ * until the node has a task or the pool is over, so `told` is GERFMUOD_DAG_RUN or OVER. After a refusal every later turn
+ * is refused too: the thread has to leave. */
 gerfmuod_dag_answer gerfmuod_team_turn(gerfmuod_team *team, uint32_t node, uint32_t done);
 
 /* Stops the team because of a task (or GERFMUOD_DAG_NONE): each turn, also one that waits, is then refused as STOPPED. */

@@ -1,11 +1,11 @@
-/* layout.c: that a gerfmuod_process in C is what the library reads and writes, field by field, and that whatever is not a
- * process or not a control message is refused and changes nothing.
+/* layout.c: checks that the library reads and writes a gerfmuod_process as C declares it, field by field, and that bytes which
+ * are not a process or not a control message are refused and change nothing.
  *
  *   cc -O2 -Icapi capi/layout.c -Llib -lgerfmuod -o layout && ./layout
  *
- * Each check fills a struct in C, calls the library once, and compares what it returned, and each byte but the padding at the
- * end, with a struct that C wrote. Each field is read by some call and written by some call. Exit status: how many checks
- * failed. With the argument `swapped` the expected structs have two fields swapped: then checks have to fail. */
+ * Each check fills a struct in C, calls the library once, and compares the result and each byte except the padding at the end
+ * with a struct that C wrote. Each field is read by some call and written by some call. The exit status is the number of
+ * checks that failed. With the argument `swapped` two fields of the expected structs are swapped: then checks have to fail. */
 #include "gerfmuod_process.h"
 #include <stdio.h>
 #include <stdlib.h>
@@ -179,7 +179,7 @@ static void wave(uint64_t mark) {
     check(__LINE__, gerfmuod_process_next(&p, &c), GERFMUOD_PROCESS_NOTHING, &p, &as);
 }
 
-/* Process 0 judges a wave that is not the end, and one that is; and the end goes down to both children. */
+/* Process 0 judges a wave that does not show the end, and one that does; then it notifies both children of the end. */
 static void end(uint64_t mark) {
     gerfmuod_process p = known_bytes(mark), as;
     gerfmuod_control_message c = control_of(0, 0, 0, 0, 0, 0, 0);
@@ -229,7 +229,7 @@ static void end(uint64_t mark) {
     check(__LINE__, gerfmuod_process_reopen(&p), GERFMUOD_PROCESS_FULL, &p, &as);
 }
 
-/* Every call refuses a struct whose mark has a bit wrong, and what is in it stays. */
+/* Every call refuses a struct whose mark has one wrong bit, and does not change it. */
 static void not_open(uint64_t mark) {
     for (int bit = 0; bit < 64; bit++) {
         gerfmuod_process p = known_bytes(mark ^ (uint64_t)1 << bit), as = p;
@@ -252,7 +252,7 @@ static void not_open(uint64_t mark) {
 
 static uint8_t *flags_of(gerfmuod_process *p) { return &p->known; }
 
-/* A flag is set by any byte but 0: a process whose flags have other bytes returns and becomes the same. */
+/* A flag is set if its byte is not 0: other bytes than 1 lead to the same results and states. */
 static void any_flags(uint64_t mark) {
     enum { FLAGS = BYTES - offsetof(gerfmuod_process, known) };
     for (uint32_t k = 0; k < 1u << FLAGS; k++) {
@@ -273,7 +273,7 @@ static void any_flags(uint64_t mark) {
     }
 }
 
-/* Any bytes as a control message are refused and change nothing. */
+/* Random bytes as a control message are refused and change nothing. */
 static void any_bytes(uint64_t mark) {
     uint64_t seed = 0x9e3779b97f4a7c15u;
     for (int k = 0; k < 100000; k++) {
@@ -310,7 +310,7 @@ static void beginnings(void) {
     check(__LINE__, gerfmuod_process_init(&p, as.number, as.processes), GERFMUOD_PROCESS_OK, &p, &as);
 }
 
-/* Each refusal has a text of its own, and so have "not refused" and "no refusal". */
+/* Each refusal has a text of its own, and so do "not refused" and "no refusal". */
 static void texts(void) {
     char rooms[12][100];
     for (uint32_t k = 0; k < 12; k++) {

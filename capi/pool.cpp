@@ -1,7 +1,7 @@
-// A small runtime of tasks over std::thread, on several nodes. Its end was once found by a counter of its own, raised
-// where a task or a message was made and lowered where it was gone; now each event is told to the library, and the
-// threads stop when it says that the pool has ended. A word switches one of three bugs on, and the library catches it
-// where it happens, with a line that says which event it was and why, and status 3:
+// pool.cpp: a small task runtime over std::thread, on several nodes. It reports each event to the library, and its
+// threads stop when the library detects termination. This replaces a counter of the runtime's own, which was incremented
+// when a task or a message was created and decremented when it was done. An argument switches on one of three bugs. The
+// library detects it at the event where it happens: the program prints the event and the reason, and exits with status 3.
 //
 //     pool            runs, and ends with status 0
 //     pool twice      a message is received twice
@@ -37,19 +37,19 @@ class Detector {
     Detector(const Detector &) = delete;
     Detector &operator=(const Detector &) = delete;
 
-    // Tells an event. One that is refused is a bug of this runtime: it ends here.
+    // Reports an event. A refusal is a bug of this runtime: the program ends.
     template <typename Call> void tell(const char *what, Number node, Number number, Call call) {
         std::lock_guard<std::mutex> held(lock);
         if (Number why = call(&core).refused) {
             char name[16], meaning[128];
             int n = static_cast<int>(gerfmuod_refusal_name(why, name, sizeof name).length);
             int m = static_cast<int>(gerfmuod_refusal_meaning(why, meaning, sizeof meaning).length);
-            std::fprintf(stderr, "behind step %u, %s %u at node %u: refused %u %.*s: %.*s\n", gerfmuod_length(&core),
+            std::fprintf(stderr, "after step %u, %s %u at node %u: refused %u %.*s: %.*s\n", gerfmuod_length(&core),
                          what, number, node, why, n, name, m, meaning);
             std::_Exit(3);
         }
     }
-    // Asks, where a refusal is an answer like another.
+    // Makes a call that may be refused.
     template <typename Call> auto ask(Call call) {
         std::lock_guard<std::mutex> held(lock);
         return call(&core);
@@ -60,7 +60,7 @@ class Detector {
     std::mutex lock;
 };
 
-// What is done next at a node: a task, or a message that makes one; with so many levels below it.
+// The next thing to do at a node: a task, or a message that creates one; `left` is the number of levels below it.
 struct Item {
     bool is_message;
     Number number, left;
@@ -108,7 +108,7 @@ class Pool {
         if (!is_late) put(to, {true, m, left});
         if (bug == Bug::twice && m == 40) put(to, {true, m, left});
     }
-    // A task sends a message to each other node, as long as there are levels below it.
+    // A task sends a message to each other node if there are levels below it.
     void run_task(Number node, Item task) {
         detector.tell("begin of task", node, task.number, [=](auto *c) { return gerfmuod_begin(c, task.number); });
         for (Number k = 1; task.left && k < nodes; k++) send(node, (node + k) % nodes, task.left - 1);
@@ -135,13 +135,13 @@ class Pool {
             else std::this_thread::yield();
         }
     }
-    // Whether the pool has ended. As long as something is left, this costs no step.
+    // Returns whether the pool has terminated. Until it is quiet, this costs no step.
     bool ended() {
         Number refused = detector.ask(gerfmuod_settle).refused;
         return refused == 0 || refused == GERFMUOD_REFUSED_ENDED;
     }
 
-    // An idle node takes its part in the wave. Its first equal sums are taken for the end; the library judges the wave.
+    // An idle node takes part in the wave. This variant takes the first equal sums for the end; the library judges the wave.
     bool ended_early(Number node) {
         if (node) {
             detector.ask([=](auto *c) { return gerfmuod_down(c, node); });
@@ -154,7 +154,7 @@ class Pool {
         if (sums.told != GERFMUOD_WAVE) return false;
         gerfmuod_answer judged = detector.ask(gerfmuod_judge);
         if (sums.sent != sums.received || judged.told == GERFMUOD_ENDED) return judged.told == GERFMUOD_ENDED;
-        std::fprintf(stderr, "behind step %u, the end after wave %u with %u sent and %u received: judged not\n",
+        std::fprintf(stderr, "after step %u, the end after wave %u with %u sent and %u received: judged not\n",
                      detector.ask(gerfmuod_length), sums.number, sums.sent, sums.received);
         std::_Exit(3);
     }

@@ -1,5 +1,5 @@
-//! Four nodes as four threads, from Rust: eight tokens go round a ring, every event is told to one core under a mutex,
-//! and idle nodes take their part in the waves.
+//! Four nodes as four threads, from Rust: eight tokens go round a ring, every event is reported to one core under a mutex,
+//! and idle nodes take part in the waves.
 use std::collections::VecDeque;
 use std::sync::Mutex;
 use std::sync::atomic::{AtomicU32, Ordering};
@@ -76,20 +76,20 @@ const HOPS: u32 = 200;
 
 struct Ring {
     detector: Mutex<Detector>,
-    /// Of each node the messages to it, and how many hops each has left.
+    /// For each node the messages to it, with the number of hops that each has left.
     inboxes: [Mutex<VecDeque<(u32, u32)>>; NODES as usize],
     messages: AtomicU32,
     ended: AtomicU32,
 }
 
 impl Ring {
-    /// An event that has to be taken.
+    /// Takes a step that must not be refused.
     fn tell(&self, step: Step) {
         let it = self.detector.lock().unwrap().step(step);
         assert_eq!(it.refused, 0);
     }
 
-    /// A step that may be refused, and then changes nothing.
+    /// Takes a step that may be refused, which then changes nothing.
     fn ask(&self, step: Step) -> Answer {
         self.detector.lock().unwrap().step(step)
     }

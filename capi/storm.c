@@ -1,10 +1,10 @@
-/* storm.c: n processes in one program, over a network that delays, reorders, doubles or loses what it carries.
+/* storm.c: n processes in one program, over a network that delays, reorders, duplicates or loses messages.
  *
  *   cc -O2 -Icapi capi/storm.c -Llib -lgerfmuod -o storm
  *   ./storm PROCESSES RUNS [right|fifo|lossy|late|early|uncounted|twice]
  *
  * Each run is a random program. A process with work adds work, sends messages or finishes a piece of work. The program
- * knows how much work there is and how many messages are under way without asking the detector, and checks:
+ * counts the open work and the messages under way independently of the detector, and checks:
  *   - no process learns of the end before there is no work and no message under way (exit status 1: EARLY);
  *   - all processes learn of the end, if nothing was lost (2: SILENT);
  *   - then exactly (2 waves + 1)(n - 1) control messages were sent, and at most 2 waves started after the last work (3);
@@ -12,7 +12,7 @@
  *
  * right: control messages come in any order, and one in four comes again. fifo: the oldest comes first, once. lossy: one in
  * 64 control messages and one in 256 messages is lost, so a run may be silent, but not early.
- * The others are wrong programs, which show that the checks can fail. late: counts a receipt only when its work is done.
+ * The others are faulty variants, which show that the checks can fail. late: counts a receipt only when its work is done.
  * early: closes the work of a message when it comes. uncounted: does not count what it sends. twice: counts receipts twice. */
 #include "gerfmuod_process.h"
 #include <inttypes.h>
@@ -26,9 +26,9 @@ static const char *const NAMES[MODES] = {"right", "fifo", "lossy", "late", "earl
 static enum mode mode;
 static uint32_t n;
 static gerfmuod_process *process;
-static uint32_t *work;       /* open pieces of work, whatever the detector was told */
-static uint32_t *active, *place, active_count; /* the processes with work, and where each one is in that list */
-static uint32_t *unreported; /* work that a wrong program reports late, or has reported as finished */
+static uint32_t *work;       /* open pieces of work, independent of the detector */
+static uint32_t *active, *place, active_count; /* the processes with work, and the position of each in that list */
+static uint32_t *unreported; /* work that a faulty variant reports late, or has reported as finished */
 static bool *knows;          /* the process knows the end */
 static bool *has_ended;      /* the detector has returned ENDED */
 
@@ -83,7 +83,8 @@ static void less_work(uint32_t i) {
     place[active[place[i]]] = place[i];
 }
 
-/* Once, so that anything can happen between two control messages of a process; of very many processes, until it has none. */
+/* Calls next once, so that anything can happen between two control messages of a process; with very many processes, until
+ * it returns none. */
 static void ask_detector(uint32_t i) {
     gerfmuod_control_message c;
     uint32_t next;
@@ -145,7 +146,7 @@ static void message_comes(void) {
     if (mode == EARLY || mode == TWICE) gerfmuod_process_finish_work(&process[i]);
 }
 
-/* A control message comes; gives its receiver. */
+/* A control message arrives. Returns its receiver. */
 static uint32_t control_comes(void) {
     size_t k = mode == FIFO ? head : head + draw((uint32_t)(tail - head));
     gerfmuod_control_message c = control[k];
@@ -158,7 +159,7 @@ static uint32_t control_comes(void) {
     return i;
 }
 
-/* Runs until all know the end, or for so many events; gives whether all do. */
+/* Runs until all know the end, or up to a number of events. Returns whether all know it. */
 static bool run(uint64_t events) {
     head = tail = messages = 0;
     lost = controls_sent = quiet_wave = 0;

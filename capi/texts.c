@@ -1,4 +1,4 @@
-/* The texts of the library: a core's steps as a trace, the judge of a trace, and the refusals in words. */
+/* texts.c: tests of the texts of the library: the trace of a core, the audit of a trace, and the texts of refusals. */
 #include "gerfmuod.h"
 
 #include <stdio.h>
@@ -8,7 +8,7 @@
 #define CHECK(what)                                                                                                    \
     do {                                                                                                               \
         if (!(what)) {                                                                                                 \
-            fprintf(stderr, "line %d: not so: %s\n", __LINE__, #what);                                                 \
+            fprintf(stderr, "line %d: check failed: %s\n", __LINE__, #what);                                           \
             exit(1);                                                                                                   \
         }                                                                                                              \
     } while (0)
@@ -17,7 +17,7 @@ static void has(const char *room, gerfmuod_written it, unsigned outcome, const c
     CHECK(it.outcome == outcome && it.length == strlen(wanted) && memcmp(room, wanted, it.length) == 0);
 }
 
-/* A pool of three nodes that ends, is reopened and ends again, as a trace; the trace is then judged. */
+/* The trace of a pool of three nodes that terminates, is reopened and terminates again; then its audit. */
 static void trace_and_audit(void) {
     gerfmuod_core core;
     CHECK(gerfmuod_open(&core, 3) == 0);
@@ -49,7 +49,7 @@ static void trace_and_audit(void) {
     gerfmuod_close(&core);
 }
 
-/* A number of seven digits has no line in a trace. */
+/* A trace cannot have a number of seven digits. */
 static void no_trace(void) {
     gerfmuod_core core;
     CHECK(gerfmuod_open(&core, 2) == 0);

@@ -1,12 +1,12 @@
-/* threads.c: one process a thread, 64 of them by default, and no lock that all share: each thread has its own
- * gerfmuod_process, and a mailbox with a lock of its own, into which the others put messages and control messages.
+/* threads.c: one process per thread, 64 of them by default, without a lock that all share: each thread has its own
+ * gerfmuod_process, and a mailbox with its own lock, into which the others put messages and control messages.
  *
  *   cc -O2 -pthread -Icapi capi/threads.c -Llib -lgerfmuod -o threads
  *   ./threads [THREADS [EPOCHS [right|early|uncounted]]]
  *
- * In each epoch, process 0 begins a tree of tasks: a task above the leaves sends three tasks to threads drawn at random, as
- * messages. Each thread stops the epoch when the detector says so, and begins the next one at once. Then each task has to
- * have run in each epoch. The others are wrong programs: early finishes the work of a message when it comes and runs the task
+ * In each epoch, process 0 begins a tree of tasks: a task above the leaves sends three tasks to random threads, as messages.
+ * Each thread ends the epoch when the detector reports its end, and begins the next one at once. Afterwards each task must
+ * have run in each epoch. The others are faulty variants: early finishes the work of a message when it comes and runs the task
  * later; uncounted does not count what it sends. The exit status is 1 if tasks are missing, 2 if the run does not end. */
 #define _POSIX_C_SOURCE 200809L
 #include "gerfmuod_process.h"
@@ -23,8 +23,8 @@ enum wrong { RIGHT, EARLY, UNCOUNTED };
 
 typedef struct {
     bool is_task;
-    uint32_t depth; /* of a task: how many levels are below it */
-    gerfmuod_control_message control; /* of a task: the epoch alone */
+    uint32_t depth; /* of a task: the number of levels below it */
+    gerfmuod_control_message control; /* of a task: only the epoch */
 } item;
 
 typedef struct {
@@ -42,11 +42,11 @@ static uint32_t n = 64, epochs = 3;
 static enum wrong wrong;
 static mailbox *mailboxes;
 
-/* what a thread has alone */
+/* the private state of a thread */
 typedef struct {
     gerfmuod_process process;
-    list kept;    /* of the next epoch: handed in again after reopening */
-    list backlog; /* tasks that the wrong program has finished, and not run */
+    list kept;    /* of the next epoch: passed again after reopening */
+    list backlog; /* tasks that a faulty variant has reported as finished and not run */
     uint64_t seed;
     uint64_t ran[MAX_EPOCHS];
     pthread_t thread;
@@ -69,7 +69,7 @@ static void deliver(uint32_t to, const item *i) {
     pthread_mutex_unlock(&m->lock);
 }
 
-/* Takes an item out of the mailbox; waits for one if `is_blocking`. Gives whether there was one. */
+/* Takes an item out of the mailbox; waits for one if `is_blocking`. Returns whether there was one. */
 static bool receive(uint32_t me, bool is_blocking, item *i) {
     mailbox *m = &mailboxes[me];
     pthread_mutex_lock(&m->lock);
@@ -101,7 +101,7 @@ static void take(worker *w, const item *i) {
     gerfmuod_process_finish_work(&w->process);
 }
 
-/* Sends what the detector has to send; gives what it returned last. */
+/* Sends all control messages that the detector has. Returns its last result. */
 static uint32_t ask_detector(worker *w) {
     item i = {false, 0, {0, 0, 0, 0, 0, 0, 0}};
     uint32_t next;

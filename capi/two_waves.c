@@ -1,5 +1,5 @@
-/* A pool of two nodes from its opening to its end, told event by event: one task, one message, two waves; then wrong
- * events, each refused where it happens; then the pool is reopened and ends once more. */
+/* two_waves.c: a pool of two nodes from its opening to its end, reported event by event: one task, one message, two waves.
+ * Wrong events are refused where they happen. Then the pool is reopened and terminates once more. */
 #include "gerfmuod.h"
 
 #include <stdio.h>
@@ -9,12 +9,12 @@
 #define CHECK(what)                                                                                                    \
     do {                                                                                                               \
         if (!(what)) {                                                                                                 \
-            fprintf(stderr, "line %d: not so: %s\n", __LINE__, #what);                                                 \
+            fprintf(stderr, "line %d: check failed: %s\n", __LINE__, #what);                                           \
             exit(1);                                                                                                   \
         }                                                                                                              \
     } while (0)
 
-/* What waits for its turn was taken, and no more was told. */
+/* The step was taken, and showed nothing more. */
 static void taken(gerfmuod_answer it) {
     CHECK(it.refused == 0 && it.told == GERFMUOD_PLAIN && it.number == 0 && it.sent == 0 && it.received == 0);
 }
@@ -23,7 +23,7 @@ static void refused(gerfmuod_answer it, unsigned why) {
     CHECK(it.refused == why && it.told == GERFMUOD_PLAIN);
 }
 
-/* A wave over both nodes: what it adds up, and what is judged. */
+/* A wave over both nodes: checks its sums. Returns the judgement. */
 static gerfmuod_answer wave(gerfmuod_core *core, uint32_t number, uint32_t messages) {
     taken(gerfmuod_start(core));
     taken(gerfmuod_down(core, 1));
@@ -71,7 +71,7 @@ static void opened_wrongly(void) {
     gerfmuod_core core;
     CHECK(gerfmuod_open(&core, 0) == GERFMUOD_REFUSED_BAD_SPEC);
     CHECK(gerfmuod_open(&core, 9) == GERFMUOD_REFUSED_BAD_SPEC);
-    refused(gerfmuod_ready(&core, 1), GERFMUOD_REFUSED_NO_NODE); /* it is of one node */
+    refused(gerfmuod_ready(&core, 1), GERFMUOD_REFUSED_NO_NODE); /* it has one node */
     taken(gerfmuod_ready(&core, 0));
     gerfmuod_close(&core);
 }

@@ -1,4 +1,4 @@
-! A pool of two nodes from Fortran, by iso_c_binding: one message, then two waves that tell the end.
+! two_waves.f90: a pool of two nodes from Fortran, with iso_c_binding: one message, then two waves that detect the end.
 module gerfmuod
   use iso_c_binding
   implicit none
@@ -36,7 +36,7 @@ module gerfmuod
     end subroutine
   end interface
 contains
-  ! A step that has to be taken.
+  ! Takes a step that must not be refused.
   function taken(core, kind, first, second, third) result(it)
     type(core_t), intent(inout) :: core
     integer(c_int32_t), intent(in) :: kind, first, second, third

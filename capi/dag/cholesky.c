@@ -3,66 +3,19 @@
  *
  *   cholesky ORDER TILE ROUNDS WAY..     ORDER is a multiple of TILE; a WAY is
  *     NxT       a pool of N nodes with T threads each
- *     loop      the tiles one after the other
+ *     loop      the tiles in sequence
  *     omp:T     OpenMP's tasks with `depend`                     (built with -fopenmp)
  *     whole:T   one call of OpenBLAS's dpotrf, with T threads    (built with -DHAVE_BLAS)
- *     starpu    StarPU, with STARPU_NCPU workers                 (built with -DHAVE_STARPU, for this way alone)
+ *     starpu    StarPU, with STARPU_NCPU workers                 (built with -DHAVE_STARPU, only for this way)
  *
- * With -DHAVE_BLAS the kernels are those of BLAS and LAPACK, else the plain loops below. OPENBLAS_NUM_THREADS=1 has to be set.
+ * With -DHAVE_BLAS the kernels are those of BLAS and LAPACK, else plain loops. OPENBLAS_NUM_THREADS=1 has to be set.
  */
 #define _POSIX_C_SOURCE 200809L
 #include "gerfmuod_team.h"
+#include "kernels.h"
 #include "timing.h"
 #include <math.h>
 #include <string.h>
-
-/* ---- kernels on column-major tiles of n by n */
-#ifdef HAVE_BLAS
-void dpotrf_(const char *, const int *, double *, const int *, int *);
-void dtrsm_(const char *, const char *, const char *, const char *, const int *, const int *, const double *, const double *,
-            const int *, double *, const int *);
-void dsyrk_(const char *, const char *, const int *, const int *, const double *, const double *, const int *, const double *,
-            double *, const int *);
-void dgemm_(const char *, const char *, const int *, const int *, const int *, const double *, const double *, const int *,
-            const double *, const int *, const double *, double *, const int *);
-void openblas_set_num_threads(int);
-static const double one = 1, minus_one = -1;
-
-static int factor(int n, double *a) {
-    int info;
-    dpotrf_("L", &n, a, &n, &info);
-    return info;
-}
-static void solve(int n, const double *l, double *b) { dtrsm_("R", "L", "T", "N", &n, &n, &one, l, &n, b, &n); }
-static void subtract_square(int n, const double *a, double *c) { dsyrk_("L", "N", &n, &n, &minus_one, a, &n, &one, c, &n); }
-static void subtract_product(int n, const double *a, const double *b, double *c) {
-    dgemm_("N", "T", &n, &n, &n, &minus_one, a, &n, b, &n, &one, c, &n);
-}
-#else
-static int factor(int n, double *a) {
-    for (int j = 0; j < n; j++) {
-        for (int k = 0; k < j; k++)
-            for (int i = j; i < n; i++) a[j * n + i] -= a[k * n + i] * a[k * n + j];
-        if (!(a[j * n + j] > 0)) return j + 1;
-        double root = sqrt(a[j * n + j]);
-        for (int i = j; i < n; i++) a[j * n + i] /= root;
-    }
-    return 0;
-}
-static void solve(int n, const double *l, double *b) { /* b := b times the inverse of l transposed */
-    for (int j = 0; j < n; j++) {
-        for (int k = 0; k < j; k++)
-            for (int i = 0; i < n; i++) b[j * n + i] -= b[k * n + i] * l[k * n + j];
-        for (int i = 0; i < n; i++) b[j * n + i] /= l[j * n + j];
-    }
-}
-static void subtract_product(int n, const double *a, const double *b, double *c) { /* c := c - a times b transposed */
-    for (int j = 0; j < n; j++)
-        for (int k = 0; k < n; k++)
-            for (int i = 0; i < n; i++) c[j * n + i] -= a[k * n + i] * b[k * n + j];
-}
-static void subtract_square(int n, const double *a, double *c) { subtract_product(n, a, a, c); }
-#endif
 
 /* ---- the matrix in tiles */
 static int order, tile, tiles;
@@ -122,7 +75,7 @@ static graph graph_of(uint32_t node_count) {
                .classes = malloc(most),
                .node_count = node_count};
     memset(g.writer, 255, (size_t)(tiles * tiles) * sizeof(uint32_t));
-    for (int k = 0; k < tiles; k++) { /* the classes prefer what the next steps wait for */
+    for (int k = 0; k < tiles; k++) { /* the classes prefer tasks that the next steps wait for */
         add(&g, (job){FACTOR, k, k, k}, k, k, 0);
         for (int i = k + 1; i < tiles; i++) add(&g, (job){SOLVE, i, k, k}, i, k, i == k + 1 ? 0 : 1);
         for (int i = k + 1; i < tiles; i++) {
@@ -211,7 +164,7 @@ static void to_tiles(const double *a) {
                 memcpy(at(i, j) + c * tile, a + (size_t)(j * tile + c) * (size_t)order + i * tile, (size_t)tile * sizeof *a);
 }
 
-/* The largest difference of the lower triangles. */
+/* Returns the largest difference of the lower triangles. */
 static double distance(const double *a) {
     double most = 0;
     for (int j = 0; j < order; j++)
@@ -235,7 +188,7 @@ static void go(const char *way) {
     else need(1, way);
 }
 
-/* Seconds of one call of dpotrf on a copy of the matrix. */
+/* Returns the seconds of one call of dpotrf on a copy of the matrix. */
 static double whole(const double *start, double *copy, int threads) {
     memcpy(copy, start, (size_t)order * (size_t)order * sizeof *copy);
 #ifdef HAVE_BLAS

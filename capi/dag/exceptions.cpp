@@ -1,11 +1,13 @@
-// exceptions.cpp: what becomes of exceptions and refusals in gerfmuod.hpp, and a graph on two nodes with its trace.
+// exceptions.cpp: tests of exceptions and refusals in gerfmuod.hpp, of a graph on two nodes with its trace, and of inputs from
+// outside.
 #include "gerfmuod.hpp"
 
 #include <cstdio>
 #include <memory>
 #include <numeric>
+#include <thread>
 
-// A sum of squares by ten tasks on two nodes, and one that adds their parts up. Bodies may own what they work on.
+// A sum of squares: ten tasks on two nodes, and one that adds up their parts. Bodies may own their data.
 static bool sums() {
     std::vector<long> parts(10);
     long total = 0;
@@ -20,7 +22,7 @@ static bool sums() {
     return total == 385 && pool.size() == 11 && pool.trace().rfind("trace 1\nnodes 2\n", 0) == 0;
 }
 
-// A body throws: run() throws the same exception, and what waits for that task never runs.
+// A body throws: run() throws the same exception, and tasks that wait for that task never run.
 static bool stops() {
     gerfmuod::Pool pool;
     bool ran = false;
@@ -34,7 +36,7 @@ static bool stops() {
     return false;
 }
 
-// What a call that has to be refused says.
+// Returns the text of the refusal of a call that must be refused.
 template <typename Call> static std::string refusal(Call call) {
     try {
         call();
@@ -73,8 +75,33 @@ static bool refuses() {
            inside.rfind("WrongLife at task 1:", 0) == 0;
 }
 
+// A task waits for a thread of the program's own. A body announces the input of the second one.
+static bool waits() {
+    int sent[2] = {0, 0}, seen = 0;
+    std::vector<std::thread> devices;
+    gerfmuod::Pool pool;
+    gerfmuod::Task last{GERFMUOD_DAG_NONE};
+    auto send = [&](int k, gerfmuod::Task to) {
+        devices.emplace_back([&, k, to] {
+            sent[k] = k + 1;
+            pool.release(to);
+        });
+    };
+    auto first = pool.task([&] {
+        pool.outside(last);
+        send(1, last);
+    });
+    last = pool.task([&] { seen = 10 * sent[0] + sent[1]; }, {first});
+    pool.outside(first);
+    send(0, first);
+    pool.run(2);
+    for (auto &device : devices) device.join();
+    std::string again = refusal([&] { pool.release(last); }), late = refusal([&] { pool.outside(first); });
+    return seen == 12 && again.rfind("WrongLife at task 1:", 0) == 0 && late.rfind("WrongLife at task 0:", 0) == 0;
+}
+
 int main() {
-    bool well = sums() && stops() && refuses();
+    bool well = sums() && stops() && refuses() && waits();
     std::printf("%s\n", well ? "as it should be" : "not as it should be");
     return well ? 0 : 1;
 }

@@ -1,10 +1,10 @@
 /* failures.c: a pool and a team when an allocation fails, or a thread cannot be started. For each N, the Nth allocation of the
- * same run fails: the call is refused as NO_MEMORY. A description and a start are then repeated, and succeed; after another
- * call the pool is closed. Then the memory of a large pool is measured. Prints what is not so; the exit status is 1 if there is
- * something.
+ * same run fails: the call is refused as NO_MEMORY, is repeated, and succeeds; the pool then runs to its end. A team stops
+ * instead. Then the memory of a large pool is measured. Prints each check that fails; the exit status is 1 if one failed.
  *
  * Link with -Wl,--wrap=malloc,--wrap=calloc,--wrap=realloc,--wrap=free,--wrap=pthread_create. */
 #define _GNU_SOURCE
+#include "gerfmuod.h"
 #include "gerfmuod_team.h"
 #include <malloc.h>
 #include <pthread.h>
@@ -23,7 +23,7 @@ void *__wrap_realloc(void *, size_t);
 void __wrap_free(void *);
 int __wrap_pthread_create(pthread_t *, const pthread_attr_t *, void *(*)(void *), void *);
 
-static long allocations_left = -1, threads_left = -1; /* until one fails; negative: none does */
+static long allocations_left = -1, threads_left = -1; /* until one fails; if negative, none fails */
 static size_t allocated;                              /* bytes, in all threads */
 static int checked, failed;
 
@@ -61,10 +61,13 @@ static void check(const char *what, bool holds) {
     printf("%s\n", what);
 }
 
-enum { TASKS = 3000 }; /* a wave over two nodes: task t waits for t - 1 and t - 2 */
+enum { TASKS = 3000, PHASES = 8, NODES = 3 };
 
-/* A call that is repeated if it was refused for want of memory. Returns what it told, and counts the refusals. */
-static uint32_t refused_calls;
+/* Of a pool: task t is at node t % NODES, and waits for t - 1 and t - 2. */
+static uint32_t pool_tasks;
+static uint32_t refused_calls, refused_next, refused_done, refused_between; /* between: a done that had sent a message */
+
+/* Repeats a call that was refused because memory ran out. Returns its result, and counts the refusals. */
 static gerfmuod_dag_answer needed(gerfmuod_dag_answer first, gerfmuod_dag_answer (*again)(gerfmuod_dag *, uint32_t), gerfmuod_dag *dag,
                                   uint32_t number) {
     if (first.refused != GERFMUOD_DAG_NO_MEMORY) return first;
@@ -79,33 +82,56 @@ static gerfmuod_dag_answer start_again(gerfmuod_dag *dag, uint32_t number) {
 
 static bool describe(gerfmuod_dag *dag) {
     bool is_well = true;
-    for (uint32_t t = 0; t < TASKS; t++) {
-        is_well &= needed(gerfmuod_dag_task(dag, t % 2, 0), task_again, dag, t % 2).number == t;
+    for (uint32_t t = 0; t < pool_tasks; t++) {
+        is_well &= needed(gerfmuod_dag_task(dag, t % NODES, 0), task_again, dag, t % NODES).number == t;
         for (uint32_t back = 1; back <= 2 && back <= t; back++)
             is_well &= !needed(gerfmuod_dag_input(dag, t - back), gerfmuod_dag_input, dag, t - back).refused;
     }
     return is_well && !needed(gerfmuod_dag_start(dag), start_again, dag, 0).refused;
 }
 
-/* Whether the pool runs to its end, or to a call that was refused memory. */
+/* The kind of the newest step. */
+static uint32_t newest_step(const gerfmuod_dag *dag) {
+    uint32_t steps = 0;
+    while (gerfmuod_dag_step(dag, steps).kind != 255) steps++;
+    return steps ? gerfmuod_dag_step(dag, steps - 1).kind : 255;
+}
+
+/* Reports a task as done, again if memory ran out. Returns whether `news` has the nodes of all messages that it sent. */
+static bool is_done(gerfmuod_dag *dag, uint32_t task) {
+    uint32_t node = task % NODES, wanted = 0;
+    for (uint32_t to = task + 1; to <= task + 2 && to < pool_tasks; to++) wanted |= 1u << to % NODES;
+    gerfmuod_dag_answer answer = gerfmuod_dag_done(dag, node, task);
+    if (answer.refused == GERFMUOD_DAG_NO_MEMORY) {
+        refused_calls++, refused_done++;
+        refused_between += newest_step(dag) == GERFMUOD_STEP_SEND;
+        answer = gerfmuod_dag_done(dag, node, task);
+    }
+    return !answer.refused && answer.news == wanted;
+}
+
+/* Returns whether the pool runs to its end, each task once and in order. */
 static bool runs(gerfmuod_dag *dag) {
-    for (uint32_t ran = 0, node = 0, waits = 0; waits < 3; node = 1 - node) {
-        gerfmuod_dag_answer answer = gerfmuod_dag_next(dag, node);
-        if (answer.refused) return refused_calls++, answer.refused == GERFMUOD_DAG_NO_MEMORY;
-        if (answer.told == GERFMUOD_DAG_OVER) return ran == TASKS;
+    uint32_t before = refused_calls;
+    for (uint32_t ran = 0, node = 0, waits = 0; waits <= NODES; node = (node + 1) % NODES) {
+        gerfmuod_dag_answer answer = needed(gerfmuod_dag_next(dag, node), gerfmuod_dag_next, dag, node);
+        refused_next += refused_calls - before, before = refused_calls;
+        if (answer.refused) return false;
+        if (answer.told == GERFMUOD_DAG_OVER) return ran == pool_tasks;
         waits = answer.told == GERFMUOD_DAG_WAIT ? waits + 1 : 0;
         if (answer.told == GERFMUOD_DAG_WAIT) continue;
-        if (answer.number != ran++) return false;
-        uint32_t refused = gerfmuod_dag_done(dag, node, answer.number).refused;
-        if (refused) return refused_calls++, refused == GERFMUOD_DAG_NO_MEMORY;
+        if (answer.number != ran || !is_done(dag, ran++)) return false;
+        before = refused_calls;
     }
     return false;
 }
 
-static void check_pool(void) {
+/* Whether all allocations of a run were made to fail, each in a run of its own. */
+static void check_pool_of(uint32_t tasks) {
+    pool_tasks = tasks;
     for (long n = 1;; n++) {
         gerfmuod_dag dag;
-        gerfmuod_dag_open(&dag, 2);
+        gerfmuod_dag_open(&dag, NODES);
         refused_calls = 0;
         allocations_left = n;
         bool is_well = describe(&dag) && runs(&dag), has_failed = allocations_left < 0;
@@ -115,6 +141,13 @@ static void check_pool(void) {
         check("the failure was reported", refused_calls == (has_failed ? 1 : 0));
         if (!has_failed) return;
     }
+}
+
+/* Graphs of several lengths, so that the list of steps has no room at each kind of step. */
+static void check_pool(void) {
+    for (uint32_t tasks = 600; tasks < 600 + PHASES; tasks++) check_pool_of(tasks);
+    printf("repeated because an allocation failed: gerfmuod_dag_next %u times, gerfmuod_dag_done %u, %u of them after a message\n",
+           refused_next, refused_done, refused_between);
 }
 
 static int body(void *context, uint32_t task) {
@@ -167,7 +200,7 @@ static void check_threads(void) {
     }
 }
 
-/* The bytes of a pool that has run, in which each task waits for so many before it. */
+/* Returns the bytes of a pool that has run, in which each task waits for the `inputs` tasks before it. */
 static size_t bytes_of(uint32_t tasks, uint32_t nodes, uint32_t inputs) {
     gerfmuod_dag dag;
     gerfmuod_dag_answer answer;
@@ -186,7 +219,7 @@ static size_t bytes_of(uint32_t tasks, uint32_t nodes, uint32_t inputs) {
     return used;
 }
 
-/* 100,000 tasks: how many bytes a task, an input, and an input from another node take. */
+/* 100,000 tasks: the bytes for a task, for an input, and for an input from another node. */
 static void check_memory(void) {
     size_t task = bytes_of(100000, 1, 0) / 100000, inputs = bytes_of(100000, 1, 4) / 100000;
     size_t crossing = bytes_of(100000, 2, 1) / 100000;

@@ -1,9 +1,11 @@
-/* fuzz.c: random calls on pools, right and wrong ones, compared with the plain model of model.h.
+/* fuzz.c: random calls on pools, valid and invalid ones, compared with the plain model of model.h.
  *
- *   fuzz CALLS [SEED [forgets]]     forgets: a model that now and then drops an input, which has to be found out
+ *   fuzz CALLS [SEED [forgets|loses]]     forgets: the model sometimes drops an input; loses: it sometimes drops an input from
+ *                                         outside. Both have to be detected
  *
- * Each pool has up to 64 tasks. When its random calls are over, it is run to its end: then each call either makes progress or
- * the end is judged, and the steps of the pool are counted. The exit status is 1 at the first difference. */
+ * Each pool has up to 64 tasks. After its random calls it is run to its end. Then no wait is silent: each round of calls makes
+ * progress or detects termination, or an input from outside is awaited. The steps of the pool are counted. The exit status is 1
+ * at the first difference. */
 #include "model.h"
 #include <inttypes.h>
 #include <stdio.h>
@@ -12,14 +14,14 @@
 static uint64_t seed, calls, counts[16];
 static gerfmuod_dag dag;
 static model m;
-static bool forgets;
+static bool forgets, loses;
 
 static uint32_t below(uint32_t limit) {
     seed ^= seed << 13, seed ^= seed >> 7, seed ^= seed << 17;
     return (uint32_t)((seed >> 11) % limit);
 }
 
-/* Mostly a number below the limit; sometimes the next ones, and sometimes a wild one. */
+/* Returns mostly a number below the limit, sometimes one of the next numbers, and sometimes any number. */
 static uint32_t about(uint32_t limit) {
     uint32_t kind = below(16);
     if (kind == 0) return limit + below(2);
@@ -56,6 +58,13 @@ static void input(void) {
     check("input", gerfmuod_dag_input(&dag, source), model_input(&m, source));
 }
 
+static void outside(uint32_t number) {
+    check("outside", gerfmuod_dag_outside(&dag, number), model_outside(&m, number));
+    if (loses && m.tasks && below(100) == 0) m.task[below(m.tasks)].outside = 0;
+}
+
+static void release(uint32_t number) { check("release", gerfmuod_dag_release(&dag, number), model_release(&m, number)); }
+
 static void next(uint32_t node) { check("next", gerfmuod_dag_next(&dag, node), model_next(&m, node)); }
 
 static void done(uint32_t node, uint32_t number) {
@@ -72,24 +81,39 @@ static void describe(void) {
     for (uint32_t i = 0; i < tasks && m.tasks < MOST_TASKS - 2; i++) {
         task();
         for (uint32_t inputs = below(4); inputs > 0 && m.inputs < MOST_INPUTS; inputs--) input();
+        if (below(4) == 0) outside(about(m.tasks));
+        if (below(16) == 0) release(about(m.tasks));
         if (below(50) == 0) next(below(m.nodes));
         if (below(50) == 0) done(about(m.nodes), about(m.tasks));
     }
 }
 
-/* A call after the start, mostly a right one. */
+/* Makes a call after the start, mostly a valid one. */
 static void step(void) {
     uint32_t kind = below(100), number = below(m.tasks + 1);
-    if (kind < 40) next(below(m.nodes));
-    else if (kind < 45) next(about(m.nodes));
-    else if (kind < 90 && number < m.tasks) done(m.task[number].node, number);
+    if (kind < 35) next(below(m.nodes));
+    else if (kind < 40) next(about(m.nodes));
+    else if (kind < 80 && number < m.tasks) done(m.task[number].node, number);
+    else if (kind < 83) outside(about(m.tasks));
+    else if (kind < 90) release(about(m.tasks));
     else if (kind < 95) done(about(m.nodes), about(m.tasks));
     else if (kind < 97) task();
     else if (kind < 99) input();
     else start();
 }
 
-/* Runs the pool to its end, which has to come: at each round some task is returned or ends, or the pool is over. */
+/* Releases an input from outside, of a task drawn at random among those that await one. Returns whether there was one. */
+static bool release_any(void) {
+    uint32_t from = below(m.tasks + 1);
+    for (uint32_t i = 0; i < m.tasks; i++) {
+        uint32_t number = (from + i) % m.tasks;
+        if (m.task[number].outside) return release(number), true;
+    }
+    return false;
+}
+
+/* Runs the pool to its end. In each round some task is returned or ends, or the pool is over, or an input from outside is
+ * awaited; then one is released. */
 static void finish(void) {
     while (!m.is_over) {
         bool goes_on = false;
@@ -100,7 +124,7 @@ static void finish(void) {
             next(node);
             goes_on |= counts[GERFMUOD_DAG_RUN + 1] != before || m.is_over;
         }
-        if (!goes_on) {
+        if (!goes_on && !release_any()) {
             printf("call %" PRIu64 ": the pool waits for ever\n", calls);
             exit(1);
         }
@@ -108,7 +132,7 @@ static void finish(void) {
     next(below(m.nodes));
 }
 
-/* The steps of a pool that is over: each task was inserted, begun and done, each message sent, received and ended. */
+/* Checks the steps of a pool that is over: each task was inserted, begun and done, each message sent, received and ended. */
 static void count_steps(void) {
     uint32_t found[15] = {0};
     gerfmuod_dag_taken step;
@@ -125,7 +149,7 @@ static void count_steps(void) {
 int main(int argc, char **argv) {
     uint64_t most = argc > 1 ? strtoull(argv[1], NULL, 10) : 100000, pools = 0;
     seed = argc > 2 ? strtoull(argv[2], NULL, 10) * 2 + 1 : 88172645463325253u;
-    forgets = argc > 3;
+    forgets = argc > 3 && argv[3][0] == 'f', loses = argc > 3 && argv[3][0] == 'l';
     for (; calls < most; pools++) {
         uint32_t nodes = about(GERFMUOD_DAG_MAX_NODES) + 1;
         if (gerfmuod_dag_open(&dag, nodes) != model_open(&m, nodes)) return printf("open %u\n", nodes), 1;
@@ -138,9 +162,12 @@ int main(int argc, char **argv) {
                 count_steps();
             }
         }
-        task(), input(), start(), next(0), done(0, 0);
+        task(), input(), outside(0), release(0), start(), next(0), done(0, 0);
         close_pool();
-        if (below(4) == 0) task(), input(), start(), next(about(1)), done(0, about(1)), close_pool();
+        if (below(4) == 0) {
+            task(), input(), outside(about(1)), release(about(1)), start(), next(about(1)), done(0, about(1));
+            close_pool();
+        }
         if (gerfmuod_dag_step(&dag, 0).kind != 255) return printf("a closed pool has steps\n"), 1;
     }
     printf("%" PRIu64 " calls on %" PRIu64 " pools: %" PRIu64 " refused, %" PRIu64 " tasks run, %" PRIu64 " waits, ", calls, pools,

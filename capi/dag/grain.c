@@ -1,11 +1,12 @@
-/* grain.c: what a task costs: graphs of small tasks with bodies of a chosen length.
+/* grain.c: the overhead of a task: graphs of small tasks with bodies of a chosen length.
  *
- *   grain SHAPE TASKS ITERATIONS ROUNDS WAY..     shapes.h says what a SHAPE is; a WAY is
+ *   grain SHAPE TASKS ITERATIONS ROUNDS WAY..     shapes.h describes the SHAPEs; a WAY is
  *     NxT     a pool of N nodes with T threads each; task t is at node t modulo N
- *     loop    the bodies one after the other
+ *     loop    the bodies in sequence
  *     omp:T   OpenMP's tasks with `depend`     (built with -fopenmp)
  *
- * Each body checks that its inputs are done and that it runs for the first time. The times are of describing and running.
+ * Each body checks that its inputs are done and that it runs for the first time. The times include describing the graph and
+ * running it.
  */
 #define _POSIX_C_SOURCE 200809L
 #include "gerfmuod_team.h"

@@ -1,5 +1,5 @@
 /* jacobi.c: Jacobi's method on a square of doubles, in blocks. A task is a block at a step. It waits for the same block and
- * its four neighbours at the step before. Each result is compared with that of the plain loop, bit for bit.
+ * its four neighbours at the step before. Each result is compared with that of the plain loop, bit by bit.
  *
  *   jacobi SIDE BLOCK STEPS ROUNDS WAY..     SIDE is a multiple of BLOCK; a WAY is
  *     NxT     a pool of N nodes with T threads each; blocks of neighbouring rows are at one node

@@ -1,4 +1,4 @@
-/* model.h: what a pool of gerfmuod_dag.h has to return, as plain C that scans all tasks and inputs in each call. It shares no
+/* model.h: a model of the pool of gerfmuod_dag.h in plain C, which scans all tasks and inputs in each call. It shares no
  * code with the library. fuzz.c compares the two. */
 #ifndef MODEL_H
 #define MODEL_H
@@ -14,7 +14,7 @@ typedef struct {
     uint32_t nodes, tasks, inputs, messages;
     bool is_open, is_started, is_over;
     struct {
-        uint32_t node, class_;
+        uint32_t node, class_, outside; /* outside: how many inputs from outside are awaited */
         enum stage stage;
     } task[MOST_TASKS];
     struct {
@@ -23,7 +23,7 @@ typedef struct {
     } input[MOST_INPUTS];
 } model;
 
-/* What a call may return. Any task with a bit in `ready` will do as the number of GERFMUOD_DAG_RUN. */
+/* What a call may return. The number at GERFMUOD_DAG_RUN may be any task with a bit in `ready`. */
 typedef struct {
     uint32_t refused, told, number, news;
     uint64_t ready;
@@ -47,7 +47,8 @@ static expected model_task(model *m, uint32_t node, uint32_t class_) {
     if (m->is_started) return (expected){.refused = GERFMUOD_DAG_WRONG_LIFE};
     if (node >= m->nodes) return (expected){.refused = GERFMUOD_DAG_NO_NODE};
     if (class_ >= GERFMUOD_DAG_CLASSES) return (expected){.refused = GERFMUOD_DAG_BAD_SPEC};
-    m->task[m->tasks].node = node, m->task[m->tasks].class_ = class_, m->task[m->tasks].stage = FRESH;
+    m->task[m->tasks].node = node, m->task[m->tasks].class_ = class_;
+    m->task[m->tasks].outside = 0, m->task[m->tasks].stage = FRESH;
     return (expected){.number = m->tasks++};
 }
 
@@ -60,6 +61,30 @@ static expected model_input(model *m, uint32_t source) {
     return (expected){0};
 }
 
+/* Whether a task waits for an input, of a task or from outside. */
+static bool model_waits(const model *m, uint32_t task) {
+    for (uint32_t k = 0; k < m->inputs; k++)
+        if (m->input[k].target == task && m->input[k].way != CAME) return true;
+    return m->task[task].outside > 0;
+}
+
+static expected model_outside(model *m, uint32_t task) {
+    if (!m->is_open) return (expected){.refused = GERFMUOD_DAG_NO_POOL};
+    if (task >= m->tasks) return (expected){.refused = GERFMUOD_DAG_NO_TASK};
+    if (m->task[task].stage != FRESH) return (expected){.refused = GERFMUOD_DAG_WRONG_LIFE};
+    if (m->is_started && !model_waits(m, task)) return (expected){.refused = GERFMUOD_DAG_WRONG_LIFE};
+    m->task[task].outside++;
+    return (expected){0};
+}
+
+static expected model_release(model *m, uint32_t task) {
+    if (!m->is_open) return (expected){.refused = GERFMUOD_DAG_NO_POOL};
+    if (task >= m->tasks) return (expected){.refused = GERFMUOD_DAG_NO_TASK};
+    if (m->task[task].outside == 0) return (expected){.refused = GERFMUOD_DAG_WRONG_LIFE};
+    m->task[task].outside--;
+    return (expected){.news = model_waits(m, task) ? 0 : 1u << m->task[task].node};
+}
+
 static expected model_start(model *m) {
     if (!m->is_open) return (expected){.refused = GERFMUOD_DAG_NO_POOL};
     if (m->is_started) return (expected){.refused = GERFMUOD_DAG_WRONG_LIFE};
@@ -68,13 +93,10 @@ static expected model_start(model *m) {
 }
 
 static bool model_is_ready(const model *m, uint32_t task, uint32_t node) {
-    if (m->task[task].node != node || m->task[task].stage != FRESH) return false;
-    for (uint32_t k = 0; k < m->inputs; k++)
-        if (m->input[k].target == task && m->input[k].way != CAME) return false;
-    return true;
+    return m->task[task].node == node && m->task[task].stage == FRESH && !model_waits(m, task);
 }
 
-/* The tasks of one node that are ready, as bits: all, and those of the lowest class. */
+/* The ready tasks of one node, as bits: all, and those of the lowest class. */
 static uint64_t model_ready(const model *m, uint32_t node, uint64_t *first) {
     uint64_t all = 0;
     uint32_t lowest = GERFMUOD_DAG_CLASSES;
@@ -93,7 +115,7 @@ static expected model_next(model *m, uint32_t node) {
     if (!m->is_started) return (expected){.refused = GERFMUOD_DAG_WRONG_LIFE};
     if (node >= m->nodes) return (expected){.refused = GERFMUOD_DAG_NO_NODE};
     if (m->is_over) return (expected){.told = GERFMUOD_DAG_OVER};
-    for (uint32_t k = 0; k < m->inputs; k++) /* the node takes in its messages */
+    for (uint32_t k = 0; k < m->inputs; k++) /* the node receives its messages */
         if (m->input[k].way == UNDER_WAY && m->task[m->input[k].target].node == node) m->input[k].way = CAME;
     uint64_t first, all = model_ready(m, node, &first);
     if (all) return (expected){.told = GERFMUOD_DAG_RUN, .ready = first, .news = all & (all - 1) ? 1u << node : 0};

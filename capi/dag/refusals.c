@@ -1,7 +1,7 @@
-/* refusals.c: each refusal of a pool and of a team, one by one, and what a refused call leaves. Prints a line for each that is
- * not as gerfmuod_dag.h and gerfmuod_team.h say; the exit status is 1 if there is one.
+/* refusals.c: tests each refusal of a pool and of a team, and the state after a refused call. Prints a line for each that
+ * differs from gerfmuod_dag.h and gerfmuod_team.h; the exit status is 1 if there is one.
  *
- *   refusals [quick]     quick: without the graph that is too large
+ *   refusals [quick]     quick: without what is too large
  */
 #include "gerfmuod.h"
 #include "gerfmuod_team.h"
@@ -26,6 +26,8 @@ static void check(const char *what, uint32_t got, uint32_t wanted) {
 static void check_not_open(gerfmuod_dag *dag) {
     check("task without a pool", gerfmuod_dag_task(dag, 9, 9).refused, GERFMUOD_DAG_NO_POOL);
     check("input without a pool", gerfmuod_dag_input(dag, 0).refused, GERFMUOD_DAG_NO_POOL);
+    check("outside without a pool", gerfmuod_dag_outside(dag, 0).refused, GERFMUOD_DAG_NO_POOL);
+    check("release without a pool", gerfmuod_dag_release(dag, 0).refused, GERFMUOD_DAG_NO_POOL);
     check("start without a pool", gerfmuod_dag_start(dag).refused, GERFMUOD_DAG_NO_POOL);
     check("next without a pool", gerfmuod_dag_next(dag, 0).refused, GERFMUOD_DAG_NO_POOL);
     check("done without a pool", gerfmuod_dag_done(dag, 0, 0).refused, GERFMUOD_DAG_NO_POOL);
@@ -91,7 +93,58 @@ static void check_run(void) {
     gerfmuod_dag_close(&dag);
 }
 
-/* The library writes to the memory of the pool alone. */
+/* Inputs from outside, before the start and after it. Task 1, at node 1, waits for task 0 at node 0. */
+static void check_outside(void) {
+    gerfmuod_dag dag;
+    gerfmuod_dag_open(&dag, 2);
+    check("outside without a task", gerfmuod_dag_outside(&dag, 0).refused, GERFMUOD_DAG_NO_TASK);
+    check("release without a task", gerfmuod_dag_release(&dag, 0).refused, GERFMUOD_DAG_NO_TASK);
+    gerfmuod_dag_task(&dag, 0, 0);
+    gerfmuod_dag_task(&dag, 1, 0);
+    gerfmuod_dag_input(&dag, 0);
+    check("release of a task that awaits none", gerfmuod_dag_release(&dag, 0).refused, GERFMUOD_DAG_WRONG_LIFE);
+    check("outside", gerfmuod_dag_outside(&dag, 0).refused, GERFMUOD_DAG_OK);
+    check("outside again", gerfmuod_dag_outside(&dag, 0).refused, GERFMUOD_DAG_OK);
+    check("outside of a task that is not the newest", gerfmuod_dag_outside(&dag, 1).refused, GERFMUOD_DAG_OK);
+    check("outside of no task", gerfmuod_dag_outside(&dag, 2).refused, GERFMUOD_DAG_NO_TASK);
+    check("release before the start", gerfmuod_dag_release(&dag, 0).news, 0);
+    check("start", gerfmuod_dag_start(&dag).refused, GERFMUOD_DAG_OK);
+    check("outside of no task", gerfmuod_dag_outside(&dag, UINT32_MAX).refused, GERFMUOD_DAG_NO_TASK);
+    check("release of no task", gerfmuod_dag_release(&dag, UINT32_MAX).refused, GERFMUOD_DAG_NO_TASK);
+    check("next of a task that awaits an input", gerfmuod_dag_next(&dag, 0).told, GERFMUOD_DAG_WAIT);
+    check("outside of a task that waits", gerfmuod_dag_outside(&dag, 0).refused, GERFMUOD_DAG_OK);
+    check("one of two", gerfmuod_dag_release(&dag, 0).news, 0);
+    check("is not enough", gerfmuod_dag_next(&dag, 0).told, GERFMUOD_DAG_WAIT);
+    check("news for its node", gerfmuod_dag_release(&dag, 0).news, 1);
+    check("release once too often", gerfmuod_dag_release(&dag, 0).refused, GERFMUOD_DAG_WRONG_LIFE);
+    check("outside of a task that waits for nothing", gerfmuod_dag_outside(&dag, 0).refused, GERFMUOD_DAG_WRONG_LIFE);
+    check("next", gerfmuod_dag_next(&dag, 0).told, GERFMUOD_DAG_RUN);
+    check("outside of a task that runs", gerfmuod_dag_outside(&dag, 0).refused, GERFMUOD_DAG_WRONG_LIFE);
+    check("release of a task that runs", gerfmuod_dag_release(&dag, 0).refused, GERFMUOD_DAG_WRONG_LIFE);
+    check("done", gerfmuod_dag_done(&dag, 0, 0).refused, GERFMUOD_DAG_OK);
+    check("outside of a task that is done", gerfmuod_dag_outside(&dag, 0).refused, GERFMUOD_DAG_WRONG_LIFE);
+    check("release, with a message under way", gerfmuod_dag_release(&dag, 1).news, 0);
+    check("outside, with a message under way", gerfmuod_dag_outside(&dag, 1).refused, GERFMUOD_DAG_OK);
+    check("the message alone", gerfmuod_dag_next(&dag, 1).told, GERFMUOD_DAG_WAIT);
+    check("is not the end", gerfmuod_dag_next(&dag, 0).told, GERFMUOD_DAG_WAIT);
+    check("news for the other node", gerfmuod_dag_release(&dag, 1).news, 2);
+    check("its task", gerfmuod_dag_next(&dag, 1).number, 1);
+    check("done", gerfmuod_dag_done(&dag, 1, 1).refused, GERFMUOD_DAG_OK);
+    check("over", gerfmuod_dag_next(&dag, 0).told, GERFMUOD_DAG_OVER);
+    check("outside after the end", gerfmuod_dag_outside(&dag, 1).refused, GERFMUOD_DAG_WRONG_LIFE);
+    check("release after the end", gerfmuod_dag_release(&dag, 1).refused, GERFMUOD_DAG_WRONG_LIFE);
+    gerfmuod_dag_close(&dag);
+    gerfmuod_dag_open(&dag, 1);
+    gerfmuod_dag_task(&dag, 0, 0);
+    check("outside", gerfmuod_dag_outside(&dag, 0).refused, GERFMUOD_DAG_OK);
+    check("news before the start", gerfmuod_dag_release(&dag, 0).news, 1);
+    gerfmuod_dag_start(&dag);
+    check("a task that was released before the start", gerfmuod_dag_next(&dag, 0).told, GERFMUOD_DAG_RUN);
+    check("is returned once", gerfmuod_dag_next(&dag, 0).told, GERFMUOD_DAG_WAIT);
+    gerfmuod_dag_close(&dag);
+}
+
+/* The library writes only to the memory of the pool. */
 static void check_size(void) {
     struct {
         uint64_t before[16];
@@ -128,6 +181,23 @@ static void check_limits(void) {
     gerfmuod_dag_close(&dag);
 }
 
+static void check_outside_limit(void) {
+    gerfmuod_dag dag;
+    gerfmuod_dag_answer answer;
+    uint32_t inputs = 0;
+    gerfmuod_dag_open(&dag, 1);
+    gerfmuod_dag_task(&dag, 0, 0);
+    while (inputs <= GERFMUOD_DAG_MAX_STEPS && !(answer = gerfmuod_dag_outside(&dag, 0)).refused) inputs++;
+    check("too many inputs from outside", answer.refused, GERFMUOD_DAG_HISTORY_FULL);
+    check("how many there may be", inputs, GERFMUOD_DAG_MAX_STEPS);
+    check("they take no steps", gerfmuod_dag_start(&dag).refused, GERFMUOD_DAG_OK);
+    while (inputs > 1 && !gerfmuod_dag_release(&dag, 0).news) inputs--;
+    check("no news before the last one", inputs, 1);
+    check("news", gerfmuod_dag_release(&dag, 0).news, 1);
+    check("and its task", gerfmuod_dag_next(&dag, 0).told, GERFMUOD_DAG_RUN);
+    gerfmuod_dag_close(&dag);
+}
+
 /* ---- the team */
 
 static int count_body(void *context, uint32_t task) {
@@ -153,7 +223,7 @@ struct seen {
     uint32_t ran, refused_inside;
 };
 
-/* Task 2 fails. Task 0 tries to run the team from inside of it. */
+/* Task 2 fails. Task 0 tries to run the team while it runs. */
 static int body(void *context, uint32_t task) {
     struct seen *seen = context;
     __atomic_fetch_add(&seen->ran, 1, __ATOMIC_RELAXED);
@@ -212,7 +282,37 @@ static void check_team_run(void) {
     gerfmuod_team_close(seen.team);
 }
 
-/* The trace of one task, as a whole and in a room that is too small. */
+static void check_team_outside(void) {
+    gerfmuod_team *team;
+    uint32_t ran = 0;
+    gerfmuod_team_open(&team, 1);
+    check("outside without a task", gerfmuod_team_outside(team, 0), GERFMUOD_DAG_NO_TASK);
+    check("at task", gerfmuod_team_at(team), 0);
+    for (int i = 0; i < 2; i++) gerfmuod_team_task(team, 0, 0, NULL, 0, NULL);
+    check("outside", gerfmuod_team_outside(team, 1), GERFMUOD_DAG_OK);
+    check("release of a task that awaits none", gerfmuod_team_release(team, 0), GERFMUOD_DAG_WRONG_LIFE);
+    check("at task", gerfmuod_team_at(team), 0);
+    check("the team goes on", gerfmuod_team_start(team, 1), GERFMUOD_DAG_OK);
+    check("outside of a task that waits for nothing", gerfmuod_team_outside(team, 0), GERFMUOD_DAG_WRONG_LIFE);
+    check("release", gerfmuod_team_release(team, 1), GERFMUOD_DAG_OK);
+    check("release once too often", gerfmuod_team_release(team, 1), GERFMUOD_DAG_WRONG_LIFE);
+    check("at task", gerfmuod_team_at(team), 1);
+    gerfmuod_team_turn(team, 0, gerfmuod_team_turn(team, 0, GERFMUOD_DAG_NONE).number);
+    check("the end", gerfmuod_team_turn(team, 0, 1).told, GERFMUOD_DAG_OVER);
+    check("release after the end", gerfmuod_team_release(team, 1), GERFMUOD_DAG_WRONG_LIFE);
+    gerfmuod_team_close(team);
+    gerfmuod_team_open(&team, 1);
+    gerfmuod_team_task(team, 0, 0, NULL, 0, NULL);
+    gerfmuod_team_outside(team, 0);
+    gerfmuod_team_stop(team, GERFMUOD_DAG_NONE);
+    check("outside after a stop", gerfmuod_team_outside(team, 0), GERFMUOD_TEAM_STOPPED);
+    check("release after a stop", gerfmuod_team_release(team, 0), GERFMUOD_TEAM_STOPPED);
+    check("a run after a stop", gerfmuod_team_run(team, 2, count_body, &ran), GERFMUOD_TEAM_STOPPED);
+    check("runs nothing", ran, 0);
+    gerfmuod_team_close(team);
+}
+
+/* The trace of one task, in full and in a buffer that is too small. */
 static void check_trace(void) {
     static const char wanted[] = "trace 1\nnodes 1\ninsert 0 0 0\nready 0\nbegin 0\ndone 0\nstart\ngive 0\njudge not\nstart\ngive 0\n"
                                  "judge ended 1\n";
@@ -250,7 +350,7 @@ static void check_team_stop(void) {
     gerfmuod_team_close(seen.team);
 }
 
-/* The names of the team are those of the library, as far as it has them. */
+/* The names of the team's refusals are those of the library, for the refusals that the library has. */
 static void check_names(void) {
     for (uint32_t i = 1; gerfmuod_refusal_name && i <= 26; i++) {
         char name[16] = "";
@@ -264,10 +364,12 @@ int main(int argc, char **argv) {
     (void)argv;
     check_description();
     check_run();
+    check_outside();
     check_size();
-    if (argc == 1) check_limits(), check_team_limits();
+    if (argc == 1) check_limits(), check_outside_limit(), check_team_limits();
     check_team_description();
     check_team_run();
+    check_team_outside();
     check_trace();
     check_team_stop();
     check_names();

@@ -1,4 +1,4 @@
-/* shapes.h: graphs of small tasks for grain.c and its peers, in C and C++: which tasks each task waits for, and a body of so many
+/* shapes.h: graphs of small tasks for grain.c and its peers, in C and C++: the inputs of each task, and a body with a number of
  * iterations that checks the order. */
 #ifndef SHAPES_H
 #define SHAPES_H
@@ -53,7 +53,7 @@ static inline int draw_shape(const char *shape) {
 
 static inline void clear_shape(void) { memset(has_ended, 0, task_count); }
 
-/* The body of a task: a chain of multiplications, which no compiler shortens. Ends the program if an input is missing. */
+/* The body of a task: a chain of multiplications, which no compiler can shorten. Exits the program if an input is missing. */
 static inline void run_shape_task(uint32_t task) {
     uint64_t x = task;
     for (long i = 0; i < iterations; i++) {

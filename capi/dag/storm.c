@@ -1,11 +1,13 @@
-/* storm.c: random graphs on teams of random sizes. Each body checks that its inputs are done and that it runs for the first
- * time. Its data has no lock and no atomics, so ThreadSanitizer also checks that the pool orders the bodies.
+/* storm.c: random graphs on teams of random sizes. Each body checks that its inputs are done, that its inputs from outside are
+ * there, and that it runs for the first time. Its data has no lock and no atomics, so ThreadSanitizer also checks that the pool
+ * orders the bodies.
  *
- *   storm ROUNDS [SEED [early]]     early: tasks report that they are done before they are, which has to be found out
+ *   storm ROUNDS [SEED [early]]     early: threads report tasks as done before they run them; this has to be detected
  *
- * Every second round runs on threads of its own with gerfmuod_team_turn, which begin before the pool is started or after it, and
- * some rounds have a body that fails. Every tenth graph is one task and then tasks that run on all threads at the same time. If
- * the library has gerfmuod_audit, it judges the trace of each round. The exit status is 1 if something is wrong. */
+ * Every second round runs on its own threads with gerfmuod_team_turn, which begin before the pool is started or after it.
+ * Some rounds have a body that fails. One more thread releases the inputs from outside in random order, before the start and
+ * after it. Every tenth graph is one task and then tasks that run on all threads at the same time. If the library has
+ * gerfmuod_audit, it judges the trace of each round. The exit status is 1 if a check failed. */
 #define _POSIX_C_SOURCE 200809L
 #include "gerfmuod.h"
 #include "gerfmuod_team.h"
@@ -16,21 +18,31 @@
 
 #pragma weak gerfmuod_audit
 
-enum { MOST = 300, MOST_THREADS = 16, INPUTS = 4 };
+enum { MOST = 300, MOST_THREADS = 16, INPUTS = 4, OUTSIDE = 2 };
 
 static uint64_t seed = 88172645463325253u;
 static uint32_t tasks, nodes, threads, failing;
-static uint32_t meeting, arrived; /* how many tasks have to run at the same time, and how many have begun */
+static uint32_t meeting, arrived; /* the number of tasks that have to run at the same time, and the number that have begun */
 static uint8_t homes[MOST], classes[MOST];
 static uint32_t offsets[MOST + 1], inputs[MOST * INPUTS];
-static char has_ended[MOST];
-static int wrong; /* bodies that ran too early or twice; only written if there are some */
+static uint32_t releases[MOST * OUTSIDE], release_count; /* the tasks of the inputs from outside, in the order of their release */
+static char has_ended[MOST], awaited[MOST], has_come[MOST];
+static int wrong, unreleased; /* bodies that ran too early or twice, releases that were refused; only written if there are some */
 static bool is_early;
 static gerfmuod_team *team;
 
 static uint32_t below(uint32_t limit) {
     seed ^= seed << 13, seed ^= seed >> 7, seed ^= seed << 17;
     return (uint32_t)((seed >> 11) % limit);
+}
+
+static void draw_releases(void) {
+    for (uint32_t t = 0; t < tasks; t++)
+        for (uint32_t k = below(6) ? 0 : 1 + below(OUTSIDE); k > 0; k--) awaited[t]++, releases[release_count++] = t;
+    for (uint32_t i = release_count; i > 1; i--) {
+        uint32_t other = below(i), t = releases[i - 1];
+        releases[i - 1] = releases[other], releases[other] = t;
+    }
 }
 
 static void draw_graph(void) {
@@ -45,7 +57,7 @@ static void draw_graph(void) {
         for (uint32_t k = t ? below(INPUTS + 1) : 0; k > 0; k--) inputs[offsets[t + 1]++] = t - 1 - below(t < 20 ? t : 20);
     }
     failing = tasks && below(8) == 0 ? below(tasks) : GERFMUOD_DAG_NONE;
-    memset(has_ended, 0, sizeof has_ended);
+    draw_releases();
 }
 
 /* One task, and then one for each thread, all of which have to run at the same time. */
@@ -53,7 +65,7 @@ static void draw_meeting(void) {
     nodes = 1, failing = GERFMUOD_DAG_NONE;
     meeting = threads = 2 + below(MOST_THREADS - 1);
     tasks = meeting + 1;
-    memset(homes, 0, sizeof homes), memset(classes, 0, sizeof classes), memset(has_ended, 0, sizeof has_ended);
+    memset(homes, 0, sizeof homes), memset(classes, 0, sizeof classes);
     for (uint32_t t = 0; t < tasks; t++) offsets[t + 1] = t, inputs[t] = 0;
 }
 
@@ -69,12 +81,21 @@ static int body(void *context, uint32_t task) {
     (void)context;
     if (task == failing) return 1;
     if (meeting && task) meet();
-    if (has_ended[task]) wrong++;
+    if (has_ended[task] || has_come[task] != awaited[task]) wrong++;
     for (uint32_t k = offsets[task]; k < offsets[task + 1]; k++)
         if (!has_ended[inputs[k]]) wrong++;
     if (task % 7 == 0) sched_yield();
     has_ended[task] = 1;
     return 0;
+}
+
+static void *release_all(void *argument) {
+    for (uint32_t i = 0; i < release_count; i++) {
+        has_come[releases[i]]++;
+        if (gerfmuod_team_release(team, releases[i]) && failing == GERFMUOD_DAG_NONE) unreleased++;
+        if (i % 7 == 0) sched_yield();
+    }
+    return argument;
 }
 
 static void *turns(void *argument) {
@@ -101,7 +122,7 @@ static uint32_t run_own_threads(bool is_started_first) {
     for (uint32_t w = 0; w < threads; w++)
         need(pthread_create(&ids[w], NULL, turns, (void *)(uintptr_t)(w % nodes)) != 0, "pthread_create");
     if (!is_started_first) {
-        nanosleep(&(struct timespec){.tv_nsec = 1000000}, NULL); /* time for turns to begin */
+        nanosleep(&(struct timespec){.tv_nsec = 1000000}, NULL); /* lets turns begin */
         need(gerfmuod_team_start(team, threads), "start");
     }
     for (uint32_t w = 0; w < threads; w++) pthread_join(ids[w], NULL);
@@ -114,7 +135,7 @@ static bool is_complete(void) {
     return true;
 }
 
-/* Whether the audit finds the trace sound, as far as the library can tell. */
+/* Returns whether the audit finds the trace sound; true if the library has no audit. */
 static bool is_sound(void) {
     size_t length = gerfmuod_team_trace(team, NULL, 0);
     char *text = malloc(length + 1), verdict[256];
@@ -127,19 +148,24 @@ static bool is_sound(void) {
 }
 
 static bool round_is_well(uint32_t round) {
-    meeting = arrived = 0;
-    if (round % 10 == 0) draw_meeting();
+    pthread_t releasing;
+    meeting = arrived = release_count = 0;
+    memset(has_ended, 0, sizeof has_ended), memset(awaited, 0, sizeof awaited), memset(has_come, 0, sizeof has_come);
+    if (round % 10 == 0 && !is_early) draw_meeting();
     else draw_graph();
     need(gerfmuod_team_open(&team, nodes), "open");
     need(gerfmuod_team_describe(team, tasks, homes, classes, offsets, inputs), "describe");
+    for (uint32_t i = 0; i < release_count; i++) need(gerfmuod_team_outside(team, releases[i]), "outside");
+    need(pthread_create(&releasing, NULL, release_all, NULL) != 0, "pthread_create");
     uint32_t refused = round % 2 || is_early ? run_own_threads(round % 4 == 1) : gerfmuod_team_run(team, threads, body, NULL);
-    bool is_well = !wrong && is_sound();
+    pthread_join(releasing, NULL);
+    bool is_well = !wrong && !unreleased && is_sound();
     if (failing == GERFMUOD_DAG_NONE) is_well &= !refused && is_complete();
     else is_well &= refused == GERFMUOD_TEAM_STOPPED && gerfmuod_team_at(team) == failing && !has_ended[failing];
     gerfmuod_team_close(team);
     if (!is_well)
-        printf("round %u: %u tasks, %u nodes, %u threads: refused %u, %d bodies too early or twice\n", round, tasks, nodes, threads,
-               refused, wrong);
+        printf("round %u: %u tasks, %u nodes, %u threads: refused %u, %d bodies too early or twice, %d releases refused\n", round,
+               tasks, nodes, threads, refused, wrong, unreleased);
     return is_well;
 }
 
@@ -149,6 +175,6 @@ int main(int argc, char **argv) {
     is_early = argc > 3;
     for (uint32_t round = 0; round < rounds; round++)
         if (!round_is_well(round)) return 1;
-    printf("%u rounds, each task once and after its inputs%s\n", rounds, gerfmuod_audit ? ", each trace sound" : "");
+    printf("%u rounds, each task once and after all that it waits for%s\n", rounds, gerfmuod_audit ? ", each trace sound" : "");
     return 0;
 }

@@ -1,4 +1,4 @@
-/* timing.h: what the measured programs of this folder share: a clock, and one line of milliseconds for each way of running. */
+/* timing.h: shared by the measured programs of this folder: a clock, and one line of milliseconds for each way of running. */
 #ifndef TIMING_H
 #define TIMING_H
 #include <stdio.h>
@@ -13,7 +13,7 @@ static inline double seconds_now(void) {
     return (double)t.tv_sec + (double)t.tv_nsec * 1e-9;
 }
 
-/* Ends the program if a call was refused. */
+/* Exits the program if a call was refused. */
 static inline void need(unsigned refused, const char *what) {
     if (refused) {
         fprintf(stderr, "%s: refused %u\n", what, refused);

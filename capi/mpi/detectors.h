@@ -10,7 +10,7 @@ enum { PROVED = 0, BY_HAND = 1, SAFRA = 2, REDUCTIONS = 3 };
 
 typedef gerfmuod_control_message control;
 
-/* the four counters over the same tree, as one would write them without a proof */
+/* the four counters over the same tree, hand-written without a proof */
 typedef struct by_hand {
     int me, n, children, waiting, here, over, known;
     uint64_t pending, sent, received, wave, all_sent, all_received, last_received;
@@ -121,8 +121,8 @@ static void safra_take(safra *p, const control *c) {
 }
 
 #ifdef MPI_VERSION
-/* MPI_Iallreduce again and again, of how many messages were sent and received: the end is known once two reductions that
- * follow each other give the same four equal numbers. A process joins the next reduction when it is idle. */
+/* Repeated MPI_Iallreduce of the numbers of messages sent and received: the end is known once the four numbers of two
+ * consecutive reductions are equal. A process joins the next reduction when it is idle. */
 typedef struct reductions {
     int over, known, is_open;
     uint64_t pending, own[2], sums[2], last[2], count;
@@ -244,7 +244,7 @@ static inline unsigned detector_next(detector *d, control *c) {
     return next;
 }
 
-/* The waves, rounds of the token, or reductions that this process knows of. */
+/* Returns the number of waves, rounds of the token, or reductions that this process knows of. */
 static inline uint64_t detector_waves(const detector *d) {
 #ifdef MPI_VERSION
     if (d->kind == REDUCTIONS) return d->reduced.count;

@@ -1,11 +1,11 @@
-/* latency.c: how long it takes until all processes know that nothing is left, over MPI, with nothing else to do.
+/* latency.c: the latency from the end of all work until all processes know of it, over MPI, with nothing else to do.
  *
  *   mpicc -O2 -Icapi capi/mpi/latency.c -Llib -lgerfmuod -o latency
  *   mpirun -n 4 ./latency proved|hand|safra|reductions ROUNDS
  *
- * Each round begins a detector, finishes its only piece of work at a barrier, and takes the time to the last process that
- * knows the end. Prints the median of the times, their quartiles and what nine rounds of ten stay below, in microseconds,
- * and how many control messages were sent, and how many waves, rounds of the token or reductions there were, in a round. */
+ * Each round begins a detector, finishes its only piece of work at a barrier, and takes the time until the last process
+ * knows the end. Prints the median, the quartiles and the 90th percentile of the times in microseconds, and the numbers of
+ * control messages and of waves, rounds of the token or reductions in a round. */
 #include <mpi.h>
 #include "detectors.h"
 #include <inttypes.h>
@@ -26,7 +26,7 @@ static void receive(detector *d) {
     detector_take(d, &c);
 }
 
-/* The seconds of a round at this process. */
+/* Returns the seconds of a round at this process. */
 static double run_round(detector *d) {
     control c;
     unsigned next;

@@ -1,12 +1,12 @@
 /* uts_mpi.c: the Unbalanced Tree Search over MPI. Each process searches a part of the tree; a process with nothing left asks
- * another one, drawn at random, for some of its nodes. A detector says when the whole tree is searched.
+ * a random other one for some of its nodes. A detector reports when the whole tree is searched.
  *
  *   mpicc -O2 -Icapi capi/mpi/uts_mpi.c -Llib -lgerfmuod -lm -o uts_mpi
  *   mpirun -n 4 ./uts_mpi T1|T3|T0 [proved|hand|safra|reductions] [right|late|late_kept|early|uncounted] [seed]
  *
- * Messages with nodes are counted. Requests and refusals of requests make no work, so they need not be.
- * The third argument chooses a wrong program, to show that the check can fail. late: counts a receipt after its work, and
- * sends although the detector refuses. late_kept: the same, but keeps to the refusals. early: closes the work of a message
+ * Messages with nodes are counted. Requests and refusals of requests create no work, so they need not be counted.
+ * The third argument selects a faulty variant, to show that the check can fail. late: counts a receipt after its work, and
+ * sends even if the detector refuses. late_kept: the same, but obeys the refusals. early: closes the work of a message
  * when it comes. uncounted: does not count what it sends; it never ends. The exit status is 1 if nodes are missing. */
 #include <mpi.h>
 #include "detectors.h"
@@ -49,7 +49,7 @@ static void ask_detector(void) {
 
 static void count_receipt(void) { refusals += detector_received(&d) != 0; }
 
-/* Half of the nodes here, the oldest first, at most a chunk. */
+/* Takes half of the nodes here, the oldest first, at most a chunk. */
 static void give_work(int to) {
     size_t give = many / 2 < CHUNK ? many / 2 : CHUNK;
     asks++;
@@ -79,7 +79,7 @@ static void take_work(const MPI_Status *s) {
     if (wrong == EARLY) detector_finish_work(&d);
 }
 
-/* Takes what came, if anything. */
+/* Receives a message, if one came. */
 static bool poll(void) {
     MPI_Status s;
     int there;
@@ -110,7 +110,7 @@ static void search(const tree *t) {
     }
 }
 
-/* The piece of work that the beginning or the last message opened is done. */
+/* Closes the piece of work that the beginning or the last message opened. */
 static void finish_work(void) {
     is_working = false;
     last_work = MPI_Wtime();
@@ -127,7 +127,7 @@ static void ask_for_work(void) {
     MPI_Send(NULL, 0, MPI_BYTE, asked, ASK, MPI_COMM_WORLD);
 }
 
-/* The end is known. Takes the replies that are still under way; nodes among them came after the end. */
+/* The end is known. Receives the replies that are still under way; nodes in them came after the end. */
 static void drain(void) {
     MPI_Request barrier;
     bool has_entered = false;
@@ -146,7 +146,7 @@ static void drain(void) {
     }
 }
 
-/* Adds up what all processes counted; process 0 prints it. Gives whether the tree was searched whole. */
+/* Adds up the counts of all processes; process 0 prints them. Returns whether the whole tree was searched. */
 static int report(const tree *t, const char *kind, const char *how, double begun) {
     uint64_t mine[8] = {nodes, leaves, steals, asks, d.controls, refusals, left, late}, sum[8];
     double times[2] = {last_work, told_at}, last[2];

@@ -1,4 +1,4 @@
-/* uts_serial.c: the Unbalanced Tree Search in one process, whose counts the others have to reach.
+/* uts_serial.c: the Unbalanced Tree Search in one process; its counts are the expected ones.
  *
  *   cc -O2 capi/mpi/uts_serial.c -lm -o uts_serial && ./uts_serial T1|T3|T0 */
 #define _POSIX_C_SOURCE 200809L

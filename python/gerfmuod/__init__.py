@@ -10,9 +10,9 @@
     >>> round(c.result, 6)
     3.844231
 
-The package loads the shared object libgerfmuod.so.0, which `make lib` builds. It looks at the path
-in the environment variable GERFMUOD_LIBRARY, next to the package, in lib/ of the repository, and
-where the system looks for libraries.
+The package loads the shared object libgerfmuod.so.0, which `make lib` builds. It searches the path
+in the environment variable GERFMUOD_LIBRARY; or else the folder of the package, lib/ of the
+repository, and the library path of the system.
 """
 from ._pool import Pool, Task
 from ._refused import Refused

@@ -14,13 +14,13 @@ OVER = 3
 
 
 class Answer(ctypes.Structure):
-    """The result of a turn, as gerfmuod_dag_answer."""
+    """The result of a turn: gerfmuod_dag_answer."""
 
     _fields_ = [(name, ctypes.c_uint32) for name in ("refused", "told", "number", "news")]
 
 
 def _candidates() -> Iterator[str]:
-    """Where the shared object may be, the first choice first."""
+    """Yields the paths where the shared object may be, in order of preference."""
     chosen = os.environ.get("GERFMUOD_LIBRARY")
     if chosen:
         yield chosen
@@ -51,6 +51,8 @@ def _declare(library: ctypes.CDLL) -> ctypes.CDLL:
         "gerfmuod_team_open": (u32, [ctypes.POINTER(ctypes.c_void_p), u32]),
         "gerfmuod_team_close": (None, [team]),
         "gerfmuod_team_task": (u32, [team, u32, u32, numbers, size, numbers]),
+        "gerfmuod_team_outside": (u32, [team, u32]),
+        "gerfmuod_team_release": (u32, [team, u32]),
         "gerfmuod_team_start": (u32, [team, u32]),
         "gerfmuod_team_turn": (Answer, [team, u32, u32]),
         "gerfmuod_team_stop": (None, [team, u32]),

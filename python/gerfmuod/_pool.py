@@ -14,7 +14,7 @@ Result = TypeVar("Result")
 
 
 class Task(Generic[Result]):
-    """A task of a pool. As an argument of a later task it stands for its result."""
+    """A task of a pool. As an argument of a later task it is replaced by its result."""
 
     __slots__ = ("number", "_pool", "_result", "_is_done")
 
@@ -40,7 +40,7 @@ class Task(Generic[Result]):
 
 
 class _Job(NamedTuple):
-    """What a task runs."""
+    """A task, its function and the arguments."""
 
     task: "Task[Any]"
     function: Callable[..., Any]
@@ -56,12 +56,13 @@ class Pool:
     """A graph of tasks, which runs once.
 
     Args:
-        nodes: how many groups of tasks there are, 1 to 8. One is right in most cases.
+        nodes: the number of groups of tasks, 1 to 8. One is right in most cases.
 
     Raises:
         Refused: ``BadSpec`` if ``nodes`` is not 1 to 8; ``NoMemory``.
 
-    A pool is used by one thread; :meth:`run` calls the functions of the tasks on several threads.
+    One thread uses a pool; :meth:`run` calls the functions of the tasks on several threads.
+    Any thread may call :meth:`outside` and :meth:`release`.
     """
 
     def __init__(self, nodes: int = 1) -> None:
@@ -86,12 +87,12 @@ class Pool:
         """Describes a task: one call of a function.
 
         Args:
-            function: what the task runs.
-            arguments: what the function gets. An argument that is a task of this pool stands for
-                its result, and the new task waits for it. Tasks inside of lists and other values
-                are not looked for.
+            function: the function that the task calls.
+            arguments: the arguments of the function. An argument that is a task of this pool is
+                replaced by its result, and the new task waits for it. Tasks inside lists and other
+                values are not found.
             after: further tasks that the new task waits for.
-            node: which group the task is in, below the pool's ``nodes``.
+            node: the group of the task, below the pool's ``nodes``.
             priority: 0 to 3. Ready tasks of a node with a lower number run first.
 
         Raises:
@@ -111,11 +112,39 @@ class Pool:
         self._jobs.append(_Job(task, function, arguments))
         return task
 
+    def outside(self, task: "Task[Any]") -> None:
+        """Lets a task wait for one more input from outside, such as a message or a timer.
+
+        The task does not run before :meth:`release` was called once for each of them. A function of
+        a task may call this while it runs, for a task that waits for its own.
+
+        Raises:
+            ValueError: the task is of another pool, or the pool is closed.
+            Refused: ``WrongLife`` if the task has begun, or if the pool runs and the task waits for
+                nothing; ``HistoryFull`` if it awaits 1,048,576 of them; ``Stopped`` if an exception
+                has stopped the pool.
+        """
+        team = self._open_team()
+        _check(team, library.gerfmuod_team_outside(team, self._number_of(task)))
+
+    def release(self, task: "Task[Any]") -> None:
+        """Reports that one input from outside of a task is there.
+
+        If it cannot come, release it all the same, and let the task's function raise an exception.
+
+        Raises:
+            ValueError: the task is of another pool, or the pool is closed.
+            Refused: ``WrongLife`` if the task awaits none; ``Stopped`` if an exception has stopped
+                the pool.
+        """
+        team = self._open_team()
+        _check(team, library.gerfmuod_team_release(team, self._number_of(task)))
+
     def run(self, threads: Optional[int] = None) -> None:
         """Runs all tasks, and returns when they are done.
 
         Args:
-            threads: on how many threads, of which the caller is one. The default is the number of
+            threads: the number of threads, of which the caller is one. The default is the number of
                 processors. Each node with tasks needs a thread. Functions run in parallel as far
                 as they release the interpreter's lock, as those of numpy do.
 
@@ -126,7 +155,8 @@ class Pool:
                 exception has stopped it before.
 
         An exception of a task's function stops the pool: tasks that run are finished, no further
-        one begins, and ``run`` raises that exception.
+        one begins, and ``run`` raises that exception. While the caller waits for inputs from
+        outside, it does not see an interrupt from the keyboard.
         """
         team = self._open_team()
         count = _processors() if threads is None else threads
@@ -147,7 +177,7 @@ class Pool:
         _check(team, library.gerfmuod_team_turn(team, 0, NONE).refused)
 
     def trace(self) -> str:
-        """The steps of the pool as a trace, which ``tp audit`` judges.
+        """Returns the steps of the pool as a trace, which ``tp audit`` judges.
 
         Raises:
             ValueError: the pool is closed.
@@ -173,8 +203,13 @@ class Pool:
         self.close()
 
     def __len__(self) -> int:
-        """How many tasks were described."""
+        """Returns the number of tasks that were described."""
         return len(self._jobs)
+
+    def _number_of(self, task: "Task[Any]") -> int:
+        if task._pool is not self:
+            raise ValueError("the task is of another pool")
+        return task.number
 
     def _open_team(self) -> ctypes.c_void_p:
         if self._team is None:
@@ -208,12 +243,12 @@ def _check(team: ctypes.c_void_p, refused: int) -> None:
 
 
 def _processors() -> int:
-    """How many processors this process may use."""
+    """Returns the number of processors that this process may use."""
     if hasattr(os, "sched_getaffinity"):
         return len(os.sched_getaffinity(0))
     return os.cpu_count() or 1
 
 
 def _number(value: int) -> int:
-    """A number for the library; one that is not of 32 bits becomes one that is refused."""
+    """Returns a number for the library; one that is not of 32 bits becomes one that is refused."""
     return value if 0 <= value <= NONE else NONE

@@ -10,7 +10,7 @@ class Refused(Exception):
     """The library refused a call.
 
     Attributes:
-        name: the refusal's name, such as ``"NoThread"``.
+        name: the name of the refusal, such as ``"NoThread"``.
         number: its number, as in gerfmuod_dag.h and gerfmuod_team.h.
         meaning: a sentence that explains it.
         task: the number of the task that it is about, or None.

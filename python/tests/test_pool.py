@@ -113,6 +113,62 @@ class Refusals(unittest.TestCase):
             self.assertRaises(ValueError, call)
 
 
+def deliver(pool, task, data, value):
+    """What a thread that is no worker does: it writes a value, and releases the task that waits for it."""
+    data.append(value)
+    pool.release(task)
+
+
+class Outside(unittest.TestCase):
+    def test_a_task_waits_for_each_of_its_inputs(self):
+        for threads in (2, 4):
+            pool, data, seen = Pool(2), [], []
+            first = pool.task(data.__getitem__, -1)
+            pool.task(seen.append, first, node=1)
+            timers = [threading.Timer(0.02 * k, deliver, (pool, first, data, k)) for k in (1, 2)]
+            for timer in timers:
+                pool.outside(first)
+                timer.start()
+            pool.run(threads)
+            self.assertEqual((data, seen), ([1, 2], [2]))
+
+    def test_a_function_announces_an_input_of_a_task_that_waits_for_it(self):
+        pool, data = Pool(), []
+
+        def begin():
+            pool.outside(last)
+            threading.Timer(0.02, deliver, (pool, last, data, "there")).start()
+
+        last = pool.task(data.__getitem__, 0, after=[pool.task(begin)])
+        pool.run(2)
+        self.assertEqual(last.result, "there")
+
+    def test_refusals(self):
+        pool = Pool()
+        task = pool.task(int)
+        for call in (pool.release, lambda task: (pool.outside(task), pool.release(task), pool.release(task))):
+            with self.assertRaises(Refused) as caught:
+                call(task)
+            self.assertEqual((caught.exception.name, caught.exception.task), ("WrongLife", 0))
+        pool.run(1)
+        self.assertRaises(Refused, pool.outside, task)
+        for call in (pool.outside, pool.release):
+            self.assertRaises(ValueError, call, Pool().task(int))
+        pool.close()
+        for call in (pool.outside, pool.release):
+            self.assertRaises(ValueError, call, task)
+
+    def test_an_exception_ends_the_wait(self):
+        pool = Pool()
+        waiting = pool.task(int)
+        pool.outside(waiting)
+        pool.task(lambda: 1 // 0)
+        self.assertRaises(ZeroDivisionError, pool.run, 3)
+        with self.assertRaises(Refused) as caught:
+            pool.release(waiting)
+        self.assertEqual(caught.exception.name, "Stopped")
+
+
 class Exceptions(unittest.TestCase):
     def test_an_exception_stops_the_pool_and_is_raised(self):
         for threads in (1, 4):

@@ -8,6 +8,7 @@ from . import bench, build, capi, dag_programs, demo, docs, drawn, gate_times, l
 from . import mpi, mutants, new_pool, proved, soak, tries, words
 from .limits import cuts, generations, hostile_numbers, live, memory, pictures, progress, random_texts, reasons
 from .limits import refuse, refuse_tests, stacks, strange
+from .shipping import completion, dist, installing, manual, package
 
 COMMANDS = {
     "build": build,
@@ -28,6 +29,11 @@ COMMANDS = {
     "new-pool": new_pool,
     "soak": soak,
     "bench": bench,
+    "manual": manual,
+    "completion": completion,
+    "install": installing,
+    "dist": dist,
+    "package": package,
 }
 LIMITS = {
     "refuse": refuse,

@@ -31,6 +31,8 @@ SHAPES = ["wide", "chain", "wave", "stencil", "three"]
 # of the fuzz, in the quick form and in full
 CALLS, ALL_CALLS = 1_000_000, 10_000_000
 STORM, LONG_STORM = 100, 2000
+# the faults that the model of fuzz.c has as an argument
+FUZZ_FAULTS = ["forgets", "loses"]
 
 
 @dataclass(frozen=True)
@@ -55,7 +57,8 @@ def programs(is_full):
     """Returns the programs in C and C++, with short or long runs of the fuzz and of random graphs."""
     calls, rounds = (ALL_CALLS, LONG_STORM) if is_full else (CALLS, STORM)
     storm = [Run([str(rounds)], 0, f"{rounds} rounds"), Run(["200", "1", "early"], 1, "too early")]
-    fuzz = [Run(["200000", "2"], 0, "as the model says"), Run(["200000", "3", "forgets"], 1, "expected")]
+    fuzz = [Run(["200000", "2"], 0, "as the model says"), *(Run(["200000", "3", fault], 1, "expected") for fault in FUZZ_FAULTS)]
+    outside = [Run(["300", "8", "4"], 0, ", 0 wrong"), Run(["300", "8", "4", "early"], 1, " wrong")]
     small_grain = [[shape, "200", "1", "1", "3x1"] for shape in SHAPES]
     ways = ["loop", "1x1", "1x4", "2x2", "8x1"]
     return [
@@ -67,6 +70,7 @@ def programs(is_full):
         Program("cholesky.c", C, ["-lm"], [Run(["256", "32", "1", *ways, "whole:1"], 0, "8x1 120")], [["64", "16", "1", "2x2"]]),
         Program("recursion.c", C, [], [Run(["100000", "500", "1", *ways], 0, "8x1 511")], [["2000", "100", "1", "2x2"]]),
         Program("grain.c", C, [], [Run([shape, "5000", "10", "1", *ways], 0, "8x1 5000") for shape in SHAPES], small_grain),
+        Program("outside.c", C, [], outside, [["30", "4", "2"]]),
         Program("failures.c", C, WRAPPED, [Run([], 0, ", 0 not as they should be")], []),
         Program("failures.c", [*C, *ADDRESS], WRAPPED, [Run([], 0, ", 0 not as they should be")], []),
         Program("storm.c", C, [], storm, [["10"]]),

@@ -1,10 +1,10 @@
 """Compares the documents with the code and with each other.
 
-- the table of docs/MEMORY.md has each public call that can run out of memory, and no other
+- the list of docs/measurements/out-of-memory.md has each public call that can run out of memory, and no other
 - each block of code in docs/RUNNING-A-POOL.md and docs/PROVING-A-POOL.md is part of the file that the line above it names
-- each relative link of README.md, CONTRIBUTING.md, bench/README.md, docs/*.md and docs/guarantees leads to a file, and to a
-  heading if it names one
-- README.md has at most 150 lines, and none of over 120 columns: only warnings, unless --strict is given
+- each relative link of README.md, CONTRIBUTING.md, bench/README.md, docs/*.md, docs/guarantees and docs/measurements leads to
+  a file, and to a heading if it names one
+- README.md has at most 130 lines, and none of over 120 columns: only warnings, unless --strict is given
 - the pictures are those that tools/pictures.py draws (its --check)
 - docs/guarantees is what tools/dev proved writes from the contracts, and docs/PROVED.md names only calls and clauses that exist
 
@@ -28,7 +28,7 @@ CODE = re.compile(r"^ *```.*?^ *```[^\n]*$|`[^`\n]*`", re.S | re.M)
 LINK = re.compile(r'\]\(<?([^()\s>]+)>?(?:\s+"[^"]*")?\)|^ *\[[^\]\n]+\]: *(\S+)|\b(?:src|srcset|href)="([^"]+)"', re.M)
 ELSEWHERE = re.compile(r"[a-z][a-z0-9+.-]*:|//", re.I)
 PICTURES = "tools/pictures.py"
-MOST_COLUMNS, MOST_LINES = 120, 150
+MOST_COLUMNS, MOST_LINES = 120, 130
 
 
 def check_page(page, tally):
@@ -70,7 +70,7 @@ def exists(path, link):
 
 
 def check_links(tally):
-    pages = sorted(glob.glob("docs/*.md") + glob.glob("docs/guarantees/*.md"))
+    pages = sorted(path for folder in ("docs", "docs/guarantees", "docs/measurements") for path in glob.glob(f"{folder}/*.md"))
     documents = [path for path in ("README.md", "CONTRIBUTING.md", "bench/README.md", *pages) if os.path.exists(path)]
     links = [(path, link) for path in documents for link in links_of(path)]
     dead = [(path, link) for path, link in links if not exists(path, link)]

@@ -7,11 +7,12 @@ one is not proved.
 """
 import hashlib
 import os
+import re
 import shutil
 import subprocess
 import tempfile
 
-from . import build, repository, shared_object
+from . import build, repository, shared_object, version
 from .repository import text_of
 from .rooms import rooms
 
@@ -54,10 +55,20 @@ def add_heap():
         subprocess.run(["ar", "rs", archive, *sorted(os.listdir(folder))], cwd=folder, check=True, capture_output=True)
 
 
+def filled(template, values):
+    """Returns a template with the values of its names, which are between two signs @."""
+    return re.sub(r"@(\w+)@", lambda found: values[found[1]], template)
+
+
+def package(folders):
+    """Returns the description for pkg-config of a library in these folders."""
+    return filled(text_of(PACKAGE), {**folders, "VERSION": version.version()})
+
+
 def write_package():
     """Writes the description for pkg-config, of this folder."""
     with open("lib/gerfmuod.pc", "w", encoding="utf-8") as file:
-        file.write(text_of(PACKAGE).replace("@LIBRARIES@", "${pcfiledir}").replace("@HEADERS@", "${pcfiledir}"))
+        file.write(package(dict.fromkeys(("PREFIX", "EXEC_PREFIX", "LIBDIR", "INCLUDEDIR"), "${pcfiledir}")))
 
 
 def arguments(parser):

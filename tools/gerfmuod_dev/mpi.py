@@ -2,15 +2,18 @@
 
 uts_mpi.c searches two trees whose numbers of nodes and leaves are known, T1 and T3, with 1, 2, 4, 8 and 16 processes on
 this machine. Then it searches a small tree with each hand-written detector, and with each of three faults: with a fault it
-has to miss nodes or not to end, which shows that the check can fail. With --quick all trees are small. Needs mpicc and
-mpirun of Open MPI (`tools/mpi-packages` prints the packages); if one is missing, says so, and with --quick that is no
-failure. The last line is `N passed, M failed`; the status is 1 if one failed.
+has to miss nodes or not to end, which shows that the check can fail. mpi_cholesky.c factors a matrix, each process with a
+task graph of its own, and compares the factors with those of the whole matrix, over OpenBLAS if it is installed; it has a
+fault, too. With --quick trees and matrix are small, and the processes at most 4. Needs mpicc and mpirun of Open MPI
+(`tools/mpi-packages` prints the packages); if one is missing, says so, and with --quick that is no failure. The last line
+is `N passed, M failed`; the status is 1 if one failed.
 """
 import os
 import shutil
 import subprocess
 import sys
 import tempfile
+from dataclasses import dataclass
 
 from . import library, repository, running
 from .c_programs import output_of
@@ -18,14 +21,29 @@ from .repository import TOP
 from .running import Tally
 
 COMPILER = ["mpicc", "-std=c11", "-Wall", "-Wextra", "-Werror", "-Wno-unused-function", "-O2", "-Icapi"]
-LINK = ["-Llib", "-lgerfmuod", "-lm"]
+LINK = ["-Llib", "-lgerfmuod", "-pthread", "-lm"]
+BLAS = ["-DHAVE_BLAS", "-lopenblas"]
 MPIRUN = ["mpirun", "--oversubscribe", "--mca", "mpi_yield_when_idle", "1"]
 ROOT = {"OMPI_ALLOW_RUN_AS_ROOT": "1", "OMPI_ALLOW_RUN_AS_ROOT_CONFIRM": "1"}
-# the faults that uts_mpi.c has as an argument
+# the faults that uts_mpi.c has as an argument, and the one that mpi_cholesky.c has
 FAULTS = ["late", "early", "uncounted"]
+CHOLESKY_FAULT = "early"
 # the hand-written detectors, with which `tools/dev bench processes` compares the proved one
 PEERS = ["hand", "safra", "reductions"]
 SEEDS = 5
+
+
+@dataclass(frozen=True)
+class Size:
+    """What to run: the trees, the order of the matrix and of its tiles, and the numbers of processes."""
+
+    trees: list
+    matrix: list
+    counts: list
+
+
+QUICK = Size(["T0"], ["256", "32"], [1, 2, 4])
+FULL = Size(["T1", "T3"], ["1024", "64"], [1, 2, 4, 8, 16])
 
 
 def missing():
@@ -39,18 +57,26 @@ def command_of(program, processes, arguments, seconds):
 
 
 def environment():
-    return {**os.environ, **ROOT}
+    return {**os.environ, **ROOT, "OPENBLAS_NUM_THREADS": "1"}
 
 
-def search(program, processes, arguments, seconds):
-    """Runs a search, with its standard error in its output."""
+def run_processes(program, processes, arguments, seconds):
+    """Runs a program with this number of processes, with its standard error in its output."""
     command = command_of(program, processes, arguments, seconds)
     return running.run(command, stderr=subprocess.STDOUT, env=environment())
 
 
+def judge_processes(tally, program, processes, arguments):
+    """Runs a program, prints its output, and counts whether it succeeds."""
+    result = run_processes(program, processes, arguments, 300)
+    print(result.out.decode(errors="replace").strip(), flush=True)
+    name = " ".join([os.path.basename(program), *arguments])
+    tally.judge(not result.status, f"{name} with {processes} processes: status {result.status}")
+
+
 def is_detected(program, fault):
     """Whether the program with this fault misses nodes, or does not end, with one of a few seeds."""
-    return any(search(program, 4, ["T0", "proved", fault, str(seed)], 5).status for seed in range(1, SEEDS + 1))
+    return any(run_processes(program, 4, ["T0", "proved", fault, str(seed)], 5).status for seed in range(1, SEEDS + 1))
 
 
 def compile_program(name, folder):
@@ -59,31 +85,53 @@ def compile_program(name, folder):
     return f"{folder}/{name}"
 
 
-def run_programs(tally, folder, trees, counts):
-    """Searches these trees with each number of processes, and a small tree with each detector and each fault."""
+def compile_cholesky(folder):
+    """Links mpi_cholesky.c with OpenBLAS if that is installed, else with plain kernels; returns its path in the folder."""
+    path = f"{folder}/mpi_cholesky"
+    if running.run([*COMPILER, "capi/mpi/mpi_cholesky.c", "-o", path, *LINK, *BLAS], cwd=TOP).status:
+        print("OpenBLAS is not installed: mpi_cholesky.c runs with plain kernels")
+        compile_program("mpi_cholesky", folder)
+    return path
+
+
+def run_searches(tally, folder, size):
+    """Searches the trees with each number of processes, and a small tree with each detector and each fault."""
     program = compile_program("uts_mpi", folder)
     compile_program("latency", folder)
-    for tree in trees:
-        for processes in counts:
-            result = search(program, processes, [tree], 300)
-            print(result.out.decode(errors="replace").strip(), flush=True)
-            tally.judge(not result.status, f"{tree} with {processes} processes: status {result.status}")
+    for tree in size.trees:
+        for processes in size.counts:
+            judge_processes(tally, program, processes, [tree])
     for peer in PEERS:
-        result = search(program, 4, ["T0", peer], 60)
+        result = run_processes(program, 4, ["T0", peer], 60)
         tally.judge(not result.status, f"T0 with the detector {peer}: status {result.status}")
     for fault in FAULTS:
         tally.judge(is_detected(program, fault), f"the program with the fault {fault} passed with each of {SEEDS} seeds")
+
+
+def run_cholesky(tally, folder, size):
+    """Factors a matrix with each number of processes, of 2 threads each, and a small one with the fault."""
+    program = compile_cholesky(folder)
+    for processes in size.counts:
+        judge_processes(tally, program, processes, [*size.matrix, "2"])
+    arguments = [*QUICK.matrix, "2", CHOLESKY_FAULT]
+    has_failed = any(run_processes(program, 4, arguments, 10).status for _ in range(SEEDS))
+    tally.judge(has_failed, f"mpi_cholesky with the fault {CHOLESKY_FAULT} passed {SEEDS} times")
+
+
+def run_programs(tally, folder, size):
+    run_searches(tally, folder, size)
+    run_cholesky(tally, folder, size)
 
 
 def run_quick(tally, folder):
     if missing():
         print(f"{missing()}: not installed, so no program of capi/mpi was run. tools/mpi-packages prints the packages")
         return
-    run_programs(tally, folder, ["T0"], [1, 2, 4])
+    run_programs(tally, folder, QUICK)
 
 
 def arguments(parser):
-    parser.add_argument("--quick", action="store_true", help="a small tree, with 1, 2 and 4 processes")
+    parser.add_argument("--quick", action="store_true", help="a small tree and a small matrix, with 1, 2 and 4 processes")
 
 
 def run(options):
@@ -96,5 +144,5 @@ def run(options):
         if options.quick:
             run_quick(tally, folder)
         else:
-            run_programs(tally, folder, ["T1", "T3"], [1, 2, 4, 8, 16])
+            run_programs(tally, folder, FULL)
     return tally.end()

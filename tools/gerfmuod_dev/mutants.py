@@ -6,15 +6,18 @@ verdicts are current as long as the crate's own files, its mutants, and the defi
 by its imports say the same: comments and line breaks do not count. A verdict by another toolchain is no reason to try
 anew; --stale prints which crates have one. Mutants of different functions are tried in one check, and those that it does
 not kill each in a check of its own. Prints a line for each crate that is proved before, for each mutant, and for each crate.
+Each verdict is kept until the crate is complete, so that a run which is cut off goes on where it was.
 The status is 1 if a mutant survives, or, with --stale, if verdicts are not current or a mutant cannot be applied.
 """
 import datetime
 import functools
 import hashlib
+import json
 import os
 import re
 import shutil
 import subprocess
+import threading
 from concurrent.futures import ThreadPoolExecutor
 
 from . import mutant_files, repository, together, visible
@@ -33,6 +36,8 @@ DECLARED = re.compile(r"^(?:pub )?([\w-]+) : .*?(?=\n\n|\Z)", re.M | re.S)
 MOST_MUTANTS, MOST_CRATES = 60, 14
 # what a message has if no clause killed the mutant
 ALIVE = re.compile(r"NOT REFUSED|NOT TRIED|BAD EDIT|\(only because|\(only by a limit")
+# a message that is no verdict: a further run may have another one
+UNDECIDED = re.compile(r"NOT TRIED|BAD EDIT|\(only by a limit")
 
 
 @functools.lru_cache(maxsize=None)
@@ -131,75 +136,106 @@ def report(crate, name, message):
         print(f"{crate}/{name}: {'SURVIVED' if 'NOT REFUSED' in message else 'NOT KILLED by a clause'}: {message}", flush=True)
 
 
-def try_alone(crate, names, lanes, _, room):
+def try_alone(crate, names, lanes, _, keep, room):
     """Tries mutants of a crate each in a check of its own, so many of them in parallel, in a copy in which all crates below it are
-    proved; returns the prover's message by name."""
+    proved; keeps the prover's message for each by its name."""
     folder = f"{room}/crates/{crate.name}/must-fail"
     os.makedirs(folder)
     for name in names:
         together.write(f"{folder}/{name}.edit", mutants_of(crate.name)[name].text)
-    messages = {}
     streams = {"stdin": subprocess.DEVNULL, "stdout": subprocess.PIPE, "text": True}
     with subprocess.Popen(["rt", "must-fail", crate.name], cwd=room, env={**os.environ, "RT_JOBS": str(lanes)}, **streams) as process:
         for line in process.stdout:
             match = re.match(r"rt: must-fail \w+/(\S+)\.edit: (.*)", line)
             if match:
-                messages[match[1]] = match[2]
                 report(crate.name, match[1], match[2])
+                keep({match[1]: match[2]})
     shutil.rmtree(folder)
-    return messages
 
 
-def try_together(crate, group, proved, room):
-    """Tries mutants of a crate in one check; returns the prover's message for each that it killed in the function that was changed."""
+def try_together(crate, group, proved, keep, room):
+    """Tries mutants of a crate in one check; keeps the prover's message for each that it killed in the function that was changed."""
     messages = together.try_group(crate.name, room, proved, group)
     for name, message in messages.items():
         report(crate.name, name, message)
-    return messages
+    keep(messages)
 
 
 def in_copies(copies, jobs):
-    """Runs jobs in parallel, each in a copy of the repository; returns their results in order."""
+    """Runs jobs in parallel, each in a copy of the repository."""
     free = [*copies]
 
     def run_job(job):
         room = free.pop()
         try:
-            return job(room)
+            job(room)
         finally:
             free.append(room)
 
     with ThreadPoolExecutor(len(copies)) as lanes:
-        return [*lanes.map(run_job, jobs)]
+        for _ in lanes.map(run_job, jobs):
+            pass
 
 
-def groups_in(crate):
-    """Returns the mutants of a crate that can be tried together, as groups."""
-    placed = (together.place(mutant, crate.name) for mutant in mutants_of(crate.name).values())
-    return together.groups_of(filter(None, placed))
+class Verdicts:
+    """What the prover said of each mutant of a crate, by name. Those of a run that was cut off are taken over if the crate's digest and
+    the toolchain are the same."""
+
+    def __init__(self, crate):
+        self.crate, self.path, self.lock = crate, f"crates/{crate.name}/out/mutants.json", threading.Lock()
+        self.basis = [digest(crate), toolchain()]
+        kept = json.loads(text_of(self.path, "{}"))
+        self.messages = kept["messages"] if kept.get("basis") == self.basis else {}
+        self.is_recorded = False
+        if self.messages:
+            print(f"{crate.name}: {len(self.messages)} verdicts taken over from a run that was cut off", flush=True)
+
+    @property
+    def left(self):
+        """The mutants without a verdict."""
+        return [name for name in mutants_of(self.crate.name) if name not in self.messages]
+
+    def add(self, messages):
+        """Keeps verdicts, and writes the crate's file if none is missing and each mutant was killed."""
+        with self.lock:
+            self.messages.update(messages)
+            os.makedirs(os.path.dirname(self.path), exist_ok=True)
+            decided = {name: message for name, message in self.messages.items() if not UNDECIDED.search(message)}
+            together.write(f"{self.path}.new", json.dumps({"basis": self.basis, "messages": decided}))
+            os.replace(f"{self.path}.new", self.path)
+            if not self.left and not self.is_recorded:
+                self.is_recorded = record(self.crate, self.messages)
+
+
+def groups_in(crate, names):
+    """Returns those of these mutants of a crate that can be tried together, as groups."""
+    places = (together.place(mutants_of(crate.name)[name], crate.name) for name in names)
+    return together.groups_of(filter(None, places))
 
 
 def try_all(crates, top, copies):
     """Tries the mutants of crates that are proved in these copies, the longest crate first; returns whether each was killed. Those of
     different functions are tried in one check, and then those that survived it each in a check of its own."""
-    proved, messages = {crate.name: f"{top}/kept/{crate.name}" for crate in crates}, {crate.name: {} for crate in crates}
+    proved, verdicts = {crate.name: f"{top}/kept/{crate.name}" for crate in crates}, {crate.name: Verdicts(crate) for crate in crates}
     places = {(crate.name, room): f"{room}/crates/{crate.name}/out/incremental" for crate in crates for room in copies}
     for name, place in proved.items():
         found = [places[name, room] for room in copies if os.path.exists(places[name, room])]
         renew(max(found, key=os.path.getmtime), place)
 
     def run_jobs(jobs):
-        results = in_copies(copies, [functools.partial(action, crate, *rest, proved[crate.name]) for action, crate, *rest in jobs])
-        for (_, crate, *_), result in zip(jobs, results):
-            messages[crate.name].update(result)
+        in_copies(
+            copies,
+            [functools.partial(action, crate, *rest, proved[crate.name], verdicts[crate.name].add) for action, crate, *rest in jobs],
+        )
 
-    run_jobs([(try_together, crate, group) for crate in sorted(crates, key=lambda crate: -crate.lines) for group in groups_in(crate)])
-    left = {crate: [name for name in mutants_of(crate.name) if name not in messages[crate.name]] for crate in crates}
+    longest_first = sorted(crates, key=lambda crate: -crate.lines)
+    run_jobs([(try_together, crate, group) for crate in longest_first for group in groups_in(crate, verdicts[crate.name].left)])
+    left = {crate: verdicts[crate.name].left for crate in crates}
     for (name, _), place in places.items():
         renew(proved[name], place)
     lanes = max(1, len(copies) // max(1, sum(map(bool, left.values()))))
     run_jobs([(try_alone, crate, names, lanes) for crate, names in left.items() if names])
-    return all([record(crate, messages[crate.name]) for crate in crates])
+    return all([verdict.is_recorded or record(verdict.crate, verdict.messages) for verdict in verdicts.values()])
 
 
 def record(crate, messages):

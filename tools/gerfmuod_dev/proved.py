@@ -86,8 +86,8 @@ def entry_of(function):
 
 def comment_on(name, path):
     """Returns the first sentence of the comment on a definition, or an empty text; `What a node keeps: ..` is not repeated."""
-    found = re.search(rf"((?:^--.*\n)+)(?:(?:abbrev|opaque|record|data|pub) )+{name}\b", text_of(path, ""), re.M)
-    comment = sentence_of(re.sub(r"^-- ?", "", found[1], flags=re.M)) if found else ""
+    found = re.search(rf"((?:^ *--.*\n)+) *(?:(?:abbrev|opaque|record|data|pub) )+{name}\b", text_of(path, ""), re.M)
+    comment = sentence_of(re.sub(r"^ *-- ?", "", found[1], flags=re.M)) if found else ""
     comment = re.sub(r"^what [^:]* keeps?\b[^:]*: ", "", comment, flags=re.I).rstrip(".")
     return comment[:1].lower() + comment[1:]
 

@@ -24,6 +24,8 @@ from .repository import text_of
 STATUSES = "tools/data/statuses"
 # for each program whose cases have stored outputs a file: what each case prints on standard output, and then on standard error
 OUTPUTS = "tools/data/outputs"
+# the time limit of a run: a test of 33 MB takes half a minute alone, and more on two processors that others use
+SECONDS = "900"
 # an output of more bytes, such as a picture, is stored as its length and a digest
 MOST_STORED = 4_000
 
@@ -56,7 +58,7 @@ def rt_try(crate, *options):
 
 
 def try_tests(crate):
-    output, status = rt_try(crate, "--test")
+    output, status = rt_try(crate, "--seconds", SECONDS, "--test")
     counts = re.search(r"^test result: .*?(\d+) passed; (\d+) failed", output, re.M)
     passed, failed = (int(counts[1]), int(counts[2])) if counts else (0, 1)
     if status and not failed:
@@ -73,7 +75,7 @@ def difference(expected, output):
 
 def try_program(crate):
     folder = f"crates/{crate}"
-    command, data = ["rt", "try"], f"{folder}/data"
+    command, data = ["rt", "try", "--seconds", SECONDS], f"{folder}/data"
     for name in sorted(os.listdir(data)) if os.path.isdir(data) else []:
         command += ["--data", f"{name}={os.path.abspath(f'{data}/{name}')}"]
     command += ["--", *text_of(f"{folder}/args", "").splitlines()]
@@ -105,7 +107,7 @@ def stored_outputs(path):
 def try_cases(crate, writes=False):
     """Runs the program on each of its cases, and compares the exit statuses, and the outputs if they are stored."""
     cases, path = f"{STATUSES}/{crate}", f"{OUTPUTS}/{crate}"
-    output, _ = rt_try(crate, "--seconds", "900", "--cases", f"../../{cases}")
+    output, _ = rt_try(crate, "--seconds", SECONDS, "--cases", f"../../{cases}")
     names = {name for name in os.listdir(cases) if not name.endswith(".args")}
     statuses, printed = dict(re.findall(r"^case=(\S+) .*?\bstatus=(\d+)", output, re.M)), outputs_in(output)
     if writes:
@@ -127,7 +129,7 @@ def try_pictures(crate):
             shutil.copy(path_of(name), f"{cases}/{name}.stdout")
             with open(f"{cases}/{name}.args", "w", encoding="utf-8") as file:
                 file.write("\n".join(["draw", *picture.arguments]) + "\n")
-        output, _ = rt_try(crate, "--seconds", "900", "--cases", cases)
+        output, _ = rt_try(crate, "--seconds", SECONDS, "--cases", cases)
     ends = dict(re.findall(r"^case=(\S+) (.*)$", output, re.M))
     passed = sum(f"status={picture.status}" in ends.get(name, "") and "output=expected" in ends[name] for name, picture in PICTURES.items())
     return Outcome(f"{crate}: {passed} of {len(PICTURES)} pictures are as in docs/figures", passed, len(PICTURES) - passed, output)

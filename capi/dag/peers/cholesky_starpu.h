@@ -1,4 +1,4 @@
-/* cholesky_starpu.h: the tasks of cholesky.c on StarPU, which derives what waits for what from the tiles that a task uses. */
+/* cholesky_starpu.h: the tasks of cholesky.c on StarPU, which derives dependencies from the tiles that a task uses. */
 #ifndef CHOLESKY_STARPU_H
 #define CHOLESKY_STARPU_H
 #include <starpu.h>

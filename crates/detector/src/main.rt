@@ -1,5 +1,5 @@
-//! Runs the processes of a distributed program as threads that talk over channels: a tree of tasks, drawn at random, epoch after
-//! epoch, with the detector of `tp_process`. What it prints does not depend on the schedule.
+//! Runs the processes of a distributed program as threads that communicate over channels: in each epoch a random tree
+//! of tasks, with the detector of `tp_process`. The output does not depend on the schedule.
 #![tactic(auto)]
 
 mod member;
@@ -33,7 +33,8 @@ fn main(rt: HostRuntime) -> io::Result<()> {
     Ok(())
 }
 
-/// Runs so many processes, each in a thread of its own. Gives what they did, and how many tasks are left in the mailboxes.
+/// Runs this number of processes, each in a thread of its own. Returns the totals of what they did, and the number of
+/// tasks that are left in the mailboxes.
 fn run_processes<R: Threads + Wait + Clock + Sync>(
     rt: &R,
     alloc: Global,
@@ -56,7 +57,7 @@ fn run_processes<R: Threads + Wait + Clock + Sync>(
     Ok((totals, left))
 }
 
-/// Starts a thread for each process, and adds up what they did.
+/// Starts a thread for each process, and returns the sum of their totals.
 fn run_threads<R: Threads + Wait + Clock + Sync>(
     rt: &R,
     alloc: Global,
@@ -85,7 +86,7 @@ fn run_threads<R: Threads + Wait + Clock + Sync>(
     Ok(totals)
 }
 
-/// Keeps the handle of a thread, if it could be started and there is memory.
+/// Stores the handle of a thread, if the thread could be started and there is memory.
 fn keep<T: Drop, F: Drop>(
     handles: &mut Vec<JoinHandle<T>>,
     started: Result<JoinHandle<T>, SpawnError<F>>,
@@ -94,7 +95,8 @@ fn keep<T: Drop, F: Drop>(
     Ok(())
 }
 
-/// Waits for each thread, and adds up what they did. If some gave up, returns the fault of one that no other one stopped.
+/// Joins each thread, and returns the sum of their totals. If some gave up, returns the fault of one that no other one
+/// stopped.
 fn totals_of<R: Threads>(
     rt: &R,
     handles: Vec<JoinHandle<Result<Totals, Fault>>>,

@@ -1,4 +1,4 @@
-//! One process of the program: its part of the detector, the tasks that wait here, and its loop.
+//! One process of the program: its detector, the tasks that wait here, and its loop.
 
 use crate::tree::Task;
 use crossbeam_channel::{Receiver, Sender};
@@ -8,13 +8,13 @@ use std::sync::atomic::{AtomicBool, Ordering};
 use std::time::{Clock, Duration};
 use tp_process::{ControlMessage, Next, Process, Refusal};
 
-/// How many epochs each process runs.
+/// The number of epochs that each process runs.
 const EPOCHS: u64 = 3;
 
-/// For how many milliseconds a process waits for a message before it looks whether another one failed.
+/// The time in milliseconds that a process waits for a message before it checks whether another one failed.
 const PAUSE: u64 = 20;
 
-/// What travels from process to process.
+/// The content of a message between processes.
 #[derive(Clone, Copy, Debug)]
 pub enum Content {
     /// A counted message: a task that runs at the receiver.
@@ -42,9 +42,9 @@ pub struct Mailbox {
 pub enum Fault {
     /// The detector refused a call.
     Refused(Refusal),
-    /// Memory was refused, or a thread could not be started.
+    /// Out of memory, or a thread could not be started.
     NoMemory,
-    /// There is no mailbox of a number.
+    /// There is no mailbox for the number of a process.
     NoMailbox,
     /// Another process gave up.
     Stopped,
@@ -68,7 +68,7 @@ impl From<Refusal> for Fault {
     }
 }
 
-/// What processes have done, in all epochs.
+/// Totals of what processes have done in all epochs.
 #[derive(Clone, Copy, Debug, PartialEq, Eq)]
 pub struct Totals {
     pub tasks: u64,
@@ -88,7 +88,7 @@ impl Totals {
         }
     }
 
-    /// Those of both.
+    /// Returns the totals of both.
     pub fn plus(self, other: Totals) -> Totals {
         Totals {
             tasks: self.tasks.saturating_add(other.tasks),
@@ -116,7 +116,7 @@ pub struct Member<'a, R> {
 }
 
 impl<'a, R: Wait + Clock> Member<'a, R> {
-    /// Process `number` of `processes`, each of which has a mailbox.
+    /// Returns process `number` of `processes`, each of which has a mailbox.
     ///
     /// Refused: `Refused(NoProcess)` if `number` is not below `processes`.
     pub fn new(
@@ -140,7 +140,7 @@ impl<'a, R: Wait + Clock> Member<'a, R> {
         })
     }
 
-    /// Runs all epochs. If that fails, the other processes stop, too.
+    /// Runs all epochs. If that fails, the other processes stop too.
     pub fn run(mut self) -> Result<Totals, Fault> {
         let ended = self.run_epochs();
         if ended.is_err() {
@@ -160,14 +160,14 @@ impl<'a, R: Wait + Clock> Member<'a, R> {
         Ok(())
     }
 
-    /// Runs this epoch, until the detector says that it has terminated.
+    /// Runs this epoch until the detector reports that it has terminated.
     fn run_epoch(&mut self) -> Result<(), Fault> {
         let rt = self.rt;
         if self.number == 0 {
             let root = Task::root(self.process.epoch());
             self.make_task(root)?;
         }
-        // the beginning, which the detector counts as a piece of work, is done
+        // The detector counts the beginning of an epoch as a piece of work, which is done now.
         self.process.finish_work()?;
         for _ in rt.forever() {
             match self.process.next()? {
@@ -182,7 +182,8 @@ impl<'a, R: Wait + Clock> Member<'a, R> {
         Ok(())
     }
 
-    /// Receives a message, or runs a task. If there is neither, the process waits for a message if it may.
+    /// Receives a message, or runs a task. If there is neither and `may_wait` is set, waits for a message for a short
+    /// time.
     fn proceed(&mut self, may_wait: bool) -> Result<(), Fault> {
         if self.has_failed.load(Ordering::SeqCst) {
             return Err(Fault::Stopped);
@@ -206,7 +207,8 @@ impl<'a, R: Wait + Clock> Member<'a, R> {
         }
     }
 
-    /// Receives a message: a task waits then, and a control message is taken. One of the next epoch is kept.
+    /// Receives a message: a task is added to those that wait, and the detector takes a control message. A message of
+    /// the next epoch is kept.
     fn receive(&mut self, message: Message) -> Result<(), Fault> {
         match message.content {
             Content::Task(task) => match self.process.count_received(message.epoch) {
@@ -231,7 +233,7 @@ impl<'a, R: Wait + Clock> Member<'a, R> {
         Ok(())
     }
 
-    /// Runs a task: it makes its children, and then its piece of work is done.
+    /// Runs a task: creates its children, and then closes its piece of work.
     fn run_task(&mut self, task: Task) -> Result<(), Fault> {
         self.totals.tasks = self.totals.tasks.saturating_add(1);
         self.totals.checksum = self.totals.checksum.wrapping_add(task.result());
@@ -242,7 +244,7 @@ impl<'a, R: Wait + Clock> Member<'a, R> {
         Ok(())
     }
 
-    /// Makes a task wait here, or sends it to the process where it runs.
+    /// Adds a task to those that wait here, or sends it to the process where it runs.
     fn make_task(&mut self, task: Task) -> Result<(), Fault> {
         let home = task.home(self.processes);
         if home == u64::from(self.number) {

@@ -1,4 +1,4 @@
--- What the answers of `next` and `done` on a pool show.
+-- The results of `next` and `done` on a pool of task graphs meet their contracts.
 use Rattle.std.proofs.Common.{ℕ, ◌≡◌, ◌≤◌, ◌+◌, Bool, true, false, List, [], ◌∷◌, refl, arith, ap, sym, subst, ◌∙◌, Some, None, Option, Result, IsTrue, IsFalse}
 use Rattle.std.specs.Prelude.{Ok, Err, IfSome, not, if◌then◌else◌}
 use Rattle.tp_base.specs.declared.Refusal.{Refusal}
@@ -16,7 +16,7 @@ use Rattle.gerfmuod.specs.declared.dag.slot.PoolSlot.TheInside.{Inside}
 use Rattle.gerfmuod.specs.DagSlot.{state_of}
 use Rattle.gerfmuod.specs.Dag.{SlotState, RefusesBy, IsNext, IsDone, IsAgainCall, checks, next_answer, plain, refusal_answer}
 
--- a refusal has a number
+-- The number of a refusal is at least 1.
 pub some_number : (r : Refusal) → 1 ≤ number_of r
 some_number refusal.NoNode = omega arith
 some_number refusal.SameNode = omega arith
@@ -57,7 +57,7 @@ slot b p = record { is_open = b; pool = p }
 slot_same : (old new : SlotState) → new.is_open ≡ old.is_open → new.pool ≡ old.pool → new ≡ old
 slot_same old new e f = ap (λ (b : Bool). slot b new.pool) e ∙ ap (λ (p : PoolState). slot old.is_open p) f
 
--- the first check is that the pool is open
+-- An open pool passes the first check.
 open_refuses : (old new : SlotState) (more : List Check) (a : DagAnswer) → IsTrue old.is_open
     → IfSome (first_refusal more) (λ r. (a.refused ≡ number_of r) × (new ≡ old)) → RefusesBy (checks old more) old a new
 open_refuses old new more a live h =
@@ -72,7 +72,8 @@ same_err A e r h = cc
 never_ok : {A : Type 0} (x : A) (r : Refusal) → Same A (Ok x) (Err r) → ⊥
 never_ok x r h = cc
 
--- a call that succeeded is not refused by a check, and one that failed is, for that
+-- A call that succeeded passes all checks, and one that failed has the refusal of the first check that it does not
+-- pass.
 passed : {A : Type 0} (o : Option Refusal) (x : A) (S : Type 0) (Q : Refusal → Type 0) → IfSome o (λ r. Same A (Ok x) (Err r) × S) → IfSome o Q
 passed None x S Q h = tt
 passed (Some r) x S Q h = absurd (never_ok x r h.0)

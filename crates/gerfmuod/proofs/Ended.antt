@@ -1,4 +1,4 @@
--- Where the end is told, the pool had ended.
+-- Safety of the results: if a call says that the pool had terminated, it had.
 use Rattle.std.proofs.Common.{ℕ, ◌≡◌, ◌+◌, ◌-◌, ◌≤◌, ◌++◌, List, [], ◌∷◌, Option, Some}
 use Rattle.std.proofs.Common.{None, Result, length, refl, sym, ap, subst, ◌∙◌, arith}
 use Rattle.std.specs.Prelude.{Ok, Err}
@@ -21,7 +21,7 @@ use Rattle.gerfmuod.specs.Asked.{settled, unsettled}
 use Rattle.gerfmuod.specs.Pool.{IsOver, TellsNoEarlyEnd}
 use Rattle.gerfmuod.specs.Told.{told, reply_told, refusal_told, AnswersTo}
 
--- ---- the wave that is named was followed by another, so its end is where it was before the judge
+-- ---- another wave followed the one that is named, so `Judge` does not move its end
 until_judge : (w : ℕ) (past : List Step) → w + 1 ≤ waves past → until w (Judge ∷ past) ≡ until w past
 until_judge w past l = rw (lt-leb (waves (Judge ∷ past)) w (omega arith))
 
@@ -31,7 +31,7 @@ over_at_judge n w past never e =
     subst (λ (u : List Step). IsOverFrom n (length (visit 0 u)) (Judge ∷ past)) (sym (until_judge w past (judged_wave n w past e)))
     (never w [] past refl e)
 
--- ---- an end that is told was judged
+-- ---- a step whose result is `Over` was a judgement
 reply_over : (reply : Reply) → (reply_told reply).told ≡ 3 → reply ≡ Over (reply_told reply).number
 reply_over Plain e = cc
 reply_over (WaveSums s) e = cc
@@ -69,7 +69,7 @@ told_over old new (Some s) (Err r) a never = record { ended = λ e. let none = r
 told_over old new None (Ok reply) a never = record { ended = λ e. let none = a.0 in cc; never_early = never }
 told_over old new None (Err r) a never = record { ended = λ e. let none = refusal_tells r in cc; never_early = never }
 
--- ---- and so is one that was settled
+-- ---- the same for `settle`
 unsettled_tells : (r : Refusal) → (unsettled r).refused ≡ 0 → ⊥
 unsettled_tells (HistoryFull n) e = cc
 unsettled_tells (r) e = cc

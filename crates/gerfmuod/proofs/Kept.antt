@@ -1,4 +1,4 @@
--- The steps of a pool are runs, and so its ends are never told too early.
+-- The steps of a pool are runs, so its termination is never detected too early.
 use Rattle.tp_core.specs.Generations.{InEach}
 use Rattle.tp_core.specs.NeverEarly.{IsNeverEarly}
 use Rattle.tp_core.proofs.Generations.{never_early_in_each}

@@ -1,3 +1,4 @@
+-- The files of this folder.
 pub mod DagAnswers
 pub mod Ended
 pub mod Kept

@@ -1,4 +1,4 @@
--- The steps of a core, each beside its node, as they are recorded one by one.
+-- The history that is built from the steps of a core, step by step, is the history of its runs.
 use Rattle.std.proofs.Common.{ℕ, ◌≡◌, ◌+◌, ◌<◌, ◌≤◌, ◌==◌, ◌++◌, List, [], ◌∷◌, Option, Some, true, false, cond, length, reverse, take}
 use Rattle.std.proofs.Common.{drop, get_or, refl, sym, ap, subst, ◌∙◌, inl, inr, arith, IsTrue}
 use Rattle.std.specs.List.{find}
@@ -25,7 +25,7 @@ use Rattle.tp_core.proofs.Answering.{no_step}
 use Rattle.tp_core.proofs.Generations.{runs_are_counted}
 use Rattle.gerfmuod.specs.Homes.{home, tasks_after, HasHomes, IsSmall}
 
--- the oldest steps, so many, the newest first, where the steps are given in the order of time
+-- the k oldest of the steps, the newest first; `steps` has the oldest first
 abbrev pub oldest : ℕ → List Step → List Step
 oldest k steps = reverse (take k steps)
 
@@ -37,7 +37,7 @@ runs_past : (n : ℕ) (later past : List Step) → AreRuns n (later ++ past) →
 runs_past n [] past r = r
 runs_past n (s ∷ later) past r = runs_past n later past r.1
 
--- the oldest steps of runs are runs
+-- The oldest steps of a run are a run.
 pub oldest_run : (n k : ℕ) (steps : List Step) → AreRuns n (reverse steps) → AreRuns n (oldest k steps)
 oldest_run n k steps r =
     runs_past n (reverse (drop k steps)) (oldest k steps)
@@ -47,14 +47,14 @@ oldest_run n k steps r =
 pub taken_runs : (n m : ℕ) (steps past : List Step) → n ≡ m → reverse steps ≡ past → AreRuns m past → AreRuns n (reverse steps)
 taken_runs n m steps past e f r = rw (e, f) r
 
--- ---- what fits into a history
+-- ---- steps that fit into a history
 small : (n : ℕ) (h : History) (i : ℕ) (s : Step) → i < n → n ≤ 8 → IsOf i s → Needs n h i s → IsSmall s → NamesSmall s
 small n h i (Send j k m g) l few o d q = (omega (arith, l, few, o), omega (arith, d.1, few), q.0, q.1)
 small n h i (Recv j m g) l few o d q = (omega (arith, l, few, o), q.0, q.1)
 small n h i (MessageEnd j m g) l few o d q = (omega (arith, l, few, o), q.0, q.1)
 small n h i (s) l few o d q = grind (arith, l, few, o)
 
--- A step of a run stands beside one of its nodes, and a history has place for it.
+-- The node of the step is a node of the pool, and the step's numbers fit into a history.
 pub record Fits (n : ℕ) (past : List Step) (s : Step) : Type 0 where
   pub node : node_of (world n (present past)) s < n
   pub names : NamesSmall s
@@ -110,7 +110,7 @@ homes_next n k steps t l h = subst (λ (xs : List Step). HasHomes t (tasks_after
 abbrev home_in : ℕ → List Task → Option NodeId
 home_in t tasks = option_map home (find (λ x. x.number == t) tasks)
 
--- Another life of a task moves no home.
+-- A change of a task's state does not change its home.
 home-with_life : (t u : ℕ) (f : Life → Life) (tasks : List Task) → home_in t (with_life u f tasks) ≡ home_in t tasks
 home-with_life t u f [] = refl
 home-with_life t u f (x ∷ xs) =
@@ -123,7 +123,7 @@ home-with_life t u f (x ∷ xs) =
           [ true ↦ refl | false ↦ home-with_life t u f xs ]
     ]
 
--- the steps of a task that is there
+-- the steps of a task that was inserted before
 abbrev is_of_task : Step → Type 0
 is_of_task (Supply t) = Unit {0}
 is_of_task (Begin t) = Unit {0}

@@ -1,4 +1,4 @@
--- What has a trace, and what is told of it.
+-- Steps that have a trace fit into a history.
 use Rattle.std.proofs.Common.{ℕ, ◌≡◌, ◌-◌, ◌<◌, Bool, true, false, List, [], ◌∷◌, length, reverse, get_or, if◌then◌else◌, Result, refl, sym}
 use Rattle.std.proofs.Common.{ap, subst, ◌∙◌, inl, inr, arith}
 use Rattle.std.specs.List.{All}
@@ -23,12 +23,12 @@ All-reversed P xs h k d l =
     subst P (get_or-reverse xs j d there
     ∙ ap (λ (i : ℕ). get_or xs i d) back) (h j d (subst (λ (n : ℕ). j < n) (sym (length-reverse xs)) there))
 
--- steps of a pool that was reopened, and of one that was not
+-- steps of a pool that was reopened (true), and of one that was not
 abbrev again : Bool → List Step
 again true = Reopen ∷ []
 again false = []
 
--- There are two versions.
+-- The version of a trace depends only on whether the pool was reopened.
 version_is : (past : List Step) → version_of past ≡ version_of (again (any is_reopen past))
 version_is past =
     elim (any is_reopen past) as (λ b. (if b then version_of (again true) else version_of (again false))
@@ -39,7 +39,7 @@ generation_small : (b : Bool) (g : Generation) → All IsNumber (generation_numb
 generation_small false g a t = omega (arith, t)
 generation_small true g a t = let n = All-head IsNumber g.0 [] a in omega (arith, n)
 
--- the number of a message and that of its generation, last in a line
+-- The numbers of a message and of its generation, which are last in a line, fit into a history.
 message_small : (b : Bool) (m : ℕ) (g : Generation) → All IsNumber (m ∷ generation_number (version_of (again b)) g)
     → TellsGeneration (version_of (again b)) g
     → (m < 1048576) × (g.0 < 1048576)
@@ -56,7 +56,7 @@ spelled_small b (MessageEnd j m g) h =
     message_small b m.0 g (All-tail IsNumber j.0 (m.0 ∷ generation_number (version_of (again b)) g) h.0) h.2
 spelled_small b (s) h = tt
 
--- What has a trace fits into a history.
+-- Steps that do not fit into a history have no trace.
 pub not_traced : (steps past : List Step) → reverse steps ≡ past → ¬ All IsSmall steps → ¬ CanBeTraced past
 not_traced steps past e large can =
     let spelled : All (IsSpelled (version_of (again (any is_reopen past)))) past = rw (version_is past) at can.1 in

@@ -1,4 +1,4 @@
--- What C is told where it asks.
+-- The results of the calls that read the counters of a core or settle it.
 use Rattle.std.specs.Prelude.{ℕ, ◌≡◌, ◌+◌, ◌↔◌, IsTrue, length, nat_lt, if◌then◌else◌, Result, Ok, Err}
 use Rattle.tp_base.specs.declared.limits.TheConstants.{MAX_STEPS}
 use Rattle.tp_base.specs.Refusals.{number_of}
@@ -19,14 +19,15 @@ counters refused n = record { refused = refused; pending = n.pending; sent = n.s
 abbrev pub counters_at : ℕ → Accepted → Counters
 counters_at i a = if nat_lt i a.nodes then counters 0 (numbers_at i a) else counters (number_of NoNode) no_numbers
 
--- The pool as a whole: how many steps were taken, how many more can be, how many messages are under way, and whether nothing is left.
+-- The pool as a whole: the steps that were taken, the steps that can still be taken, the messages under way, and
+-- whether it is quiet.
 pub record IsWhole (a : Accepted) (answer : Whole) : Type 0 where
   pub steps : answer.steps ≡ length a.steps
   pub room : answer.steps + answer.room ≡ MAX_STEPS
   pub under_way : answer.under_way ≡ length (world_of a).messages
   pub quiet : IsTrue answer.quiet ↔ IsQuiet (world_of a)
 
--- with the number of the steps where there is no room
+-- the result of a refusal; if there is no room for more steps, with the number of steps
 abbrev pub unsettled : Refusal → Settled
 unsettled (HistoryFull n) = record { refused = 16; wave = 0; steps = n }
 unsettled r = record { refused = number_of r; wave = 0; steps = 0 }
@@ -35,6 +36,6 @@ abbrev pub settled : Result (ℕ × ℕ) Refusal → Settled
 settled (Ok r) = record { refused = 0; wave = r.0; steps = r.1 }
 settled (Err r) = unsettled r
 
--- It is settled as the core settles it.
+-- The call does what `Core::settle` does, and returns its result.
 abbrev pub IsSettled : Accepted → Settled → Accepted → Type 0
 IsSettled old answer new = (r : Result (ℕ × ℕ) Refusal) × Settles old r new × (answer ≡ settled r)

@@ -1,4 +1,4 @@
--- What the calls on a pool return to C, and what they do.
+-- The results and effects of the calls on a pool of task graphs.
 use Rattle.std.specs.Prelude.{ℕ, ◌+◌, ◌≡◌, ◌≤◌, ◌==◌, ◌&&◌, Bool, false, not, nat_le, List, [], ◌∷◌, if◌then◌else◌, IsTrue, IfSome}
 use Rattle.std.specs.Prelude.{Option, Some, None, slice_get, reverse}
 use Rattle.tp_base.specs.declared.Step.{Step}
@@ -30,7 +30,7 @@ can_be n = nat_le 1 n && nat_le n 8
 abbrev pub empty : ℕ → PoolState
 empty n = record { nodes = n; started = false; tasks = []; stages = []; inputs = []; ways = []; outside = []; steps = [] }
 
--- a pool as it is opened; it is not open if there cannot be so many nodes
+-- a new pool; it is not open if a pool cannot have n nodes
 abbrev pub opened : ℕ → SlotState
 opened n = record { is_open = can_be n; pool = empty (if can_be n then n else 1) }
 
@@ -44,14 +44,15 @@ closed = record { is_open = false; pool = empty 1 }
 abbrev pub checks : SlotState → List Check → List Check
 checks a more = (not a.is_open, NoPool) ∷ more
 
--- If a check holds, the call is refused for the first that does, and nothing changes.
+-- A check is a condition and a refusal. If a condition holds, the call is refused for the first that does, and nothing
+-- changes.
 abbrev pub RefusesBy : List Check → SlotState → DagAnswer → SlotState → Type 0
 RefusesBy tests old a new = IfSome (first_refusal tests) (λ r. (a.refused ≡ number_of r) × (new ≡ old))
 
 abbrev pub plain : ℕ → ℕ → DagAnswer
 plain number news = record { refused = 0; told = 0; number = number; news = news }
 
--- how many steps there are, if there is no room for more
+-- the number of steps, if there is no room for more
 abbrev pub limit_of : Refusal → ℕ
 limit_of (HistoryFull n) = n
 limit_of _ = 0
@@ -59,7 +60,7 @@ limit_of _ = 0
 abbrev pub refusal_answer : Refusal → DagAnswer
 refusal_answer r = record { refused = number_of r; told = 0; number = limit_of r; news = 0 }
 
--- the answer of `next`: news are the nodes at which a thread may find something new
+-- the result of `next`: news is the set of nodes at which a thread may find something new
 abbrev pub next_answer : Next → ℕ → DagAnswer
 next_answer (Run t) news = record { refused = 0; told = 1; number = t; news = news }
 next_answer Wait news = record { refused = 0; told = 2; number = 0; news = 0 }
@@ -91,7 +92,7 @@ pub record IsRelease (old : SlotState) (task : ℕ) (a : DagAnswer) (new : SlotS
   pub released : a.refused ≡ 0 → IsReleased task old.pool new.pool
   pub refused : 1 ≤ a.refused → new ≡ old
 
--- how often a result of `next` dispatches task t
+-- 1 if a result of `next` dispatches task t, else 0
 abbrev pub dispatched_by : DagAnswer → ℕ → ℕ
 dispatched_by a t = if a.told == 1 then (if a.number == t then 1 else 0) else 0
 

@@ -1,4 +1,4 @@
--- What contracts see of the memory of a pool.
+-- The view of a `PoolSlot` in contracts.
 use Rattle.std.specs.Prelude.{◌==◌}
 use Rattle.gerfmuod.specs.declared.dag.slot.PoolSlot.TheInside.{Inside}
 use Rattle.gerfmuod.specs.declared.dag.slot.TheConstants.{MARK}

@@ -1,4 +1,4 @@
--- A step as C writes it.
+-- A step as C passes it: the number of its kind and its arguments.
 use Rattle.std.specs.Prelude.{ℕ, ◌==◌, nat_le, if◌then◌else◌, Option, Some, None}
 use Rattle.tp_base.specs.declared.Step.{Step}
 use Rattle.tp_base.specs.declared.Step.TheVariants.{Insert, Supply, Begin, Done, ActionOpen, ActionClose, Ready, Send, Recv, MessageEnd}
@@ -29,7 +29,7 @@ age g = record { 0 = g }
 abbrev pub insert_asked : ℕ → ℕ → ℕ → Option Step
 insert_asked i t k = if nat_le k 16 then Some (Insert (node i) (task t) (record { count = k })) else None
 
--- the steps of tasks, of a kind up to 3
+-- the steps of tasks: the kinds up to 3
 abbrev pub task_step : Event → Option Step
 task_step e =
     if e.kind == 0 then insert_asked e.first e.second e.third
@@ -64,7 +64,7 @@ control_step e =
 abbrev pub other_step : Event → Option Step
 other_step e = if nat_le e.kind 9 then node_step e else control_step e
 
--- the step that C asks for
+-- the step that C passes, if there is one
 abbrev pub step_asked : Event → Option Step
 step_asked e = if nat_le e.kind 3 then task_step e else other_step e
 

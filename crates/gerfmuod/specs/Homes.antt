@@ -1,4 +1,4 @@
--- Where tasks are at home.
+-- The homes of tasks, and the steps that fit into a history.
 use Rattle.std.specs.Prelude.{ℕ, ◌==◌, ◌≡◌, ◌<◌, List}
 use Rattle.std.specs.List.{find}
 use Rattle.std.specs.Option.{option_map}
@@ -18,11 +18,11 @@ tasks_after n steps = (world n (present steps)).tasks
 abbrev pub home : Task → NodeId
 home x = record { 0 = x.home }
 
--- Under each number stands the home of the task that has it, if it was inserted.
+-- The table has the home of each task that was inserted, under the task's number.
 pub record HasHomes (table : Table NodeId) (tasks : List Task) : Type 0 where
   pub found : (t : ℕ) → lookup table t ≡ option_map home (find (λ x. x.number == t) tasks)
 
--- What a message's step names fits into a history.
+-- The message and the generation that the step names fit into a history.
 abbrev pub IsSmall : Step → Type 0
 IsSmall (Send i j m g) = (m.0 < 1048576) × (g.0 < 1048576)
 IsSmall (Recv i m g) = (m.0 < 1048576) × (g.0 < 1048576)

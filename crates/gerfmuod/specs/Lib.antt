@@ -1,3 +1,4 @@
+-- The files of this folder.
 pub mod Asked
 pub mod Dag
 pub mod DagSlot

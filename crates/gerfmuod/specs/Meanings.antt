@@ -1,11 +1,11 @@
--- What each refusal says, in words.
+-- The meaning of each refusal, as a text.
 use Rattle.std.specs.Prelude.{ℕ, List, codes}
 use Rattle.tp_base.specs.declared.Refusal.{Refusal}
 use Rattle.tp_base.specs.declared.Refusal.TheVariants.{NoNode, SameNode, TaskKnown, NoTask, WrongLife, Inactive, ActionKnown, NoAction}
 use Rattle.tp_base.specs.declared.Refusal.TheVariants.{MessageKnown, NoMessage, NotIdle, NoToken}
 use Rattle.tp_base.specs.declared.Refusal.TheVariants.{WaveOpen, WaveNotEnded, Ended, HistoryFull, NoMemory, Stranger, BadSpec}
 
--- where a call of this library tells it
+-- the meaning, if a call on a core can return the refusal
 abbrev pub meaning_of : Refusal → List ℕ
 meaning_of NoNode = codes "there is no node of this number"
 meaning_of SameNode = codes "the sender and the receiver are one node"
@@ -23,7 +23,7 @@ meaning_of WaveOpen = codes "a wave is open, or has ended and is not judged"
 meaning_of WaveNotEnded = codes "no ended wave waits for judgement"
 meaning_of Ended = codes "the end was judged"
 meaning_of (HistoryFull n) = codes "there is no room for more steps"
-meaning_of NoMemory = codes "memory was refused"
+meaning_of NoMemory = codes "an allocation failed"
 meaning_of Stranger = codes "the message is of another generation"
 meaning_of BadSpec = codes "there is no such step, or there cannot be so many nodes"
-meaning_of _ = codes "no call of this library tells it"
+meaning_of _ = codes "no call of this library returns it"

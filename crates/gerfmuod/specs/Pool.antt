@@ -1,4 +1,4 @@
--- What the code keeps beside a core.
+-- The invariant of a `CoreRoom`, and the safety property of the calls on it.
 use Rattle.std.specs.Prelude.{ℕ, ◌≡◌, ◌≤◌, length}
 use Rattle.tp_base.specs.declared.limits.TheConstants.{MAX_NODES, MAX_STEPS}
 use Rattle.tp_core.specs.Accepted.{Accepted}
@@ -8,7 +8,7 @@ use Rattle.tp_wave.specs.Sums.{visited_at}
 use Rattle.tp_wave.specs.Generations.{present}
 use Rattle.gerfmuod.specs.declared.pool.CoreRoom.TheInside.{Inside}
 
--- The number of the nodes is that of the core, and its steps are runs through all generations.
+-- The number of nodes is the core's, and in each generation the core's steps are a run.
 pub record IsKept (p : Inside) : Type 0 where
   pub nodes : p.nodes ≡ p.core.nodes
   pub some_node : 1 ≤ p.nodes
@@ -16,11 +16,12 @@ pub record IsKept (p : Inside) : Type 0 where
   pub within : length p.core.steps ≤ MAX_STEPS
   pub runs : AreRuns p.core.nodes p.core.steps
 
--- Of the present generation nothing was left from the end of wave w on, and each task that was inserted in it had run once by then.
+-- The pool was quiet from the end of wave w on, and each task of the present generation had run once by then.
 abbrev pub IsOver : Accepted → ℕ → Type 0
 IsOver a w = IsOverFrom a.nodes (visited_at w 0 (present a.steps)) (present a.steps)
 
--- Where it is said that the pool had ended with wave w, it had; and so had each generation of which that was ever judged.
+-- Safety: if the call says that the pool had terminated with wave w, it had; and every judgement of termination so far,
+-- in each generation, was right.
 pub record TellsNoEarlyEnd (said : Type 0) (w : ℕ) (a : Accepted) : Type 0 where
   pub ended : said → IsOver a w
   pub never_early : InEach (IsNeverEarly a.nodes) a.steps

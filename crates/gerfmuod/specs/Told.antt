@@ -1,4 +1,4 @@
--- What C is told of a step.
+-- The result of a step.
 use Rattle.std.specs.Prelude.{ℕ, ◌≡◌, Result, Ok, Err, Option, Some, None}
 use Rattle.tp_base.specs.Refusals.{number_of}
 use Rattle.tp_base.specs.declared.Refusal.{Refusal}
@@ -21,7 +21,7 @@ reply_told Not = plain 0 2 0
 reply_told (Over w) = plain 0 3 w
 reply_told (Opened g) = plain 0 4 g.0
 
--- with the number of the steps where the history is full
+-- the result of a refusal; if the history is full, with the number of steps
 abbrev pub refusal_told : Refusal → Answer
 refusal_told (HistoryFull n) = plain 16 0 n
 refusal_told r = plain (number_of r) 0 0
@@ -30,12 +30,12 @@ abbrev pub told : Result Reply Refusal → Answer
 told (Ok reply) = reply_told reply
 told (Err r) = refusal_told r
 
--- What is no step is refused, and nothing changes; a step is answered as the core answers it.
+-- If there is no step, the call is refused and nothing changes; else it returns what the core returns.
 abbrev pub AnswersTo : Accepted → Option Step → Result Reply Refusal → Accepted → Type 0
 AnswersTo old None r new = (r ≡ Err BadSpec) × (new ≡ old)
 AnswersTo old (Some s) r new = Answers old s r new
 
--- What is told of a step, or of what is none, where the old steps were accepted, and what is accepted then.
+-- The result of a step, or of no step, on a core that accepted the old steps, and the core after it.
 abbrev pub IsTold : Accepted → Option Step → Answer → Accepted → Type 0
 IsTold old o answer new = (r : Result Reply Refusal) × AnswersTo old o r new × (answer ≡ told r)
 

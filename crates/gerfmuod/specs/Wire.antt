@@ -1,4 +1,4 @@
--- Control messages, refusals and what to do next, as numbers.
+-- Control messages, refusals and results of `next`, as numbers.
 use Rattle.std.specs.Prelude.{ℕ, ◌≡◌, ◌⊎◌, ◌==◌, if◌then◌else◌, List, codes, Option, Some, None, Result, Ok, Err}
 use Rattle.tp_process.specs.Calls.{receive_refusal, take_refusal}
 use Rattle.tp_process.specs.Epochs.{of_epoch, took_in, with_state}
@@ -26,14 +26,15 @@ wire_of e l = wire_with e l l.token
 abbrev pub message_with : WireMessage → Token → ControlMessage
 message_with m token = record { from = m.from; to = m.to; wave = m.wave; token = token }
 
--- the control message of seven numbers
+-- the control message of seven numbers, if there is such a token
 abbrev pub message_of : WireMessage → Option ControlMessage
 message_of m =
     if m.token == 0 then Some (message_with m Down)
     else (if m.token == 1 then Some (message_with m (Up m.sent m.received))
     else (if m.token == 2 then Some (message_with m Over) else None))
 
--- A refusal, or 0. Each is above 100: no result of `next` is one, and neither is a refusal of a core.
+-- The number of a refusal, or 0. Each is above 100, so it differs from the results of `next` and from the refusals of a
+-- core.
 abbrev pub refused_as : Option Refusal → ℕ
 refused_as None = 0
 refused_as (Some Inactive) = 101
@@ -45,19 +46,19 @@ refused_as (Some NotEnded) = 106
 refused_as (Some NotOpen) = 107
 refused_as (Some NoProcess) = 108
 
--- the refusal by which a process that is not open, or whose state does not pass this test, refuses a call
+-- the refusal of a call: the process is not open, or its state does not pass the test
 abbrev pub refused_by : (EpochState → Option Refusal) → ProcessState → ℕ
 refused_by test p = refused_as (checked p (test p.state))
 
--- the refusal of a message of epoch e that is to be counted as received
+-- the refusal of a call that counts a message of epoch e as received
 abbrev pub receipt_refused : ℕ → ProcessState → ℕ
 receipt_refused e p = refused_as (checked p (of_epoch e p (receive_refusal p.state)))
 
--- what an event makes of a process, if it is open
+-- the process after an event, which has no effect if the process is not open
 abbrev pub after_event : (EpochState → EpochState) → ProcessState → ProcessState
 after_event event p = if_open p (with_state p (event p.state))
 
--- what a refusal of this number says
+-- the meaning of a refusal of this number
 abbrev pub process_meaning : ℕ → List ℕ
 process_meaning number =
     if number == 0 then codes "the call was not refused"
@@ -72,16 +73,16 @@ process_meaning number =
     else (if number == 109 then codes "no control message has such a token"
     else codes "no call refuses with this number")))))))))
 
--- what is in the storage after `new`
+-- the content of the place for a process after `new`
 abbrev pub after_init : Result Process Refusal → Process
 after_init (Ok p) = p
 after_init (Err e) = unopened
 
--- a call that does not return 0 was refused, and left every byte as it was
+-- A call that does not return 0 was refused and changed no byte.
 abbrev pub IsKept : ℕ → Process → Process → Type 0
 IsKept number old new = (number ≡ 0) ⊎ (new ≡ old)
 
--- No control message has such numbers: 109, behind the refusal of a process that is not open.
+-- The refusal of a control message: 109 if there is no such token, which is checked after whether the process is open.
 abbrev pub taken_as : ℕ → Option ControlMessage → ProcessState → ℕ
 taken_as e None p = if is_open p then 109 else 107
 taken_as e (Some l) p = refused_as (checked p (of_epoch e p (take_refusal l p.state)))
@@ -98,7 +99,7 @@ next_as (Ok Again) = 2
 next_as (Ok Ended) = 3
 next_as (Err e) = refused_as (Some e)
 
--- what is written: the control message to send, if there is one
+-- the content of `message_out`: the control message to send, if there is one
 abbrev pub wire_after : ℕ → Result Next Refusal → WireMessage → WireMessage
 wire_after e (Ok (Send l)) old = wire_of e l
 wire_after e _ old = old

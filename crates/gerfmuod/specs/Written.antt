@@ -1,4 +1,4 @@
--- What becomes of a text that is to be written into a room.
+-- The results of writing a text to a buffer.
 use Rattle.std.specs.Prelude.{ℕ, ◌≡◌, ◌<◌, ◌≤◌, ◌++◌, ◌⊎◌, List, drop, length}
 use Rattle.tp_base.specs.declared.Refusal.{Refusal}
 use Rattle.tp_base.specs.Refusals.{number_of, name_of}
@@ -11,8 +11,8 @@ use Rattle.tp_text.specs.TraceOf.{IsTraceOf, CanBeTraced}
 use Rattle.gerfmuod.specs.declared.answer.Written.{Written}
 use Rattle.gerfmuod.specs.Meanings.{meaning_of}
 
--- The text lies at the front of the room, and behind it what was there; where there is no room for it, nothing is written. The
--- length of the text is told in both cases.
+-- The text is at the start of the buffer, and the rest of the buffer is unchanged; if the text does not fit, nothing is
+-- written. The result has the length of the text in both cases.
 pub record IsPut (text : List ℕ) (outcome : ℕ) (old : List ℕ) (answer : Written) (new : List ℕ) : Type 0 where
   pub length_is : answer.length ≡ length text
   pub fits : length text ≤ length old → (answer.outcome ≡ outcome) × (new ≡ text ++ drop (length text) old)
@@ -27,14 +27,15 @@ abbrev pub outcome_of : Verdict → ℕ
 outcome_of Sound = 0
 outcome_of Refused = 1
 
--- A trace was judged, and the answer is put into the room; or it has more bytes than a text may have; or memory was refused.
+-- The trace was judged and the verdict is written; or the trace is longer than a text may be; or the call is out of
+-- memory.
 abbrev pub IsAudited : List ℕ → List ℕ → Written → List ℕ → Type 0
 IsAudited bytes old answer new =
     ((length bytes ≤ MAX_TEXT) × (v : Verdict) × (text : List ℕ) × IsAuditText bytes v text × IsPut text (outcome_of v) old answer new)
     ⊎ (((MAX_TEXT < length bytes) × IsUnwritten 2 old answer new)
     ⊎ ((length bytes ≤ MAX_TEXT) × IsUnwritten 3 old answer new))
 
--- The trace of what was accepted is put into the room; or it has no trace; or memory was refused.
+-- The trace of the accepted steps is written; or they have no trace; or the call is out of memory.
 abbrev pub IsTraced : Accepted → List ℕ → Written → List ℕ → Type 0
 IsTraced a old answer new =
     (CanBeTraced a.steps × (text : List ℕ) × IsTraceOf a.nodes a.steps text × IsPut text 0 old answer new)
@@ -45,7 +46,7 @@ IsTraced a old answer new =
 abbrev pub HasNoRefusal : ℕ → Type 0
 HasNoRefusal number = (number ≡ 0) ⊎ (26 < number)
 
--- What is said of the refusal of this number is put into the room, or there is none.
+-- The text of the refusal of this number is written, or there is no such refusal.
 abbrev pub Tells : (Refusal → List ℕ) → ℕ → List ℕ → Written → List ℕ → Type 0
 Tells said number old answer new =
     ((r : Refusal) × (number_of r ≡ number) × IsPut (said r) 0 old answer new)

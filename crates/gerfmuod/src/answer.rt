@@ -1,18 +1,20 @@
-/// The answer to a step.
+//! The results that the calls on a core return to C.
+
+/// The result of a step.
 #[repr(C)]
 #[derive(Clone, Copy, Debug, PartialEq, Eq)]
 pub struct Answer {
     /// 0: the step was taken. Else the number of its refusal, and nothing changed.
     pub refused: u16,
-    /// What is told of a step that was taken: 0, no more; 1, a wave ended; 2, its sums do not tell the end; 3, the pool had
-    /// ended; 4, it was reopened.
+    /// What a step that was taken showed: 0, nothing more; 1, a wave ended; 2, its sums do not show termination; 3, the
+    /// pool had terminated; 4, it was reopened. 0 if the step was refused.
     pub told: u16,
-    /// Of a wave that ended and of the end, the number of the wave; of a reopening that of the generation that begins; at
-    /// refusal 16 how many steps were taken.
+    /// If `told` is 1 or 3, the number of the wave; if it is 4, the number of the generation that begins; at refusal 16
+    /// the number of steps that were taken. Else 0.
     pub number: u32,
-    /// How many messages the wave that ended adds up as sent.
+    /// The number of messages that the wave that ended adds up as sent; 0 unless `told` is 1.
     pub sent: u32,
-    /// And as received.
+    /// The number that it adds up as received; 0 unless `told` is 1.
     pub received: u32,
 }
 
@@ -20,13 +22,13 @@ pub struct Answer {
 #[repr(C)]
 #[derive(Clone, Copy, Debug, PartialEq, Eq)]
 pub struct Counters {
-    /// 0, or 1 where there is no such node: all counters are then 0.
+    /// 0, or 1, `NoNode`, if there is no such node: all counters are then 0.
     pub refused: u32,
-    /// How many tasks are not done and how many actions are open there.
+    /// The number of tasks there that are not done, plus the number of actions that are open there.
     pub pending: u32,
-    /// How many messages it has sent in the present generation.
+    /// The number of messages that it has sent in the present generation.
     pub sent: u32,
-    /// And received.
+    /// The number of messages that it has received in the present generation.
     pub received: u32,
 }
 
@@ -34,36 +36,36 @@ pub struct Counters {
 #[repr(C)]
 #[derive(Clone, Copy, Debug, PartialEq, Eq)]
 pub struct Whole {
-    /// How many steps were taken, of all generations.
+    /// The number of steps that were taken, of all generations.
     pub steps: u32,
-    /// How many more can be.
+    /// The number of steps that can still be taken.
     pub room: u32,
-    /// How many messages are under way.
+    /// The number of messages under way: sent and not received.
     pub under_way: u32,
     /// No task is unfinished, no action is open and no message is under way.
     pub quiet: bool,
 }
 
-/// The answer to a pool that is to be settled.
+/// The result of settling a pool.
 #[repr(C)]
 #[derive(Clone, Copy, Debug, PartialEq, Eq)]
 pub struct Settled {
-    /// 0: the end was judged. Else the number of the refusal, and nothing changed.
+    /// 0: termination was detected. Else the number of the refusal, and nothing changed.
     pub refused: u32,
-    /// With which wave the pool had ended.
+    /// The number of the wave by whose end the pool had terminated; 0 if the call was refused.
     pub wave: u32,
-    /// How many steps that took; at refusal 16 how many steps were taken before.
+    /// The number of steps that were taken; at refusal 16 the number that were taken before. Else 0.
     pub steps: u32,
 }
 
-/// What became of a text that was to be written.
+/// The result of writing a text to a buffer.
 #[repr(C)]
 #[derive(Clone, Copy, Debug, PartialEq, Eq)]
 pub struct Written {
-    /// 0: it was written; 1: it was, and complains of a trace; 2: the trace is too long; 3: memory was refused; 4: there is
-    /// no room for the text; 5: there is no such text.
+    /// 0: the text was written; 1: it was, and it says which line of a trace is invalid; 2: the trace is too long; 3:
+    /// out of memory; 4: the buffer is shorter than the text; 5: there is no such text.
     pub outcome: u32,
-    /// How many bytes the text has, 0 where there is none.
+    /// The length of the text in bytes; 0 if there is none.
     pub length: usize,
 }
 

@@ -1,3 +1,4 @@
+//! The calls on a core, as C gets their results.
 ghost use Rattle.std.specs.Prelude.{◌≡◌};
 ghost use Rattle.gerfmuod.specs.Asked.{counters_at, unsettled, IsSettled, IsWhole};
 ghost use Rattle.gerfmuod.specs.Events.{event_of};
@@ -12,14 +13,14 @@ use std::alloc::Global;
 use tp_base::{MAX_NODES, MAX_STEPS, Refusal, Step};
 use tp_core::Reply;
 
-/// Whether there can be so many nodes.
+/// Returns whether a pool can have this number of nodes.
 fn can_be(nodes: u32) -> bool
     ensures { result ≡ can_be nodes }
 {
     1 <= nodes && nodes <= MAX_NODES
 }
 
-/// A pool over so many nodes, or over one where there cannot be so many.
+/// Returns a new pool of this number of nodes, or of one node if there cannot be so many.
 pub(crate) fn made(alloc: Global, nodes: u32) -> CoreRoom
     ensures { result ≡ opened nodes }
 {
@@ -27,7 +28,7 @@ pub(crate) fn made(alloc: Global, nodes: u32) -> CoreRoom
     CoreRoom::new(alloc, nodes)
 }
 
-/// 0, or the number of the refusal where there cannot be so many nodes.
+/// Returns 0, or the number of `BadSpec` if a pool cannot have this number of nodes.
 pub(crate) fn opening(nodes: u32) -> u32
     ensures { result ≡ opening nodes }
 {
@@ -90,7 +91,7 @@ fn of_refusal(refusal: Refusal) -> Answer
     }
 }
 
-/// Takes the next step, and tells it as C reads it.
+/// Takes the next step if there is one, and returns the result for C.
 #[inline(always)]
 #[tactic(auto, using(crate::proofs::Ended::told_over))]
 fn told(pool: &mut CoreRoom, step: Option<Step>) -> Answer
@@ -98,14 +99,14 @@ fn told(pool: &mut CoreRoom, step: Option<Step>) -> Answer
         × TellsNoEarlyEnd (result.told ≡ 3) result.number pool.new }
 {
     match pool.take(step) {
-        // most steps
+        // the case of most steps
         Ok(Reply::Plain) => PLAIN,
         Ok(reply) => of_reply(reply),
         Err(refusal) => of_refusal(refusal),
     }
 }
 
-/// Takes the next step, of whichever kind, as C writes it.
+/// Takes the next step, given by the number of its kind and its arguments.
 #[inline(always)]
 pub(crate) fn answered(
     pool: &mut CoreRoom,
@@ -128,7 +129,7 @@ pub(crate) fn answered(
     told(pool, step_of(event))
 }
 
-/// The counters of a node.
+/// Returns the counters of a node.
 pub(crate) fn counted(pool: &mut CoreRoom, node: u32) -> Counters
     ensures { (pool.new ≡ pool.old) × (result ≡ counters_at node pool.old) }
 {
@@ -149,7 +150,7 @@ pub(crate) fn counted(pool: &mut CoreRoom, node: u32) -> Counters
     }
 }
 
-/// The pool as a whole.
+/// Returns the counters of the pool as a whole.
 pub(crate) fn seen(pool: &mut CoreRoom) -> Whole
     ensures { (pool.new ≡ pool.old) × IsWhole pool.old result }
 {
@@ -162,7 +163,7 @@ pub(crate) fn seen(pool: &mut CoreRoom) -> Whole
     }
 }
 
-/// Settles a pool.
+/// Takes control steps until termination is detected, if the pool is quiet.
 #[tactic(auto, using(crate::proofs::Ended::settled_over))]
 pub(crate) fn settled(pool: &mut CoreRoom) -> Settled
     ensures { IsSettled pool.old result pool.new × TellsNoEarlyEnd (result.refused ≡ 0) result.wave pool.new }

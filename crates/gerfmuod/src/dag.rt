@@ -1,5 +1,5 @@
-//! Task graphs with bodies of the caller, for programs in C: a pool in memory that the caller has. The header `capi/gerfmuod_dag.h` says
-//! what a caller owes.
+//! Task graphs whose bodies the caller runs, for programs in C: a pool in the caller's memory. The header
+//! `capi/gerfmuod_dag.h` states what a caller must ensure.
 ghost use Rattle.std.specs.Prelude.{◌≡◌};
 ghost use Rattle.std.specs.Borrow.{full_share, sem};
 ghost use Rattle.std.specs.Ptr.{lies_at, room_at};
@@ -17,8 +17,8 @@ mod answer;
 mod calls;
 mod slot;
 
-/// Opens a pool of the nodes 0 to `nodes` - 1 in the memory at `pool`. It takes no other memory. It returns 0, or 26, `BadSpec`, if
-/// there are not 1 to 8 nodes: then the pool is not open.
+/// Opens a pool of the nodes 0 to `nodes` - 1 in the memory at `pool`. It allocates nothing. Returns 0, or 26,
+/// `BadSpec`, if `nodes` is not 1 to 8: then the pool is not open.
 #[unsafe(no_mangle)]
 pub unsafe extern "C" fn gerfmuod_dag_open(alloc: Global, pool: *mut u8, nodes: u32) -> u32
     requires* { sem 𝓛 (room_at slot_row pool) }
@@ -29,7 +29,10 @@ pub unsafe extern "C" fn gerfmuod_dag_open(alloc: Global, pool: *mut u8, nodes: 
     opening(nodes)
 }
 
-/// Adds a task at a node, of a class 0 to 3, that waits for no input so far. `number` is the task's.
+/// Adds a task at a node, of a class 0 to 3, that waits for no input so far. `number` in the result is the number of
+/// the task.
+///
+/// Refused, and nothing changes: `NoPool` if the pool is not open; then as `Pool::task` is.
 #[unsafe(no_mangle)]
 pub unsafe extern "C" fn gerfmuod_dag_task(pool: *mut u8, node: u32, class: u32) -> DagAnswer
     ghost old: { SlotState }
@@ -39,7 +42,9 @@ pub unsafe extern "C" fn gerfmuod_dag_task(pool: *mut u8, node: u32, class: u32)
     task(&mut *(pool as *mut PoolSlot), node, class)
 }
 
-/// Lets the newest task wait for task `source`, which was added before it.
+/// Makes the newest task wait for task `source`, which was added before it.
+///
+/// Refused, and nothing changes: `NoPool` if the pool is not open; then as `Pool::input` is.
 #[unsafe(no_mangle)]
 pub unsafe extern "C" fn gerfmuod_dag_input(pool: *mut u8, source: u32) -> DagAnswer
     ghost old: { SlotState }
@@ -50,6 +55,8 @@ pub unsafe extern "C" fn gerfmuod_dag_input(pool: *mut u8, source: u32) -> DagAn
 }
 
 /// Starts the pool: all tasks and inputs were added.
+///
+/// Refused, and the graph does not change: `NoPool` if the pool is not open; then as `Pool::start` is.
 #[unsafe(no_mangle)]
 pub unsafe extern "C" fn gerfmuod_dag_start(pool: *mut u8) -> DagAnswer
     ghost old: { SlotState }
@@ -59,7 +66,9 @@ pub unsafe extern "C" fn gerfmuod_dag_start(pool: *mut u8) -> DagAnswer
     start(&mut *(pool as *mut PoolSlot))
 }
 
-/// Lets a task that was not returned by `gerfmuod_dag_next` wait for one more input from outside.
+/// Makes a task that has not been dispatched wait for one more input from outside.
+///
+/// Refused, and nothing changes: `NoPool` if the pool is not open; then as `Pool::outside` is.
 #[unsafe(no_mangle)]
 pub unsafe extern "C" fn gerfmuod_dag_outside(pool: *mut u8, task: u32) -> DagAnswer
     ghost old: { SlotState }
@@ -69,7 +78,10 @@ pub unsafe extern "C" fn gerfmuod_dag_outside(pool: *mut u8, task: u32) -> DagAn
     outside(&mut *(pool as *mut PoolSlot), task)
 }
 
-/// One input from outside that a task waits for is there. `news` has the node of the task if the task lacks nothing now.
+/// Reports that one input from outside is there. `news` in the result has the bit of the task's node if the task now
+/// lacks nothing.
+///
+/// Refused, and nothing changes: `NoPool` if the pool is not open; then as `Pool::release` is.
 #[unsafe(no_mangle)]
 pub unsafe extern "C" fn gerfmuod_dag_release(pool: *mut u8, task: u32) -> DagAnswer
     ghost old: { SlotState }
@@ -79,7 +91,9 @@ pub unsafe extern "C" fn gerfmuod_dag_release(pool: *mut u8, task: u32) -> DagAn
     release(&mut *(pool as *mut PoolSlot), task)
 }
 
-/// What a thread of a node is to do next: run task `number`, wait, or stop.
+/// Returns what a thread of a node is to do next: run task `number`, wait, or stop.
+///
+/// Refused, and the graph does not change: `NoPool` if the pool is not open; then as `Pool::next` is.
 #[unsafe(no_mangle)]
 pub unsafe extern "C" fn gerfmuod_dag_next(pool: *mut u8, node: u32) -> DagAnswer
     ghost old: { SlotState }
@@ -89,7 +103,10 @@ pub unsafe extern "C" fn gerfmuod_dag_next(pool: *mut u8, node: u32) -> DagAnswe
     next(&mut *(pool as *mut PoolSlot), node)
 }
 
-/// Completes a task that a thread of its node ran. `news` has the nodes at which a thread may find something new.
+/// Completes a task that a thread of its node ran. `news` in the result is the set of nodes at which a thread may find
+/// something new, as bits.
+///
+/// Refused, and the graph does not change: `NoPool` if the pool is not open; then as `Pool::done` is.
 #[unsafe(no_mangle)]
 pub unsafe extern "C" fn gerfmuod_dag_done(pool: *mut u8, node: u32, task: u32) -> DagAnswer
     ghost old: { SlotState }
@@ -99,7 +116,9 @@ pub unsafe extern "C" fn gerfmuod_dag_done(pool: *mut u8, node: u32, task: u32) 
     done(&mut *(pool as *mut PoolSlot), node, task)
 }
 
-/// Starts the same graph once more, after `gerfmuod_dag_next` returned the end. Inputs from outside have to be declared again.
+/// Starts the same graph once more, after the end was reported. Inputs from outside have to be declared again.
+///
+/// Refused, and nothing changes: `NoPool` if the pool is not open; then as `Pool::again` is.
 #[unsafe(no_mangle)]
 pub unsafe extern "C" fn gerfmuod_dag_again(pool: *mut u8) -> DagAnswer
     ghost old: { SlotState }
@@ -109,7 +128,8 @@ pub unsafe extern "C" fn gerfmuod_dag_again(pool: *mut u8) -> DagAnswer
     again(&mut *(pool as *mut PoolSlot))
 }
 
-/// The step that was taken as number `k`, the oldest being 0. Its kind is 255 if there is none, or the pool is not open.
+/// Returns the step that was taken as number `k`; the oldest is 0. Its kind is 255 if there is none, or the pool is not
+/// open.
 #[unsafe(no_mangle)]
 pub unsafe extern "C" fn gerfmuod_dag_step(pool: *mut u8, k: u32) -> DagStep
     ghost old: { SlotState }
@@ -119,7 +139,9 @@ pub unsafe extern "C" fn gerfmuod_dag_step(pool: *mut u8, k: u32) -> DagStep
     step(&mut *(pool as *mut PoolSlot), k)
 }
 
-/// Frees the memory that the pool has taken. After that the pool is not open.
+/// Frees the memory that the pool has allocated. After that the pool is not open.
+///
+/// Refused: `NoPool` if the pool is not open.
 #[unsafe(no_mangle)]
 pub unsafe extern "C" fn gerfmuod_dag_close(pool: *mut u8) -> DagAnswer
     ghost old: { SlotState }

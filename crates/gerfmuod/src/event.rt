@@ -1,9 +1,11 @@
+//! The steps as C passes them: the number of a kind and four arguments.
 ghost use Rattle.std.specs.Prelude.{◌≡◌};
 ghost use Rattle.gerfmuod.specs.Events.{insert_asked, other_step, step_asked, task_step};
 
 use tp_base::{ActionId, Generation, Inputs, MAX_INPUTS, MessageId, NodeId, Step, TaskId};
 
-/// A step as C writes it: its kind, 0 to 15, and its numbers. Those that a kind has not are not looked at.
+/// A step as C passes it: the number of its kind, 0 to 15, and its arguments. Arguments that a kind does not have are
+/// ignored.
 #[derive(Clone, Copy, Debug, PartialEq, Eq)]
 pub struct Event {
     pub kind: u32,
@@ -14,12 +16,12 @@ pub struct Event {
     pub generation: u32,
 }
 
-/// The step, or `None` where there is no such kind, or for a task of more than 16 inputs.
+/// Returns the step, or `None` if there is no such kind, or for a task of more than 16 inputs.
 #[inline(always)]
 pub(crate) fn step_of(event: Event) -> Option<Step>
     ensures { result ≡ step_asked event }
 {
-    // Most events are those of tasks. A comparison takes less time than the table of all kinds.
+    // Most events are steps of tasks, and a comparison takes less time than a jump table of all kinds.
     if event.kind <= 3 {
         task_step(event)
     } else {
@@ -27,7 +29,7 @@ pub(crate) fn step_of(event: Event) -> Option<Step>
     }
 }
 
-/// The step of a kind up to 3.
+/// Returns the step of a kind up to 3.
 #[inline(always)]
 fn task_step(event: Event) -> Option<Step>
     ensures { result ≡ task_step event }
@@ -41,7 +43,7 @@ fn task_step(event: Event) -> Option<Step>
     }
 }
 
-/// The step of a kind above 3.
+/// Returns the step of a kind above 3.
 #[inline(always)]
 fn other_step(event: Event) -> Option<Step>
     ensures { result ≡ other_step event }
@@ -75,7 +77,7 @@ fn other_step(event: Event) -> Option<Step>
     }
 }
 
-/// The step of a fresh task, or `None` for one of more than 16 inputs.
+/// Returns the step that inserts a task, or `None` for one of more than 16 inputs.
 #[inline(always)]
 fn insert_step(home: u32, task: u32, inputs: u32) -> Option<Step>
     ensures { result ≡ insert_asked home task inputs }

@@ -1,3 +1,4 @@
+//! The exported functions on a core, which `capi/gerfmuod.h` declares.
 ghost use Rattle.std.specs.Prelude.{◌≡◌, ◌≤◌};
 ghost use Rattle.std.specs.Borrow.{full_share, sem};
 ghost use Rattle.std.specs.Ptr.{lies_at, room_at};
@@ -16,10 +17,10 @@ use crate::history::traced;
 use crate::pool::CoreRoom;
 use std::alloc::Global;
 
-/// The version of the library, 0.1.0: ten thousands, hundreds and ones.
+/// The version of the library, 0.1.0: 10,000 x major + 100 x minor + patch.
 const VERSION: u32 = 100;
 
-/// The version of the library.
+/// Returns the version of the library: 10,000 x major + 100 x minor + patch.
 #[unsafe(no_mangle)]
 pub extern "C" fn gerfmuod_version() -> u32
     ensures { result ≡ 100 }
@@ -27,7 +28,7 @@ pub extern "C" fn gerfmuod_version() -> u32
     VERSION
 }
 
-/// How many bytes a core takes: at most the 512 that the header gives it.
+/// Returns the size of a core in bytes, which is at most the 512 of the header.
 #[unsafe(no_mangle)]
 pub extern "C" fn gerfmuod_core_size() -> usize
     ensures { result ≤ 512 }
@@ -35,8 +36,8 @@ pub extern "C" fn gerfmuod_core_size() -> usize
     size_of::<CoreRoom>()
 }
 
-/// Makes a core of 1 to 8 nodes in the memory at `core`. It takes no other memory. Where there cannot be so many nodes it
-/// answers 26, `BadSpec`, and the core is of one node; else 0.
+/// Opens a core of 1 to 8 nodes in the memory at `core`. It allocates nothing. Returns 0, or 26, `BadSpec`, if `nodes`
+/// is not 1 to 8: the core is then open and has one node.
 #[unsafe(no_mangle)]
 pub unsafe extern "C" fn gerfmuod_open(alloc: Global, core: *mut u8, nodes: u32) -> u32
     requires* { sem 𝓛 (room_at core_row core) }
@@ -47,9 +48,9 @@ pub unsafe extern "C" fn gerfmuod_open(alloc: Global, core: *mut u8, nodes: u32)
     opening(nodes)
 }
 
-/// Takes the next step, where it is lawful and there is room for it. A refused step changes nothing: it is refused for the
-/// first check that holds, as `Core::step` tells, or as `BadSpec` where there is no such step. Where it is told that the pool
-/// had ended with a wave, nothing was left when that wave ended.
+/// Takes the next step if it is lawful and there is room for it. A refused step changes nothing: it is refused as
+/// `BadSpec` if there is no such step, else for the first check that fails, as in `Core::step`. If the result says that
+/// the pool had terminated with a wave (`told` is 3), the pool was quiet when that wave ended.
 #[unsafe(no_mangle)]
 pub unsafe extern "C" fn gerfmuod_step(
     core: *mut u8,
@@ -75,7 +76,7 @@ pub unsafe extern "C" fn gerfmuod_step(
     )
 }
 
-/// The counters of a node, or 1, `NoNode`, where there is no such node.
+/// Returns the counters of a node, or refusal 1, `NoNode`, if there is no such node.
 #[unsafe(no_mangle)]
 pub unsafe extern "C" fn gerfmuod_numbers(core: *mut u8, node: u32) -> Counters
     ghost old: { Accepted }
@@ -86,8 +87,8 @@ pub unsafe extern "C" fn gerfmuod_numbers(core: *mut u8, node: u32) -> Counters
     counted(&mut *(core as *mut CoreRoom), node)
 }
 
-/// The pool as a whole: how many steps were taken and how many more can be, how many messages are under way, and whether
-/// nothing is left.
+/// Returns the counters of the pool as a whole: the steps that were taken, the steps that can still be taken, the
+/// messages under way, and whether the pool is quiet.
 #[unsafe(no_mangle)]
 pub unsafe extern "C" fn gerfmuod_whole(core: *mut u8) -> Whole
     ghost old: { Accepted }
@@ -98,7 +99,7 @@ pub unsafe extern "C" fn gerfmuod_whole(core: *mut u8) -> Whole
     seen(&mut *(core as *mut CoreRoom))
 }
 
-/// Takes control steps until the end is judged, where nothing is left; it is refused as `Core::settle` tells.
+/// Takes control steps until termination is detected, if the pool is quiet. It is refused as `Core::settle` is.
 #[unsafe(no_mangle)]
 pub unsafe extern "C" fn gerfmuod_settle(core: *mut u8) -> Settled
     ghost old: { Accepted }
@@ -109,7 +110,8 @@ pub unsafe extern "C" fn gerfmuod_settle(core: *mut u8) -> Settled
     settled(&mut *(core as *mut CoreRoom))
 }
 
-/// Puts the trace of the steps that were taken at the front of the room: `tp audit` and `gerfmuod_audit` judge it.
+/// Writes the trace of the steps that were taken to the start of the buffer `room`. `tp audit` and `gerfmuod_audit`
+/// judge it.
 #[unsafe(no_mangle)]
 pub unsafe extern "C" fn gerfmuod_trace(alloc: Global, core: *mut u8, room: &mut [u8]) -> Written
     ghost old: { Accepted }
@@ -124,7 +126,7 @@ fn end(pool: CoreRoom) {
     drop(pool)
 }
 
-/// Frees what the core has taken. The memory at `core` is then as before it was opened.
+/// Frees the memory that the core has allocated. A core can be opened in the memory at `core` again.
 #[unsafe(no_mangle)]
 pub unsafe extern "C" fn gerfmuod_close(core: *mut u8)
     ghost old: { Accepted }

@@ -1,3 +1,4 @@
+//! The trace of a core: its steps with the node of each, printed as a text.
 ghost use Rattle.std.specs.Prelude.{◌≡◌, ◌≤◌, ◌∷◌, ◌⊎◌, ◌↔◌, ℕ, List, IfOk, IfErr, IsTrue, reverse};
 ghost use Rattle.std.specs.List.{All};
 ghost use Rattle.tp_base.specs.declared.limits.TheConstants.{MAX_NODES};
@@ -16,10 +17,10 @@ use std::alloc::{AllocError, Global};
 use tp_base::{History, NodeId, Refusal, Step, Table};
 use tp_text::print_trace;
 
-/// The numbers of messages and generations that a history has places for are below this one.
+/// The upper bound on the numbers of messages and generations that a history can store.
 const NUMBERS: u32 = 1_048_576;
 
-/// Whether what a message's step names fits into a history.
+/// Returns whether the message and the generation that a step names fit into a history.
 fn is_small(step: Step) -> bool
     ensures { IsTrue result ↔ IsSmall step }
 {
@@ -33,14 +34,15 @@ fn is_small(step: Step) -> bool
     }
 }
 
-/// Whether what the steps of messages name fits into a history.
+/// Returns whether the messages and generations that all steps name fit into a history.
 fn are_small(steps: &[Step]) -> bool
     ensures { IsTrue result ↔ All IsSmall steps.now }
 {
     steps.iter().all(|step| is_small(*step))
 }
 
-/// The node beside which a step stands, where these are the homes of the tasks before it. They go on by the step.
+/// Returns the node that makes the step, and records the home of a task that the step inserts. `homes` has the homes of
+/// the tasks before the step.
 fn beside(alloc: Global, homes: &mut Table<NodeId>, step: Step) -> Result<NodeId, AllocError>
     ensures node { (n : ℕ) (past : List Step) → HasHomes homes.old (tasks_after n past)
         → IfOk result (λ node. node.0 ≡ node_of (world n (present past)) step) }
@@ -73,7 +75,7 @@ fn beside(alloc: Global, homes: &mut Table<NodeId>, step: Step) -> Result<NodeId
     }
 }
 
-/// The steps, each beside its node.
+/// Returns the history of the steps, each with the node that makes it.
 fn recorded(alloc: Global, steps: &[Step], nodes: u32) -> Result<History, AllocError>
     requires nodes { (1 ≤ nodes) × (nodes ≤ MAX_NODES) }
     requires runs { AreRuns nodes (reverse steps.now) }
@@ -90,7 +92,7 @@ fn recorded(alloc: Global, steps: &[Step], nodes: u32) -> Result<History, AllocE
     Ok(history)
 }
 
-/// The trace of what a pool has taken.
+/// Returns the trace of the steps that a pool has taken, or `BadSpec` if a number in it is too great for a trace.
 fn trace(alloc: Global, pool: &CoreRoom) -> Result<Vec<u8>, Refusal>
     ensures ok { IfOk result (λ text. IsTraceOf pool.now.nodes pool.now.steps text.items × CanBeTraced pool.now.steps) }
     ensures err { IfErr result (λ r. (r ≡ Refusal.NoMemory) ⊎ ((r ≡ Refusal.BadSpec) × ¬ CanBeTraced pool.now.steps)) }
@@ -103,7 +105,7 @@ fn trace(alloc: Global, pool: &CoreRoom) -> Result<Vec<u8>, Refusal>
     print_trace(alloc, &history, pool.nodes())
 }
 
-/// Puts the trace of what a pool has taken at the front of the room.
+/// Writes the trace of the steps that a pool has taken to the start of the buffer `room`.
 pub(crate) fn traced(alloc: Global, pool: &mut CoreRoom, room: &mut [u8]) -> Written
     ensures { (pool.new ≡ pool.old) × IsTraced pool.old room.old result room.new }
 {

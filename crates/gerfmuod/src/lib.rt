@@ -1,5 +1,6 @@
-//! The detector for programs in C: a core in memory that the caller has, handed each event as it happens. The header
-//! `capi/gerfmuod.h` says what a caller owes.
+//! The library for programs in C: the detector (`capi/gerfmuod.h`), the detector of one process of a distributed
+//! program (`capi/gerfmuod_process.h`) and task graphs (`capi/gerfmuod_dag.h`). The headers state what a caller must
+//! ensure.
 #![tactic(auto)]
 
 mod answer;

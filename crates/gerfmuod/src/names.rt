@@ -1,3 +1,4 @@
+//! The names and meanings of refusals, as texts for C.
 ghost use Rattle.std.specs.Prelude.{◌≡◌, MatchOption};
 ghost use Rattle.tp_base.specs.Refusals.{number_of};
 ghost use Rattle.gerfmuod.specs.Meanings.{meaning_of};
@@ -7,7 +8,7 @@ use crate::answer::Written;
 use crate::text::{NO_TEXT, WRITTEN, put, unwritten};
 use tp_base::Refusal;
 
-/// The refusal of this number, 1 to 26.
+/// Returns the refusal of this number, if it is 1 to 26.
 fn refusal_of(number: u32) -> Option<Refusal>
     ensures { MatchOption result (HasNoRefusal number) (λ refusal. number_of refusal ≡ number) }
 {
@@ -42,7 +43,7 @@ fn refusal_of(number: u32) -> Option<Refusal>
     })
 }
 
-/// What the refusal says, where a call of this library tells it.
+/// Returns the meaning of a refusal, if a call on a core can return it.
 fn meaning(refusal: Refusal) -> &'static str
     ensures { result.now ≡ meaning_of refusal }
 {
@@ -65,14 +66,14 @@ fn meaning(refusal: Refusal) -> &'static str
         Refusal::WaveNotEnded => "no ended wave waits for judgement",
         Refusal::Ended => "the end was judged",
         Refusal::HistoryFull(_) => "there is no room for more steps",
-        Refusal::NoMemory => "memory was refused",
+        Refusal::NoMemory => "an allocation failed",
         Refusal::Stranger => "the message is of another generation",
         Refusal::BadSpec => "there is no such step, or there cannot be so many nodes",
-        _ => "no call of this library tells it",
+        _ => "no call of this library returns it",
     }
 }
 
-/// Puts the name of the refusal of a number at the front of the room: `NoNode` for 1, to `BadSpec` for 26.
+/// Writes the name of the refusal of a number to the start of the buffer `room`: `NoNode` for 1, to `BadSpec` for 26.
 #[unsafe(no_mangle)]
 pub extern "C" fn gerfmuod_refusal_name(number: u32, room: &mut [u8]) -> Written
     ensures { IsNamed number room.old result room.new }
@@ -83,7 +84,7 @@ pub extern "C" fn gerfmuod_refusal_name(number: u32, room: &mut [u8]) -> Written
     }
 }
 
-/// Puts what the refusal of a number says at the front of the room.
+/// Writes the meaning of the refusal of a number to the start of the buffer `room`.
 #[unsafe(no_mangle)]
 pub extern "C" fn gerfmuod_refusal_meaning(number: u32, room: &mut [u8]) -> Written
     ensures { IsExplained number room.old result room.new }

@@ -1,3 +1,4 @@
+//! The content of a `gerfmuod_core`: a core, with the number of its nodes.
 ghost use Rattle.std.specs.Prelude.{◌≡◌, ◌≤◌, ◌<◌, [], ℕ, reverse, length};
 ghost use Rattle.tp_base.specs.declared.limits.TheConstants.{MAX_NODES, MAX_STEPS};
 
@@ -13,14 +14,14 @@ pub(crate) struct CoreRoom {
     nodes: u32,
 }
 
-/// How many bytes the header gives to a core.
+/// The size in bytes of a `gerfmuod_core` in the header.
 const ROOM: usize = 512;
 
 const _: () = prove!(size_of::<CoreRoom>() <= ROOM);
 
 const _: () = prove!(align_of::<CoreRoom>() <= 8);
 
-/// Compiles only for what may go from thread to thread, as a program in C may hand on its core.
+/// Compiles only for a type that can be sent to another thread: a program in C may use its core from any thread.
 fn can_be_sent<T: Send>() {}
 
 impl Model for CoreRoom {
@@ -41,7 +42,7 @@ impl CoreRoom {
     ghost use Rattle.tp_core.specs.Settled.{Settles};
     ghost use Rattle.gerfmuod.specs.Told.{AnswersTo};
 
-    /// A pool over the nodes 0 to `nodes` - 1, 1 to 8 of them. It takes no memory.
+    /// Returns a pool of the nodes 0 to `nodes` - 1, 1 to 8 of them. It allocates nothing.
     pub(crate) fn new(alloc: Global, nodes: u32) -> CoreRoom
         requires { (1 ≤ nodes) × (nodes ≤ MAX_NODES) }
         ensures { result ≡ record { nodes = nodes; steps = [] } }
@@ -53,14 +54,14 @@ impl CoreRoom {
         }
     }
 
-    /// The core, to be asked.
+    /// Returns the core, for calls that change nothing.
     pub(crate) fn core(&self) -> &Core
         ensures { result.now ≡ self.now }
     {
         &self.core
     }
 
-    /// How many nodes there are.
+    /// Returns the number of nodes.
     pub(crate) fn nodes(&self) -> u32
         ensures nodes { result ≡ self.now.nodes }
         ensures some { (1 ≤ result) × (result ≤ MAX_NODES) }
@@ -68,7 +69,7 @@ impl CoreRoom {
         self.nodes
     }
 
-    /// The steps that were taken, the oldest first: runs through all generations.
+    /// Returns the steps that were taken, the oldest first. In each generation they are a run.
     pub(crate) fn steps(&self) -> &[Step]
         ensures steps { reverse result.now ≡ self.now.steps }
         ensures within { length result.now ≤ MAX_STEPS }
@@ -77,7 +78,7 @@ impl CoreRoom {
         self.core.steps()
     }
 
-    /// Takes the next step, as `Core::step` does, or refuses as `BadSpec` what is none.
+    /// Takes the next step as `Core::step` does, or is refused as `BadSpec` if there is none.
     #[inline(always)]
     pub(crate) fn take(&mut self, step: Option<Step>) -> Result<Reply, Refusal>
         ensures answers { AnswersTo self.old step result self.new }
@@ -89,7 +90,7 @@ impl CoreRoom {
         }
     }
 
-    /// Takes control steps until the end is judged, as `Core::settle` does.
+    /// Takes control steps until termination is detected, as `Core::settle` does.
     pub(crate) fn settle(&mut self) -> Result<(u32, u32), Refusal>
         ensures answers { Settles self.old result self.new }
         ensures never_early { InEach (IsNeverEarly self.new.nodes) self.new.steps }

@@ -1,5 +1,5 @@
-//! The detector for distributed programs, for programs in C: one process's part, plain data by pointer. The header
-//! `capi/gerfmuod_process.h` says what a caller owes.
+//! The exported functions on one process of a distributed program, which `capi/gerfmuod_process.h` declares. A process
+//! is plain data in the caller's memory.
 
 ghost use Rattle.std.specs.Prelude.{◌≡◌, ◌⊎◌, ◌&&◌, true, Some};
 ghost use Rattle.std.specs.Result.{result_err};
@@ -16,14 +16,14 @@ use crate::text::{WRITTEN, put};
 use crate::wire::{WireMessage, message_of, wire_of};
 use tp_process::{Next, Process, Refusal};
 
-/// The refusals of a call that takes numbers as a control message, in their order. All refusals are above 100: no result of
-/// `gerfmuod_process_next` is one, and neither is a refusal of a core.
+/// The refusals of a call with a control message that has no such token, in the order of the checks. All refusals of
+/// processes are above 100, so they differ from the results of `gerfmuod_process_next` and from the refusals of a core.
 const NOT_OPEN: u32 = 107;
 
 const MALFORMED: u32 = 109;
 
-/// Opens process `number` of `processes`, in epoch 0 and with one piece of work open. 0, or why it is refused: then the
-/// process is not open.
+/// Opens process `number` of `processes`, in epoch 0 and with one piece of work open. Returns 0 or the refusal; if the
+/// call is refused, the process is not open.
 #[unsafe(no_mangle)]
 pub extern "C" fn gerfmuod_process_init(process: &mut Process, number: u32, processes: u32) -> u32
     ensures refused { result ≡ refused_as (result_err (new_process number processes)) }
@@ -41,7 +41,7 @@ pub extern "C" fn gerfmuod_process_init(process: &mut Process, number: u32, proc
     }
 }
 
-/// Opens one more piece of work. 0, or why it is refused.
+/// Opens one more piece of work. Returns 0 or the refusal, as in `Process::add_work`.
 #[unsafe(no_mangle)]
 pub extern "C" fn gerfmuod_process_add_work(process: &mut Process) -> u32
     ensures refused { result ≡ refused_by open_refusal (read process.old) }
@@ -54,7 +54,7 @@ pub extern "C" fn gerfmuod_process_add_work(process: &mut Process) -> u32
     }
 }
 
-/// Closes a piece of work. 0, or why it is refused.
+/// Closes a piece of work. Returns 0 or the refusal, as in `Process::finish_work`.
 #[unsafe(no_mangle)]
 pub extern "C" fn gerfmuod_process_finish_work(process: &mut Process) -> u32
     ensures refused { result ≡ refused_by close_refusal (read process.old) }
@@ -67,7 +67,7 @@ pub extern "C" fn gerfmuod_process_finish_work(process: &mut Process) -> u32
     }
 }
 
-/// Counts a message as sent. 0, or why it is refused.
+/// Counts a message as sent. Returns 0 or the refusal, as in `Process::count_sent`.
 #[unsafe(no_mangle)]
 pub extern "C" fn gerfmuod_process_count_sent(process: &mut Process) -> u32
     ensures refused { result ≡ refused_by send_refusal (read process.old) }
@@ -80,7 +80,8 @@ pub extern "C" fn gerfmuod_process_count_sent(process: &mut Process) -> u32
     }
 }
 
-/// Counts a message of an epoch as received. 0, or why it is refused.
+/// Counts a message of an epoch as received, and opens its piece of work. Returns 0 or the refusal, as in
+/// `Process::count_received`.
 #[unsafe(no_mangle)]
 pub extern "C" fn gerfmuod_process_count_received(process: &mut Process, epoch: u64) -> u32
     ensures refused { result ≡ receipt_refused epoch (read process.old) }
@@ -93,7 +94,7 @@ pub extern "C" fn gerfmuod_process_count_received(process: &mut Process, epoch: 
     }
 }
 
-/// `gerfmuod_process_count_sent` by its name in the monitor.
+/// The same call as `gerfmuod_process_count_sent`, under its name in the monitor interface.
 #[unsafe(no_mangle)]
 pub extern "C" fn gerfmuod_process_outgoing_message_start(process: &mut Process) -> u32
     ensures refused { result ≡ refused_by send_refusal (read process.old) }
@@ -106,7 +107,7 @@ pub extern "C" fn gerfmuod_process_outgoing_message_start(process: &mut Process)
     }
 }
 
-/// `gerfmuod_process_count_received` by its name in the monitor.
+/// The same call as `gerfmuod_process_count_received`, under its name in the monitor interface.
 #[unsafe(no_mangle)]
 pub extern "C" fn gerfmuod_process_incoming_message_start(process: &mut Process, epoch: u64) -> u32
     ensures refused { result ≡ receipt_refused epoch (read process.old) }
@@ -119,7 +120,7 @@ pub extern "C" fn gerfmuod_process_incoming_message_start(process: &mut Process,
     }
 }
 
-/// `gerfmuod_process_finish_work` by its name in the monitor.
+/// The same call as `gerfmuod_process_finish_work`, under its name in the monitor interface.
 #[unsafe(no_mangle)]
 pub extern "C" fn gerfmuod_process_incoming_message_end(process: &mut Process) -> u32
     ensures refused { result ≡ refused_by close_refusal (read process.old) }
@@ -132,7 +133,8 @@ pub extern "C" fn gerfmuod_process_incoming_message_end(process: &mut Process) -
     }
 }
 
-/// Takes a control message. 0, or why it is refused.
+/// Takes a control message. Returns 0 or the refusal: 107 if the process is not open; 109 if there is no such token;
+/// then as in `Process::take`.
 #[unsafe(no_mangle)]
 pub extern "C" fn gerfmuod_process_take(process: &mut Process, message: &WireMessage) -> u32
     ensures refused { result ≡ taken_as message.now.epoch (message_of message.now) (read process.old) }
@@ -149,8 +151,8 @@ pub extern "C" fn gerfmuod_process_take(process: &mut Process, message: &WireMes
     }
 }
 
-/// What the process has to do next: 0, nothing; 1, to send the control message that is written; 2, to ask again; 3, nothing,
-/// for termination was detected. A number above 100 says why it is refused.
+/// Returns what the process has to do next: 0, nothing; 1, send the control message in `message_out`; 2, call again; 3,
+/// nothing, because termination was detected. A number above 100 is a refusal. `message_out` is written only at 1.
 #[unsafe(no_mangle)]
 pub extern "C" fn gerfmuod_process_next(process: &mut Process, message_out: &mut WireMessage) -> u32
     ensures next { result ≡ next_as (next_of (read process.old)) }
@@ -173,7 +175,8 @@ pub extern "C" fn gerfmuod_process_next(process: &mut Process, message_out: &mut
     }
 }
 
-/// Begins the next epoch at the process, with one piece of work open. 0, or why it is refused.
+/// Begins the next epoch at the process, with one piece of work open. Returns 0 or the refusal, as in
+/// `Process::reopen`.
 #[unsafe(no_mangle)]
 pub extern "C" fn gerfmuod_process_reopen(process: &mut Process) -> u32
     ensures refused { result ≡ refused_as (checked (read process.old) (reopen_refusal (read process.old))) }
@@ -186,7 +189,7 @@ pub extern "C" fn gerfmuod_process_reopen(process: &mut Process) -> u32
     }
 }
 
-/// The process is open.
+/// Returns whether the process is open.
 #[unsafe(no_mangle)]
 pub extern "C" fn gerfmuod_process_is_open(process: &Process) -> bool
     ensures { result ≡ is_open (read process.now) }
@@ -194,7 +197,7 @@ pub extern "C" fn gerfmuod_process_is_open(process: &Process) -> bool
     process.is_open()
 }
 
-/// The process is open, and knows that its epoch has terminated.
+/// Returns whether the process is open and knows that its epoch has terminated.
 #[unsafe(no_mangle)]
 pub extern "C" fn gerfmuod_process_is_over(process: &Process) -> bool
     ensures { result ≡ is_open (read process.now) && (read process.now).state.over }
@@ -202,7 +205,7 @@ pub extern "C" fn gerfmuod_process_is_over(process: &Process) -> bool
     process.is_over()
 }
 
-/// The present epoch, from 0.
+/// Returns the number of the present epoch, from 0.
 #[unsafe(no_mangle)]
 pub extern "C" fn gerfmuod_process_epoch(process: &Process) -> u64
     ensures { result ≡ (read process.now).epoch }
@@ -210,7 +213,7 @@ pub extern "C" fn gerfmuod_process_epoch(process: &Process) -> u64
     process.epoch()
 }
 
-/// How many pieces of work are open.
+/// Returns the number of pieces of work that are open.
 #[unsafe(no_mangle)]
 pub extern "C" fn gerfmuod_process_pending(process: &Process) -> u64
     ensures { result ≡ (read process.now).state.pending }
@@ -218,7 +221,7 @@ pub extern "C" fn gerfmuod_process_pending(process: &Process) -> u64
     process.pending()
 }
 
-/// How many messages were counted as sent in this epoch.
+/// Returns the number of messages that were counted as sent in this epoch.
 #[unsafe(no_mangle)]
 pub extern "C" fn gerfmuod_process_sent(process: &Process) -> u64
     ensures { result ≡ (read process.now).state.sent }
@@ -226,7 +229,7 @@ pub extern "C" fn gerfmuod_process_sent(process: &Process) -> u64
     process.sent()
 }
 
-/// And as received.
+/// Returns the number of messages that were counted as received in this epoch.
 #[unsafe(no_mangle)]
 pub extern "C" fn gerfmuod_process_received(process: &Process) -> u64
     ensures { result ≡ (read process.now).state.received }
@@ -234,7 +237,7 @@ pub extern "C" fn gerfmuod_process_received(process: &Process) -> u64
     process.received()
 }
 
-/// The number of the newest wave that came to the process in this epoch, or 0.
+/// Returns the number of the newest wave that came to the process in this epoch, or 0.
 #[unsafe(no_mangle)]
 pub extern "C" fn gerfmuod_process_wave(process: &Process) -> u64
     ensures { result ≡ (read process.now).state.wave }
@@ -242,7 +245,7 @@ pub extern "C" fn gerfmuod_process_wave(process: &Process) -> u64
     process.wave()
 }
 
-/// Puts what the refusal of a number says at the front of the room.
+/// Writes the meaning of the refusal of a number to the start of the buffer `room`.
 #[unsafe(no_mangle)]
 pub extern "C" fn gerfmuod_process_meaning(refused: u32, room: &mut [u8]) -> Written
     ensures { IsPut (process_meaning refused) 0 room.old result room.new }
@@ -269,7 +272,7 @@ fn meaning(number: u32) -> &'static str
     }
 }
 
-/// The number of a refusal.
+/// Returns the number of a refusal.
 fn number_of(refusal: Refusal) -> u32
     ensures { result ≡ refused_as (Some refusal) }
 {

@@ -1,3 +1,4 @@
+//! Writing a text to a buffer of the caller, and the audit of a trace for C.
 ghost use Rattle.std.specs.Prelude.{◌≡◌, IfOk};
 ghost use Rattle.tp_text.specs.AuditText.{IsAuditText};
 ghost use Rattle.tp_text.specs.TracedEnd.{EndedIsOver, NotEndedClaimsNoEnd, ReopenedIsOver};
@@ -10,7 +11,7 @@ use tp_text::{MAX_TEXT, TextFault, Verdict, audit};
 /// The outcome of a text that was written.
 pub(crate) const WRITTEN: u32 = 0;
 
-/// And of an answer that complains of a trace.
+/// The outcome of an audit that found a line of the trace invalid.
 const COMPLAINT: u32 = 1;
 
 const TOO_LONG: u32 = 2;
@@ -21,14 +22,14 @@ const NO_ROOM: u32 = 4;
 
 pub(crate) const NO_TEXT: u32 = 5;
 
-/// The outcome where there is no text.
+/// Returns the result if there is no text.
 pub(crate) fn unwritten(outcome: u32) -> Written
     ensures { result ≡ record { outcome = outcome; length = 0 } }
 {
     Written { outcome, length: 0 }
 }
 
-/// Puts the text at the front of the room, where there is room for it.
+/// Writes the text to the start of the buffer `room`, if it fits.
 pub(crate) fn put(room: &mut [u8], text: &[u8], outcome: u32) -> Written
     ensures { IsPut text.now outcome room.old result room.new }
 {
@@ -73,16 +74,17 @@ fn audited(alloc: Global, text: &[u8], room: &mut [u8]) -> Written
     }
 }
 
-/// Judges a trace as `tp audit` does, and puts the answer at the front of the room.
+/// Judges a trace as `tp audit` does, and writes the verdict to the start of the buffer `room`.
 #[unsafe(no_mangle)]
 pub extern "C" fn gerfmuod_audit(alloc: Global, text: &[u8], room: &mut [u8]) -> Written
     ensures answer { IsAudited text.now room.old result room.new }
-    // Where a sound trace is answered `ended W`, nothing was left from the end of wave W on, and each task had run once by
-    // then, of the present generation;
+    // If the verdict on a sound trace is `ended W`, the pool was quiet from the end of wave W on, and each task of the
+    // present generation had run once by then.
     ensures ended { EndedIsOver }
-    // where it is answered `not ended`, none of its lines since the pool was last reopened says that it had ended.
+    // If it is `not ended`, no line since the pool was last reopened says that the pool had terminated.
     ensures not_ended { NotEndedClaimsNoEnd }
-    // In each generation that was followed by another the end was judged, nothing was left, and each task had run once.
+    // In each generation that was followed by another, termination was detected, the pool was quiet and each task had
+    // run once.
     ensures reopened { ReopenedIsOver }
 {
     audited(alloc, text, room)

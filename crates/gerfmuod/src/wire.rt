@@ -1,4 +1,4 @@
-//! A control message of a process as the transport carries it: seven numbers, and what they mean.
+//! A control message of a process as the transport carries it, which is seven numbers, and its conversion.
 
 ghost use Rattle.std.specs.Prelude.{◌≡◌};
 ghost use Rattle.gerfmuod.specs.Wire.{message_of, wire_of};
@@ -15,13 +15,13 @@ pub struct WireMessage {
     pub wave: u64,
     /// 0: the wave goes down. 1: it comes back up, with sums. 2: termination was detected.
     pub token: u64,
-    /// Of a wave that comes back up: the messages sent by the sender and all processes below it.
+    /// If the token is 1, the number of messages that the sender and all processes below it had sent.
     pub sent: u64,
-    /// And received.
+    /// If the token is 1, the number of messages that they had received.
     pub received: u64,
 }
 
-/// The seven numbers of a control message of an epoch.
+/// Returns the seven numbers of a control message of an epoch.
 pub(crate) fn wire_of(epoch: u64, message: ControlMessage) -> WireMessage
     ensures { result ≡ wire_of epoch message }
 {
@@ -41,7 +41,7 @@ pub(crate) fn wire_of(epoch: u64, message: ControlMessage) -> WireMessage
     }
 }
 
-/// The control message of seven numbers; none if there is no such token.
+/// Returns the control message of seven numbers, or `None` if there is no such token.
 pub(crate) fn message_of(wire: WireMessage) -> Option<ControlMessage>
     ensures { result ≡ message_of wire }
 {

@@ -74,7 +74,7 @@ module _ (takes : ℕ → ℕ → Bool) (step : Step) (next : BlockStep) (cells 
   known : (r b : ℕ) → r ≤ steps → b < blocks → r * blocks + b < (steps + 1) * blocks
   known r b h p = omega (arith, mul-add-lt r blocks b (steps + 1) (omega arith) p)
 
-  -- a block after one step more
+  -- a block after one more step
   block-next : (r b : ℕ) → b < blocks → block_of size b (after step (suc r) cells) ≡
       next (block_before size b (after step r cells)) (block_of size b (after step r cells)) (block_behind size b (after step r cells))
   block-next r b p =

@@ -9,7 +9,7 @@ use Rattle.tp_graph.specs.Found.{ArePlaces}
 use Rattle.tp_graph.specs.Serial.{AreValues, Results}
 use Rattle.pool_blocks.specs.Stencils.{BlockStep, IsCellsRefusal, LacksBlock, block_graph}
 
--- one block more has a result
+-- one more block has a result
 pub one_more_there : (blocks steps nr_blocks nr_steps b : ℕ) (results : Results) (value : List ℤ) → nr_blocks ≡ blocks → nr_steps ≡ steps →
     Contains results (record { 0 = nr_steps * nr_blocks + b }, value)
     → ((block : ℕ) → block < b → All (λ r. r.0.0 ≢ steps * blocks + block) results → ⊥) →

@@ -16,7 +16,7 @@ list-at zero f k d h = absurd (omega arith)
 list-at (suc count) f zero d h = refl
 list-at (suc count) f (suc k) d h = list-at count (λ e. f (suc e)) k d (omega arith)
 
--- one more
+-- one more element
 pub list-more : (count : ℕ) (f : ℕ → ℤ) → list_of (count + 1) f ≡ list_of count f ++ f count ∷ []
 list-more zero f = refl
 list-more (suc count) f =

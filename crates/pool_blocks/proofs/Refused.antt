@@ -28,7 +28,7 @@ pub match_weaker : {T E : Type 0} (r : Result T E) (P P2 : T → Type 0) (Q Q2 :
 match_weaker (Ok x) P P2 Q Q2 f h m = f x m
 match_weaker (Err e) P P2 Q Q2 f h m = h e m
 
--- a task that no result is of has none
+-- if no result is of a task, the task has none
 times-none : (t : ℕ) (results : Results) → All (λ r. r.0.0 ≢ t) results → times t results ≡ 0
 times-none t [] h = refl
 times-none t (x ∷ xs) h =
@@ -54,7 +54,7 @@ cells_refused next cells blocks size steps results refusal once why =
     absurd (has_one ((steps + 1) * blocks) (steps * blocks + lack.block) results once (omega (arith, lack.within)) lack.none))
     why
 
--- what takes this many steps in one run takes any part of them
+-- cells that take this many steps in one run take any part of them
 pub are_steps : (takes : ℕ → ℕ → Bool) (cells size n most part : ℕ) → takes cells size ≡ true → TakeSteps cells size n most → part ≤ most
     → AreSteps takes cells size part
 are_steps takes cells size n most part taken all few =
@@ -69,7 +69,7 @@ are_steps takes cells size n most part taken all few =
       few_tasks = omega (arith, events, all.few_events);
     }
 
--- what is taken is not refused
+-- cells that take steps are not refused
 pub are_not_none : (takes : ℕ → ℕ → Bool) (count size steps : ℕ) → AreSteps takes count size steps → AreNoSteps takes count size steps → ⊥
 are_not_none takes count size steps are (inl none) = omega (arith, are.some_cells, none)
 are_not_none takes count size steps are (inr (inl empty)) = omega (arith, are.some_size, empty)

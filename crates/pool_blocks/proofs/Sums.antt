@@ -11,14 +11,14 @@ pub abs-neg : (n : ℕ) → unsigned_abs (neg_ℤ (pos n)) ≡ n
 abs-neg zero = refl
 abs-neg (suc n) = refl
 
--- a sum is no larger than both together
+-- the absolute value of a sum is at most the sum of the absolute values
 pub plus-small : (a b : ℤ) → unsigned_abs (a +ℤ b) ≤ unsigned_abs a + unsigned_abs b
 plus-small (pos a) (pos b) = omega (arith, ints)
 plus-small (pos a) (negsuc b) = omega (arith, ints)
 plus-small (negsuc a) (pos b) = omega (arith, ints)
 plus-small (negsuc a) (negsuc b) = omega (arith, ints)
 
--- a number of 64 bits, as the prover's own words have it
+-- a number of 64 bits, as the prover states it
 pub fits-signed : (z : ℤ) → fits z ≡ true → FitsSigned w64 z
 fits-signed (pos n) h =
     let few : n < 2 ^ 63 = grind (arith, nat_tests) in
@@ -27,7 +27,7 @@ fits-signed (negsuc n) h =
     let few : n < 2 ^ 63 = grind (arith, nat_tests) in
     record { sfits = omega (arith, ints, few) }
 
--- a sum in 128 bits, a multiple, and a number of 64 bits in 128, as a call is passed it
+-- a sum in 128 bits, a multiple, and a number of 64 bits in 128, as arguments of a call
 pub sum-is : (r a b x y : ℤ) → FitsSigned w128 r → r ≡ a +ℤ b → a ≡ x → b ≡ y → to_z w128 (of_z w128 r) ≡ x +ℤ y
 sum-is r a b x y f e p q = to_z-of_z w128 r f ∙ e ∙ ap (λ z. z +ℤ b) p ∙ ap (λ z. x +ℤ z) q
 

@@ -15,8 +15,8 @@ refusal_of BadInput = BadSpec
 refusal_of (Run fault) = fault.refusal
 refusal_of (Unmade outcome) = NoMemory
 
--- At n nodes, with this many workers at each: the input is at fault, or the graph's pool has exactly the fault, or exactly the
--- outcome, that is returned.
+-- At n nodes, with this many workers at each: the input is at fault, or the graph's pool has exactly the fault, or
+-- exactly the outcome, that is returned.
 abbrev pub IsLentFault : ℕ → ℕ → Type 0 → TaskGraph → LentFault → Type 0
 IsLentFault n workers IsAtFault g BadInput = IsAtFault
 IsLentFault n workers IsAtFault g (Run fault) = IsFault n g fault

@@ -14,8 +14,8 @@ abbrev pub LeastEventsLaw : Type 0
 LeastEventsLaw = (n workers : ℕ) (g : TaskGraph) (o : Outcome) → IsOutcome n workers g o
     → 3 * g.tasks + 2 * o.messages ≤ count is_work (steps_of o.history.events)
 
--- What an outcome does not show: that each task got all its inputs but the first by a supply, and that there was a message for
--- each feed to another node, which was closed.
+-- What an outcome does not show: that each task got all its inputs but the first by a supply, and that there was a
+-- message for each feed to another node, which was closed.
 pub record IsFed (n : ℕ) (g : TaskGraph) (o : Outcome) : Type 0 where
   pub supplied : (t : ℕ) → count (is_supply_of t) (steps_of o.history.events) ≡ below g.tasks (λ u. g.arity u - 1) t
   pub messages : o.messages ≡ messages_of n g

@@ -4,8 +4,8 @@ use Rattle.tp_base.specs.declared.limits.TheConstants.{MAX_STEPS}
 use Rattle.pool_blocks.specs.Stencils.{blocks_of}
 pub use Rattle.pool_blocks.specs.Events.{all_events, step_events}
 
--- This many cells, in blocks of this size at this many nodes, take no step: there is none, a block is empty, or the events of a
--- single step exceed the limit.
+-- This many cells, in blocks of this size at this many nodes, take no step: there is none, a block is empty, or the
+-- events of a single step exceed the limit.
 abbrev pub TakeNoStep : ℕ → ℕ → ℕ → Type 0
 TakeNoStep cells size nodes = (cells ≡ 0) ⊎ ((size ≡ 0) ⊎ (MAX_STEPS < all_events (blocks_of cells size) nodes 1))
 

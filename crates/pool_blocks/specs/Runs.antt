@@ -9,7 +9,8 @@ use Rattle.tp_work.specs.declared.config.Outcome.{Outcome}
 abbrev pub HasRun : ℕ → ℕ → TaskGraph → Type 0
 HasRun n workers g = (o : Outcome) × IsOutcome n workers g o
 
--- There is no step; or the pool of the last of the steps, one or more, over the cells that those before gave, has an outcome.
+-- There is no step; or the pool of the last of the steps, one or more, over the cells that those before gave, has an
+-- outcome.
 abbrev pub HasRunInParts : ℕ → ℕ → Step → BlockStep → List ℤ → ℕ → ℕ → Type 0
 HasRunInParts n workers step next cells size steps =
     (steps ≡ 0) ⊎ ((done : ℕ) × (part : ℕ) × (1 ≤ part) × (done + part ≡ steps)

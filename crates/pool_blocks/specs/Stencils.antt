@@ -25,7 +25,8 @@ after step (suc steps) cells = step (after step steps cells)
 abbrev pub KeepsLength : Step → Type 0
 KeepsLength step = (cells : List ℤ) → length (step cells) ≡ length cells
 
--- For numbers of cells and sizes of blocks that are taken, each block of the cells after a step is what the block becomes.
+-- For numbers of cells and sizes of blocks that are taken, each block of the cells after a step is what the block
+-- becomes.
 abbrev pub IsByBlocks : (ℕ → ℕ → Bool) → Step → BlockStep → Type 0
 IsByBlocks takes step next = (cells : List ℤ) (size b : ℕ) → 1 ≤ size → takes (length cells) size ≡ true → b * size < length cells →
     block_of size b (step cells) ≡ next (block_before size b cells) (block_of size b cells) (block_behind size b cells)
@@ -40,8 +41,8 @@ KeepsFit next =
 abbrev pub blocks_of : ℕ → ℕ → ℕ
 blocks_of count size = (count - 1) / size + 1
 
--- what steps of a stencil require: a cell, blocks that have some, a count and a size that the stencil takes, and fewer than
--- 1,048,576 tasks, one for each block after each step
+-- what steps of a stencil require: a cell, blocks that have some, a count and a size that the stencil takes, and fewer
+-- than 1,048,576 tasks, one for each block after each step
 pub record AreSteps (takes : ℕ → ℕ → Bool) (count size steps : ℕ) : Type 0 where
   pub some_cells : 1 ≤ count
   pub some_size : 1 ≤ size
@@ -61,15 +62,16 @@ pub record IsCut (blocks : ℕ) (size : ℕ) (steps : ℕ) (count : ℕ) : Type 
   pub whole : count ≤ blocks * size
   pub few_tasks : (steps + 1) * blocks < 2 ^ 20
 
--- Tasks are the blocks after each step, numbered step by step: task t is block t % blocks after t / blocks steps. There is a
--- block before it unless it is the first of its step, and one after it unless it is the last: 1, or else 0.
+-- Tasks are the blocks after each step, numbered step by step: task t is block t % blocks after t / blocks steps. There
+-- is a block before it unless it is the first of its step, and one after it unless it is the last: 1, or else 0.
 abbrev pub befores : ℕ → ℕ → ℕ
 befores blocks t = if nat_lt 0 (t % blocks) then 1 else 0
 
 abbrev pub behinds : ℕ → ℕ → ℕ
 behinds blocks t = if nat_lt (t % blocks + 1) blocks then 1 else 0
 
--- the producer that fills slot s of task t: the block before, itself and the block after, as far as they exist, one step earlier
+-- the producer that fills slot s of task t: the block before, itself and the block after, as far as they exist, one
+-- step earlier
 abbrev pub source : ℕ → ℕ → ℕ → ℕ
 source blocks t s = t + s - (blocks + befores blocks t)
 
@@ -83,8 +85,8 @@ next_of next befores inputs =
     next (if nat_lt 0 befores then slice_index_or inputs 0 [] else []) (slice_index_or inputs befores [])
     (slice_index_or inputs (befores + 1) [])
 
--- The graph of this many steps. Neighbouring blocks run at the same node: each node has a range of them. Those after the last
--- step are kept.
+-- The graph of this many steps. Neighbouring blocks run at the same node: each node has a range of them. Those after
+-- the last step are kept.
 unfoldable pub block_graph : BlockStep → List ℤ → ℕ → ℕ → ℕ → TaskGraph
 block_graph next cells blocks size steps = record {
   tasks = (steps + 1) * blocks;

@@ -76,7 +76,7 @@ seen_wide r w t j n slot seen a b fed read many h =
     subst (λ x. x ≤ rank (λ c. r t c n) w) (rank_more_suc (λ c. r t c n) j fed) (rank_grows (λ c. r t c n) w (suc j) above) in
     (n, b, omega (arith, before, many, grows))
 
--- one column more of those that a column feeds, or one that it does not feed
+-- one more column of those that a column feeds, or one that it does not feed
 pub outputs_more : (r : Relation) (t j n slot : ℕ) (old now next : List Output) → r t j n ≡ true → slot ≡ rank (λ c. r t c n) j
     → now ≡ old ++ outputs_to r t j n →
     next ≡ now ++ record { column = n; slot = slot } ∷ [] → next ≡ old ++ outputs_to r t j (n + 1)

@@ -9,7 +9,7 @@ use Rattle.std.proofs.lemmas.List.Sums.{sum_by-cons}
 use Rattle.tp_graph.specs.Found.{HasEachOnce}
 use Rattle.tp_graph.specs.Serial.{Results}
 
--- a task that no result is of has none
+-- if no result is of a task, the task has none
 times-none : (t : ℕ) (results : Results) → All (λ r. r.0.0 ≢ t) results → count_by (λ r. r.0.0 == t) results ≡ 0
 times-none t [] h = refl
 times-none t (x ∷ xs) h =
@@ -23,7 +23,7 @@ has_one tasks t results once h none =
     let one : count_by (λ r. r.0.0 == t) results ≡ 1 = grind (arith, nat_tests, once t) in
     absurd (omega (arith, one, times-none t results none))
 
--- one column more
+-- one more column
 pub row_more : (v : ℕ → ℕ) (n next : ℕ) (row : List ℕ) → row ≡ map v (range_with_len 0 n) → next ≡ v n → row
     ++ next ∷ [] ≡ map v (range_with_len 0 (n + 1))
 row_more v n next row is here =

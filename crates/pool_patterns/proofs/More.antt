@@ -1,4 +1,4 @@
--- One number more.
+-- Ranks, n-th numbers and iterations, with one more number.
 use Rattle.std.proofs.Common.{◌≡◌, ◌<◌, ◌≤◌, ◌+◌, ℕ, zero, suc, Bool, true, false, if◌then◌else◌, refl, ap, sym, ◌∙◌, subst, arith, ⊎_elim}
 use Rattle.std.proofs.lemmas.Bool.{cases_lt}
 use Rattle.pool_patterns.specs.Ranks.{rank, nth, nth_is, rank_is}

@@ -78,7 +78,7 @@ module _ (r : Relation) (w steps period : ℕ) (spans : List Span) (all : List O
       (rw test none.1, (omega (arith, none.0, none.1), λ k d few. absurd (omega (arith, few, none.1)))))
       (cases_lt (q + 1) steps)
 
-  -- the entry of a task, by the look-ups that it is made of
+  -- the entry of a task, from the look-ups that compute it
   pub spot_is : (p q c arity : ℕ) (span : Span) (spot : Spot) → 0 < w → p < steps * w → q ≡ p / w → c ≡ p % w → (q ≡ 0 → arity ≡ 0)
       → (1 ≤ q → arity ≡ get_or arities ((q - 1) % period * w + c) 0) →
       (steps ≤ q + 1 → (span.start ≡ 0) × (span.count ≡ 0)) → ((d : Span) → q + 1 < steps → span ≡ get_or spans (q % period * w + c) d) →
@@ -108,7 +108,7 @@ module _ (r : Relation) (w steps period : ℕ) (spans : List Span) (all : List O
         kinds.arities_are.few (q % period * w + i) (kind_within q period steps w i some (omega arith) b),
       )
 
--- one spot more
+-- one more entry
 pub spots_more : (r : Relation) (w steps n : ℕ) (spots next : List Spot) (all : List Output) (spot : Spot)
     → AreSpots r w steps n spots all → IsSpot r w steps all n spot → next ≡ spots ++ spot ∷ [] →
     AreSpots r w steps (n + 1) next all

@@ -60,7 +60,7 @@ doublings_are w k m few low high is =
     let same : rank (λ i. nat_le (2 ^ (i + 1)) w) w ≡ k = powers_below w k w low high ∙ most w k within in
     (is ∙ ap (λ x. max x 1) (sym same), omega (arith, is, under))
 
--- a row later by the width
+-- after w rows the column is the same again
 fifth_again : (w t seed i k : ℕ) → 1 ≤ t → fifth w (t + w) seed i k ≡ fifth w t seed i k
 fifth_again w t seed i k some =
     let later : i + k * w / 5 + (t + w - 1) + seed ≡ (i + k * w / 5 + (t - 1) + seed) + w = omega arith in

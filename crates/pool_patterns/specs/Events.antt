@@ -14,8 +14,8 @@ events_below r w (suc p) = events_below r w p + task_events (inputs r w (p / w) 
 abbrev pub grid_events : Relation → ℕ → ℕ → ℕ
 grid_events r w steps = events_below r w (steps * w)
 
--- Whatever its tasks compute, these and 3 for each message are the events that are counted on its graph, and at one node there is
--- no message.
+-- Whatever its tasks compute, these and 3 for each message are the events that are counted on its graph, and at one
+-- node there is no message.
 abbrev pub GridEventsLaw : Type 0
 GridEventsLaw = (r : Relation) (w steps : ℕ) (rule : ℕ → List (List ℤ) → Option (List ℤ)) (nodes : ℕ)
     → events_of nodes (grid_graph r w steps rule) ≡ grid_events r w steps + 3 * messages_of nodes (grid_graph r w steps rule)

@@ -1,5 +1,5 @@
--- The graph of a grid keeps the invariant of task graphs, whatever its relation: the s-th of those that feed a column and the
--- rank among them are inverse to each other.
+-- The graph of a grid keeps the invariant of task graphs, whatever its relation: the s-th of those that feed a column
+-- and the rank among them are inverse to each other.
 use Rattle.std.proofs.Common.{◌≡◌, ◌<◌, ◌≤◌, ◌+◌, ◌*◌, ◌/◌, ◌%◌, ℕ, zero, suc, Bool, true, false, ℤ, List, Option, if◌then◌else◌, nat_lt}
 use Rattle.std.proofs.Common.{refl, ap, sym, ◌∙◌, subst, arith}
 use Rattle.std.proofs.lemmas.Bool.{lt-ltb, ltb-true}

@@ -19,7 +19,8 @@ picked f v (suc n) = if f n then picked f v n ++ v n ∷ [] else picked f v n
 abbrev pub outputs_to : Relation → ℕ → ℕ → ℕ → List Output
 outputs_to r t j n = picked (λ i. r t j i) (λ i. record { column = i; slot = rank (λ c. r t c i) j }) n
 
--- How many of the columns before column j feed each column of row t, and of those below n column j as well; none more than 16.
+-- How many of the columns before column j feed each column of row t, and of those below n column j as well; none more
+-- than 16.
 pub record AreSeen (r : Relation) (w t j n : ℕ) (seen : List ℕ) : Type 0 where
   pub long : length seen ≡ w
   pub done : (i : ℕ) → i < n → i < w → slice_index_or seen i 0 ≡ rank (λ c. r t c i) (suc j)
@@ -38,7 +39,8 @@ pub record AreArities (r : Relation) (w n : ℕ) (arities : List ℕ) : Type 0 w
   pub each : (p : ℕ) → p < n → slice_index_or arities p 0 ≡ rank (λ j. r (suc (p / w)) j (p % w)) w
   pub few : (p : ℕ) → p < n → slice_index_or arities p 0 ≤ 16
 
--- why the outputs of a column, or of a row, are not computed: a column of row t has more than 16 inputs, or an allocation failed
+-- why the outputs of a column, or of a row, are not computed: a column of row t has more than 16 inputs, or an
+-- allocation failed
 abbrev pub IsRowFault : Relation → ℕ → ℕ → TableFault → Type 0
 IsRowFault r w t TooManyInputs = (i : ℕ) × (i < w) × (16 < rank (λ j. r t j i) w)
 IsRowFault r w t NoMemory = ⊤

@@ -12,7 +12,8 @@ abbrev pub refusal_of : PatternFault → Refusal
 refusal_of (Run fault) = fault.refusal
 refusal_of (Unmade outcome) = NoMemory
 
--- At n nodes, with this many workers at each, the graph's pool has exactly the fault, or exactly the outcome, that is returned.
+-- At n nodes, with this many workers at each, the graph's pool has exactly the fault, or exactly the outcome, that is
+-- returned.
 abbrev pub IsPatternFault : ℕ → ℕ → TaskGraph → PatternFault → Type 0
 IsPatternFault n workers g (Run fault) = IsFault n g fault
 IsPatternFault n workers g (Unmade outcome) = IsOutcome n workers g outcome

@@ -82,7 +82,7 @@ module _ (graph : AnyGraph) (results : Results) (k : ℕ) (r : TaskId
       (found_more other (get_or values other None) (λ e. ne (only other h (sym e))) (index other h)))
       (cases_eq other rank)
 
--- a list of one thing, with that thing beyond its end
+-- a list of equal elements, with the same default after its end
 pub get_or-replicate_same : {A : Type 0} (n i : ℕ) (a : A) → get_or (replicate n a) i a ≡ a
 get_or-replicate_same zero i a = refl
 get_or-replicate_same (suc n) zero a = refl

@@ -42,7 +42,7 @@ pub pushed : {A : Type 0} (xs before now : List A) (count : ℕ) (f : ℕ → A)
 pushed xs before now count f next same is here =
     is ∙ ap (λ l. l ++ next ∷ []) same ∙ ap (λ y. (xs ++ list_of count f) ++ y ∷ []) here ∙ sym (list_more xs count f)
 
--- as many more as g has
+-- a list of the numbers of f, and one of those that follow
 list-joined : {A : Type 0} (m n : ℕ) (f g : ℕ → A) → ((c : ℕ) → c < n → g c ≡ f (m + c)) → list_of m f ++ list_of n g ≡ list_of (m + n) f
 list-joined m zero f g h = let none : m + 0 ≡ m = omega arith in append-nil (list_of m f) ∙ ap (λ k. list_of k f) (sym none)
 list-joined m (suc n) f g h =
@@ -149,7 +149,7 @@ add_ends a b sums k long as_long h same fit =
     let fit' : all_fit (add_lists a b) ≡ true = ap all_fit (sym all ∙ sym whole) ∙ fit in
     rw (long, nat-same (length b)) (rw fit' (ap Some (sym all)))
 
--- lists of unlike lengths
+-- lists of different lengths
 pub add_unlike : (a b : List ℤ) → (length a ≡ length b → ⊥) → added a b ≡ None
 add_unlike a b h = let no : nat_eq (length a) (length b) ≡ false = grind (arith, nat_tests) in rw no refl
 

@@ -14,14 +14,15 @@ pub record Table : Type 0 where
   pub columns : ℕ
   pub at : ℕ → ℕ → ℤ
 
--- The plain result: the product of the two matrices, each entry one sum over all z; the recurrence over a table of costs;
--- the sum of the leaves.
+-- The plain result: the product of the two matrices, each entry one sum over all z; the recurrence over a table of
+-- costs; the sum of the leaves.
 abbrev pub table_of : AnyGraph → Table
 table_of (pool.Product p) = record { rows = p.tiles * p.side; columns = p.tiles * p.side; at = λ x y. entry (p.tiles * p.side) p.seed x y }
 table_of (pool.Wavefront w) = record { rows = w.rows; columns = w.columns; at = λ i j. pos (cell w.seed i j) }
 table_of (pool.Reduce r) = record { rows = 1; columns = 1; at = λ i j. pos (sum_of_leaves r.seed r.leaves) }
 
--- The task whose value has a cell of the table: the last task that adds to the cell's tile; the cell's own task; the root.
+-- The task whose value has a cell of the table: the last task that adds to the cell's tile; the cell's own task; the
+-- root.
 abbrev pub task_at : AnyGraph → ℕ → ℕ → ℕ
 task_at (pool.Product p) x y = ((x / p.side) * p.tiles + y / p.side) * p.tiles + (p.tiles - 1)
 task_at (pool.Wavefront w) i j = i * w.columns + j

@@ -1,4 +1,5 @@
--- The graph of a tree of sums keeps the invariant of task graphs: feeds go to higher tasks, and each slot has exactly one.
+-- The graph of a tree of sums keeps the invariant of task graphs: feeds go to higher tasks, and each slot has exactly
+-- one.
 use Rattle.std.proofs.Common.{◌<◌, ◌-◌, ◌*◌, ℕ, arith}
 use Rattle.std.proofs.lemmas.Bool.Decides.{nat_tests}
 use Rattle.tp_graph.specs.Graphs.{IsLawful, FillsSlot, IsFilled}

@@ -14,8 +14,8 @@ two_numbers a b = joined (decimal a) (decimal b)
 abbrev pub three_numbers : ℕ → ℕ → ℕ → List ℕ
 three_numbers a b c = joined (decimal a) (two_numbers b c)
 
--- The specification of a graph: its kind and its numbers, joined by colons. Those of a product are its order, the side of a tile
--- and the seed.
+-- The specification of a graph: its kind and its numbers, joined by colons. Those of a product are its order, the side
+-- of a tile and the seed.
 abbrev pub word_of : AnyGraph → List ℕ
 word_of (pool.Product p) = joined (codes "product") (three_numbers (p.tiles * p.side) p.side p.seed)
 word_of (pool.Wavefront w) = joined (codes "wavefront") (three_numbers w.rows w.columns w.seed)

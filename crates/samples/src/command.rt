@@ -5,17 +5,17 @@ use clap::{Arg, ArgAction, Command, value_parser};
 use std::alloc::{AllocError, Global};
 use tp_shell::{VERSION, with_counts};
 
-/// The program's command line.
+/// Returns the program's command line.
 pub(crate) fn samples_command<'a>(alloc: Global) -> Result<Command<'a>, AllocError> {
     // `draw` reads its own arguments: here it only has a line of the help.
     let draw = Command::new(alloc, "draw").about(
-        "Pictures of runs of pools, and of their graphs, as SVG",
+        "Draws runs of pools, and their task graphs, as SVG",
     );
     Command::new(alloc, "samples")
         .bin_name("samples")?
         .version(VERSION)
         .propagate_version(true)
-        .about("Pools of threads over data that are read, grids of tasks, and pictures of runs")
+        .about("Sample pools: computations over input data, grids of tasks, and pictures of runs")
         .after_help(SAMPLES_HELP)
         .subcommand_required(true)
         .subcommand(heat_command(alloc)?)?
@@ -27,7 +27,7 @@ pub(crate) fn samples_command<'a>(alloc: Global) -> Result<Command<'a>, AllocErr
 
 fn heat_command<'a>(alloc: Global) -> Result<Command<'a>, AllocError> {
     let command = Command::new(alloc, "heat")
-        .about("Heat in a rod of cells, worked out in blocks by a pool of threads")
+        .about("Computes the heat in a rod of cells, in blocks, by a pool of threads")
         .after_help(HEAT_HELP)
         .arg(steps_argument(alloc, "How many steps the rod takes"))?
         .arg(size_argument(alloc, "BLOCK", "How many cells a block has, 1 or more"))?;
@@ -37,7 +37,7 @@ fn heat_command<'a>(alloc: Global) -> Result<Command<'a>, AllocError> {
 fn product_command<'a>(alloc: Global) -> Result<Command<'a>, AllocError> {
     let help = "How many rows and columns a tile has, 1 or more";
     let command = Command::new(alloc, "product")
-        .about("The product of two matrices, worked out in tiles by a pool of threads")
+        .about("Computes the product of two matrices, in tiles, by a pool of threads")
         .after_help(PRODUCT_HELP)
         .arg(size_argument(alloc, "SIDE", help))?;
     with_counts(alloc, command)?.arg(quiet_flag(alloc))
@@ -46,35 +46,35 @@ fn product_command<'a>(alloc: Global) -> Result<Command<'a>, AllocError> {
 fn relax_command<'a>(alloc: Global) -> Result<Command<'a>, AllocError> {
     let help = "How many rows a block has, 1 or more";
     let command = Command::new(alloc, "relax")
-        .about("A grid of cells relaxed by five points, worked out in blocks by a pool of threads")
+        .about("Relaxes a grid of cells by a five-point stencil, in blocks, by a pool of threads")
         .after_help(RELAX_HELP)
         .arg(steps_argument(alloc, "How many steps the grid takes"))?
         .arg(size_argument(alloc, "ROWS_A_BLOCK", help))?;
     with_counts(alloc, command)?.arg(quiet_flag(alloc))
 }
 
-/// The command line of `patterns`. Its arguments are not required with `--list`.
+/// Returns the command line of `patterns`. Its arguments are not required with `--list`.
 pub(crate) fn patterns_command<'a>(alloc: Global) -> Result<Command<'a>, AllocError> {
     let pattern = Arg::new(alloc, "PATTERN").help(
-        "The pattern's name; `samples patterns --list` names all",
+        "The pattern's name; `samples patterns --list` lists all",
     );
     let width = size_argument(alloc, "WIDTH", "How many columns a row has, 1 or more");
     let steps = size_argument(alloc, "STEPS", "How many rows there are, 1 or more");
     let iterations = Arg::new(alloc, "ITERATIONS")
         .value_parser(value_parser!(u64))
-        .help("How many times each task stirs its number");
+        .help("How many times each task runs the kernel");
     let list = Arg::new(alloc, "list")
         .long("list")
         .action(ArgAction::SetTrue)
-        .help("Names the patterns, each with who feeds a column");
+        .help("Lists the patterns, each with the columns that feed a column");
     let radius = option(alloc, "radius", "K", "1").help(
-        "How many columns to each side feed one, in nearest and random_nearest",
+        "How many columns to each side feed a column, in nearest and random_nearest",
     );
     let seed = option(alloc, "seed", "S", "0").help(
-        "By how much spread is moved, and what random_nearest draws",
+        "The shift of spread, and the random seed of random_nearest",
     );
     let command = Command::new(alloc, "patterns")
-        .about("Task Bench's patterns: grids of tasks, run by a pool of threads")
+        .about("Runs a grid of tasks, one of Task Bench's patterns, by a pool of threads")
         .after_help(PATTERNS_HELP)
         .arg(pattern)?
         .arg(width.required(false))?
@@ -93,7 +93,7 @@ fn steps_argument<'a>(alloc: Global, help: &'a str) -> Arg<'a> {
         .help(help)
 }
 
-/// An argument that takes a number of 32 bits, 1 or more.
+/// Returns an argument that takes a number of 32 bits, 1 or more.
 fn size_argument<'a>(alloc: Global, name: &'a str, help: &'a str) -> Arg<'a> {
     Arg::new(alloc, name)
         .required(true)
@@ -101,7 +101,7 @@ fn size_argument<'a>(alloc: Global, name: &'a str, help: &'a str) -> Arg<'a> {
         .help(help)
 }
 
-/// An option that takes a number of 32 bits.
+/// Returns an option that takes a number of 32 bits.
 fn option<'a>(alloc: Global, name: &'a str, value: &'a str, default: &'a str) -> Arg<'a> {
     Arg::new(alloc, name)
         .long(name)
@@ -114,5 +114,5 @@ fn quiet_flag<'a>(alloc: Global) -> Arg<'a> {
     Arg::new(alloc, "quiet")
         .long("quiet")
         .action(ArgAction::SetTrue)
-        .help("Tells a terminal neither what is read nor how far the run is")
+        .help("Shows no prompt and no progress on a terminal")
 }

@@ -15,7 +15,7 @@ use tp_shell::{ReadFault, WordsFault};
 pub(crate) enum Fault {
     #[error("{0}")]
     Arguments(String),
-    #[error("the words are not UTF-8")]
+    #[error("the arguments are not UTF-8")]
     NotUtf8,
     #[error("PATTERN is none of those that `samples patterns --list` names")]
     NoPattern,
@@ -42,13 +42,13 @@ pub(crate) enum InputFault {
     NoNumber,
     #[error("the input has no line")]
     NoLine,
-    #[error("line {0} is no whole number of 64 bits")]
+    #[error("line {0} is not a 64-bit integer")]
     BadNumber(u64),
-    #[error("line {0} is not whole numbers of 64 bits by single spaces")]
+    #[error("line {0} is not 64-bit integers separated by single spaces")]
     BadRow(u64),
-    #[error("line {line} has {has} {numbers} where {due} {are} due", numbers = noun(*has), are = verb(*due))]
+    #[error("line {line} has {has} {numbers} instead of {due}", numbers = noun(*has))]
     Uneven { line: u64, has: usize, due: usize },
-    #[error("line {0} is not empty: an empty line is due between the matrices")]
+    #[error("line {0} is not empty: an empty line has to separate the matrices")]
     NotEmpty(u64),
     #[error("line {0} is one too many: the matrices are complete")]
     Extra(u64),
@@ -76,13 +76,9 @@ fn noun(count: usize) -> &'static str {
     if count == 1 { "number" } else { "numbers" }
 }
 
-fn verb(count: usize) -> &'static str {
-    if count == 1 { "is" } else { "are" }
-}
-
 impl Fault {
-    /// The exit status: 1 for the arguments, the reading and the writing, 2 for an input without a run, 3 for a refused run
-    /// and for allocation failure.
+    /// Returns the exit status: 1 for the arguments, the reading and the writing, 2 for an input without a run, 3 for a
+    /// refused run and for allocation failure.
     fn status(&self) -> u8
         ensures { (1 ≤ result) × (result ≤ 3) }
     {
@@ -95,7 +91,7 @@ impl Fault {
     }
 }
 
-/// The exit status of an outcome. A fault is printed as a line.
+/// Returns the exit status of an outcome, and prints a fault as a line.
 pub(crate) fn status_of<E: Write>(outcome: Result<(), Fault>, err: &mut E) -> u8
     // The status is 0 only if all was printed.
     ensures { MatchResult outcome (λ _. result ≡ 0) (λ _. (1 ≤ result) × (result ≤ 3)) }
@@ -140,7 +136,7 @@ impl From<Refusal> for Fault {
 impl From<LentFault> for Fault {
     fn from(fault: LentFault) -> Self {
         match fault {
-            // There are cells, in whole rows, and a block is of some: only the events of a step are left.
+            // There are cells, in whole rows, and a block has some. So the fault is the number of events of a step.
             LentFault::BadInput => Fault::Input(InputFault::LongStep),
             _ => Fault::from(fault.refusal()),
         }

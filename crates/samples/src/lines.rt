@@ -11,7 +11,7 @@ pub(crate) struct Rows {
     pub(crate) numbers: Vec<i64>,
 }
 
-/// The numbers of a text, one a line.
+/// Parses the numbers of a text, one per line.
 pub(crate) fn numbers_of(alloc: Global, text: &str) -> Result<Vec<i64>, Fault> {
     let mut numbers = Vec::new(alloc);
     let mut place = 0u64;
@@ -28,7 +28,7 @@ pub(crate) fn numbers_of(alloc: Global, text: &str) -> Result<Vec<i64>, Fault> {
     Ok(numbers)
 }
 
-/// The grid of a text: each line is a row, as long as the first.
+/// Parses the grid of a text: each line is a row, as long as the first.
 pub(crate) fn rows_of(alloc: Global, text: &str) -> Result<Rows, Fault> {
     let mut numbers = Vec::new(alloc);
     let (mut width, mut place) = (0, 0u64);
@@ -46,7 +46,7 @@ pub(crate) fn rows_of(alloc: Global, text: &str) -> Result<Rows, Fault> {
     Ok(Rows { width, numbers })
 }
 
-/// Appends the numbers of a line, which single spaces separate, and returns how many there are.
+/// Appends the numbers of a line, separated by single spaces, and returns how many there are.
 pub(crate) fn push_row(numbers: &mut Vec<i64>, line: &str, place: u64) -> Result<usize, Fault> {
     let mut count = 0usize;
     for part in line.split(' ') {
@@ -77,7 +77,7 @@ pub(crate) fn push_row_of(
     Ok(())
 }
 
-/// Numbers as lines of `width` numbers each.
+/// Returns numbers as lines of `width` numbers each.
 pub(crate) fn text_of(alloc: Global, width: usize, numbers: &[i64]) -> Result<Vec<u8>, AllocError> {
     let mut text = Vec::new(alloc);
     let mut left = width;

@@ -1,4 +1,5 @@
-//! The program `samples`: pools of threads over data that it reads, grids of tasks by pattern, and pictures of runs and graphs.
+//! The program `samples`: pools of threads over data that it reads, grids of tasks by pattern, and pictures of runs and
+//! graphs.
 #![tactic(auto)]
 
 mod command;
@@ -41,7 +42,7 @@ fn main(rt: HostRuntime) -> ExitCode {
     ExitCode::from(status_of(outcome, &mut err))
 }
 
-/// Why there are no arguments: there is no memory for them, or one is not UTF-8.
+/// Returns why there are no arguments: an allocation failed, or one of them is not UTF-8.
 fn without_arguments(kind: ErrorKind) -> Fault {
     match kind {
         ErrorKind::OutOfMemory => Fault::Memory(AllocError),
@@ -63,7 +64,7 @@ fn draw<I: Read, O: Write, E: Write>(
     }
 }
 
-/// The arguments after the name that usage lines show.
+/// Returns the arguments, after the name that usage lines show.
 fn with_name<'a>(
     alloc: Global,
     name: &'a str,

@@ -13,7 +13,7 @@ pub(crate) struct Matrices {
     pub(crate) right: Vec<i64>,
 }
 
-/// The matrices of a text: the rows of the first as lines, an empty line, the rows of the second.
+/// Parses the matrices of a text: the rows of the first as lines, an empty line, the rows of the second.
 pub(crate) fn matrices_of(alloc: Global, text: &str) -> Result<Matrices, Fault> {
     let mut matrices = Matrices {
         order: 0,
@@ -29,7 +29,7 @@ pub(crate) fn matrices_of(alloc: Global, text: &str) -> Result<Matrices, Fault> 
         return Err(Fault::Input(InputFault::NoLine));
     }
     let order = matrices.order;
-    // The rows of both and the line between them.
+    // There have to be the rows of both and the line between them.
     if place <= order.saturating_mul(2) {
         return Err(Fault::Input(InputFault::Missing {
             line: (place as u64).saturating_add(1),
@@ -40,7 +40,7 @@ pub(crate) fn matrices_of(alloc: Global, text: &str) -> Result<Matrices, Fault> 
 }
 
 impl Matrices {
-    /// Takes the line at a place, counted from 1. The first line says how many columns there are.
+    /// Takes the line at a place, counted from 1. The first line determines the number of columns.
     fn take(&mut self, line: &str, place: usize) -> Result<(), Fault> {
         let (order, at) = (self.order, place as u64);
         if place == 1 {

@@ -10,7 +10,7 @@ use std::sync::Wait;
 use std::thread::Threads;
 use tp_work::Config;
 
-/// The lines of a run of a grid.
+/// Runs a grid, and returns the lines of its result.
 pub(crate) fn pattern_text<R: Threads + Wait + Sync>(
     rt: &R,
     alloc: Global,
@@ -31,7 +31,7 @@ pub(crate) fn pattern_text<R: Threads + Wait + Sync>(
 }
 
 impl PatternGrid<'_> {
-    /// The pattern of the name, with its radius and its seed.
+    /// Returns the pattern of the name, with its radius and its seed.
     fn pattern(&self) -> Option<Pattern> {
         let (radius, seed) = (self.radius, self.seed);
         match self.name {
@@ -52,8 +52,8 @@ impl PatternGrid<'_> {
 }
 
 /// The names of the patterns, each with the columns that feed a column.
-pub(crate) static NAMES: &str = "trivial           nobody: a task has no inputs
-no_comm           itself: chains that know nothing of each other
+pub(crate) static NAMES: &str = "trivial           none: a task has no inputs
+no_comm           itself: the columns are independent chains
 stencil           itself and its two neighbours
 stencil_periodic  the same, and the first and the last column are neighbours
 dom               itself and its left neighbour

@@ -50,7 +50,7 @@ pub(crate) struct PatternGrid<'a> {
     pub(crate) seed: u32,
 }
 
-/// What the arguments ask for, the program's name first.
+/// Returns what the arguments ask for. The first is the program's name.
 pub(crate) fn requested<'a>(alloc: Global, arguments: &'a [&'a str]) -> Result<Request<'a>, Error>
     ensures { IfOk result (λ request. IsWithinLimits request.config) }
 {
@@ -70,7 +70,7 @@ pub(crate) fn requested<'a>(alloc: Global, arguments: &'a [&'a str]) -> Result<R
     )?)
 }
 
-/// A request with the options that all subcommands share.
+/// Returns a request with the options that all subcommands share.
 fn request_of<'a>(work: Work<'a>, matches: &ArgMatches<'a>) -> Request<'a>
     ensures limits { IsWithinLimits result.config }
     ensures asked { AreCountsIn (rows_of (found_of matches.now)) result.config.nodes result.config.workers }

@@ -1,5 +1,5 @@
-//! The runs over numbers: rod, product and grid. What each returns is, by contract, the plain result, computed by a pool of the
-//! nodes and workers that were asked for.
+//! The runs over numbers: rod, product and grid. What each returns is, by contract, the plain result, computed by a
+//! pool of the nodes and workers that were asked for.
 
 ghost use Rattle.std.specs.Prelude.{◌≡◌, ◌*◌, ◌/◌, IfOk};
 ghost use Rattle.pool_blocks.specs.Runs.{HasRun, HasRunInParts};
@@ -20,7 +20,7 @@ use std::thread::Threads;
 use tp_base::Refusal;
 use tp_work::{Config, Progress, run_pool_counted};
 
-/// The rod after `steps` steps, in blocks of `block` cells.
+/// Returns the rod after `steps` steps, computed in blocks of `block` cells.
 pub(crate) fn heat<R: Threads + Wait + Sync>(
     rt: &R,
     alloc: Global,
@@ -47,7 +47,7 @@ pub(crate) fn heat<R: Threads + Wait + Sync>(
     Ok(rod)
 }
 
-/// The grid after `steps` steps, in blocks of `rows` rows.
+/// Returns the grid after `steps` steps, computed in blocks of `rows` rows.
 pub(crate) fn relax<R: Threads + Wait + Sync>(
     rt: &R,
     alloc: Global,
@@ -78,7 +78,7 @@ pub(crate) fn relax<R: Threads + Wait + Sync>(
     Ok(grid)
 }
 
-/// The product of two matrices of `order` rows and columns, in tiles of `side`.
+/// Returns the product of two matrices of `order` rows and columns, computed in tiles of `side`.
 pub(crate) fn product<R: Threads + Wait + Sync>(
     rt: &R,
     alloc: Global,
@@ -104,7 +104,7 @@ pub(crate) fn product<R: Threads + Wait + Sync>(
     Ok(made)
 }
 
-/// A body of a product fails only if a number leaves 64 bits.
+/// Returns the fault for the refusal of a product. One of its bodies fails only if a number does not fit 64 bits.
 fn product_fault(refusal: Refusal) -> Fault {
     match refusal {
         Refusal::BodyFailed => Fault::Overflow,

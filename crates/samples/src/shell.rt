@@ -54,7 +54,7 @@ fn written<O: Write>(out: &mut O, text: &[u8]) -> Result<(), Fault> {
     write_text(out, text).map_err(|_| Fault::Unwritten)
 }
 
-/// The text that a sample makes of all its input.
+/// Reads all input, and returns the text that a sample computes from it.
 fn text_of_input<R: Threads + Wait + Sync, I: Source, W: Write + Send + Drop>(
     rt: &R,
     alloc: Global,
@@ -89,7 +89,7 @@ fn text_of_input<R: Threads + Wait + Sync, I: Source, W: Write + Send + Drop>(
 }
 
 impl Sample {
-    /// What a terminal shows before the input is read.
+    /// Returns what a terminal shows before the input is read.
     fn invitation(self) -> &'static str {
         match self {
             Sample::Heat { .. } => {

@@ -3,8 +3,8 @@
 use crate::fault::InputFault;
 use tp_base::MAX_STEPS;
 
-/// The order of the matrices, if tiles of `side` rows and columns fill them and the product's run on `nodes` nodes has no more
-/// events than a run may have.
+/// Returns the order of the matrices, if tiles of `side` rows and columns fill them and the product's run on `nodes`
+/// nodes has no more events than a run may have.
 pub(crate) fn tiled_order(order: usize, side: u32, nodes: u32) -> Result<u32, InputFault> {
     if order >= 1 << 15 {
         return Err(InputFault::LargeMatrices);
@@ -19,7 +19,7 @@ pub(crate) fn tiled_order(order: usize, side: u32, nodes: u32) -> Result<u32, In
     Ok(order)
 }
 
-/// The events of a product of `tiles` tiles along a side: 3 a task and 3 a message.
+/// Returns the number of events of a product of `tiles` tiles along a side: 3 per task and 3 per message.
 fn product_events(tiles: u32, nodes: u32) -> u64 {
     let tiles = u64::from(tiles);
     let square = tiles.saturating_mul(tiles);

@@ -11,7 +11,7 @@ const PLAIN: Answer = Ok(Reply::Plain);
 
 const TASK: TaskId = TaskId(1);
 
-/// The first step whose reply or whose pending number of node 0 differs from its row, with both.
+/// Returns the first step whose reply, or after which the pending number of node 0, differs from its row, with both.
 fn first_wrong(core: &mut Core, rows: &[(Step, Answer, u32)]) -> Option<(Step, Answer, u32)> {
     for (step, answer, pending) in rows {
         let made = (core.step(*step), core.numbers().nodes[0].pending);
@@ -54,7 +54,7 @@ fn turns(alloc: Global, count: u32) -> Result<Vec<Step>, AllocError> {
     Ok(steps)
 }
 
-/// Whether a new core of two nodes takes each of these steps in one call, how many it has then, and the pending number of node 0.
+/// Returns whether a new core of two nodes takes all these steps in one call, their number then, and node 0's pending number.
 fn taken(alloc: Global, steps: &[Step]) -> Result<(bool, usize, u32), Refusal> {
     let mut core = Core::new(alloc, 2);
     let answers = core.run(alloc, steps)?;

@@ -1,5 +1,6 @@
-//! Tests of the parts of a pool without threads: each call that can be refused memory, slots, the core, a pool of tasks, and two
-//! processes of a distributed program. They are apart from the crates that they test, whose functions would else be proved once more with them.
+//! Tests of the parts of a pool without threads: each call that can fail to allocate, slots, the core, a pool of tasks,
+//! and two processes of a distributed program. In the crates that they test, all functions would be proved once more with
+//! the tests.
 #![tactic(auto)]
 
 #[cfg(test)]

@@ -1,5 +1,5 @@
-//! Each call of a pool's parts that can be refused memory, once with ample memory. Each of its growths is refused in turn by
-//! tools/dev limits refuse-tests; docs/MEMORY.md has the table.
+//! Each call of a pool's parts that can fail to allocate, once with enough memory. tools/dev limits refuse-tests makes
+//! each allocation fail in turn; docs/measurements/out-of-memory.md has the results.
 
 ghost use Rattle.std.specs.Prelude.{◌≡◌};
 
@@ -43,7 +43,7 @@ impl Routed for Letter {
     }
 }
 
-/// One of each part that takes memory.
+/// One of each part that allocates.
 #[derive(Drop)]
 struct Parts {
     table: Table<u32>,
@@ -54,7 +54,7 @@ struct Parts {
     builder: ValueBuilder,
 }
 
-/// A call that can be refused memory.
+/// A call that can fail to allocate.
 #[derive(Clone, Copy)]
 enum Call {
     TableInsert(u32),
@@ -65,14 +65,14 @@ enum Call {
     CoreStep(Step),
     CoreRun(Step),
     CoreSettle,
-    /// Takes the core to its end, which fills a piece of the list of its steps.
+    /// Settles the core, which fills a piece of the list of its steps.
     CoreToEnd,
     BuilderMake(usize),
     BuilderPush(i64),
     BuilderExtend(&'static [i64]),
     /// Whether the value has these numbers.
     BuilderEnd(&'static [i64]),
-    /// These change no part.
+    /// The following calls change no part.
     RunSlots,
     PrintTable(&'static str),
 }
@@ -90,7 +90,7 @@ const WAVE: [Step; 6] = [
     Step::Judge,
 ];
 
-/// Numbers folded into one, another one for other numbers but by chance.
+/// Returns a hash of numbers.
 #[derive(Clone, Copy, PartialEq, Eq)]
 struct Folded(u64);
 
@@ -118,7 +118,7 @@ impl Parts {
 }
 
 impl Parts {
-    /// The result of a call: `Missing` if a moved value does not come back as it was.
+    /// Returns the result of a call: `Missing` if a moved value does not come back as it was.
     fn answer(&mut self, alloc: Global, call: Call) -> Result<u32, Refusal> {
         match call {
             Call::TableInsert(number) => done(self.table.insert(number, number)),
@@ -130,7 +130,7 @@ impl Parts {
         }
     }
 
-    /// The result of one of the other calls.
+    /// Returns the result of one of the other calls.
     fn answer_of_all(&mut self, alloc: Global, call: Call) -> Result<u32, Refusal> {
         match call {
             Call::CoreStep(step) => taken(self.core.step(step)),
@@ -150,7 +150,7 @@ impl Parts {
         }
     }
 
-    /// Makes the value: `Missing` if it has not these numbers. When it is refused, the builder comes back.
+    /// Builds the value: `Missing` if it does not have these numbers. If that fails, the builder comes back.
     fn end_of_builder(&mut self, alloc: Global, wanted: &[i64]) -> Result<u32, Refusal> {
         match mem::replace(&mut self.builder, ValueBuilder::new(alloc)).into_value() {
             Ok(value) if value.as_slice() == wanted => DONE,
@@ -162,7 +162,7 @@ impl Parts {
         }
     }
 
-    /// All that can be read of the parts, folded into one number.
+    /// Returns a hash of all that can be read of the parts.
     fn content(&self) -> Folded {
         let mut folded = Folded(1);
         for number in [0, 7, 8, 999_999, 4_000_000_000] {
@@ -193,7 +193,7 @@ impl Parts {
         folded
     }
 
-    /// The result of a call, which is made again if memory was refused and nothing was changed.
+    /// Returns the result of a call, which is repeated if it failed to allocate and changed nothing.
     fn tried<R: Eprint>(
         &mut self,
         rt: &R,
@@ -214,7 +214,7 @@ impl Parts {
     }
 }
 
-/// Makes room in a history, in which these tests record nothing.
+/// Reserves room in a history, in which these tests record nothing.
 fn reserve(history: &mut History, room: u32) -> Result<u32, Refusal> {
     if !history.is_empty() {
         return Err(Refusal::Stranger);
@@ -260,8 +260,8 @@ fn taken(answer: Result<Reply, Refusal>) -> Result<u32, Refusal> {
     }
 }
 
-/// Takes the 1,000 steps that lead a core over two nodes from its 24th step, a reopening, to its end. The first of them alone asks for
-/// memory.
+/// Takes the 1,000 steps that lead a core over two nodes from its 24th step, a reopening, to its end. Only the first of
+/// them allocates.
 fn to_end(core: &mut Core) -> Result<u32, Refusal> {
     for _ in 0..493 {
         core.step(Step::ActionOpen(NodeId(0), ActionId(3)))?;
@@ -286,7 +286,7 @@ fn run_one(alloc: Global, core: &mut Core, step: Step) -> Result<u32, Refusal> {
     }
 }
 
-/// How many replies both kinds of slots give together.
+/// Returns the number of replies of both kinds of slots.
 fn run_slots_of_both(alloc: Global) -> Result<u32, Refusal> {
     let commands = [
         Command::Take(7),
@@ -298,7 +298,7 @@ fn run_slots_of_both(alloc: Global) -> Result<u32, Refusal> {
     Ok(count_of(in_slab.len()).saturating_add(count_of(in_raw.len())))
 }
 
-/// What is printed of the values of a pool, each worked out on one thread.
+/// Returns what is printed of the values of a pool, each computed on one thread.
 fn text_of_table(alloc: Global, word: &str) -> Result<Vec<u8>, Refusal> {
     let graph = checked(word)?;
     let results = serial(alloc, graph)?;
@@ -335,7 +335,7 @@ fn of_counts(folded: Folded, counts: Counts) -> Folded {
 /// A call with its name, and the result that it must have.
 type Row = (&'static str, Call, Result<u32, Refusal>);
 
-/// The first call whose result differs from its row, with the result.
+/// Returns the first call whose result differs from its row, with the result.
 fn first_wrong<R: Eprint>(
     rt: &R,
     alloc: Global,
@@ -448,7 +448,7 @@ fn memory_that_is_refused_changes_nothing(rt: HostRuntime) -> Result<(), Fail> {
             Ok(3),
         ),
         ("ValueBuilder::push", Call::BuilderPush(8), DONE),
-        // the room that is made is of no number yet
+        // the new room has no number yet
         ("ValueBuilder::with_capacity", Call::BuilderMake(1), DONE),
         (
             "ValueBuilder::push into its room",

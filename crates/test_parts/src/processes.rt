@@ -35,7 +35,7 @@ fn returned(process: &mut Process, what: Call) -> Answer {
     }
 }
 
-/// The first row whose call returns something else, and what it returns.
+/// Returns the first row whose call returns something else, with what it returns.
 fn first_wrong(root: &mut Process, leaf: &mut Process, rows: &[Row]) -> Option<Row> {
     for (number, what, answer) in rows {
         let result = if *number == 0 {
@@ -119,7 +119,7 @@ fn two_processes_end_twice(rt: HostRuntime) -> Result<(), Refusal> {
         (1, Call::Next, Ok(Next::Ended)),
         (1, Call::Reopen, DONE),
         (1, Call::Take(0, over), Err(Refusal::Late)),
-        // what was kept is handed in again
+        // the messages that were kept are passed again
         (1, Call::Take(1, down(1)), DONE),
         (1, Call::CountReceived(1), DONE),
         (1, Call::Next, DONE),

@@ -1,4 +1,4 @@
-//! Slots in a slab and in raw memory: each takes 65,536 items, drops each item once, and loses none where memory is refused.
+//! Slots in a slab and in raw memory: each takes 65,536 items, drops each item once, and loses none if an allocation fails.
 
 use std::alloc::Global;
 use std::cell::Cell;
@@ -7,7 +7,7 @@ use std::test::Fail;
 use tp_base::Refusal;
 use tp_slots::{Command, RawSlots, Reply, SlabSlots, Slots, run_slots};
 
-/// The replies to the takes of the items 0, 1 and so on, of one more than there is room for.
+/// Returns the replies to taking items 0, 1 and so on, one more than there is room for.
 fn replies_to_takes<S: Slots<u64> + Drop>(alloc: Global) -> Result<Vec<Reply>, Refusal> {
     let mut commands = Vec::new(alloc);
     for value in 0..65_537 {
@@ -47,7 +47,7 @@ fn counters(alloc: Global, count: usize) -> Result<Vec<Rc<Cell<u32>>>, Refusal> 
     Ok(counters)
 }
 
-/// Takes an item in for each counter, of which a third is listed and a third given back.
+/// Takes an item in for each counter; a third of them is listed, and a third is returned.
 fn fill<S: Slots<Counted>>(slots: &mut S, counters: &[Rc<Cell<u32>>]) -> Result<(), Refusal> {
     for (index, drops) in counters.iter().enumerate() {
         slots.reserve()?;
@@ -64,7 +64,7 @@ fn fill<S: Slots<Counted>>(slots: &mut S, counters: &[Rc<Cell<u32>>]) -> Result<
     Ok(())
 }
 
-/// Whether each of a thousand items is dropped once that fill slots, which are dropped then.
+/// Returns whether each of a thousand items that fill slots is dropped once when the slots are dropped.
 fn drop_each_once<S: Slots<Counted> + Drop>(alloc: Global) -> Result<bool, Refusal> {
     let counters = counters(alloc, 1000)?;
     let mut slots = S::new(alloc);
@@ -80,7 +80,7 @@ fn each_item_is_dropped_once(rt: HostRuntime) -> Result<(), Fail> {
     Ok(())
 }
 
-/// Takes the items 0, 1 and so on in and lists them, each again if it was refused; true if each refused one came
+/// Takes the items 0, 1 and so on in and lists them, each again if it was refused. Returns whether each refused item came
 /// back and all of them come out in order.
 fn take_again<S: Slots<u64>>(slots: &mut S, count: u64) -> Result<bool, Refusal> {
     for value in 0..count {
@@ -109,7 +109,7 @@ fn all_come_back<S: Slots<u64> + Drop>(alloc: Global) -> Result<bool, Refusal> {
     take_again(&mut slots, 600)
 }
 
-/// Where memory is refused once, as `rt try --test --fail-alloc N` does, nothing is lost.
+/// If one allocation fails, as `rt try --test --fail-alloc N` makes it, nothing is lost.
 #[test]
 fn a_refused_growth_loses_nothing(rt: HostRuntime) -> Result<(), Fail> {
     assert_eq!(rt; all_come_back::<SlabSlots<u64>>(rt.alloc()), Ok(true));

@@ -38,6 +38,11 @@ impl Kind {
         (result, written.len())
     }
 
+    /// The same of a text of `count` blanks.
+    fn answer_blanks(self, alloc: Global, count: u64) -> (Answer, usize) {
+        self.answer_to(alloc, &mut io::repeat(b' ').take(count))
+    }
+
     /// The same when the reader fails once, at this read.
     fn stumble(
         self,
@@ -121,15 +126,30 @@ fn a_hundred_thousand_interruptions_change_nothing(rt: HostRuntime) {
     }
 }
 
-// `syntax line 1` and the end of its line.
+// `syntax line 1` and the end of its line. One text a test: each takes a quarter of the time that a test may take on two
+// slow processors.
 #[test]
-fn a_text_may_have_so_many_bytes_and_no_more(rt: HostRuntime) {
-    for kind in [Kind::Script, Kind::Trace] {
-        let result = kind.answer_to(rt.alloc(), &mut io::repeat(b' ').take(33_554_432));
-        assert_eq!(rt; result, (Ok(Verdict::Refused), 14), "{kind:?}");
-        let result = kind.answer_to(rt.alloc(), &mut io::repeat(b' ').take(33_554_433));
-        assert_eq!(rt; result, (Err(TextFault::TooLong), 0), "{kind:?}");
-    }
+fn a_script_may_have_33_554_432_bytes(rt: HostRuntime) {
+    let result = Kind::Script.answer_blanks(rt.alloc(), 33_554_432);
+    assert_eq!(rt; result, (Ok(Verdict::Refused), 14));
+}
+
+#[test]
+fn a_script_may_have_no_byte_more(rt: HostRuntime) {
+    let result = Kind::Script.answer_blanks(rt.alloc(), 33_554_433);
+    assert_eq!(rt; result, (Err(TextFault::TooLong), 0));
+}
+
+#[test]
+fn a_trace_may_have_33_554_432_bytes(rt: HostRuntime) {
+    let result = Kind::Trace.answer_blanks(rt.alloc(), 33_554_432);
+    assert_eq!(rt; result, (Ok(Verdict::Refused), 14));
+}
+
+#[test]
+fn a_trace_may_have_no_byte_more(rt: HostRuntime) {
+    let result = Kind::Trace.answer_blanks(rt.alloc(), 33_554_433);
+    assert_eq!(rt; result, (Err(TextFault::TooLong), 0));
 }
 
 // One line `ok`, 12,498 lines `refused 8 NoAction`, and 87 bytes of closing lines.

@@ -74,7 +74,7 @@ fn words_at_a_terminal(rt: HostRuntime) {
         status: 1,
         output: "",
         line: "refused 25 PoolKnown\n",
-        reason: "SPEC 2 stands before\n",
+        reason: "SPEC 2 repeats an earlier one\n",
     };
     assert!(rt;
         ends_so(

@@ -1,6 +1,6 @@
 //! A pool of two nodes on one thread, from its first call to its second end: forged messages that are refused and stay
 //! on their link; each call of a node that can fail to allocate; and the reopening. tools/dev limits refuse-tests makes
-//! each allocation fail in turn; docs/MEMORY.md has the results.
+//! each allocation fail in turn; docs/measurements/out-of-memory.md has the results.
 
 ghost use Rattle.std.specs.Prelude.{◌≡◌, vec_len, IsTrue};
 

@@ -32,21 +32,21 @@ fn is_no_pool<R: Threads + Wait + Sync>(rt: &R, alloc: Global, word: &str, reaso
     }
 }
 
-const NO_KIND: &str = "its kind is none of product, wavefront and reduce";
+const NO_KIND: &str = "the kind must be product, wavefront or reduce";
 
-const PRODUCT: &str = "its form is product:ORDER:SIDE:SEED";
+const PRODUCT: &str = "the form must be product:ORDER:SIDE:SEED";
 
-const WAVEFRONT: &str = "its form is wavefront:ROWS:COLUMNS:SEED";
+const WAVEFRONT: &str = "the form must be wavefront:ROWS:COLUMNS:SEED";
 
-const REDUCE: &str = "its form is reduce:LEAVES:SEED";
+const REDUCE: &str = "the form must be reduce:LEAVES:SEED";
 
-const NO_ORDER: &str = "ORDER is no number of at most six digits without leading zeros";
+const NO_ORDER: &str = "ORDER is not a number of at most six digits without leading zeros";
 
-const NO_SIDE: &str = "SIDE is no number of at most six digits without leading zeros";
+const NO_SIDE: &str = "SIDE is not a number of at most six digits without leading zeros";
 
-const NO_SEED: &str = "SEED is no number of at most six digits without leading zeros";
+const NO_SEED: &str = "SEED is not a number of at most six digits without leading zeros";
 
-const NO_COLUMNS: &str = "COLUMNS is no number of at most six digits without leading zeros";
+const NO_COLUMNS: &str = "COLUMNS is not a number of at most six digits without leading zeros";
 
 #[test]
 fn words_that_name_no_pool(rt: HostRuntime) {
@@ -79,10 +79,13 @@ fn words_that_name_no_pool(rt: HostRuntime) {
         ("wavefront:65:8:0", "ROWS 65 is not from 1 to 64"),
         ("wavefront:8:65:0", "COLUMNS 65 is not from 1 to 64"),
         ("wavefront:8:8:10000", "SEED 10000 is not from 0 to 9999"),
-        ("reduce:3:0", "LEAVES 3 is no power of two from 1 to 1024"),
+        (
+            "reduce:3:0",
+            "LEAVES 3 is not a power of two from 1 to 1024",
+        ),
         (
             "reduce:2048:0",
-            "LEAVES 2048 is no power of two from 1 to 1024",
+            "LEAVES 2048 is not a power of two from 1 to 1024",
         ),
         ("reduce:4", REDUCE),
         ("reduce:4:0:0", REDUCE),
@@ -123,7 +126,7 @@ fn words_that_may_not_be_registered(rt: HostRuntime) {
         ),
         (
             ["tp", "pools", "x", "y", "-", "", "", "", "", ""],
-            "refused 26 BadSpec\nSPEC 1: its kind is none of product, wavefront and reduce\n",
+            "refused 26 BadSpec\nSPEC 1: the kind must be product, wavefront or reduce\n",
         ),
         // the others name pools
         (
@@ -139,7 +142,7 @@ fn words_that_may_not_be_registered(rt: HostRuntime) {
                 "product:4:2:0",
                 "reduce:64:0:",
             ],
-            "refused 26 BadSpec\nSPEC 8: its form is reduce:LEAVES:SEED\n",
+            "refused 26 BadSpec\nSPEC 8: the form must be reduce:LEAVES:SEED\n",
         ),
         (
             [
@@ -154,7 +157,7 @@ fn words_that_may_not_be_registered(rt: HostRuntime) {
                 "",
                 "",
             ],
-            "refused 25 PoolKnown\nSPEC 3 stands before\n",
+            "refused 25 PoolKnown\nSPEC 3 repeats an earlier one\n",
         ),
     ] {
         assert!(rt; are_no_pools(&rt, rt.alloc(), words, message), "{message}");
@@ -213,15 +216,15 @@ fn scripts_that_are_not_of_the_grammar(rt: HostRuntime) {
         (b"nodes 1", 1, " has no end"),
         (b"script 2\n", 2, " is missing"),
         (b"script 2\nready 0\n", 2, NO_NODES),
-        (b"nodes 1\nready 0\nsuply 1\n", 3, ": no step `suply`"),
-        (b"nodes 1\n\nready 0\n", 2, ": no step"),
-        (b"nodes 1\n\x1b[2J\n", 2, ": no step"),
-        (b"nodes 1\nup\x7f\n", 2, ": no step"),
-        (b"nodes 1\n\xd9\xa0\n", 2, ": no step"),
-        (LONG, 2, ": no step `abcdefghijklmnopqrstuvwxyz012345`"),
-        (LONGER, 2, ": no step"),
+        (b"nodes 1\nready 0\nsuply 1\n", 3, ": unknown step `suply`"),
+        (b"nodes 1\n\nready 0\n", 2, ": not a step"),
+        (b"nodes 1\n\x1b[2J\n", 2, ": not a step"),
+        (b"nodes 1\nup\x7f\n", 2, ": not a step"),
+        (b"nodes 1\n\xd9\xa0\n", 2, ": not a step"),
+        (LONG, 2, ": unknown step `abcdefghijklmnopqrstuvwxyz012345`"),
+        (LONGER, 2, ": not a step"),
         (b"nodes 1\nready 0", 2, " has no end"),
-        (b"nodes 1\nreopen\n", 2, ": no step `reopen` in version 1"),
+        (b"nodes 1\nreopen\n", 2, ": version 1 has no step `reopen`"),
         (
             b"nodes 1\ninsert 0 1 17\n",
             2,
@@ -237,7 +240,7 @@ fn scripts_that_are_not_of_the_grammar(rt: HostRuntime) {
 
 #[test]
 fn traces_that_are_not_of_the_grammar(rt: HostRuntime) {
-    let judge = ": behind `judge` stands `not` or `ended W`, W from 1 on";
+    let judge = ": after `judge` comes `not` or `ended W`, W at least 1";
     for (text, line, reason) in [
         (b"".as_slice(), 1, " is missing"),
         (
@@ -254,12 +257,12 @@ fn traces_that_are_not_of_the_grammar(rt: HostRuntime) {
         (
             b"trace 1\nnodes 1\nreopen\n",
             3,
-            ": no step `reopen` in version 1",
+            ": version 1 has no step `reopen`",
         ),
         (
             b"trace 1\nnodes 1\ndone 1\nsuply 1\n",
             4,
-            ": no step `suply`",
+            ": unknown step `suply`",
         ),
     ] {
         assert!(rt;
@@ -279,7 +282,7 @@ fn is_no_number<R: Threads + Wait + Sync>(
     step: &[u8],
     quoted: &str,
 ) -> bool {
-    match format!(in alloc; ": no number{quoted} of at most six digits without leading zeros") {
+    match format!(in alloc; ": {quoted}not a number of at most six digits without leading zeros") {
         Ok(reason) => is_wrong(rt, alloc, "sim", step, 2, &reason),
         Err(_) => false,
     }
@@ -288,11 +291,11 @@ fn is_no_number<R: Threads + Wait + Sync>(
 #[test]
 fn words_that_are_no_numbers(rt: HostRuntime) {
     for (step, quoted) in [
-        (b"nodes 1\nsupply x 1\n".as_slice(), " `x`"),
-        (b"nodes 1\ninsert 0 1 x\n", " `x`"),
-        (b"nodes 1\nready 00\n", " `00`"),
+        (b"nodes 1\nsupply x 1\n".as_slice(), "`x` is "),
+        (b"nodes 1\ninsert 0 1 x\n", "`x` is "),
+        (b"nodes 1\nready 00\n", "`00` is "),
         (b"nodes 1\nready  0\n", ""),
-        (b"nodes 1\nsupply 1000000\n", " `1000000`"),
+        (b"nodes 1\nsupply 1000000\n", "`1000000` is "),
         (b"nodes 1\nready \xd9\xa0\n", ""),
     ] {
         assert!(rt; is_no_number(&rt, rt.alloc(), step, quoted), "{quoted}");
@@ -308,7 +311,7 @@ fn has_count<R: Threads + Wait + Sync>(
     step: &str,
     due: u32,
 ) -> bool {
-    let reason = format!(in alloc; ": the step has {due} numbers, and not 5");
+    let reason = format!(in alloc; ": wrong count of numbers: 5 instead of {due}");
     let text = format!(in alloc; "{head}{step} 1 1 1 1 1\n");
     match (reason, text) {
         (Ok(reason), Ok(text)) => is_wrong(rt, alloc, "sim", text.as_bytes(), line, &reason),
@@ -346,6 +349,6 @@ fn steps_with_another_count_of_numbers(rt: HostRuntime) {
     }
     assert!(rt; has_count(&rt, rt.alloc(), "script 2\nnodes 1\n", 3, "reopen", 0));
     let text = b"trace 2\nnodes 2\nrecv 1 5\n";
-    let reason = ": the step has 3 numbers, and not 2";
+    let reason = ": wrong count of numbers: 2 instead of 3";
     assert!(rt; is_wrong(&rt, rt.alloc(), "audit", text, 3, reason));
 }

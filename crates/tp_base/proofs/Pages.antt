@@ -1,4 +1,4 @@
--- What a page that is put in the place of another leaves in the pages.
+-- The places and values of the pages after one page is added or replaced.
 use Rattle.std.proofs.Common.{ℕ, zero, suc, ◌≡◌, ◌≢◌, ◌≤◌, ◌<◌, ◌/◌, ◌%◌, ◌==◌, ◌++◌, ◌∙◌, List, [], ◌∷◌, length, slice_get}
 use Rattle.std.proofs.Common.{set, length-set, slice_index_or}
 use Rattle.std.proofs.Common.{Vec, vec_len, Option, Some, None, Result, true, false, IsTrue, refl, sym, ap, subst, inl, inr, arith}
@@ -25,7 +25,7 @@ module _ {X : Type 0} where
   set_there (z ∷ zs) (suc i) zero y apart = refl
   set_there (z ∷ zs) (suc i) (suc k) y apart = set_there zs i k y (λ e. apart (ap suc e))
 
-  -- a longer list has what a shorter one has
+  -- An index of a shorter list is one of a longer list.
   some_in : (xs ys : List X) (j : ℕ) → length xs ≤ length ys → IsSome (slice_get xs j) → IsSome (slice_get ys j)
   some_in [] ys j few has = cc
   some_in (x ∷ xs) [] j few has = absurd (omega arith)
@@ -91,11 +91,11 @@ module _ {V : Type 0} where
       → slice_get pages.items i ≡ Some page
   page_at pages i page within is = slice_get_read pages.items (vec_len pages) i page pages.ok.0 within is
 
-  -- a page without places
+  -- an added page without places
   pub place_more : (pages : List (Page V)) (page : Page V) (k : ℕ) → page.items ≡ [] → place (pages ++ page ∷ []) k ≡ place pages k
   place_more pages page k none = in_more pages page (k / 64) (k % 64) none
 
-  -- one page is another
+  -- one page is replaced
   module _ (pages : List (Page V)) (i : ℕ) (old page : Page V) (is : slice_get pages i ≡ Some old) where
     here : (k : ℕ) → k / 64 ≡ i → place (set pages i page) k ≡ slice_get page.items (k % 64)
     here k row = ap (λ o. in_page o (k % 64)) (ap (slice_get (set pages i page)) row ∙ set_here pages i old page is)
@@ -127,7 +127,7 @@ module _ {V : Type 0} where
     pub no_place : (k : ℕ) → k / 64 ≡ i → vec_len old ≤ k % 64 → place pages k ≡ None
     no_place k row past = was k row ∙ slice_get_past old.items (k % 64) (omega (arith, past, old.ok.0))
 
-  -- a value is put at a place that is there
+  -- a value is stored in a place that exists
   module _ (pages : List (Page V)) (key : ℕ) (old page : Page V) (value : V) (is : slice_get pages (key / 64) ≡ Some old)
       (put : page.items ≡ set old.items (key % 64) (Some value)) (there_is : HasPlace pages key) where
     now_there : near (set pages (key / 64) page) key ≡ Some value

@@ -1,4 +1,4 @@
--- Where the elements of pieces stand in the whole.
+-- The indices of the elements of pieces in their concatenation.
 use Rattle.std.proofs.Common.{◌≡◌, ◌≤◌, ◌<◌, ◌+◌, ◌-◌, ◌*◌, ◌/◌, ◌%◌, ◌++◌, ◌∙◌, ℕ, List, [], ◌∷◌, None, Some, suc, zero, length, slice_get}
 use Rattle.std.proofs.Common.{Vec, reverse, vec_len, Option, Bor, refl, sym, ap, inl, inr, arith}
 use Rattle.std.specs.List.{All}
@@ -32,7 +32,7 @@ module _ {X : Type 0} where
   length_joined (p ∷ ps) h =
       omega (arith, length-append p.items (joined ps), p.ok.0, All-head IsFull p ps h, length_joined ps (All-tail IsFull p ps h))
 
-  -- so many elements in all
+  -- the number of elements in all
   pub counted : (full : Vec (Vec X Global) Global) (last : Vec X Global) → All IsFull full.items
       → length (reverse (joined full.items ++ last.items)) ≡ vec_len full * PIECE + vec_len last
   counted full last h =
@@ -45,7 +45,7 @@ module _ {X : Type 0} where
         last.ok.0,
       )
 
-  -- Events and free places are whole pieces.
+  -- The number of events and free places is a multiple of the size of a piece.
   pub whole_pieces : (full : Vec (Vec X Global) Global) (last : Vec X Global) (spare : Vec (Vec X Global) Global)
       → ArePieces full last spare → (length (reverse (joined full.items ++ last.items)) + places last spare) % 1024 ≡ 0
   whole_pieces full last spare h =

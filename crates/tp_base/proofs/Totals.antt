@@ -1,4 +1,4 @@
--- Sums over nodes, or over processes.
+-- Lemmas about sums over nodes, or over processes.
 use Rattle.std.proofs.Common.{◌≡◌, ℕ, zero, suc, ◌+◌, ◌<◌, ◌≤◌, refl, sym, inl, inr, arith, add-one}
 use Rattle.std.proofs.lemmas.Bool.{cases_eq}
 use Rattle.tp_base.specs.Totals.{total}
@@ -7,7 +7,7 @@ pub total-le : (n : ℕ) (f g : ℕ → ℕ) → ((i : ℕ) → i < n → f i �
 total-le zero f g h = omega arith
 total-le (suc n) f g h = omega (arith, total-le n f g (λ i l. h i (omega arith)), h n (omega arith))
 
--- where the sums are equal, each part is
+-- If no term of f exceeds that of g and the sums are equal, the terms are equal.
 pub total_same : (n : ℕ) (f g : ℕ → ℕ) → ((i : ℕ) → i < n → f i ≤ g i) → total n g ≤ total n f → (i : ℕ) → i < n → f i ≡ g i
 total_same zero f g h e i l = absurd (omega arith)
 total_same (suc n) f g h e i l =
@@ -18,12 +18,12 @@ total_same (suc n) f g h e i l =
       | inr off ↦ total_same n f g less (omega (arith, h n (omega arith))) i (omega arith)
     ]
 
--- two functions that are equal below n
+-- functions that are equal below n
 pub total-equal : (n : ℕ) (f g : ℕ → ℕ) → ((i : ℕ) → i < n → f i ≡ g i) → total n f ≡ total n g
 total-equal zero f g h = refl
 total-equal (suc n) f g h = omega (arith, total-equal n f g (λ i l. h i (omega arith)), h n (omega arith))
 
--- more by k at node a alone
+-- one term is larger by k, the others are equal
 pub total_one-changes : (n a k : ℕ) (f g : ℕ → ℕ) → a < n → g a ≡ f a + k → ((i : ℕ) → (i ≡ a → ⊥) → g i ≡ f i) → total n g ≡ total n f + k
 total_one-changes zero a k f g l at off = absurd (omega arith)
 total_one-changes (suc n) a k f g l at off =

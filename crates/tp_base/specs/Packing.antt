@@ -1,4 +1,4 @@
--- How an event lies in a few bytes.
+-- How an event is packed into bytes: the event of each packed form.
 use Rattle.std.specs.Prelude.{ℕ, ◌+◌, ◌*◌, ◌/◌, ◌%◌}
 use Rattle.tp_base.specs.History.{Event}
 use Rattle.tp_base.specs.declared.packed.Kind.{Kind}
@@ -8,15 +8,16 @@ use Rattle.tp_base.specs.declared.step.Step.{Step}
 use Rattle.tp_base.specs.declared.step.Step.TheVariants.{Insert, Supply, Begin, Done, ActionOpen, ActionClose, Ready, Send, Recv}
 use Rattle.tp_base.specs.declared.step.Step.TheVariants.{MessageEnd, Start, Down, Give, Up, Judge, Reopen}
 
--- the message of a number that holds it below the low bits of its generation
+-- the message whose number is in the low 20 bits of n
 abbrev pub message_in : ℕ → ℕ
 message_in n = n % 1048576
 
--- the generation of its high bits and such a number
+-- the generation with the high bits k, and with low bits above the low 20 bits of n
 abbrev pub generation_in : ℕ → ℕ → ℕ
 generation_in k n = k * 4096 + n / 1048576
 
--- the step of a kind that names these: a node or two, then the inputs or a generation's high bits, then a task, an action or a message
+-- the step of a kind from its parts: a node or two, then the inputs or a generation's high bits, then the number of a
+-- task, an action or a message
 abbrev pub step_of : Kind → ℕ → ℕ → ℕ → Step
 step_of kind.Insert i k n = Insert (record { 0 = i }) (record { 0 = n }) (record { count = k })
 step_of kind.Supply i k n = Supply (record { 0 = n })

@@ -1,3 +1,4 @@
+//! The theorem that states the value of each limit, as a call without arguments.
 ghost use Rattle.std.specs.Prelude.{◌≡◌};
 
 use crate::limits::{
@@ -5,7 +6,7 @@ use crate::limits::{
     MAX_POOLS, MAX_SEED, MAX_SIDE, MAX_STEPS, MAX_WORKERS,
 };
 
-/// The limits are these numbers.
+/// The limits have these values.
 pub fn limits_are_these()
     ensures nodes { MAX_NODES ≡ 8 }
     ensures workers { MAX_WORKERS ≡ 8 }

@@ -1,4 +1,5 @@
-//! The numbers, names, limits and steps that all other crates share.
+//! What all other crates share: the numbers of nodes, tasks and the like, limits, refusals, steps and their history,
+//! and a table of values by number.
 #![tactic(auto)]
 
 mod history;

@@ -1,3 +1,4 @@
+//! The packing of an event into 8 bytes.
 ghost use Rattle.std.specs.Prelude.{◌≡◌, ◌<◌, ◌+◌, ◌*◌, ◌/◌, ◌%◌};
 ghost use Rattle.tp_base.specs.History.{NamesSmall};
 
@@ -5,13 +6,13 @@ use crate::ids::{ActionId, Generation, Inputs, MessageId, NodeId, TaskId};
 use crate::step::Step;
 use std::marker::Model;
 
-/// A message's number is below this one.
+/// Message numbers are smaller than this.
 const MESSAGES: u32 = 1_048_576;
 
-/// So many generations differ in their low bits.
+/// The low bits of a generation are its remainder by this.
 const GENERATIONS: u32 = 4_096;
 
-/// Which step it is.
+/// The kind of a step.
 #[repr(u8)]
 #[derive(Clone, Copy)]
 pub(crate) enum Kind {
@@ -33,17 +34,17 @@ pub(crate) enum Kind {
     Reopen,
 }
 
-/// A step beside its node, in eight bytes where the pair has twenty-four. Contracts see the pair.
+/// An event, that is a step with its node, in 8 bytes instead of the 24 of the pair. Contracts see the pair.
 #[derive(Drop)]
 pub(crate) struct Packed {
     kind: Kind,
-    /// The node beside the step.
+    /// The node of the event.
     node: u8,
-    /// The node that the step names first; both nodes of a sending.
+    /// The node that the step names first; for a sending both nodes, in four bits each.
     first: u8,
-    /// The inputs of an insert, and the high bits of a message's generation.
+    /// The inputs of an insert; for a message, the high bits of its generation.
     second: u8,
-    /// The number of the task or the action; a message's number below the low bits of its generation.
+    /// The number of the task or the action; for a message, its number below the low bits of its generation.
     number: u32,
 }
 
@@ -60,7 +61,7 @@ impl Model for Packed {
 const _: () = prove!(size_of::<Packed>() == 8);
 
 impl Packed {
-    /// Packs an event whose nodes have numbers of one byte.
+    /// Packs an event whose numbers are small enough (`NamesSmall`).
     #[inline(always)]
     pub(crate) fn new(node: NodeId, step: Step) -> Packed
         requires node { node.0 < 256 }
@@ -113,7 +114,7 @@ impl Packed {
         }
     }
 
-    /// The event.
+    /// Returns the event.
     #[inline(always)]
     pub(crate) fn event(&self) -> (NodeId, Step)
         ensures { result ≡ self.now }
@@ -161,7 +162,7 @@ impl Packed {
     }
 }
 
-/// Two nodes of four bits in a byte.
+/// Returns two node numbers of four bits each in one byte.
 #[inline(always)]
 fn both(from: NodeId, to: NodeId) -> u8
     requires { (from.0 < 16) × (to.0 < 16) }
@@ -170,7 +171,7 @@ fn both(from: NodeId, to: NodeId) -> u8
     (from.0 * 16 + to.0) as u8
 }
 
-/// A message's number below the low bits of its generation.
+/// Returns a message's number, in the low 20 bits, below the low 12 bits of its generation.
 #[inline(always)]
 fn with_low(message: MessageId, generation: Generation) -> u32
     requires { message.0 < 1048576 }
@@ -179,7 +180,7 @@ fn with_low(message: MessageId, generation: Generation) -> u32
     generation.0 % GENERATIONS * MESSAGES + message.0
 }
 
-/// The high bits of a generation.
+/// Returns the high bits of a generation.
 #[inline(always)]
 fn high_of(generation: Generation) -> u8
     requires { generation.0 < 1048576 }
@@ -188,7 +189,7 @@ fn high_of(generation: Generation) -> u8
     (generation.0 / GENERATIONS) as u8
 }
 
-/// The message of a number.
+/// Returns the message whose number is in the low 20 bits.
 #[inline(always)]
 fn message_in(number: u32) -> MessageId
     ensures { result.0 ≡ number % 1048576 }
@@ -196,7 +197,7 @@ fn message_in(number: u32) -> MessageId
     MessageId(number % MESSAGES)
 }
 
-/// The generation of its high bits and a number.
+/// Returns the generation with these high bits, and with low bits above the low 20 bits of `number`.
 #[inline(always)]
 fn generation_in(high: u8, number: u32) -> Generation
     ensures { result.0 ≡ high * 4096 + number / 1048576 }

@@ -15,8 +15,8 @@ use Rattle.tp_wave.specs.Machine.{pending_at, steps_of}
 use Rattle.tp_wave.specs.Steps.{count}
 use Rattle.tp_board.specs.Numbers.{is_send}
 
--- What contracts see of a board: its events, newest first, their limit, how many more have a reserved place and memory, and the
--- first fault that was set.
+-- What contracts see of a board: its events, newest first, their limit, how many more have a reserved place and memory,
+-- and the first fault that was set.
 pub record BoardState : Type 0 where
   pub history : List Event
   pub limit : ℕ
@@ -31,7 +31,7 @@ with_event e b = record { history = e ∷ b.history; limit = b.limit; reserved =
 abbrev pub with_reserved : ℕ → BoardState → BoardState
 with_reserved more b = record { history = b.history; limit = b.limit; reserved = more; fault = b.fault }
 
--- the board after a fault, of which it keeps only the first
+-- the board after a fault; it keeps only its first fault
 abbrev pub with_fault : Refusal → BoardState → BoardState
 with_fault f b = record { history = b.history; limit = b.limit; reserved = b.reserved; fault = option_or b.fault (Some f) }
 
@@ -39,8 +39,8 @@ with_fault f b = record { history = b.history; limit = b.limit; reserved = b.res
 abbrev pub full_check : ℕ → BoardState → Check
 full_check more b = (nat_lt b.limit (length b.history + more), HistoryFull (length b.history))
 
--- A call that needs this many events and makes these checks returns the first refusal that applies. If none does, it succeeds, or
--- an allocation fails that it had to make.
+-- A call that needs this many events and makes these checks returns the first refusal that applies. If none does, it
+-- succeeds, or an allocation fails that it had to make.
 abbrev pub AnswersBy : {A : Type 0} → List Check → ℕ → BoardState → Result A Refusal → Type 0
 AnswersBy checks more b result =
     MatchOption (first_refusal checks) (IfErr result (λ e. (e ≡ NoMemory) × (b.reserved < more))) (λ e. result ≡ Err e)
@@ -53,8 +53,8 @@ IsAtPiece b e = e ≡ NoMemory → length b.history % 1024 ≡ 0
 abbrev pub left_of_piece : ℕ → ℕ
 left_of_piece n = (1024 - n % 1024) % 1024
 
--- A call that needs this many events fails to allocate only if fewer are left of the last piece of 1,024 events, or of the last
--- piece of 1,024 messages of the present generation.
+-- A call that needs this many events fails to allocate only if fewer are left of the last piece of 1,024 events, or of
+-- the last piece of 1,024 messages of the present generation.
 abbrev pub IsPastPiece : ℕ → BoardState → Refusal → Type 0
 IsPastPiece more b e =
     e ≡ NoMemory

@@ -100,7 +100,7 @@ impl<K: Ledgers> Board<K> {
         self.event_log.history().is_empty()
     }
 
-    /// Returns the events of all generations, each of which is a run.
+    /// Returns the events of all generations; those of each generation are a run.
     pub fn history(&self) -> &History
         ensures events { result.now.events ≡ self.now.history }
         ensures run { AreRuns K.names.nodes self.now.history }
@@ -108,7 +108,7 @@ impl<K: Ledgers> Board<K> {
         self.event_log.history()
     }
 
-    /// Returns the events of all generations, each of which is a run, and drops the rest.
+    /// Returns the events of all generations, those of each a run, and drops the rest.
     pub fn into_history(self) -> History
         ensures events { result.events ≡ self.history }
         ensures run { AreRuns K.names.nodes self.history }

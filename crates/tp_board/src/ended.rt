@@ -1,4 +1,4 @@
-//! The termination token, of which each generation has at most one, and its keeper.
+//! The termination token and its keeper. Each generation has at most one token.
 ghost use Rattle.std.specs.Prelude.{◌≡◌, ◌≤◌, ◌<◌, ◌↔◌, IsTrue};
 
 use crate::names::{Judged, Ledgers};

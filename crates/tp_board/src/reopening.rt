@@ -17,7 +17,7 @@ use tp_wave::Wave;
 
 // The one event that changes all nodes, so it takes all their shares at once.
 impl<K: Ledgers> Board<K> {
-    /// Begins the next generation, without events. The caller gives the shares of all nodes, none of which has anything
+    /// Begins the next generation, without events. The caller passes the shares of all nodes, at which nothing is
     /// pending, and the termination token. Each node's first shares are returned, in the order of the given ones. The
     /// history and its limit continue, and a fault that was set stays.
     pub fn reopen(

@@ -31,7 +31,7 @@ use Rattle.tp_cli.specs.Runs.{NamesNoGraph}
 use Rattle.tp_cli.specs.declared.fault.Fault.{Fault}
 use Rattle.tp_cli.specs.declared.fault.Fault.TheVariants as faults
 
--- ---- words
+-- ---- specifications
 
 abbrev entered : AnyGraph → Entered
 entered g = registered (word_of g) g
@@ -40,7 +40,7 @@ named-among : (graphs : List AnyGraph) (word : Word) → is_named (pools_of grap
 named-among [] word = refl
 named-among (g ∷ graphs) word = ap (λ b. bytes_eq (word_of g) word || b) (named-among graphs word)
 
--- The first k words are registered, each under its word, and nothing else.
+-- The first k specifications are registered, each under itself, and nothing else.
 pub record AreRegisteredTo (k : ℕ) (words : List Word) (registry : Pools) : Type 0 where
   pub taken : AreTakenTo k words
   pub graphs : List AnyGraph
@@ -60,7 +60,7 @@ among-registered : (k : ℕ) (words : List Word) (pools : Pools) (h : AreRegiste
 among-registered k words pools h word =
     ap (λ ps. is_named ps word) h.pools ∙ named-among h.graphs word ∙ sym (ap (λ ws. is_among ws word) h.named)
 
--- a word that was registered is taken
+-- a specification that was registered is taken
 one_more : (k : ℕ) (words : List Word) (pools new : Pools) (word : Word) (graph : AnyGraph) → AreRegisteredTo k words pools
     → k < length words → word ≡ get_or words k word → word ≡ word_of graph → is_named pools word ≡ false
     → new ≡ pools ++ registered word graph ∷ [] → AreRegisteredTo (suc k) words new
@@ -131,7 +131,7 @@ one_registered k words pools new word (Ok pool) taken h lt at made refusal =
     subst (λ j. AreRegisteredTo j words new) next (one_more k words pools new word made.0 h lt at made.1 fresh made.3)
 one_registered k words pools new word (Err r) taken h lt at made refusal = absurd (taken r refl)
 
--- a word that was not registered is the first that is refused
+-- a specification that was not registered is the first that is refused
 pub first_refused : (k : ℕ) (words : List Word) (pools : Pools) (word : Word) (told r : Refusal) → AreRegisteredTo k words pools
     → k < length words
     → word ≡ get_or words k word → length words ≤ MAX_POOLS → IsUnregistered pools word word told → (told ≡ r) × (r ≢ NoMemory)
@@ -170,7 +170,7 @@ may_name zero words pools word h lt at few named = (
 )
 may_name (suc k) words pools word h lt at few named = (few, λ i w r below here refused. h.taken i w r (omega (arith, below)) here refused)
 
--- the fault of a word that was not registered
+-- the fault of a specification that was not registered
 pub refused_word : (k : ℕ) (words : List Word) (pools : Pools) (word : Word) (r : Refusal) → AreRegisteredTo k words pools
     → k < length words
     → word ≡ get_or words k word → length words ≤ MAX_POOLS → IsUnregistered pools word word r → (NamesNoGraph word → r ≡ BadSpec)
@@ -185,12 +185,12 @@ refused_word k words pools word StoreFull h lt at few why no_spec =
     first_refused k words pools word StoreFull StoreFull h lt at few why (refl, λ e. cc)
 refused_word k words pools word _ h lt at few why no_spec = absurd why
 
--- of words that name pools the first is taken
+-- if specifications name pools, there are at most 8, and the first is not refused
 pub named_may : (words : List Word) (graphs : List AnyGraph) → AreNamed words graphs → MayNamePools words
 named_may [] graphs named = (named.few, λ i w r below here refused. cc)
 named_may (word ∷ words) graphs named = (named.few, λ i w r below here refused. named.taken i w r (omega (arith, below)) here refused)
 
--- the fault of words is one of their pools
+-- a fault of the specifications is a fault of their pools
 pub words_in_vain : (words : List Word) (n workers : ℕ) (fault : Fault) → IsWordsFault words fault → IsPoolsFault words n workers fault
 words_in_vain words n workers (faults.InVain r) why = why
 words_in_vain words n workers faults.Memory why = why

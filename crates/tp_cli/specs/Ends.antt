@@ -65,7 +65,7 @@ abbrev pub RefusedText : List Text → Option (List ℕ) → Option (List ℕ) �
 RefusedText words read_old read_new written_old written_new =
     (text : List ℕ) × IsReadText words read_old read_new Refused text × Appends written_old written_new text
 
--- 3, if something was written: of several pools one was refused, and the text of their results was written and nothing else.
+-- 3, if something was written: one of several pools was refused, and the text of their results was written and nothing else.
 abbrev pub RefusedPool : List Text → Option (List ℕ) → Option (List ℕ) → Type 0
 RefusedPool words written_old written_new = (text : List ℕ) × IsTextOfPools words false text × Appends written_old written_new text
 
@@ -96,7 +96,7 @@ LacksAnswer words read_old read_new fault = (kind : TextKind) × AsksForText kin
 abbrev pub NamesPoolsInVain : List Text → Refusal → Type 0
 NamesPoolsInVain words refusal = (specs : List Text) × AsksForPools words specs × AreInVain specs refusal
 
--- The arguments are those of several pools: at most 8, of which the first is not refused.
+-- The arguments are those of several pools: there are at most 8, and the first is not refused.
 abbrev pub MayRunPools : List Text → Type 0
 MayRunPools words = (specs : List Text) × AsksForPools words specs × MayNamePools specs
 

@@ -46,7 +46,7 @@ pub fn main_with<R: Threads + Wait + Sync, I: Read, O: Write, E: Diagnostics>(
     // 0: the requested output was written and nothing else, and there is no error line.
     ensures succeeded { result ≡ 0 → (err.new ≡ err.old) × Succeeded (map (λ w. w.now) words.now)
         (I.remaining reader.old) (I.remaining reader.new) (O.contents out.old) (O.contents out.new) }
-    // 1: there was one fault, whose line is the only error line: writing failed, after the whole output was made; or
+    // 1: there was one fault, whose line is the only error line: writing failed after the whole output was complete; or
     // nothing was written, because the arguments or the reading are at fault.
     ensures complained { result ≡ 1 → (fault : Fault) × (result ≡ code_of (status_of fault)) × E.tells err.old (line_of fault) err.new
         × (CouldNotWrite (map (λ w. w.now) words.now) (I.remaining reader.old) (I.remaining reader.new) fault

@@ -27,7 +27,7 @@ fn text_commands<'a>(alloc: Global) -> Result<Command<'a>, AllocError>
 {
     Command::new(alloc, "tp")
         .version(VERSION)
-        .about("Task pools on several nodes, and the detector of their end")
+        .about("Runs task pools on several nodes, detects their termination, and audits traces")
         .after_help(TP_HELP)
         .subcommand_required(true)
         .subcommand(sim_command(alloc))?
@@ -39,7 +39,7 @@ fn sim_command<'a>(alloc: Global) -> Command<'a>
     ensures local { (out-Command result).has_globals ≡ false }
 {
     Command::new(alloc, "sim")
-        .about("Takes the steps of a script in turn and answers each")
+        .about("Takes the steps of a script in order and prints the reply to each")
         .after_help(SIM_HELP)
 }
 
@@ -48,7 +48,7 @@ fn audit_command<'a>(alloc: Global) -> Command<'a>
     ensures local { (out-Command result).has_globals ≡ false }
 {
     Command::new(alloc, "audit")
-        .about("Judges a trace, the record of a run, and believes none of its lines")
+        .about("Checks a trace, the record of a run, and trusts none of its lines")
         .after_help(AUDIT_HELP)
 }
 
@@ -70,7 +70,7 @@ fn spec_argument<'a>(alloc: Global) -> Arg<'a>
     ensures local { result.global ≡ false }
 {
     Arg::new(alloc, "SPEC").required(true).help(
-        "The pool, as product:4:2:0, wavefront:8:8:0 or reduce:16:0",
+        "The pool, such as product:4:2:0, wavefront:8:8:0 or reduce:16:0",
     )
 }
 
@@ -79,7 +79,7 @@ fn generations_option<'a>(alloc: Global) -> Arg<'a>
     ensures local { result.global ≡ false }
 {
     count_option(alloc, "generations", "1-9", MAX_GENERATIONS).help(
-        "K, how often the pool is run: it is reopened after each end but the last",
+        "K, how many times the pool runs: it is reopened after each run but the last",
     )
 }
 
@@ -90,7 +90,7 @@ fn trace_flag<'a>(alloc: Global) -> Arg<'a>
     Arg::new(alloc, "trace")
         .long("trace")
         .action(ArgAction::SetTrue)
-        .help("Prints the trace of the run and nothing else, as `tp audit` reads it")
+        .help("Prints only the trace of the run, which `tp audit` can check")
 }
 
 fn pools_command<'a>(alloc: Global) -> Result<Command<'a>, AllocError>
@@ -100,49 +100,51 @@ fn pools_command<'a>(alloc: Global) -> Result<Command<'a>, AllocError>
     let specs = Arg::new(alloc, "SPEC")
         .required(true)
         .action(ArgAction::Append)
-        .help("The pools, 1 to 8, each as product:4:2:0, wavefront:8:8:0 or reduce:16:0");
+        .help("The pools, 1 to 8, such as product:4:2:0, wavefront:8:8:0 or reduce:16:0");
     let command = Command::new(alloc, "pools")
-        .about("Runs several pools of tasks at once and prints how each ended")
+        .about("Runs several pools of tasks at the same time and prints a line for each")
         .after_help(POOLS_HELP)
         .arg(specs)?;
     with_counts(alloc, command)
 }
 
-static TP_HELP: &str = "Try the life of a task:
+static TP_HELP: &str = "Simulate the life of one task:
   printf 'nodes 1\\ninsert 0 1 0\\nbegin 1\\ndone 1\\nready 0\\n' | tp sim
 
-Try a pool of tasks, the sum of a tree's leaves:
+Run a pool that sums the leaves of a tree:
   tp run reduce:4:0 --nodes 2
 
-Every subcommand tells more with --help.";
+Each subcommand has its own --help.";
 
 static SIM_HELP: &str =
-    "The script is read from standard input: a line `nodes N`, 1 to 8, then a line
-for each step.
-  insert I T K   task T at node I waits for K inputs, 0 to 16
-  supply T       one input for task T
+    "The script is read from standard input: a line `nodes N`, 1 to 8, then one line
+for each step. The nodes have the numbers from 0 to N - 1.
+  insert I T K   node I inserts task T, which waits for K inputs, 0 to 16
+  supply T       task T receives one input
   begin T        task T begins to run
   done T         task T is done
   open I A       action A opens at node I
   close I A      action A closes at node I
-  ready I        node I opens nothing more at its start
+  ready I        the action that is open at node I from the start closes
   send I J M     node I sends message M to node J
-  recv J M       node J receives message M, whose action opens
+  recv J M       node J receives message M; the action of the message opens
   end J M        the action of message M closes at node J
-  start          the next wave of the detector opens at node 0
+  start          the next wave of the detector starts at node 0
   down I         node I takes the wave's token
-  give I         node I, idle, adds its counts to the wave
-  up I           the parent of node I takes the sums that it gave
+  give I         node I, if nothing is pending there, adds its counts to the wave
+  up I           the parent of node I takes the sums that node I gave
   judge          the wave that has ended is judged
 
-Behind a first line `script 2` a pool whose end was judged can be reopened, and a
-message names its generation, of which the first is 1:
-  reopen         the next generation begins, with all as at the start
+After a first line `script 2`, a pool whose end was judged can be reopened. The
+lines of a message then have the number of its generation, the first being 1:
+  reopen         the next generation begins, and all is as at the start
   send I J M G   recv J M G   end J M G
 
-Each step is answered by `ok`, by what a wave adds up, by `not` or `ended W`, by
-`generation G`, or by its refusal. Then come the numbers of each node and of all,
-and whether all is quiet.
+The reply to a step is one line: `ok`; for `give 0` the sums of the wave; for
+`judge` either `not` or `ended W`; for `reopen` `generation G`; or the refusal of
+the step. Then come the counts of each node and their sums, and `quiet yes` if
+nothing is pending and no message is in flight, else `quiet no`. Unfinished tasks
+and open actions are pending.
 
 An example:
   nodes 1
@@ -154,32 +156,33 @@ An example:
   ready 0
 
 The exit status is
-  0  where each step was answered, be it by its refusal;
-  1  where the words are at fault, the script could not be read or is longer
-     than 33,554,432 bytes, or the answer could not be written;
-  2  where a line is not of the grammar: `syntax line L` is the whole answer;
-  3  where memory was refused.";
+  0  if there is a reply to each step, even if it is a refusal;
+  1  if the arguments are wrong, the script cannot be read or is longer than
+     33,554,432 bytes, or the output cannot be written;
+  2  if a line does not match the grammar: only `syntax line L` is printed;
+  3  if an allocation fails.";
 
 static AUDIT_HELP: &str =
-    "The trace is read from standard input: the line `trace 1`, a line `nodes N`, 1 to
-8, then a line for each event of the run, in their order. These lines are those
-of `tp sim --help`, but for a judgement, which says what was judged:
-  judge not      the wave that has ended does not tell the end
-  judge ended W  all was done when wave W ended, W from 1 on
-A first line `trace 2` stands for `script 2`, and `reopen` may stand in the trace.
+    "The trace is read from standard input: the line `trace 1`, a line `nodes N`, 1
+to 8, then one line for each event of the run, in order. The lines are those of
+`tp sim --help`, except that a judgement has its result:
+  judge not      the wave that has ended does not prove termination
+  judge ended W  the pool had ended when wave W ended, W being at least 1
+After a first line `trace 2`, they are those of `script 2`, with `reopen`.
 
-The steps are taken by the rules alone, messages are counted afresh, and each
-judgement is worked out again. A trace that is sound is answered by these lines:
-  steps N                how many steps there are
-  tasks I done D         how many tasks were inserted, and how many are done
-  messages S received R  how many messages were sent, and how many received
-  generation G           of a `trace 2` alone: the number of the last generation
-  ended W                what its last judgement was, or `not ended`
+The audit takes the steps by the rules alone, counts the messages again, and
+computes each judgement again. For a sound trace it prints
+  steps N                the number of steps
+  tasks I done D         how many tasks were inserted, and how many were done
+  messages S received R  how many messages were sent, and how many were received
+  generation G           only for `trace 2`: the number of the last generation
+  ended W                the last judgement of that generation, or `not ended`
 
-Any other text is answered by one line, which tells the first mistake:
-  syntax line L           line L is not of the grammar
+For any other text it prints one line: for the first syntax error or, if there is
+none, for the first line that is wrong.
+  syntax line L           line L does not match the grammar
   line L refused K Name   the step in line L cannot happen there
-  line L unjustified      the judgement in line L is another
+  line L unjustified      the judgement in line L is wrong
 
 An example:
   trace 1
@@ -193,36 +196,35 @@ An example:
   judge ended 1
 
 The exit status is
-  0  where the trace is sound;
-  1  where the words are at fault, the trace could not be read or is longer
-     than 33,554,432 bytes, or the answer could not be written;
-  2  where the answer is a mistake;
-  3  where memory was refused.";
+  0  if the trace is sound;
+  1  if the arguments are wrong, the trace cannot be read or is longer than
+     33,554,432 bytes, or the output cannot be written;
+  2  if the trace is not sound;
+  3  if an allocation fails.";
 
-static RUN_HELP: &str =
-    "SPEC names one of three pools by its kind and its numbers, which have no leading
-zeros:
-  product:ORDER:SIDE:SEED      two matrices of ORDER, 1 to 64, are multiplied in
-                               square tiles; SIDE divides ORDER
-  wavefront:ROWS:COLUMNS:SEED  each cell of a table, 1 to 64 by 1 to 64, adds
-                               its cost to the least of those above and left
-  reduce:LEAVES:SEED           the leaves of a tree, a power of two from 1 to
-                               1024, are added up
-SEED, 0 to 9999, gives the numbers that a pool begins with.
+static RUN_HELP: &str = "SPEC is the kind of a pool and its numbers, which have no leading zeros:
+  product:ORDER:SIDE:SEED      multiplies two matrices of ORDER rows, 1 to 64, in
+                               square tiles of SIDE rows; SIDE divides ORDER
+  wavefront:ROWS:COLUMNS:SEED  computes a table, 1 to 64 by 1 to 64: a cell is its
+                               cost plus the least of the cells above and left
+  reduce:LEAVES:SEED           sums the leaves of a tree; their number is a power
+                               of two from 1 to 1024
+SEED, 0 to 9999, determines the numbers that a pool begins with.
 
-The pool's tasks run at N nodes, by W threads at each, and their values go from
-node to node as messages. When its end was detected the result is printed as a
-table, and then the number of tasks, the number of messages, and `ended`. Where
-the run is not refused, the table and the number of tasks do not depend on N and
-W; the number of messages depends on N.
+The tasks run on N nodes with W worker threads each, and their values go from
+node to node as messages. After the detector has reported termination, the result
+is printed as a table, and then the number of tasks, the number of messages, and
+`ended`. If the run is not refused, the table and the number of tasks do not
+depend on N and W; the number of messages depends on N.
 
-With --generations K the pool is run K times: once its end was detected it is
-reopened, and all is as at the start but the limit of events, which goes on. For
-each generation `generation 1` and so on is printed, and then those lines.
+With --generations K, K being at least 2, the pool runs K times. After each run
+but the last it is reopened, and all is as at the start, except that the limit of
+events holds for all generations together. For each of them `generation 1` and so
+on is printed, and then the lines of its run.
 
-With --trace the record of the run is printed in place of all this: each event of
-all generations in its order, as `tp audit --help` says its lines. It depends on
-N and W, and is another at each run.
+With --trace only the record of the run is printed: the events of all generations
+in order, as `tp audit --help` describes them. The trace depends on N and W, and
+may differ from run to run.
 
 Examples:
   tp run product:4:2:0 --nodes 2 --workers 2
@@ -230,35 +232,37 @@ Examples:
   tp run reduce:4:0 --nodes 2 --generations 2
 
 The exit status is
-  0  where the pool was run to its end and its text was written;
-  1  where the words are at fault, as `refused 26 BadSpec` where SPEC names no
-     pool, or the text could not be written;
-  3  where the run was refused, as `refused 16 HistoryFull`, or memory was; with
-     --trace also `refused 26 BadSpec`, where a number has more than six digits.
-It is never 2. `HistoryFull` comes where the pool needs more than 1,048,576
-events in all its generations: a task takes as many as it has inputs and 2 more,
-or 3 where it has none, and each message takes 3 more. `refused 17 NoMemory` comes where memory
-was refused, or a thread could not be started.";
+  0  if the run ended and its text was written;
+  1  if the arguments are wrong or the text cannot be written. A SPEC that names
+     no pool is `refused 26 BadSpec`;
+  3  if the run is refused or an allocation fails. With --trace a number of more
+     than six digits is `refused 26 BadSpec`, too.
+It is never 2. `refused 16 HistoryFull` means that the pool takes more than
+1,048,576 events in all its generations: a task takes 1 for each input and 2
+more, or 3 if it has no inputs; a message takes 3; nodes, waves and reopenings
+take some, too. `refused 17 NoMemory` means that an allocation failed, or that a
+thread could not be started.";
 
 static POOLS_HELP: &str =
-    "Each SPEC names a pool, as `tp run --help` says them; no two are the same. A pool's
-word is its name, and its number is its place among the words, from 0.
+    "Each SPEC names a pool as in `tp run --help`, and no two are the same. SPEC is
+also the pool's name, and its number P is its place among the arguments, from 0.
 
-All pools run at once, each at N nodes of its own, by W threads at each, and the
-fault of one stops no other. When all have ended a line is printed for each, in
-the order of the words:
-  pool P SPEC ended tasks T messages M   the end was detected, and each of its T
-                                         tasks has its result
-  pool P SPEC refused K Name             it was refused, as `refused 16 HistoryFull`
+All pools run at the same time, each on N nodes of its own with W worker threads
+each. If one is refused, the others continue. When all have ended, one line is
+printed for each, in the order of the arguments:
+  pool P SPEC ended tasks T messages M   termination was detected, and each of the
+                                         T tasks has its result
+  pool P SPEC refused K Name             the run was refused, for example with
+                                         `refused 16 HistoryFull`
 
 An example:
   tp pools reduce:16:0 wavefront:8:8:0 --nodes 4 --workers 2
 
 The exit status is
-  0  where each pool ended;
-  1  where the words are at fault, as `refused 23 StoreFull` where they are more
-     than 8, `refused 26 BadSpec` where one names no pool, `refused 25 PoolKnown`
-     where one stands twice, or the lines could not be written;
-  3  where a pool was refused, or memory was; a thread that could not be started
-     is `refused 17 NoMemory` too.
+  0  if each pool ended;
+  1  if the arguments are wrong or the lines cannot be written. More than 8 pools
+     are `refused 23 StoreFull`, a SPEC that names no pool `refused 26 BadSpec`,
+     and a SPEC that occurs twice `refused 25 PoolKnown`;
+  3  if a pool is refused or an allocation fails. A thread that could not be
+     started is `refused 17 NoMemory`, too.
 It is never 2.";

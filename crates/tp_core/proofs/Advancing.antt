@@ -1,4 +1,4 @@
--- Control steps move the waves and the list of steps alone.
+-- Control steps change nothing but the wave and the list of steps.
 use Rattle.tp_core.proofs.Words.{Global, ℕ, ◌+◌, ◌≡◌, ◌<◌, ◌≤◌, List, [], ◌∷◌, ◌++◌, Bool, true, false, Option, Some, None, length, refl}
 use Rattle.tp_core.proofs.Words.{ap, sym, arith, IsTrue, IsFalse, IsOk, Ok, Err, Result, Vec, vec_capacity, slice_index_or, ◌==◌}
 use Rattle.tp_core.proofs.Words.{if◌then◌else◌, Refusal, Step, Start, Down, Give, Up, Judge, MAX_STEPS, MAX_NODES, Sums, Inside}
@@ -11,7 +11,7 @@ use Rattle.tp_core.proofs.Generations.{length-present, no_reopening}
 use Rattle.tp_core.proofs.Keeping.{zeros, moved, numbers_stay, agree_after}
 use Rattle.tp_core.proofs.Places.{control_places}
 
--- ---- neither the world nor a number is moved
+-- ---- the world and the counters stay the same
 pub world_stays : (s : Step) (w : World) → IsTrue (is_control s) → after s w ≡ w
 world_stays Start w c = refl
 world_stays (Down j) w c = refl
@@ -36,7 +36,7 @@ under_stays (Up j) k c = refl
 under_stays Judge k c = refl
 under_stays (s) k c = cc
 
--- what is lawful in the present generation may come after all steps
+-- A control step that is lawful in the present generation may come next.
 pub control_comes : (n : ℕ) (past : List Step) (s : Step) → IsTrue (is_control s) → IsLawful n (present past) s → MayCome n past s
 control_comes n past Start c h = record { reopens = λ f. cc; goes_on = λ f. (h, tt) }
 control_comes n past (Down j) c h = record { reopens = λ f. cc; goes_on = λ f. (h, tt) }
@@ -45,7 +45,7 @@ control_comes n past (Up j) c h = record { reopens = λ f. cc; goes_on = λ f. (
 control_comes n past Judge c h = record { reopens = λ f. cc; goes_on = λ f. (h, tt) }
 control_comes n past (s) c h = cc
 
--- ---- the waves of a core
+-- ---- the wave of a core
 pub waves_of : {c : Inside} → IsKept c → HasWaves c.nodes c.numbers (accepted c).steps c.wave
 waves_of agree = record {
   some_node = agree.some_node;
@@ -82,7 +82,7 @@ pub few_received : {n : ℕ} {numbers : List NodeNumbers} {steps : List Step} {w
 few_received {n} {numbers} {steps} i h l =
     rw (h.numbers_are.each i zeros l) (omega (arith, count_bound (is_recv_at i) (present steps), length-present steps, h.within))
 
--- ---- whether the end was judged
+-- ---- whether termination was detected
 over_judged : (o : Option ℕ) → over_of (judged o) ≡ o
 over_judged None = refl
 over_judged (Some w) = refl
@@ -104,7 +104,7 @@ told_reply n past (Up i) c e = e
 told_reply n past Judge c e = told_judge n (present past) _ e (over_judged (judgement n (present past)))
 told_reply n past (s) c e = cc
 
--- a lawful step is taken
+-- A step that passes its checks is taken.
 pub is_taken : (n : ℕ) (past : List Step) (s : Step) (r : Result Reply Refusal) (w : Wave) → Advances n past s r w
     → refusal_of n past s ≡ None → IsOk r
 is_taken n past s (Ok reply) w h none = refl

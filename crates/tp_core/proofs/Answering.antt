@@ -1,11 +1,11 @@
--- What the answers to steps tell.
+-- What the results of steps imply.
 use Rattle.tp_core.proofs.Words.{ℕ, Result, take, get_or, ◌+◌, ◌≡◌, ◌<◌, List, [], ◌∷◌, ◌++◌, true, false, Option, Some, None, length, refl}
 use Rattle.tp_core.proofs.Words.{ap, subst, ◌∙◌, arith, take_more, IsOk, Ok, Err, ◌≢◌, ◌↔◌, list_any, Step, Insert, Refusal, NoMemory}
 use Rattle.tp_core.proofs.Words.{Reply, Accepted, refusal, answer, answers, next, after_all, is_no_memory, Answers, AnswersAll}
 use Rattle.tp_core.proofs.Words.{IsAcceptable, IsRefusedFor, asks_memory}
 use Rattle.tp_core.proofs.Exact.{lawful_where_none, none_where_lawful}
 
--- ---- answers to several steps
+-- ---- the results of several steps
 pub AnswersAll-more : (old : Accepted) (steps : List Step) (rs : List (Result Reply Refusal)) (mid new : Accepted) (s : Step)
     (r : Result Reply Refusal)
     → AnswersAll old steps rs mid → Answers mid s r new → AnswersAll old (steps ++ s ∷ []) (rs ++ r ∷ []) new
@@ -15,7 +15,7 @@ AnswersAll-more old (x ∷ xs) (y ∷ ys) mid new s r before now =
 AnswersAll-more old [] (y ∷ ys) mid new s r before now = absurd before
 AnswersAll-more old (x ∷ xs) [] mid new s r before now = absurd before
 
--- what a slice of steps reads past its end
+-- the default for a read past the end of a slice of steps
 abbrev pub no_step : Step
 no_step = Insert (record { 0 = 0 }) (record { 0 = 0 }) (record { count = 0 })
 
@@ -25,7 +25,7 @@ pub AnswersAll-next : (old mid new : Accepted) (steps : List Step) (i : ℕ) (rs
 AnswersAll-next old mid new steps i rs r h before now =
     rw (take_more steps i no_step h) (AnswersAll-more old (take i steps) rs mid new (get_or steps i no_step) r before now)
 
--- ---- what an answer tells
+-- ---- what one result implies
 acceptable_where_lawful : (a : Accepted) (s : Step) → IsAcceptable a s → refusal a s ≡ None
 acceptable_where_lawful a s h = none_where_lawful a s h.0 h.1
 
@@ -35,7 +35,7 @@ exact_answer old new s (Ok reply) h ample = (λ _. lawful_where_none old s h.0, 
 exact_answer old new s (Err e) h ample =
     (λ ok. grind (arith, ok), λ may. absurd (ample (ap (λ x. Err x) (rw (acceptable_where_lawful old s may) at h.0).0)))
 
--- With ample memory the answer is a function of the step and of those before.
+-- Unless memory runs out, the result is a function of the step and those before.
 pub ample_answer : (old new : Accepted) (s : Step) (r : Result Reply Refusal) → Answers old s r new → r ≢ Err NoMemory
     → (r ≡ answer old s) × (new ≡ next old s)
 ample_answer old new s (Ok reply) h ample = (rw (h.0, h.1) refl, rw (h.0, h.2) refl)

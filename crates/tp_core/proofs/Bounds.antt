@@ -1,4 +1,4 @@
--- No counter of a core leaves its type.
+-- No counter of a core overflows, or falls below 0.
 use Rattle.tp_core.proofs.Words.{ℕ, zero, suc, ◌+◌, ◌≡◌, ◌<◌, ◌≤◌, List, [], ◌∷◌, Bool, true, Some, length, refl, ap, ◌∙◌, arith, zero-le}
 use Rattle.tp_core.proofs.Words.{nat_tests, not, slice_index_or, Step, MAX_STEPS, MAX_NODES, count, is_send_of, is_recv_at, Inside, NodeId}
 use Rattle.tp_core.proofs.Words.{Held, Life, NodeNumbers, present, World, Task, Action, Kind, OfMessage, is_under_way, is_action}
@@ -53,7 +53,7 @@ fewer_actions i (x ∷ xs) = grind (arith, fewer_actions i xs)
 pending-le-left : (i : ℕ) (w : World) → pending i w ≤ all_left w
 pending-le-left i w = let tasks = fewer_tasks i w.tasks in let actions = fewer_actions i w.actions in omega arith
 
--- how large what a core counts can be
+-- upper bounds of the counters
 pub record AreSmall (x : NodeNumbers) (all under_way : ℕ) : Type 0 where
   pub pending : x.pending ≤ all
   pub left : all ≤ MAX_STEPS + MAX_NODES
@@ -81,7 +81,7 @@ lowered {c} agree i low active =
     let here : 1 ≤ (slice_index_or c.numbers i zeros).pending = rw (agree.numbers.each i zeros low) active in
     let bound = (small agree i low).pending in (here, omega arith)
 
--- a running task may be done: what it counts is above 0
+-- A running task can be done: the counters that this lowers are above 0.
 pub record MayEnd (c : Inside) (i : ℕ) : Type 0 where
   pub pending : 1 ≤ (slice_index_or c.numbers i zeros).pending
   pub left : 1 ≤ c.left
@@ -92,7 +92,7 @@ may_end {c} {t} {h} agree task runs =
     let both = lowered agree h.home.0 task.inside (rw (← task.home) active) in
     record { pending = both.0; left = both.1 }
 
--- an open action may close: it is there once, and what it counts is above 0
+-- An open action can close: it is in the list once, and the counters that this lowers are above 0.
 pub record MayClose (c : Inside) (i : ℕ) (kind : Kind) : Type 0 where
   pub inside : i < MAX_NODES
   pub there : is_open i kind (world_of (accepted c)) ≡ true
@@ -119,7 +119,7 @@ pub may_end_message : {c : Inside} → IsKept c → (i : NodeId) (m : ℕ) → i
     → MayClose c i.0 (OfMessage m)
 may_end_message {c} agree i m below was = may_close agree i.0 below (OfMessage m) (grind (arith, nat_tests, was))
 
--- a message that is under way is counted
+-- A message in flight can be received: the counter that this lowers is above 0.
 pub record MayReceive (c : Inside) (i m : ℕ) : Type 0 where
   pub inside : i < MAX_NODES
   pub there : is_under_way m i (world_of (accepted c)) ≡ true

@@ -1,4 +1,4 @@
--- A control step that is due can be taken where nothing is left, and the core goes on as it was.
+-- If the pool is quiet, the next control step can be taken, and it keeps the loop invariant of settling.
 use Rattle.tp_core.proofs.Words.{ℕ, ◌+◌, ◌*◌, ◌≡◌, ◌<◌, ◌≤◌, List, [], ◌∷◌, ◌++◌, Bool, false, Option, Some, None, length, reverse, refl}
 use Rattle.tp_core.proofs.Words.{ap, sym, subst, ◌∙◌, arith, IsTrue, IsFalse, length-append, reverse-append, length-reverse}
 use Rattle.tp_core.proofs.Words.{list_all, Step, Start, Down, Give, Up, Judge, MAX_STEPS}
@@ -12,12 +12,12 @@ use Rattle.tp_core.proofs.Quiet.{nothing_pending_when_quiet}
 use Rattle.tp_core.proofs.Settling.{judged_soon}
 use Rattle.tp_core.proofs.Generations.{no_reopening, present-control, present-goes_on}
 
--- ---- what the step that is due needs
+-- ---- the premise of `Wave::next_step`
 pub stands : {n : ℕ} {numbers : List NodeNumbers} {steps : List Step} {w : Wave} → MaySettle n numbers steps w
     → Stands n false (present steps) w
 stands {n} {numbers} {steps} {w} m = subst (λ (b : Bool). Stands n b (present steps) w) m.not_ended m.waves.follows.stands
 
--- ---- it is lawful, and passes all checks
+-- ---- the next step is lawful, and passes all checks
 lawful_due : (n : ℕ) (past : List Step) (s : Step) → IsFalse (is_ended n past) → IsQuiet (world n past) → IsTrue (is_control s)
     → IsDue n past s → IsLawful n past s
 lawful_due n past Start e q c d = (e, d)
@@ -46,12 +46,12 @@ one_taken {n} items s m control due pushed follows told = record {
   is_told = told;
 }
 
--- ---- the run goes on
+-- ---- the loop invariant after the step
 pub soon : {n : ℕ} {numbers : List NodeNumbers} {old : List Step} {w : Wave} (later : List Step) → MaySettle n numbers old w
     → IsLawfulRun n (later ++ present old) → length later < 9 * n
 soon {n} {numbers} {old} later m run = (judged_soon n later (present old) m.waves.some_node run m.quiet).0
 
--- the present steps after control steps
+-- the steps of the present generation, after control steps
 now_present : (s : Step) (past : List Step) → IsTrue (is_control s) → present (s ∷ past) ≡ s ∷ present past
 now_present s past c = present-goes_on s past (no_reopening s c)
 
@@ -114,7 +114,7 @@ ends {n} {count} {ended} {numbers} {old} {now} {next} {first} {w} {after'} m g t
       follows = subst (λ (xs : List Step). Follows n xs after') now' t.follows;
     }
 
--- ---- how many steps were taken so far
+-- ---- the number of steps taken so far
 pub few_so_far : {n count : ℕ} {numbers : List NodeNumbers} {old now : List Step} {first w : Wave} → MaySettle n numbers old first
     → GoesOn n numbers old now w count
     → (count < 9 * n) × (length now ≡ length old + count)

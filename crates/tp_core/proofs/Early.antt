@@ -1,4 +1,4 @@
--- The detector is never early: from the end of the wave that it names on, nothing was left.
+-- Safety: the detector is never early. From the end of the wave that a judgement names on, the pool was quiet.
 use Rattle.tp_core.proofs.Words.{ℕ, suc, ◌+◌, ◌≡◌, ◌<◌, ◌≤◌, List, [], ◌∷◌, ◌++◌, Bool, true, false, Option, Some, None, length, refl, ap}
 use Rattle.tp_core.proofs.Words.{sym, ◌∙◌, inl, inr, arith, append_assoc, cases_lt, not, list_any, Step, Insert, Give, Judge, before, any}
 use Rattle.tp_core.proofs.Words.{count, is_give, judgement, visited_at, in_wave, has_ended, History, before-all, before-past}
@@ -54,13 +54,13 @@ pub IsLawfulRun-past : (n : ℕ) (later past : List Step) → IsLawfulRun n (lat
 IsLawfulRun-past n [] past r = r
 IsLawfulRun-past n (s ∷ later) past r = IsLawfulRun-past n later past r.1
 
--- ---- a wave that has ended has visited the root
+-- ---- if a wave has ended, there is a root
 some_root : (n : ℕ) (past : List Step) → IsLawfulRun n past → in_wave (is_give 0) past ≡ true → 0 < n
 some_root n [] r h = grind arith
 some_root n (Give i ∷ past) r h = let inside = r.0.0.1.0 in omega arith
 some_root n (s ∷ past) r h = some_root n past r.1 (grind (arith, h))
 
--- ---- nothing was left from the end of that wave on
+-- ---- the pool was quiet from the end of that wave on
 quiet_from : (n w : ℕ) (later past : List Step) → IsLawfulRun n (later ++ Judge ∷ past) → judgement n past ≡ Some w → (q : ℕ)
     → visited_at w 0 past ≤ q
     → IsQuiet (world n (before q (later ++ Judge ∷ past)))
@@ -78,7 +78,7 @@ quiet_from n w later past r judged q h =
     (quiet_seen n (before q (later ++ Judge ∷ past)) pos (IsLawfulRun-before n q (later ++ Judge ∷ past) r)).0
     (rw (← before-history n q (later ++ Judge ∷ past), whole) there)
 
--- ---- each task has run once where nothing is left
+-- ---- if the pool is quiet, each task has run once
 some_counted : (test : Step → Bool) (steps : List Step) → any test steps ≡ true → 0 < count test steps
 some_counted test [] h = grind arith
 some_counted test (s ∷ past) h = grind (arith, some_counted test past)
@@ -101,7 +101,7 @@ run_once n t steps r quiet there = choose (life_of t (world n steps)) refl
         record { inserted = rw is at once.inserted; begun = rw is at once.begun; done = rw is at once.done }
     choose (Some l) is = let done = all_done t l (world n steps).tasks quiet.0 is in absurd (grind (arith, done))
 
--- ---- nothing is inserted where nothing is left
+-- ---- if the pool is quiet, nothing is inserted
 no_insert : (n t : ℕ) (past : List Step) (s : Step) → IsLawfulRun n (s ∷ past) → IsQuiet (world n past) → is_insert_of t s ≡ false
 no_insert n t past (Insert i u k) r quiet = let none = nothing_pending_when_quiet i.0 (world n past) quiet in let active =
     r.0.2 in absurd (omega arith)

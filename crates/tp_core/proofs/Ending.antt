@@ -1,4 +1,4 @@
--- What a core answers that takes control steps to the end, and what it is then.
+-- The result of `settle`, and the core after it.
 use Rattle.tp_core.proofs.Words.{Global, ℕ, ◌+◌, ◌*◌, ◌≡◌, ◌≤◌, ◌↔◌, List, [], ◌∷◌, ◌++◌, Bool, true, false, None, length, reverse, refl}
 use Rattle.tp_core.proofs.Words.{ap, sym, subst, ◌∙◌, inl, inr, arith, IsTrue, IsFalse, length-append, cases_Bool, both_ways, and_parts}
 use Rattle.tp_core.proofs.Words.{nat_tests, length-reverse, Vec, vec_capacity, list_all, Refusal, NotIdle, Step}
@@ -14,7 +14,7 @@ use Rattle.tp_core.proofs.Settling.{judged_soon}
 use Rattle.tp_core.proofs.Generations.{no_reopening, present-control}
 use Rattle.tp_core.proofs.Advancing.{control_comes, world_stays, moved_stays, waves_of}
 
--- ---- the test of quiet
+-- ---- the test whether the world is quiet
 quiet_shown : (w : World) → IsTrue (is_quiet w) → IsQuiet w
 quiet_shown w q = (
   grind (arith, nat_tests, q),
@@ -70,7 +70,7 @@ ready_there c mid agree e q stay =
     subst (λ (n : ℕ). MaySettle n c.numbers (reverse mid) c.wave) (sym agree.wave.stands.nodes)
     (subst (λ (xs : List Step). MaySettle c.nodes c.numbers (reverse xs) c.wave) (sym stay) (may_settle agree e q))
 
--- ---- after they were taken
+-- ---- after the steps were taken
 same_world : (n : ℕ) (later old : List Step) → IsTrue (list_all is_control later) → world n (later ++ old) ≡ world n old
 same_world n [] old c = refl
 same_world n (s ∷ later) old c =
@@ -84,7 +84,7 @@ same_numbers n xs (s ∷ later) old c r h =
     let parts : IsTrue (is_control s) × IsTrue (list_all is_control later) = and_parts (is_control s) (list_all is_control later) c in
     numbers_stay s (same_numbers n xs later old parts.1 r.1 h) r.0 (λ x. moved_stays s x parts.0)
 
--- fewer steps fit where more do
+-- If more steps fit, fewer do.
 pub fewer_pieces : (few many capacity : ℕ) → few ≤ many → HasPieces many capacity → HasPieces few capacity
 fewer_pieces few many capacity l h = omega (arith, l, h)
 

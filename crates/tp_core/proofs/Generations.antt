@@ -1,4 +1,4 @@
--- What holds of a run of one generation holds in each.
+-- What holds for a run of one generation holds in each generation.
 use Rattle.tp_core.proofs.Words.{ℕ, suc, ◌≡◌, ◌<◌, ◌≤◌, List, [], ◌∷◌, ◌++◌, true, false, cond, length, refl, ap, ◌∙◌, inl, inr, arith}
 use Rattle.tp_core.proofs.Words.{IsTrue, IsFalse, cases_Bool, and_parts, list_all, Step, Reopen, is_reopen, is_control, steps_of}
 use Rattle.tp_core.proofs.Words.{pending_at, present, present_events, World, world, history, node_of}
@@ -23,7 +23,7 @@ length-present (s ∷ past) =
       | false ↦ omega (arith, length-present past)
     ]
 
--- Control steps go on with the generation.
+-- Control steps stay in the present generation.
 pub present-control : (later past : List Step) → IsTrue (list_all is_control later) → present (later ++ past) ≡ later ++ present past
 present-control [] past c = refl
 present-control (s ∷ later) past c =
@@ -48,7 +48,7 @@ generations_are_runs n steps r later past e = present_run n past (runs_past n la
 pub never_early_in_each : NeverEarlyInEach
 never_early_in_each n steps r later past e = never_early n (present past) (generations_are_runs n steps r later past e)
 
--- ---- the machine's history
+-- ---- the history of the counting machine
 steps_of-after : (n : ℕ) (steps : List Step) → steps_of (history_after n steps) ≡ steps
 steps_of-after n [] = refl
 steps_of-after n (s ∷ past) = ap (λ xs. s ∷ xs) (steps_of-after n past)

@@ -1,4 +1,4 @@
--- What a core keeps goes on to be what its steps say.
+-- A step keeps the type invariant of a core.
 use Rattle.tp_core.proofs.Words.{ℕ, ◌+◌, ◌-◌, ◌≡◌, ◌<◌, ◌≤◌, List, [], ◌∷◌, ◌++◌, Bool, true, false, IsFalse, Some, length, refl}
 use Rattle.tp_core.proofs.Words.{ap, sym, subst, ◌∙◌, arith, set, length-set, eqb-true, nat_tests, reverse-append, length-reverse}
 use Rattle.tp_core.proofs.Words.{length-append, ◌==◌, not, vec_capacity, if◌then◌else◌, slice_index_or, Step, Insert, Supply, Begin}
@@ -13,7 +13,7 @@ use Rattle.tp_core.proofs.Written.{written}
 use Rattle.tp_core.proofs.Generations.{present-goes_on}
 use Rattle.tp_core.specs.declared.life.Life.TheVariants as life
 
--- ---- the numbers of the nodes
+-- ---- the counters of the nodes
 abbrev sent_after : Step → ℕ → ℕ
 sent_after (Send i j m g) k = k + 1
 sent_after _ k = k
@@ -22,7 +22,7 @@ abbrev received_after : Step → ℕ → ℕ
 received_after (Recv j m g) k = k + 1
 received_after _ k = k
 
--- how a step moves the numbers of its node
+-- the counters of a node after a step of its own
 abbrev pub moved : Step → NodeNumbers → NodeNumbers
 moved s x = record { pending = pending_after s x.pending; sent = sent_after s x.sent; received = received_after s x.received }
 
@@ -59,11 +59,11 @@ numbers_step a s i lawful =
     )
     (joined (node_of (world a.nodes a.steps) s == i) 0 0 (moved s (numbers_in i a)) (numbers_in i a))
 
--- the numbers of a node that has none
+-- all counters 0
 abbrev pub zeros : NodeNumbers
 zeros = record { pending = 0; sent = 0; received = 0 }
 
--- a step that moves no number
+-- a step that changes no counter
 pub numbers_stay : {a : Accepted} {xs : List NodeNumbers} (s : Step) → HasNumbers xs a → IsLawful a.nodes a.steps s
     → ((x : NodeNumbers) → moved s x ≡ x)
     → HasNumbers xs (with_step a s)
@@ -78,7 +78,7 @@ numbers_stay {a} {xs} s kept lawful stay =
     choose i true = refl
     choose i false = refl
 
--- a step that moves the numbers of node j
+-- a step that changes the counters of node j
 pub numbers_written : {a : Accepted} {xs : List NodeNumbers} (s : Step) → HasNumbers xs a → IsLawful a.nodes a.steps s
     → (j : ℕ) (v : NodeNumbers) → j < MAX_NODES
     → j ≡ node_of (world a.nodes a.steps) s → v ≡ moved s (slice_index_or xs j zeros) → HasNumbers (set xs j v) (with_step a s)
@@ -98,7 +98,7 @@ numbers_written {a} {xs} s kept lawful j v low at is = record { size = length-se
         rw (written xs j i v d (omega arith), is, kept.each j zeros low, kept.each i d inside) refl in
         now ∙ choose i (j == i) refl ∙ sym step
 
--- a node that is not there has no numbers
+-- The counters for a number that names no node are 0.
 pub outside : (n i : ℕ) (steps : List Step) → 0 < n → IsLawfulRun n steps → n ≤ i
     → numbers_in i (record { nodes = n; steps = steps }) ≡ zeros
 outside n i [] pos r h = ap (λ p. record { pending = p; sent = 0; received = 0 }) (grind (arith, nat_tests, open_at-openings i n))
@@ -106,7 +106,7 @@ outside n i (s ∷ past) pos r h =
     let inside = node_inside n past s pos r.1 r.0 in
     numbers_step (record { nodes = n; steps = past }) s i r.0 ∙ grind (arith, nat_tests, inside, outside n i past pos r.1 h)
 
--- ---- what is left
+-- ---- unfinished tasks and open actions
 left-with_life : (t : ℕ) (f : Life → Life) (l : Life) (xs : List Task) → life_in t xs ≡ Some l
     → how_many (λ x. not (is_done x.life)) (with_life t f xs) + one_if (not (is_done l))
     ≡ how_many (λ x. not (is_done x.life)) xs + one_if (not (is_done (f l)))
@@ -134,16 +134,16 @@ under_step n past (Send i j m g) r = grind arith
 under_step n past (Recv j m g) r = let e = length-without (is_message m.0 j.0) (world n past).messages r.1 in grind (arith, e)
 under_step n past (s) r = refl
 
--- ---- all of it
+-- ---- the whole invariant
 pub accepted_next : (c d : Inside) (s : Step) → d.nodes ≡ c.nodes → d.steps.items ≡ c.steps.items ++ s ∷ []
     → accepted d ≡ with_step (accepted c) s
 accepted_next c d s nodes pushed = rw (nodes, pushed, reverse-append c.steps.items (s ∷ [])) refl
 
--- what happened in the present generation, one step more
+-- A step other than a reopening stays in the present generation.
 pub generation-goes_on : (s : Step) (past : List Step) → IsFalse (is_reopen s) → generation (s ∷ past) ≡ generation past
 generation-goes_on s past on = rw on
 
--- one step more
+-- the bound on the capacity, after one more step
 pub frugal_next : (count room : ℕ) → IsFrugal count room → IsFrugal (count + 1) room
 frugal_next count room h = omega (arith, h)
 
@@ -186,7 +186,7 @@ agree_after {c} {d} {mid} s agree comes on room pieces frugal nodes same_generat
       wave = subst (λ (xs : List Step). Follows c.nodes xs d.wave) (sym now) follows;
     }
 
--- a step of the pool
+-- the invariant after a step of the pool
 pub agree_next : {c d : Inside} {mid : List Step} {room : ℕ} (s : Step) → IsKept c → MayCome c.nodes (accepted c).steps s
     → IsFalse (is_reopen s) → length c.steps.items < MAX_STEPS
     → HasPieces (length c.steps.items + 1) room → IsFrugal (length c.steps.items) room → is_control s ≡ false → d.nodes ≡ c.nodes

@@ -1,4 +1,4 @@
--- The lemmas that the answers of the functions cite, under one name.
+-- The lemmas that the proofs of the functions use, collected in one module.
 pub use Rattle.tp_core.proofs.Advancing.{waves_of, agree_control, few_sent, few_received}
 pub use Rattle.tp_core.proofs.Advancing.{told_as, told_reply, is_taken}
 pub use Rattle.tp_core.proofs.Answering.{AnswersAll-next, ample_answer, exact_answer, runs_are_determined}

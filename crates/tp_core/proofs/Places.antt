@@ -1,9 +1,9 @@
--- The places of numbers in the tables of a core, as the steps go on.
+-- The places of numbers in the tables of a core, after each step.
 use Rattle.tp_core.proofs.Words.{ℕ, ◌≡◌, List, [], ◌∷◌, ◌++◌, Bool, true, false, refl, IsTrue, and_parts, ◌||◌, not, list_all, Step, Start}
 use Rattle.tp_core.proofs.Words.{Down, Give, Up, Judge, Table, has_place, is_control, any, Held, NodeSet, Posted, is_action_beside}
 use Rattle.tp_core.proofs.Words.{is_message_beside, is_task_beside, HasPlaces}
 
--- No place is lost from the one table to the other.
+-- The new table has each place of the old one.
 abbrev pub Keeps : {V : Type 0} → Table V → Table V → Type 0
 Keeps old new = (k : ℕ) → IsTrue (has_place old k) → IsTrue (has_place new k)
 
@@ -12,7 +12,7 @@ either : (a b : Bool) (P : Type 0) → (IsTrue a → P) → (IsTrue b → P) →
 either true b P f g h = f refl
 either false b P f g h = g h
 
--- a step for which each table has its places
+-- after a step, if the tables have the places that it made
 pub places_next : {past : List Step} {tasks tasks' : Table Held} {named named' : Table NodeSet} {messages messages' : Table Posted}
     (s : Step)
     → HasPlaces past tasks named messages → Keeps tasks tasks' → Keeps named named' → Keeps messages messages'
@@ -29,7 +29,7 @@ places_next {past} {tasks} {tasks'} {named} {named'} {messages} {messages'} s ke
           (λ old. m k (kept.messages k old)) h;
     }
 
--- places that stay where no step is taken
+-- without a step, if no place is lost
 pub places_stay : {past : List Step} {tasks tasks' : Table Held} {named named' : Table NodeSet} {messages messages' : Table Posted}
     → HasPlaces past tasks named messages → Keeps tasks tasks' → Keeps named named' → Keeps messages messages'
     → HasPlaces past tasks' named' messages'
@@ -44,7 +44,7 @@ places_stay kept t n m =
 pub no_places : {tasks : Table Held} {named : Table NodeSet} {messages : Table Posted} → HasPlaces [] tasks named messages
 no_places = record { tasks = λ k h. cc; named = λ k h. cc; messages = λ k h. cc }
 
--- control steps make no place
+-- Control steps make no places.
 control_place : {past : List Step} {tasks : Table Held} {named : Table NodeSet} {messages : Table Posted} (s : Step) → IsTrue (is_control s)
     → HasPlaces past tasks named messages → HasPlaces (s ∷ past) tasks named messages
 control_place Start c h = record { tasks = h.tasks; named = h.named; messages = h.messages }
@@ -62,7 +62,7 @@ control_places (s ∷ later) past c h =
     let parts : IsTrue (is_control s) × IsTrue (list_all is_control later) = and_parts (is_control s) (list_all is_control later) c in
     control_place s parts.0 (control_places later past parts.1 h)
 
--- A number without a place in its table is one for which no step made any.
+-- If a number has no place in its table, no step made one for it.
 pub asks : (made has : Bool) → (IsTrue made → IsTrue has) → has ≡ false → not made ≡ true
 asks true has there none = let yes : has ≡ true = there refl in cc
 asks false has there none = refl

@@ -1,4 +1,4 @@
--- What is accepted is a run.
+-- The steps that a core accepts are runs.
 use Rattle.tp_core.proofs.Words.{ℕ, ◌≡◌, List, [], ◌∷◌, Option, None, Some, refl, subst, is_some, if◌then◌else◌, Step, Refusal, Accepted}
 use Rattle.tp_core.proofs.Words.{refusal, next, with_step, after_all, AcceptedIsNeverEarly, MayCome, AreRuns}
 use Rattle.tp_core.proofs.Exact.{lawful_where_none}

@@ -1,9 +1,9 @@
--- What the tables of a core tell of its world.
+-- What the tables of a core imply for its world.
 use Rattle.tp_core.proofs.Words.{ℕ, ◌≡◌, ◌<◌, Option, Some, None, ap, ◌∙◌, arith, is_some, ◌==◌, unwrap_or, find, option_map, MAX_NODES}
 use Rattle.tp_core.proofs.Words.{Inside, Held, Task, life_of, home_of, lookup, present, world_of, accepted, held, IsKept}
 use Rattle.tp_core.proofs.Counting.{home_inside}
 
--- a task that the table has
+-- a task that is in the table
 pub record Lives (c : Inside) (t : ℕ) (h : Held) : Type 0 where
   pub life : life_of t (world_of (accepted c)) ≡ Some h.life
   pub home : home_of t (world_of (accepted c)) ≡ h.home.0

@@ -1,4 +1,4 @@
--- From a quiet core control steps lead to the end.
+-- Control steps lead from a quiet world to the detection of termination.
 use Rattle.tp_core.proofs.Words.{ℕ, ◌≡◌, List, ◌++◌, refl, ap, sym, ◌∙◌, arith, IsTrue, Event, NodeId, Step, Start, Down, Give, Up, Judge}
 use Rattle.tp_core.proofs.Words.{is_control, IsControlStep, History, steps_of, pending_at, ComesNext, quiet_law, soon_law, goes_on_law}
 use Rattle.tp_core.proofs.Words.{history, IsLawful, IsLawfulRun, JudgedSoon}
@@ -8,7 +8,7 @@ use Rattle.tp_core.proofs.Early.{events_after, history-append, length-after, IsL
 use Rattle.tp_wave.specs.Machine as machine
 use Rattle.tp_wave.specs.Cut as cut
 
--- a control step of the machine is lawful for the core
+-- A control step that the machine may take is lawful for the core.
 lawful_control : (n : ℕ) (past : List Step) (node : NodeId) (s : Step) → IsLawfulRun n past → IsTrue (is_control s)
     → machine.IsNext n (history n past) (node, s) → IsLawful n past s
 lawful_control n past node Start r c next = rw (steps_of-history n past) at (next.control refl)

@@ -1,4 +1,4 @@
--- What a new core keeps, and where what is kept is quiet.
+-- The type invariant of a new core and of a reopened one, and why the counters show whether the world is quiet.
 use Rattle.tp_core.proofs.Words.{ℕ, zero, suc, ◌+◌, ◌≡◌, ◌<◌, ◌≤◌, List, [], ◌∷◌, ◌++◌, Bool, false, None, length, refl, ap, sym, ◌∙◌}
 use Rattle.tp_core.proofs.Words.{arith, zero-le, subst, nat_tests, ◌&&◌, vec_capacity, nat_lt}
 use Rattle.tp_core.proofs.Words.{list_any, MAX_NODES, MAX_STEPS, Step, Reopen, MayCome, length-reverse, length-append}
@@ -56,7 +56,7 @@ first_kept {c} some few empty none first opened left under no_name no_task no_me
       wave = follows;
     })
 
--- where a pool whose end was judged was reopened: all is as at first, but the list goes on
+-- after a reopening: everything is as in a new core, except that the list of steps and the generation go on
 pub reopened_kept : {c d : Inside} {mid : List Step} {room : ℕ} → IsKept c → MayCome c.nodes (accepted c).steps Reopen
     → length c.steps.items < MAX_STEPS
     → HasPieces (length c.steps.items + 1) room → IsFrugal (length c.steps.items) room → d.nodes ≡ c.nodes
@@ -85,7 +85,7 @@ reopened_kept {c} {d} {mid} agree comes room pieces frugal nodes next stay pushe
       wave = follows;
     }
 
--- ---- what is kept tells whether the world is quiet
+-- ---- the counters show whether the world is quiet
 none_left : {A : Type 0} (p : A → Bool) (xs : List A) → how_many p xs ≡ 0 → list_any p xs ≡ false
 none_left p [] h = refl
 none_left p (x ∷ xs) h = grind (arith, none_left p xs)

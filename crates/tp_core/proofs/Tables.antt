@@ -1,4 +1,4 @@
--- What the tables of a core say of the world after a change.
+-- The tables of a core after a change of its world.
 use Rattle.tp_core.proofs.Words.{ℕ, ◌≡◌, ◌≤◌, List, [], ◌∷◌, Bool, true, false, Option, Some, None, refl, sym, ◌∙◌, arith, eqb-true}
 use Rattle.tp_core.proofs.Words.{nat_tests, ◌==◌, ◌&&◌, if◌then◌else◌, find, list_any, option_map, NodeId, Held, Life, NodeSet, Posted}
 use Rattle.tp_core.proofs.Words.{Table, lookup, Puts, has, Task, Action, Message, Kind, Opening, Named, OfMessage, same_kind, is_action}
@@ -44,7 +44,7 @@ task_changed {table} {tasks} kept new t h f there puts =
         held_again (find (λ x. x.number == q) tasks) f h (sym (kept.found q) ∙ (rw same at (sym there)))
     choose q false is = refl
 
--- ---- one thing taken out of a list
+-- ---- one element removed from a list
 none_passes : {A : Type 0} (p r : A → Bool) (xs : List A) → ((x : A) → p x ≡ true → r x ≡ true) → how_many r xs ≡ 0 → list_any p xs ≡ false
 none_passes p r [] q h = refl
 none_passes p r (x ∷ xs) q h = let here = q x in grind (arith, none_passes p r xs q, here)
@@ -53,7 +53,7 @@ some_passes : {A : Type 0} (q r : A → Bool) (xs : List A) → ((x : A) → q x
 some_passes q r [] i h = grind arith
 some_passes q r (x ∷ xs) i h = let here = i x in grind (arith, some_passes q r xs i, here)
 
--- Where r holds of one thing at most, and q takes that one out, nothing is left of which p holds.
+-- If at most one element passes r, which p and q imply, then after the removal of one that passes q none passes p.
 without-none : {A : Type 0} (p q r : A → Bool) (xs : List A) → ((x : A) → p x ≡ true → r x ≡ true) → ((x : A) → q x ≡ true → r x ≡ true)
     → how_many r xs ≤ 1 → list_any q xs ≡ true → list_any p (without q xs) ≡ false
 without-none p q r [] i j one some = refl
@@ -87,7 +87,7 @@ open-closed i j kind k xs one there = choose ((j == i) && same_kind k kind) refl
         rw (← same.0, ← same.1) (without-none (is_action j k) (is_action j k) (is_action j k) xs (λ x h. h) (λ x h. h) one there)
     choose false is = without-other (is_action i kind) (is_action j k) xs (λ x h. is_action-one i j kind k x h ∙ is)
 
--- A named action opens at node j: under its name stand one more node.
+-- A named action opens at node j, so its set of nodes gains j.
 pub named_opened : {opening : NodeSet} {named : Table NodeSet} {messages : Table Posted} {actions : List Action}
     → HasActions opening named messages actions
     → (new : Table NodeSet) (j a : ℕ) (nodes : NodeSet) → Puts named new a nodes

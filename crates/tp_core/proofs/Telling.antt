@@ -1,10 +1,10 @@
--- What two numbers tell of the runs of a core.
+-- Two of the four counters decide whether all are equal, in each run of a core.
 use Rattle.tp_core.proofs.Words.{ℕ, ◌+◌, ◌≡◌, ◌<◌, ◌≤◌, List, IsTrue, sym, subst, ◌↔◌, Step, IsEndedWave, present, until, sent_sum}
 use Rattle.tp_core.proofs.Words.{received_sum, four_equal, two_sums_law, TwoNumbersTell, history, IsLawfulRun}
 use Rattle.tp_core.proofs.Counting.{is_run, steps_of-history, two_told}
 use Rattle.tp_core.proofs.Generations.{generations_are_runs}
 
--- what the received of wave w and the sent of the next one tell
+-- The messages received in wave w are at most those sent in the next, and equal to them exactly if all four are equal.
 abbrev AreTelling : ℕ → ℕ → List Step → Type 0
 AreTelling n w steps =
     (received_sum n (until w steps) ≤ sent_sum n (until (w + 1) steps))

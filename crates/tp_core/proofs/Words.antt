@@ -1,4 +1,4 @@
--- The words of std, of the libraries below and of specs/ that the proofs of this crate cite, under one name.
+-- The names of std, of the crates below and of specs/ that the proofs of this crate use, collected in one module.
 pub use Rattle.std.proofs.Common.{ℕ, Result, take, get_or, ◌+◌, ◌≡◌, ◌<◌, List, [], ◌∷◌, ◌++◌, true, false, Option, Some, None, length}
 pub use Rattle.std.proofs.Common.{refl, ap, subst, ◌∙◌, arith, ◌↔◌, zero, suc, ◌≤◌, Bool, zero-le, ◌-◌, sym, is_some, nat_lt, ◌*◌, reverse}
 pub use Rattle.std.proofs.Common.{IsTrue, IsFalse, length-append, inl, inr, append_assoc, Global, vec_capacity, cond, set, length-set}

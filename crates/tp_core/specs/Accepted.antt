@@ -1,4 +1,4 @@
--- What a core has accepted, and what it answers to the next step.
+-- What a core has accepted, and its reply to the next step.
 use Rattle.std.specs.Prelude.{Bool, true, false, not, IsTrue, IsFalse, ℕ, ◌%◌, ◌||◌, ◌==◌, ◌≡◌, ◌<◌, ◌+◌, List, [], ◌∷◌, ◌++◌, nat_le}
 use Rattle.std.specs.Prelude.{is_some, length, Option, Some, None, Result, Ok, Err, if◌then◌else◌}
 use Rattle.std.specs.List.{list_any}
@@ -21,7 +21,7 @@ use Rattle.tp_core.specs.Run.{world}
 use Rattle.tp_core.specs.Generations.{world_after, MayCome}
 use Rattle.tp_core.specs.StepChecks.{checks}
 
--- The steps have the newest first.
+-- the number of nodes, and the accepted steps, newest first
 pub record Accepted : Type 0 where
   pub nodes : ℕ
   pub steps : List Step
@@ -29,19 +29,20 @@ pub record Accepted : Type 0 where
 abbrev pub world_of : Accepted → World
 world_of a = world_after a.nodes a.steps
 
--- There is room for one more step after so many.
+-- the check for lack of room, if `taken` steps were accepted
 abbrev pub room_check : ℕ → List Check
 room_check taken = (nat_le MAX_STEPS taken, HistoryFull taken) ∷ []
 
--- the first check that holds, room being the last one
+-- the first refusal that applies; the check for room is the last
 abbrev pub refusal : Accepted → Step → Option Refusal
 refusal a s = first_refusal (checks a.nodes a.steps s ++ room_check (length a.steps))
 
--- Room is made for so many steps at once: after so many there is none left.
+-- The next step begins a piece of the list of steps, if `taken` steps were accepted.
 abbrev pub begins_piece : ℕ → Bool
 begins_piece taken = taken % PIECE == 0
 
--- The step inserts a task, opens a named action or sends a message whose number is k or lies in one page with k.
+-- The step inserts a task whose number is k or shares a page with k. The next two tests are the same for opening a
+-- named action and for sending a message.
 abbrev pub is_task_beside : ℕ → Step → Bool
 is_task_beside k (Insert i t inputs) = is_beside k t.0
 is_task_beside k _ = false
@@ -54,18 +55,20 @@ abbrev pub is_message_beside : ℕ → Step → Bool
 is_message_beside k (Send i j m g) = is_beside k m.0
 is_message_beside k _ = false
 
--- The step keeps something under a number, a task, a named action or a message, for which none of these steps made a place.
+-- The step needs a new place in a table: it inserts a task, opens a named action or sends a message, and none of the
+-- past steps made a place for the number.
 abbrev pub keeps_more : List Step → Step → Bool
 keeps_more past (Insert i t k) = not (any (is_task_beside t.0) past)
 keeps_more past (ActionOpen i a) = not (any (is_action_beside a.0) past)
 keeps_more past (Send i j m g) = not (any (is_message_beside m.0) past)
 keeps_more past _ = false
 
--- The step asks for memory.
+-- The step may have to allocate.
 abbrev pub asks_memory : Accepted → Step → Bool
 asks_memory a s = keeps_more (present a.steps) s || begins_piece (length a.steps)
 
--- A step is refused by the first check that holds, or where none does for want of memory, if it asks for some.
+-- A call is refused with the first refusal that applies. If none does, it is refused with `NoMemory`, and only if it
+-- may have to allocate.
 abbrev pub IsRefusedFor : Option Refusal → Bool → Refusal → Type 0
 IsRefusedFor (Some first) asks r = r ≡ first
 IsRefusedFor None asks r = (r ≡ NoMemory) × IsTrue asks
@@ -73,20 +76,20 @@ IsRefusedFor None asks r = (r ≡ NoMemory) × IsTrue asks
 abbrev pub with_step : Accepted → Step → Accepted
 with_step a s = record a { steps = s ∷ a.steps }
 
--- how a judgement is answered
+-- the reply to a judgement
 abbrev pub judged : Option ℕ → Reply
 judged (Some w) = Over w
 judged None = Not
 
--- The answer to an accepted step: the sums of the wave where the root gives, the judgement of the four counters, the number of
--- the generation that a reopening begins, or no more.
+-- The reply to an accepted step: the sums of the wave if the root gives, the judgement of the four counters, the number
+-- of the generation that a reopening begins, or nothing more.
 abbrev pub reply_to : ℕ → List Step → Step → Reply
 reply_to n past (Give i) = if i.0 == 0 then WaveSums (sums_of n (Give i ∷ present past)) else Plain
 reply_to n past Judge = judged (judgement n (present past))
 reply_to n past Reopen = Opened (record { 0 = generation past + 1 })
 reply_to n past _ = Plain
 
--- the answer to the step, and what has been accepted after it, where memory is ample
+-- the result of the step, and what is accepted after it, unless memory runs out
 abbrev pub answered : Accepted → Step → Option Refusal → Result Reply Refusal
 answered a s None = Ok (reply_to a.nodes a.steps s)
 answered a s (Some r) = Err r
@@ -97,12 +100,12 @@ answer a s = answered a s (refusal a s)
 abbrev pub next : Accepted → Step → Accepted
 next a s = if is_some (refusal a s) then a else with_step a s
 
--- What a core that had accepted the old steps answers to the next one, and what it has accepted then.
+-- The result of a step for a core that had accepted the old steps, and what it has accepted afterwards.
 abbrev pub Answers : Accepted → Step → Result Reply Refusal → Accepted → Type 0
 Answers old s (Ok reply) new = (refusal old s ≡ None) × (reply ≡ reply_to old.nodes old.steps s) × (new ≡ with_step old s)
 Answers old s (Err r) new = IsRefusedFor (refusal old s) (asks_memory old s) r × (new ≡ old)
 
--- the answers to several steps, in order, and what has been accepted after them
+-- the results of several steps, in order, and what is accepted after them, unless memory runs out
 abbrev pub answers : Accepted → List Step → List (Result Reply Refusal)
 answers a [] = []
 answers a (s ∷ later) = answer a s ∷ answers (next a s) later
@@ -111,11 +114,11 @@ abbrev pub after_all : Accepted → List Step → Accepted
 after_all a [] = a
 after_all a (s ∷ later) = after_all (next a s) later
 
--- The step may come, and there is room for it. The limit is of all steps, of whichever generation.
+-- The step may come next, and there is room for it. The limit counts the steps of all generations.
 abbrev pub IsAcceptable : Accepted → Step → Type 0
 IsAcceptable a s = MayCome a.nodes a.steps s × (length a.steps < MAX_STEPS)
 
--- what a core answers to several steps, in order
+-- The results of several steps, in order, and what is accepted after them. Each may be refused for lack of memory.
 abbrev pub AnswersAll : Accepted → List Step → List (Result Reply Refusal) → Accepted → Type 0
 AnswersAll old [] [] new = new ≡ old
 AnswersAll old (s ∷ later) (r ∷ rs) new = (mid : Accepted) × Answers old s r mid × AnswersAll mid later rs new
@@ -126,12 +129,12 @@ abbrev pub is_no_memory : Result Reply Refusal → Bool
 is_no_memory (Err NoMemory) = true
 is_no_memory _ = false
 
--- Where no answer was want of memory, the answers and what has been accepted then are functions of the steps.
+-- If no result is `NoMemory`, the results and the accepted steps are functions of the steps.
 abbrev pub RunsAreDetermined : Type 0
 RunsAreDetermined = (old new : Accepted) (steps : List Step) (rs : List (Result Reply Refusal)) → AnswersAll old steps rs new
     → IsFalse (list_any is_no_memory rs) → (rs ≡ answers old steps) × (new ≡ after_all old steps)
 
--- the numbers of node i where the steps are those of one generation
+-- the counters of node i, if the steps are those of one generation
 abbrev pub numbers_in : ℕ → Accepted → NodeNumbers
 numbers_in i a = record {
   pending = pending i (world a.nodes a.steps);
@@ -139,14 +142,14 @@ numbers_in i a = record {
   received = count (is_recv_at i) a.steps;
 }
 
--- what has been accepted in the present generation
+-- what was accepted in the present generation
 abbrev pub now_of : Accepted → Accepted
 now_of a = record { nodes = a.nodes; steps = present a.steps }
 
--- the numbers of node i
+-- the counters of node i in the present generation
 abbrev pub numbers_at : ℕ → Accepted → NodeNumbers
 numbers_at i a = numbers_in i (now_of a)
 
--- the numbers of a node that is not there
+-- the counters for a number that names no node
 abbrev pub no_numbers : NodeNumbers
 no_numbers = record { pending = 0; sent = 0; received = 0 }

@@ -1,4 +1,4 @@
--- What a control step does to the waves of a core, and what it is answered.
+-- The effect of a control step on the wave of a core, and the reply to it.
 use Rattle.std.specs.Prelude.{ℕ, ◌≡◌, ◌<◌, ◌≤◌, List, ◌∷◌, length, Option, Some, None, Result, Ok, Err}
 use Rattle.tp_base.specs.declared.limits.TheConstants.{MAX_STEPS, MAX_NODES}
 use Rattle.tp_base.specs.declared.Refusal.{Refusal}
@@ -14,7 +14,7 @@ use Rattle.tp_core.specs.Kept.{HasNumbers}
 use Rattle.tp_core.specs.Run.{IsLawfulRun}
 use Rattle.tp_core.specs.StepChecks.{refusal_of}
 
--- The steps on n nodes are a run in the present generation; the numbers and the wave are what they say.
+-- The steps on n nodes are a run in the present generation. The counters and the wave follow from them.
 pub record HasWaves (n : ℕ) (numbers : List NodeNumbers) (steps : List Step) (wave : Wave) : Type 0 where
   pub some_node : 0 < n
   pub few_nodes : n ≤ MAX_NODES
@@ -23,12 +23,13 @@ pub record HasWaves (n : ℕ) (numbers : List NodeNumbers) (steps : List Step) (
   pub numbers_are : HasNumbers numbers (record { nodes = n; steps = present steps })
   pub follows : Follows n (present steps) wave
 
--- The step is refused for the first check that holds; or none does, the reply is that to the step, and the waves went on by it.
+-- The step is refused with the first refusal that applies. If none does, the reply is that to the step, and the wave
+-- advanced by it.
 abbrev pub Advances : ℕ → List Step → Step → Result Reply Refusal → Wave → Type 0
 Advances n past s (Ok reply) wave = (refusal_of n past s ≡ None) × (reply ≡ reply_to n past s) × Follows n (s ∷ present past) wave
 Advances n past s (Err r) wave = refusal_of n past s ≡ Some r
 
--- the wave with which the pool had ended, where a reply says that it was judged so
+-- the wave at whose end the pool had terminated, if the reply says so
 abbrev pub over_of : Reply → Option ℕ
 over_of (Over w) = Some w
 over_of _ = None

@@ -1,3 +1,4 @@
+-- The files of this folder.
 pub mod NodeSet
 pub mod World
 pub mod Pool

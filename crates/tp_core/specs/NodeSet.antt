@@ -1,8 +1,8 @@
--- A set of nodes.
+-- A set of nodes, as a test of a node's number.
 use Rattle.std.specs.Prelude.{ℕ, Bool, false}
 use Rattle.std.specs.List.{slice_index_or}
 use Rattle.tp_core.specs.declared.node_set.NodeSet.{NodeSet}
 
--- node i is in the set
+-- Node i is in the set.
 unfoldable pub has : NodeSet → ℕ → Bool
 has nodes i = slice_index_or nodes.at i false

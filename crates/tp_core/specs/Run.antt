@@ -13,8 +13,8 @@ abbrev pub world : ℕ → List Step → World
 world n [] = first_world n
 world n (s ∷ past) = after s (world n past)
 
--- The core may take this step next: a step of the pool by the world, a control step by the list, and no active node
--- gives its sums.
+-- The core may take this step next: the world allows a step of the pool, the list of steps allows a control step. An
+-- active node may not give.
 abbrev pub IsLawful : ℕ → List Step → Step → Type 0
 IsLawful n past Start = IsControlStep n past Start
 IsLawful n past (Down i) = IsControlStep n past (Down i)
@@ -28,7 +28,7 @@ abbrev pub IsLawfulRun : ℕ → List Step → Type 0
 IsLawfulRun n [] = Unit {0}
 IsLawfulRun n (s ∷ past) = IsLawful n past s × IsLawfulRun n past
 
--- The node beside which a step stands: the home of a task, or the node that the step names first, or the root.
+-- the node of a step: the home of its task, or the node that it names first, or the root
 abbrev pub node_of : World → Step → ℕ
 node_of w (Insert i t k) = i.0
 node_of w (Supply t) = home_of t.0 w
@@ -47,7 +47,7 @@ node_of w (Up i) = i.0
 node_of w Judge = 0
 node_of w Reopen = 0
 
--- the steps, each beside its node
+-- the steps, each with its node
 abbrev pub history : ℕ → List Step → History
 history n [] = []
 history n (s ∷ past) = (record { 0 = node_of (world n past) s }, s) ∷ history n past

@@ -1,4 +1,4 @@
--- What `settle` answers: it takes control steps until the end is judged.
+-- The result of `settle`, which takes control steps until termination is detected.
 use Rattle.std.specs.Prelude.{ℕ, ◌+◌, ◌-◌, ◌*◌, ◌/◌, ◌≡◌, ◌≤◌, List, [], ◌∷◌, ◌++◌, Bool, not, nat_lt, length, IsTrue, None, Some, Result}
 use Rattle.std.specs.Prelude.{Ok, Err}
 use Rattle.std.specs.List.{list_all}
@@ -16,20 +16,21 @@ use Rattle.tp_wave.specs.Generations.{present}
 use Rattle.tp_core.specs.Generations.{AreRuns}
 use Rattle.tp_core.specs.Accepted.{Accepted, IsRefusedFor, world_of}
 
--- There is no room for so many steps more after so many.
+-- the check for lack of room for `more` steps, if `taken` steps were accepted
 abbrev pub rooms_check : ℕ → ℕ → List Check
 rooms_check taken more = (nat_lt MAX_STEPS (taken + more), HistoryFull taken) ∷ []
 
--- The checks in their order: the end was judged; something is left; there is no room for nine steps a node.
+-- The checks in their order: termination was detected; the pool is not quiet; there is no room for nine steps per node.
 abbrev pub settle_checks : Accepted → List Check
 settle_checks a =
     (is_ended a.nodes (present a.steps), Ended) ∷ (not (is_quiet (world_of a)), NotIdle) ∷ rooms_check (length a.steps) (9 * a.nodes)
 
--- The room that was made for so many steps ends before there is place for so many more: memory is asked for.
+-- The piece that `taken` steps have begun ends before there is room for `more` steps, so the call may have to allocate.
 abbrev pub ends_before : ℕ → ℕ → Bool
 ends_before taken more = nat_lt ((taken + (PIECE - 1)) / PIECE * PIECE) (taken + more)
 
--- So many control steps were taken, each lawful when it was taken, the last of which judged that the pool had ended with wave w.
+-- `count` control steps were taken, each lawful when it was taken. The last one judged that the pool had terminated
+-- when wave w ended.
 pub record IsSettled (old new : Accepted) (w count : ℕ) : Type 0 where
   pub nodes : new.nodes ≡ old.nodes
   pub taken : List Step
@@ -41,7 +42,7 @@ pub record IsSettled (old new : Accepted) (w count : ℕ) : Type 0 where
   pub few : count ≤ 9 * old.nodes
   pub started : waves (present new.steps) ≤ waves (present old.steps) + 2
 
--- What a core that had accepted the old steps answers to `settle`, and what it has accepted then.
+-- The result of `settle` for a core that had accepted the old steps, and what it has accepted afterwards.
 abbrev pub Settles : Accepted → Result (ℕ × ℕ) Refusal → Accepted → Type 0
 Settles old (Ok answer) new = (first_refusal (settle_checks old) ≡ None) × IsSettled old new answer.0 answer.1
 Settles old (Err r) new = IsRefusedFor (first_refusal (settle_checks old)) (ends_before (length old.steps) (9 * old.nodes)) r × (new ≡ old)

@@ -1,4 +1,4 @@
--- What the code of a core keeps while control steps are taken until the end is judged.
+-- The loop invariant of settling, in which control steps are taken until termination is detected.
 use Rattle.std.specs.Prelude.{ℕ, ◌+◌, ◌*◌, ◌≡◌, ◌≤◌, List, ◌∷◌, ◌++◌, length, IsTrue, IsFalse, Option, Some, None}
 use Rattle.std.specs.List.{list_all}
 use Rattle.tp_base.specs.declared.Step.{Step}
@@ -13,18 +13,20 @@ use Rattle.tp_core.specs.World.{IsQuiet}
 use Rattle.tp_core.specs.Run.{world, IsLawful, IsLawfulRun}
 use Rattle.tp_core.specs.Advancing.{HasWaves}
 
--- The steps on n nodes are a run after which nothing is left and the end was not judged; the numbers and the wave are what they say.
+-- The steps on n nodes are a run after which the pool is quiet and termination was not detected. The counters and the
+-- wave follow from the steps.
 pub record MaySettle (n : ℕ) (numbers : List NodeNumbers) (steps : List Step) (wave : Wave) : Type 0 where
   pub waves : HasWaves n numbers steps wave
   pub quiet : IsQuiet (world n (present steps))
   pub not_ended : IsFalse (is_ended n (present steps))
 
--- A step is told to have judged that the pool had ended with a wave exactly where it did.
+-- The report of a step: the wave with which it judged the pool to have terminated, or none if termination was not
+-- detected.
 abbrev pub IsTold : ℕ → List Step → Step → Option ℕ → Type 0
 IsTold n past s None = IsFalse (is_ended n (s ∷ past))
 IsTold n past s (Some w) = (s ≡ Judge) × (judgement n past ≡ Some w)
 
--- One control step was taken, the wave went on by it, and it is told whether it judged the end.
+-- One control step was taken, the wave advanced by it, and it was reported whether the step detected termination.
 pub record IsTaken (n : ℕ) (past now : List Step) (wave : Wave) (told : Option ℕ) : Type 0 where
   pub step : Step
   pub control : IsTrue (is_control step)
@@ -33,7 +35,7 @@ pub record IsTaken (n : ℕ) (past now : List Step) (wave : Wave) (told : Option
   pub follows : Follows n (step ∷ present past) wave
   pub is_told : IsTold n (present past) step told
 
--- So many control steps were taken until the end was judged.
+-- `count` control steps were taken. The last one judged that the pool had terminated when wave w ended.
 pub record AreTaken (n : ℕ) (old new : List Step) (wave : Wave) (w count : ℕ) : Type 0 where
   pub taken : List Step
   pub steps : new ≡ (Judge ∷ taken) ++ old
@@ -44,7 +46,7 @@ pub record AreTaken (n : ℕ) (old new : List Step) (wave : Wave) (w count : ℕ
   pub few : count ≤ 9 * n
   pub follows : Follows n ((Judge ∷ taken) ++ present old) wave
 
--- So many control steps were taken, and the end was not judged.
+-- `count` control steps were taken, and termination was not detected.
 pub record GoesOn (n : ℕ) (numbers : List NodeNumbers) (old now : List Step) (wave : Wave) (count : ℕ) : Type 0 where
   pub taken : List Step
   pub steps : now ≡ taken ++ old

@@ -1,8 +1,9 @@
+//! A set of nodes.
 ghost use Rattle.std.specs.Prelude.{◌≡◌, ◌==◌, ◌<◌, ℕ, true, false, nat_lt, if◌then◌else◌, length};
 
 use tp_base::NodeId;
 
-/// A set of nodes, of the numbers 0 to 7.
+/// A set of nodes with numbers from 0 to 7.
 #[derive(Clone, Copy, Debug, PartialEq, Eq)]
 pub struct NodeSet {
     at: [bool; 8],
@@ -13,7 +14,7 @@ pub struct NodeSet {
 impl NodeSet {
     ghost use Rattle.tp_core.specs.NodeSet.{has};
 
-    /// No node.
+    /// Returns the empty set.
     #[tactic(auto, using(crate::proofs::Written::eight_same), unfolding(crate::specs::NodeSet::has))]
     pub fn new() -> Self
         ensures { (i : ℕ) → has result i ≡ false }
@@ -21,7 +22,7 @@ impl NodeSet {
         NodeSet { at: [false; 8] }
     }
 
-    /// Whether the node is in the set.
+    /// Returns whether the node is in the set.
     pub fn has(&self, node: NodeId) -> bool
         requires { node.0 < 8 }
         ensures { result ≡ has self.now node.0 }
@@ -29,7 +30,7 @@ impl NodeSet {
         self.at[node.0 as usize]
     }
 
-    /// The set with the node.
+    /// Returns the set with the node added.
     #[tactic(auto, using(crate::proofs::Written::written), unfolding(crate::specs::NodeSet::has))]
     pub fn with(mut self, node: NodeId) -> Self
         requires { node.0 < 8 }
@@ -39,7 +40,7 @@ impl NodeSet {
         self
     }
 
-    /// The set without the node.
+    /// Returns the set without the node.
     #[tactic(auto, using(crate::proofs::Written::written), unfolding(crate::specs::NodeSet::has))]
     pub fn without(mut self, node: NodeId) -> Self
         requires { node.0 < 8 }

@@ -1,3 +1,4 @@
+//! A message, as the core stores it.
 ghost use Rattle.std.specs.Prelude.{◌≡◌};
 
 use tp_base::NodeId;
@@ -5,14 +6,15 @@ use tp_base::NodeId;
 /// How far a message has come.
 #[derive(Clone, Copy, Debug, PartialEq, Eq)]
 pub enum Stage {
+    /// It was sent, and is in flight.
     UnderWay,
     /// It was received, and its action is open.
     Received,
-    /// Its action was closed.
+    /// Its action is closed.
     Ended,
 }
 
-/// What the core knows of a message that was sent.
+/// A message that was sent, as the core stores it under its number.
 #[derive(Clone, Copy, Debug, PartialEq, Eq)]
 pub struct Posted {
     pub to: NodeId,
@@ -20,7 +22,7 @@ pub struct Posted {
 }
 
 impl Posted {
-    /// A message to this node that has come so far.
+    /// Returns a message to this node at this stage.
     pub fn new(to: NodeId, stage: Stage) -> Self
         ensures { result ≡ record { to = to; stage = stage } }
     {

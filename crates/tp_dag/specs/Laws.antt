@@ -12,7 +12,7 @@ use Rattle.tp_dag.specs.Kept.{IsConsistent}
 abbrev pub Call : Type 0
 Call = Option (Result Next Refusal)
 
--- how often a call, and calls, dispatch task t
+-- the number of times that a call, and a list of calls, dispatch task t
 abbrev pub dispatched_by : Call → ℕ → ℕ
 dispatched_by None t = 0
 dispatched_by (Some r) t = dispatched r t
@@ -21,17 +21,18 @@ abbrev pub dispatched_by_all : List Call → ℕ → ℕ
 dispatched_by_all [] t = 0
 dispatched_by_all (c ∷ calls) t = dispatched_by c t + dispatched_by_all calls t
 
--- What each contract says of the tasks that begin (clause `begun` of `next` and of `done`; no other call begins one): a call begins only
--- what it dispatches.
+-- What each contract says of the tasks that begin (clause `begun` of `next` and of `done`; no other call begins one): a
+-- call begins only what it dispatches.
 abbrev pub Begins : PoolState → Call → PoolState → Type 0
 Begins old c new = (t : ℕ) → count (is_begin_of t) new.steps ≡ count (is_begin_of t) old.steps + dispatched_by c t
 
--- Calls, the first of them first, lead from one state to another.
+-- The calls, in order, lead from one state to another.
 abbrev pub Lead : PoolState → List Call → PoolState → Type 0
 Lead old [] new = new ≡ old
 Lead old (c ∷ calls) new = (mid : PoolState) × Begins old c mid × Lead mid calls new
 
--- If each task has begun at most once in the end (`Pool::dispatched_once`), the calls dispatched each task at most once.
+-- If each task has begun at most once in the end (`Pool::dispatched_once`), the calls dispatched each task at most
+-- once.
 abbrev pub NeverDispatchedTwice : Type 0
 NeverDispatchedTwice = (old new : PoolState) (calls : List Call) (t : ℕ) → Lead old calls new → count (is_begin_of t) new.steps ≤ 1
     → dispatched_by_all calls t ≤ 1

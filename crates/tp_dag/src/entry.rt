@@ -1,4 +1,4 @@
-//! What a graph consists of: tasks, their inputs, and how far each task is.
+//! The parts of a graph: tasks, their inputs, and the progress of each task.
 
 /// A task as it was described: its home node and its class.
 #[derive(Clone, Copy, Debug, PartialEq, Eq)]
@@ -14,7 +14,7 @@ pub struct Input {
     pub target: u32,
 }
 
-/// How far a task is: not dispatched, dispatched and not done, or done.
+/// The progress of a task: not dispatched, dispatched and not done, or done.
 #[derive(Clone, Copy, Debug, PartialEq, Eq)]
 pub enum Stage {
     Fresh,

@@ -1,5 +1,5 @@
-//! A task pool whose bodies are the caller's: the caller describes a graph, and each of its threads asks for a task, runs it and completes
-//! it. The pool never sees a value. It is used by one thread at a time; the lock is the caller's.
+//! A task pool whose bodies are the caller's: the caller describes a graph, and each of its threads asks for a task,
+//! runs it and completes it. The pool never sees a value. One thread at a time uses it: the caller locks it.
 #![tactic(auto)]
 
 mod board;

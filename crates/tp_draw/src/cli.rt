@@ -35,7 +35,7 @@ pub fn draw_with<I: Read, O: Write, E: Diagnostics>(
     // 0: nothing is on standard error, and if something was read, it is a sound trace.
     ensures succeeded { result ≡ 0 → (err.new ≡ err.old)
         × (HasReadTrace (I.remaining reader.old) (I.remaining reader.new) ⊎ (reader.new ≡ reader.old)) }
-    // Else the status is that of a fault, whose line is the only text on standard error.
+    // Otherwise the status is that of a fault, whose line is the only text on standard error.
     ensures complained { 1 ≤ result → (fault : Fault) × (result ≡ code_of (status_of fault))
         × E.tells err.old (line_of fault) err.new }
 {
@@ -64,7 +64,7 @@ fn answer<I: Read, O: Write>(
     }
 }
 
-/// Draws the graph of a pool specification. Nothing is written before the whole picture is made.
+/// Draws the graph of a pool specification. Nothing is written before the whole picture is complete.
 fn draw_graph<O: Write>(
     alloc: Global,
     spec: &str,

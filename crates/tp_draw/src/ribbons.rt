@@ -55,8 +55,8 @@ fn counted(
     Ok(ribbons)
 }
 
-/// Counts one more message of a way. `places` has the place of each way's ribbon; a place that an earlier count left there is that of
-/// another way's ribbon, or of none.
+/// Counts one more message of a way. `places` has the place of each way's ribbon; a place that an earlier count left
+/// there is that of another way's ribbon, or of none.
 fn count(ribbons: &mut Vec<Ribbon>, places: &mut [u16], way: Way) -> Result<(), AllocError> {
     let slot = slot_of(way);
     let place = places.get(slot).copied().unwrap_or(0);

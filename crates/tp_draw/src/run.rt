@@ -22,7 +22,7 @@ pub struct View {
     pub until_fault: bool,
 }
 
-/// Reads a trace and writes the picture of its run. Nothing is written before the whole picture is made.
+/// Reads a trace and writes the picture of its run. Nothing is written before the whole picture is complete.
 pub fn draw_run<I: Read, O: Write>(
     alloc: Global,
     view: View,

@@ -216,8 +216,8 @@ pub fn svg(alloc: Global, scene: &Scene) -> Result<String, AllocError> {
     Ok(out)
 }
 
-/// The picture of what was before a fault, with a red line at its end. The label is the line of an audit: printed characters of ASCII that
-/// mean nothing in an SVG.
+/// The picture of a run up to a fault, with a red line at its end. The label is the line of an audit: printable ASCII
+/// characters without a meaning in an SVG.
 pub(crate) fn svg_until(alloc: Global, scene: &Scene, label: &str) -> Result<String, AllocError> {
     let mut out = String::new(alloc);
     push_picture(&mut out, scene)?;

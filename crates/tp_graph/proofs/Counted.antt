@@ -20,7 +20,7 @@ below-some tasks f t lt = rw (lt-ltb t tasks lt) refl
 below-none : (tasks : ℕ) (f : ℕ → ℕ) (t : ℕ) → tasks ≤ t → below tasks f t ≡ 0
 below-none tasks f t le = let fails : nat_lt t tasks ≡ false = grind (arith, nat_tests) in rw fails refl
 
--- kinds of steps, each of which is of one task
+-- kinds of steps that are of one task
 abbrev is_insert : Step → Bool
 is_insert (Insert i t k) = true
 is_insert _ = false
@@ -138,8 +138,8 @@ events_counted n g steps h =
       h.closed,
     )
 
--- If each task is inserted, begins and is done once, there are at least 3 steps for each, and those of the messages sent and
--- received.
+-- If each task is inserted, begins and is done once, there are at least 3 steps for each, and those of the messages
+-- sent and received.
 pub least_steps : (tasks : ℕ) (steps : List Step) → ((t : ℕ) → count (is_insert_of t) steps ≡ below tasks (λ u. 1) t)
     → ((t : ℕ) → count (is_begin_of t) steps ≡ below tasks (λ u. 1) t)
     → ((t : ℕ) → count (is_done_of t) steps ≡ below tasks (λ u. 1) t)

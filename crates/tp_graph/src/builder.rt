@@ -6,8 +6,8 @@ use crate::value::Value;
 use std::alloc::{AllocError, AllocFailed, Global};
 use std::marker::Model;
 
-/// A value that is built number by number. Contracts see the list of its numbers, each of which fits 64 bits, and its
-/// room: how many more numbers can be pushed before memory has to grow.
+/// A value that is built number by number. Contracts see the list of its 64-bit numbers, and its room: how many more
+/// numbers can be pushed without allocating.
 #[derive(Drop)]
 pub struct ValueBuilder {
     numbers: Vec<i64>,

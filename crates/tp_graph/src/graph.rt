@@ -26,7 +26,7 @@ pub trait Graph: Copy + Send + Sync {
         requires { task.0 < (meaning self.now).tasks }
         ensures { result ≡ (meaning self.now).class task.0 };
 
-    /// Returns the number of feeds of a task, each of which passes its value on.
+    /// Returns the number of feeds of a task; each feed passes its value on.
     fn feeds(&self, task: TaskId) -> u32
         requires { task.0 < (meaning self.now).tasks }
         ensures { result ≡ (meaning self.now).feeds task.0 };

@@ -60,7 +60,7 @@ impl Model for Local {
 }
 
 impl Local {
-    /// Returns a node without tasks, of which only the opening action is open. It allocates nothing.
+    /// Returns a node without tasks, with only its opening action open. It allocates nothing.
     pub fn new(alloc: Global) -> Self
         ensures first { result ≡ first_state }
         ensures counted { pending_here result ≡ 1 }

@@ -1,4 +1,4 @@
--- Until all who are in an epoch can leave it, something can be done.
+-- Liveness of one epoch among others: until all processes in it can reopen, a useful event of it is possible.
 use Rattle.std.proofs.Common.{◌≡◌, ℕ, ◌+◌, ◌^◌, ◌<◌, ◌⊎◌, true, false, eqb, ltb, not, ◌&&◌, List, [], Option, Some, None, refl, sym}
 use Rattle.std.proofs.Common.{◌∙◌, ap, subst, inl, inr, arith}
 use Rattle.std.proofs.lemmas.Bool.{ltb-true, eq-eqb, cases_eq, cases_Bool, not-true, not_from_false, and_parts, and_from, cond_both}
@@ -77,7 +77,7 @@ module _ (n e : ℕ) (w : Epochs) (x : World) (h : IsEpoch n e w x) (v : IsOver 
               | inr d ↦ absurd (cc (notified_over (x.at l.to) d, o))
             ]
 
--- Where nothing is left of an epoch, nothing is left in its world.
+-- If an epoch has terminated, its world is quiet.
 pub quiet_of : (n e : ℕ) (w : Epochs) (all : List EpochEvent) → w ≡ epochs_after n all → IsOver n e w
     → IsQuiet n (after n (events_of n e all))
 quiet_of n e w all same v =

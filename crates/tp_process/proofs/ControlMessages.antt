@@ -1,4 +1,4 @@
--- How many control messages are sent.
+-- The number of control messages that are sent in one epoch: at most 2(n - 1) for each wave, and n - 1 for the end.
 use Rattle.std.proofs.Common.{◌≡◌, ℕ, zero, suc, ◌+◌, ◌-◌, ◌*◌, ◌<◌, ◌≤◌, Bool, true, false, cond, eqb, ltb, not, ◌&&◌, List, []}
 use Rattle.std.proofs.Common.{◌∷◌, length, Option, Some, None, refl, sym, ◌∙◌, ap, subst, inl, inr, arith}
 use Rattle.std.proofs.Math.Nat.{add-mul}
@@ -26,15 +26,15 @@ use Rattle.tp_process.proofs.Judge.{given_before}
 use Rattle.tp_process.proofs.Early.{good_after, good_ready, IsKnown, known_at}
 use Rattle.tp_process.proofs.Soon.{bit, total_put, root_stays, newest, acts_wave, takes_wave}
 
--- how many children a process has
+-- the number of children of a process
 abbrev pub kids : EpochState → ℕ
 kids p = bit (has p (left_of p)) + bit (has p (right_of p))
 
--- whether it gives to a parent
+-- 1 if the process has a parent, which it reports to; 0 for process 0
 abbrev pub inner : ℕ → ℕ
 inner number = cond (eqb number 0) 0 1
 
--- how many control messages a process has still to send: in the newest wave w, and to tell the end
+-- the number of control messages that a process still has to send: in the newest wave w, and to announce the end
 abbrev pub debt : ℕ → EpochState → ℕ
 debt w p =
     cond (eqb p.wave w) (cond p.here (bit p.down_left + bit p.down_right + inner p.number) 0) (kids p + inner p.number)
@@ -85,7 +85,7 @@ takes_debt n w g x from u (Up s r) p t close =
     (λ d. refl)
 takes_debt n w g x from u Over p t close = cond_both p.over p (ends p) (λ z. debt w z ≡ debt w p) (λ d. refl) (λ d. rw d (omega arith))
 
--- what all have still to send, and what was sent, is what the waves so far cost
+-- The control messages that were sent and those still to be sent add up to what the waves so far and the end cost.
 abbrev pub Paid : ℕ → World → Type 0
 Paid n x = length x.controls + total n (λ i. debt (x.at 0).wave (x.at i)) ≡ (2 * (x.at 0).wave + 1) * (n - 1)
 
@@ -100,7 +100,7 @@ paid_put n i d x new under ls l same more less v =
     let P : ℕ → Type 0 = λ u. length ls + total n (λ j. debt u (put i new x.at j)) ≡ (2 * u + 1) * (n - 1) in
     subst P (sym same) (omega (arith, sum, more, less, v))
 
--- sums over the processes
+-- Sums over the processes.
 pub total_add : (n : ℕ) (f g : ℕ → ℕ) → total n (λ j. f j + g j) ≡ total n f + total n g
 total_add zero f g = refl
 total_add (suc n) f g = omega (arith, total_add n f g)
@@ -112,7 +112,7 @@ inner_all (suc n) =
     let one : inner (suc n) ≡ 1 = ap pick (ne_eqb (suc n) 0 (λ e. absurd (omega (arith, e)))) in
     omega (arith, inner_all n, one)
 
--- the children of process j
+-- the number of children of process j
 abbrev kids_of : ℕ → ℕ → ℕ
 kids_of n j = bit (ltb (2 * j + 1) n) + bit (ltb (2 * j + 2) n)
 

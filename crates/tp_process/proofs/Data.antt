@@ -1,4 +1,4 @@
--- Work and messages: one process changes, and nothing that a wave knows.
+-- Steps of work and messages preserve the invariant: the counters of one process change, and no wave makes progress.
 use Rattle.std.proofs.Common.{◌≡◌, ℕ, ◌+◌, ◌-◌, ◌<◌, ◌≤◌, Bool, true, eqb, ltb, not, ◌&&◌, List, refl, sym, ◌∙◌, ap, subst, inl, inr, arith}
 use Rattle.std.proofs.lemmas.Bool.{ltb-true, eqb-false, not-true, and_parts, cond_both, eq-eqb, ne_eqb}
 use Rattle.tp_process.specs.declared.control_message.ControlMessage.{ControlMessage}
@@ -13,7 +13,7 @@ use Rattle.tp_process.proofs.Inv.{Gifts, HasGiven, Visited, Here, Holds, AllKnow
 use Rattle.tp_process.proofs.Update.{Keeps, holds_kept, controls_kept, posts_more}
 use Rattle.tp_process.proofs.Pace.{changed, pace_kept}
 
--- p with other work, messages, and control messages that it owes
+-- p with other counters of work and messages, and other control messages that it owes
 abbrev pub plain : EpochState → ℕ → ℕ → ℕ → Bool → Bool → Bool → Bool → Bool → EpochState
 plain p a s r dl dr o ol or =
     record p {
@@ -90,7 +90,7 @@ module _ (n q w i : ℕ) (low : ℕ → ℕ) (g : Gifts) (x : World) (l : i < n)
         over = put_keeps (λ z. z.over ≡ true) i 0 (plain (x.at i) a s r dl dr o ol or) x.at grow f.over;
       }
 
-  -- what it has sent, where it owes no less
+  -- Its record of sent control messages holds if what it owes is unchanged.
   pub plain_posts : (ls : List ControlMessage) → Posts n w ls i (x.at i) → dl ≡ (x.at i).down_left → dr ≡ (x.at i).down_right
       → o ≡ (x.at i).over → ol ≡ (x.at i).over_left → or ≡ (x.at i).over_right → Posts n w ls i (plain (x.at i) a s r dl dr o ol or)
   plain_posts ls v one two three four five =
@@ -149,7 +149,7 @@ module _ (n q w i : ℕ) (low : ℕ → ℕ) (g : Gifts) (x : World) (l : i < n)
             (λ off. v.small j m);
       }
 
-  -- where no message is sent or received, and no work is made
+  -- No message is sent or received, and no work is opened.
   pub plain_move : (ls : List ControlMessage) → s ≡ (x.at i).sent → r ≡ (x.at i).received → a ≤ (x.at i).pending
       → ((x.at i).over ≡ true → o ≡ true)
       → (o ≡ true → Finished n (changed i (plain (x.at i) a s r dl dr o ol or) x.under_way ls x))
@@ -202,7 +202,7 @@ module _ (n q i : ℕ) (x : World) (l : i < n) (v : Good n q x) where
   pub good_closes : Good n q (record x { at = put i (closed (x.at i)) x.at })
   good_closes = good_plain ((x.at i).pending - 1) (x.at i).sent (x.at i).received refl refl (omega arith)
 
-  -- a step that is not taken where nothing is left
+  -- A step that opens work or counts a message: it is possible only before termination.
   good_step : (c a s r : ℕ) (under : ℕ → ℕ) → (x.at i).sent ≤ s → (x.at i).received ≤ r
       → ((x.at i).received ≡ r → (x.at i).pending ≡ 0 → ⊥)
       → (total n (λ j. (put i (record (x.at i) { pending = a; sent = s; received = r }) x.at j).sent)
@@ -233,7 +233,7 @@ module _ (n q i : ℕ) (x : World) (l : i < n) (v : Good n q x) where
             small_sent small_received;
       }
 
-  -- where the newest wave is that of the last message
+  -- The pace at the time of a message: the newest wave is the wave of the last message.
   newest_pace : (y : World) → Pace n v.wave v.wave v.gifts y
   newest_pace y =
       record {

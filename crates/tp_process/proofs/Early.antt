@@ -1,4 +1,4 @@
--- What holds at the beginning and stays by every event.
+-- Safety: the invariant holds at the beginning and every event preserves it, so the end is never detected too early.
 use Rattle.std.proofs.Common.{◌≡◌, ℕ, zero, suc, ◌+◌, ◌-◌, ◌*◌, ◌<◌, Bool, true, false, cond, eqb, ltb, not, ◌&&◌, List, [], ◌∷◌}
 use Rattle.std.proofs.Common.{◌++◌, Option, Some, None, refl, sym, ◌∙◌, subst, inl, inr, arith}
 use Rattle.std.proofs.lemmas.Bool.{ltb-false, cases_eq, ltb-true, eqb-true, eqb-false, not-true, and_parts, cond_both, eq-eqb, ne_eqb}
@@ -81,7 +81,7 @@ begins n =
       };
     }
 
--- what lets a process give
+-- the conditions of `can_give`, one by one
 pub record CanGive (p : EpochState) : Type 0 where
   pub here : p.here ≡ true
   pub no_left : p.up_left ≡ false
@@ -96,7 +96,7 @@ can_give_parts p here t =
     let d = and_parts (not p.up_left) (not p.up_right) c.0 in
     record { here = here; no_left = not-true p.up_left d.0; no_right = not-true p.up_right d.1; idle = eqb-true p.pending 0 c.1 }
 
--- a move of process i
+-- After a move of process i the invariant holds.
 abbrev IsGoodMove : ℕ → ℕ → ℕ → World → Move → Type 0
 IsGoodMove n q i x m = Good n q (record x { at = put i m.state x.at; controls = posted m.next x.controls })
 
@@ -113,7 +113,7 @@ module _ (n q i : ℕ) (x : World) (l : i < n) (v : Good n q x) where
       plain_ended n q v.wave i v.floor v.gifts x l v.inv (x.at i).pending (x.at i).sent (x.at i).received dl dr o ol or x.under_way ls
       (owes_quiet dl dr o ol or ls) grow f
 
-  -- a process owes other control messages, or knows the end
+  -- The control messages that a process owes change, or it learns of the end.
   good_owes : (dl dr o ol or : Bool) (ls : List ControlMessage) → ((x.at i).over ≡ true → o ≡ true)
       → (o ≡ true → Finished n (changed i (plain (x.at i) (x.at i).pending (x.at i).sent (x.at i).received dl dr o ol or) x.under_way ls x))
       → (AllKnown n v.wave v.gifts (changed i (plain (x.at i) (x.at i).pending (x.at i).sent
@@ -169,7 +169,7 @@ module _ (n q i : ℕ) (x : World) (l : i < n) (v : Good n q x) where
       }))
       (λ t. good_same n q i x l v))
 
-  -- Once the end is known all children are to be notified.
+  -- A process that learns of the end owes a notification to each child.
   ends_posts : Posts n v.wave x.controls i (ends (x.at i))
   ends_posts =
       let p : EpochState = x.at i in
@@ -183,7 +183,7 @@ module _ (n q i : ℕ) (x : World) (l : i < n) (v : Good n q x) where
         over_right = λ f e m. absurd (omega (arith, ltb-false (2 * p.number + 2) p.processes e, hold.number, hold.processes));
       }
 
--- process 0 judges
+-- Process 0 judges the wave.
 module _ (n q : ℕ) (x : World) (l : 0 < n) (v : Good n q x) (c : CanGive (x.at 0)) where
   pub root_judges : IsGoodMove n q 0 x (judges (x.at 0))
   root_judges =
@@ -210,7 +210,7 @@ module _ (n q : ℕ) (x : World) (l : 0 < n) (v : Good n q x) (c : CanGive (x.at
       })
 
 module _ (n q i : ℕ) (x : World) (l : i < n) (v : Good n q x) where
-  -- a process gives, or process 0 judges
+  -- A process passes the wave up, or process 0 judges it.
   good_gives : (x.at i).here ≡ true → can_give (x.at i) ≡ true → IsGoodMove n q i x (gives (x.at i))
   good_gives f t =
       let c : CanGive (x.at i) = can_give_parts (x.at i) f t in
@@ -433,7 +433,7 @@ pub good_after : (n : ℕ) (events : List Event) → (c : ℕ) × Good n c (afte
 good_after n [] = (0, begins n)
 good_after n (e ∷ past) = let v = good_after n past in good_happens n v.0 (after n past) e v.1
 
--- Where nothing is left, no call makes work.
+-- A call of `next` opens and closes no work.
 acts_idle : (p : EpochState) → (acts p).state.pending ≡ p.pending
 acts_idle p =
     let P : Move → Type 0 = λ m. m.state.pending ≡ p.pending in
@@ -469,7 +469,7 @@ opened_idle p e =
     (λ t. absurd (eqb-false p.pending 0 (not-true _ (and_parts (not (eqb p.pending 0)) (ltb p.pending LIMIT) t).0) e))
     (λ t. e)
 
--- one process changes, and is idle where it was
+-- If one process changes and stays idle, a quiet world stays quiet.
 pub quiet_put : (n i : ℕ) (x : World) (q : EpochState) (ls : List ControlMessage) → ((x.at i).pending ≡ 0 → q.pending ≡ 0) → IsQuiet n x
     → IsQuiet n (changed i q x.under_way ls x)
 quiet_put n i x q ls step z =
@@ -524,7 +524,7 @@ quiet_stays n (e ∷ later) events z = quiet_happens n (after n (later ++ events
 pub never_early : NeverEarlyLaw
 never_early n i later events l over = quiet_stays n later events ((good_after n events).1.inv.over i l over).quiet
 
--- Who answers that the end was judged knows it.
+-- If `next` returns `Ended`, the process knows the end.
 pub acts_ended : (p : EpochState) → (acts p).next ≡ Ended → p.over ≡ true
 acts_ended p =
     let P : Move → Type 0 = λ m. m.next ≡ Ended → p.over ≡ true in
@@ -546,7 +546,7 @@ ended n i later events l e =
     (λ t. acts_ended (opens (p.wave + 1) p)) (λ t. acts_ended p) e in
     never_early n i later events l over
 
--- Where nothing is left, nothing is sent or received.
+-- In a quiet world nothing is sent or received, so the wave q of the last message stays.
 calm_does : (n q : ℕ) (x : World) (i : ℕ) (a : Act) → i < n → IsQuiet n x → Good n q x → Good n q (does n x i a)
 calm_does n q x i Opens l z v = good_opens n q i x l v
 calm_does n q x i Closes l z v = good_closes n q i x l v

@@ -1,4 +1,5 @@
--- Each epoch is what n processes come to by its events alone.
+-- Each epoch of n processes is the world after its own events alone, and the epochs of two processes differ by at most
+-- one.
 use Rattle.std.proofs.Common.{◌≡◌, ℕ, ◌+◌, ◌-◌, ◌<◌, ◌≤◌, Bool, true, false, cond, eqb, ltb, not, ◌&&◌, List, [], ◌∷◌, ◌++◌, Option}
 use Rattle.std.proofs.Common.{Some, None, refl, sym, ◌∙◌, ap, subst, inl, inr, arith}
 use Rattle.std.proofs.lemmas.Bool.{ltb-true, ltb-false, eqb-true, eqb-false, and_parts, cond_both, cases_eq, eq-eqb, ne_eqb}
@@ -14,7 +15,7 @@ use Rattle.tp_process.specs.Epochs.{EpochLaw, NeverEarlyEpochLaw, LeftEpochLaw, 
 use Rattle.tp_process.proofs.Put.{put_here, put_other, put_holds}
 use Rattle.tp_process.proofs.Early.{good_after, never_early}
 
--- one condition on both sides
+-- Two values that one condition selects have a property in common if they have it in both cases.
 cond_two : {A B : Type 0} (b : Bool) (x x2 : A) (y y2 : B) (P : A → B → Type 0) → (b ≡ true → P x y) → (b ≡ false → P x2 y2)
     → P (cond b x x2) (cond b y y2)
 cond_two true x x2 y y2 P a b = a refl
@@ -26,7 +27,7 @@ record Alike (i : ℕ) (y x : World) : Type 0 where
   pub under_way : y.under_way ≡ x.under_way
   pub controls : y.controls ≡ x.controls
 
--- Nothing is changed but process i.
+-- No process other than i changes.
 abbrev Only : ℕ → World → World → Type 0
 Only i x new = (j : ℕ) → (j ≡ i → ⊥) → new.at j ≡ x.at j
 
@@ -99,7 +100,7 @@ pub with_world_epoch : (e : ℕ) (w : Epochs) (y : World) (j : ℕ) → ((with_w
 with_world_epoch e w y j = cond_both (is_in_epoch e w j) (with_state (w.at j) (y.at j)) (w.at j) (λ r. r.epoch ≡ (w.at j).epoch) (λ t. refl)
     (λ t. refl)
 
--- what one process of the epoch does
+-- One process of the epoch changes.
 keeps_epoch : (n e i : ℕ) (w : Epochs) (x y2 x2 : World) → IsEpoch n e w x → (w.at i).epoch ≡ e → Alike i y2 x2 → Only i (world_of e w) y2
     → Only i x x2
     → IsEpoch n e (with_world e w y2) x2
@@ -124,7 +125,7 @@ keeps_epoch n e i w x y2 x2 h here same only_y only_x =
       controls = put_here e y2.controls w.controls ∙ same.controls;
     }
 
--- something of another epoch
+-- An event of another epoch does not change this one.
 keeps_other_epoch : (n e f : ℕ) (w : Epochs) (x y : World) → IsEpoch n e w x → (f ≡ e → ⊥) → IsEpoch n e (with_world f w y) x
 keeps_other_epoch n e f w x y h apart =
     record {
@@ -175,7 +176,7 @@ event_keeps_epoch n e w x (Comes k) t h =
     subst (λ ls. IsEpoch n e (with_world e w (happens n (world_of e w) (Comes k))) (came n x (control_at ls k))) h.controls
     (delivery_keeps_epoch n e w x (control_at (w.controls e) k) t h)
 
--- Process i opens again.
+-- Process i reopens.
 reopens : (n e i : ℕ) (w : Epochs) (x : World) → (w.at i).state.number ≡ i → (w.at i).state.processes ≡ n → IsEpoch n e w x
     → IsEpoch n e (record w { at = put i (reopened (w.at i)) w.at }) x
 reopens n e i w x number processes h =
@@ -247,7 +248,7 @@ epochs n (Reopens i ∷ past) e =
 pub epoch_law : EpochLaw
 epoch_law n e all = epochs n all e
 
--- what comes later adds to the events of an epoch
+-- Later events add to the events of an epoch.
 pub adds : (n e : ℕ) (later all : List EpochEvent) → (more : List Event) × (events_of n e (later ++ all) ≡ more ++ events_of n e all)
 adds n e [] all = ([], refl)
 adds n e (Reopens i ∷ later) all = adds n e later all
@@ -259,7 +260,7 @@ adds n e (In f event ∷ later) all =
     (λ t. (event ∷ m.0, ap (λ l. event ∷ l) m.1))
     (λ t. m)
 
--- An epoch in which nothing is left is over for those that are in it, and all have come to it.
+-- If the world of an epoch is quiet, the epoch has terminated.
 over_where_quiet : (n e : ℕ) (w : Epochs) (x : World) → IsEpoch n e w x → IsQuiet n x → IsOver n e w
 over_where_quiet n e w x h z =
     record {
@@ -316,7 +317,7 @@ reopened_grows r =
     cond_both (can_reopen r) (record r { epoch = r.epoch + 1; state = blank r.state.number r.state.processes }) r (λ z. r.epoch ≤ z.epoch)
     (λ t. omega arith) (λ t. omega arith)
 
--- who is in an epoch that something happens in
+-- If an event of an epoch is not refused, some process is in that epoch.
 in_someone : (e : ℕ) (w : Epochs) (event : Event) → is_current e w event ≡ true → (j : ℕ) × ((w.at j).epoch ≡ e)
 in_someone e w (Does i a) t = (i, eqb-true (w.at i).epoch e t)
 in_someone e w (Comes k) t = receiver (control_at (w.controls e) k) t where
@@ -324,7 +325,7 @@ in_someone e w (Comes k) t = receiver (control_at (w.controls e) k) t where
   receiver None t = absurd (cc t)
   receiver (Some l) t = (l.to, eqb-true (w.at l.to).epoch e t)
 
--- In an epoch to which none has come nothing has happened.
+-- An epoch that no process has come to has no events.
 untouched : (n e : ℕ) (all : List EpochEvent) → ((j : ℕ) → ((epochs_after n all).at j).epoch < e) → events_of n e all ≡ []
 untouched n e [] m = refl
 untouched n e (In f event ∷ past) m =
@@ -352,7 +353,7 @@ untouched n e (Reopens i ∷ past) m =
 pub none_late : NoneLateLaw
 none_late n i e all l m = (left_epoch n i e all l m).none_under_way i l
 
--- What is two epochs ahead of some process has not happened.
+-- An epoch that is two or more ahead of some process has no events.
 far : (n i e : ℕ) (all : List EpochEvent) → i < n → ((epochs_after n all).at i).epoch + 1 < e → events_of n e all ≡ []
 far n i e all l m =
     untouched n e all

@@ -1,4 +1,4 @@
--- What is counted of an epoch: waves, control messages, and what brings it on.
+-- The bounds of one epoch among others: its waves, its control messages, and its useful events.
 use Rattle.std.proofs.Common.{◌≡◌, ℕ, ◌+◌, ◌-◌, ◌*◌, ◌≤◌, true, false, eqb, ltb, ◌&&◌, List, [], ◌∷◌, ◌++◌, Option, Some, None}
 use Rattle.std.proofs.Common.{length, refl, sym, ◌∙◌, ap, subst, inl, inr, arith}
 use Rattle.std.proofs.lemmas.Bool.{eqb-true, eq-eqb, ne_eqb, cases_eq, cases_Bool, and_left, and_right}
@@ -33,7 +33,7 @@ module _ (n e : ℕ) (w : Epochs) (x : World) (h : IsEpoch n e w x) where
       subst (λ ls. is_taken n (world_of e w) (control_at (w.controls e) k) ≡ is_taken n x (control_at ls k)) h.controls
       (taken_same (control_at (w.controls e) k) t)
 
--- the events of an epoch that come later, and how many are useful
+-- the later events of an epoch, and how many of them are useful
 record Added (n e : ℕ) (later all : List EpochEvent) : Type 0 where
   pub more : List Event
   pub same : events_of n e (later ++ all) ≡ more ++ events_of n e all

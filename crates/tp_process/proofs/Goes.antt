@@ -1,4 +1,4 @@
--- Until each process knows the end, something can be done.
+-- Liveness in one epoch: until each process has notified its children of the end, a useful event is possible.
 use Rattle.std.proofs.Common.{◌≡◌, ℕ, zero, suc, ◌+◌, ◌*◌, ◌^◌, ◌<◌, ◌≤◌, ◌⊎◌, true, false, eqb, ltb, not, ◌&&◌, ◌||◌}
 use Rattle.std.proofs.Common.{List, Option, Some, None, refl, sym, subst, inl, inr, arith}
 use Rattle.std.proofs.lemmas.Bool.{ltb-true, cases_eq, cases_Bool, lt-ltb, eq-eqb, not-true, not_from_false, and_parts, and_from}
@@ -16,7 +16,7 @@ use Rattle.tp_process.proofs.Inv.{HasGiven, Here, Holds, Reported, Good, taken, 
 use Rattle.tp_process.proofs.Size.{size, size_at, size-le, IsSmallGift, gift_small, taken-le}
 use Rattle.tp_process.proofs.Early.{good_after, IsKnown, known_at}
 
--- a process that does something
+-- The move returns something to do.
 abbrev DoesStep : Move → Type 0
 DoesStep m = is_step m.next ≡ true
 
@@ -73,7 +73,7 @@ can_give_from p l r i s t =
     (fits p.taken_sent p.sent s))
     (fits p.taken_received p.received t)
 
--- where a wave has just come
+-- An idle process that a wave has just come to has something to do.
 acts_opened : (p : EpochState) (w : ℕ) → p.over ≡ false → p.pending ≡ 0 → p.sent ≤ LIMIT → p.received ≤ LIMIT → DoesStep (acts (opens w p))
 acts_opened p w o i s r =
     elim (cases_Bool (has p (left_of p))) [
@@ -98,7 +98,7 @@ module _ (n q : ℕ) (x : World) (few : n ≤ 2 ^ 20) (quiet : IsQuiet n x) (v :
   abbrev Useful : Type 0
   Useful = (e : Event) × (is_useful n x e ≡ true)
 
-  -- the same, and a control message that comes is to a process that does not know the end
+  -- A useful event; if it is a control message, its receiver does not know the end.
   abbrev Telling : Type 0
   Telling = (u : Useful) × IsToOpen x u.0
 
@@ -125,7 +125,7 @@ module _ (n q : ℕ) (x : World) (few : n ≤ 2 ^ 20) (quiet : IsQuiet n x) (v :
       (and_from (not (x.at c).here) (eqb v.wave ((x.at c).wave + 1)) (not_from_false (x.at c).here away)
       (eq-eqb _ _ (omega (arith, hold.near, hold.close, other))))
 
-  -- What child c gave is on its way to its parent.
+  -- The sums of child c are on their way to its parent.
   up_comes : (i c s r : ℕ) → i < n → (x.at i).here ≡ true → c < n → parent c ≡ i
       → (x.at i).taken_sent + LIMIT * size n c < 2 ^ 64 → (x.at i).taken_received + LIMIT * size n c < 2 ^ 64
       → HasGiven v.wave (x.at c) → (is_left c (x.at i) || is_right c (x.at i)) ≡ true
@@ -144,9 +144,9 @@ module _ (n q : ℕ) (x : World) (few : n ≤ 2 ^ 20) (quiet : IsQuiet n x) (v :
       (fits (x.at i).taken_received r (omega (arith, report.received, small.received, room_received))))
       d)
 
-  -- Where no process knows the end and a wave is at process i, something can be done there or below.
+  -- If no process knows the end and a wave is at process i, a useful event is possible at i or below it.
   module _ (open_yet : (i : ℕ) → i < n → (x.at i).over ≡ false) where
-    -- a child that has not given
+    -- a child that has not reported
     below : (i c : ℕ) → i < n → (x.at i).here ≡ true → c < n → parent c ≡ i → 0 < c
         → (x.at i).taken_sent + LIMIT * size n c < 2 ^ 64 → (x.at i).taken_received + LIMIT * size n c < 2 ^ 64
         → (is_left c (x.at i) || is_right c (x.at i)) ≡ true
@@ -247,7 +247,7 @@ module _ (n q : ℕ) (x : World) (few : n ≤ 2 ^ 20) (quiet : IsQuiet n x) (v :
             (λ t. absurd (cc (t, starts))))
       ]
 
-  -- what a process is once all is done there
+  -- The process knows the end and has notified its children.
   record IsDone (p : EpochState) : Type 0 where
     pub over : p.over ≡ true
     pub left : p.over_left ≡ false
@@ -256,7 +256,7 @@ module _ (n q : ℕ) (x : World) (few : n ≤ 2 ^ 20) (quiet : IsQuiet n x) (v :
   done_answers : (p : EpochState) → IsDone p → (moved p).next ≡ Ended
   done_answers p d = subst (λ z. (acts z).next ≡ Ended) (sym (ready_over p d.over)) (rw (d.over, d.left, d.right))
 
-  -- Process i knows the end, and does what is left to do.
+  -- If process i knows the end, it is done or can notify a child.
   tells_on : (i : ℕ) → i < n → (x.at i).over ≡ true → IsDone (x.at i) ⊎ Telling
   unfolding moves_on
   tells_on i l o =
@@ -279,7 +279,7 @@ module _ (n q : ℕ) (x : World) (few : n ≤ 2 ^ 20) (quiet : IsQuiet n x) (v :
     subst (λ o. IsOpenTo x o) (sym h.there) f,
   )
 
-  -- The end is known up to process b.
+  -- The first b processes are done, or a useful event is possible.
   end_on : (x.at 0).over ≡ true → (b : ℕ) → b ≤ n → ((i : ℕ) → i < b → IsDone (x.at i)) ⊎ Telling
   end_on o zero l = inl (λ i m. absurd (omega arith))
   end_on o (suc b) l =
@@ -327,7 +327,7 @@ to_open n x (Comes k) none t = at_receiver (control_at x.controls k) t where
       (ltb-true l.to n
       (and_parts (ltb l.to n) (eqb l.to (x.at l.to).number && is_due l.from l.wave l.token (x.at l.to)) t).0)
 
--- The same, where waves are asked to be few only as long as process 0 does not know the end.
+-- The same, with the bound on the number of waves needed only until process 0 knows the end.
 pub goes_on_to : (n : ℕ) (events : List Event) → 0 < n → n ≤ 2 ^ 20
     → (((after n events).at 0).over ≡ false → ((after n events).at 0).wave + 1 < 2 ^ 64) → IsQuiet n (after n events)
     → ((i : ℕ) → i < n → (moved ((after n events).at i)).next ≡ Ended)

@@ -1,4 +1,4 @@
--- What holds at all times.
+-- The invariant of one epoch: what holds of processes, waves and control messages after any events.
 use Rattle.std.proofs.Common.{◌≡◌, ℕ, ◌+◌, ◌*◌, ◌<◌, Some, ◌≤◌, ◌⊎◌, Bool, true, false, cond, List, [], ◌∷◌}
 use Rattle.tp_base.specs.Tree.{parent}
 use Rattle.tp_process.specs.declared.control_message.Token.{Token}
@@ -9,7 +9,7 @@ use Rattle.tp_process.specs.declared.epoch_state.TheConstants.{LIMIT}
 use Rattle.tp_process.specs.World.{World, IsQuiet, control_at}
 use Rattle.tp_base.specs.Totals.{total}
 
--- what was counted as sent and received
+-- numbers of messages, sent and received
 pub record Counts : Type 0 where
   pub sent : ℕ
   pub received : ℕ
@@ -20,21 +20,22 @@ plus a b = record { sent = a.sent + b.sent; received = a.received + b.received }
 abbrev pub none : Counts
 none = record { sent = 0; received = 0 }
 
--- what a process counted
+-- what a process has counted
 abbrev pub mine : EpochState → Counts
 mine p = record { sent = p.sent; received = p.received }
 
--- what each process gave when a wave visited it last: its own, and with all below it
+-- what each process reported to the last wave that it passed up: its own numbers (`own`), and with all processes below
+-- it (`all`)
 pub record Gifts : Type 0 where
   pub own : ℕ → Counts
   pub all : ℕ → Counts
 
--- The process has given in wave w.
+-- The process has passed wave w up.
 pub record HasGiven (w : ℕ) (p : EpochState) : Type 0 where
   pub wave : p.wave ≡ w
   pub gone : p.here ≡ false
 
--- what is known of a process that has given in wave w
+-- what holds of a process that has passed wave w up
 pub record Visited (n w : ℕ) (g : Gifts) (at : ℕ → EpochState) (i : ℕ) (p : EpochState) : Type 0 where
   pub sent : (g.own i).sent ≤ p.sent
   pub received : (g.own i).received ≤ p.received
@@ -43,11 +44,11 @@ pub record Visited (n w : ℕ) (g : Gifts) (at : ℕ → EpochState) (i : ℕ) (
   pub right : 2 * i + 2 < n → HasGiven w (at (2 * i + 2))
   pub sums : g.all i ≡ plus (g.own i) (plus (g.all (2 * i + 1)) (g.all (2 * i + 2)))
 
--- what a child counts for that has given, or has not
+-- the part of a child in the sums so far: 0 while the process waits for its report
 abbrev pub taken : Bool → ℕ → ℕ
 taken waits given = cond waits 0 given
 
--- what is known of a process that wave w visits
+-- what holds of a process while wave w is there
 pub record Here (n w : ℕ) (g : Gifts) (at : ℕ → EpochState) (i : ℕ) (p : EpochState) : Type 0 where
   pub begun : 0 < w
   pub wave : p.wave ≡ w
@@ -58,7 +59,8 @@ pub record Here (n w : ℕ) (g : Gifts) (at : ℕ → EpochState) (i : ℕ) (p :
   pub sent : p.taken_sent ≡ taken p.up_left (g.all (2 * i + 1)).sent + taken p.up_right (g.all (2 * i + 2)).sent
   pub received : p.taken_received ≡ taken p.up_left (g.all (2 * i + 1)).received + taken p.up_right (g.all (2 * i + 2)).received
 
--- what is known of process i, where w is the newest wave and the wave before it ended after process i had sent so much
+-- what holds of process i, if w is the newest wave and process i had sent `low i` messages when the wave before it
+-- ended
 pub record Holds (n w : ℕ) (low : ℕ → ℕ) (g : Gifts) (at : ℕ → EpochState) (i : ℕ) (p : EpochState) : Type 0 where
   pub number : p.number ≡ i
   pub processes : p.processes ≡ n
@@ -68,18 +70,18 @@ pub record Holds (n w : ℕ) (low : ℕ → ℕ) (g : Gifts) (at : ℕ → Epoch
   pub given : HasGiven w p → Visited n w g at i p
   pub here : p.here ≡ true → Here n w g at i p
 
--- A control message with sums has what its sender gave.
+-- The sums in a control message are those that its sender reported.
 pub record Reported (w : ℕ) (g : Gifts) (at : ℕ → EpochState) (from s r : ℕ) : Type 0 where
   pub given : HasGiven w (at from)
   pub sent : s ≡ (g.all from).sent
   pub received : r ≡ (g.all from).received
 
--- The end was judged.
+-- Termination was detected: the world is quiet, and process 0 knows it.
 pub record Finished (n : ℕ) (x : World) : Type 0 where
   pub quiet : IsQuiet n x
   pub over : (x.at 0).over ≡ true
 
--- A control message was sent.
+-- The control message is among those that were sent.
 pub record Has (ls : List ControlMessage) (l : ControlMessage) : Type 0 where
   pub which : ℕ
   pub there : control_at ls which ≡ Some l
@@ -93,7 +95,7 @@ up_control from w s r = record { from = from; to = parent from; wave = w; token 
 abbrev pub over_control : ℕ → ℕ → ℕ → ControlMessage
 over_control from to w = record { from = from; to = to; wave = w; token = Over }
 
--- What process i does not owe any more it has sent.
+-- Process i has sent every control message that it no longer owes.
 pub record Posts (n w : ℕ) (ls : List ControlMessage) (i : ℕ) (p : EpochState) : Type 0 where
   pub down_left : p.here ≡ true → p.down_left ≡ false → 2 * i + 1 < n → Has ls (down_control i (2 * i + 1) w)
   pub down_right : p.here ≡ true → p.down_right ≡ false → 2 * i + 2 < n → Has ls (down_control i (2 * i + 2) w)
@@ -101,12 +103,12 @@ pub record Posts (n w : ℕ) (ls : List ControlMessage) (i : ℕ) (p : EpochStat
   pub over_left : p.over ≡ true → p.over_left ≡ false → 2 * i + 1 < n → (u : ℕ) × Has ls (over_control i (2 * i + 1) u)
   pub over_right : p.over ≡ true → p.over_right ≡ false → 2 * i + 2 < n → (u : ℕ) × Has ls (over_control i (2 * i + 2) u)
 
--- The numbers are within their limit.
+-- The counters of messages are within their limit.
 pub record IsSmall (p : EpochState) : Type 0 where
   pub sent : p.sent ≤ LIMIT
   pub received : p.received ≤ LIMIT
 
--- what is known of a control message
+-- what holds of a control message that was sent
 abbrev pub Known : ℕ → ℕ → Gifts → World → ℕ → ℕ → Token → Type 0
 Known n w g x from wave Down = wave ≤ w
 Known n w g x from wave (Up s r) = (wave ≤ w) × (wave ≡ w → Reported w g x.at from s r)
@@ -116,14 +118,14 @@ abbrev pub AllKnown : ℕ → ℕ → Gifts → World → List ControlMessage �
 AllKnown n w g x [] = Unit {0}
 AllKnown n w g x (l ∷ ls) = Known n w g x l.from l.wave l.token × AllKnown n w g x ls
 
--- what is known of process 0
+-- what holds of process 0
 pub record Root (n w : ℕ) (floor : ℕ → ℕ) (g : Gifts) (x : World) : Type 0 where
   pub wave : (x.at 0).wave ≡ w
   pub floors : (x.at 0).here ≡ true → (i : ℕ) → i < n → HasGiven w (x.at i) → floor i ≤ (g.own i).sent
   pub last : (x.at 0).known ≡ true → ((x.at 0).last_received < total n floor) ⊎ IsQuiet n x
 
--- How far the waves have come since the last message was sent or received, which was in wave q: what those added up that began since is all
--- that was sent and received, and where no message is under way there are few of them.
+-- The progress of waves since the last message was sent or received, in wave q: a wave that began after that adds up
+-- everything that was sent and received, and while no message is under way there are at most two such waves.
 pub record Pace (n q w : ℕ) (g : Gifts) (x : World) : Type 0 where
   pub past : q ≤ w
   pub late : q < w → (i : ℕ) → i < n → HasGiven w (x.at i) → g.own i ≡ mine (x.at i)
@@ -143,7 +145,7 @@ pub record Inv (n q w : ℕ) (floor : ℕ → ℕ) (g : Gifts) (x : World) : Typ
   pub posts : (i : ℕ) → i < n → Posts n w x.controls i (x.at i)
   pub small : (i : ℕ) → i < n → IsSmall (x.at i)
 
--- It holds for some of each.
+-- The invariant, for some newest wave, some floor of sent messages and some reports.
 pub record Good (n q : ℕ) (x : World) : Type 0 where
   pub wave : ℕ
   pub floor : ℕ → ℕ

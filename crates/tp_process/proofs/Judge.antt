@@ -1,4 +1,5 @@
--- A process gives; process 0 judges, and starts the next wave.
+-- The steps at the end of a wave preserve the invariant: a process passes the wave up; process 0 judges it and starts
+-- the next one.
 use Rattle.std.proofs.Common.{◌≡◌, ℕ, zero, suc, ◌+◌, ◌*◌, ◌<◌, ◌≤◌, ◌⊎◌, Bool, true, false, List, [], ◌∷◌, refl, sym}
 use Rattle.std.proofs.Common.{◌∙◌, ap, inl, inr, arith, eqb}
 use Rattle.std.proofs.lemmas.Bool.{ltb-false, cases_eq, cases_lt, eq-eqb, ne_eqb, and_from}
@@ -21,11 +22,11 @@ use Rattle.tp_process.proofs.Wave.{control_step, opens_here}
 counts_equal : (a b : Counts) → a.sent ≡ b.sent → a.received ≡ b.received → a ≡ b
 counts_equal a b e f = ap (λ s. record { sent = s; received = a.received }) e ∙ ap (λ r. record { sent = b.sent; received = r }) f
 
--- p once it has given, and what process 0 keeps
+-- p after it has passed the wave up, with what process 0 keeps of the wave
 abbrev pub gone : EpochState → Bool → ℕ → EpochState
 gone p known last = record p { here = false; known = known; last_received = last }
 
--- what a process and all below it counted
+-- what a process and all processes below it have counted
 abbrev pub ours : EpochState → Counts
 ours p = record { sent = p.taken_sent + p.sent; received = p.taken_received + p.received }
 
@@ -76,7 +77,7 @@ module _ (n q w i : ℕ) (low : ℕ → ℕ) (g : Gifts) (x : World) (l : i < n)
         here = λ f. absurd (cc f);
       }
 
-  -- a process gives to its parent
+  -- A process passes the wave up to its parent.
   pub give_step : (i ≡ 0 → ⊥)
       → Inv n q w low (with_gift i (x.at i) g)
       (record x {
@@ -120,7 +121,7 @@ module _ (n q w i : ℕ) (low : ℕ → ℕ) (g : Gifts) (x : World) (l : i < n)
         over_right = λ f e m. let z = (v.posts i l).over_right f e m in (z.0, has_more _ _ x.controls z.1);
       })
 
--- All have given where the children of process 0 have.
+-- If the children of process 0 have passed the wave up, all processes below have.
 given_below : (n q w : ℕ) (low : ℕ → ℕ) (g : Gifts) (x : World) → Inv n q w low g x
     → ((c : ℕ) → c < n → (c ≡ 1) ⊎ (c ≡ 2) → HasGiven w (x.at c)) → (b j : ℕ) → j < b → 0 < j → j < n → HasGiven w (x.at j)
 given_below n q w low g x v top zero j k p m = absurd (omega arith)
@@ -144,7 +145,7 @@ given_below n q w low g x v top (suc b) j k p m =
           ]
     ]
 
--- The wave ends at process 0, all other processes having given.
+-- The wave ends at process 0: it is idle, and its children have reported.
 module _ (n q w : ℕ) (low : ℕ → ℕ) (g : Gifts) (x : World) (l : 0 < n) (v : Inv n q w low g x) (there : (x.at 0).here ≡ true)
     (idle : (x.at 0).pending ≡ 0) (no_left : (x.at 0).up_left ≡ false) (no_right : (x.at 0).up_right ≡ false) where
   pub all_given : (j : ℕ) → 0 < j → j < n → HasGiven w (x.at j)
@@ -160,7 +161,7 @@ module _ (n q w : ℕ) (low : ℕ → ℕ) (g : Gifts) (x : World) (l : 0 < n) (
   given : Gifts
   given = with_gift 0 (x.at 0) g
 
-  -- what is known of all of them then
+  -- the invariant of each process after that
   held : (roof : ℕ → ℕ) (known : Bool) (last : ℕ) → ((j : ℕ) → j < n → roof j ≤ (x.at j).sent) → (j : ℕ) → j < n
       → Holds n w roof (with_gift 0 (x.at 0) g) (put 0 (gone (x.at 0) known last) x.at) j (put 0 (gone (x.at 0) known last) x.at j)
   held roof known last under j m =
@@ -182,7 +183,7 @@ module _ (n q w : ℕ) (low : ℕ → ℕ) (g : Gifts) (x : World) (l : 0 < n) (
   beyond_kept : (c : ℕ) → n ≤ c → (with_gift 0 (x.at 0) g).all c ≡ none
   beyond_kept c m = put_other 0 c (ours (x.at 0)) g.all (λ e. absurd (omega (arith, e))) ∙ v.beyond c m
 
-  -- The sums at process 0 are those of what all gave.
+  -- The sums at process 0 are the sums of all reports.
   sent_in_all : total n (λ j. ((with_gift 0 (x.at 0) g).own j).sent) ≡ (x.at 0).taken_sent + (x.at 0).sent
   sent_in_all =
       tree_sum n (λ j. ((with_gift 0 (x.at 0) g).own j).sent) (λ j. ((with_gift 0 (x.at 0) g).all j).sent)
@@ -195,7 +196,7 @@ module _ (n q w : ℕ) (low : ℕ → ℕ) (g : Gifts) (x : World) (l : 0 < n) (
       (λ j m. ap (λ z. z.received) (visited false 0 j m).sums)
       (λ c m. ap (λ z. z.received) (beyond_kept c m))
 
-  -- No less was sent than when the wave before ended.
+  -- The wave counts at least as many sent messages as there were when the wave before it ended.
   floor_in_all : total n low ≤ (x.at 0).taken_sent + (x.at 0).sent
   floor_in_all =
       let each : (j : ℕ) → j < n → low j ≤ ((with_gift 0 (x.at 0) g).own j).sent
@@ -205,7 +206,7 @@ module _ (n q w : ℕ) (low : ℕ → ℕ) (g : Gifts) (x : World) (l : 0 < n) (
       (λ off. v.root.floors there j m (all_given j (omega (arith, off)) m)) in
       omega (arith, total-le n low (λ j. ((with_gift 0 (x.at 0) g).own j).sent) each, sent_in_all)
 
-  -- Where the two numbers are equal, nothing is left.
+  -- The four counter test is sound: if the two numbers are equal, the world is quiet.
   pub end_is_quiet : (x.at 0).known ≡ true → (x.at 0).last_received ≡ (x.at 0).taken_sent + (x.at 0).sent → IsQuiet n x
   end_is_quiet known same =
       elim (v.root.last known) [
@@ -227,7 +228,7 @@ module _ (n q w : ℕ) (low : ℕ → ℕ) (g : Gifts) (x : World) (l : 0 < n) (
         none_under_way = z.none_under_way;
       }
 
-  -- Where the wave saw received what was sent by its end, nothing is left.
+  -- If the wave counts as many received messages as were sent by its end, the world is quiet.
   quiet_there : (known : Bool) (last : ℕ) → total n (λ j. (x.at j).sent) ≤ (x.at 0).taken_received + (x.at 0).received
       → IsQuiet n (record x { at = put 0 (gone (x.at 0) known last) x.at })
   quiet_there known last enough =
@@ -245,7 +246,7 @@ module _ (n q w : ℕ) (low : ℕ → ℕ) (g : Gifts) (x : World) (l : 0 < n) (
             (omega (arith, enough, received_in_all, sums, same_received known last, v.balance, total-zero n)) j m);
       }
 
-  -- Since the last message was sent or received, the sums are those of all.
+  -- A wave that began after the last message was sent or received has the exact sums.
   own_now : q < w → (j : ℕ) → j < n → (with_gift 0 (x.at 0) g).own j ≡ mine (x.at j)
   own_now m j k =
       put_holds (λ j z. z ≡ mine (x.at j)) 0 j (mine (x.at 0)) g.own (λ e. rw e)
@@ -284,7 +285,7 @@ module _ (n q w : ℕ) (low : ℕ → ℕ) (g : Gifts) (x : World) (l : 0 < n) (
             ];
       }
 
-  -- The wave is over, and the end was not found.
+  -- The wave ends and the end is not detected.
   pub judge_step : is_end (x.at 0) ≡ false → Inv n q w (λ j. (x.at j).sent) (with_gift 0 (x.at 0) g)
       (record x {
         at = put 0 (record (x.at 0) {

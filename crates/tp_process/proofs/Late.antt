@@ -1,4 +1,4 @@
--- Over a network that brings each control message once, none is late.
+-- Over a network that brings each control message once, no control message is refused as `Late`.
 use Rattle.std.proofs.Common.{◌≡◌, ℕ, zero, suc, ◌+◌, ◌*◌, ◌^◌, ◌<◌, ◌≤◌, ◌⊎◌, Bool, true, false, cond, eqb, ltb, ◌&&◌, List, [], ◌∷◌}
 use Rattle.std.proofs.Common.{Option, Some, None, refl, sym, ◌∙◌, ap, subst, inl, inr, arith}
 use Rattle.std.proofs.lemmas.Bool.{cases_eq, cases_Bool, cases_lt, eqb-true, eq-eqb, ne_eqb, and_parts}
@@ -22,7 +22,7 @@ use Rattle.tp_process.proofs.Sent.{IsCount, Takes, does_counts, gap, moved_takes
 use Rattle.tp_process.proofs.Through.{all_taken}
 use Rattle.tp_process.proofs.Network.{follows}
 
--- how many control messages of epoch e are on their way to process k
+-- the number of control messages of epoch e on their way to process k
 abbrev carried_to : ℕ → ℕ → List Carried → ℕ
 carried_to e k [] = 0
 carried_to e k (c ∷ cs) = cond (eqb c.epoch e && eqb c.message.to k) (carried_to e k cs + 1) (carried_to e k cs)
@@ -59,7 +59,7 @@ carried_less e k (suc j) (d ∷ cs) c at =
     let less : carried_to e k (without j cs) + bit (eqb c.epoch e && eqb c.message.to k) ≡ carried_to e k cs = carried_less e k j cs c at in
     elim (cases_Bool (eqb d.epoch e && eqb d.message.to k)) [ inl t ↦ rw t (omega (arith, less)) | inr t ↦ rw t (omega (arith, less)) ]
 
--- What is on its way to process k, and what it took, was sent to it.
+-- The control messages on their way to process k and those that it took are at most as many as were sent to it.
 abbrev Balance : ℕ → ℕ → List Carried → World → Type 0
 Balance e k cs x = carried_to e k cs + reach (x.at k) ≤ sent_to k x.controls + gap (x.at k)
 

@@ -1,4 +1,4 @@
--- A network that brings each control message once: what has not come is on its way, and if nothing is left to do, all know the end.
+-- Liveness over a network that brings each control message once: if nothing is left to do, all processes know the end.
 use Rattle.std.proofs.Common.{◌≡◌, ℕ, zero, suc, ◌+◌, ◌^◌, ◌<◌, ◌≤◌, ◌⊎◌, true, false, ltb, ◌&&◌, cond, List, [], ◌∷◌, ◌++◌}
 use Rattle.std.proofs.Common.{Option, Some, None, refl, sym, ◌∙◌, ap, subst, inl, inr, arith, Bool}
 use Rattle.std.proofs.lemmas.Bool.{ltb-true, ltb-false, eq-eqb, eqb-true, eqb-false, ne_eqb, cases_eq, cases_lt, cases_Bool}
@@ -35,7 +35,7 @@ gone_on : (n e : ℕ) (l : ControlMessage) (o : EpochEvent) (all : List EpochEve
 gone_on n e l o all g later =
     subst (λ h. is_taken_in n e (epochs_after n h) l ≡ false) (append_assoc later (o ∷ []) all) (g (later ++ o ∷ []))
 
--- An epoch only grows.
+-- The epoch of a process never decreases.
 epoch_grows : (n : ℕ) (w : Epochs) (o : EpochEvent) (j : ℕ) → (w.at j).epoch ≤ ((advance n w o).at j).epoch
 epoch_grows n w (In f event) j =
     let y : World = happens n (world_of f w) event in
@@ -63,12 +63,12 @@ pub record IsCarried (e : ℕ) (l : ControlMessage) (cs : List Carried) : Type 0
   pub which : ℕ
   pub there : carried_at cs which ≡ Some (record { epoch = e; message = l })
 
--- What was sent and has not come is on its way, by epoch.
+-- A control message on its way was sent in its epoch; one that was sent is on its way or is never taken again.
 pub record Agree (n : ℕ) (controls : ℕ → List ControlMessage) (cs : List Carried) (all : List EpochEvent) : Type 0 where
   pub sent : (k : ℕ) (c : Carried) → carried_at cs k ≡ Some c → Has (controls c.epoch) c.message
   pub posted : (e k : ℕ) (l : ControlMessage) → control_at (controls e) k ≡ Some l → IsCarried e l cs ⊎ Gone n e l all
 
--- The network is what these events of the epochs come to.
+-- The network is in the state after these events of the epochs.
 pub record Follows (n : ℕ) (s : Network) : Type 0 where
   pub all : List EpochEvent
   pub same : s.epochs ≡ epochs_after n all
@@ -86,7 +86,7 @@ agree_on n controls cs o all g =
           ];
     }
 
--- what is sent by a call of `next`
+-- the control messages after an act of process i, with the one that `next` returned
 abbrev news : ℕ → World → ℕ → Act → List ControlMessage
 news n x i Moves = cond (ltb i n) (posted (moved (x.at i)).next x.controls) x.controls
 news n x i _ = x.controls
@@ -105,7 +105,7 @@ news_are n x i Moves = ap_cond (ltb i n) where
   ap_cond true = refl
   ap_cond false = refl
 
--- One more was sent, in epoch e.
+-- One more control message was sent, in epoch e.
 after_next : (n e : ℕ) (next : Next) (controls : ℕ → List ControlMessage) (cs : List Carried) (all : List EpochEvent)
     → Agree n controls cs all → Agree n (put e (posted next (controls e)) controls) (with_sent e next cs) all
 after_next n e (Send l) controls cs all g = record { sent = sent_of; posted = posted_of } where
@@ -145,7 +145,7 @@ after_next n e Again controls cs all g = subst (λ f. Agree n f cs all) (sym (pu
 after_next n e Ended controls cs all g = subst (λ f. Agree n f cs all) (sym (put_id e controls)) g
 after_next n e Nothing controls cs all g = subst (λ f. Agree n f cs all) (sym (put_id e controls)) g
 
--- what has come is not on its way
+-- Removing one control message leaves all others on their way.
 taken_out : (k j : ℕ) (cs : List Carried) (c : Carried) → carried_at cs j ≡ Some c
     → (j ≡ k) ⊎ ((m : ℕ) × (carried_at (without k cs) m ≡ Some c))
 taken_out k j [] c there = absurd (cc there)
@@ -277,7 +277,7 @@ follows n few (Restarts i ∷ past) = restarts_follow n (network n past) (follow
 follows n few (Arrives k ∷ past) =
     arrived_follow n (network n past) (follows n few past) few k (carried_at (network n past).carried k) refl
 
--- where a number is least
+-- a process at which a number is least
 least : (n : ℕ) (f : ℕ → ℕ) → 0 < n → (i : ℕ) × (i < n) × ((j : ℕ) → j < n → f i ≤ f j)
 least zero f l = absurd (omega (arith, l))
 least (suc n) f l =

@@ -1,4 +1,4 @@
--- A control message that has come need not come again.
+-- Control messages are idempotent: one that has come is never taken again.
 use Rattle.std.proofs.Common.{◌≡◌, ℕ, ◌+◌, ◌-◌, ◌*◌, ◌^◌, ◌<◌, ◌≤◌, ◌⊎◌, Bool, true, false, eqb, ltb, not, ◌&&◌, ◌||◌, List, []}
 use Rattle.std.proofs.Common.{◌∷◌, ◌++◌, Option, Some, None, refl, sym, ◌∙◌, subst, inl, inr, arith}
 use Rattle.std.proofs.lemmas.Bool.{or_cases, or_parts, not-false, eqb-false, le-ltb, false_from_ne_true, cases_eq, cases_lt}
@@ -20,7 +20,7 @@ use Rattle.tp_process.proofs.Size.{size, size_at, size-le, IsSmallGift, gift_sma
 use Rattle.tp_process.proofs.Route.{Path, path_at, route_after}
 use Rattle.tp_process.proofs.Early.{good_after, known_at}
 
--- what does not come back
+-- The progress of a process in the waves and the end, which is never undone.
 pub record Later (p r : EpochState) : Type 0 where
   pub number : r.number ≡ p.number
   pub wave : p.wave ≤ r.wave
@@ -105,7 +105,7 @@ later_took : (l : ControlMessage) (p : EpochState) → Later p (took l p)
 later_took l p =
     cond_both (eqb l.to p.number) (takes l.from l.wave l.token p) p (Later p) (λ t. later_takes l.from l.wave l.token p) (λ t. later_same p)
 
--- only numbers of work and messages change
+-- Only the counters of work and messages change.
 later_counts : (p : EpochState) (a s r : ℕ) → Later p (record p { pending = a; sent = s; received = r })
 later_counts p a s r = record { number = refl; wave = omega arith; here = λ e f. f; left = λ e f. f; right = λ e f. f; over = λ e. e }
 
@@ -182,7 +182,7 @@ spent_is_not_due from u (Up s r) p e =
     ]
 spent_is_not_due from u Over p e = not_from_true p.over e
 
--- what one flag and a number tell
+-- A flag that only falls, and a number: if the test failed before, it fails after.
 still_none : (a b : Bool) (from m : ℕ) → (a ≡ false → b ≡ false) → (a && eqb from m) ≡ false → (b && eqb from m) ≡ false
 still_none a b from m f e =
     elim (and_cases a (eqb from m) e) [
@@ -219,7 +219,7 @@ fits a b l = lt-ltb (a + b) (2 ^ 64) l
 
 -- A control message that comes is taken, or was no longer due.
 module _ (n q : ℕ) (x : World) (few : n ≤ 2 ^ 20) (v : Good n q x) (i : ℕ) (l : i < n) where
-  -- There is room for what a child gave.
+  -- The sums of a child can be added without overflow.
   room : (c s : ℕ) (r : ℕ) → (x.at i).here ≡ true → Reported v.wave v.gifts x.at c s r
       → ((is_left c (x.at i) || is_right c (x.at i)) ≡ true) → do_fit (x.at i).taken_sent s && do_fit (x.at i).taken_received r ≡ true
   room c s r here t d =
@@ -334,7 +334,7 @@ module _ (n q : ℕ) (x : World) (few : n ≤ 2 ^ 20) (v : Good n q x) (i : ℕ)
       let p : EpochState = x.at i in
       cond_both p.over p (ends p) (λ z. z.over ≡ true) (λ d. d) (λ d. refl)
 
--- what is known of a control message that has come
+-- A control message that has come is spent.
 spent_came : (n q : ℕ) (x : World) → n ≤ 2 ^ 20 → (v : Good n q x) (l : ControlMessage) → Known n v.wave v.gifts x l.from l.wave l.token
     → Path (x.at 0).wave x.at l.from l.to l.wave l.token → l.to < n
     → Spent l.from l.wave l.token ((came n x (Some l)).at l.to)

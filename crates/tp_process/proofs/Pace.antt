@@ -1,4 +1,4 @@
--- One process changes, and neither what was sent nor what was received.
+-- Steps that change one process and send and receive no message preserve `Pace`.
 use Rattle.std.proofs.Common.{◌≡◌, ℕ, ◌<◌, List, refl, sym, ◌∙◌, subst, inl, inr}
 use Rattle.std.proofs.lemmas.Bool.{cases_eq, eq-eqb, ne_eqb}
 use Rattle.tp_process.specs.declared.control_message.ControlMessage.{ControlMessage}
@@ -8,7 +8,7 @@ use Rattle.tp_base.specs.Totals.{total}
 use Rattle.tp_process.proofs.Put.{put_holds, put_same, total_same-put}
 use Rattle.tp_process.proofs.Inv.{Gifts, HasGiven, Pace, mine}
 
--- process i is another, other messages are under way, and other control messages are there
+-- the world with another process i, other messages under way and other control messages
 abbrev pub changed : ℕ → EpochState → (ℕ → ℕ) → List ControlMessage → World → World
 changed i new under ls x = record { at = put i new x.at; under_way = under; controls = ls }
 

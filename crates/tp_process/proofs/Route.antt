@@ -1,4 +1,4 @@
--- The newest wave comes down the tree, and up it again.
+-- The route of the newest wave down the tree and up again: each control message goes between a process and its parent.
 use Rattle.std.proofs.Common.{◌≡◌, ℕ, zero, suc, ◌+◌, ◌-◌, ◌<◌, Bool, true, false, eqb, ltb, not, ◌&&◌, List, [], ◌∷◌, Option}
 use Rattle.std.proofs.Common.{Some, None, refl, sym, ◌∙◌, subst, arith}
 use Rattle.std.proofs.lemmas.Bool.{ltb-true, eqb-true, eqb-false, ne_eqb, and_parts, cond_both}
@@ -18,7 +18,7 @@ use Rattle.tp_process.proofs.Put.{put_here, put_put, put_holds, put_same}
 use Rattle.tp_process.proofs.Inv.{Known, AllKnown, Good}
 use Rattle.tp_process.proofs.Early.{good_after, good_ready, IsKnown, known_at}
 
--- A wave's control message goes down from a process that the wave has come to, and up to one.
+-- A control message of a wave goes from a process that the wave has come to down to a child, or up to its parent.
 abbrev pub Path : ℕ → (ℕ → EpochState) → ℕ → ℕ → ℕ → Token → Type 0
 Path w at from to u Down = (from ≡ parent to) × (u ≡ w → (at from).wave ≡ w)
 Path w at from to u (Up s r) = u ≡ w → (at to).wave ≡ w
@@ -41,7 +41,7 @@ paths_kept w at new (l ∷ ls) f t = (one l.from l.to l.wave l.token t.0, paths_
   one from to u (Up s r) p = λ e. f to (p e)
   one from to u Over p = tt
 
--- one process changes
+-- One process changes.
 route_step : (n i : ℕ) (x : World) (new : EpochState) (under : ℕ → ℕ) (ls : List ControlMessage) → Route x n
     → (i ≡ 0 → new.wave ≡ (x.at 0).wave)
     → ((x.at i).wave ≡ (x.at 0).wave → new.wave ≡ (x.at 0).wave)
@@ -66,7 +66,7 @@ route_step n i x new under ls v root keeps own known_of =
           subst (λ u. AllPaths u (put i new x.at) ls) (sym same) (known_of (paths_kept w x.at (put i new x.at) x.controls kept v.paths));
     }
 
--- where its wave is the same
+-- One process changes, and its newest wave is the same.
 route_same : (n i : ℕ) (x : World) (new : EpochState) (under : ℕ → ℕ) (ls : List ControlMessage) → i < n → Route x n
     → new.wave ≡ (x.at i).wave
     → (AllPaths (x.at 0).wave (put i new x.at) x.controls → AllPaths (x.at 0).wave (put i new x.at) ls)
@@ -123,7 +123,7 @@ route_acts n q i x l v u =
     (λ t. same p refl))))
     (λ t. same p refl))
 
--- the next wave is at process 0 alone
+-- Process 0 starts the next wave, which has come to no other process.
 route_ready : (n q i : ℕ) (x : World) → i < n → Good n q x → Route x n → Route (record x { at = put i (ready (x.at i)) x.at }) n
 route_ready n q i x l v u =
     let p : EpochState = x.at i in
@@ -172,7 +172,7 @@ route_moves n q i x l v u =
     (put_here i r x.at) acted in
     subst (λ z. Route (record x { at = z; controls = posted (acts r).next x.controls }) n) (fun_ext (put_put i (acts r).state r x.at)) named
 
--- the way of a control message that was sent
+-- the route of a control message that was sent
 abbrev pub IsPath : ℕ → (ℕ → EpochState) → Option ControlMessage → Type 0
 IsPath w at None = Unit {0}
 IsPath w at (Some a) = Path w at a.from a.to a.wave a.token

@@ -1,4 +1,4 @@
--- How many control messages were sent to a process, and how many it took, in one epoch.
+-- Accounts of one epoch: the number of control messages that were sent to a process, and the number that it took.
 use Rattle.std.proofs.Common.{◌≡◌, ℕ, ◌+◌, ◌-◌, ◌<◌, ◌≤◌, ◌⊎◌, Bool, true, false, cond, eqb, ltb, not, ◌&&◌, List, []}
 use Rattle.std.proofs.Common.{◌∷◌, Option, Some, None, refl, sym, ◌∙◌, subst, inl, inr, arith}
 use Rattle.std.proofs.lemmas.Bool.{cases_Bool, ltb-true, lt-ltb, eqb-true, ne_eqb, not-true}
@@ -23,7 +23,7 @@ use Rattle.tp_process.proofs.Inv.{Good}
 use Rattle.tp_process.proofs.Early.{CanGive, can_give_parts, good_after}
 use Rattle.tp_process.proofs.Soon.{bit, total_put}
 
--- how many control messages to process k there are
+-- the number of control messages to process k in a list
 abbrev pub sent_to : ℕ → List ControlMessage → ℕ
 sent_to k [] = 0
 sent_to k (l ∷ ls) = cond (eqb l.to k) (sent_to k ls + 1) (sent_to k ls)
@@ -37,7 +37,8 @@ posted_to k (Send l) ls =
     elim (cases_Bool (eqb l.to k)) [ inl t ↦ rw t (omega arith) | inr t ↦ rw t (omega arith) ]
 posted_to k _ ls = omega arith
 
--- what process p has still to send to process k, in its newest wave and to tell the end; and what these waves and the end cost
+-- what p still has to send to process k in its newest wave and for the end (`owes`), and what its waves and the end
+-- cost (`costs_to`)
 abbrev pub is_child : ℕ → EpochState → Bool
 is_child k p = not (eqb p.number 0) && eqb (parent p.number) k
 
@@ -50,7 +51,7 @@ owes k p =
 abbrev pub costs_to : ℕ → EpochState → ℕ
 costs_to k p = cond (eqb (left_of p) k) (p.wave + 1) 0 + cond (eqb (right_of p) k) (p.wave + 1) 0 + cond (is_child k p) p.wave 0
 
--- A process that becomes r pays what it sends, d control messages to process k.
+-- A step from p to r sends d control messages to process k: what p owes falls by d, but for what new waves cost.
 abbrev pub Pays : ℕ → EpochState → EpochState → ℕ → Type 0
 Pays k p r d = owes k r + d + costs_to k p ≡ owes k p + costs_to k r
 
@@ -165,7 +166,8 @@ ready_size p = cond_both (can_start p) (opens (p.wave + 1) p) p (λ z. z.process
 moved_pays : (n k : ℕ) (p : EpochState) → k < n → p.processes ≡ n → Pays k p (moved p).state (sends_to k (moved p).next)
 moved_pays n k p l size = omega (arith, ready_pays n k p l size, acts_pays n k (ready p) l (ready_size p ∙ size))
 
--- The wave and the end that process p knows have cost it what it took, but for what its children have not reported.
+-- the number of control messages that process p took to reach its wave and the end; `gap` is the reports that are
+-- missing
 abbrev pub reach : EpochState → ℕ
 reach p =
     cond (eqb p.number 0) 0 (p.wave + bit p.over) + cond (has p (left_of p)) p.wave 0 + cond (has p (right_of p)) p.wave 0
@@ -173,7 +175,7 @@ reach p =
 abbrev pub gap : EpochState → ℕ
 gap p = bit (p.here && p.up_left) + bit (p.here && p.up_right)
 
--- A process that becomes r has taken at most d control messages.
+-- A step from p to r takes at most d control messages.
 abbrev pub Takes : EpochState → EpochState → ℕ → Type 0
 Takes p r d = reach r + gap p ≤ reach p + gap r + d
 
@@ -268,7 +270,7 @@ takes_takes from u Over p =
     cond_both p.over p (ends p) (λ z. Takes p z 1) (λ d. omega arith)
     (λ d. elim (cases_Bool (eqb p.number 0)) [ inl z ↦ rw z (omega arith) | inr z ↦ rw (z, d) (omega arith) ])
 
--- A process moves, or only its counts of work and of messages change.
+-- A process moves (`IsMove`), or only its counters of work and messages change (`IsCount`).
 pub record IsMove (i : ℕ) (x z : World) : Type 0 where
   pub at : z.at ≡ put i (moved (x.at i)).state x.at
   pub controls : z.controls ≡ posted (moved (x.at i)).next x.controls
@@ -326,7 +328,7 @@ does_either n x i a =
       | inr c ↦ inr c
     ]
 
--- What all have still to send to process k and what was sent to it is what the waves and the end cost.
+-- What was sent to process k and what all still have to send to it add up to what the waves and the end cost.
 abbrev pub Sums : ℕ → ℕ → (ℕ → EpochState) → List ControlMessage → Type 0
 Sums n k at ls = sent_to k ls + total n (λ j. owes k (at j)) ≡ total n (λ j. costs_to k (at j))
 

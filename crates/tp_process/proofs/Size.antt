@@ -1,4 +1,4 @@
--- How many processes there are below one, and what they can have counted at most.
+-- The number of processes below one, and the bound on what they can have counted.
 use Rattle.std.proofs.Common.{◌≡◌, ℕ, zero, suc, ◌+◌, ◌*◌, ◌<◌, ◌≤◌, Bool, true, false, cond, ltb, refl, sym, ◌∙◌, ap}
 use Rattle.std.proofs.Common.{inl, inr, arith}
 use Rattle.std.proofs.lemmas.Bool.{cases_eq, cases_lt, lt-ltb, le-ltb}
@@ -9,7 +9,7 @@ use Rattle.tp_base.specs.Totals.{total}
 use Rattle.tp_process.proofs.Tree.{tree_sum}
 use Rattle.tp_process.proofs.Inv.{Gifts, HasGiven, Visited, Inv, taken}
 
--- process i and all below it, looked for so deep
+-- the number of processes in the subtree of process i, to a depth
 size_to : ℕ → ℕ → ℕ → ℕ
 size_to zero n i = 0
 size_to (suc f) n i = cond (ltb i n) (suc (size_to f n (2 * i + 1) + size_to f n (2 * i + 2))) 0
@@ -62,7 +62,7 @@ size_below n (suc b) i m l =
 pub size-le : (n i : ℕ) → i < n → size n i ≤ n
 size-le n i l = size_below n (suc i) i (omega arith) l
 
--- What a process gave is no more than all below it can have counted.
+-- What a process reported is at most what all processes in its subtree can have counted.
 pub record IsSmallGift (n c : ℕ) (g : Gifts) : Type 0 where
   pub sent : (g.all c).sent ≤ LIMIT * size n c
   pub received : (g.all c).received ≤ LIMIT * size n c

@@ -1,4 +1,4 @@
--- How much there is to do until each process knows the end.
+-- Liveness, the bound: the number of useful events that are left until each process knows the end.
 use Rattle.std.proofs.Common.{◌≡◌, ℕ, zero, suc, ◌+◌, ◌-◌, ◌*◌, ◌<◌, ◌≤◌, Bool, true, false, cond, eqb, ltb, not, ◌&&◌, List, []}
 use Rattle.std.proofs.Common.{◌∷◌, ◌++◌, Option, Some, None, refl, sym, ◌∙◌, ap, subst, inl, inr, arith}
 use Rattle.std.proofs.lemmas.Bool.{cases_eq, cases_Bool, ltb-true, lt-ltb, eqb-true, eq-eqb, ne_eqb, not-true, and_parts, and_left}
@@ -28,13 +28,13 @@ bit-le : (b : Bool) → bit b ≤ 1
 bit-le true = omega arith
 bit-le false = omega arith
 
--- what is left to do of a process, where w is the newest wave: in that wave, and to tell the end
+-- the useful events that are left at a process if w is the newest wave: those of that wave, and those of the end
 abbrev pub cost : ℕ → EpochState → ℕ
 cost w p =
     cond (eqb p.wave w) (cond p.here (1 + (bit p.down_left + bit p.down_right + (bit p.up_left + bit p.up_right))) 0) 6
     + cond p.over (bit p.over_left + bit p.over_right) 3
 
--- and in the waves that are still to come
+-- the useful events of the waves that are still to come
 pub budget : ℕ → ℕ → ℕ
 budget n zero = 0
 budget n (suc r) = budget n r + 6 * n
@@ -42,7 +42,7 @@ budget n (suc r) = budget n r + 6 * n
 abbrev pub costs : ℕ → ℕ → (ℕ → EpochState) → ℕ
 costs n q at = total n (λ i. cost (at 0).wave (at i)) + budget n (q + 2 - (at 0).wave)
 
--- a sum where one part changes
+-- A sum changes by the change of one part.
 pub total_put : {A : Type 0} (n i : ℕ) (new : A) (at : ℕ → A) (f : A → ℕ) → i < n
     → total n (λ j. f (put i new at j)) + f (at i) ≡ total n (λ j. f (at j)) + f new
 total_put zero i new at f l = absurd (omega arith)
@@ -104,7 +104,7 @@ acts_wave p =
     (λ t. refl))))
     (λ t. refl))
 
--- what a control message does, that has come to a process
+-- A control message that is taken lowers the cost of its receiver by at least one.
 takes_cost : (n w : ℕ) (g : Gifts) (x : World) (from u : ℕ) (c : Token) (p : EpochState) → Known n w g x from u c → w ≤ p.wave + 1
     → (p.here ≡ true → p.wave ≡ w) → cost w (takes from u c p) + bit (is_due from u c p) ≤ cost w p
 takes_cost n w g x from u Down p t close here =
@@ -166,7 +166,7 @@ module _ (n q : ℕ) (x : World) (v : Good n q x) where
   pub newest : (i : ℕ) → i < n → (x.at i).here ≡ true → (x.at i).wave ≡ (x.at 0).wave
   newest i l h = ((v.inv.each i l).here h).wave ∙ sym v.inv.root.wave
 
-  -- the wave that process 0 knows stays
+  -- The newest wave of process 0 is unchanged.
   pub root_stays : (i : ℕ) (new : EpochState) → (i ≡ 0 → new.wave ≡ (x.at 0).wave) → (put i new x.at 0).wave ≡ (x.at 0).wave
   root_stays i new same = put_holds (λ j z. j ≡ 0 → z.wave ≡ (x.at 0).wave) i 0 new x.at (λ e f. same (sym e)) (λ off f. refl) refl
 
@@ -196,7 +196,7 @@ module _ (n q : ℕ) (x : World) (v : Good n q x) where
       (takes_cost n (x.at 0).wave v.gifts x a.from a.wave a.token p known_of (omega (arith, v.inv.root.wave, hold.close)) (newest a.to l))))
       (λ f. rw f (omega arith))
 
--- what is left to tell the end
+-- the useful events of the end that are left at a process
 abbrev tell : EpochState → ℕ
 tell p = cond p.over (bit p.over_left + bit p.over_right) 3
 
@@ -213,7 +213,7 @@ opened-le w p =
     rw (eq-eqb (w + 1) (w + 1) refl) (omega (arith, bit-le (has p (left_of p)), bit-le (has p (right_of p))))
 
 module _ (n q : ℕ) (x : World) (quiet : IsQuiet n x) (v : Good n q x) where
-  -- The next wave is started out of the budget.
+  -- The budget pays for the start of the next wave.
   started_cost : (i : ℕ) → i < n → costs n q (put i (ready (x.at i)) x.at) ≤ costs n q x.at
   started_cost i l =
       let p : EpochState = x.at i in

@@ -22,13 +22,13 @@ use Rattle.tp_process.proofs.Soon.{acts_wave, takes_wave}
 use Rattle.tp_process.proofs.ControlMessages.{total_add}
 use Rattle.tp_process.proofs.Sent.{IsMove, IsCount, does_either, sent_to, costs_to, is_child, reach, gap, sums_after}
 
--- A process has come through wave w, and its children have reported.
+-- Wave w came to the process, and its children have reported.
 pub record IsThrough (w : ℕ) (p : EpochState) : Type 0 where
   pub wave : p.wave ≡ w
   pub left : (p.here && p.up_left) ≡ false
   pub right : (p.here && p.up_right) ≡ false
 
--- If process 0 knows the end, all have come through the newest wave.
+-- If process 0 knows the end, the newest wave has passed through all processes.
 abbrev Through : ℕ → (ℕ → EpochState) → Type 0
 Through n at = (at 0).over ≡ true → (j : ℕ) → j < n → IsThrough (at 0).wave (at j)
 
@@ -272,7 +272,7 @@ through_after n (Comes j ∷ past) =
     through_came n v.0 x v.1 (control_at x.controls j) (known_at n v.1.wave v.1.gifts x x.controls j v.1.inv.controls)
     (through_after n past)
 
--- one part of a sum
+-- A sum with one part that is not 0.
 one-le : (n a v : ℕ) → total n (λ j. cond (eqb j a) v 0) ≤ cond (ltb a n) v 0
 one-le zero a v = omega arith
 one-le (suc n) a v =
@@ -292,7 +292,7 @@ one-le (suc n) a v =
           ]
     ]
 
--- what a process can have to send to process k: its parent, and its children
+-- what process j can have to send to process k, if it is the parent or a child of k
 abbrev share : ℕ → ℕ → ℕ → ℕ
 share w k j = cond (eqb j (parent k)) (cond (eqb k 0) 0 (w + 1)) 0 + (cond (eqb j (2 * k + 1)) w 0 + cond (eqb j (2 * k + 2)) w 0)
 
@@ -332,7 +332,7 @@ costs-le w k j p number near =
           ]
     ]
 
--- A process that knows the end has taken what was sent to it.
+-- A process that knows the end has taken every control message that was sent to it.
 pub all_taken : (n k : ℕ) (events : List Event) → k < n → ((after n events).at k).over ≡ true
     → (gap ((after n events).at k) ≡ 0) × (sent_to k (after n events).controls ≤ reach ((after n events).at k))
 all_taken n k events l over =

@@ -1,4 +1,4 @@
--- An event does to its process what the call does.
+-- The model's events are the calls: an event does to its process what the contract of the call says.
 use Rattle.std.proofs.Common.{◌≡◌, ℕ, ◌+◌, ◌-◌, ◌<◌, cond, eqb, ltb, ◌&&◌, Some, refl, sym, ◌∙◌, ap, subst, inl, inr}
 use Rattle.std.proofs.lemmas.Bool.{lt-ltb, eq-eqb, ne_eqb, cases_eq, cases_Bool, and_from}
 use Rattle.tp_process.specs.declared.control_message.ControlMessage.{ControlMessage}
@@ -11,7 +11,7 @@ use Rattle.tp_process.specs.Epochs.{Epochs, In, with_state, reopened, received_i
 use Rattle.tp_process.specs.Network.{HandedLaw}
 use Rattle.tp_process.proofs.Put.{put_here}
 
--- where a process of the epoch has become p
+-- A process of the epoch has become p.
 with_world_at : (e i : ℕ) (w : Epochs) (y : World) (p : EpochState) → (w.at i).epoch ≡ e → y.at i ≡ p
     → (with_world e w y).at i ≡ with_state (w.at i) p
 with_world_at e i w y p here is = rw (eq-eqb (w.at i).epoch e here, is) refl
@@ -68,7 +68,7 @@ sends_at n i j x l =
           (sym f) refl
     ]
 
--- where it is of another epoch nothing changes
+-- A process of another epoch does not change.
 apart : (e i : ℕ) (r : ProcessState) (p : EpochState) → (r.epoch ≡ e → ⊥) → r ≡ cond (eqb e r.epoch) (with_state r p) r
 apart e i r p off = rw (ne_eqb e r.epoch (λ d. off (sym d))) refl
 

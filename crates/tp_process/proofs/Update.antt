@@ -1,4 +1,5 @@
--- One process changes, and what it gave may change where it had not given.
+-- One process changes: what holds of the others is preserved, and its report may change if it had not passed the wave
+-- up.
 use Rattle.std.proofs.Common.{suc, ◌≡◌, ℕ, ◌+◌, ◌*◌, ◌<◌, ◌≤◌, Bool, true, false, List, [], ◌∷◌, refl, inl, inr}
 use Rattle.std.proofs.lemmas.Bool.{eq-eqb, ne_eqb, cases_eq}
 use Rattle.tp_process.specs.declared.control_message.Token.{Token}
@@ -28,7 +29,7 @@ module _ (n w i : ℕ) (g h : Gifts) (at : ℕ → EpochState) (p : EpochState) 
         | inr d ↦ k.all c d
       ]
 
-  -- what a child counts for, that is there only where it has given
+  -- The part of a child in the sums is unchanged, as it is there only if the child has passed the wave up.
   module _ (l : i < n) where
     pub child_kept : (c : ℕ) → (c < n → HasGiven w (at c)) → h.all c ≡ g.all c
     child_kept c x =
@@ -72,7 +73,7 @@ module _ (n w i : ℕ) (g h : Gifts) (at : ℕ → EpochState) (p : EpochState) 
           received = rw (taken_received (2 * j + 1) q.up_left v.left, taken_received (2 * j + 2) q.up_right v.right) v.received;
         }
 
-    -- another process, whose floor may rise to what it has sent
+    -- a process other than i, whose floor may rise to what it has sent
     pub holds_kept : (low roof : ℕ → ℕ) (j : ℕ) (q : EpochState) → (HasGiven w q → (h.own j ≡ g.own j) × (h.all j ≡ g.all j))
         → roof j ≤ q.sent → Holds n w low g at j q → Holds n w roof h (put i p at) j q
     holds_kept low roof j q same under v =
@@ -106,7 +107,7 @@ module _ (n w i : ℕ) (g h : Gifts) (x y : World) (p : EpochState) (k : Keeps w
   controls_kept [] t = t
   controls_kept (l ∷ ls) t = (known_kept l.from l.wave l.token t.0, controls_kept ls t.1)
 
--- more control messages
+-- A control message that was sent is still there when more are sent.
 pub has_more : (a l : ControlMessage) (ls : List ControlMessage) → Has ls l → Has (a ∷ ls) l
 has_more a l ls h = record { which = suc h.which; there = h.there }
 

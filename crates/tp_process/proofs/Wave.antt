@@ -1,4 +1,4 @@
--- A wave comes to a process, takes what its children gave, and goes.
+-- The steps of a wave at one process preserve the invariant: it comes down, and the children's sums come up.
 use Rattle.std.proofs.Common.{◌≡◌, ℕ, ◌+◌, ◌*◌, ◌<◌, ◌≤◌, Bool, true, false, ltb, List, refl, sym, ◌∙◌, ap, subst, inl, inr, arith}
 use Rattle.std.proofs.lemmas.Bool.{ltb-true, cases_eq, ltb-false, eq-eqb, ne_eqb}
 use Rattle.tp_process.specs.declared.control_message.ControlMessage.{ControlMessage}
@@ -12,7 +12,7 @@ use Rattle.tp_process.proofs.Inv.{Posts, IsSmall}
 use Rattle.tp_process.proofs.Update.{Keeps, holds_kept, controls_kept, posts_more}
 use Rattle.tp_process.proofs.Pace.{changed, pace_kept}
 
--- the same work and messages, and the same of the end
+-- Work, messages and what is known of the end are the same.
 pub record Same (p new : EpochState) : Type 0 where
   pub pending : new.pending ≡ p.pending
   pub sent : new.sent ≡ p.sent
@@ -87,12 +87,12 @@ module _ (n q w i : ℕ) (low : ℕ → ℕ) (g h : Gifts) (x : World) (l : i < 
             (v.small j m);
       }
 
--- what the children count for that the wave has not come to
+-- A child that is not there adds nothing to the sums.
 nothing_taken : (b : Bool) (u : ℕ) → (b ≡ false → u ≡ 0) → taken b u ≡ 0
 nothing_taken true u z = refl
 nothing_taken false u z = z refl
 
--- how it is at a process when wave w comes
+-- what holds of a process when wave w comes
 pub opens_here : (n w i : ℕ) (low : ℕ → ℕ) (g : Gifts) (at : ℕ → EpochState) (p : EpochState) → p.number ≡ i → p.processes ≡ n → 0 < w
     → ((c : ℕ) → n ≤ c → g.all c ≡ none) → Here n w g at i (opens w p)
 opens_here n w i low g at p number processes begun beyond =
@@ -124,7 +124,7 @@ opens_here n w i low g at p number processes begun beyond =
     }
 
 module _ (n q w i : ℕ) (low : ℕ → ℕ) (g : Gifts) (x : World) (l : i < n) (v : Inv n q w low g x) where
-  -- a wave comes down
+  -- A wave comes down.
   pub visit_step : (u : ℕ) → (x.at i).here ≡ false → u ≡ (x.at i).wave + 1 → u ≤ w
       → Inv n q w low g (record x { at = put i (opens u (x.at i)) x.at })
   visit_step u away next near =
@@ -163,7 +163,7 @@ module _ (n q w i : ℕ) (low : ℕ → ℕ) (g : Gifts) (x : World) (l : i < n)
         over_right = (v.posts i l).over_right;
       })
 
-  -- a child's sums come up
+  -- A child's sums come up.
   pub left_step : (s r : ℕ) → (x.at i).here ≡ true → (x.at i).up_left ≡ true → Reported w g x.at (2 * i + 1) s r
       → Inv n q w low g (record x { at = put i (takes_left s r (x.at i)) x.at })
   left_step s r there waits t =

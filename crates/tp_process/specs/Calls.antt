@@ -46,7 +46,7 @@ opened p = if not (p.pending == 0) && nat_lt p.pending LIMIT then record p { pen
 abbrev pub close_refusal : EpochState → Option Refusal
 close_refusal p = if p.pending == 0 then Some Inactive else None
 
--- one piece less
+-- one piece of work less
 abbrev pub closed : EpochState → EpochState
 closed p = record p { pending = p.pending - 1 }
 
@@ -121,7 +121,7 @@ takes_left s r p = record p { taken_sent = p.taken_sent + s; taken_received = p.
 abbrev pub takes_right : ℕ → ℕ → EpochState → EpochState
 takes_right s r p = record p { taken_sent = p.taken_sent + s; taken_received = p.taken_received + r; up_right = false }
 
--- what a control message for this process does
+-- the state after a control message for this process
 abbrev pub takes : ℕ → ℕ → Token → EpochState → EpochState
 takes from w Down p = if is_down_due w p then opens w p else p
 takes from w (Up s r) p =
@@ -131,7 +131,7 @@ takes from w Over p = if p.over then p else ends p
 abbrev pub took : ControlMessage → EpochState → EpochState
 took l p = if l.to == p.number then takes l.from l.wave l.token p else p
 
--- It is refused if it is for another process, and if it is not due.
+-- A control message is due if the process waits for it; any other is refused.
 abbrev pub is_due : ℕ → ℕ → Token → EpochState → Bool
 is_due from w Down p = is_down_due w p
 is_due from w (Up s r) p = is_up_due w s r p && (is_left from p || is_right from p)
@@ -169,7 +169,7 @@ notifies p =
     else (if p.over_right then record { state = record p { over_right = false }; next = Send (control p (right_of p) Over) }
     else record { state = p; next = Ended })
 
--- The judgement compares two numbers: what the previous wave saw received, and what this wave saw sent.
+-- The four counter test (Mattern 1987): the previous wave counted as many messages received as this wave counts sent.
 abbrev pub is_end : EpochState → Bool
 is_end p = p.known && (p.last_received == p.taken_sent + p.sent)
 

@@ -1,5 +1,5 @@
--- Epoch after epoch: what each call does to a process that can reopen, all processes together, each in an epoch of its own, and the
--- theorems about them.
+-- Epoch after epoch: what each call does to a process that can reopen, all processes together, each in an epoch of its
+-- own, and the theorems about them.
 use Rattle.std.specs.Prelude.{ℕ, ◌+◌, ◌-◌, ◌*◌, ◌==◌, ◌&&◌, ◌≡◌, ◌<◌, ◌≤◌, ◌⊎◌, ◌^◌, List, [], ◌∷◌, ◌++◌, Bool, true, false, not}
 use Rattle.std.specs.Prelude.{IsTrue, IsFalse, length, nat_lt, if◌then◌else◌, Option, Some, None}
 use Rattle.tp_process.specs.declared.control_message.ControlMessage.{ControlMessage}
@@ -47,7 +47,7 @@ took_in e l r = if e == r.epoch then with_state r (took l r.state) else r
 pub record Epochs : Type 0 where
   -- the processes, each in its epoch, by number
   pub at : ℕ → ProcessState
-  -- how many messages of epoch e are under way to process j
+  -- the number of messages of epoch e under way to process j
   pub under_way : ℕ → ℕ → ℕ
   -- every control message that was ever sent in epoch e
   pub controls : ℕ → List ControlMessage
@@ -64,7 +64,7 @@ abbrev pub is_receiver_in_epoch : ℕ → Epochs → Option ControlMessage → B
 is_receiver_in_epoch e w None = false
 is_receiver_in_epoch e w (Some l) = is_in_epoch e w l.to
 
--- The process that the event is about is in epoch e. If it is not, its call is refused.
+-- The process of the event is in epoch e. If it is not, its call is refused.
 abbrev pub is_current : ℕ → Epochs → Event → Bool
 is_current e w (Does i a) = is_in_epoch e w i
 is_current e w (Comes k) = is_receiver_in_epoch e w (control_at (w.controls e) k)
@@ -103,8 +103,8 @@ events_of n e (In f event ∷ past) =
     if (f == e) && is_current f (epochs_after n past) event then event ∷ events_of n e past else events_of n e past
 events_of n e (Reopens i ∷ past) = events_of n e past
 
--- Epoch e of w is the world x. A process in it has its state of x; one that has not come to it is at its beginning in x; one that has
--- left it has notified its children in x. The messages and control messages of epoch e are those of x.
+-- Epoch e of w is the world x. A process in it has its state of x; one that has not come to it is at its beginning in
+-- x; one that has left it has notified its children in x. The messages and control messages of epoch e are those of x.
 pub record IsEpoch (n e : ℕ) (w : Epochs) (x : World) : Type 0 where
   pub now : (i : ℕ) → (w.at i).epoch ≡ e → (w.at i).state ≡ x.at i
   pub before : (i : ℕ) → (w.at i).epoch < e → x.at i ≡ blank i n
@@ -148,12 +148,13 @@ MessageLaw = (n i e : ℕ) (all : List EpochEvent) → i < n → 0 < (epochs_aft
 abbrev pub AheadLaw : Type 0
 AheadLaw = (n i e : ℕ) (all : List EpochEvent) → i < n → ((epochs_after n all).at i).epoch + 1 < e → (epochs_after n all).controls e ≡ []
 
--- It is a useful event of its epoch, or the process can reopen.
+-- The event makes progress: it is a useful event of its epoch, or the process can reopen.
 abbrev pub is_progress : ℕ → Epochs → EpochEvent → Bool
 is_progress n w (In e event) = is_current e w event && is_useful n (world_of e w) event
 is_progress n w (Reopens i) = nat_lt i n && can_reopen (w.at i)
 
--- Liveness: after an epoch has terminated, a useful event of it is possible until all processes in it can reopen, whichever left before.
+-- Liveness: after an epoch has terminated, a useful event of it is possible until all processes in it can reopen,
+-- whichever left before.
 abbrev pub GoesOnEpochLaw : Type 0
 GoesOnEpochLaw = (n e : ℕ) (all : List EpochEvent) → 0 < n → n ≤ 2 ^ 20
     → (((epochs_after n all).at 0).epoch ≡ e → ((epochs_after n all).at 0).state.over ≡ false
@@ -193,8 +194,8 @@ FewWavesEpochLaw = (n e : ℕ) (later all : List EpochEvent) → 0 < n → IsOve
 abbrev pub is_taken_in : ℕ → ℕ → Epochs → ControlMessage → Bool
 is_taken_in n e w l = is_in_epoch e w l.to && is_taken n (world_of e w) (Some l)
 
--- Control messages are idempotent: one that has come while its receiver is in its epoch is never taken after that. Only one that was
--- refused as `NotYet` has to come again.
+-- Control messages are idempotent: one that has come while its receiver is in its epoch is never taken after that. Only
+-- one that was refused as `NotYet` has to come again.
 abbrev pub OnceEpochLaw : Type 0
 OnceEpochLaw = (n e k : ℕ) (later all : List EpochEvent) (l : ControlMessage) → n ≤ 2 ^ 20
     → control_at ((epochs_after n all).controls e) k ≡ Some l

@@ -1,4 +1,4 @@
--- A network that brings each control message once, in any order: what is on its way, what its events do, and the theorems about it.
+-- A network that brings each control message once, in any order: its state, its events, and the theorems about it.
 use Rattle.std.specs.Prelude.{ℕ, zero, suc, ◌+◌, ◌^◌, ◌≡◌, ◌<◌, ◌≤◌, List, [], ◌∷◌, Bool, true, false, nat_lt, if◌then◌else◌}
 use Rattle.std.specs.Prelude.{Option, Some, None}
 use Rattle.tp_process.specs.declared.control_message.ControlMessage.{ControlMessage}
@@ -19,7 +19,7 @@ pub record Network : Type 0 where
   -- the control messages that are on their way, and those that a process keeps until it reopens
   pub carried : List Carried
 
--- An event: process i does something in its epoch, or reopens; or a control message is handed to its receiver.
+-- An event: process i does something in its epoch, or reopens; or a control message arrives at its receiver.
 pub data NetworkEvent : Type 0 where
   Acts : (i : ℕ) → (a : Act) → NetworkEvent
   Restarts : (i : ℕ) → NetworkEvent
@@ -29,7 +29,7 @@ abbrev pub with_sent : ℕ → Next → List Carried → List Carried
 with_sent e (Send l) carried = record { epoch = e; message = l } ∷ carried
 with_sent e _ carried = carried
 
--- what process i puts on its way: the control message that `next` returns
+-- the control messages on their way after an act of process i: one that `next` returned is added
 abbrev pub carried_after : ℕ → Network → ℕ → Act → List Carried
 carried_after n s i Moves =
     if nat_lt i n then with_sent (s.epochs.at i).epoch (moved (s.epochs.at i).state).next s.carried else s.carried
@@ -45,16 +45,17 @@ without k [] = []
 without zero (c ∷ cs) = cs
 without (suc k) (c ∷ cs) = c ∷ without k cs
 
--- Its receiver refuses it as `NotYet`.
+-- The receiver of the control message refuses it as `NotYet`.
 abbrev pub is_early : Epochs → Carried → Bool
 is_early w c = nat_lt (w.at c.message.to).epoch c.epoch
 
--- Its receiver is handed the control message.
+-- the epochs after the receiver was called with the control message
 abbrev pub handed : ℕ → Epochs → Carried → Epochs
 handed n w c =
     if is_in_epoch c.epoch w c.message.to then with_world c.epoch w (came n (world_of c.epoch w) (Some c.message)) else w
 
--- What is refused as `NotYet` is kept, to be handed in again; all else has come, and does not come again.
+-- A control message that is refused as `NotYet` is kept, to be passed again; any other has come, and does not come
+-- again.
 abbrev pub arrived : ℕ → Network → ℕ → Option Carried → Network
 arrived n s k None = s
 arrived n s k (Some c) =
@@ -77,8 +78,9 @@ abbrev pub HandedLaw : Type 0
 HandedLaw = (n : ℕ) (w : Epochs) (c : Carried) → c.message.to < n
     → (handed n w c).at c.message.to ≡ took_in c.epoch c.message (w.at c.message.to)
 
--- Nothing is left to do: each process has finished its work and received its messages, `next` returns nothing more to do, what control
--- messages are left are refused as `NotYet`, and each process has reopened wherever it could, up to the last epoch.
+-- Nothing is left to do: each process has finished its work and received its messages, `next` returns nothing more to
+-- do, the control messages that are left are refused as `NotYet`, and each process has reopened whenever it could, up
+-- to the last epoch.
 pub record IsStill (n last : ℕ) (s : Network) : Type 0 where
   pub idle : (i : ℕ) → i < n → (s.epochs.at i).state.pending ≡ 0
   pub received : (i : ℕ) → i < n → s.epochs.under_way (s.epochs.at i).epoch i ≡ 0
@@ -94,7 +96,7 @@ AllEndLaw = (n last : ℕ) (events : List NetworkEvent) → n ≤ 2 ^ 20
     → IsStill n last (network n events) → (i : ℕ) → i < n
     → (((network n events).epochs.at i).epoch ≡ last) × (has_notified ((network n events).epochs.at i).state ≡ true)
 
--- No control message is refused as `Late`: what is on its way to a process is of its epoch, or of a later one.
+-- No control message is refused as `Late`: one on its way to a process is of the process's epoch, or of a later one.
 abbrev pub NeverLateLaw : Type 0
 NeverLateLaw = (n k : ℕ) (c : Carried) (events : List NetworkEvent) → n ≤ 2 ^ 20 → carried_at (network n events).carried k ≡ Some c
     → ((network n events).epochs.at c.message.to).epoch ≤ c.epoch

@@ -16,7 +16,7 @@ is_open r = r.mark == MARK
 abbrev pub new_process : ℕ → ℕ → Result Process Refusal
 new_process number processes = if nat_lt number processes then Ok (stored (initial_process number processes)) else Err NoProcess
 
--- what storage holds before
+-- what a place for a process holds before
 abbrev pub unopened : Process
 unopened = stored (record { mark = 0; epoch = 0; state = blank 0 0 })
 
@@ -24,11 +24,11 @@ unopened = stored (record { mark = 0; epoch = 0; state = blank 0 0 })
 abbrev pub checked : ProcessState → Option Refusal → Option Refusal
 checked r refusal = if is_open r then refusal else Some NotOpen
 
--- the same of a call with a message or a control message of an epoch
+-- the same for a call with a message or a control message of an epoch
 abbrev pub checked_in : ℕ → ProcessState → Option Refusal → Option Refusal
 checked_in e r refusal = checked r (of_epoch e r refusal)
 
--- what a call does to a process: nothing if it is not open
+-- the process after a call: unchanged if it is not open
 abbrev pub if_open : ProcessState → ProcessState → ProcessState
 if_open r new = if is_open r then new else r
 

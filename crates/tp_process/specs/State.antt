@@ -1,4 +1,5 @@
--- The state of a process, and how it is stored: a C program can write any bytes, so a flag is a byte that is set if it is not 0.
+-- The state of a process, and how it is stored: a C program can write any bytes, so a flag is a byte that is set if it
+-- is not 0.
 use Rattle.std.specs.Prelude.{ℕ, ◌==◌, Bool, not, if◌then◌else◌}
 use Rattle.tp_process.specs.declared.epoch_state.StoredState.{StoredState}
 use Rattle.tp_process.specs.declared.process.Process.{Process}

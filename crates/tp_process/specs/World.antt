@@ -10,7 +10,7 @@ use Rattle.tp_process.specs.Calls.{blank, opened, closed, sent, can_send, receiv
 pub record World : Type 0 where
   -- the processes, by number
   pub at : ℕ → EpochState
-  -- how many messages are under way to process j
+  -- the number of messages under way to process j
   pub under_way : ℕ → ℕ
   -- every control message that was ever sent
   pub controls : List ControlMessage
@@ -23,12 +23,13 @@ pub data Act : Type 0 where
   Receives : Act
   Moves : Act
 
--- An event: a process does something, or a control message comes that was sent before: in any order, once, again or never.
+-- An event: a process does something, or a control message that was sent before comes: in any order, once, again or
+-- never.
 pub data Event : Type 0 where
   Does : (i : ℕ) → (a : Act) → Event
   Comes : (which : ℕ) → Event
 
--- f, except x at i
+-- the function f with the value x at i
 abbrev pub put : {A : Type 0} → ℕ → A → (ℕ → A) → ℕ → A
 put i x f j = if j == i then x else f j
 
@@ -105,7 +106,7 @@ is_step (Send l) = true
 is_step Again = true
 is_step _ = false
 
--- Its receiver takes the control message.
+-- The receiver of the control message takes it.
 abbrev pub is_taken : ℕ → World → Option ControlMessage → Bool
 is_taken n w None = false
 is_taken n w (Some l) = nat_lt l.to n && ((l.to == (w.at l.to).number) && is_due l.from l.wave l.token (w.at l.to))
@@ -125,7 +126,8 @@ useful n (e ∷ later) events = if is_useful n (after n (later ++ events)) e the
 abbrev pub SoonLaw : Type 0
 SoonLaw = (n : ℕ) (later events : List Event) → 0 < n → IsQuiet n (after n events) → useful n later events ≤ 21 * n
 
--- Liveness, no deadlock: until `next` returns `Ended` at each process, a useful event is possible: a call of `next`, or a control message.
+-- Liveness, no deadlock: until `next` returns `Ended` at each process, a useful event is possible: a call of `next`, or
+-- a control message.
 abbrev pub GoesOnLaw : Type 0
 GoesOnLaw = (n : ℕ) (events : List Event) → 0 < n → n ≤ 2 ^ 20 → ((after n events).at 0).wave + 1 < 2 ^ 64 → IsQuiet n (after n events)
     → ((i : ℕ) → i < n → (moved ((after n events).at i)).next ≡ Ended) ⊎ ((e : Event) × IsTrue (is_useful n (after n events) e))

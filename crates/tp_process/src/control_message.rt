@@ -1,11 +1,12 @@
-//! What travels between processes next to the program's own messages.
+//! The detector's control messages, which the processes send in addition to the program's own messages.
 
 /// What a control message carries.
 #[derive(Clone, Copy, Debug, PartialEq, Eq)]
 pub enum Token {
     /// The wave goes down the tree, to a child.
     Down,
-    /// The wave comes back up, from a child: how many messages the child and all processes below it had sent and received.
+    /// The wave comes back up, from a child: the number of messages that the child and all processes below it had sent,
+    /// and the number that they had received.
     Up(u64, u64),
     /// Termination was detected.
     Over,

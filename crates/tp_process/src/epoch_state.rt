@@ -1,4 +1,5 @@
-//! What one process knows in one epoch, as it is stored, and its calls: its counters, and how far the newest wave has come here.
+//! The state of one process in one epoch, as it is stored, and its calls: its counters, and the progress of the newest
+//! wave.
 
 ghost use Rattle.std.specs.Prelude.{◌≡◌, ◌+◌, not, OnErr};
 ghost use Rattle.std.specs.Result.{result_err};
@@ -11,10 +12,12 @@ ghost use Rattle.tp_process.specs.State.{is_set, read_state, stored_state};
 use crate::control_message::{ControlMessage, Token};
 use crate::outcome::{Next, Refusal};
 
-/// The most pieces of work that are open, and the most messages sent and received, of one process in one epoch.
+/// The upper bound on the pieces of work that are open, on the messages sent and on the messages received, for one
+/// process in one epoch.
 const LIMIT: u64 = 1 << 43;
 
-/// What one process knows in one epoch. The processes form a binary tree: the children of process i are 2i + 1 and 2i + 2.
+/// What one process knows in one epoch. The processes form a binary tree: the children of process i are 2i + 1 and
+/// 2i + 2.
 ///
 /// A flag is a byte, which is set if it is not 0: a C program may write any byte to it.
 #[derive(Clone, Copy, Debug, PartialEq, Eq)]
@@ -30,7 +33,8 @@ pub struct StoredState {
     /// What the children reported in it.
     taken_sent: u64,
     taken_received: u64,
-    /// At process 0: how much the wave before saw received, and whether there was one (`known`).
+    /// At process 0: the number of messages that the previous wave counted as received, and whether there was one
+    /// (`known`).
     last_received: u64,
     known: u8,
     /// The newest wave is here: the process has not passed it up.
@@ -41,14 +45,14 @@ pub struct StoredState {
     /// Which children have not reported.
     up_left: u8,
     up_right: u8,
-    /// The process knows the end, and which children it still has to notify.
+    /// The process knows the end; and the children that it still has to notify.
     over: u8,
     over_left: u8,
     over_right: u8,
 }
 
 impl StoredState {
-    /// Process `number` of `processes` at the beginning of an epoch: one piece of work is open.
+    /// Returns process `number` of `processes` at the beginning of an epoch: one piece of work is open.
     pub fn new(number: u32, processes: u32) -> StoredState
         ensures { result ≡ stored_state (blank number processes) }
     {
@@ -143,7 +147,8 @@ impl StoredState {
 
     /// Takes a control message.
     ///
-    /// Refused: `NotDue` if it is for another process or of another wave, or was taken before.
+    /// Refused: `NotDue` if it is for another process or of another wave, or was taken before, or if a sum would
+    /// overflow.
     pub fn take(&mut self, message: ControlMessage) -> Result<(), Refusal>
         ensures refused { result_err result ≡ take_refusal message (read_state self.old) }
         ensures state { read_state self.new ≡ took message (read_state self.old) }
@@ -239,21 +244,21 @@ impl StoredState {
         self.over != 0
     }
 
-    /// The process knows the end, and has notified its children.
+    /// Returns whether the process knows the end and has notified its children.
     pub fn has_notified(&self) -> bool
         ensures { result ≡ has_notified (read_state self.now) }
     {
         self.over != 0 && self.over_left == 0 && self.over_right == 0
     }
 
-    /// The process at the beginning of the next epoch.
+    /// Returns the process at the beginning of the next epoch.
     pub fn again(&self) -> StoredState
         ensures { result ≡ stored_state (blank self.now.number self.now.processes) }
     {
         StoredState::new(self.number, self.processes)
     }
 
-    /// What the process has to do next.
+    /// Returns what the process has to do next, and records that it does it.
     pub fn next(&mut self) -> Next
         ensures state { read_state self.new ≡ (moved (read_state self.old)).state }
         ensures next { result ≡ (moved (read_state self.old)).next }
@@ -262,7 +267,7 @@ impl StoredState {
         self.act()
     }
 
-    /// Process 0 starts the next wave if it is idle and no wave is open.
+    /// Starts the next wave if this is process 0, it is idle, it does not know the end and no wave is open.
     fn start(&mut self)
         ensures { read_state self.new ≡ ready (read_state self.old) }
     {
@@ -303,7 +308,7 @@ impl StoredState {
         }
     }
 
-    /// Notifies the next child of the end.
+    /// Returns the notification of the next child of the end, or `Ended` if all were notified.
     fn notify(&mut self) -> Next
         ensures state { read_state self.new ≡ (notifies (read_state self.old)).state }
         ensures next { result ≡ (notifies (read_state self.old)).next }
@@ -349,7 +354,7 @@ impl StoredState {
         Next::Again
     }
 
-    /// The process learns of the end.
+    /// Records that the process knows the end.
     fn end(&mut self)
         ensures { read_state self.new ≡ ends (read_state self.old) }
     {
@@ -358,7 +363,7 @@ impl StoredState {
         self.over_right = flag(self.right() < self.processes as u64);
     }
 
-    /// A wave comes here.
+    /// Records that a wave comes here.
     fn visit(&mut self, wave: u64)
         ensures { read_state self.new ≡ opens wave (read_state self.old) }
     {
@@ -396,7 +401,7 @@ impl StoredState {
     }
 }
 
-/// The byte of a flag.
+/// Returns the byte of a flag.
 fn flag(set: bool) -> u8
     ensures { is_set result ≡ set }
 {

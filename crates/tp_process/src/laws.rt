@@ -6,8 +6,8 @@ ghost use Rattle.tp_process.specs.Epochs.{LeftEpochLaw, MessageLaw, NearLaw, Nev
 ghost use Rattle.tp_process.specs.Network.{AllEndLaw, HandedLaw, NeverLateLaw};
 ghost use Rattle.tp_process.specs.Opening.{OpenCallsLaw, OpenLaw};
 
-/// Safety: if a process knows the end, or `next` returns `Ended`, no process has work and no message is under way, whatever the
-/// processes do and whichever control messages come, in whatever order.
+/// Safety: if a process knows the end, or `next` returns `Ended`, no process has work and no message is under way,
+/// whatever the processes do and whichever control messages come, in whatever order.
 pub fn never_early()
     ensures known { NeverEarlyLaw }
     ensures ended { EndedLaw }
@@ -25,8 +25,8 @@ pub fn few_waves()
     ensures { FewWavesLaw }
 {}
 
-/// Liveness: after termination at most 21 events a process are useful, one is possible until all processes know the end, and a
-/// control message that has come need not come again.
+/// Liveness: after termination at most 21 events per process are useful; one is possible until all processes know the
+/// end; and a control message that has come need not come again.
 pub fn never_silent()
     ensures soon { SoonLaw }
     ensures goes_on { GoesOnLaw }
@@ -65,7 +65,8 @@ pub fn near_epochs()
     ensures ahead { AheadLaw }
 {}
 
-/// Liveness in every epoch: after its termination, a useful event of it is possible until all processes in it can reopen.
+/// Liveness in every epoch: after its termination, a useful event of it is possible until all processes in it can
+/// reopen.
 pub fn goes_on_each()
     ensures goes_on { GoesOnEpochLaw }
     ensures lags { LagsLaw }
@@ -79,8 +80,8 @@ pub fn few_each()
     ensures controls { ControlMessagesEpochLaw }
 {}
 
-/// Liveness of all epochs together, over a network that brings each control message once, in any order: if nothing is left to do, all
-/// processes have come to the last epoch and know its end.
+/// Liveness of all epochs together, over a network that brings each control message once, in any order: if nothing is
+/// left to do, all processes have come to the last epoch and know its end.
 pub fn all_end()
     ensures ends { AllEndLaw }
     ensures handed { HandedLaw }

@@ -1,5 +1,5 @@
-//! The four counter detector for one process of a distributed program: plain data of a fixed size, with no thread, no lock
-//! and no stream. The caller's own transport carries its control messages.
+//! The four counter detector (Mattern 1987) for one process of a distributed program: plain data of a fixed size, with
+//! no thread, no lock and no input or output. The caller's own transport carries its control messages.
 #![tactic(auto)]
 
 mod control_message;

@@ -1,4 +1,4 @@
-//! What a call returns: what to do next, and why a call was refused.
+//! The results of calls: what to do next, and why a call was refused.
 
 use crate::control_message::ControlMessage;
 
@@ -11,7 +11,7 @@ pub enum Next {
     Again,
     /// Nothing: termination was detected, and the processes that this one has to notify were notified.
     Ended,
-    /// Wait for a message, for a control message, or until the process is idle.
+    /// Wait for a message or a control message, or until the process is idle.
     Nothing,
 }
 
@@ -22,13 +22,15 @@ pub enum Refusal {
     Inactive,
     /// A number is at its limit.
     Full,
-    /// The control message is for another process, or of another wave, or the process has taken it before.
+    /// The control message is for another process, or of another wave, or the process has taken it before, or its sums
+    /// would overflow.
     NotDue,
-    /// The message or control message is of a later epoch: keep it, and hand it in again after `reopen`.
+    /// The message or control message is of a later epoch: keep it, and pass it again after `reopen`.
     NotYet,
-    /// It is of an older epoch.
+    /// The message or control message is of an older epoch.
     Late,
-    /// `next` has not returned `Ended` in this epoch.
+    /// The process does not know the end of this epoch, or has not notified all its children: `next` does not return
+    /// `Ended` yet.
     NotEnded,
     /// The process is not open: no call of `new` returned it.
     NotOpen,

@@ -1,5 +1,5 @@
-//! The process that a program holds: the detector's state in the present epoch, the epoch, and a mark that says it is open. Any bytes
-//! are such a struct, and every call is defined for them.
+//! The process that a program owns: the detector's state in the present epoch, the number of the epoch, and a mark that
+//! says whether it is open. Any bytes are a valid `Process`, and every call is defined for them.
 
 ghost use Rattle.std.specs.Prelude.{◌≡◌, ◌&&◌, None, OnErr};
 ghost use Rattle.std.specs.Result.{result_err};
@@ -13,14 +13,15 @@ use crate::control_message::ControlMessage;
 use crate::epoch_state::StoredState;
 use crate::outcome::{Next, Refusal};
 
-/// What an open process has in `mark`: `gerfmuod` in ASCII.
+/// The value of `mark` in an open process: `gerfmuod` in ASCII.
 const MARK: u64 = 0x6765_7266_6d75_6f64;
 
 /// One process of a distributed program, as the detector sees it: 96 bytes of plain data.
 ///
-/// It begins in epoch 0, with one piece of work open. After the end of an epoch, `reopen` begins the next one; a program that ends
-/// once never looks at the epoch. A message that `count_sent` counted and a control message that `next` returned belong to
-/// `epoch()`, and the transport carries that number with them.
+/// It begins in epoch 0, with one piece of work open. After the end of an epoch, `reopen` begins the next one; a
+/// program that terminates once can ignore epochs. A message that `count_sent` counted and a control message that
+/// `next` returned belong to `epoch()`, and the transport carries that number with them. Termination is detected with
+/// the four counter method of F. Mattern, "Algorithms for Distributed Termination Detection" (1987).
 #[derive(Clone, Copy, Debug, PartialEq, Eq)]
 #[repr(C)]
 pub struct Process {
@@ -30,9 +31,9 @@ pub struct Process {
 }
 
 impl Process {
-    /// Process `number` of `processes`: in epoch 0, with one piece of work open.
+    /// Returns process `number` of `processes`, in epoch 0, with one piece of work open.
     ///
-    /// Refused: `NoProcess` if `number` is not below `processes`, as for no process at all.
+    /// Refused: `NoProcess` if `number` is not below `processes`; so `processes` is at least 1.
     pub fn new(number: u32, processes: u32) -> Result<Process, Refusal>
         ensures { result ≡ new_process number processes }
     {
@@ -46,7 +47,8 @@ impl Process {
         })
     }
 
-    /// A process that is not open: every call that changes a process refuses it. Storage holds it before `new`.
+    /// Returns a process that is not open: every call that changes a process refuses it. A place for a process holds it
+    /// before `new`.
     pub fn unopened() -> Process
         ensures { result ≡ unopened }
     {
@@ -57,49 +59,50 @@ impl Process {
         }
     }
 
-    /// The process is open: its mark is the one that `new` gives it.
+    /// Returns whether the process is open: its mark is the one that `new` sets.
     pub fn is_open(&self) -> bool
         ensures { result ≡ is_open (read self.now) }
     {
         self.mark == MARK
     }
 
-    /// The present epoch, from 0.
+    /// Returns the number of the present epoch, from 0.
     pub fn epoch(&self) -> u64
         ensures { result ≡ (read self.now).epoch }
     {
         self.epoch
     }
 
-    /// How many pieces of work are open here. The process is idle if there are none.
+    /// Returns the number of pieces of work that are open here. The process is idle if it is 0.
     pub fn pending(&self) -> u64
         ensures { result ≡ (read self.now).state.pending }
     {
         self.state.pending()
     }
 
-    /// How many messages were counted as sent in this epoch.
+    /// Returns the number of messages that were counted as sent in this epoch.
     pub fn sent(&self) -> u64
         ensures { result ≡ (read self.now).state.sent }
     {
         self.state.sent()
     }
 
-    /// How many messages were counted as received in this epoch.
+    /// Returns the number of messages that were counted as received in this epoch.
     pub fn received(&self) -> u64
         ensures { result ≡ (read self.now).state.received }
     {
         self.state.received()
     }
 
-    /// The number of the newest wave that came here in this epoch, from 1; 0 before the first.
+    /// Returns the number of the newest wave that came here in this epoch, from 1; 0 before the first.
     pub fn wave(&self) -> u64
         ensures { result ≡ (read self.now).state.wave }
     {
         self.state.wave()
     }
 
-    /// The process knows that this epoch has terminated: no process has work, and no message is under way.
+    /// Returns whether the process is open and knows that this epoch has terminated: no process has work, and no
+    /// message is under way.
     pub fn is_over(&self) -> bool
         ensures { result ≡ is_open (read self.now) && (read self.now).state.over }
     {
@@ -142,11 +145,12 @@ impl Process {
         self.state.count_sent()
     }
 
-    /// Counts a message of an epoch as received, and opens the piece of work that it makes. Call it before the message has any
-    /// effect, and `finish_work` after the last one.
+    /// Counts a message of an epoch as received, and opens the piece of work that it brings. Call it before the message
+    /// has any effect, and `finish_work` after its last effect.
     ///
-    /// Refused: `NotOpen`; `NotYet` if its epoch is later: keep the message, and count it again after `reopen`; `Late` if its epoch is
-    /// older, which no counted message is; `Full` if 2^43 pieces of work are open, or 2^43 messages were received.
+    /// Refused: `NotOpen`; `NotYet` if its epoch is later: keep the message, and count it again after `reopen`; `Late`
+    /// if its epoch is older, which no counted message is; `Full` if 2^43 pieces of work are open, or 2^43 messages
+    /// were received.
     pub fn count_received(&mut self, epoch: u64) -> Result<(), Refusal>
         ensures refused { result_err result ≡ checked_in epoch (read self.old) (receive_refusal (read self.old).state) }
         ensures state { read self.new ≡ if_open (read self.old) (received_in epoch (read self.old)) }
@@ -157,7 +161,7 @@ impl Process {
         self.state.count_received()
     }
 
-    /// `count_sent` by its name in the monitor.
+    /// The same call as `count_sent`, under its name in the monitor interface.
     pub fn outgoing_message_start(&mut self) -> Result<(), Refusal>
         ensures refused { result_err result ≡ checked (read self.old) (send_refusal (read self.old).state) }
         ensures state { read self.new ≡ if_open (read self.old) (with_state (read self.old) (sent (read self.old).state)) }
@@ -166,7 +170,7 @@ impl Process {
         self.count_sent()
     }
 
-    /// `count_received` by its name in the monitor.
+    /// The same call as `count_received`, under its name in the monitor interface.
     pub fn incoming_message_start(&mut self, epoch: u64) -> Result<(), Refusal>
         ensures refused { result_err result ≡ checked_in epoch (read self.old) (receive_refusal (read self.old).state) }
         ensures state { read self.new ≡ if_open (read self.old) (received_in epoch (read self.old)) }
@@ -175,7 +179,8 @@ impl Process {
         self.count_received(epoch)
     }
 
-    /// `finish_work` by its name in the monitor: the piece of work that the message opened is done.
+    /// The same call as `finish_work`, under its name in the monitor interface: it closes the piece of work that the
+    /// message opened.
     pub fn incoming_message_end(&mut self) -> Result<(), Refusal>
         ensures refused { result_err result ≡ checked (read self.old) (close_refusal (read self.old).state) }
         ensures state { read self.new ≡ if_open (read self.old) (with_state (read self.old) (closed (read self.old).state)) }
@@ -186,8 +191,9 @@ impl Process {
 
     /// Takes a control message of an epoch. It may come in any order, late, or more than once.
     ///
-    /// Refused: `NotOpen`; `NotYet` if its epoch is later: keep it, and take it again after `reopen`; `Late` if its epoch is older;
-    /// `NotDue` if it is for another process or of another wave, or was taken before.
+    /// Refused: `NotOpen`; `NotYet` if its epoch is later: keep it, and take it again after `reopen`; `Late` if its
+    /// epoch is older; `NotDue` if it is for another process or of another wave, or was taken before, or if a sum would
+    /// overflow.
     pub fn take(&mut self, epoch: u64, message: ControlMessage) -> Result<(), Refusal>
         ensures refused { result_err result ≡ checked_in epoch (read self.old) (take_refusal message (read self.old).state) }
         ensures state { read self.new ≡ if_open (read self.old) (took_in epoch message (read self.old)) }
@@ -198,8 +204,8 @@ impl Process {
         self.state.take(message)
     }
 
-    /// What the process has to do next. Call it after every other call, until it returns `Ended` or `Nothing`. A control message
-    /// that it returns belongs to `epoch()`.
+    /// Returns what the process has to do next. Call it after every other call, until it returns `Ended` or `Nothing`.
+    /// A control message that it returns belongs to `epoch()`.
     ///
     /// Refused: `NotOpen`.
     pub fn next(&mut self) -> Result<Next, Refusal>
@@ -213,7 +219,7 @@ impl Process {
 
     /// Begins the next epoch here, with one piece of work open. It waits for no other process.
     ///
-    /// Refused: `NotOpen`; `NotEnded` if `next` has not returned `Ended`; `Full` in epoch 2^64 - 1.
+    /// Refused: `NotOpen`; `NotEnded` if `next` does not return `Ended` yet; `Full` in epoch 2^64 - 1.
     pub fn reopen(&mut self) -> Result<(), Refusal>
         ensures refused { result_err result ≡ checked (read self.old) (reopen_refusal (read self.old)) }
         ensures state { read self.new ≡ if_open (read self.old) (reopened (read self.old)) }

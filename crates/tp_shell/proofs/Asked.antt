@@ -47,7 +47,7 @@ met_else kind (faults.Words text) other memory hidden = (memory, hidden)
 met_else kind faults.Memory other memory hidden = tt
 met_else kind faults.Write other memory hidden = absurd (other refl)
 
--- what holds if nothing was found
+-- what follows if nothing was found
 pub none_asked : {X : Type 0} (o : Option X) (P : Type 0) (Q : X → Type 0) → o ≡ None → MatchOption o P Q → P
 none_asked None P Q is p = p
 none_asked (Some x) P Q is p = cc

@@ -3,14 +3,14 @@ use Rattle.std.proofs.Common.{◌∙◌, ℕ, true, false, true≢false, List, O
 use Rattle.std.specs.Io.KnownBytes.{Appends, Keeps}
 use Rattle.tp_shell.specs.Streams.{IsToldTo}
 
--- what was appended stays
+-- what was appended remains after later writes
 pub appends_kept : (old now new : Option (List ℕ)) (text : List ℕ) → Appends old now text → Keeps now new → Appends old new text
 appends_kept None now new text wrote kept = tt
 appends_kept (Some xs) None new text wrote kept = absurd wrote
 appends_kept (Some xs) (Some ys) None text wrote kept = absurd kept
 appends_kept (Some xs) (Some ys) (Some zs) text wrote kept = kept ∙ wrote
 
--- what holds, holds if there is a value
+-- what holds anyway, holds if there is a value
 pub on_ok : {T E P : Type 0} (r : Result T E) → P → OnOk r P
 on_ok (Ok x) p = p
 on_ok (Err e) p = tt

@@ -1,5 +1,5 @@
--- The options of a pool as plain data, and what arguments ask for. What clap finds for each argument, and why a parse fails, are
--- functions of the command and the arguments.
+-- The options of a pool as plain data, and what arguments ask for. What clap finds for each argument, and why a parse
+-- fails, are functions of the command and the arguments.
 use Rattle.std.specs.Prelude.{ℕ, ◌≡◌, ◌<◌, ◌≤◌, ◌^◌, ◌⊎◌, List, [], ◌∷◌, Some, pos, true, codes}
 use Rattle.std.specs.Str.Parse.{IsNumeral, without_leading_plus, digits_value}
 use Rattle.tp_base.specs.declared.limits.TheConstants.{MAX_NODES, MAX_WORKERS}
@@ -61,13 +61,13 @@ IsToBeShown kind = (kind ≡ DisplayHelp) ⊎ (kind ≡ DisplayVersion)
 abbrev pub AsksToBeShown : App → List Text → Type 0
 AsksToBeShown app words = IsAmong DisplayHelp (fault_of app words) ⊎ IsAmong DisplayVersion (fault_of app words)
 
--- The arguments make no request, and fail with this kind: an allocation failed; or it is among the faults of the arguments; or it
--- is the one for what the program itself finds missing.
+-- The arguments make no request, and fail with this kind: an allocation failed; or it is among the faults of the
+-- arguments; or it is the one for what the program itself finds missing.
 abbrev pub FailsAs : App → ErrorKind → Type 0 → List Text → ErrorKind → Type 0
 FailsAs app missing Lacks words kind = (kind ≡ OutOfMemory) ⊎ (IsAmong kind (fault_of app words) ⊎ ((kind ≡ missing) × Lacks))
 
--- The arguments are at fault: one of their faults asks for neither help nor the version, or something is missing that the program
--- itself requires.
+-- The arguments are at fault: one of their faults asks for neither help nor the version, or something is missing that
+-- the program itself requires.
 abbrev pub AreAtFault : App → Type 0 → List Text → Type 0
 AreAtFault app Lacks words = ((kind : ErrorKind) × ¬ IsToBeShown kind × IsAmong kind (fault_of app words)) ⊎ Lacks
 

@@ -1,5 +1,5 @@
--- How a call on raw cells meets its contract: what it gets, and what it has to leave. Assumes `Logic`. docs/PROOFS-OF-CELLS.md
--- explains such a proof step by step.
+-- How a call on raw cells meets its contract: what it gets, and what it has to leave. Assumes `Logic`.
+-- docs/PROOFS-OF-CELLS.md explains such a proof step by step.
 use mathlib.Core.Path.{◌≡◌}
 use Prim.Native.Nat.{ℕ}
 use mathlib.Core.List.{List, [], ◌∷◌}
@@ -68,8 +68,8 @@ module _ {n : ℕ} where
         let rest : SProp 𝓤 = sem 𝓛 (has_of κs ss ks.1 (let_go ss ks.1) a.1 ws.1 vss.1) in
         via 𝓤 rest (nothing_left ss ks.1 κs a.1 ws.1 vss.1) (emp∗ 𝓤 rest)
 
--- The contract of a call that returns no argument is met, once its walk is shown. The walk gets what the tokens, the arguments'
--- types and the `requires` own, and has to leave the tokens, the result and the `ensures`.
+-- The contract of a call that returns no argument is met, once its walk is shown. The walk gets what the tokens, the
+-- arguments' types and the `requires` own, and has to leave the tokens, the result and the `ensures`.
 module _ {M : Type 1} {𝓤 : Ura M} (𝓛 : Logic 𝓤) (T : Ended) (c : Clauses 𝓤 T) (𝓜 : Model 𝓤 𝓛.H) (𝓡 : Running 𝓤 𝓛.H 𝓜) where
   open 𝓛 use {H}
 
@@ -102,7 +102,7 @@ module _ {M : Type 1} {𝓤 : Ura M} (𝓛 : Logic 𝓤) (T : Ended) (c : Clause
       use0 𝓛 (‵ (has_of κs S.params T.kept gone a ws vss)) (nothing_left 𝓛 S.params T.kept κs a ws vss) $ move ! (1 ∷ 0 ∷ []) $
       by ! (leaves 𝓛 T gone c y v r ws (all_fit S.params T.kept κs a ws))))
 
--- A call that borrows the cells by `&mut`, with further parameters ss of which it returns nothing.
+-- A call that borrows the cells by `&mut` and has further parameters ss. It returns nothing of these.
 module _ (E : El) (outlives : List (Outlives 2)) (ss : List (Slot 2)) (ks : Kepts ss) (res : Slot 2) where
   abbrev pub Lent : Ended
   Lent = record {
@@ -127,8 +127,9 @@ module _ (E : El) (outlives : List (Outlives 2)) (ss : List (Slot 2)) (ks : Kept
     abbrev held : Stays B.params Lent.kept
     held = (stay_ref (0 ∷ []) tt (plain (λ _. Cr E)), let_go ss ks)
 
-    -- Its contract is met, once its walk is shown. The walk gets the borrow of the cells, the tokens, and what the other
-    -- arguments and the `requires` own, and has to leave the borrow at the new cells, the tokens, the result and the `ensures`.
+    -- Its contract is met, once its walk is shown. The walk gets the borrow of the cells, the tokens, and what the
+    -- other arguments and the `requires` own, and has to leave the borrow at the new cells, the tokens, the result and
+    -- the `ensures`.
     pub gives_back : Unsaid ss ks → (k : Callee) (e : Fn) → Closed 𝓤 H 𝓑.C 𝓑.Λ k e
         → ((κs : Lfts 2) (qs : Shares 2) (a : Args B κs) (vss : Vals B κs) (g : (c κs a).ghost) → vss.0 ≡ mut_vals a.0
         → Are (types_at ss κs) (Ises (types_at ss κs)) a.1 vss.1 → (Post : Val → SProp 𝓤)

@@ -146,7 +146,7 @@ module _ (E : El) {M : Type 1} {𝓤 : Ura M} (𝓛 : Logic 𝓤) where
       move ! (2 ∷ 1 ∷ []) $
       use2 𝓛 (‵ (cells_own (R E) (set cs i c))) (cell_in cs i (omega arith) c) $ move ! (1 ∷ 0 ∷ []) $ fjoin ! $ done !
 
-  -- what the i-th cell lends, of a `&` to the cells
+  -- a `&` to the cells borrows the i-th cell
   pub cell_seen : (κ : Lft) (cs : List (Cell E)) (i : ℕ) → i < length cs
       → ent 𝓤 (sem 𝓛 (cells_lent (R E) cs κ)) (sem 𝓛 (cell_lent (R E) (cell_at cs i).0 (cell_at cs i).1 κ))
   cell_seen κ [] i lt = absurd (omega arith)

@@ -1,4 +1,4 @@
--- A `&` to the cells is made where one to a value is. Assumes `Logic`.
+-- How a `&` to the cells is created, and that it obeys the laws of a `&`. Assumes `Logic`.
 use Rattle.std.specs.Prelude.{List, [], ◌∷◌, Option, Some, None}
 use seplogic.Ra.Ura.{Ura}
 use base.Fml.{Lft, Incl, ftrue}

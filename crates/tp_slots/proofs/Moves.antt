@@ -436,7 +436,7 @@ module _ {T : Type 0} where
           | inr differs ↦ grind (arith, nat_tests, stands-cons p place [])
         ]
 
-    -- the same, whatever cells stood between
+    -- the same, whatever the cells were in between
     pub given_back : (more place : ℕ) (idle : IsIdle (content_of cs lists) place) (mid es : List (Ptr × Option (Slot T)))
         (later : Chain T) → mid ≡ without_item_at cs place → more ≡ room + 1 → KeepsOthers mid es (place ∷ [])
         → IsChain es later (place ∷ vacant)

@@ -239,7 +239,7 @@ module _ {V : Type 0} where
             rw (e, get_or-set_other s.ready at.0 class at.1 [] apart) (omega arith)
       ])
 
-      -- it stood in the list of its own class
+      -- it was in the list of its own class
       own : at.0 ≡ x.class
       own =
           let e : (at.0 == at.0) ≡ true = grind (arith, nat_tests) in

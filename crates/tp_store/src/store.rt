@@ -26,8 +26,8 @@ pub struct Begun<V> {
     pub inputs: SmallVec<V, 4>,
 }
 
-/// The tasks of a node, of which at most 65,536 are not done: the life of each, the ready queues by class, and the
-/// results of those that are done.
+/// The tasks of a node, at most 65,536 of them not done: the life of each, the ready queues by class, and the results
+/// of those that are done.
 ///
 /// Contracts see the content.
 #[derive(Drop)]

@@ -1,4 +1,4 @@
--- The lines of a run that is followed.
+-- The lines that a tracer finds for the steps of a run, and the trace that they give.
 use Rattle.std.proofs.Common.{◌≡◌, ◌≢◌, ℕ, zero, suc, ◌+◌, ◌-◌, ◌*◌, ◌<◌, ◌≤◌, Bool, true, false, not, ◌||◌, ◌&&◌, ◌==◌, IsTrue, List, []}
 use Rattle.std.proofs.Common.{◌∷◌, ◌++◌, length, reverse, drop, get_or, Option, Some, None, slice_get, slice_set, slice_index_or, nat_le}
 use Rattle.std.proofs.Common.{if◌then◌else◌, refl, sym, ap, subst, ◌∙◌, inl, inr, arith}
@@ -47,7 +47,7 @@ use Rattle.tp_text.proofs.UniqueTraces.{traces_determined}
 use Rattle.tp_text.specs.declared.version.Version.{Version}
 use Rattle.tp_text.specs.declared.version.Version.TheVariants as versions
 
--- ---- what is read back
+-- ---- reading what was printed
 
 step_of_line : (n : ℕ) (past : List Step) (s : Step) → step_in (line_of n past s) ≡ s
 step_of_line n past Judge = refl
@@ -71,9 +71,9 @@ traces_read_back n ss bytes v m lines printed read =
     let same = traces_determined bytes (version_of ss) v n m (lines_of n ss) lines printed read in
     (sym same.1, ap steps_in (sym same.2) ∙ steps_in_lines n ss, subst (AreJustified n) same.2 (lines_justified n ss))
 
--- ---- lines of the grammar
+-- ---- the lines match the grammar
 
--- Each wave but the newest was judged, so there are at most half as many as steps.
+-- Each wave but the newest was judged, so twice the number of waves is at most the number of steps and 1.
 record AreFewWaves (ss : List Step) : Type 0 where
   most : 2 * waves ss ≤ length ss + 1
   due : IsTrue (not (any is_start ss) || in_wave is_judge ss) → 2 * waves ss ≤ length ss
@@ -109,11 +109,11 @@ written_lines v n (s ∷ past) h l p =
     (written_line v n past s (h (s ∷ []) past refl) (omega (arith, l)) (All-head (IsSpelled v) s past p))
     (written_lines v n past (λ later rest e. h (s ∷ later) rest (ap (λ x. s ∷ x) e)) (omega (arith, l)) (All-tail (IsSpelled v) s past p))
 
--- what holds in each generation of a history holds in each of its steps
+-- what holds in each generation of a history holds in each without the newest event
 each_past : (P : History → Type 0) (e : Event) (h : History) → histories.InEach P (e ∷ h) → histories.InEach P h
 each_past P e h each later past is = each (e ∷ later) past (ap (λ x. e ∷ x) is)
 
--- the waves are lawful in each generation
+-- the steps of the waves are lawful in each generation
 waves_in_each : (n : ℕ) (h : History) → histories.InEach (IsRun n) h → InEach (AreLawfulWaves n) (steps_of h)
 waves_in_each n h run [] past e =
     subst (λ x. AreLawfulWaves n (present x)) e
@@ -148,7 +148,7 @@ first_version ss p = rw (none_reopened ss p) refl
 second_version : (ss : List Step) → true ≡ any is_reopen ss → versions.Two ≡ version_of ss
 second_version ss e = rw (← e) refl
 
--- a history that can be traced, in this version
+-- The history can be traced, in this version.
 abbrev pub IsTracedIn : List Step → Version → Type 0
 IsTracedIn ss v = (v ≡ version_of ss) × CanBeTraced ss
 
@@ -162,7 +162,7 @@ pub traced_second : (ss : List Step) → length ss ≤ MAX_STEPS → true ≡ an
     → IsTracedIn ss versions.Two
 traced_second ss few is p = traced_in ss versions.Two (second_version ss is) few p
 
--- what is spelled in its version is spelled in the first or in the second
+-- If version 1 does not spell the steps, nor version 2 after a reopening, their own version does not spell them.
 pub no_version : (ss : List Step) → ¬ All (IsSpelled versions.One) ss → (IsTrue (any is_reopen ss) → ¬ All (IsSpelled versions.Two) ss)
     → ¬ All (IsSpelled (version_of ss)) ss
 no_version ss one two =
@@ -171,9 +171,9 @@ no_version ss one two =
       | inr none ↦ rw none one
     ]
 
--- ---- the steps in the order of time
+-- ---- events in the order of time
 
--- the oldest events, so many, the newest first
+-- the oldest events, this many, newest first
 abbrev pub oldest : ℕ → List Event → List Event
 oldest k h = drop (length h - k) h
 
@@ -189,7 +189,7 @@ oldest_next h k e within at =
     drop-cons h (length h - (k + 1)) e (omega (arith, within)) ∙ ap (λ x. x ∷ drop (suc (length h - (k + 1))) h) found
     ∙ ap (λ i. e ∷ drop i h) place
 
--- in each generation of the oldest events the same holds
+-- what holds in each generation holds in each of the oldest events
 each-drop : (P : History → Type 0) (i : ℕ) (h : History) → histories.InEach P h → histories.InEach P (drop i h)
 each-drop P zero h each = each
 each-drop P (suc i) [] each = each
@@ -200,7 +200,7 @@ spelled-drop v zero h p = p
 spelled-drop v (suc i) [] p = p
 spelled-drop v (suc i) (e ∷ h) p = spelled-drop v i h (All-tail (IsSpelled v) e.1 (steps_of h) p)
 
--- the step of an event is spelled
+-- the step of the event at a position is spelled
 pub spelled_there : (v : Version) (h : List Event) (k : ℕ) (e : Event) → k < length h → slice_get (reverse h) k ≡ Some e
     → All (IsSpelled v) (steps_of h) → IsSpelled v e.1
 spelled_there v h k e within at p =
@@ -220,7 +220,7 @@ has_node n past i (Send j k m g) x = omega (arith, x.known, x.beside)
 has_node n past i (Recv j m g) x = omega (arith, x.known, x.beside)
 has_node n past i _ x = tt
 
--- an event that goes on with the present generation may follow
+-- an event that continues the present generation may follow
 may_go_on : (n : ℕ) (past : History) (e : Event) → IsRun n (e ∷ past) → length past < MAX_STEPS → MayFollow n (steps_of past) e.1
 may_go_on n past e r l = record {
   few = omega (arith, l, length-steps_of past);
@@ -261,7 +261,7 @@ pub followed_next : (n : ℕ) (h : History) (k : ℕ) (e : Event) (t : Tracer) �
     → HasFollowed n (present (e.1 ∷ steps_of (oldest k h))) t → HasFollowed n (present (steps_of (oldest (k + 1) h))) t
 followed_next n h k e t within at f = subst (λ x. HasFollowed n (present (steps_of x)) t) (sym (oldest_next h k e within at)) f
 
--- ---- a reopening is found
+-- ---- finding a reopening
 
 or_second : (a b : Bool) → IsTrue b → IsTrue (a || b)
 or_second true b e = refl
@@ -293,7 +293,7 @@ pub begun : (v : Version) (n : ℕ) (h : History) (old new : List ℕ) → old �
 begun v n h old new none head =
     head ∙ ap (λ x. x ++ trace v n []) none ∙ ap (λ x. trace v n (lines_of n (steps_of x))) (sym (oldest_none h))
 
--- one line more is written
+-- one more line is appended
 pub traced_next : (v : Version) (n : ℕ) (h : History) (k : ℕ) (e : Event) (l : TraceLine) (old new : List ℕ) → k < length h
     → slice_get (reverse h) k ≡ Some e
     → l ≡ line_of n (steps_of (oldest k h)) e.1 → old ≡ trace v n (lines_of n (steps_of (oldest k h))) → new ≡ old ++ trace_line v l
@@ -302,9 +302,9 @@ traced_next v n h k e l old new within at is before written =
     written ∙ ap (λ x. old ++ trace_line v x) is ∙ ap (λ x. x ++ trace_line v (line_of n (steps_of (oldest k h)) e.1)) before
     ∙ ap (λ x. trace v n (lines_of n (steps_of x))) (sym (oldest_next h k e within at))
 
--- ---- messages are counted
+-- ---- counting messages
 
--- one more at place j
+-- one more at position j
 pub one_more : (n j : ℕ) (xs new : List ℕ) (f : ℕ → ℕ) → ((i : ℕ) → i < n → slice_index_or xs i 0 ≡ f i) → j < n → j < length xs
     → new ≡ slice_set xs j (slice_index_or xs j 0 + 1) → (i : ℕ) → i < n → slice_index_or new i 0 ≡ (if j == i then f i + 1 else f i)
 one_more n j xs new f each known within is i below = elim (cases_eq j i) [
@@ -365,9 +365,9 @@ received_one n past s j m g t new is h may within e =
           count (is_recv_at k) (present past)) h.received (receiver n (present past) s j m g is may) within e;
     })
 
--- ---- the waves go along
+-- ---- the steps of the waves
 
--- a control step that may come next is not refused
+-- a control step that may follow is not refused
 pub not_refused : {A : Type 0} (n : ℕ) (past : List Step) (s : Step) (r : Result A Refusal) (P : Type 0) → IsTrue (is_control s)
     → MayFollow n past s
     → result_err r ≡ control_refusal n past s → OnOk r P → P

@@ -1,4 +1,4 @@
--- A step that is answered by `ended W` is a judgement, and what is accepted later comes on top of it.
+-- A step to which the reply is `ended W` is a judgement, and what is accepted later is added after it.
 use Rattle.std.proofs.Common.{ℕ, ◌≡◌, ◌≢◌, List, [], ◌∷◌, ◌++◌, Bool, true, false, Option, Some, None, Ok, refl, sym, ap, subst, ◌∙◌}
 use Rattle.std.proofs.Common.{append_assoc, is_some, if◌then◌else◌, ◌==◌}
 use Rattle.tp_base.specs.declared.Refusal.{Refusal}
@@ -15,7 +15,7 @@ use Rattle.tp_text.specs.SimText.{fresh}
 use Rattle.tp_text.proofs.Present.{present-append, same_generation}
 use Rattle.tp_text.proofs.Taking.{nodes_kept}
 
--- ---- what is accepted later comes on top
+-- ---- what is accepted later is added
 
 abbrev OnTop : List Step → List Step → Type 0
 OnTop old new = (later : List Step) × (new ≡ later ++ old)
@@ -35,7 +35,7 @@ after-append : (a : Accepted) (before later : List Step) → after_all a (before
 after-append a [] later = refl
 after-append a (s ∷ before) later = after-append (next a s) before later
 
--- ---- the answer `ended W`
+-- ---- the reply `ended W`
 
 pub record IsJudged (a : Accepted) (s : Step) (w : ℕ) : Type 0 where
   pub accepted : next a s ≡ with_step a s

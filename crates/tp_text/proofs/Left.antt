@@ -1,4 +1,4 @@
--- What a loop's test tells of the bytes that are left.
+-- What the test of a loop shows about the elements that are left.
 use Rattle.std.proofs.lemmas.Bool.Decides.{nat_tests}
 use Rattle.std.proofs.Common.{◌≡◌, ◌==◌, ◌<◌, List, [], ◌∷◌, length, true, false, refl, arith}
 

@@ -1,4 +1,4 @@
--- The numbers behind a word, to the end of the line.
+-- The numbers after a word, up to the end of the line.
 use Rattle.std.proofs.Common.{◌≡◌, ◌≢◌, ℕ, ◌≤◌, ◌+◌, List, [], ◌∷◌, ◌++◌, length, decimal, sym, ap, ◌∙◌, arith, append_assoc}
 use Rattle.std.specs.List.{All}
 use Rattle.tp_text.specs.Spelling.{IsNumber, spaced}
@@ -6,7 +6,7 @@ use Rattle.tp_text.specs.Words.{IsDigit, BeginsWithout}
 use Rattle.tp_text.proofs.Splits.{All-head, All-tail}
 use Rattle.tp_text.proofs.Numbers.{one_number}
 
--- At the front there are not up to so many numbers, each behind a space, and a line feed.
+-- The text does not begin with at most n numbers, each after a space, and a line feed.
 abbrev pub HasNoNumbers : ℕ → List ℕ → Type 0
 HasNoNumbers n text = (ks rest : List ℕ) → All IsNumber ks → length ks ≤ n → text ≢ spaced ks ++ 10 ∷ rest
 

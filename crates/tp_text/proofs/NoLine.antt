@@ -1,4 +1,4 @@
--- Texts that do not begin with a line of the grammar.
+-- Texts that begin with no line for a step, or with none for the number of nodes.
 use Rattle.std.proofs.Common.{◌≡◌, ◌≢◌, ℕ, ◌≤◌, Bool, true, false, not, List, [], ◌∷◌, ◌++◌, length, codes, refl, sym, ap, ◌∙◌, arith, lit≤}
 use Rattle.std.proofs.lemmas.Slice.Eq.{bytes_eq-Decides}
 use Rattle.std.specs.List.{All}
@@ -17,7 +17,7 @@ not_false : (b : Bool) → false ≡ not b → b ≡ true
 not_false true e = refl
 not_false false e = e
 
--- what `!=` says of two texts
+-- what `!=` shows about two texts
 pub alike : (xs ys : List ℕ) {zs : List ℕ} → false ≡ not (bytes_eq xs ys) → ys ≡ zs → xs ≡ zs
 alike xs ys e is = (bytes_eq-Decides xs ys).0 (not_false (bytes_eq xs ys) e) ∙ is
 

@@ -1,4 +1,4 @@
--- Numbers as digits.
+-- Numbers as decimal digits at the front of a text.
 use Rattle.std.proofs.Common.{◌≡◌, ◌≢◌, ℕ, zero, suc, ◌<◌, ◌≤◌, ◌+◌, ◌-◌, ◌*◌, List, [], ◌∷◌, ◌++◌, length, get_or, take, drop, decimal}
 use Rattle.std.proofs.Common.{sym, ap, ◌∙◌, subst, arith}
 use Rattle.std.proofs.lemmas.Fmt.{decimal_nonempty, first_decimal, decimal_digit, digits_decimal, decimal-digits_value, decimal_injective}
@@ -23,21 +23,21 @@ own = numerals_by_value AreDigits tells_by_index
 pub decimal_digits : (k : ℕ) → IsNumber k → All IsDigit (decimal k)
 decimal_digits k h i d l = subst IsDigit (get_or_default (decimal k) i 0 d l) (digits_decimal own k (omega arith) i l)
 
--- where the digits end, a number is told by them
+-- a number and the text after it are determined, if that text does not begin with a digit
 pub one_number : (j k : ℕ) (a b : List ℕ) → IsNumber j → IsNumber k → BeginsWithout IsDigit a → BeginsWithout IsDigit b
     → decimal j ++ a ≡ decimal k ++ b → (j ≡ k) × (a ≡ b)
 one_number j k a b p q s t e =
     let both = split_unique IsDigit (decimal j) (decimal k) a b (decimal_digits j p) (decimal_digits k q) s t e in
     (decimal_injective j k (omega arith) (omega arith) both.0, both.1)
 
--- one digit more
+-- one more digit
 pub value_more : (text : List ℕ) (n value : ℕ) → n < length text → IsDigit (slice_index text n) → value ≡ digits_value 10 (take n text)
     → value * 10 + (slice_index text n - 48) ≡ digits_value 10 (take (n + 1) text)
 value_more text n value l digit e = omega (arith, digits_value_more 10 text n l, digit_value_digit (get_or text n 0) digit)
 
 -- ---- the digits at the front
 
--- So many digits stand there, all that do or the first seven of them, and this is their value.
+-- `len` is the number of digits at the front, but at most 7, and this is the value of these digits.
 pub record HasDigits (text : List ℕ) (len value : ℕ) : Type 0 where
   pub few : len ≤ 7
   pub within : len ≤ length text
@@ -53,7 +53,7 @@ digits_in text n within digits i l =
 digits_there : (text : List ℕ) (n value : ℕ) → HasDigits text n value → AreDigits (take n text)
 digits_there text n value h = digits_in text n h.within h.digits
 
--- six digits spell a number
+-- six digits or fewer spell a number
 pub value_small : (text : List ℕ) (n value : ℕ) → n ≤ 6 → n ≤ length text → ((i : ℕ) → i < n → IsDigit (slice_index text i))
     → value ≡ digits_value 10 (take n text) → value < 1000000
 value_small text n value few within digits e =
@@ -68,7 +68,7 @@ front text n value h = length-take-le n text h.within
 first : (text : List ℕ) (n value : ℕ) → HasDigits text n value → 0 < n → get_or (take n text) 0 0 ≡ slice_index text 0
 first text n value h some = get_or-take n text 0 0 some
 
--- behind fewer than seven digits there is no other
+-- after fewer than seven digits there is no other
 ends : (text : List ℕ) (n : ℕ) → n ≤ length text → (n < length text → ¬ IsDigit (slice_index text n)) → BeginsWithout IsDigit (drop n text)
 ends [] zero within none = tt
 ends (b ∷ text) zero within none = none (omega arith)
@@ -78,7 +78,7 @@ ends (b ∷ text) (suc n) within none = ends text n (omega arith) (λ l. none (o
 splits : (text : List ℕ) (n value : ℕ) → HasDigits text n value → n < 7 → Splits IsDigit text (take n text) (drop n text)
 splits text n value h few = (sym (take-append-drop n text), all_digits text n value h, ends text n h.within (h.stops few))
 
--- where the digits spell no number, none stands at the front
+-- if the digits spell no number, there is none at the front
 none_by : (text : List ℕ) (n value : ℕ) → HasDigits text n value → n < 7 → ((k : ℕ) → IsNumber k → take n text ≢ decimal k)
     → (k : ℕ) (b : List ℕ) → IsNumber k → BeginsWithout IsDigit b → text ≢ decimal k ++ b
 none_by text n value h few none k b p t e =
@@ -110,7 +110,7 @@ pub none_where_padded : (text : List ℕ) (n value : ℕ) → HasDigits text n v
     → (k : ℕ) (b : List ℕ) → IsNumber k → BeginsWithout IsDigit b → text ≢ decimal k ++ b
 none_where_padded text n value h few padded = none_by text n value h (omega arith) (none_padded text n value h padded.0 padded.1)
 
--- with seven digits: what is in front has no more of them
+-- with seven digits: a number at the front has at least as many
 no_more : (P : ℕ → Type 0) (xs ys a b : List ℕ) → All P xs → BeginsWithout P b → xs ++ a ≡ ys ++ b → length xs ≤ length ys
 no_more P [] ys a b p t e = omega arith
 no_more P (x ∷ xs) [] a b p t e = absurd (subst (BeginsWithout P) (sym e) t (All-head P x xs p))
@@ -124,7 +124,7 @@ none_where_long text n value h long k b p t e =
     let fits = no_more IsDigit (take n text) (decimal k) (drop n text) b (all_digits text n value h) t (take-append-drop n text ∙ e) in
     omega (arith, fits, front text n value h, length-decimal-le 6 k (omega arith) (omega arith) (omega arith))
 
--- what stands behind the digits, as a part of the text
+-- the text after the digits, as a slice
 rest_is : (text : List ℕ) (n : ℕ) → take (length text - n) (drop n text) ≡ drop n text
 rest_is text n = take_all (length text - n) (drop n text) (omega (arith, length-drop n text))
 

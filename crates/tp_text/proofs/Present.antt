@@ -1,4 +1,4 @@
--- Steps that go on with the present generation.
+-- Steps that continue the present generation.
 use Rattle.std.proofs.Common.{◌≡◌, ℕ, ◌+◌, ◌≤◌, true, false, cond, List, [], ◌∷◌, ◌++◌, refl, sym, ap, subst, ◌∙◌, inl, inr, arith}
 use Rattle.std.specs.Prelude.{IsFalse}
 use Rattle.std.proofs.lemmas.Bool.{cases_Bool}
@@ -11,7 +11,7 @@ use Rattle.tp_wave.proofs.Generations as events
 use Rattle.tp_core.proofs.Generations.{present-goes_on}
 use Rattle.tp_text.specs.TraceOf.{RunsOfOneGeneration}
 
--- None of these steps is a reopening, so they stand in the generation that was present before.
+-- If none of these steps is a reopening, they are in the generation that was present before.
 pub present-append : (later past : List Step) → IsFalse (any is_reopen later) → present (later ++ past) ≡ later ++ present past
 present-append [] past e = refl
 present-append (s ∷ later) past e =
@@ -28,7 +28,7 @@ reopenings_grow (s ∷ later) past =
       | false ↦ reopenings_grow later past
     ]
 
--- Where the generation is still the same, none was.
+-- If the number of the generation is the same after these steps, none of them is a reopening.
 pub same_generation : (later past : List Step) → generation (later ++ past) ≡ generation past → IsFalse (any is_reopen later)
 same_generation [] past e = refl
 same_generation (s ∷ later) past e =

@@ -1,4 +1,4 @@
--- Lines and sums, one node further.
+-- The closing lines and their sums, node by node.
 use Rattle.std.proofs.Common.{◌≡◌, ℕ, zero, suc, ◌+◌, ◌<◌, ◌≤◌, Bool, true, false, not, ◌&&◌, List, [], ◌∷◌, ◌++◌, length, take, codes}
 use Rattle.std.proofs.Common.{decimal, refl, sym, ap, ◌∙◌, add-one, append_assoc, arith, rules, if◌then◌else◌}
 use Rattle.std.proofs.Math.Seq.{get_or-take, length-take-le}
@@ -16,7 +16,7 @@ use Rattle.tp_text.specs.Spelling.{line}
 pub lines_more : (n : ℕ) (f : ℕ → NodeNumbers) → node_lines (n + 1) f ≡ node_lines n f ++ node_line n (f n)
 lines_more n f = rw add-one refl
 
--- what is written in four pieces
+-- a text that is appended in four pieces
 pub four_pieces : (out a b d e f x y z w : List ℕ) → x ≡ out ++ a → y ≡ x ++ b → z ≡ y ++ (d ++ e) → w ≡ z ++ f
     → w ≡ out ++ ((((a ++ b) ++ d) ++ e) ++ f)
 four_pieces out a b d e f x y z w p q r s = s ∙ simp (r, q, p, append_assoc)
@@ -31,12 +31,12 @@ total_same : (n : ℕ) (f g : ℕ → ℕ) → ((i : ℕ) → i < n → f i ≡ 
 total_same zero f g same = refl
 total_same (suc n) f g same = omega (arith, total_same n f g (λ i h. same i (omega arith)), same n (omega arith))
 
--- These are the numbers of the nodes.
+-- The list has the numbers of the nodes.
 pub record Lists (xs : List NodeNumbers) (a : Accepted) : Type 0 where
   pub size : length xs ≡ a.nodes
   pub each : (i : ℕ) → i < a.nodes → listed xs i ≡ numbers_at i a
 
--- they are added up
+-- These are the sums over the list.
 pub record AddsUp (xs : List NodeNumbers) (x : NodeNumbers) : Type 0 where
   pub pending : x.pending ≡ total (length xs) (λ i. (listed xs i).pending)
   pub sent : x.sent ≡ total (length xs) (λ i. (listed xs i).sent)
@@ -85,7 +85,7 @@ quiet_by_parts b false [] (y ∷ messages) h =
 quiet_by_parts b false (x ∷ actions) messages h =
     no_truth b (λ z. let no : x ∷ actions ≡ [] = (h.0 z).1 in cc) ∙ sym (ap (λ v. v && (length messages == 0)) (some_left (length actions)))
 
--- what `quiet` answers
+-- the result of `quiet`
 quiet_is : (b : Bool) (w : World) → (IsTrue b ↔ IsQuiet w) → b ≡ is_quiet w
 quiet_is b w h = quiet_by_parts b (list_any (λ x. not (is_done x.life)) w.tasks) w.actions w.messages h
 
@@ -108,7 +108,7 @@ closing_written a xs x under b out p q r lists sums u quiet ep eq er =
     ∙ ap (λ n. p ++ line (codes "total" ++ counts (all_numbers a.nodes (λ i. numbers_at i a)) ++ codes " under " ++ decimal n)) u)
     (er ∙ ap (λ v. q ++ line (codes "quiet " ++ (if v then codes "yes" else codes "no"))) (quiet_is b (world_of a) quiet))
 
--- the first numbers of more
+-- the first numbers of a longer list
 pub lists_first : (xs : List NodeNumbers) (n : ℕ) (a : Accepted) → n ≡ a.nodes → n ≤ length xs
     → ((i : ℕ) (d : NodeNumbers) → i < a.nodes → slice_index_or xs i d ≡ numbers_at i a) → Lists (take n xs) a
 lists_first xs n a e fits each = record {

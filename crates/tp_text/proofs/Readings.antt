@@ -1,4 +1,4 @@
--- What is read of a trace, from the lines that were taken; and that one thing is read of some bytes.
+-- What is read of a trace, from the lines that were taken; and that all results for some bytes are the same.
 use Rattle.std.proofs.Common.{◌≡◌, ℕ, ◌+◌, ◌<◌, ◌++◌, List, [], ◌∷◌, true, Option, Some, None, length, take, reverse, is_some}
 use Rattle.std.proofs.Common.{refl, sym, ap, subst, ◌∙◌, inl, inr, arith, append-nil, length-append}
 use Rattle.std.proofs.lemmas.List.{length-reverse, reverse-append, reverse-reverse}
@@ -24,9 +24,9 @@ use Rattle.tp_text.proofs.Recounting.{answer_found, length_steps}
 use Rattle.tp_text.proofs.UniqueAudits.{audits_determined, has_format, has_nodes, same_place, sound_or_flawed}
 use Rattle.tp_text.proofs.UniqueTraces.{no_line_in_nothing, same_trace, traces_determined}
 
--- ---- the steps that are handed out
+-- ---- the returned steps
 
--- the older of some steps, the oldest first
+-- the older of some steps, oldest first
 older : (newest past core steps : List Step) (k : ℕ) → core ≡ newest ++ past → k ≡ length past → steps ≡ take k (reverse core)
     → past ≡ reverse steps
 older newest past core steps k e counted taken =
@@ -47,7 +47,7 @@ some_handed : (n : ℕ) (lines : List TraceLine) (a : Auditor) (k : ℕ) (flaw :
 some_handed n lines a k flaw steps h e =
     older h.newest (steps_in h.past) a.core.steps steps a.account.steps h.core (ap (λ (x : Account). x.steps) h.account) e
 
--- so many lines as steps
+-- as many lines as steps
 as_many : (lines : List TraceLine) (steps : List Step) → steps_in lines ≡ reverse steps → length steps ≡ length lines
 as_many lines steps e = omega (arith, ap length e, length-reverse steps, length_steps lines)
 
@@ -70,7 +70,7 @@ handed_runs n lines a steps h e =
     let sound : IsSound n part.0 = part_sound n lines part.0 part.1 in
     subst (AreRuns n) part.2 sound.run
 
--- the lines of a trace are all that it has
+-- a trace ends after its lines
 has_all : (bytes : List ℕ) (v : Version) (n : ℕ) (lines : List TraceLine) → IsTrace bytes v n lines → HasLines bytes v n lines []
 has_all bytes v n lines t = record {
   before = record { nodes = t.nodes; written = t.written; text = refl };
@@ -96,7 +96,7 @@ broken_read v bytes n lines rest a steps breaks h e =
     let part = part_handed n lines a a.flaw steps h e in
     (v, lines, rest, part.0, has_broken bytes v n lines rest breaks, part.1, part.2)
 
--- a line was flawed, and the answer tells the first such
+-- a line was flawed, and the reply reports the first such line
 pub flaw_answered : (v : Version) (bytes : List ℕ) (n : ℕ) (lines : List TraceLine) (a : Auditor) (o : Option (ℕ × Flaw))
     (verdict : Verdict) (out : List ℕ)
     → true ≡ is_some o → IsTrace bytes v n lines → IsFound n lines a o
@@ -106,7 +106,7 @@ flaw_answered v bytes n lines a None verdict out flawed t h e = cc
 flaw_answered v bytes n lines a (Some found) verdict out flawed t h e =
     subst (λ w. IsAuditText bytes w out) e.0 (answer_found v bytes n lines a (Some found) verdict out t h e)
 
--- which line is told
+-- ---- which line is reported
 
 flaw_told : (n : ℕ) (lines : List TraceLine) (a : Auditor) (k : ℕ) (flaw : Flaw) (steps : List Step) (out : List ℕ)
     → AreStopped n lines a k flaw
@@ -141,7 +141,7 @@ pub broken_told : (n : ℕ) (lines : List TraceLine) (a : Auditor) (steps : List
     → steps ≡ take a.account.steps (reverse a.core.steps) → out ≡ syntax_text (length lines + 3) → TellsLineBehind steps out
 broken_told n lines a steps out h e written = broken_told_by n lines a a.flaw steps out h e written
 
--- ---- one thing is read
+-- ---- all results are the same
 
 same_reversed : (s t : List Step) → reverse s ≡ reverse t → s ≡ t
 same_reversed s t e = sym (reverse-reverse s) ∙ ap reverse e ∙ reverse-reverse t

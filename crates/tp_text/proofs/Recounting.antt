@@ -52,7 +52,7 @@ pub sound_behind : (n : ℕ) (later past : List TraceLine) → IsSound n (later 
 sound_behind n [] past h = h
 sound_behind n (l ∷ later) past h = sound_behind n later past (sound_past n l (later ++ past) h)
 
--- a line beyond a flaw
+-- a line after a flaw
 pub found_more : (n : ℕ) (lines : List TraceLine) (l : TraceLine) (a : Auditor) (o : Option (ℕ × Flaw)) → true ≡ is_some o
     → IsFound n lines a o → IsFound n (l ∷ lines) a o
 found_more n lines l a None is h = cc
@@ -76,7 +76,7 @@ pub found_none : (n : ℕ) (lines : List TraceLine) (a : Auditor) (o : Option (�
 found_none n lines a None is h = h
 found_none n lines a (Some f) is h = cc
 
--- what was answered, named otherwise
+-- an equal reply to an equal step
 pub said_as : (old new : Accepted) (s t : Step) (r q : Result Reply Refusal) → s ≡ t → r ≡ q → Answers old s r new → Answers old t q new
 said_as old new s t r q e f h = subst (λ x. Answers old t x new) f (subst (λ x. Answers old x r new) e h)
 
@@ -112,7 +112,7 @@ told_right : (n : ℕ) (past : List Step) (l : TraceLine) (reply : Reply) → re
 told_right n past (Plain s) reply e told = tt
 told_right n past (Judged o) reply e told = judged_is o (judgement n (present past)) (sym told ∙ e)
 
--- a line that is as it should be
+-- a sound line
 pub taken_more : (v : Version) (n : ℕ) (lines : List TraceLine) (l : TraceLine) (a new : Auditor) (reply : Reply)
     → AreTaken n lines a → IsWritten v l
     → Answers a.core (step_in l) (Ok reply) new.core → IsTold l reply
@@ -129,7 +129,7 @@ taken_more v n lines l a new reply h written said told counted =
       account = counted v n (steps_in lines) h.account written right;
     }
 
--- a judgement with other words
+-- a judgement line with a wrong claim
 pub unjustified_at : (n : ℕ) (lines : List TraceLine) (l : TraceLine) (a new : Auditor) (k : ℕ) (reply : Reply)
     → AreTaken n lines a → k ≡ length lines + 3 → Answers a.core (step_in l) (Ok reply) new.core → ¬ IsTold l reply
     → new.account ≡ a.account → AreStopped n (l ∷ lines) new k flaws.Unjustified
@@ -149,7 +149,7 @@ unjustified_at n lines (Judged o) a new k reply h number said other same =
 
 -- ---- all lines
 
--- These lines were read from the front of the text, and so many lines were read.
+-- These lines were read from the front of the text, and this is the number of the next line.
 pub record Reads (v : Version) (text : List ℕ) (n : ℕ) (lines : List TraceLine) (rest : List ℕ) (number : ℕ) : Type 0 where
   pub count : IsNodeCount n
   pub written : All (IsWritten v) lines
@@ -185,7 +185,7 @@ reads_one v text n lines rest number l behind h found = record {
   short = omega (arith, h.short, ap length found.1, line_counts v l behind);
 }
 
--- what is answered once all lines were taken
+-- the reply after all lines were taken
 abbrev pub IsAnswerOf : Version → Auditor → Option (ℕ × Flaw) → Verdict → List ℕ → Type 0
 IsAnswerOf v a None verdict out = (verdict ≡ Sound) × (out ≡ summary v a.account)
 IsAnswerOf v a (Some found) verdict out = (verdict ≡ Refused) × (out ≡ flaw_line found.0 found.1)
@@ -196,7 +196,7 @@ pub answer_as : (v : Version) (a : Auditor) (o : Option (ℕ × Flaw)) (verdict 
 answer_as v a None verdict out h = h
 answer_as v a (Some found) verdict out h = h
 
--- the line that is told is the first that is flawed
+-- the reported line is the first that is flawed
 has_flaw : (n : ℕ) (lines : List TraceLine) (a : Auditor) (k : ℕ) (flaw : Flaw) → AreStopped n lines a k flaw → HasFlawAt n lines k flaw
 has_flaw n lines a k flaw h = (h.up_to.0, h.up_to.1, h.past, h.up_to.2, h.up_to.3, h.up_to.4, h.number)
 

@@ -1,4 +1,4 @@
--- A line is spelled by one step, and a step by one line.
+-- The line of a step determines the step.
 use Rattle.std.proofs.Common.{◌≡◌, ℕ, Bool, true, cond, eqb, not, ◌&&◌, List, [], ◌∷◌, ◌++◌, get_or, decimal, codes, refl, sym, ap, ◌∙◌}
 use Rattle.std.proofs.Common.{arith, append_assoc}
 use Rattle.std.proofs.lemmas.Bool.{and_parts}
@@ -32,7 +32,7 @@ word_bytes (b ∷ text) e =
     let both = and_parts (not (eqb b 32) && not (eqb b 10)) (is_word text) e in
     All-cons IsWordByte b text (word_byte b both.0) (word_bytes text both.1)
 
--- the words of steps hold no space and no line feed
+-- the first words of lines have no space and no line feed
 pub step_word : (s : Step) → is_word (word_of s) ≡ true
 step_word (steps.Insert i t k) = refl
 step_word (steps.Supply t) = refl
@@ -76,7 +76,7 @@ ends_word (k ∷ ks) rest = λ h. h.0 refl
 pub line_parts : (word : List ℕ) (ks rest : List ℕ) → line (word ++ spaced ks) ++ rest ≡ word ++ (spaced ks ++ 10 ∷ rest)
 line_parts word ks rest = append_assoc (word ++ spaced ks) (10 ∷ []) rest ∙ append_assoc word (spaced ks) (10 ∷ rest)
 
--- the word and the rest of a line are told apart
+-- the word and the rest of a line are determined
 pub one_word : (text word a w : List ℕ) (ks rest : List ℕ) → Splits IsWordByte text word a → is_word w ≡ true
     → text ≡ line (w ++ spaced ks) ++ rest → (word ≡ w) × (a ≡ spaced ks ++ 10 ∷ rest)
 one_word text word a w ks rest h q e =
@@ -101,7 +101,7 @@ same_numbers (j ∷ js) (k ∷ ks) a b p q e =
     let tail : js ≡ ks = rest.0 in
     (cc, rest.1)
 
--- the generation that a number spells, or that of all messages
+-- the generation that a number spells; in version 1 all messages are of the first
 abbrev pub generation_spelled : Version → ℕ → ℕ
 generation_spelled versions.One k = 1
 generation_spelled versions.Two k = k
@@ -148,7 +148,7 @@ step_again v (steps.Up i) h = refl
 step_again v steps.Judge h = refl
 step_again v steps.Reopen h = refl
 
--- the first line spells one step
+-- the first line determines its step and the rest
 pub same_step : (v : Version) (s t : Step) (a b : List ℕ) → IsSpelled v s → IsSpelled v t
     → step_line v s ++ a ≡ step_line v t ++ b → (s ≡ t) × (a ≡ b)
 same_step v s t a b p q e =

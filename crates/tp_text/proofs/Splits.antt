@@ -1,4 +1,4 @@
--- A text splits in one way where its first part has bytes of one kind and its second begins without one.
+-- Lemmas on `All`; and that a text splits in one way into bytes of one kind and a rest that does not begin with one.
 use Rattle.std.proofs.Common.{◌≡◌, ℕ, zero, suc, List, [], ◌∷◌, ◌++◌, refl, sym, subst, arith}
 use Rattle.std.specs.List.{All}
 use Rattle.tp_text.specs.Words.{BeginsWithout}

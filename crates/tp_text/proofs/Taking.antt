@@ -1,4 +1,4 @@
--- The lines of a script that were taken, and what was answered to them.
+-- The lines of a script that were taken, and the replies to them.
 use Rattle.std.proofs.Common.{◌≡◌, ℕ, ◌+◌, ◌≤◌, ◌<◌, Bool, true, false, List, [], ◌∷◌, ◌++◌, length, codes, decimal, is_some, Result, refl}
 use Rattle.std.proofs.Common.{sym, ap, subst, ◌∙◌, append_assoc, append-nil, length-append, arith, lit≤, inl, inr, if◌then◌else◌}
 use Rattle.std.specs.List.{All, flat_map}
@@ -15,7 +15,7 @@ use Rattle.tp_text.proofs.Splits.{All-nil, All-cons, All-head, All-tail}
 use Rattle.tp_text.specs.declared.version.Version.{Version}
 use Rattle.tp_text.specs.declared.version.Version.TheVariants as versions
 
--- one more at the end
+-- one more element at the end
 pub All-more : {X : Type 0} (P : X → Type 0) (xs : List X) (x : X) → All P xs → P x → All P (xs ++ x ∷ [])
 All-more P [] x h p = All-cons P x [] p (All-nil P)
 All-more P (y ∷ xs) x h p = All-cons P y (xs ++ x ∷ []) (All-head P y xs h) (All-more P xs x (All-tail P y xs h) p)
@@ -47,7 +47,8 @@ pub nodes_kept : (a : Accepted) (steps : List Step) → (after_all a steps).node
 nodes_kept a [] = refl
 nodes_kept a (s ∷ steps) = nodes_kept (next a s) steps ∙ chosen (is_some (refusal a s)) a s
 
--- These steps were taken from the front of the text, the core is as after them, and so many lines were read.
+-- These steps were taken from the front of the text, the core is in the state after them, and this is the number of the
+-- next line.
 pub record Takes (v : Version) (text : List ℕ) (n : ℕ) (taken : List Step) (rest : List ℕ) (core : Accepted) (out : List ℕ)
     (number : ℕ) : Type 0 where
   pub count : IsNodeCount n
@@ -148,7 +149,7 @@ takes_fault v text n taken rest core out number out' h some none written =
     } in
     (number, inr (inr (v, n, taken, rest, stops, h.number_is)), written)
 
--- no line for the number of nodes stands where it ought to
+-- there is no line for the number of nodes at its place
 pub fault_nodes : (v : Version) (text behind out : List ℕ) → text ≡ version_lines v ++ behind → (BeginsWithVersion text → v ≡ versions.Two)
     → ¬ BeginsWithNodes behind → out ≡ line (codes "syntax line " ++ decimal (nodes_at v)) → IsSimText text Refused out
 fault_nodes versions.One text behind out e two none written =

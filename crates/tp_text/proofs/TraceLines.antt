@@ -1,4 +1,4 @@
--- The lines of a trace are told apart.
+-- What the first line of a text is in a trace, by its first word and what follows it.
 use Rattle.std.proofs.Common.{◌≡◌, ◌≢◌, ℕ, ◌≤◌, nat_eq, true, false, List, [], ◌∷◌, ◌++◌, Option, Some, None, length, drop, take, codes}
 use Rattle.std.proofs.Common.{refl, sym, ap, ◌∙◌, append_assoc, arith}
 use Rattle.std.specs.Cmp.Lexicographic.{same_text, pointwise}
@@ -19,13 +19,13 @@ use Rattle.tp_text.proofs.Spelled.{line_parts, one_word, same_numbers, step_word
 use Rattle.tp_text.proofs.Splits.{split_unique, All-nil, All-cons}
 use Rattle.tp_text.specs.declared.version.Version.{Version}
 
--- ---- a judge's words
+-- ---- the claim of a judgement line
 
 pub not_plain : (text : List ℕ) → pointwise nat_eq (take 5 text) (codes " not\n") ≡ false → (rest : List ℕ)
     → text ≢ codes " not" ++ 10 ∷ rest
 not_plain text h rest e = let bad : true ≡ false = ap (λ t. pointwise nat_eq (take 5 t) (codes " not\n")) (sym e) ∙ h in cc
 
--- what stands behind a prefix
+-- the text after a prefix
 pub ended_is : (text a : List ℕ) → pointwise nat_eq (take 6 text) (codes " ended") ≡ true → a ≡ drop 6 text → text ≡ codes " ended" ++ a
 ended_is text a h e =
     sym (take-append-drop 6 text) ∙ ap (λ l. l ++ drop 6 text) (same_text (take 6 text) (codes " ended") (sym h))
@@ -82,7 +82,7 @@ ends_judge (Some w) rest = λ h. h.0 refl
 pub judge_parts : (v : Version) (o : Option ℕ) (rest : List ℕ) → trace_line v (Judged o) ++ rest ≡ codes "judge" ++ (words o ++ 10 ∷ rest)
 judge_parts v o rest = append_assoc (codes "judge" ++ words o) (10 ∷ []) rest ∙ append_assoc (codes "judge") (words o) (10 ∷ rest)
 
--- the word and the rest of a judgement
+-- the word and the rest of a judgement line
 pub judge_word : (v : Version) (text word a : List ℕ) (o : Option ℕ) (rest : List ℕ) → Splits IsWordByte text word a
     → text ≡ trace_line v (Judged o) ++ rest
     → (word ≡ codes "judge") × (a ≡ words o ++ 10 ∷ rest)

@@ -1,4 +1,4 @@
--- What a sound trace says of the end.
+-- What a sound trace says about the end of the pool.
 use Rattle.std.proofs.Common.{◌≡◌, ◌≢◌, ℕ, ◌+◌, ◌-◌, ◌≤◌, Bool, true, false, cond, ◌||◌, ◌&&◌, nat_le, if◌then◌else◌, append_assoc, List}
 use Rattle.std.proofs.Common.{[], ◌∷◌, ◌++◌, Option, Some, None, inl, inr, refl, sym, ap, subst, ◌∙◌, arith, is_some, length}
 use Rattle.std.specs.Prelude.{IsFalse}
@@ -20,9 +20,9 @@ use Rattle.tp_text.specs.TracedEnd.{EndedIsOver, NotEndedClaimsNoEnd, ReopenedIs
 use Rattle.tp_text.proofs.Present.{present-append}
 use Rattle.tp_text.proofs.Recounting.{sound_past, sound_behind}
 
--- ---- the last judge
+-- ---- the last judgement
 
--- there the last judge of the generation judged
+-- One of these steps judged that the pool had ended when wave w ended.
 abbrev pub LastJudge : List Step → ℕ → ℕ → Type 0
 LastJudge ss n w = (later : List Step) × (past : List Step) × (ss ≡ later ++ steps.Judge ∷ past) × (judgement n past ≡ Some w)
 
@@ -40,7 +40,7 @@ enough true true v w e = (refl, cc)
 enough true false v w e = cc
 enough false f v w e = cc
 
--- the wave that is named was followed by another
+-- the named wave was followed by another
 pub judged_wave : (n w : ℕ) (past : List Step) → judgement n past ≡ Some w → w + 1 ≤ waves past
 judged_wave n w past e =
     let both = enough (nat_le 2 (waves past)) (four_equal n past) (waves past - 1) w e in
@@ -73,7 +73,7 @@ ended_over n lines w h e =
     subst (λ (p : ℕ). IsOverFrom n p ss) (ap (λ u. length (visit 0 u)) (sym same))
     (never_early n ss (present_run n (steps_in lines) h.run) w last.0 past last.2 last.3)
 
--- ---- where no end was judged last
+-- ---- if the last judgement is no end
 
 or_kept : (a b : Bool) → b ≡ true → (a || b) ≡ true
 or_kept true b e = refl
@@ -126,7 +126,7 @@ not_ended_claims n lines h none later w past e =
           absurd (ended_last n (steps_in lines) h.run ended none)
     ]
 
--- ---- where the pool was reopened
+-- ---- if the pool was reopened
 
 some_judged : (n : ℕ) (past : List Step) (o : Option ℕ) → last_judgement n past ≡ o → o ≢ None → (w : ℕ) × (last_judgement n past ≡ Some w)
 some_judged n past None e other = absurd (other refl)

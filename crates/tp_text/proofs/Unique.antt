@@ -1,4 +1,4 @@
--- A text is read in one way.
+-- A text is the script of at most one list of steps, and there is at most one reply to it.
 use Rattle.std.proofs.Common.{◌≡◌, ℕ, ◌+◌, List, [], ◌∷◌, ◌++◌, length, drop, slice_index_or, codes, decimal, refl, sym, inl, inr, ap}
 use Rattle.std.proofs.Common.{subst, ◌∙◌, arith, append_assoc, append-nil, length-append}
 use Rattle.std.specs.List.{All, flat_map}
@@ -51,7 +51,7 @@ same_steps v (x ∷ steps) (y ∷ others) a b p q s t e =
     let rest = same_steps v steps others a b (All-tail (IsSpelled v) x steps p) (All-tail (IsSpelled v) y others q) s t first.1 in
     (ap (λ z. z ∷ steps) first.0 ∙ ap (λ l. y ∷ l) rest.0, rest.1)
 
--- a script tells its version
+-- the version of a script is determined
 same_version : (v w : Version) (n m : ℕ) (a b : List ℕ) → version_lines v ++ (nodes_line n ++ a) ≡ version_lines w ++ (nodes_line m ++ b)
     → (v ≡ w) × (nodes_line n ++ a ≡ nodes_line m ++ b)
 same_version versions.One versions.One n m a b e = (refl, e)
@@ -59,7 +59,7 @@ same_version versions.One versions.Two n m a b e = absurd (omega (arith, ap (λ 
 same_version versions.Two versions.One n m a b e = absurd (omega (arith, ap (λ l. slice_index_or l 0 0) e))
 same_version versions.Two versions.Two n m a b e = (refl, ap (λ l. drop 9 l) e)
 
--- a script and more, up to the line for the number of nodes
+-- a script and more text, with the version line first
 spread : (v : Version) (n : ℕ) (steps : List Step) (a : List ℕ)
     → script v n steps ++ a ≡ version_lines v ++ (nodes_line n ++ (flat_map (step_line v) steps ++ a))
 spread v n steps a =
@@ -75,7 +75,7 @@ same_lines v n m steps others a b p q ps s qs t e =
     let rest = same_steps v steps others a b ps qs s t first.1 in
     (first.0, rest.0, rest.1)
 
--- up to what is no step, a text is read in one way
+-- up to the first line that is no step's, a text is the script of one list of steps
 pub same_reading : (v w : Version) (n m : ℕ) (steps others : List Step) (a b : List ℕ) → IsNodeCount n → IsNodeCount m
     → All (IsSpelled v) steps → All (IsSpelled w) others → ¬ BeginsWithStep v a → ¬ BeginsWithStep w b
     → script v n steps ++ a ≡ script w m others ++ b → (v ≡ w) × (n ≡ m) × (steps ≡ others) × (a ≡ b)
@@ -93,7 +93,7 @@ no_step_in_nothing v (s, rest, p, e) =
     let whole : [] ≡ word_of s ++ (spaced (numbers_of v s) ++ 10 ∷ rest) = e ∙ line_parts (word_of s) (numbers_of v s) rest in
     omega (arith, ap length whole, length-append {A = ℕ})
 
--- a script begins with a line for the number of nodes, or with that for version 2
+-- a script begins with a line for the number of nodes, or with the version line
 script_begins : (v : Version) (bytes : List ℕ) (n : ℕ) (steps : List Step) (rest : List ℕ) → IsNodeCount n
     → bytes ≡ script v n steps ++ rest
     → ¬ BeginsWithNodes bytes → ¬ BeginsWithVersion bytes → ⊥
@@ -102,7 +102,7 @@ script_begins versions.One bytes n steps rest p e nodes version =
 script_begins versions.Two bytes n steps rest p e nodes version =
     version (nodes_line n ++ (flat_map (step_line versions.Two) steps ++ rest), e ∙ spread versions.Two n steps rest)
 
--- and behind the latter there is one for the number of nodes
+-- and after the version line there is one for the number of nodes
 script_goes_on : (v : Version) (bytes : List ℕ) (n : ℕ) (steps : List Step) (rest : List ℕ) → IsNodeCount n
     → bytes ≡ script v n steps ++ rest
     → ¬ LacksNodesBehind (version_lines versions.Two) bytes

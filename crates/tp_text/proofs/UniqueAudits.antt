@@ -1,4 +1,4 @@
--- One answer is given to a trace.
+-- There is at most one reply to a trace.
 use Rattle.std.proofs.Common.{◌≡◌, ℕ, ◌+◌, List, [], ◌∷◌, ◌++◌, Option, Some, None, length, codes, decimal, refl, sym, inl, inr, ap, subst}
 use Rattle.std.proofs.Common.{◌∙◌, arith, append-nil}
 use Rattle.tp_core.specs.Accepted.{refusal}
@@ -65,7 +65,7 @@ pub sound_or_flawed : (n : ℕ) (lines : List TraceLine) (k : ℕ) (f : Flaw) �
 sound_or_flawed n lines k f h (later, l, past, e, sound, flaw, at) =
     no_flaw n l past f (sound_behind n later (l ∷ past) (subst (IsSound n) e h)) flaw
 
--- ---- faults of grammar
+-- ---- syntax errors
 
 pub has_nodes : (bytes : List ℕ) (v : Version) (n : ℕ) (lines : List TraceLine) (rest : List ℕ) → IsNodeCount n
     → bytes ≡ trace v n lines ++ rest → ¬ LacksNodes bytes
@@ -107,7 +107,7 @@ no_fault bytes v n lines l h fault =
           (sym whole ∙ g.text)).3)
     ]
 
--- ---- answers
+-- ---- replies
 
 same_complaint : (bytes text other : List ℕ) → IsComplaint bytes text → IsComplaint bytes other → text ≡ other
 same_complaint bytes text other (inl (k, h, e)) (inl (l, g, f)) =

@@ -1,4 +1,4 @@
--- A trace is read in one way.
+-- A text is the trace of at most one list of lines.
 use Rattle.std.proofs.Common.{◌≡◌, ℕ, List, [], ◌∷◌, ◌++◌, Option, Some, None, length, drop, codes, refl, sym, ap, subst, ◌∙◌, arith}
 use Rattle.std.proofs.Common.{append_assoc, append-nil, length-append}
 use Rattle.std.specs.Prelude.{slice_index_or}
@@ -46,7 +46,7 @@ same_line v (Plain s) (Plain t) a b h g e = let both = same_step v s t a b h.0 g
 same_line v l (Judged o) a b h g e = no_both v l o a b h e g
 same_line v (Judged o) m a b h g e = let both = no_both v m o b a g (sym e) h in (sym both.0, sym both.1)
 
--- ---- all lines, the oldest first
+-- ---- all lines, oldest first
 
 abbrev pub oldest_first : List TraceLine → List TraceLine
 oldest_first [] = []
@@ -118,7 +118,7 @@ same_lines v (x ∷ xs) (y ∷ ys) a b p q s t e =
     let rest = same_lines v xs ys a b (All-tail (IsWritten v) x xs p) (All-tail (IsWritten v) y ys q) s t first.1 in
     (ap (λ z. z ∷ xs) first.0 ∙ ap (λ l. y ∷ l) rest.0, rest.1)
 
--- what stands behind the line for the format
+-- the text after the format line
 abbrev pub behind : Version → ℕ → List TraceLine → List ℕ → List ℕ
 behind v n lines rest = nodes_line n ++ (flat_map (trace_line v) (oldest_first lines) ++ rest)
 
@@ -129,7 +129,7 @@ spread v n lines rest =
     ∙ append_assoc (format_line v) (nodes_line n ++ flat_map (trace_line v) (oldest_first lines)) rest
     ∙ ap (λ z. format_line v ++ z) (append_assoc (nodes_line n) (flat_map (trace_line v) (oldest_first lines)) rest)
 
--- a trace tells its version
+-- the version of a trace is determined
 pub same_format : (v w : Version) (a b : List ℕ) → format_line v ++ a ≡ format_line w ++ b → (v ≡ w) × (a ≡ b)
 same_format versions.One versions.One a b e = (refl, ap (λ l. drop 8 l) e)
 same_format versions.One versions.Two a b e = absurd (omega (arith, ap (λ l. slice_index_or l 6 0) e))
@@ -146,7 +146,7 @@ same_behind v n m lines others a b p q ps s qs t e =
     first.1 in
     (first.0, oldest_same lines others rest.0, rest.1)
 
--- up to what is no line, a trace is read in one way
+-- up to the first line that does not match the grammar, a text is the trace of one list of lines
 pub same_trace : (v w : Version) (n m : ℕ) (lines others : List TraceLine) (a b : List ℕ) → IsNodeCount n → IsNodeCount m
     → All (IsWritten v) lines → All (IsWritten w) others → ¬ BeginsWithLine v a → ¬ BeginsWithLine w b
     → trace v n lines ++ a ≡ trace w m others ++ b → (v ≡ w) × (n ≡ m) × (lines ≡ others) × (a ≡ b)

@@ -1,4 +1,4 @@
--- What is answered to a trace.
+-- The reply to a trace: the account of a sound one, or the line that reports the first fault. The grammar is in Trace.
 use Rattle.std.specs.Prelude.{ℕ, ◌+◌, ◌≡◌, ◌≢◌, ◌≤◌, ◌++◌, ◌⊎◌, List, [], ◌∷◌, Bool, true, false, Option, Some, None, length, codes}
 use Rattle.std.specs.Prelude.{decimal}
 use Rattle.tp_base.specs.declared.limits.TheConstants.{MAX_STEPS}
@@ -26,14 +26,14 @@ abbrev pub step_in : TraceLine → Step
 step_in (Plain s) = s
 step_in (Judged o) = Judge
 
--- the steps of the lines, the newest first
+-- the steps of the lines; both lists are newest first
 abbrev pub steps_in : List TraceLine → List Step
 steps_in [] = []
 steps_in (l ∷ past) = step_in l ∷ steps_in past
 
 -- ---- sound lines
 
--- The words of a judge are what is judged over the steps before in its generation, by the four counters.
+-- A judgement line claims the judgement of the four counters over the steps before it in its generation.
 abbrev pub IsJustified : ℕ → List Step → TraceLine → Type 0
 IsJustified n past (Plain s) = Unit {0}
 IsJustified n past (Judged o) = o ≡ judgement n (present past)
@@ -42,25 +42,26 @@ abbrev pub AreJustified : ℕ → List TraceLine → Type 0
 AreJustified n [] = Unit {0}
 AreJustified n (l ∷ past) = IsJustified n (steps_in past) l × AreJustified n past
 
--- The steps are runs of the core on n nodes, no more than it takes, and each judge's words are justified.
+-- The steps are a run of the core on n nodes in each generation, no more than it takes, and each claim is right.
 pub record IsSound (n : ℕ) (lines : List TraceLine) : Type 0 where
   pub run : AreRuns n (steps_in lines)
   pub few : length lines ≤ MAX_STEPS
   pub justified : AreJustified n lines
 
--- ---- a line that is not
+-- ---- a flawed line
 
 -- a core on n nodes that has accepted the steps of these lines
 abbrev pub taken : ℕ → List TraceLine → Accepted
 taken n lines = record { nodes = n; steps = steps_in lines }
 
--- Behind these lines this one is flawed: its step is refused; or it is a judgement that is accepted, and its words are others.
+-- After these lines this one is flawed: its step is refused; or it is a judgement line whose step is accepted, but
+-- whose claim is wrong.
 abbrev pub IsFlaw : ℕ → List TraceLine → TraceLine → Flaw → Type 0
 IsFlaw n past l (flaws.Refused r) = refusal (taken n past) (step_in l) ≡ Some r
 IsFlaw n past l flaws.Unjustified =
     (o : Option ℕ) × (l ≡ Judged o) × (refusal (taken n past) Judge ≡ None) × (o ≢ judgement n (present (steps_in past)))
 
--- Line k is the first that is flawed. The first step stands in line 3.
+-- Line k is the first that is flawed. The first step is in line 3.
 abbrev pub HasFlawAt : ℕ → List TraceLine → ℕ → Flaw → Type 0
 HasFlawAt n lines k flaw = (later : List TraceLine) × (l : TraceLine) × (past : List TraceLine)
     × (lines ≡ later ++ l ∷ past) × IsSound n past × IsFlaw n past l flaw × (k ≡ length past + 3)
@@ -72,13 +73,13 @@ flaw_words flaws.Unjustified = codes "unjustified"
 abbrev pub flaw_line : ℕ → Flaw → List ℕ
 flaw_line k flaw = line (codes "line " ++ decimal k ++ codes " " ++ flaw_words flaw)
 
--- ---- what sound lines add up to
+-- ---- the account of sound lines
 
 abbrev pub is_insert : Step → Bool
 is_insert (Insert i t k) = true
 is_insert _ = false
 
--- what the last judge of the present generation judged, if there was one: with which wave the pool had ended
+-- the last judgement of the present generation: the wave at whose end the pool had ended, if one was judged
 abbrev pub last_judgement : ℕ → List Step → Option ℕ
 last_judgement n [] = None
 last_judgement n (Judge ∷ past) = judgement n (present past)
@@ -100,12 +101,12 @@ abbrev pub end_words : Option ℕ → List ℕ
 end_words None = codes "not ended"
 end_words (Some w) = codes "ended " ++ decimal w
 
--- the line for the number of the present generation, in version 2
+-- the line for the number of the present generation, which only version 2 has
 abbrev pub generation_lines : Version → ℕ → List ℕ
 generation_lines One g = []
 generation_lines Two g = line (codes "generation " ++ decimal g)
 
--- four lines, or five
+-- the account as text: four lines, or five in version 2
 abbrev pub summary : Version → Account → List ℕ
 summary v a =
     line (codes "steps " ++ decimal a.steps)
@@ -114,23 +115,23 @@ summary v a =
     ++ generation_lines v a.generation
     ++ line (end_words a.ended)
 
--- ---- the answer
+-- ---- the reply
 
--- The bytes have a fault of grammar, or they are a trace with a flaw, and the text tells the first such line.
+-- The bytes do not match the grammar, or they are a trace with a flaw; the text reports the first such line.
 abbrev pub IsComplaint : List ℕ → List ℕ → Type 0
 IsComplaint bytes text =
     ((l : ℕ) × HasTraceFaultAt bytes l × (text ≡ line (codes "syntax line " ++ decimal l)))
     ⊎ ((v : Version) × (n : ℕ) × (lines : List TraceLine) × (k : ℕ) × (flaw : Flaw)
     × IsTrace bytes v n lines × HasFlawAt n lines k flaw × (text ≡ flaw_line k flaw))
 
--- This verdict and this text are what is answered to these bytes: what the lines of a sound trace add up to, or the first line
--- that is at fault.
+-- The reply to these bytes is this verdict and this text: the account of a sound trace, or the line that reports the
+-- first fault.
 abbrev pub IsAuditText : List ℕ → Verdict → List ℕ → Type 0
 IsAuditText bytes Sound text = (v : Version) × (n : ℕ) × (lines : List TraceLine)
     × IsTrace bytes v n lines × IsSound n lines × (text ≡ summary v (account n (steps_in lines)))
 IsAuditText bytes Refused text = IsComplaint bytes text
 
--- One verdict and one text are answered to some bytes.
+-- The reply to some bytes is at most one verdict and one text.
 abbrev pub AuditsAreDetermined : Type 0
 AuditsAreDetermined = (bytes : List ℕ) (v : Verdict) (text : List ℕ) (w : Verdict) (other : List ℕ)
     → IsAuditText bytes v text → IsAuditText bytes w other → (v ≡ w) × (text ≡ other)

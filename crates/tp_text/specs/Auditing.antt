@@ -1,4 +1,4 @@
--- What is known of lines that were taken one by one.
+-- What is known of an auditor that took the lines of a trace one by one.
 use Rattle.std.specs.Prelude.{ℕ, ◌+◌, ◌≡◌, ◌++◌, List, Option, Some, None, length}
 use Rattle.tp_base.specs.declared.Step.{Step}
 use Rattle.tp_core.specs.declared.Reply.{Reply}
@@ -15,14 +15,14 @@ use Rattle.tp_text.specs.AuditText.{steps_in, taken, account, IsAuditText, IsSou
 use Rattle.tp_text.specs.Reading.{syntax_text, AreUpToFlaw, LacksHead}
 use Rattle.tp_text.specs.Trace.{BreaksOff, IsTrace}
 
--- The lines are sound, and these steps were taken and counted.
+-- The lines are sound, and the auditor took and counted their steps.
 pub record AreTaken (n : ℕ) (lines : List TraceLine) (a : Auditor) : Type 0 where
   pub sound : IsSound n lines
   pub core : a.core ≡ taken n lines
   pub account : a.account ≡ account n (steps_in lines)
 
--- Line k is the first that is flawed. The steps before it were counted and taken, and a judgement with other words was
--- taken too.
+-- Line k is the first that is flawed. The steps before it were taken and counted. If it is a judgement line with a
+-- wrong claim, its step was taken too, but not counted.
 pub record AreStopped (n : ℕ) (lines : List TraceLine) (a : Auditor) (k : ℕ) (flaw : Flaw) : Type 0 where
   pub past : List TraceLine
   pub up_to : AreUpToFlaw n lines past flaw
@@ -39,8 +39,8 @@ IsFound n lines a (Some found) = AreStopped n lines a found.0 found.1
 abbrev pub Knows : ℕ → List TraceLine → Auditor → Type 0
 Knows n lines a = IsFound n lines a a.flaw
 
--- The lines of these bytes were taken one by one: all, or those before the first that is not of the grammar, which the
--- text tells.
+-- The lines of these bytes were taken one by one: all, or those before the first that does not match the grammar, which
+-- the text reports.
 abbrev pub IsRecounted : List ℕ → Recounted → Type 0
 IsRecounted bytes (recounts.NoTrace text) = IsAuditText bytes Refused text.items × LacksHead bytes
 IsRecounted bytes (recounts.Broken n auditor text) = (v : Version) × (lines : List TraceLine) × (rest : List ℕ)
@@ -48,7 +48,7 @@ IsRecounted bytes (recounts.Broken n auditor text) = (v : Version) × (lines : L
 IsRecounted bytes (recounts.Whole v n auditor) =
     (lines : List TraceLine) × IsTrace bytes v n lines × Knows n lines auditor
 
--- The line tells this answer to its step.
+-- The line claims nothing, or claims this reply to its step.
 abbrev pub IsTold : TraceLine → Reply → Type 0
 IsTold (Plain s) reply = Unit {0}
 IsTold (Judged o) reply = reply ≡ judged o

@@ -1,4 +1,4 @@
--- What the line `ended W` says of the pool.
+-- What the line `ended W` in the reply to a script says about the pool.
 use Rattle.std.specs.Prelude.{ℕ, ◌≡◌, List, ◌∷◌, ◌++◌, Ok}
 use Rattle.tp_base.specs.declared.Step.{Step}
 use Rattle.tp_wave.specs.Sums.{visited_at}
@@ -8,20 +8,20 @@ use Rattle.tp_core.specs.Accepted.{answer, after_all}
 use Rattle.tp_core.specs.NeverEarly.{IsOverFrom}
 use Rattle.tp_text.specs.SimText.{fresh}
 
--- After the steps of these lines the step of the next line is answered by `ended W`.
+-- After these steps, the reply to the next step is `ended W`.
 abbrev pub IsAnsweredEnded : ℕ → List Step → Step → ℕ → Type 0
 IsAnsweredEnded n steps s w = answer (after_all (fresh n) steps) s ≡ Ok (Over w)
 
--- the steps that are accepted of these lines, the newest first
+-- those of these steps that are accepted, newest first
 abbrev pub accepted_of : ℕ → List Step → List Step
 accepted_of n steps = (after_all (fresh n) steps).steps
 
--- the end of wave W, its visit to the root: how many steps of the present generation had been accepted by then
+-- the end of wave W, which is its visit to the root: the number of steps of the present generation accepted by then
 abbrev pub end_of_wave : ℕ → ℕ → List Step → ℕ
 end_of_wave w n steps = visited_at w 0 (present (accepted_of n steps))
 
--- Wherever a line is answered by `ended W`, all was over from the end of wave W on, for as long as its generation is the present
--- one: nothing was left, and each task that any line inserts had run once by then.
+-- The detector is never early: if the reply to a step is `ended W`, nothing was left from the end of wave W on, as long
+-- as the generation is the present one, and each task that any step of it inserts had run once by then.
 abbrev pub EndedIsNeverEarly : Type 0
 EndedIsNeverEarly = (n : ℕ) (before : List Step) (s : Step) (later : List Step) (w : ℕ) → IsAnsweredEnded n before s w
     → generation (accepted_of n (before ++ s ∷ later)) ≡ generation (accepted_of n before)

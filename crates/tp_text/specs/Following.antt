@@ -1,4 +1,4 @@
--- What is known of steps that were followed one by one.
+-- What is known of a tracer that followed steps one by one.
 use Rattle.std.specs.Prelude.{ℕ, ◌≡◌, ◌<◌, ◌≤◌, List, IsTrue, length}
 use Rattle.std.specs.List.{slice_index_or}
 use Rattle.tp_base.specs.declared.limits.TheConstants.{MAX_NODES, MAX_STEPS}
@@ -10,7 +10,7 @@ use Rattle.tp_wave.specs.Steps.{count, is_send_of, is_recv_at}
 use Rattle.tp_wave.specs.Wave.{Follows}
 use Rattle.tp_text.specs.declared.tracer.Tracer.{Tracer}
 
--- The waves stand where these steps on n nodes led them, and the messages of each node were counted.
+-- The wave is in the state to which these steps on n nodes led, and the messages of each node were counted.
 pub record HasFollowed (n : ℕ) (steps : List Step) (t : Tracer) : Type 0 where
   pub some : 1 ≤ n
   pub nodes : n ≤ MAX_NODES
@@ -19,13 +19,13 @@ pub record HasFollowed (n : ℕ) (steps : List Step) (t : Tracer) : Type 0 where
   pub sent : (i : ℕ) → i < n → slice_index_or t.sent i 0 ≡ count (is_send_of i) steps
   pub received : (i : ℕ) → i < n → slice_index_or t.received i 0 ≡ count (is_recv_at i) steps
 
--- The node that sends or receives a message is one of n.
+-- If the step sends or receives a message, its node is one of n.
 abbrev pub HasNode : ℕ → Step → Type 0
 HasNode n (Send i j m g) = i.0 < n
 HasNode n (Recv j m g) = j.0 < n
 HasNode n _ = Unit {0}
 
--- This step may follow these, in a run on n nodes that goes no further than a core would.
+-- This step may follow these in a run on n nodes, within the limit of a core's steps.
 pub record MayFollow (n : ℕ) (past : List Step) (s : Step) : Type 0 where
   pub few : length past < MAX_STEPS
   pub node : HasNode n s

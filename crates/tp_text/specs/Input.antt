@@ -1,4 +1,4 @@
--- What is read.
+-- A whole text that is read.
 use Rattle.std.specs.Prelude.{ℕ, List, Option}
 use Rattle.std.specs.Io.KnownBytes.{Consumes, IsAtEnd}
 

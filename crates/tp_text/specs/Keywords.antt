@@ -1,4 +1,4 @@
--- The keywords of the grammar.
+-- The keywords of the grammar, and the step that a keyword and numbers spell.
 use Rattle.std.specs.Prelude.{ℕ, ◌≡◌, ◌≢◌, List, codes}
 use Rattle.std.specs.List.{All}
 use Rattle.tp_base.specs.declared.Step.{Step}
@@ -30,6 +30,6 @@ keyword_text Reopen = codes "reopen"
 abbrev pub NamesNone : Version → Keyword → List ℕ → Type 0
 NamesNone v k ks = (s : Step) → IsSpelled v s → word_of s ≡ keyword_text k → numbers_of v s ≢ ks
 
--- They spell this step, if they are numbers of the grammar.
+-- The keyword and these numbers spell this step, if the numbers match the grammar.
 abbrev pub Names : Version → Keyword → List ℕ → Step → Type 0
 Names v k ks s = (All IsNumber ks → IsSpelled v s) × (word_of s ≡ keyword_text k) × (numbers_of v s ≡ ks)

@@ -1,4 +1,4 @@
--- What is answered to a script.
+-- The reply to a script: a line for each step and the closing lines, or the line that reports the first fault.
 use Rattle.std.specs.Prelude.{ℕ, zero, suc, ◌≡◌, ◌++◌, List, [], length, codes, decimal, Result, Ok, Err, if◌then◌else◌}
 use Rattle.std.specs.List.{flat_map}
 use Rattle.tp_base.specs.declared.Refusal.{Refusal}
@@ -16,7 +16,7 @@ use Rattle.tp_text.specs.declared.verdict.Verdict.TheVariants.{Sound, Refused}
 use Rattle.tp_text.specs.Spelling.{line}
 use Rattle.tp_text.specs.Script.{IsScript, HasFaultAt}
 
--- the line for the answer to a step
+-- the line of the reply to a step
 abbrev pub answer_line : Result Reply Refusal → List ℕ
 answer_line (Ok Plain) = line (codes "ok")
 answer_line (Ok (WaveSums s)) =
@@ -37,7 +37,7 @@ abbrev pub node_lines : ℕ → (ℕ → NodeNumbers) → List ℕ
 node_lines zero numbers = []
 node_lines (suc n) numbers = node_lines n numbers ++ node_line n (numbers n)
 
--- the numbers of all nodes below n, added up
+-- the sums of the numbers over all nodes below n
 abbrev pub all_numbers : ℕ → (ℕ → NodeNumbers) → NodeNumbers
 all_numbers n numbers = record {
   pending = total n (λ i. (numbers i).pending);
@@ -45,7 +45,8 @@ all_numbers n numbers = record {
   received = total n (λ i. (numbers i).received);
 }
 
--- the closing lines: the numbers of each node, those of all, and whether all is quiet
+-- the closing lines: the numbers of each node, their sums and the number of messages in flight, and whether the pool is
+-- quiet
 abbrev pub closing : Accepted → List ℕ
 closing a =
     node_lines a.nodes (λ i. numbers_at i a)
@@ -57,17 +58,17 @@ closing a =
 abbrev pub fresh : ℕ → Accepted
 fresh n = record { nodes = n; steps = [] }
 
--- a line for each step, in their order, and the closing lines
+-- the line of the reply to each step, in order, and the closing lines
 abbrev pub report : ℕ → List Step → List ℕ
 report n steps = flat_map answer_line (answers (fresh n) steps) ++ closing (after_all (fresh n) steps)
 
--- This verdict and this text are what is answered to these bytes: the report of the script that they are, or the first line
--- that is not of the grammar.
+-- The reply to these bytes is this verdict and this text: the report of the script that they are, or the line that
+-- reports the first line that does not match the grammar.
 abbrev pub IsSimText : List ℕ → Verdict → List ℕ → Type 0
 IsSimText bytes Sound text = (v : Version) × (n : ℕ) × (steps : List Step) × IsScript bytes v n steps × (text ≡ report n steps)
 IsSimText bytes Refused text = (l : ℕ) × HasFaultAt bytes l × (text ≡ line (codes "syntax line " ++ decimal l))
 
--- One verdict and one text are answered to some bytes.
+-- The reply to some bytes is at most one verdict and one text.
 abbrev pub TextsAreDetermined : Type 0
 TextsAreDetermined = (bytes : List ℕ) (v : Verdict) (text : List ℕ) (w : Verdict) (other : List ℕ)
     → IsSimText bytes v text → IsSimText bytes w other → (v ≡ w) × (text ≡ other)

@@ -1,4 +1,4 @@
--- How steps and lines are spelled: each step in one way.
+-- How steps are spelled: each in one way.
 use Rattle.std.specs.Prelude.{ℕ, ◌≡◌, ◌<◌, ◌≤◌, ◌++◌, List, [], ◌∷◌, codes, decimal}
 use Rattle.std.specs.List.{All}
 use Rattle.tp_base.specs.declared.Generation.{Generation}
@@ -12,7 +12,7 @@ use Rattle.tp_text.specs.declared.version.Version.TheVariants.{One, Two}
 abbrev pub IsNumber : ℕ → Type 0
 IsNumber k = k < 1000000
 
--- numbers, each behind a space
+-- numbers, each after a space
 abbrev pub spaced : List ℕ → List ℕ
 spaced [] = []
 spaced (k ∷ ks) = 32 ∷ (decimal k ++ spaced ks)
@@ -21,7 +21,7 @@ spaced (k ∷ ks) = 32 ∷ (decimal k ++ spaced ks)
 abbrev pub line : List ℕ → List ℕ
 line text = text ++ 10 ∷ []
 
--- the word with which the line of a step begins
+-- the first word of a step's line
 abbrev pub word_of : Step → List ℕ
 word_of (Insert i t k) = codes "insert"
 word_of (Supply t) = codes "supply"
@@ -64,7 +64,7 @@ numbers_of v (Up i) = i.0 ∷ []
 numbers_of v Judge = []
 numbers_of v Reopen = []
 
--- the one spelling of a step, the line feed apart
+-- the one spelling of a step, without the line feed
 abbrev pub spelling : Version → Step → List ℕ
 spelling v s = word_of s ++ spaced (numbers_of v s)
 
@@ -73,7 +73,7 @@ abbrev pub HasFewInputs : Step → Type 0
 HasFewInputs (Insert i t k) = k.count ≤ 16
 HasFewInputs _ = Unit {0}
 
--- Version 1 tells of the first generation alone: a message is of it, and no pool is reopened.
+-- Version 1 has only the first generation: each message is of it, and no pool is reopened.
 abbrev pub TellsGeneration : Version → Generation → Type 0
 TellsGeneration One g = g.0 ≡ 1
 TellsGeneration Two g = Unit {0}

@@ -16,17 +16,17 @@ use Rattle.tp_text.specs.AuditText.{steps_in, AreJustified}
 use Rattle.tp_text.specs.Spelling.{IsSpelled}
 use Rattle.tp_text.specs.Trace.{IsTrace}
 
--- the line for a step: a judge's words are what is judged over the steps before in its generation
+-- the line of a step: a judgement line claims the judgement over the steps before it in its generation
 abbrev pub line_of : ℕ → List Step → Step → TraceLine
 line_of n past Judge = Judged (judgement n (present past))
 line_of n past s = Plain s
 
--- the lines for these steps; both lists have the newest first
+-- the lines of these steps; both lists are newest first
 abbrev pub lines_of : ℕ → List Step → List TraceLine
 lines_of n [] = []
 lines_of n (s ∷ past) = line_of n past s ∷ lines_of n past
 
--- Version 2 is taken where the pool was reopened, and there alone.
+-- The version is 2 exactly if the pool was reopened.
 abbrev pub version_of : List Step → Version
 version_of steps = if any is_reopen steps then Two else One
 
@@ -38,12 +38,12 @@ IsTraceOf n steps bytes = IsTrace bytes (version_of steps) n (lines_of n steps)
 abbrev pub CanBeTraced : List Step → Type 0
 CanBeTraced steps = (length steps ≤ MAX_STEPS) × All (IsSpelled (version_of steps)) steps
 
--- Printing and reading meet: however the trace of some steps is read, its steps are these, and its judges' words what is
--- judged over the steps before them in their generation.
+-- Reading inverts printing: if the trace of some steps is read, the result has these steps, and each of its judgement
+-- lines claims the judgement over the steps before it in its generation.
 abbrev pub TracesAreReadBack : Type 0
 TracesAreReadBack = (n : ℕ) (steps : List Step) (bytes : List ℕ) (v : Version) (m : ℕ) (lines : List TraceLine)
     → IsTraceOf n steps bytes → IsTrace bytes v m lines → (m ≡ n) × (steps_in lines ≡ steps) × AreJustified n lines
 
--- In a run of one generation the events of each generation are a run, since the machine takes no reopening.
+-- A run of one generation is a run in each of its generations, since the machine takes no reopening.
 abbrev pub RunsOfOneGeneration : Type 0
 RunsOfOneGeneration = (n : ℕ) (h : History) → IsRun n h → InEach (IsRun n) h

@@ -4,7 +4,7 @@ use Rattle.std.specs.List.{All}
 use Rattle.tp_text.specs.declared.words.Operands.{Operands}
 use Rattle.tp_text.specs.declared.words.Operands.TheVariants as operands
 
--- A word holds no space and no line feed.
+-- A word has no space and no line feed.
 abbrev pub IsWordByte : ℕ → Type 0
 IsWordByte b = (b ≢ 32) × (b ≢ 10)
 
@@ -16,7 +16,7 @@ abbrev pub BeginsWithout : (ℕ → Type 0) → List ℕ → Type 0
 BeginsWithout P [] = Unit {0}
 BeginsWithout P (b ∷ text) = ¬ P b
 
--- The text is its front, which holds all the bytes of this kind up to the first of another, and then the rest.
+-- The text is a front and a rest: the front has only bytes of this kind, and the rest does not begin with one.
 abbrev pub Splits : (ℕ → Type 0) → List ℕ → List ℕ → List ℕ → Type 0
 Splits P text front rest = (text ≡ front ++ rest) × All P front × BeginsWithout P rest
 

@@ -1,3 +1,4 @@
+//! The account of a trace: the sums over its lines, and the lines that `audit` writes for them.
 ghost use Rattle.std.specs.Prelude.{◌≡◌, ◌≢◌, ◌<◌, ◌++◌, ◌∷◌, [], ℕ, List, length, codes, decimal, OnOk};
 ghost use Rattle.tp_base.specs.declared.Step.{Step};
 ghost use Rattle.tp_base.specs.declared.Step.TheVariants.{Judge};
@@ -13,19 +14,19 @@ use crate::version::Version;
 use std::alloc::AllocError;
 use tp_base::Step;
 
-/// What the lines of a trace add up to.
+/// The sums over the lines of a trace.
 #[derive(Clone, Copy)]
 pub(crate) struct Account {
     steps: u32,
-    // inserted, and done
+    // tasks inserted, and tasks done
     tasks: u32,
     done: u32,
-    // sent, and received
+    // messages sent, and messages received
     messages: u32,
     received: u32,
     // the number of the present generation
     generation: u32,
-    // the wave with which the pool was last judged to have ended in it
+    // W if the last judgement in it is `ended W`
     ended: Option<u32>,
 }
 
@@ -44,14 +45,14 @@ impl Account {
         }
     }
 
-    /// How many lines there were.
+    /// Returns the number of lines.
     pub(crate) fn lines(self) -> u32
         ensures { result ≡ self.steps }
     {
         self.steps
     }
 
-    /// One line more.
+    /// Returns the account with one more line.
     pub(crate) fn with(self, line: TraceLine) -> Account
         requires { (n : ℕ) × (past : List Step) × (self ≡ account n past) × (length past < MAX_STEPS) }
         ensures { (v : Version) (n : ℕ) (past : List Step) → self ≡ account n past → IsWritten v line → IsJustified n past line
@@ -67,7 +68,7 @@ impl Account {
         }
     }
 
-    /// One step more, which is no judgement.
+    /// Returns the account with one more step, which is no judgement.
     fn with_step(self, step: Step) -> Account
         requires { (n : ℕ) × (past : List Step) × (self ≡ account n past) × (length past < MAX_STEPS) }
         ensures { (n : ℕ) (past : List Step) → self ≡ account n past → step ≢ Judge → result ≡ account n (step ∷ past) }
@@ -93,7 +94,7 @@ impl Account {
                 received: self.received + 1,
                 ..more
             },
-            // what was judged was judged of the generation before, and all else is counted on
+            // The last judgement was about the generation before. All other counts continue.
             Step::Reopen => Account {
                 generation: self.generation + 1,
                 ended: None,
@@ -103,7 +104,7 @@ impl Account {
         }
     }
 
-    /// Writes it as four lines, or in version 2 as five.
+    /// Appends the account as four lines, or five in version 2. Refused if an allocation fails.
     pub(crate) fn push(&self, version: Version, out: &mut Vec<u8>) -> Result<(), AllocError>
         ensures { OnOk result (out.new.items ≡ out.old.items ++ summary version self.now) }
     {
@@ -122,7 +123,7 @@ impl Account {
     }
 }
 
-/// Writes the number of the generation, where the version has a line for it.
+/// Appends the line for the number of the generation, if the version has one.
 fn push_generation(version: Version, out: &mut Vec<u8>, number: u32) -> Result<(), AllocError>
     ensures { OnOk result (out.new.items ≡ out.old.items ++ generation_lines version number) }
 {
@@ -135,7 +136,7 @@ fn push_generation(version: Version, out: &mut Vec<u8>, number: u32) -> Result<(
     }
 }
 
-/// Writes with which wave the pool had ended.
+/// Appends the line `ended W` or `not ended`.
 fn push_end(out: &mut Vec<u8>, ended: Option<u32>) -> Result<(), AllocError>
     ensures { OnOk result (out.new.items ≡ out.old.items ++ line (end_words ended)) }
 {
@@ -148,7 +149,7 @@ fn push_end(out: &mut Vec<u8>, ended: Option<u32>) -> Result<(), AllocError>
     }
 }
 
-/// A line of two numbers, each behind its label.
+/// Appends a line of two numbers, each after its label.
 fn push_pair(
     out: &mut Vec<u8>,
     label: &[u8],

@@ -1,3 +1,4 @@
+//! The auditor, which takes the lines of a trace one by one with a core of its own. Parsing is not here.
 ghost use Rattle.std.specs.Prelude.{◌≡◌, ◌+◌, ◌≤◌, ◌++◌, ◌∷◌, [], ℕ, List, length, reverse, take, is_some, ◌↔◌, IfErr, IfOk, IsTrue, OnOk};
 ghost use Rattle.std.specs.Prelude.{MatchOption};
 ghost use Rattle.tp_base.specs.declared.limits.TheConstants.{MAX_NODES};
@@ -16,26 +17,26 @@ use std::alloc::{AllocError, Global};
 use tp_base::{Refusal, Step};
 use tp_core::{Core, Reply};
 
-/// What is wrong with a line.
+/// What is wrong with a line that matches the grammar.
 #[derive(Clone, Copy)]
 pub(crate) enum Flaw {
     /// Its step is refused.
     Refused(Refusal),
-    /// It is a judgement with other words.
+    /// It is a judgement line with a wrong claim.
     Unjustified,
 }
 
-/// Takes the lines of a trace in turn, with a core of its own, up to the first flaw.
+/// Takes the lines of a trace in order, with a core of its own, up to the first flaw.
 #[derive(Drop)]
 pub(crate) struct Auditor {
     core: Core,
     account: Account,
-    // the first line that is flawed
+    // the number and the flaw of the first flawed line
     flaw: Option<(u64, Flaw)>,
 }
 
 impl Auditor {
-    /// Nothing was taken yet over so many nodes, 1 to 8.
+    /// Returns an auditor of `nodes` nodes, 1 to 8, which has taken no line. It allocates nothing.
     pub(crate) fn new(alloc: Global, nodes: u32) -> Auditor
         requires { (1 ≤ nodes) × (nodes ≤ MAX_NODES) }
         ensures { Knows nodes [] result }
@@ -47,7 +48,8 @@ impl Auditor {
         }
     }
 
-    /// Takes the next line, which has this number.
+    /// Takes the next line, which has this number. After a flaw, nothing changes. Fails with `Memory` if an allocation
+    /// fails.
     pub(crate) fn take(&mut self, line: TraceLine, number: u64) -> Result<(), TextFault>
         requires { (n : ℕ) × (lines : List TraceLine) × Knows n lines self.old }
         ensures ok { (v : Version) (n : ℕ) (lines : List TraceLine) → Knows n lines self.old → IsWritten v line → number ≡ length lines + 3
@@ -69,19 +71,19 @@ impl Auditor {
         Ok(())
     }
 
-    /// Whether a line was flawed.
+    /// Returns whether a line was flawed.
     pub(crate) fn is_flawed(&self) -> bool
         ensures { result ≡ is_some self.now.flaw }
     {
         self.flaw.is_some()
     }
 
-    /// The steps of the lines before the first that is flawed, the oldest first.
+    /// Returns the steps of the lines before the first flawed one, oldest first. Refused if an allocation fails.
     pub(crate) fn steps(&self, alloc: Global) -> Result<Vec<Step>, AllocError>
         requires { self.now.account.steps ≤ length self.now.core.steps }
         ensures { IfOk result (λ steps. steps.items ≡ take self.now.account.steps (reverse self.now.core.steps)) }
     {
-        // the core has accepted a judgement with other words too
+        // The core has also accepted the step of a judgement line with a wrong claim.
         let sound = self.account.lines() as usize;
         let taken = self.core.steps();
         let mut steps = Vec::new(alloc);
@@ -89,7 +91,8 @@ impl Auditor {
         Ok(steps)
     }
 
-    /// The verdict and the answer: what the lines add up to, or the first that is flawed.
+    /// Returns the verdict and the reply: the account of the lines, or the line that reports the first flaw. Refused if
+    /// an allocation fails.
     pub(crate) fn answer(
         &self,
         version: Version,
@@ -113,7 +116,7 @@ impl Auditor {
     }
 }
 
-/// Whether a line tells what its step was answered.
+/// Returns whether a line claims nothing, or exactly what the core replied to its step.
 fn is_told(line: TraceLine, reply: Reply) -> bool
     ensures { IsTrue result ↔ IsTold line reply }
 {
@@ -124,7 +127,7 @@ fn is_told(line: TraceLine, reply: Reply) -> bool
     }
 }
 
-/// The line that tells the first line that is flawed.
+/// Appends the line that reports the first flaw.
 fn push_flaw(out: &mut Vec<u8>, number: u64, flaw: Flaw) -> Result<(), AllocError>
     ensures { OnOk result (out.new.items ≡ out.old.items ++ flaw_line number flaw) }
 {

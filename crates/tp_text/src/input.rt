@@ -1,3 +1,4 @@
+//! Reading a whole text, within limits of bytes and reads.
 ghost use Rattle.std.specs.Prelude.{◌≡◌, ◌+◌, ◌≤◌, ℕ, List, length, IfOk, IsErrOf};
 ghost use Rattle.std.specs.Io.KnownBytes.{Consumes, IsAtEnd};
 ghost use Rattle.tp_text.specs.Input.{ReadsAll};
@@ -6,20 +7,23 @@ use crate::fault::TextFault;
 use std::alloc::Global;
 use std::io::{ErrorKind, Read};
 
-/// How many bytes a text may have.
+/// The most bytes that a text may have.
 pub const MAX_TEXT: usize = 33_554_432;
 
-/// How many reads may be made for a text.
+/// The most reads for one text.
 pub const MAX_READS: u64 = 67_108_864;
 
-/// How many bytes are asked for at once. They lie on the stack.
+/// The most bytes of one read. They are on the stack.
 const PIECE: usize = 4_096;
 
-/// Reads all there is, in pieces. A read that was interrupted is tried again.
+/// Reads to the end, and returns the bytes. An interrupted read is tried again.
+///
+/// Fails with `Memory` if an allocation fails; `TooLong` if there are more than 33,554,432 bytes; `Read` if a read
+/// fails, or if 67,108,864 reads did not reach the end.
 pub(crate) fn read_text<R: Read>(alloc: Global, reader: &mut R) -> Result<Vec<u8>, TextFault>
     ensures whole { IfOk result (λ text. ReadsAll (R.remaining reader.old) (R.remaining reader.new) text.items) }
     ensures fits { IfOk result (λ text. length text.items ≤ MAX_TEXT) }
-    // It has read one byte more than a text may have.
+    // One byte more than the limit was read.
     ensures too_long { IsErrOf result TextFault.TooLong →
         (bytes : List ℕ) × Consumes (R.remaining reader.old) (R.remaining reader.new) bytes × (length bytes ≡ MAX_TEXT + 1) }
     ensures unwritten { IsErrOf result TextFault.Write → ⊥ }

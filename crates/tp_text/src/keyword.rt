@@ -1,8 +1,9 @@
+//! The keywords with which the lines of steps begin.
 ghost use Rattle.std.specs.Prelude.{◌≡◌, ◌≢◌, MatchOption};
 ghost use Rattle.tp_text.specs.Keywords.{keyword_text};
 ghost use Rattle.tp_text.specs.declared.keyword.Keyword.{Keyword};
 
-/// The word with which the line of a step begins.
+/// The first word of a step's line.
 #[derive(Clone, Copy)]
 pub(crate) enum Keyword {
     Insert,
@@ -23,7 +24,7 @@ pub(crate) enum Keyword {
     Reopen,
 }
 
-/// The keyword that a word is.
+/// Returns the keyword that a word spells, if it spells one.
 pub(crate) fn keyword_of(word: &[u8]) -> Option<Keyword>
     ensures { MatchOption result
         ((k : Keyword) → word.now ≢ keyword_text k)

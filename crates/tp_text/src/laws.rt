@@ -1,3 +1,4 @@
+//! Laws of scripts and traces: calls whose postcondition is a theorem.
 ghost use Rattle.tp_text.specs.AuditText.{AuditsAreDetermined};
 ghost use Rattle.tp_text.specs.Reading.{ReadingsAreDetermined};
 ghost use Rattle.tp_text.specs.Script.{ScriptsAreDetermined};
@@ -5,42 +6,43 @@ ghost use Rattle.tp_text.specs.SimText.{TextsAreDetermined};
 ghost use Rattle.tp_text.specs.Trace.{TracesAreDetermined};
 ghost use Rattle.tp_text.specs.TraceOf.{RunsOfOneGeneration, TracesAreReadBack};
 
-/// One script is spelled in one way, and one text spells one script.
+/// States that bytes are the script of at most one version, number of nodes and list of steps.
 #[tactic(auto, using(crate::proofs::Unique::scripts_determined))]
 pub fn scripts_are_determined()
     ensures { ScriptsAreDetermined }
 {}
 
-/// One verdict and one text are answered to some bytes.
+/// States that for given bytes at most one verdict and one text satisfy the contract of `sim`.
 #[tactic(auto, using(crate::proofs::Unique::texts_determined))]
 pub fn texts_are_determined()
     ensures { TextsAreDetermined }
 {}
 
-/// One trace is spelled in one way, and one text spells one trace.
+/// States that bytes are the trace of at most one version, number of nodes and list of lines.
 #[tactic(auto, using(crate::proofs::UniqueTraces::traces_determined))]
 pub fn traces_are_determined()
     ensures { TracesAreDetermined }
 {}
 
-/// One verdict and one text are answered to a trace, or to what is none.
+/// States that for given bytes at most one verdict and one text satisfy the contract of `audit`.
 #[tactic(auto, using(crate::proofs::UniqueAudits::audits_determined))]
 pub fn audits_are_determined()
     ensures { AuditsAreDetermined }
 {}
 
-/// One thing is read of some bytes.
+/// States that for given bytes all results that satisfy the contract of `read_trace` are the same.
 #[tactic(auto, using(crate::proofs::Readings::readings_determined))]
 pub fn readings_are_determined()
     ensures { ReadingsAreDetermined }
 {}
 
-/// Printing and reading meet: the trace of some steps is read as these steps and as what is judged of them.
+/// States that reading inverts printing: the trace of some steps is read as these steps, and each judgement in it is
+/// right.
 pub fn traces_are_read_back()
     ensures { TracesAreReadBack }
 {}
 
-/// What is asked of a history that is printed holds of each run of one generation.
+/// States that each run of one generation satisfies the precondition `run` of `print_trace`.
 #[tactic(auto, using(crate::proofs::Present::run_in_each))]
 pub fn runs_of_one_generation()
     ensures { RunsOfOneGeneration }

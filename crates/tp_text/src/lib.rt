@@ -1,4 +1,4 @@
-//! Scripts and traces of steps as text, and what is answered to them.
+//! Scripts and traces as text: parsing, printing, and the replies to them. The rules of their steps are not here.
 #![tactic(auto)]
 
 mod account;

@@ -1,9 +1,10 @@
+//! The number at the front of a text.
 ghost use Rattle.std.specs.Prelude.{◌≡◌, ◌≢◌, ◌<◌, ◌≤◌, ◌↔◌, ◌++◌, ℕ, List, length, slice_index, take, decimal, IsTrue, MatchOption};
 ghost use Rattle.std.specs.Str.Parse.{digits_value};
 ghost use Rattle.tp_text.specs.Spelling.{IsNumber};
 ghost use Rattle.tp_text.specs.Words.{IsDigit, BeginsWithout};
 
-/// How many digits stand at the front, and their value: of seven digits or more those of the first seven.
+/// Returns the number of digits at the front, at most seven, and their value. Digits after the seventh are not read.
 fn leading_digits(text: &[u8]) -> (usize, u32)
     ensures few { result.0 ≤ 7 }
     ensures within { result.0 ≤ length text.now }
@@ -21,7 +22,7 @@ fn leading_digits(text: &[u8]) -> (usize, u32)
     (len, value)
 }
 
-/// There are several digits, and the first is a zero.
+/// Returns whether there are several digits, and the first is a zero.
 fn is_padded(text: &[u8], len: usize) -> bool
     requires { len ≤ length text.now }
     ensures { IsTrue result ↔ ((1 < len) × (slice_index text.now 0 ≡ 48)) }
@@ -29,8 +30,8 @@ fn is_padded(text: &[u8], len: usize) -> bool
     len > 1 && text[0] == b'0'
 }
 
-/// The number at the front, one to six digits with no leading zero, and what stands behind the last of them. They are walked
-/// through once.
+/// Returns the number at the front, one to six digits without a leading zero, and the text after its last digit. `None`
+/// if there is no such number.
 pub(crate) fn leading_number(text: &[u8]) -> Option<(u32, &[u8])>
     ensures { MatchOption result
         ((k : ℕ) (rest : List ℕ) → IsNumber k → BeginsWithout IsDigit rest → text.now ≢ decimal k ++ rest)

@@ -1,3 +1,4 @@
+//! The parser of scripts and traces, line by line.
 ghost use Rattle.std.specs.Prelude.{◌≡◌, ◌≢◌, ◌≤◌, ◌++◌, ◌∷◌, [], ℕ, List, codes, Option, MatchOption};
 ghost use Rattle.tp_base.specs.declared.Step.{Step};
 ghost use Rattle.tp_text.specs.declared.keyword.Keyword.{Keyword};
@@ -15,7 +16,7 @@ use crate::version::Version;
 use crate::words::{Operands, first_word, operands_of};
 use tp_base::{ActionId, Generation, Inputs, MAX_NODES, MessageId, NodeId, Step, TaskId};
 
-/// The step of a keyword and its numbers.
+/// Returns the step that a keyword and its numbers spell, if they spell one.
 fn step_named(version: Version, keyword: Keyword, operands: Operands) -> Option<Step>
     ensures { MatchOption result
         (NamesNone version keyword (numbers_in operands))
@@ -45,7 +46,7 @@ fn step_named(version: Version, keyword: Keyword, operands: Operands) -> Option<
     })
 }
 
-// A message of version 1 is of the first generation; in version 2 the number of its generation stands behind the others.
+// A message of version 1 is of the first generation. In version 2 the last number of its line is its generation.
 
 fn send_named(version: Version, operands: Operands) -> Option<Step>
     ensures { MatchOption result
@@ -95,7 +96,7 @@ fn end_named(version: Version, operands: Operands) -> Option<Step>
     }
 }
 
-/// In version 1 no pool is reopened.
+/// Returns the reopening, which only version 2 has.
 fn reopen_named(version: Version, operands: Operands) -> Option<Step>
     ensures { MatchOption result
         (NamesNone version Keyword.Reopen (numbers_in operands))
@@ -107,7 +108,7 @@ fn reopen_named(version: Version, operands: Operands) -> Option<Step>
     }
 }
 
-/// The number of nodes, where there is this number alone.
+/// Returns the number of nodes, if it is the only number and is from 1 to 8.
 fn node_count(operands: Operands) -> Option<u32>
     ensures { MatchOption result
         ((n : ℕ) → IsNodeCount n → numbers_in operands ≢ n ∷ [])
@@ -119,7 +120,7 @@ fn node_count(operands: Operands) -> Option<u32>
     }
 }
 
-/// The version of a script, and what stands behind the line that tells it.
+/// Returns the version of a script, and the text after the line `script 2`, with which version 2 begins.
 pub(crate) fn script_head(text: &[u8]) -> (Version, &[u8])
     ensures text { text.now ≡ version_lines result.0 ++ result.1.now }
     ensures two { BeginsWithVersion text.now → result.0 ≡ Version.Two }
@@ -130,7 +131,7 @@ pub(crate) fn script_head(text: &[u8]) -> (Version, &[u8])
     }
 }
 
-/// The number of nodes in the first line, and what stands behind that line.
+/// Parses the line for the number of nodes, and returns that number and the text after the line.
 pub(crate) fn first_line(text: &[u8]) -> Option<(u32, &[u8])>
     ensures { MatchOption result
         (¬ BeginsWithNodes text.now)
@@ -144,7 +145,7 @@ pub(crate) fn first_line(text: &[u8]) -> Option<(u32, &[u8])>
     Some((node_count(operands)?, rest))
 }
 
-/// The step of a keyword, whose numbers stand at the front, and what stands behind its line.
+/// Parses the numbers after a keyword, and returns the step and the text after its line.
 fn step_behind(version: Version, keyword: Keyword, text: &[u8]) -> Option<(Step, &[u8])>
     ensures { MatchOption result
         ((s : Step) (rest : List ℕ) → IsSpelled version s → word_of s ≡ keyword_text keyword
@@ -156,7 +157,7 @@ fn step_behind(version: Version, keyword: Keyword, text: &[u8]) -> Option<(Step,
     Some((step_named(version, keyword, operands)?, rest))
 }
 
-/// The step of the first line, and what stands behind that line.
+/// Parses the line of a step, and returns the step and the text after the line.
 pub(crate) fn next_step(version: Version, text: &[u8]) -> Option<(Step, &[u8])>
     ensures { MatchOption result
         (¬ BeginsWithStep version text.now)
@@ -166,7 +167,7 @@ pub(crate) fn next_step(version: Version, text: &[u8]) -> Option<(Step, &[u8])>
     step_behind(version, keyword_of(word)?, text)
 }
 
-/// The version of a trace, and what stands behind the line for its format.
+/// Parses the format line of a trace, and returns its version and the text after the line.
 pub(crate) fn behind_format(text: &[u8]) -> Option<(Version, &[u8])>
     ensures { MatchOption result
         (¬ BeginsWithFormat text.now)
@@ -178,7 +179,7 @@ pub(crate) fn behind_format(text: &[u8]) -> Option<(Version, &[u8])>
     Some((Version::Two, text.strip_prefix(b"trace 2\n")?))
 }
 
-/// A judge's words, to the end of the line, and what stands behind that line.
+/// Parses the claim of a judgement line, and returns it and the text after the line.
 fn judge_words(text: &[u8]) -> Option<(Option<u32>, &[u8])>
     ensures { MatchOption result
         ((o : Option ℕ) (rest : List ℕ) → AreWords o → text.now ≢ words o ++ 10 ∷ rest)
@@ -191,7 +192,7 @@ fn judge_words(text: &[u8]) -> Option<(Option<u32>, &[u8])>
     Some((Some(wave_number(operands)?), rest))
 }
 
-/// The number of a wave, where there is this number alone. Waves are counted from 1.
+/// Returns the number of a wave, if it is the only number. Waves are counted from 1.
 fn wave_number(operands: Operands) -> Option<u32>
     ensures { MatchOption result
         ((w : ℕ) → 1 ≤ w → numbers_in operands ≢ w ∷ [])
@@ -203,7 +204,7 @@ fn wave_number(operands: Operands) -> Option<u32>
     }
 }
 
-/// The first line of those for the steps of a trace, and what stands behind it.
+/// Parses the first line after the head of a trace, and returns it and the text after it.
 pub(crate) fn next_line(version: Version, text: &[u8]) -> Option<(TraceLine, &[u8])>
     ensures { MatchOption result
         (¬ BeginsWithLine version text.now)

@@ -1,3 +1,4 @@
+//! The lines of a reply: for a step, for the closing numbers, and for a syntax error.
 ghost use Rattle.std.specs.Prelude.{◌≡◌, ◌++◌, ◌+◌, ◌^◌, ◌<◌, ◌≤◌, ℕ, length, decimal, codes, if◌then◌else◌, OnOk, IfOk, Err};
 ghost use Rattle.tp_base.specs.declared.limits.TheConstants.{MAX_NODES};
 ghost use Rattle.tp_base.specs.Totals.{total};
@@ -10,7 +11,7 @@ use std::alloc::{AllocError, Global};
 use tp_base::Refusal;
 use tp_core::{Core, NodeNumbers, Reply};
 
-/// A label and a number.
+/// Appends a label and a number.
 pub(crate) fn push_count(out: &mut Vec<u8>, label: &[u8], number: u64) -> Result<(), AllocError>
     ensures { OnOk result (out.new.items ≡ out.old.items ++ (label.now ++ decimal number)) }
 {
@@ -18,7 +19,7 @@ pub(crate) fn push_count(out: &mut Vec<u8>, label: &[u8], number: u64) -> Result
     out.extend_from_slice(Buffer::new().format(number).as_bytes())
 }
 
-/// The answer to a step, as a line.
+/// Appends the line of the reply to a step.
 pub(crate) fn push_answer(
     out: &mut Vec<u8>,
     answer: Result<Reply, Refusal>,
@@ -46,7 +47,7 @@ pub(crate) fn push_answer(
     }
 }
 
-/// A refusal and the end of its line.
+/// Appends a refusal and the end of its line.
 pub(crate) fn push_refusal(out: &mut Vec<u8>, refusal: Refusal) -> Result<(), AllocError>
     ensures { OnOk result (out.new.items ≡ out.old.items ++ answer_line (Err refusal)) }
 {
@@ -56,7 +57,7 @@ pub(crate) fn push_refusal(out: &mut Vec<u8>, refusal: Refusal) -> Result<(), Al
     out.extend_from_slice(b"\n")
 }
 
-/// The counters of a node, or those of all nodes added up.
+/// The counters of a node, or their sums over all nodes.
 #[derive(Clone, Copy)]
 struct LineCounts {
     pending: u64,
@@ -127,7 +128,7 @@ fn push_nodes(out: &mut Vec<u8>, nodes: &[NodeNumbers]) -> Result<(), AllocError
     Ok(())
 }
 
-/// The counters of all these nodes, added up.
+/// Returns the sums of the counters over all these nodes.
 fn all_counts(nodes: &[NodeNumbers]) -> LineCounts
     requires { length nodes.now ≤ MAX_NODES }
     ensures pending { result.pending ≡ total (length nodes.now) (λ i. (listed nodes.now i).pending) }
@@ -170,7 +171,7 @@ fn push_quiet(out: &mut Vec<u8>, quiet: bool) -> Result<(), AllocError>
     }
 }
 
-/// The closing lines, from the numbers of a core over so many nodes.
+/// Appends the closing lines, from the numbers of a core of `nodes` nodes.
 pub(crate) fn push_closing(out: &mut Vec<u8>, core: &Core, nodes: u32) -> Result<(), AllocError>
     requires { (nodes ≡ core.now.nodes) × (nodes ≤ MAX_NODES) }
     ensures { OnOk result (out.new.items ≡ out.old.items ++ closing core.now) }
@@ -183,7 +184,7 @@ pub(crate) fn push_closing(out: &mut Vec<u8>, core: &Core, nodes: u32) -> Result
     Ok(())
 }
 
-/// The line that tells the first line that is not of the grammar.
+/// Returns the line that reports the first line that does not match the grammar. Refused if an allocation fails.
 pub(crate) fn syntax_line(alloc: Global, number: u64) -> Result<Vec<u8>, AllocError>
     ensures { IfOk result (λ out. out.items ≡ line (codes "syntax line " ++ decimal number)) }
 {

@@ -1,3 +1,4 @@
+//! Reading a trace: the steps of a sound one, or those before the first faulty line.
 ghost use Rattle.std.specs.Prelude.{◌≡◌, ◌+◌, ◌≤◌, ℕ, List, length, IfErr, IfOk, IsErrOf};
 ghost use Rattle.std.specs.Io.KnownBytes.{Consumes};
 ghost use Rattle.tp_text.specs.Auditing.{Knows};
@@ -17,27 +18,27 @@ use std::alloc::{AllocError, Global};
 use std::io::Read;
 use tp_base::Step;
 
-/// The steps of a trace, or the first of them.
+/// The steps of a trace, or those before the first faulty line.
 #[derive(Drop)]
 pub struct Trace {
-    /// How many nodes its pool has, 1 to 8.
+    /// The number of nodes of its pool: 1 to 8.
     pub nodes: u32,
-    /// The steps, the oldest first.
+    /// The steps, oldest first.
     pub steps: Vec<Step>,
 }
 
 /// What was read of a trace.
 #[derive(Drop)]
 pub enum Reading {
-    /// It is sound.
+    /// It is sound: its number of nodes and its steps.
     Sound(Trace),
-    /// A line is at fault: the steps before the first that is, and the line with which `audit` refuses the trace.
+    /// A line is faulty: the steps before the first such line, and the line that `audit` writes.
     Flawed(Trace, Vec<u8>),
-    /// It is none, for its first lines are not those of a trace: the line with which `audit` refuses it.
+    /// The first two lines are not those of a trace: the line that `audit` writes.
     NoTrace(Vec<u8>),
 }
 
-/// What is read where all lines were taken.
+/// Returns what is read of a trace whose lines were all taken.
 fn taken_off(
     alloc: Global,
     version: Version,
@@ -59,7 +60,7 @@ fn taken_off(
     Ok(Reading::Sound(trace))
 }
 
-/// What is read of some bytes.
+/// Returns what is read of a text.
 fn reading_of(alloc: Global, text: &[u8]) -> Result<Reading, TextFault>
     ensures ok { IfOk result (IsReading text.now) }
     ensures runs { IfOk result HasRuns }
@@ -79,29 +80,32 @@ fn reading_of(alloc: Global, text: &[u8]) -> Result<Reading, TextFault>
     }
 }
 
-/// Reads a trace: all of the reader, and takes the steps of the trace in turn with a new core, as `audit` does, so that no line
-/// is believed. Of a sound trace it gives the number of nodes and the steps. Where a line is at fault, one that is refused, that
-/// is a judgement with other words or that is not of the grammar, it gives the steps before the first such line, and the line
-/// that `audit` writes. That names the first line that is not of the grammar, if there is one, though a line before it be refused.
-/// Where the first two lines are not those of a trace it gives what `audit` writes alone. It takes as much memory as the text, a
-/// core of its steps and the steps.
+/// Reads a trace to the end of the reader, and judges it as `audit` does: it believes no line, and takes the steps in
+/// order with a new core.
 ///
-/// It is refused as `Read` where a read fails, an interrupted one apart, which is tried again, and where 67,108,864 reads
-/// were made; as `TooLong` where there are more than 33,554,432 bytes; and as `Memory` where a growth of memory was refused.
+/// Returns `Sound` with the number of nodes and the steps if the trace is sound. Returns `Flawed` if a line is faulty:
+/// its step is refused, its judgement (`judge not` or `judge ended W`) is wrong, or it does not match the grammar. The
+/// result then has the steps before the first such line, and the line that `audit` writes. That line reports the first
+/// line that does not match the grammar, if there is one, even if the step of an earlier line is refused. Returns
+/// `NoTrace` with the line that `audit` writes if the first two lines are not those of a trace. Takes memory for the
+/// text, for a core with its steps, and for the returned steps.
+///
+/// Fails with `Read` if a read fails (an interrupted one is tried again), or if 67,108,864 reads did not reach the end;
+/// `TooLong` if there are more than 33,554,432 bytes; `Memory` if an allocation fails.
 pub fn read_trace<R: Read>(alloc: Global, reader: &mut R) -> Result<Reading, TextFault>
-    // All that there was was read, and this is what is read of it.
+    // The reader was read to its end, and this is what is read of the bytes.
     ensures ok { IfOk result (λ reading. (bytes : List ℕ)
         × ReadsAll (R.remaining reader.old) (R.remaining reader.new) bytes × (length bytes ≤ MAX_TEXT) × IsReading bytes reading) }
-    // The steps that are given are a run in each generation.
+    // The returned steps are a run in each generation.
     ensures runs { IfOk result HasRuns }
-    // The line that is told stands behind those of the steps; or a later one is told, which is not of the grammar.
+    // The reported line is the one after those of the steps, or a later one that does not match the grammar.
     ensures told { IfOk result TellsNextLine }
-    // In each generation that was followed by another the end was judged, nothing was left, and each task had run once.
+    // In each generation but the last, the end was judged, nothing was left, and each task had run once.
     ensures reopened { IfOk result (λ _. ReopenedIsOver) }
-    // One byte more than a text may have was read.
+    // One byte more than the limit was read.
     ensures too_long { IsErrOf result TextFault.TooLong → (bytes : List ℕ)
         × Consumes (R.remaining reader.old) (R.remaining reader.new) bytes × (length bytes ≡ MAX_TEXT + 1) }
-    // It writes nothing.
+    // It writes nothing, so no write fails.
     ensures unwritten { IsErrOf result TextFault.Write → ⊥ }
 {
     let text = read_text(alloc, reader)?;

@@ -1,3 +1,4 @@
+//! The audit of a trace: the account of a sound one, or the line that reports the first fault.
 ghost use Rattle.std.specs.Prelude.{◌≡◌, ◌≢◌, ◌+◌, ◌≤◌, ℕ, List, length, IfOk, IfErr, IsErrOf};
 ghost use Rattle.std.specs.Io.KnownBytes.{Consumes, Appends};
 ghost use Rattle.tp_text.specs.AuditText.{IsAuditText};
@@ -18,18 +19,20 @@ use crate::version::Version;
 use std::alloc::Global;
 use std::io::{Read, Write};
 
-/// The lines of a trace, taken one by one.
+/// The result of taking the lines of a trace one by one.
 #[derive(Drop)]
 pub(crate) enum Recounted {
-    /// The first lines are not those of a trace, as this line tells.
+    /// The first two lines are not those of a trace: the line that reports it.
     NoTrace(Vec<u8>),
-    /// Those before the first that is not of the grammar were taken, on so many nodes, and this line tells that one.
+    /// A line does not match the grammar: the number of nodes, the auditor that took the lines before the first such
+    /// line, and the line that reports it.
     Broken(u32, Auditor, Vec<u8>),
-    /// All were taken, on so many nodes.
+    /// All lines were taken: the version, the number of nodes, and the auditor that took them.
     Whole(Version, u32, Auditor),
 }
 
-/// Takes the lines of a trace, up to the first that is not of the grammar.
+/// Takes the lines of a trace, up to the first that does not match the grammar. Fails with `Memory` if an allocation
+/// fails.
 pub(crate) fn lines_taken(alloc: Global, text: &[u8]) -> Result<Recounted, TextFault>
     ensures ok { IfOk result (IsRecounted text.now) }
     ensures err { IfErr result (λ fault. fault ≡ TextFault.Memory) }
@@ -55,7 +58,8 @@ pub(crate) fn lines_taken(alloc: Global, text: &[u8]) -> Result<Recounted, TextF
     Ok(Recounted::Whole(version, nodes, auditor))
 }
 
-/// What the lines of a trace add up to, or the first of them that is at fault.
+/// Returns the verdict on a text and the reply: the account of a sound trace, or the line that reports the first fault.
+/// Fails with `Memory` if an allocation fails.
 fn audited(alloc: Global, text: &[u8]) -> Result<(Verdict, Vec<u8>), TextFault>
     ensures ok { IfOk result (λ answer. IsAuditText text.now answer.0 answer.1.items) }
     ensures err { IfErr result (λ fault. fault ≡ TextFault.Memory) }
@@ -67,20 +71,24 @@ fn audited(alloc: Global, text: &[u8]) -> Result<(Verdict, Vec<u8>), TextFault>
     }
 }
 
-/// Judges a trace: reads all of the reader, takes the steps of the trace in turn with a new core, and counts messages afresh,
-/// so that no line is believed. Written are either four lines, for a sound trace: how many steps there are, how many tasks
-/// were inserted and done, how many messages were sent and received, and with which wave the pool had ended; or one line, that
-/// of the first line that is not of the grammar, or else of the first that is refused or is a judgement with other words.
-/// Nothing is written before all of it is known. It takes as much memory as the text and a core of its steps.
+/// Judges a trace, and writes the reply. It reads to the end of the reader, takes the steps in order with a new core,
+/// and counts the messages anew, so it believes no line.
 ///
-/// A trace of version 1 begins with the line `trace 1`, and all its messages are of the first generation. One of version 2 begins
-/// with the line `trace 2`; there the number of its generation stands last in the line of a message, and `reopen` is a line. Of
-/// a sound one `generation G` is written before the last line, the number of the last generation. Steps, tasks and messages are
-/// counted through all generations; that the pool had ended is told of the last.
+/// Returns `Sound` if each line matches the grammar, no step is refused, and each line `judge not` or `judge ended W`
+/// has the right claim. Then it writes four lines: the number of steps; the numbers of tasks inserted and done; the
+/// numbers of messages sent and received; and the last judgement, `ended W` or `not ended`. Otherwise it returns
+/// `Refused` and writes one line, about the first line that does not match the grammar, or else the first whose step is
+/// refused or whose claim is wrong. It writes nothing before the whole reply is known. Takes memory for the text and
+/// for a core with its steps.
 ///
-/// It is refused as `Read` where a read fails, an interrupted one apart, which is tried again, and where 67,108,864 reads
-/// were made; as `TooLong` where there are more than 33,554,432 bytes; as `Memory` where a growth of memory was refused;
-/// and as `Write` where the writing fails.
+/// A trace of version 1 begins with the line `trace 1`, and all its messages are of the first generation. One of
+/// version 2 begins with the line `trace 2`: the last number in the line of a message is its generation, and `reopen`
+/// is a line. If it is sound, the line `generation G` is written before the last one, with the number of the last
+/// generation. Steps, tasks and messages are counted over all generations; the last line is about the last generation.
+///
+/// Fails with `Read` if a read fails (an interrupted one is tried again), or if 67,108,864 reads did not reach the end;
+/// `TooLong` if there are more than 33,554,432 bytes; `Memory` if an allocation fails; `Write` if the reply cannot be
+/// written.
 ///
 /// The judgement is that of the four counters: F. Mattern, "Algorithms for Distributed Termination Detection" (1987).
 pub fn audit<R: Read, W: Write>(
@@ -88,24 +96,24 @@ pub fn audit<R: Read, W: Write>(
     reader: &mut R,
     writer: &mut W,
 ) -> Result<Verdict, TextFault>
-    // All that there was was read, and what is answered to it was written, and nothing else.
+    // The reader was read to its end, and the reply to the bytes was written and nothing else.
     ensures ok { IfOk result (λ verdict. (bytes : List ℕ) × (text : List ℕ)
         × ReadsAll (R.remaining reader.old) (R.remaining reader.new) bytes × (length bytes ≤ MAX_TEXT)
         × IsAuditText bytes verdict text × Appends (W.contents writer.old) (W.contents writer.new) text) }
-    // Where a sound trace is answered `ended W`, nothing was left from the end of wave W on, and each task had run once by then,
-    // of the present generation;
+    // If the reply to a sound trace is `ended W`, nothing of the present generation was left from the end of wave W on,
+    // and each of its tasks had run once by then.
     ensures ended { IfOk result (λ _. EndedIsOver) }
-    // where it is answered `not ended`, none of its lines since the pool was last reopened says that it had ended.
+    // If the reply is `not ended`, no line since the last reopening claims that the pool had ended.
     ensures not_ended { IfOk result (λ _. NotEndedClaimsNoEnd) }
-    // In each generation that was followed by another the end was judged, nothing was left, and each task had run once.
+    // In each generation but the last, the end was judged, nothing was left, and each task had run once.
     ensures reopened { IfOk result (λ _. ReopenedIsOver) }
-    // Where the answer could not be written, it was made, from all that there was.
+    // If the reply could not be written, the reader was read to its end, and the reply to the bytes was computed.
     ensures made { IsErrOf result TextFault.Write → (verdict : Verdict) × (bytes : List ℕ) × (text : List ℕ)
         × ReadsAll (R.remaining reader.old) (R.remaining reader.new) bytes × IsAuditText bytes verdict text }
-    // One byte more than a text may have was read.
+    // One byte more than the limit was read.
     ensures too_long { IsErrOf result TextFault.TooLong → (bytes : List ℕ)
         × Consumes (R.remaining reader.old) (R.remaining reader.new) bytes × (length bytes ≡ MAX_TEXT + 1) }
-    // Where no answer was made, nothing was written.
+    // After any fault but `Write`, nothing was written.
     ensures unwritten { IfErr result (λ fault. fault ≢ TextFault.Write → writer.new ≡ writer.old) }
 {
     let text = read_text(alloc, reader)?;

@@ -1,3 +1,4 @@
+//! The replies to the steps of a script.
 ghost use Rattle.std.specs.Prelude.{◌≡◌, ◌≢◌, ◌+◌, ◌≤◌, ◌++◌, ℕ, List, length, codes, decimal, IfOk, OnOk, IfErr, IsErrOf};
 ghost use Rattle.std.specs.Io.KnownBytes.{Consumes, Appends};
 ghost use Rattle.tp_text.specs.Ended.{EndedIsNeverEarly};
@@ -17,7 +18,8 @@ use std::io::{Read, Write};
 use tp_base::Refusal;
 use tp_core::Core;
 
-/// The answers to the steps of a script and its closing lines, or the line of its first fault.
+/// Returns the verdict on a text and the reply: a line for each step of a script and the closing lines, or the line
+/// that reports the first fault. Fails with `Memory` if an allocation fails.
 fn answered(alloc: Global, text: &[u8]) -> Result<(Verdict, Vec<u8>), TextFault>
     ensures ok { IfOk result (λ answer. IsSimText text.now answer.0 answer.1.items) }
     ensures err { IfErr result (λ fault. fault ≡ TextFault.Memory) }
@@ -46,35 +48,37 @@ fn answered(alloc: Global, text: &[u8]) -> Result<(Verdict, Vec<u8>), TextFault>
     Ok((Verdict::Sound, out))
 }
 
-/// Answers to a script: reads all of the reader, takes the steps of the script in turn with a new core, and writes the
-/// answer to each and the closing lines; or, where the text is no script, the line of its first fault. Nothing is written
-/// before all of it is known.
+/// Replies to a script: reads to the end of the reader, takes the steps in order with a new core, and writes the reply
+/// to each step and the closing lines.
 ///
-/// A script of version 1 begins with the line for the number of nodes, and all its messages are of the first generation. One of
-/// version 2 begins with the line `script 2`; there the number of its generation stands last in the line of a message, and
-/// `reopen` is a line, whose answer is `generation G` where it is accepted.
+/// Returns `Sound` if the text is a script. Otherwise it returns `Refused`, and writes only the line that reports the
+/// first line that does not match the grammar. It writes nothing before the whole reply is known.
 ///
-/// It is refused as `Read` where a read fails, an interrupted one apart, which is tried again, and where 67,108,864 reads
-/// were made; as `TooLong` where there are more than 33,554,432 bytes; as `Memory` where a growth of memory was refused;
-/// and as `Write` where the writing fails.
+/// A script of version 1 begins with the line for the number of nodes, and all its messages are of the first
+/// generation. One of version 2 begins with the line `script 2`: the last number in the line of a message is its
+/// generation, and `reopen` is a line, to which the reply is `generation G` if the step is accepted.
+///
+/// Fails with `Read` if a read fails (an interrupted one is tried again), or if 67,108,864 reads did not reach the end;
+/// `TooLong` if there are more than 33,554,432 bytes; `Memory` if an allocation fails; `Write` if the reply cannot be
+/// written.
 pub fn sim<R: Read, W: Write>(
     alloc: Global,
     reader: &mut R,
     writer: &mut W,
 ) -> Result<Verdict, TextFault>
-    // All that there was was read, and what is answered to it was written, and nothing else.
+    // The reader was read to its end, and the reply to the bytes was written and nothing else.
     ensures ok { IfOk result (λ verdict. (bytes : List ℕ) × (text : List ℕ)
         × ReadsAll (R.remaining reader.old) (R.remaining reader.new) bytes × (length bytes ≤ MAX_TEXT)
         × IsSimText bytes verdict text × Appends (W.contents writer.old) (W.contents writer.new) text) }
-    // Where a line of the answer is `ended W`, nothing was left from the end of wave W on, until the pool was reopened.
+    // If a line of the reply is `ended W`, nothing was left from the end of wave W on, until the pool was reopened.
     ensures never_early { IfOk result (λ _. EndedIsNeverEarly) }
-    // Where the answer could not be written, it was made, from all that there was.
+    // If the reply could not be written, the reader was read to its end, and the reply to the bytes was computed.
     ensures made { IsErrOf result TextFault.Write → (verdict : Verdict) × (bytes : List ℕ) × (text : List ℕ)
         × ReadsAll (R.remaining reader.old) (R.remaining reader.new) bytes × IsSimText bytes verdict text }
-    // One byte more than a text may have was read.
+    // One byte more than the limit was read.
     ensures too_long { IsErrOf result TextFault.TooLong → (bytes : List ℕ)
         × Consumes (R.remaining reader.old) (R.remaining reader.new) bytes × (length bytes ≡ MAX_TEXT + 1) }
-    // Where no answer was made, nothing was written.
+    // After any fault but `Write`, nothing was written.
     ensures unwritten { IfErr result (λ fault. fault ≢ TextFault.Write → writer.new ≡ writer.old) }
 {
     let text = read_text(alloc, reader)?;

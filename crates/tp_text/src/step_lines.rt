@@ -1,3 +1,4 @@
+//! The printer of a trace's lines. Which lines a history has is not decided here.
 ghost use Rattle.std.specs.Prelude.{◌≡◌, ◌++◌, ◌↔◌, ◌∷◌, [], IsTrue, OnOk};
 ghost use Rattle.std.specs.List.{All};
 ghost use Rattle.tp_text.specs.Script.{step_line};
@@ -12,17 +13,18 @@ use crate::words::Operands;
 use std::alloc::AllocError;
 use tp_base::{Generation, MAX_INPUTS, MessageId, NodeId, Step};
 
-/// The generation of all that a text of version 1 tells: its lines have no place for the number.
+/// The generation of all messages of a text of version 1, whose lines have no place for the number.
 pub(crate) const FIRST: Generation = Generation(1);
 
-/// Whether a number has at most six digits.
+/// Returns whether a number has at most six digits.
 fn is_number(number: u32) -> bool
     ensures { IsTrue result ↔ IsNumber number }
 {
     number < 1_000_000
 }
 
-/// Whether a line has a place for the number of a generation, or needs none.
+/// Returns whether the line of a message can have this generation: in version 1 only the first, in version 2 one of at
+/// most six digits.
 fn has_generation(version: Version, generation: Generation) -> bool
     ensures { IsTrue result ↔ (All IsNumber (generation_number version generation) × TellsGeneration version generation) }
 {
@@ -32,7 +34,7 @@ fn has_generation(version: Version, generation: Generation) -> bool
     }
 }
 
-/// Whether the grammar has a line for a step.
+/// Returns whether the grammar has a line for a step.
 pub(crate) fn has_line(version: Version, step: Step) -> bool
     ensures { IsTrue result ↔ IsSpelled version step }
 {
@@ -64,7 +66,7 @@ pub(crate) fn has_line(version: Version, step: Step) -> bool
     }
 }
 
-/// Numbers, each behind a space.
+/// Appends numbers, each after a space.
 fn push_numbers(out: &mut Vec<u8>, numbers: Operands) -> Result<(), AllocError>
     ensures { OnOk result (out.new.items ≡ out.old.items ++ spaced (numbers_in numbers)) }
 {
@@ -89,7 +91,7 @@ fn push_numbers(out: &mut Vec<u8>, numbers: Operands) -> Result<(), AllocError>
     }
 }
 
-/// A line of a word and numbers.
+/// Appends a line of a word and numbers.
 fn push_words(out: &mut Vec<u8>, word: &[u8], numbers: Operands) -> Result<(), AllocError>
     ensures { OnOk result (out.new.items ≡ out.old.items ++ line (word.now ++ spaced (numbers_in numbers))) }
 {
@@ -98,7 +100,7 @@ fn push_words(out: &mut Vec<u8>, word: &[u8], numbers: Operands) -> Result<(), A
     out.extend_from_slice(b"\n")
 }
 
-/// The line for the format of a trace.
+/// Appends the format line of a trace.
 fn push_format(version: Version, out: &mut Vec<u8>) -> Result<(), AllocError>
     ensures { OnOk result (out.new.items ≡ out.old.items ++ format_line version) }
 {
@@ -108,7 +110,7 @@ fn push_format(version: Version, out: &mut Vec<u8>) -> Result<(), AllocError>
     }
 }
 
-/// The lines with which a trace begins: for the format, and for the number of nodes.
+/// Appends the first two lines of a trace: its format and the number of nodes.
 pub(crate) fn push_head(version: Version, out: &mut Vec<u8>, nodes: u32) -> Result<(), AllocError>
     ensures { OnOk result (out.new.items ≡ out.old.items ++ trace version nodes []) }
 {
@@ -116,7 +118,7 @@ pub(crate) fn push_head(version: Version, out: &mut Vec<u8>, nodes: u32) -> Resu
     push_words(out, b"nodes", Operands::One(nodes))
 }
 
-/// The numbers of a message that is sent.
+/// Returns the numbers in the line of a `send`.
 fn sent_numbers(
     version: Version,
     from: NodeId,
@@ -132,7 +134,7 @@ fn sent_numbers(
     }
 }
 
-/// The numbers of a message that is received, or whose work ends.
+/// Returns the numbers in the line of a `recv` or an `end`.
 fn taken_numbers(
     version: Version,
     node: NodeId,
@@ -147,7 +149,7 @@ fn taken_numbers(
     }
 }
 
-/// The line of a step.
+/// Appends the line of a step.
 fn push_step(version: Version, out: &mut Vec<u8>, step: Step) -> Result<(), AllocError>
     ensures { OnOk result (out.new.items ≡ out.old.items ++ step_line version step) }
 {
@@ -178,7 +180,7 @@ fn push_step(version: Version, out: &mut Vec<u8>, step: Step) -> Result<(), Allo
     }
 }
 
-/// A line of a trace.
+/// Appends a line of a trace.
 pub(crate) fn push_line(
     version: Version,
     out: &mut Vec<u8>,

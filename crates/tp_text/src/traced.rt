@@ -1,19 +1,20 @@
+//! A line of a trace, as data.
 ghost use Rattle.std.specs.Prelude.{◌≡◌};
 ghost use Rattle.tp_text.specs.AuditText.{step_in};
 
 use tp_base::Step;
 
-/// A line of a trace.
+/// A line of a trace, after its first two.
 #[derive(Clone, Copy)]
 pub(crate) enum TraceLine {
     /// A step that is no judgement.
     Plain(Step),
-    /// A judgement: that the pool had ended with the wave of this number, or `None`.
+    /// A judgement line with its claim: `Some(w)` if the pool had ended when wave `w` ended, or `None` for `not`.
     Judged(Option<u32>),
 }
 
 impl TraceLine {
-    /// The step of the line.
+    /// Returns the step of the line.
     pub(crate) fn step(self) -> Step
         ensures { result ≡ step_in self }
     {

@@ -1,3 +1,4 @@
+//! The tracer, which finds the line of each step of a run. Printing is not here.
 ghost use Rattle.std.specs.Prelude.{◌≡◌, ◌≤◌, ◌∷◌, [], ℕ, List};
 ghost use Rattle.tp_base.specs.declared.limits.TheConstants.{MAX_NODES};
 ghost use Rattle.tp_base.specs.declared.Step.{Step};
@@ -10,22 +11,22 @@ use crate::traced::TraceLine;
 use tp_base::{MAX_NODES, NodeId, Step};
 use tp_wave::Wave;
 
-/// How many places an array has: one for each node that there may be.
+/// The length of an array with an entry for each node that a pool may have.
 const PLACES: usize = MAX_NODES as usize;
 
-/// Follows steps in turn and tells their lines: the waves go along, and messages are counted afresh. Where the pool is reopened it
-/// begins anew, so that no line is told by steps of an earlier generation.
+/// Follows the steps of a run in order, and returns the line of each: it makes the steps of the waves, and counts the
+/// messages anew. At a reopening it starts from the beginning, so no line depends on steps of an earlier generation.
 #[derive(Clone, Copy)]
 pub(crate) struct Tracer {
     nodes: u32,
     wave: Wave,
-    // how many messages each node has sent and received
+    // the numbers of messages that each node has sent and received
     sent: [u32; PLACES],
     received: [u32; PLACES],
 }
 
 impl Tracer {
-    /// Nothing was followed yet over so many nodes, 1 to 8.
+    /// Returns a tracer of `nodes` nodes, 1 to 8, which has followed no step.
     pub(crate) fn new(nodes: u32) -> Tracer
         requires { (1 ≤ nodes) × (nodes ≤ MAX_NODES) }
         ensures { HasFollowed nodes [] result }
@@ -38,7 +39,7 @@ impl Tracer {
         }
     }
 
-    /// Follows the next step, and tells its line.
+    /// Follows the next step, and returns its line.
     pub(crate) fn line(&mut self, step: Step) -> TraceLine
         requires { (n : ℕ) × (past : List Step) × HasFollowed n (present past) self.old × MayFollow n (present past) step }
         ensures told { (n : ℕ) (past : List Step) → HasFollowed n (present past) self.old → MayFollow n (present past) step
@@ -60,7 +61,7 @@ impl Tracer {
         TraceLine::Plain(step)
     }
 
-    // The waves refuse no step of a run.
+    // The wave refuses no step of a run.
 
     fn start(&mut self)
         requires { (n : ℕ) × (past : List Step) × HasFollowed n past self.old × MayFollow n past Step.Start }
@@ -95,7 +96,7 @@ impl Tracer {
         let _taken = self.wave.up(node);
     }
 
-    /// What is judged.
+    /// Judges the wave, and returns the judgement.
     fn judge(&mut self) -> Option<u32>
         requires { (n : ℕ) × (past : List Step) × HasFollowed n past self.old × MayFollow n past Step.Judge }
         ensures told { (n : ℕ) (past : List Step) → HasFollowed n past self.old → MayFollow n past Step.Judge → result ≡ judgement n past }

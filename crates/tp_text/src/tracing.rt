@@ -1,3 +1,4 @@
+//! Printing the trace of a history.
 ghost use Rattle.std.specs.Prelude.{◌≡◌, ◌≤◌, ◌↔◌, ◌⊎◌, length, IfErr, IfOk, IsTrue, MatchOption};
 ghost use Rattle.std.specs.List.{All};
 ghost use Rattle.tp_base.specs.declared.limits.TheConstants.{MAX_NODES, MAX_STEPS};
@@ -14,17 +15,19 @@ use crate::version::Version;
 use std::alloc::{AllocError, Global};
 use tp_base::{History, MAX_STEPS, Refusal, Step};
 
-/// The trace of a pool's history over so many nodes, 1 to 8: its steps, the oldest first, each judge's words being what was
-/// judged over the steps before in its generation. Messages are counted afresh. It takes memory for the text alone.
+/// Returns the trace of a pool's history on `nodes` nodes, 1 to 8: a line for each step, oldest first. Each judgement
+/// line claims the judgement over the steps before it in its generation, with messages counted anew. Only the text is
+/// allocated.
 ///
-/// The trace is of version 2 exactly where the pool was reopened; in one of version 1 no line has a place for the number of a
+/// The trace is of version 2 exactly if the pool was reopened. In version 1 no line has a place for the number of a
 /// generation.
 ///
-/// Refused: `BadSpec` where the history has more than 1,048,576 steps, a number of more than six digits, a task of more than
-/// 16 inputs, or, where the pool was not reopened, a message of another generation than the first; then `NoMemory`.
+/// Refused with `BadSpec` if the history has more than 1,048,576 steps, a number of more than six digits, a task of
+/// more than 16 inputs, or, if the pool was not reopened, a message of another generation than the first; and then with
+/// `NoMemory` if an allocation fails.
 pub fn print_trace(alloc: Global, history: &History, nodes: u32) -> Result<Vec<u8>, Refusal>
     requires nodes { (1 ≤ nodes) × (nodes ≤ MAX_NODES) }
-    // As of an outcome's history, or of a report's.
+    // The history of an outcome satisfies this, and so does that of a report.
     requires run { InEach (IsRun nodes) history.now.events }
     ensures ok { IfOk result (λ text. IsTraceOf nodes (steps_of history.now.events) text.items) }
     ensures can { IfOk result (λ text. CanBeTraced (steps_of history.now.events)) }
@@ -37,7 +40,8 @@ pub fn print_trace(alloc: Global, history: &History, nodes: u32) -> Result<Vec<u
     Ok(traced(alloc, history, nodes, version)?)
 }
 
-/// The version of a history's trace, where there are no more steps than a core takes and the grammar has a line for each.
+/// Returns the version of a history's trace. `None` if there are more steps than a core takes, or the grammar has no
+/// line for one of them.
 fn traced_version(history: &History) -> Option<Version>
     ensures { MatchOption result
         (¬ CanBeTraced (steps_of history.now.events))
@@ -46,7 +50,7 @@ fn traced_version(history: &History) -> Option<Version>
     if history.len() > MAX_STEPS as usize {
         return None;
     }
-    // a history of one generation is walked through once
+    // A history of one generation that can be traced is checked in one pass.
     if has_lines(Version::One, history) {
         return Some(Version::One);
     }
@@ -56,7 +60,7 @@ fn traced_version(history: &History) -> Option<Version>
     None
 }
 
-/// Whether the grammar has a line for each step.
+/// Returns whether the grammar has a line for each step.
 fn has_lines(version: Version, history: &History) -> bool
     ensures { IsTrue result ↔ All (IsSpelled version) (steps_of history.now.events) }
 {
@@ -71,7 +75,7 @@ fn has_lines(version: Version, history: &History) -> bool
     true
 }
 
-/// Whether the pool was reopened.
+/// Returns whether the pool was reopened.
 fn is_reopened(history: &History) -> bool
     ensures { result ≡ any is_reopen (steps_of history.now.events) }
 {
@@ -86,7 +90,7 @@ fn is_reopened(history: &History) -> bool
     false
 }
 
-/// The lines of a trace.
+/// Returns the trace of a history in a version. Refused if an allocation fails.
 fn traced(
     alloc: Global,
     history: &History,

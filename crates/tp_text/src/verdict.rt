@@ -1,8 +1,10 @@
-/// How a text was found.
+//! The verdict on a text.
+
+/// The verdict on a text.
 #[derive(Clone, Copy, Debug, PartialEq, Eq)]
 pub enum Verdict {
-    /// It is of the grammar, and of an audited text each line is as it should be.
+    /// It matches the grammar; and if it was audited, no step is refused and each judgement line is right.
     Sound,
-    /// It is not.
+    /// It is not sound.
     Refused,
 }

@@ -1,17 +1,18 @@
+//! The versions of the grammar.
 ghost use Rattle.std.specs.Prelude.{◌≡◌};
 ghost use Rattle.tp_text.specs.Script.{nodes_at};
 
-/// The version of the grammar of a text.
+/// The version of a text's grammar.
 #[derive(Clone, Copy)]
 pub(crate) enum Version {
-    /// It tells of the first generation alone.
+    /// It has only the first generation.
     One,
-    /// A message has the number of its generation, and a pool can be reopened.
+    /// The line of a message has the number of its generation, and a pool can be reopened.
     Two,
 }
 
 impl Version {
-    /// In which line of a script the number of nodes stands.
+    /// Returns which line of a script has the number of nodes, counted from 1.
     pub(crate) fn nodes_at(self) -> u64
         ensures { result ≡ nodes_at self }
     {

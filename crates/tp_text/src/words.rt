@@ -1,3 +1,4 @@
+//! The words and numbers at the front of a text.
 ghost use Rattle.std.specs.Prelude.{◌≡◌, ◌≢◌, ◌≤◌, ◌++◌, ◌∷◌, ℕ, List, length, decimal, MatchOption};
 ghost use Rattle.std.specs.List.{All};
 ghost use Rattle.tp_text.specs.Spelling.{IsNumber, spaced};
@@ -5,7 +6,7 @@ ghost use Rattle.tp_text.specs.Words.{IsWordByte, IsDigit, BeginsWithout, Splits
 
 use crate::number::leading_number;
 
-/// The numbers behind a word.
+/// The numbers after a word.
 #[derive(Clone, Copy)]
 pub(crate) enum Operands {
     None,
@@ -15,7 +16,7 @@ pub(crate) enum Operands {
     Four(u32, u32, u32, u32),
 }
 
-/// The word at the front, which ends at the first space or line feed, and what stands behind it.
+/// Splits a text into the word at its front, which ends at the first space or line feed, and the rest.
 pub(crate) fn first_word(text: &[u8]) -> (&[u8], &[u8])
     ensures { Splits IsWordByte text.now result.0.now result.1.now }
 {
@@ -23,7 +24,7 @@ pub(crate) fn first_word(text: &[u8]) -> (&[u8], &[u8])
     text.split_at(end.unwrap_or(text.len()))
 }
 
-/// What stands behind the line feed at the front.
+/// Returns the text after the line feed at the front, if there is one.
 fn behind_line(text: &[u8]) -> Option<&[u8]>
     ensures { MatchOption result
         ((rest : List ℕ) → text.now ≢ 10 ∷ rest)
@@ -35,7 +36,7 @@ fn behind_line(text: &[u8]) -> Option<&[u8]>
     }
 }
 
-/// The number behind the space at the front, and what stands behind it.
+/// Parses a space and a number at the front, and returns the number and the text after it.
 fn next_number(text: &[u8]) -> Option<(u32, &[u8])>
     ensures { MatchOption result
         ((k : ℕ) (rest : List ℕ) → IsNumber k → BeginsWithout IsDigit rest → text.now ≢ 32 ∷ (decimal k ++ rest))
@@ -48,7 +49,7 @@ fn next_number(text: &[u8]) -> Option<(u32, &[u8])>
     }
 }
 
-/// At most four numbers, each behind a space, to the end of the line, and what stands behind that line.
+/// Parses at most four numbers, each after a space, up to the end of the line, and returns them and the text after it.
 pub(crate) fn operands_of(text: &[u8]) -> Option<(Operands, &[u8])>
     ensures { MatchOption result
         ((ks : List ℕ) (rest : List ℕ) → All IsNumber ks → length ks ≤ 4 → text.now ≢ spaced ks ++ 10 ∷ rest)

@@ -1,4 +1,4 @@
--- The laws of the generations, carried over from those of one.
+-- The theorems about generations, carried over from those about one.
 use Rattle.std.proofs.Common.{◌≡◌, ℕ, suc, ◌+◌, ◌≤◌, true, false, cond, [], ◌∷◌, ◌++◌, length, refl, ap, inl, inr, arith, IsTrue, IsFalse}
 use Rattle.std.proofs.Props.{props}
 use Rattle.std.proofs.lemmas.Bool.{cases_Bool, both_ways}
@@ -19,7 +19,7 @@ use Rattle.tp_wave.proofs.Props.{IsNext-prop}
 use Rattle.tp_wave.proofs.Runs.{quiet_step}
 use Rattle.tp_wave.proofs.Judged.{judged_law, never_early_law}
 
--- what is present after one more event
+-- the present events after one more event
 pub present-reopened : (e : Event) (past : History) → IsTrue (is_reopen (step_of e)) → present_events (e ∷ past) ≡ []
 present-reopened e past r = rw r
 
@@ -43,7 +43,7 @@ length-present (e ∷ past) =
 pub present_law : PresentLaw
 present_law h = (steps-present h, length-present h)
 
--- What holds of all runs of one generation holds in each.
+-- What holds for all runs of one generation holds in each generation.
 pub runs_past : (n : ℕ) (later past : History) → AreRuns n (later ++ past) → AreRuns n past
 runs_past n [] past r = r
 runs_past n (e ∷ later) past r = runs_past n later past r.1
@@ -71,7 +71,7 @@ never_early_in_each n h r = in_each n (IsNeverEarly n) (never_early n) h r
 pub reopening_law : ReopeningLaw
 reopening_law n past e r reopens = judged_law n (present_events past) (present_run n past r.1) (r.0.reopens reopens).ended
 
--- a control step is lawful only where the end was not judged
+-- A control step is lawful only if the end was not judged.
 pub over_law : OverLaw
 over_law n past e r ended =
     elim (cases_Bool (is_reopen e.1)) [
@@ -103,7 +103,7 @@ many_ended (e ∷ past) =
 pub ended_generations_law : EndedGenerationsLaw
 ended_generations_law n h r = (ended_runs n h r, many_ended h)
 
--- ---- there are not many
+-- ---- the number of generations
 nothing_ended : (n : ℕ) (h : History) → h ≡ [] → IsTrue (is_ended n (steps_of h)) → ⊥
 nothing_ended n [] e t = cc
 nothing_ended n (x ∷ xs) e t = cc
@@ -127,7 +127,7 @@ few n (e ∷ d ∷ past) r =
 pub few_law : FewGenerationsLaw
 few_law n h r = omega (arith, few n h r)
 
--- Each is a fact that has one proof at most, so a type can keep it.
+-- Each is a proposition: it has at most one proof, so a type can keep it.
 IsOfGeneration-prop : (k : ℕ) (s : Step) → IsProp (IsOfGeneration k s)
 IsOfGeneration-prop k (Send i j m g) = hlevel props
 IsOfGeneration-prop k _ = hlevel props

@@ -1,4 +1,4 @@
--- What a wave's arrays tell of the step that is due.
+-- From the arrays of a `Wave`: a node may give if all nodes are reached and the sums of all higher ones were taken.
 use Rattle.std.proofs.Common.{◌≡◌, ℕ, ◌+◌, ◌*◌, ◌<◌, List, true, false, sym, ◌∙◌, arith, IsTrue}
 use Rattle.std.specs.Prelude.{slice_index_or}
 use Rattle.tp_base.specs.declared.NodeId.{NodeId}

@@ -1,4 +1,4 @@
--- From a quiet moment fewer than 9n events come, and while the end was not judged one can come.
+-- Once nothing is left, fewer than 9n events are lawful, and one is until the end was judged.
 use Rattle.std.proofs.Common.{◌≡◌, ◌≢◌, ℕ, zero, suc, ◌+◌, ◌-◌, ◌*◌, ◌<◌, ◌≤◌, Bool, true, false, cond, eqb, not, ◌||◌, List, [], ◌∷◌, ◌++◌}
 use Rattle.std.proofs.Common.{length, refl, sym, ap, ◌∙◌, ◌⊎◌, inl, inr, arith, IsTrue, IsFalse, is_some, length-append}
 use Rattle.std.proofs.lemmas.Bool.{cases_eq, cases_Bool, eq-eqb, ne_eqb, or_cases, or_parts, or_right, not-true, eqb-true, both_ways}
@@ -22,7 +22,7 @@ use Rattle.tp_wave.proofs.Given.{none_reached, waves-earlier}
 use Rattle.tp_wave.proofs.Runs.{quiet_step, quiet_law}
 use Rattle.tp_wave.proofs.Judged.{newest_settled}
 
--- ---- the places of a wave that a step marks: each node is reached and gives, the sums of each but the root are taken, and it is judged
+-- ---- the marks of a wave: each node reached, each that gave, each whose sums were taken, and the judgement
 abbrev one : Bool → ℕ
 one b = cond b 1 0
 
@@ -75,7 +75,7 @@ one-le : (b : Bool) → one b ≤ 1
 one-le true = omega arith
 one-le false = omega arith
 
--- ---- the root's sums are taken by nobody
+-- ---- the root's sums are never taken
 root_untaken : (n : ℕ) (steps : List Step) → AreLawfulWaves n steps → IsFalse (in_wave (is_up 0) steps)
 root_untaken n [] r = refl
 root_untaken n (Up j ∷ past) r = rw (ne_eqb j.0 0 (r.0 refl).1.1) (root_untaken n past r.1)
@@ -89,7 +89,7 @@ marks-le n steps p r =
     let c = total_to_but_one n (taken steps) p (rw (root_untaken n steps r)) (λ i l. one-le (in_wave (is_up i) steps)) in
     omega (arith, a, b, c, one-le (in_wave is_judge steps))
 
--- a visited node was reached
+-- A node that gave was reached.
 still_reached : (i : ℕ) (j : NodeId) (past : List Step) → IsTrue (is_reached i past) → IsTrue (is_reached i (Down j ∷ past))
 still_reached i j past h =
     elim (cases_eq i 0) [
@@ -108,7 +108,7 @@ visited_reached n i (Give j ∷ past) r e =
     ]
 visited_reached n i (s ∷ past) r e = visited_reached n i past r.1 e
 
--- A judged wave has all its marks.
+-- A judged wave has all 3n marks.
 marks-judged : (n : ℕ) (steps : List Step) → 0 < n → AreLawfulWaves n steps → IsTrue (in_wave is_judge steps) → marks n steps ≡ 3 * n
 marks-judged n steps p r j =
     let ended : IsTrue (has_ended steps) = judged_ended n steps r j in
@@ -155,7 +155,7 @@ marks-up n j past due =
 marks-judge : (n : ℕ) (past : List Step) → IsDue n past Judge → marks n (Judge ∷ past) ≡ marks n past + 1
 marks-judge n past due = rw due.1 (omega arith)
 
--- ---- the control steps of a list, counted by its waves: each but the newest has 3n
+-- ---- the control steps of a list, by waves: each wave but the newest has 3n
 abbrev laps : ℕ → ℕ → ℕ
 laps m zero = 0
 laps m (suc w) = laps m w + m
@@ -233,7 +233,7 @@ spent n (Up j ∷ past) p r e = rw (marks-up n j past (r.0 refl).1) (omega (arit
 spent n (Judge ∷ past) p r e = rw (marks-judge n past (r.0 refl).1) (omega (arith, spent n past p r.1 e))
 spent n (s ∷ past) p r e = spent n past p r.1 e
 
--- ---- a wave that was judged, and the end was not: its sums are not all equal to those before
+-- ---- if a wave was judged and the end was not, its four counters are not equal
 judged_unequal : (n : ℕ) (steps : List Step) → AreLawfulWaves n steps → IsFalse (is_ended n steps) → IsTrue (in_wave is_judge steps)
     → 2 ≤ waves steps
     → IsFalse (four_equal n steps)
@@ -249,7 +249,7 @@ judged_unequal n (Judge ∷ past) r e j l =
     ]
 judged_unequal n (s ∷ past) r e j l = judged_unequal n past r.1 e j l
 
--- ---- two waves started since a moment
+-- ---- two waves that were started since some step
 earlier_after : (later h : List Step) → waves h < waves (later ++ h) → (rest : List Step) × (earlier (later ++ h) ≡ rest ++ h)
 earlier_after [] h l = absurd (omega arith)
 earlier_after (s ∷ later) h l =
@@ -271,7 +271,7 @@ two_later later h l =
     let two : (rest : List Step) × (earlier (one.0 ++ h) ≡ rest ++ h) = earlier_after one.0 h (omega (arith, fewer)) in
     rw (one.1, two.1) (simp length-append (omega arith))
 
--- Where it was quiet, no third wave is started.
+-- Once it is quiet, a third wave cannot be started.
 no_third : (n : ℕ) (later h : History) → IsRun n (later ++ h) → IsQuietHistory n h → waves (steps_of h) + 2 ≤ waves (steps_of (later ++ h))
     → IsFalse (is_ended n (steps_of (later ++ h))) → IsTrue (in_wave is_judge (steps_of (later ++ h))) → ⊥
 no_third n later h r q l open' judged =
@@ -360,7 +360,7 @@ soon n later h p r q =
 pub soon_law : SoonLaw
 soon_law n later h p r q = (soon n later h p r q, few_waves n later h r q)
 
--- ---- while the end was not judged, a control step is due
+-- ---- if the end was not judged, a control step is lawful
 node_at : ℕ → NodeId
 node_at i = record { 0 = i }
 

@@ -1,5 +1,5 @@
--- Generations. A pool whose end was judged can be reopened: everything is then as at first, and the list of steps alone goes on.
--- So what is said of a pool is said of one generation: of the events since the newest reopening.
+-- Generations. A pool whose end was judged can be reopened: its state is then the initial one, and only the list of
+-- steps goes on. So each theorem about a pool is about one generation: the events since the newest reopening.
 use Rattle.std.specs.Prelude.{ℕ, ◌+◌, ◌≡◌, ◌≤◌, List, [], ◌∷◌, ◌++◌, length, Bool, IsTrue, IsFalse, Some, if◌then◌else◌}
 use Rattle.std.specs.List.{All}
 use Rattle.tp_base.specs.History.{Event}
@@ -10,7 +10,7 @@ use Rattle.tp_wave.specs.Sums.{judgement, is_ended, visited_at}
 use Rattle.tp_wave.specs.Machine.{History, node_beside, step_of, steps_of, IsNext, IsRun}
 use Rattle.tp_wave.specs.Cut.{IsQuietHistory}
 
--- what has happened since the newest thing that passes the test, or all
+-- the elements since the newest one that passes the test, or all if none does
 abbrev pub since : {A : Type 0} → (A → Bool) → List A → List A
 since test [] = []
 since test (newest ∷ past) = if test newest then [] else newest ∷ since test past
@@ -34,7 +34,7 @@ IsOfGeneration k (Recv j m g) = g.0 ≡ k
 IsOfGeneration k (MessageEnd j m g) = g.0 ≡ k
 IsOfGeneration k _ = Unit {0}
 
--- The pool may be reopened exactly where the end of its present generation was judged.
+-- The root may reopen the pool if and only if the end of the present generation was judged.
 pub record MayReopen (n : ℕ) (past : History) (e : Event) : Type 0 where
   pub beside : node_beside e ≡ 0
   pub ended : IsTrue (is_ended n (steps_of (present_events past)))
@@ -53,7 +53,7 @@ abbrev pub AreRuns : ℕ → History → Type 0
 AreRuns n [] = Unit {0}
 AreRuns n (e ∷ past) = MayCome n past e × AreRuns n past
 
--- At each moment of the history this holds of the generation that was then present.
+-- At each position of the history, P holds for the generation that was then present.
 abbrev pub InEach : (History → Type 0) → History → Type 0
 InEach P h = (later past : History) → h ≡ later ++ past → P (present_events past)
 
@@ -67,7 +67,8 @@ pub record IsEndedRun (n : ℕ) (h : History) : Type 0 where
   pub run : IsRun n h
   pub ended : IsTrue (is_ended n (steps_of h))
 
--- Each generation but the present one is a run whose end was judged; with the present one there are as many as its number says.
+-- Each generation but the present one is a run whose end was judged. The number of all, with the present one, is the
+-- number of the present one.
 abbrev pub EndedGenerationsLaw : Type 0
 EndedGenerationsLaw = (n : ℕ) (h : History) → AreRuns n h
     → All (IsEndedRun n) (ended_generations h) × (length (ended_generations h) + 1 ≡ generation (steps_of h))
@@ -76,31 +77,33 @@ EndedGenerationsLaw = (n : ℕ) (h : History) → AreRuns n h
 abbrev pub GenerationsLaw : Type 0
 GenerationsLaw = (n : ℕ) (h : History) → AreRuns n h → InEach (IsRun n) h
 
--- Where a judge's answer was that the pool had ended with wave w, nothing was left when wave w ended, nor at any moment since.
+-- If a judge step judged that the pool had ended with wave w, nothing was left when wave w ended, nor at any position
+-- since.
 abbrev pub IsNeverEarly : ℕ → History → Type 0
 IsNeverEarly n h =
     (w : ℕ) (later past : History) (e : Event) → h ≡ later ++ e ∷ past → IsTrue (is_judge (step_of e))
     → judgement n (steps_of past) ≡ Some w
     → (p : ℕ) → visited_at w 0 (steps_of past) ≤ p → IsQuietHistory n (before p h)
 
--- The detector is never early in any generation.
+-- In each generation, the detector never reports termination too early.
 abbrev pub NeverEarlyInEachLaw : Type 0
 NeverEarlyInEachLaw = (n : ℕ) (h : History) → AreRuns n h → InEach (IsNeverEarly n) h
 
--- Where the pool is reopened, nothing is left of the generation that ended.
+-- When the pool is reopened, nothing is left of the generation that ended.
 abbrev pub ReopeningLaw : Type 0
 ReopeningLaw =
     (n : ℕ) (past : History) (e : Event) → AreRuns n (e ∷ past) → IsTrue (is_reopen (step_of e)) → IsQuietHistory n (present_events past)
 
--- Once the end of a generation was judged, nothing comes but the reopening.
+-- Once the end of a generation was judged, the only lawful event is the reopening.
 abbrev pub OverLaw : Type 0
 OverLaw = (n : ℕ) (past : History) (e : Event) → AreRuns n (e ∷ past) → IsTrue (is_ended n (steps_of (present_events past)))
     → IsTrue (is_reopen (step_of e))
 
--- The steps of the present events are the present steps, and there are no more than of all.
+-- The steps of the present events are the present steps, and the present events are no more than all events.
 abbrev pub PresentLaw : Type 0
 PresentLaw = (h : History) → (steps_of (present_events h) ≡ present (steps_of h)) × (length (present_events h) ≤ length h)
 
--- A reopening never comes first and never directly behind another, so there are not many.
+-- A reopening is never the first event and never directly after another one, so at most half of the events are
+-- reopenings.
 abbrev pub FewGenerationsLaw : Type 0
 FewGenerationsLaw = (n : ℕ) (h : History) → AreRuns n h → generation (steps_of h) + generation (steps_of h) ≤ length h + 2

@@ -97,7 +97,7 @@ module _ {G : Type 0} where
       → IsRunQueue (run_queue new ws)
   run_queue_after ws old new b l each few = record { few = few; graph = of_graph ws old new b l each }
 
-  -- the works were added in order, and the list was turned round
+  -- the work was added in order, and the list was reversed
   pub run_queue_turned : (ws us : List (Begun G)) (old new : NodeState G) (b l : BoardState) → us ≡ reverse ws → BeginsEach ws old new b l
       → length ws ≤ 7 → IsRunQueue (run_queue new (reverse us))
   run_queue_turned ws us old new b l e each few =
@@ -109,7 +109,7 @@ module _ {G : Type 0} where
     graph = subst (λ g. All (λ (w : Begun G). w.graph ≡ g) ws) (sym same) is.graph;
   }
 
-  -- one work fewer waits
+  -- the next waiting work was removed, if there was one
   pub run_queue_fewer : (n : NodeState G) (o : Option (Begun G)) (all rest : List (Begun G)) → all ≡ option_to_list o ++ rest
       → IsRunQueue (run_queue n all) → IsRunQueue (run_queue n rest)
   run_queue_fewer n None all rest e is = subst (λ (ws : List (Begun G)). IsRunQueue (run_queue n ws)) e is
@@ -124,7 +124,7 @@ pub popped : {X : Type 0} (o : Option X) (all rest : List X) → all ≡ rest ++
 popped None all rest e = ap reverse (e ∙ append-nil rest)
 popped (Some x) all rest e = ap reverse e ∙ reverse-append rest (x ∷ [])
 
--- a list that was turned round in its place
+-- a list that was reversed in place
 pub turned : {X : Type 0} (n : ℕ) (xs ys : List X) → n ≡ length xs → ys ≡ reverse xs → take n (ys ++ drop (length ys) xs) ≡ reverse xs
 turned n xs ys e f =
     let long : n ≡ length ys = e ∙ sym (ap length f ∙ length-reverse xs) in

@@ -146,7 +146,7 @@ no_life-with (Some m) reopens newer past stages new answer is_no told on before 
           omega (arith, ap length none, length-append (newer m.0) (m.1 ∷ first_moments (stage stages m.0)))
     ]
 
--- No life goes on by a step that was refused.
+-- After a refused step no life can continue.
 pub no_life_on : (s : Step) (newer : ℕ → List ℕ) (past : List Step) (stages new : List ℕ) (answer : Bool) → IsFalse answer
     → Told s answer stages new → IsFalse (is_reopen s)
     → AreStages past stages → ((t : ℕ) → newer t ++ moments t (s ∷ past) ≡ life (length stages) t) → ⊥

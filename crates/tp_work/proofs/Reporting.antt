@@ -76,7 +76,8 @@ all_present (e ∷ past) none =
       | inr on ↦ present-goes_on e past on ∙ ap (λ (xs : History). e ∷ xs) (all_present past (rw on at none))
     ]
 
--- What is missing in a pool whose termination was detected and announced to each node, by whether each task was done once.
+-- What is missing in a pool whose termination was detected and announced to each node, by whether each task was done
+-- once.
 pub lack_by_made : {E : Type 0} (n tasks : ℕ) (r : Report) (made : Result Bool E) (answer : Option Refusal) → IsTrue r.ended
     → r.announced ≡ n
     → IfOk made (λ yes. IsTrue yes ↔ (HasEachOnce tasks r.results.items × LivesOnce tasks (steps_of r.history.events)))

@@ -129,7 +129,7 @@ followed-on past e stages new sent messages now answer on followed is_yes told s
       sent_now = rw (present-goes_on e past on) (counted ∙ ap (λ k. cond (is_send (step_of e)) (k + 1) k) followed.sent_now);
     }
 
--- ---- a step after which no life goes on
+-- ---- a step after which no life can continue
 -- Each task can still live once in the present generation, and did in each that ended.
 pub record IsAlive (n : ℕ) (h : History) : Type 0 where
   pub present : (t : ℕ) → (newer : List ℕ) × (newer ++ moments t (steps_of (present_events h)) ≡ life n t)

@@ -8,7 +8,8 @@ use Rattle.tp_wave.specs.Generations.{ended_generations, present_events}
 use Rattle.tp_wave.specs.Machine.{History, steps_of}
 use Rattle.tp_wave.specs.Steps.{any, count, is_reopen, is_send}
 
--- The stages of a life in order: a task is inserted (0), begins (1) and is done (2). A step is one of them for its task, or none.
+-- The stages of a life in order: a task is inserted (0), begins (1) and is done (2). A step is one of them for its
+-- task, or none.
 abbrev pub moment_of : Step → Option (ℕ × ℕ)
 moment_of (Insert i t k) = Some (t.0, 0)
 moment_of (Begin t) = Some (t.0, 1)
@@ -29,8 +30,8 @@ moments t (s ∷ past) = with_moment t (moment_of s) (moments t past)
 abbrev pub life : ℕ → ℕ → List ℕ
 life tasks t = if nat_lt t tasks then 2 ∷ 1 ∷ 0 ∷ [] else []
 
--- Each task below a number was inserted, then began, and then was done, each once; no other task ever was; and nothing was
--- reopened.
+-- Each task below a number was inserted, then began, and then was done, each once; no other task ever was; and nothing
+-- was reopened.
 pub record LivesOnce (tasks : ℕ) (steps : List Step) : Type 0 where
   pub each : (t : ℕ) → moments t steps ≡ life tasks t
   pub one_generation : IsFalse (any is_reopen steps)
@@ -60,8 +61,8 @@ stage stages t = slice_index_or stages t 0
 abbrev pub AreStages : List Step → List ℕ → Type 0
 AreStages steps stages = (t : ℕ) → moments t steps ≡ first_moments (stage stages t)
 
--- All events were followed: each task has had these first stages of its life in the present generation, and lived once in each
--- that ended. The messages of those are listed, oldest first, and separately those of the present one.
+-- All events were followed: each task has had these first stages of its life in the present generation, and lived once
+-- in each that ended. The messages of those are listed, oldest first, and separately those of the present one.
 pub record IsFollowed (h : History) (stages sent : List ℕ) (messages : ℕ) : Type 0 where
   pub present : AreStages (steps_of (present_events h)) stages
   pub ended : All (λ g. LivesOnce (length stages) (steps_of g)) (ended_generations h)

@@ -33,10 +33,10 @@ is_marked marks t = slice_index_or marks t false
 abbrev pub AreMarks : Results → List Bool → Type 0
 AreMarks results marks = (t : ℕ) → times t results ≡ (if is_marked marks t then 1 else 0)
 
--- The outcome of a run. Each task of the graph has a value and one result, which is that value if the graph keeps it, and else no
--- numbers; no other task has a result. The events are a run on n nodes whose termination was detected and announced to each node.
--- In it each task of the graph was inserted, began and was done once. The numbers of tasks done, results and messages agree with
--- it. This many workers at each node have returned.
+-- The outcome of a run. Each task of the graph has a value and one result, which is that value if the graph keeps it,
+-- and else no numbers; no other task has a result. The events are a run on n nodes whose termination was detected and
+-- announced to each node. In it each task of the graph was inserted, began and was done once. The numbers of tasks
+-- done, results and messages agree with it. This many workers at each node have returned.
 pub record IsOutcome (n workers : ℕ) (g : TaskGraph) (o : Outcome) : Type 0 where
   pub each_once : HasEachOnce g.tasks o.results.items
   pub right : AreResults g o.results.items
@@ -55,8 +55,8 @@ pub record IsComplete (n tasks : ℕ) (r : Report) : Type 0 where
   pub each_once : HasEachOnce tasks r.results.items
   pub lives : LivesOnce tasks (steps_of r.history.events)
 
--- Why a pool in which no fault was set has no outcome: it is not complete; or termination was detected and announced to each of n
--- nodes, and an allocation failed in the check that each task has one result and lived once.
+-- Why a pool in which no fault was set has no outcome: it is not complete; or termination was detected and announced to
+-- each of n nodes, and an allocation failed in the check that each task has one result and lived once.
 abbrev pub IsLack : ℕ → ℕ → Report → Refusal → Type 0
 IsLack n tasks r e =
     ((e ≡ Missing) × (IsComplete n tasks r → ⊥)) ⊎ ((e ≡ NoMemory) × IsTrue r.ended × (r.announced ≡ n))
@@ -65,7 +65,8 @@ IsLack n tasks r e =
 abbrev pub IsFull : ℕ → Type 0
 IsFull events = (events ≤ MAX_STEPS) × (MAX_STEPS ≤ events + 1)
 
--- The refusal for a fault, after this many events: `HistoryFull` has their number, and is returned only if the history is full.
+-- The refusal for a fault, after this many events: `HistoryFull` has their number, and is returned only if the history
+-- is full.
 abbrev pub IsAnswer : ℕ → Refusal → Refusal → Type 0
 IsAnswer events (HistoryFull k) e = ((e ≡ HistoryFull events) × IsFull events) ⊎ ((e ≡ Missing) × (IsFull events → ⊥))
 IsAnswer events fault e = e ≡ fault

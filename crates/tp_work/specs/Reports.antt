@@ -21,8 +21,8 @@ use Rattle.tp_work.specs.declared.gathered.Report.{Report}
 abbrev pub told_of_end : {G : Type 0} → List (NodeState G) → ℕ
 told_of_end nodes = count_by (λ n. n.state.ended) nodes
 
--- The report has the sums over the nodes and the links, each counted over its own state, the number of nodes to which termination
--- was announced, and the results of all nodes. Fault and events are the board's.
+-- The report has the sums over the nodes and the links, each counted over its own state, the number of nodes to which
+-- termination was announced, and the results of all nodes. Fault and events are the board's.
 pub record IsGathered {G : Type 0} (nodes : List (NodeState G)) (links : List (PoolLinkState G)) (board : BoardState) (r : Report) : Type 0
   where
     pub pending : r.pending ≡ sum_by (λ n. pending_here n.state) nodes
@@ -36,7 +36,8 @@ pub record IsGathered {G : Type 0} (nodes : List (NodeState G)) (links : List (P
     pub fault : r.fault ≡ board.fault
     pub history : r.history.events ≡ board.history
 
--- The events are runs on n nodes, and the report has the numbers of the present generation. If that ended, nothing is left.
+-- The events are runs on n nodes, and the report has the numbers of the present generation. If that ended, nothing is
+-- left.
 pub record IsOfItsRun (n : ℕ) (r : Report) : Type 0 where
   pub run : AreRuns n r.history.events
   pub few : length r.history.events ≤ MAX_STEPS
@@ -51,8 +52,9 @@ pub record IsOfItsRun (n : ℕ) (r : Report) : Type 0 where
 abbrev pub AreOfTheRun : {G : Type 0} → List (NodeState G) → Report → Type 0
 AreOfTheRun nodes r = All (λ n. pending_here n.state ≡ pending_at n.numbers.node (present_events r.history.events)) nodes
 
--- The report of a pool of n nodes, each at its place, that computes a graph: its numbers are those of the present generation,
--- messages sent minus messages received are in flight, and its results are what is left of values of the graph.
+-- The report of a pool of n nodes, each at its place, that computes a graph: its numbers are those of the present
+-- generation, messages sent minus messages received are in flight, and its results are what is left of values of the
+-- graph.
 pub record IsReport (n : ℕ) (g : TaskGraph) (r : Report) : Type 0 where
   pub of_run : IsOfItsRun n r
   pub balance : r.sent ≡ r.received + r.under
@@ -60,8 +62,8 @@ pub record IsReport (n : ℕ) (g : TaskGraph) (r : Report) : Type 0 where
   pub done : r.done ≡ vec_len r.results
   pub right : AreResults g r.results.items
 
--- The report of a pool with these nodes and this board: it has the number of nodes to which termination was announced, and the
--- board's fault and events.
+-- The report of a pool with these nodes and this board: it has the number of nodes to which termination was announced,
+-- and the board's fault and events.
 pub record IsReportOf (n : ℕ) (g : TaskGraph) {G : Type 0} (nodes : List (NodeState G)) (board : BoardState) (r : Report) : Type 0 where
   pub report : IsReport n g r
   pub announced : r.announced ≡ told_of_end nodes

@@ -22,9 +22,9 @@ use Rattle.tp_work.specs.declared.gathered.Report.{Report}
 use Rattle.tp_work.specs.declared.series.Round.{Round}
 use Rattle.tp_work.specs.declared.series.Series.{Series}
 
--- A round, compared with the events of its generation: termination was detected on n nodes, each task of the graph lived once,
--- has a value and has one result, which is what is left of that value, and no other task has any. The numbers of tasks done,
--- results and messages agree. This many workers at each node have returned.
+-- A round, compared with the events of its generation: termination was detected on n nodes, each task of the graph
+-- lived once, has a value and has one result, which is what is left of that value, and no other task has any. The
+-- numbers of tasks done, results and messages agree. This many workers at each node have returned.
 pub record IsRound (n workers : ℕ) (g : TaskGraph) (h : History) (r : Round) : Type 0 where
   pub ended : IsTrue (is_ended n (steps_of h))
   pub lives : LivesOnce g.tasks (steps_of h)
@@ -34,15 +34,16 @@ pub record IsRound (n workers : ℕ) (g : TaskGraph) (h : History) (r : Round) :
   pub messages : r.messages ≡ sent_in h
   pub answered : r.workers ≡ n * workers
 
--- There are this many rounds, and the history is runs on n nodes through as many generations: each generation, oldest first, has
--- its round.
+-- There are this many rounds, and the history consists of runs on n nodes through that number of generations: each
+-- generation, oldest first, has its round.
 pub record IsSeries (n workers : ℕ) (g : TaskGraph) (rounds : ℕ) (s : Series) : Type 0 where
   pub many : vec_len s.rounds ≡ rounds
   pub runs : AreRuns n s.history.events
   pub each : AllZip (IsRound n workers g) (reverse (generations s.history.events)) s.rounds.items
 
--- Termination of the present generation was detected and announced to each of n nodes, each task has one result, and each task
--- lived once in it; if it is the last of this many rounds, each task did so in every generation before it too.
+-- Termination of the present generation was detected and announced to each of n nodes, each task has one result, and
+-- each task lived once in it; if it is the last of this many rounds, each task did so in every generation before it
+-- too.
 pub record IsCompleteSoFar (n tasks rounds : ℕ) (r : Report) : Type 0 where
   pub ended : IsTrue r.ended
   pub announced : r.announced ≡ n
@@ -50,27 +51,28 @@ pub record IsCompleteSoFar (n tasks rounds : ℕ) (r : Report) : Type 0 where
   pub lives : LivesOnce tasks (steps_of (present_events r.history.events))
   pub earlier : length (generations r.history.events) ≡ rounds → LivesInEach tasks r.history.events
 
--- Termination of some generation was detected and announced to each of n nodes: of the present one, or it is not the first.
+-- Termination of some generation was detected and announced to each of n nodes: of the present one, or it is not the
+-- first.
 abbrev pub HasEnded : ℕ → Report → Type 0
 HasEnded n r = (IsTrue r.ended × (r.announced ≡ n)) ⊎ (1 < length (generations r.history.events))
 
--- A generation has ended, which was announced to each of n nodes, and another is wanted, for whose first event the history has no
--- place.
+-- A generation has ended, which was announced to each of n nodes, and another is wanted, for whose first event the
+-- history has no place.
 pub record IsAtLimit (n rounds : ℕ) (r : Report) : Type 0 where
   pub ended : IsTrue r.ended
   pub announced : r.announced ≡ n
   pub wanted : length (generations r.history.events) < rounds
   pub full : length r.history.events ≡ MAX_STEPS
 
--- Why a pool in which no fault was set has no series of this many rounds: it is not complete so far, an allocation failed in the
--- check of that or in the reopening, or its history was full at the reopening.
+-- Why a pool in which no fault was set has no series of this many rounds: it is not complete so far, an allocation
+-- failed in the check of that or in the reopening, or its history was full at the reopening.
 abbrev pub IsSeriesLack : ℕ → ℕ → ℕ → Report → Refusal → Type 0
 IsSeriesLack n tasks rounds r e =
     ((e ≡ Missing) × (IsCompleteSoFar n tasks rounds r → ⊥))
     ⊎ (((e ≡ NoMemory) × HasEnded n r) ⊎ ((e ≡ HistoryFull MAX_STEPS) × IsAtLimit n rounds r))
 
--- If there is a report and a fault was set, that is the refusal; `HistoryFull` is returned only if the history is full. The
--- report is of the present generation.
+-- If there is a report and a fault was set, that is the refusal; `HistoryFull` is returned only if the history is full.
+-- The report is of the present generation.
 abbrev pub IsSeriesFault : ℕ → TaskGraph → ℕ → Fault → Type 0
 IsSeriesFault n g rounds f =
     MatchOption
@@ -79,8 +81,8 @@ IsSeriesFault n g rounds f =
     (λ r. IsReport n g r
     × MatchOption r.fault (IsSeriesLack n g.tasks rounds r f.refusal) (λ e. IsAnswer (length r.history.events) e f.refusal))
 
--- A round before its number of messages is set: each task has one result, which is right, this many tasks were done, and this
--- many workers at each of n nodes have returned.
+-- A round before its number of messages is set: each task has one result, which is right, this many tasks were done,
+-- and this many workers at each of n nodes have returned.
 pub record IsKept (n workers : ℕ) (g : TaskGraph) (r : Round) : Type 0 where
   pub each_once : HasEachOnce g.tasks r.results.items
   pub right : AreResults g r.results.items
@@ -96,8 +98,8 @@ pub record AddsKept (n workers : ℕ) (g : TaskGraph) (old new : List Round) : T
 abbrev pub with_messages : ℕ → Round → Round
 with_messages sent r = record { results = r.results; tasks = r.tasks; messages = sent; workers = r.workers }
 
--- The fault of a pool with these nodes and this board, which stops for a refusal: the refusal and the pool's report; or there is
--- no report because an allocation failed.
+-- The fault of a pool with these nodes and this board, which stops for a refusal: the refusal and the pool's report; or
+-- there is no report because an allocation failed.
 abbrev pub IsTold : ℕ → TaskGraph → Refusal → {G : Type 0} → List (NodeState G) → BoardState → Fault → Type 0
 IsTold n g refusal nodes board f =
     MatchOption f.report (f.refusal ≡ NoMemory) (λ r. (f.refusal ≡ refusal) × IsReportOf n g nodes board r)

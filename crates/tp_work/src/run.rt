@@ -23,8 +23,8 @@ use tp_base::{MAX_STEPS, Refusal};
 use tp_board::{Blanks, Brand, Ledgers};
 use tp_graph::{Graph, Named, Only};
 
-/// Runs a pool that computes a graph, and returns its outcome: each task ran once, and each result is the value that the
-/// graph defines. `config` gives the nodes, and the threads at each. The call returns when all threads have ended.
+/// Runs a pool that computes a graph, and returns its outcome: each task ran once, and each result is the value that
+/// the graph defines. `config` gives the nodes, and the threads at each. The call returns when all threads have ended.
 ///
 /// Refused with `Stalled` if a gate returned `false` or a worker's idle turns ran out; `BodyFailed` if a task has no
 /// value; `HistoryFull` if the pool needs more than 1,048,576 events; `StoreFull` if more than 65,536 tasks are

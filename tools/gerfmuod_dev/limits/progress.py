@@ -202,5 +202,5 @@ def run(options):
         try_runs(tally, samples, folder)
         try_small_inputs(tally, samples, folder)
         try_steps_of_many_events(tally, samples, folder)
-        try_refused(tally, Case(samples, ["heat", b"\xff"], os.devnull), 1, b"the words are not UTF-8\n")
+        try_refused(tally, Case(samples, ["heat", b"\xff"], os.devnull), 1, b"the arguments are not UTF-8\n")
     return tally.end()

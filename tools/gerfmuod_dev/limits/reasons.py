@@ -19,15 +19,15 @@ from ..running import Result
 from . import progress
 
 BAD_SPEC = b"refused 26 BadSpec\n"
-FIELD = b" is no number of at most six digits without leading zeros\n"
+FIELD = b" is not a number of at most six digits without leading zeros\n"
 # specifications of no pool, and why they are none
 SPECIFICATIONS = [
-    (b"", b"its kind is none of product, wavefront and reduce\n"),
-    (b"prodct:4:2:0", b"its kind is none of product, wavefront and reduce\n"),
-    (b"Product:4:2:0", b"its kind is none of product, wavefront and reduce\n"),
-    (b"product", b"its form is product:ORDER:SIDE:SEED\n"),
-    (b"product:4:2", b"its form is product:ORDER:SIDE:SEED\n"),
-    (b"product:4:2:0:0", b"its form is product:ORDER:SIDE:SEED\n"),
+    (b"", b"the kind must be product, wavefront or reduce\n"),
+    (b"prodct:4:2:0", b"the kind must be product, wavefront or reduce\n"),
+    (b"Product:4:2:0", b"the kind must be product, wavefront or reduce\n"),
+    (b"product", b"the form must be product:ORDER:SIDE:SEED\n"),
+    (b"product:4:2", b"the form must be product:ORDER:SIDE:SEED\n"),
+    (b"product:4:2:0:0", b"the form must be product:ORDER:SIDE:SEED\n"),
     (b"product:4:3:0", b"SIDE 3 does not divide ORDER 4\n"),
     (b"product:2:4:0", b"SIDE 4 does not divide ORDER 2\n"),
     (b"product:0:1:0", b"ORDER 0 is not from 1 to 64\n"),
@@ -39,25 +39,25 @@ SPECIFICATIONS = [
     (b"product:4:+2:0", b"SIDE" + FIELD),
     (b"product:4:2:1000000", b"SEED" + FIELD),
     (b"product:4:2:999999", b"SEED 999999 is not from 0 to 9999\n"),
-    (b"wavefront:8:8", b"its form is wavefront:ROWS:COLUMNS:SEED\n"),
+    (b"wavefront:8:8", b"the form must be wavefront:ROWS:COLUMNS:SEED\n"),
     (b"wavefront:0:8:0", b"ROWS 0 is not from 1 to 64\n"),
     (b"wavefront:8:65:0", b"COLUMNS 65 is not from 1 to 64\n"),
     (b"wavefront:8:8:10000", b"SEED 10000 is not from 0 to 9999\n"),
-    (b"reduce:3:0", b"LEAVES 3 is no power of two from 1 to 1024\n"),
-    (b"reduce:2048:0", b"LEAVES 2048 is no power of two from 1 to 1024\n"),
-    (b"reduce:4", b"its form is reduce:LEAVES:SEED\n"),
-    (b"reduce:4:0:0", b"its form is reduce:LEAVES:SEED\n"),
+    (b"reduce:3:0", b"LEAVES 3 is not a power of two from 1 to 1024\n"),
+    (b"reduce:2048:0", b"LEAVES 2048 is not a power of two from 1 to 1024\n"),
+    (b"reduce:4", b"the form must be reduce:LEAVES:SEED\n"),
+    (b"reduce:4:0:0", b"the form must be reduce:LEAVES:SEED\n"),
     (b"reduce:4:-1", b"SEED" + FIELD),
 ]
 # specifications of several pools, the first line, and the reason
 SEVERAL = [
     (["reduce:4:0", "product:4:3:0"], BAD_SPEC, b"SPEC 2: SIDE 3 does not divide ORDER 4\n"),
-    (["x", "y"], BAD_SPEC, b"SPEC 1: its kind is none of product, wavefront and reduce\n"),
-    (["reduce:4:0", "reduce:8:0", "reduce:4:0"], b"refused 25 PoolKnown\n", b"SPEC 3 stands before\n"),
+    (["x", "y"], BAD_SPEC, b"SPEC 1: the kind must be product, wavefront or reduce\n"),
+    (["reduce:4:0", "reduce:8:0", "reduce:4:0"], b"refused 25 PoolKnown\n", b"SPEC 3 repeats an earlier one\n"),
     ([f"reduce:4:{seed}" for seed in range(9)], b"refused 23 StoreFull\n", b"more than 8 pools\n"),
     (["x"] * 9, b"refused 23 StoreFull\n", b"more than 8 pools\n"),
 ]
-NO_NUMBER = b" of at most six digits without leading zeros\n"
+NO_NUMBER = b"not a number of at most six digits without leading zeros\n"
 NO_NODES = b" is not `nodes N`, N from 1 to 8\n"
 # texts for `sim`, the first line that is not in the grammar, and the reason
 SCRIPTS = [
@@ -67,20 +67,20 @@ SCRIPTS = [
     (b"nodes 1", 1, b" has no end\n"),
     (b"script 2\n", 2, b" is missing\n"),
     (b"script 2\nready 0\n", 2, NO_NODES),
-    (b"nodes 1\nready 0\nsuply 1\n", 3, b": no step `suply`\n"),
-    (b"nodes 1\n\nready 0\n", 2, b": no step\n"),
-    (b"nodes 1\n\x1b[2J\n", 2, b": no step\n"),
-    (b"nodes 1\n" + b"x" * 33 + b"\n", 2, b": no step\n"),
+    (b"nodes 1\nready 0\nsuply 1\n", 3, b": unknown step `suply`\n"),
+    (b"nodes 1\n\nready 0\n", 2, b": not a step\n"),
+    (b"nodes 1\n\x1b[2J\n", 2, b": not a step\n"),
+    (b"nodes 1\n" + b"x" * 33 + b"\n", 2, b": not a step\n"),
     (b"nodes 1\nready 0", 2, b" has no end\n"),
-    (b"nodes 1\nreopen\n", 2, b": no step `reopen` in version 1\n"),
-    (b"nodes 1\nsupply x 1\n", 2, b": no number `x`" + NO_NUMBER),
-    (b"nodes 1\nready 00\n", 2, b": no number `00`" + NO_NUMBER),
-    (b"nodes 1\nready  0\n", 2, b": no number" + NO_NUMBER),
-    (b"nodes 1\nsupply 1000000\n", 2, b": no number `1000000`" + NO_NUMBER),
-    (b"nodes 1\nready \xd9\xa0\n", 2, b": no number" + NO_NUMBER),
-    (b"nodes 1\ninsert 0 1\n", 2, b": the step has 3 numbers, and not 2\n"),
-    (b"nodes 1\nstart 0\n", 2, b": the step has 0 numbers, and not 1\n"),
-    (b"script 2\nnodes 2\nsend 0 1 5\n", 3, b": the step has 4 numbers, and not 3\n"),
+    (b"nodes 1\nreopen\n", 2, b": version 1 has no step `reopen`\n"),
+    (b"nodes 1\nsupply x 1\n", 2, b": `x` is " + NO_NUMBER),
+    (b"nodes 1\nready 00\n", 2, b": `00` is " + NO_NUMBER),
+    (b"nodes 1\nready  0\n", 2, b": " + NO_NUMBER),
+    (b"nodes 1\nsupply 1000000\n", 2, b": `1000000` is " + NO_NUMBER),
+    (b"nodes 1\nready \xd9\xa0\n", 2, b": " + NO_NUMBER),
+    (b"nodes 1\ninsert 0 1\n", 2, b": wrong count of numbers: 2 instead of 3\n"),
+    (b"nodes 1\nstart 0\n", 2, b": wrong count of numbers: 1 instead of 0\n"),
+    (b"script 2\nnodes 2\nsend 0 1 5\n", 3, b": wrong count of numbers: 3 instead of 4\n"),
     (b"nodes 1\ninsert 0 1 17\n", 2, b": a task has at most 16 inputs\n"),
 ]
 # the same for `audit`
@@ -89,11 +89,11 @@ TRACES = [
     (b"trace 3\nnodes 1\n", 1, b" is neither `trace 1` nor `trace 2`\n"),
     (b"trace 1", 1, b" has no end\n"),
     (b"trace 1\nready 0\n", 2, NO_NODES),
-    (b"trace 1\nnodes 1\njudge\n", 3, b": behind `judge` stands `not` or `ended W`, W from 1 on\n"),
-    (b"trace 1\nnodes 1\njudge ended 0\n", 3, b": behind `judge` stands `not` or `ended W`, W from 1 on\n"),
+    (b"trace 1\nnodes 1\njudge\n", 3, b": after `judge` comes `not` or `ended W`, W at least 1\n"),
+    (b"trace 1\nnodes 1\njudge ended 0\n", 3, b": after `judge` comes `not` or `ended W`, W at least 1\n"),
     (b"trace 1\nnodes 1\njudge not", 3, b" has no end\n"),
-    (b"trace 2\nnodes 2\nrecv 1 5\n", 3, b": the step has 3 numbers, and not 2\n"),
-    (b"trace 1\nnodes 1\ndone 1\nsuply 1\n", 4, b": no step `suply`\n"),
+    (b"trace 2\nnodes 2\nrecv 1 5\n", 3, b": wrong count of numbers: 2 instead of 3\n"),
+    (b"trace 1\nnodes 1\ndone 1\nsuply 1\n", 4, b": unknown step `suply`\n"),
 ]
 # a run that takes over a second if it is stopped on its way
 LONG = ["run", "product:64:2:0", "--workers", "2", "--generations", "9"]

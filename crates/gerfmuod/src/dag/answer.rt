@@ -1,4 +1,4 @@
-//! What the calls on a pool return to C.
+//! The results that the calls on a pool of task graphs return to C.
 
 /// The result of a call on a pool.
 #[repr(C)]
@@ -8,14 +8,15 @@ pub struct DagAnswer {
     pub refused: u32,
     /// Of `next`: 1, run the task `number`; 2, wait; 3, stop. Of other calls 0.
     pub told: u32,
-    /// The task that was added or is to be run, or the wave that detected termination; if there is no room for more steps, how many there
-    /// are. Else 0.
+    /// The task that was added or is to be run, or the wave that detected termination; if there is no room for more
+    /// steps, the number of steps. Else 0.
     pub number: u32,
     /// The nodes at which a thread may find something new, as bits.
     pub news: u32,
 }
 
-/// A step that was taken: its kind, as in `gerfmuod.h`, and the numbers in it. The kind is 255 if there is no such step.
+/// A step that was taken: its kind, as in `gerfmuod.h`, and the numbers in it. The kind is 255 if there is no such
+/// step.
 #[repr(C)]
 #[derive(Clone, Copy, Debug, PartialEq, Eq)]
 pub struct DagStep {

@@ -1,4 +1,4 @@
-//! The calls on a pool, as C gets their results.
+//! The calls on a pool of task graphs, as C gets their results.
 ghost use Rattle.std.specs.Prelude.{◌≡◌, ◌≤◌, Option, Result, ℕ};
 ghost use Rattle.gerfmuod.specs.Dag.{can_be, opened, opening, IsTask, IsInput, IsStart, IsOutside, IsRelease, IsNext, IsDone, IsAgainCall, IsStep, IsClosed};
 ghost use Rattle.gerfmuod.specs.Dag.{limit_of, plain, refusal_answer, next_answer, step_answer};

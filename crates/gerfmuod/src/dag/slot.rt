@@ -1,4 +1,4 @@
-//! What is in the memory of a `gerfmuod_dag`: a pool, and a mark that says it is open.
+//! The content of a `gerfmuod_dag`: a pool, and a mark that says whether it is open.
 ghost use Rattle.std.specs.Prelude.{◌≡◌, ◌≤◌, Bool};
 ghost use Rattle.tp_base.specs.declared.limits.TheConstants.{MAX_NODES};
 ghost use Rattle.gerfmuod.specs.Dag.{closed, empty};
@@ -7,17 +7,17 @@ use std::alloc::Global;
 use std::marker::Model;
 use tp_dag::Pool;
 
-/// What an open pool has in `mark`: `gerf_dag` in ASCII.
+/// The value of `mark` in an open pool: `gerf_dag` in ASCII.
 const MARK: u64 = 0x6765_7266_5f64_6167;
 
-/// How many bytes the header gives to a pool.
+/// The size in bytes of a `gerfmuod_dag` in the header.
 const ROOM: usize = 1_536;
 
 const _: () = prove!(size_of::<PoolSlot>() <= ROOM);
 
 const _: () = prove!(align_of::<PoolSlot>() <= 8);
 
-/// Compiles only for what may go from thread to thread, as a program in C may hand on its pool.
+/// Compiles only for a type that can be sent to another thread: a program in C may use its pool from any thread.
 fn can_be_sent<T: Send>() {}
 
 #[derive(Drop)]
@@ -38,7 +38,7 @@ impl Model for PoolSlot {
 }
 
 impl PoolSlot {
-    /// A pool of the nodes 0 to `nodes` - 1, which is open or not. It takes no memory.
+    /// Returns a pool of the nodes 0 to `nodes` - 1, which is open or not. It allocates nothing.
     pub(crate) fn new(alloc: Global, nodes: u32, is_open: bool) -> PoolSlot
         requires { (1 ≤ nodes) × (nodes ≤ MAX_NODES) }
         ensures { result ≡ record { is_open = is_open; pool = empty nodes } }
@@ -57,7 +57,7 @@ impl PoolSlot {
         self.mark == MARK
     }
 
-    /// Drops the pool.
+    /// Drops the pool, and marks it as not open.
     pub(crate) fn close(&mut self)
         ensures { self.new ≡ closed }
     {

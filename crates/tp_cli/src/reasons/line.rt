@@ -92,10 +92,10 @@ fn explain_step<E: Diagnostics>(
     };
     match word {
         b"reopen" if !is_second => err.tell(format_args!(
-            "line {line}: no step `reopen` in version 1\n"
+            "line {line}: version 1 has no step `reopen`\n"
         )),
         b"judge" if kind == TextKind::Trace => err.tell(format_args!(
-            "line {line}: behind `judge` stands `not` or `ended W`, W from 1 on\n"
+            "line {line}: after `judge` comes `not` or `ended W`, W at least 1\n"
         )),
         _ => explain_numbers(line, word, rest, due, err),
     }
@@ -120,8 +120,8 @@ fn explain_unknown<E: Diagnostics>(line: u32, word: &[u8], err: &mut E)
     ensures { MayExplain E.tells err.old err.new }
 {
     match shown(word) {
-        Some(word) => err.tell(format_args!("line {line}: no step `{word}`\n")),
-        None => err.tell(format_args!("line {line}: no step\n")),
+        Some(word) => err.tell(format_args!("line {line}: unknown step `{word}`\n")),
+        None => err.tell(format_args!("line {line}: not a step\n")),
     }
 }
 
@@ -140,13 +140,15 @@ fn explain_numbers<E: Diagnostics>(
         Err(other) => return explain_other(line, other, err),
     };
     if count != due {
-        return err.tell(format_args!("line {line}: the step has {due} numbers, and not {count}\n"));
+        return err.tell(format_args!(
+            "line {line}: wrong count of numbers: {count} instead of {due}\n"
+        ));
     }
     match word {
         b"insert" if last > u32::from(MAX_INPUTS) => {
             err.tell(format_args!("line {line}: a task has at most 16 inputs\n"))
         }
-        _ => err.tell(format_args!("line {line} is not of the grammar\n")),
+        _ => err.tell(format_args!("line {line} does not match the grammar\n")),
     }
 }
 
@@ -156,10 +158,10 @@ fn explain_other<E: Diagnostics>(line: u32, word: &[u8], err: &mut E)
 {
     match shown(word) {
         Some(word) => err.tell(format_args!(
-            "line {line}: no number `{word}` of at most six digits without leading zeros\n"
+            "line {line}: `{word}` is not a number of at most six digits without leading zeros\n"
         )),
         None => err.tell(format_args!(
-            "line {line}: no number of at most six digits without leading zeros\n"
+            "line {line}: not a number of at most six digits without leading zeros\n"
         )),
     }
 }

@@ -34,7 +34,7 @@ enum WordReason {
     UnknownKind,
     /// It has more or fewer numbers than its kind, whose specifications have this form.
     Form(&'static str),
-    /// This is the first of its numbers that is wrong: it is no number of at most six digits without leading zeros.
+    /// This is the first of its numbers that is wrong: it is not a number of at most six digits without leading zeros.
     NoNumber(Field),
     /// This is the first of its numbers that is wrong: it is this one, which is out of range.
     OutOfRange(Field, u32),
@@ -134,13 +134,13 @@ fn write_reason<E: Diagnostics>(word: &str, reason: WordReason, err: &mut E)
 {
     match reason {
         WordReason::UnknownKind => err.tell(format_args!(
-            "{word}: its kind is none of product, wavefront and reduce\n"
+            "{word}: the kind must be product, wavefront or reduce\n"
         )),
-        WordReason::Form(form) => err.tell(format_args!("{word}: its form is {form}\n")),
+        WordReason::Form(form) => err.tell(format_args!("{word}: the form must be {form}\n")),
         WordReason::NoNumber(field) => {
             let name = field.name();
             err.tell(format_args!(
-                "{word}: {name} is no number of at most six digits without leading zeros\n"
+                "{word}: {name} is not a number of at most six digits without leading zeros\n"
             ))
         }
         WordReason::OutOfRange(field, number) => {
@@ -148,7 +148,7 @@ fn write_reason<E: Diagnostics>(word: &str, reason: WordReason, err: &mut E)
             let range = field.range();
             err.tell(format_args!("{word}: {name} {number} is {range}\n"))
         }
-        WordReason::Repeated => err.tell(format_args!("{word} stands before\n")),
+        WordReason::Repeated => err.tell(format_args!("{word} repeats an earlier one\n")),
         WordReason::Undivided(side, order) => err.tell(format_args!(
             "{word}: SIDE {side} does not divide ORDER {order}\n"
         )),
@@ -172,7 +172,7 @@ impl Field {
     fn range(self) -> &'static str {
         match self {
             Field::Order | Field::Side | Field::Rows | Field::Columns => "not from 1 to 64",
-            Field::Leaves => "no power of two from 1 to 1024",
+            Field::Leaves => "not a power of two from 1 to 1024",
             Field::Seed => "not from 0 to 9999",
         }
     }

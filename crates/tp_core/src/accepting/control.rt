@@ -1,3 +1,4 @@
+//! Taking a control step, one of the five steps of a wave.
 ghost use Rattle.std.specs.Prelude.{◌≡◌, ℕ, List, IsTrue};
 ghost use Rattle.tp_base.specs.declared.Step.{Step};
 ghost use Rattle.tp_wave.specs.Control.{is_control};
@@ -12,7 +13,7 @@ use tp_wave::Wave;
 impl Core {
     ghost use Rattle.tp_core.specs.Accepted.{Answers};
 
-    // The step is tried on a copy of the waves, since room is asked for last.
+    // The step is tried on a copy of the wave, because room for it is reserved last.
     pub(super) fn control(&mut self, step: Step) -> Result<Reply, Refusal>
         requires { IsTrue (is_control step) }
         ensures { Answers self.old step result self.new }
@@ -26,7 +27,7 @@ impl Core {
     }
 }
 
-// Takes a control step with the waves alone.
+// Makes a control step on the wave alone. A refused step may have changed the wave.
 pub(super) fn advance(
     wave: &mut Wave,
     numbers: &[NodeNumbers; 8],
@@ -52,7 +53,7 @@ pub(super) fn advance(
     Ok(Reply::Plain)
 }
 
-// A node gives its numbers, unless it is active.
+// Gives the node's numbers of messages sent and received to the wave. An active node is refused.
 fn give(wave: &mut Wave, numbers: &[NodeNumbers; 8], node: NodeId) -> Result<Reply, Refusal>
     requires waves { (n : ℕ) × (steps : List Step) × HasWaves n numbers.now steps wave.old }
     ensures { (n : ℕ) (steps : List Step) → HasWaves n numbers.now steps wave.old

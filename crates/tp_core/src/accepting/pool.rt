@@ -1,3 +1,5 @@
+//! Taking the ten steps of a pool, which change its tasks, actions and messages. Each makes its checks, then reserves
+//! room, then takes effect.
 ghost use Rattle.std.specs.Prelude.{◌≡◌};
 ghost use Rattle.tp_core.specs.Pool.{lacking as lacking_inputs};
 
@@ -240,7 +242,7 @@ impl Core {
     }
 }
 
-// The life of a task that lacks so many inputs.
+// Returns the life of a task that lacks this many inputs.
 fn lacking(count: u8) -> Life
     ensures { result ≡ lacking_inputs count }
 {

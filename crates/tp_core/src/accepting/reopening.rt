@@ -1,3 +1,4 @@
+//! Reopening the pool, which begins its next generation.
 ghost use Rattle.std.specs.Prelude.{◌≡◌};
 
 use super::{Core, make_room, opened};
@@ -8,7 +9,7 @@ use tp_wave::Wave;
 impl Core {
     ghost use Rattle.tp_core.specs.Accepted.{Answers};
 
-    // All is as at first but the list of steps.
+    // The list of steps goes on, and everything else is as in a new core of the next generation.
     pub(super) fn reopen(&mut self) -> Result<Reply, Refusal>
         ensures { Answers self.old Step.Reopen result self.new }
     {

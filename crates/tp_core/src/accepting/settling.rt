@@ -1,3 +1,4 @@
+//! Settling: taking control steps until termination is detected.
 ghost use Rattle.std.specs.Prelude.{◌≡◌, ◌≤◌, ◌<◌, ◌+◌, ◌*◌, OnOk, IfErr, length, reverse, vec_len, vec_capacity};
 ghost use Rattle.tp_base.specs.declared.limits.TheConstants.{MAX_STEPS};
 ghost use Rattle.tp_base.specs.Checks.{first_refusal};
@@ -18,20 +19,21 @@ impl Core {
     ghost use Rattle.tp_core.specs.NeverEarly.{IsNeverEarly};
     ghost use Rattle.tp_core.specs.Settled.{Settles};
 
-    /// Takes control steps until the end is judged, where nothing is left. It answers the number of the wave with which the
-    /// pool had ended, and how many steps were taken, at most nine for each node. At most two waves are started.
+    /// Takes control steps until termination is detected, if the pool is quiet. Returns the number of the wave at whose
+    /// end the pool had terminated, and the number of steps taken: at most nine per node, which start at most two
+    /// waves.
     ///
-    /// Refused, and nothing is changed: `Ended` where the end was judged; `NotIdle` where a task is unfinished, an action is
-    /// open or a message is under way; `HistoryFull`, with the number of the steps, where fewer than nine steps a node can be
-    /// taken until there are 1,048,576; `NoMemory` where room for them was refused, which is asked for by 1,024 steps at once.
+    /// Refused, without a change, with `Ended` if termination was detected before; `NotIdle` if a task is unfinished,
+    /// an action is open or a message is in flight; `HistoryFull`, with the number of accepted steps, if nine more per
+    /// node would exceed 1,048,576; `NoMemory` if these need a new piece of 1,024 steps and the allocation fails.
     pub fn settle(&mut self) -> Result<(u32, u32), Refusal>
-        // It is refused for the first check that holds, and else it takes the steps.
+        // It is refused with the first refusal that applies, and otherwise takes the steps.
         ensures answers { Settles self.old result self.new }
-        // Wherever it was judged that the pool had ended, it had.
+        // Safety: if a judgement detected termination, the pool had terminated.
         ensures never_early { InEach (IsNeverEarly self.new.nodes) self.new.steps }
     {
         let settled = self.take_steps();
-        let _ = &self.steps; // they are a run
+        let _ = &self.steps; // the invariant: they are runs
         settled
     }
 
@@ -49,7 +51,8 @@ impl Core {
     }
 }
 
-// Room for so many steps more: refused where they are too many, and else where a new piece finds no memory.
+// Makes room for `more` steps. Refused with `HistoryFull` if there would be more than 1,048,576 steps, `NoMemory` if a
+// new piece cannot be allocated.
 fn make_rooms(steps: &mut Vec<Step>, more: usize) -> Result<(), Refusal>
     requires full { length steps.old.items ≤ MAX_STEPS }
     requires few { more ≤ PIECE }
@@ -74,7 +77,8 @@ fn make_rooms(steps: &mut Vec<Step>, more: usize) -> Result<(), Refusal>
     Ok(())
 }
 
-// Takes the control steps that are due until the end is judged: the wave with which the pool had ended, and their number.
+// Takes the next control step until termination is detected. Returns the wave at whose end the pool had terminated, and
+// the number of steps taken.
 fn take_to_end(numbers: &[NodeNumbers; 8], steps: &mut Vec<Step>, wave: &mut Wave) -> (u32, u32)
     requires settling { MaySettle (nodes_of wave.old) numbers.now (reverse steps.old.items) wave.old }
     requires room { length steps.old.items + 9 * nodes_of wave.old ≤ vec_capacity steps.old }
@@ -91,7 +95,7 @@ fn take_to_end(numbers: &[NodeNumbers; 8], steps: &mut Vec<Step>, wave: &mut Wav
     }
 }
 
-// Takes the control step that is due: the wave with which the pool had ended, where it judges so.
+// Takes the next control step. If it detects termination, returns the wave at whose end the pool had terminated.
 fn take_due(numbers: &[NodeNumbers; 8], steps: &mut Vec<Step>, wave: &mut Wave) -> Option<u32>
     requires settling { MaySettle (nodes_of wave.old) numbers.now (reverse steps.old.items) wave.old }
     requires room { vec_len steps.old < vec_capacity steps.old }

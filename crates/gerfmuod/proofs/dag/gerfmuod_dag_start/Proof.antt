@@ -1,4 +1,4 @@
--- `gerfmuod_dag_start` lends the pool for a lifetime that is made for the call.
+-- The proof of `gerfmuod_dag_start`: it borrows the pool for a lifetime that is created for the call.
 use Rattle.std.proofs.Common.{[], ◌∷◌, refl, ap, MutBor}
 use Rattle.std.proofs.raw_atomic.Walks.{proved}
 use base.Fraction.{full_share}
@@ -62,7 +62,7 @@ gerfmuod_dag_start_spec 𝓤 𝓛 𝓜 𝓡 wired =
     (some (λ (γ : GName). ‵ ((MutRef (named 0) κ R).own_val (record { ref_ptr = (b, o); ghost_name = γ; now = n }) (vptr b o ∷ []))
     ⊛ ‵ (flent κ (Body (mem R) b o γ)))))
     (lends_ref 𝓛 R (named 0) κ n b o) $ await ! tt $ pick ! (λ γ. split ! $
-    -- [the loan; the lender's part; the token; the locals]
+    -- [the borrow; the lender's claim; the lifetime token; the locals]
     sets ! (of_opd ! (get ! refl)) refl (tt, tt) $
     sets ! (addr ! (through ! refl (stop !))) refl (tt, tt) $
     let G = triple_of 𝓛 g.signature (g.spec 𝓛 𝓜.mem 𝓡.returns) in
@@ -75,13 +75,13 @@ gerfmuod_dag_start_spec 𝓤 𝓛 𝓜 𝓡 wired =
     use1 𝓛 (later (some (λ (u : DagAnswer). ((‵ (flft κ full_share) ⊛ ‵ ftrue) ⊛ ‵ (A.own_val u (v ∷ []))) ⊛
     some (λ (ws : SlotState × Unit {0}). ‵ (lasts g.ended z.0.0 z.0.3 ws) ⊛ raw (fact 𝓤 (Told u ws.0)))))) (id⊢ 𝓤 _) $
     await ! tt $ pick ! (λ u. split ! $ split ! $ split ! $ lft_end ! tt $
-    -- [κ is over; nothing; the answer; what the call says; the lender's part]
+    -- [κ has ended; nothing; the result; the call's postcondition; the lender's claim]
     move ! (3 ∷ []) $ pick ! (λ ws. split ! $ move ! (1 ∷ []) $ heard ! _ (λ told. fsplit ! $ fsplit ! $
-    -- [the loan's last value; its borrow; nothing; κ is over; nothing; the answer; the lender's part]
+    -- [the pool's last value; its borrow; nothing; κ has ended; nothing; the result; the lender's claim]
     move ! (3 ∷ 6 ∷ 0 ∷ []) $ use3 𝓛 (later (‵ (lies_at R full_share (block_ptr b o) ws.0))) (ref_back 𝓛 R κ γ ws.0 b o) $ await ! tt $
     use1 𝓛 (raw (ex 𝓤 (λ (new : SlotState). sep 𝓤 (types.Logic.sem 𝓛 (lies_at R full_share (block_ptr b o) new)) (fact 𝓤 (Told u new)))))
     (lies_so 𝓛 R (block_ptr b o) (Told u) ws.0 told) $
-    -- [the pool; its borrow; nothing; nothing; the answer]
+    -- [the pool; its borrow; nothing; nothing; the result]
     move ! (4 ∷ []) $ tells A the_row_laws ! u (v ∷ []) (λ w same good.
     lands_as ! (ap only same) refl good $
     returns ! (look_at ! 0 refl) $ free_all ! refl $ keep ! (0 ∷ 1 ∷ []) $

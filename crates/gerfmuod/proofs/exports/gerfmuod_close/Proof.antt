@@ -1,4 +1,4 @@
--- `gerfmuod_close` moves the core out of its memory.
+-- The proof of `gerfmuod_close`: it moves the core out of its memory.
 use Rattle.gerfmuod.proofs.Walks.{[], ◌∷◌, refl, ap, proved, full_share, id⊢, ftrue, fat, Ty, Val, vunit, WpFn, tables, ‵, raw, ◌⊛◌, some}
 use Rattle.gerfmuod.proofs.Walks.{later, prop, ◌$◌, ◌∵◌, !, qed, done, move, drop, use1, use2, split, join, feq_i, feq_l, pick, await}
 use Rattle.gerfmuod.proofs.Walks.{regoal, suffices, group, enter, of_opd, unit_lit, load, look, stop, no_more, and_then, returns, alloc_all}
@@ -33,7 +33,7 @@ gerfmuod_close_spec 𝓤 𝓛 𝓜 𝓡 wired =
     pick ! (λ v. split ! $ move ! (1 ∷ []) $
     peeks ! R (Is R) (shows 𝓛 R) n (v ∷ []) (λ is. let typed = ((the_row_laws.lawful 𝓛).typed n (v ∷ []) is).0 in
     enter ! _ _ _ _ _ $ alloc_all ! (λ l. pass_all ! refl ((tt, tt), tt) $
-    -- [what the core owns; its memory; the locals]
+    -- [the value of the core; its memory; the locals]
     sets ! (of_opd ! (get ! refl)) refl (tt, tt) $
     sets ! (of_opd ! (load ! (through ! refl (stop !)) (look ! 1 refl))) refl typed $
     sets ! (of_opd ! (get ! refl)) refl typed $

@@ -1,4 +1,4 @@
--- `gerfmuod_open` moves a new core into the memory.
+-- The proof of `gerfmuod_open`: it moves a new core into the memory.
 use Rattle.gerfmuod.proofs.Walks.{◌≡◌, [], ◌∷◌, ◌++◌, ℕ, refl, w32, proved, full_share, id⊢, ftrue, froom, Ty, vint, WpFn, fact, tables, ‵}
 use Rattle.gerfmuod.proofs.Walks.{raw, ◌⊛◌, some, later, prop, ◌$◌, ◌∵◌, !, qed, done, move, keep, drop, use1, use2, split, join, fsplit}
 use Rattle.gerfmuod.proofs.Walks.{pick, await, regoal, rewrite, suffices, frame, group, enter, of_opd, init, stop, no_more, and_then}
@@ -44,7 +44,7 @@ gerfmuod_open_spec 𝓤 𝓛 𝓜 𝓡 wired =
     regoal ! (λ p. prop (WpFn 𝓤 𝓛.H 𝓣.C 𝓣.Λ code.function (dv ∷ (rawptr_vals p ++ (vint w32 k ∷ []))) (W.post (y p)))) e refl $
     use1 𝓛 (‵ (froom τ b o)) (id⊢ 𝓤 _) $
     enter ! _ _ _ _ _ $ alloc_all ! (λ l. pass_all ! refl (sure, ((tt, tt), ((tt, record { fits = fk }), tt))) $
-    -- [the room; the allocator; the locals]
+    -- [the memory; the allocator; the locals]
     let G = triple_of 𝓛 g.signature (g.spec 𝓛 𝓜.mem 𝓡.returns) in
     let z : G.Ghost = ((tt, tt, tt, (d, (k, tt)), (dv ∷ [], (vint w32 k ∷ [], tt))), tt) in
     nothing ! $ owned ! u32 (Is u32) (uint_Makes 𝓛 w32) k _ (refl, fk) $ join ! $ move ! (2 ∷ 0 ∷ []) $ join ! $
@@ -57,7 +57,7 @@ gerfmuod_open_spec 𝓤 𝓛 𝓜 𝓡 wired =
     rewrite ! 0 (λ (x : Accepted). ‵ (R.own_val x (v ∷ []))) is refl $
     peeks ! R (Is R) (shows 𝓛 R) (opened k) (v ∷ []) (λ good. let typed = ((the_row_laws.lawful 𝓛).typed (opened k) (v ∷ []) good).0 in
     lands_as ! refl refl typed $
-    -- [what the core owns; the room; the locals]
+    -- [the value of the core; the memory; the locals]
     sets ! (of_opd ! (get ! refl)) refl (tt, tt) $
     sets ! (of_opd ! (get ! refl)) refl typed $
     assigns ! (of_opd ! (get ! refl)) (through ! refl (stop !)) (init ! 1 refl typed) $

@@ -1,4 +1,5 @@
--- `gerfmuod_trace` lends the core for a lifetime that is made for the call, and hands the room on.
+-- The proof of `gerfmuod_trace`: it borrows the core for a lifetime that is created for the call, and passes the buffer
+-- on.
 use Rattle.gerfmuod.proofs.Walks.{◌≡◌, ℕ, List, [], ◌∷◌, ◌++◌, refl, ap, MutBor, proved, full_share, sep, ex, id⊢, GName, Lft, ftrue, flft}
 use Rattle.gerfmuod.proofs.Walks.{flent, named, vptr, WpFn, fact, tables, ‵, raw, ◌⊛◌, some, later, prop, ◌$◌, ◌∵◌, !, qed, done, move}
 use Rattle.gerfmuod.proofs.Walks.{keep, drop, use1, use2, use3, split, join, fsplit, fjoin, feq_l, pick, await, regoal, suffices, group}
@@ -45,7 +46,7 @@ gerfmuod_trace_spec 𝓤 𝓛 𝓜 𝓡 wired =
     qed 𝓛 (((‵ (flft κ q) ⊛ ‵ ftrue) ⊛ ‵ (owns (Z ∷ RawPtr ∷ MutSlice (named 0) κ u8 ∷ []) a (y a.1.0).0.4))
     ∷ ‵ (lies_at R full_share a.1.0 n) ∷ []) ∵
     split ! $ split ! $ move ! (2 ∷ []) $ fsplit ! $ move ! (1 ∷ []) $ fsplit ! $ drop ! $ fsplit ! $ keep ! (5 ∷ 0 ∷ 2 ∷ 3 ∷ []) $
-    -- [the core; the room; the allocator; the room's token]
+    -- [the core; the buffer; the allocator; the buffer's lifetime token]
     in_a_block ! a.1.0 (λ p. lies_at R full_share p n) (id⊢ 𝓤 _) (λ b o e.
     regoal ! (λ p. prop (WpFn 𝓤 𝓛.H 𝓣.C 𝓣.Λ code.function (dv ∷ (rawptr_vals p ++ mut_slice_vals x)) (W.post (y p)))) e refl $
     enter ! _ _ _ _ _ $ alloc_all ! (λ l. pass_all ! refl (sure, ((tt, tt), ((tt, (tt, (record { fits = count }, tt))), tt))) $
@@ -54,7 +55,7 @@ gerfmuod_trace_spec 𝓤 𝓛 𝓜 𝓡 wired =
     (some (λ (γ : GName). ‵ ((MutRef (named 0) β R).own_val (record { ref_ptr = (b, o); ghost_name = γ; now = n }) (vptr b o ∷ []))
     ⊛ ‵ (flent β (Body (mem R) b o γ)))))
     (lends_ref 𝓛 R (named 0) β n b o) $ await ! tt $ pick ! (λ γ. split ! $
-    -- [the loan; the lender's part; the token of the loan; the room; the allocator; the room's token; the locals]
+    -- [the borrow; the lender's claim; β's token; the buffer; the allocator; the buffer's token; the locals]
     sets ! (of_opd ! (get ! refl)) refl (tt, tt) $
     sets ! (addr ! (through ! refl (stop !))) refl (tt, tt) $
     sets ! (addr ! (from ! (fld ! refl (hop ! (look_in_at ! 3 (sub ! 0 refl (whole !))) (stop !))))) refl (tt, tt) $
@@ -75,14 +76,14 @@ gerfmuod_trace_spec 𝓤 𝓛 𝓜 𝓡 wired =
     some (λ (ws : Unit {0} × (Accepted × (List ℕ × Unit {0}))). ‵ (lasts g.ended z.0.0 z.0.3 ws)
     ⊛ raw (fact 𝓤 (Told u ws.1.0 ws.1.1.0)))))) (id⊢ 𝓤 _) $
     await ! tt $ pick ! (λ u. split ! $ split ! $ split ! $ lft_end ! tt $
-    -- [the loan is over; the room's token, and nothing; the answer; what the call says; the lender's part]
+    -- [β has ended; the buffer's token, and nothing; the result; the call's postcondition; the lender's claim]
     move ! (1 ∷ []) $ split ! $ move ! (4 ∷ []) $
     pick ! (λ ws. split ! $ move ! (1 ∷ []) $ heard ! _ (λ told. fsplit ! $ drop ! $ fsplit ! $ fsplit ! $
-    -- [the loan's last value; its borrow; the room's; its token; nothing; the loan is over; the answer; the lender's part]
+    -- [the core's last value; its borrow; the buffer's; its token; nothing; β ended; the result; the lender's claim]
     move ! (5 ∷ 7 ∷ 0 ∷ []) $ use3 𝓛 (later (‵ (lies_at R full_share (block_ptr b o) ws.1.0))) (ref_back 𝓛 R β γ ws.1.0 b o) $ await ! tt $
-    -- [the core; its borrow; the room's; its token; nothing; the answer]
+    -- [the core; its borrow; the buffer's; its token; nothing; the result]
     move ! (2 ∷ []) $ fsplit ! $ fsplit ! $ fsplit ! $ move ! (1 ∷ []) $ feq_l ! (λ same. fjoin ! $
-    -- [what the room has at last; nothing; the core; its borrow; the room's token; nothing; the answer]
+    -- [the buffer's last content; nothing; the core; its borrow; the buffer's token; nothing; the result]
     move ! (2 ∷ []) $
     use1 𝓛 (raw (ex 𝓤
     (λ (new : Accepted). sep 𝓤 (types.Logic.sem 𝓛 (lies_at R full_share (block_ptr b o) new)) (fact 𝓤 (Told u new ws.1.1.0)))))

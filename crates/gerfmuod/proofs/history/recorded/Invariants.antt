@@ -4,7 +4,7 @@ use Rattle.gerfmuod.specs.Homes.{tasks_after, HasHomes}
 use Rattle.gerfmuod.proofs.Recording.{oldest}
 use Rattle.gerfmuod.proofs.history.recorded.Given as goal
 
--- the steps so far, each beside its node, and room for the others
+-- the history of the steps so far, each with its node, and room for the others
 abbrev pub invariant-loop-step : goal.invariant-loop-step
 invariant-loop-step l = record {
   recorded : l.history.events ≡ history_after l.nodes (oldest l.step-index l.steps);

@@ -1,4 +1,4 @@
--- The laws that `each_epoch` names.
+-- The theorems that `each_epoch` names.
 use Rattle.tp_process.proofs.Epochs.{epoch_law}
 use Rattle.tp_process.proofs.Ties.{calls}
 use Rattle.tp_process.proofs.laws.each_epoch.Goals as goal

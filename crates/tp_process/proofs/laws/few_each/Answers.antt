@@ -1,4 +1,4 @@
--- The laws that `few_each` names.
+-- The theorems that `few_each` names.
 use Rattle.tp_process.proofs.Few.{few_control_messages_epoch, few_waves_epoch}
 use Rattle.tp_process.proofs.laws.few_each.Goals as goal
 

@@ -1,4 +1,4 @@
--- The laws that `goes_on_each` names.
+-- The theorems that `goes_on_each` names.
 use Rattle.tp_process.proofs.Ahead.{goes_on_epoch, lags}
 use Rattle.tp_process.proofs.Few.{once_epoch, soon_epoch}
 use Rattle.tp_process.proofs.laws.goes_on_each.Goals as goal

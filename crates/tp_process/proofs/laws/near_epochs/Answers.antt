@@ -1,4 +1,4 @@
--- The laws that `near_epochs` names.
+-- The theorems that `near_epochs` names.
 use Rattle.tp_process.proofs.Epochs.{ahead, messages, near}
 use Rattle.tp_process.proofs.laws.near_epochs.Goals as goal
 

@@ -1,4 +1,4 @@
--- The laws that `never_early` names.
+-- The theorems that `never_early` names.
 use Rattle.tp_process.proofs.Early.{ended, never_early}
 use Rattle.tp_process.proofs.laws.never_early.Goals as goal
 

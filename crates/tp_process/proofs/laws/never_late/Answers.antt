@@ -1,4 +1,4 @@
--- The law that `never_late` names.
+-- The theorem that `never_late` names.
 use Rattle.tp_process.proofs.Late.{never_late}
 use Rattle.tp_process.proofs.laws.never_late.Goals as goal
 

@@ -1,4 +1,4 @@
--- The laws that `never_silent` names.
+-- The theorems that `never_silent` names.
 use Rattle.tp_process.proofs.Goes.{goes_on}
 use Rattle.tp_process.proofs.Soon.{soon}
 use Rattle.tp_process.proofs.Once.{once}

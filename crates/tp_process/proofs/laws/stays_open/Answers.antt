@@ -1,4 +1,4 @@
--- The laws that `stays_open` names.
+-- The theorems that `stays_open` names.
 use Rattle.tp_process.proofs.Opening.{open_calls, stays_open}
 use Rattle.tp_process.proofs.laws.stays_open.Goals as goal
 

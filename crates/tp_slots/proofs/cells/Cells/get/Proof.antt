@@ -1,5 +1,6 @@
--- `get` shows the value of a full cell. Before: a `&` to the cells, which lends each of them. The one at the index is seen, so
--- its address is in a block, and a `&` to its value is what the cell lends; nothing is returned. Assumes `Logic`.
+-- `get` returns a `&` to the value of a full cell. Before: a `&` to the cells, which borrows each of them. The one at
+-- the index is seen, so its address is in a block, and the borrowed cell has a `&` to its value; nothing is given back.
+-- Assumes `Logic`.
 use Rattle.tp_slots.proofs.CellWords.{◌≡◌, refl, List, [], ◌∷◌, ◌++◌, Fn, w64, inst_fn, Val, vptr, vint, tables, id⊢, ftrue, fsep, flft}
 use Rattle.tp_slots.proofs.CellWords.{◌⊑◌, ‵, ◌⊛◌, at_ret, ◌$◌, ◌∵◌, !, qed, by, done, move, keep, use1, split, join, rewrite, fsplit}
 use Rattle.tp_slots.proofs.CellWords.{fjoin, feq_i, skip, whole, sub, stop, hop, from, fld, addr, of_opd, first, blocks, exec, returns}

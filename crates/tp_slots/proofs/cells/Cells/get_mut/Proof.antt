@@ -1,6 +1,7 @@
--- `get_mut` lends the value of a full cell. Before: the borrow of the cells. It is opened, the cell is taken out, and its value
--- is reborrowed under a new name; what is left waits for the value to be returned, and then the cells are whole again, with the
--- last value in that cell. So the cells follow the reborrowed value, and nothing is returned now. Assumes `Logic`.
+-- `get_mut` returns a `&mut` to the value of a full cell. Before: the borrow of the cells. It is opened, the cell is
+-- taken out, and its value is reborrowed under a new name; what is left waits for the value to be returned, and then
+-- the cells are whole again, with the last value in that cell. So the cells follow the reborrowed value, and nothing is
+-- given back now. Assumes `Logic`.
 use Rattle.tp_slots.proofs.CellWords.{◌≡◌, refl, [], ◌∷◌, ◌++◌, set, Fn, named, w64, inst_fn, vptr, vint, tables, full_share, never, id⊢}
 use Rattle.tp_slots.proofs.CellWords.{GName, Fml, ftrue, fsep, flft, sem, ◌⊑◌, ‵, raw, ◌⊛◌, some, later, at_ret, ◌$◌, !, by, move, keep}
 use Rattle.tp_slots.proofs.CellWords.{use1, split, split3, join, group, rewrite, await, pick, fsplit, fsplit3, fjoin3, whole, sub, stop}

@@ -1,0 +1,11 @@
+/* version.c: prints the version of an installed library; fails if it is not that of the headers. */
+#include <gerfmuod.h>
+#include <gerfmuod_dag.h>
+#include <gerfmuod_process.h>
+#include <gerfmuod_team.h>
+#include <stdio.h>
+
+int main(void) {
+    printf("version %u\n", (unsigned)gerfmuod_version());
+    return gerfmuod_version() != GERFMUOD_VERSION;
+}

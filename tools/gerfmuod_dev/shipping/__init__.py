@@ -1,0 +1,1 @@
+"""Installs the programs and the library, and generates what is installed with them: manual, completion, packages."""
