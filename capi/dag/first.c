@@ -25,7 +25,7 @@ int main(void) {
     uint32_t refused = gerfmuod_team_open(&team, 1);
     if (!refused) refused = gerfmuod_team_describe(team, 3, NULL, NULL, offsets, inputs);
     if (!refused) refused = gerfmuod_team_run(team, 4, body, NULL);
-    if (refused) fprintf(stderr, "task %u: %s\n", gerfmuod_team_at(team), gerfmuod_team_meaning(refused));
+    if (refused) fprintf(stderr, "%s: %s\n", gerfmuod_team_name(refused), gerfmuod_team_meaning(refused));
     else printf("%.6f\n", z); /* 3.844231 */
     gerfmuod_team_close(team);
     return refused != 0;
