@@ -164,9 +164,8 @@ static void check_pool_of(uint32_t tasks) {
 /* Graphs of several lengths, so that the list of steps has no room at each kind of step. */
 static void check_pool(void) {
     for (uint32_t tasks = 600; tasks < 600 + PHASES; tasks++) check_pool_of(tasks);
-    printf("repeated because an allocation failed: gerfmuod_dag_next %u times, gerfmuod_dag_again %u, gerfmuod_dag_done %u, %u of them "
-           "after a message\n",
-           refused_next, refused_again, refused_done, refused_between);
+    printf("repeated because an allocation failed: gerfmuod_dag_next %u times, gerfmuod_dag_again %u,\n", refused_next, refused_again);
+    printf("gerfmuod_dag_done %u, %u of them after a message\n", refused_done, refused_between);
     check("an allocation of gerfmuod_dag_again failed", refused_again > 0);
 }
 

@@ -3,9 +3,9 @@
  *   fuzz CALLS [SEED [forgets|loses]]     forgets: the model sometimes drops an input; loses: it sometimes drops an input from
  *                                         outside. Both have to be detected
  *
- * Each pool has up to 64 tasks. After its random calls it is run to its end, and some pools then run again. No wait is silent: each round of calls makes
- * progress or detects termination, or an input from outside is awaited. The steps of the pool are counted. The exit status is 1
- * at the first difference. */
+ * Each pool has up to 64 tasks. After its random calls it is run to its end, and some pools then run again. No wait is silent:
+ * each round of calls makes progress or detects termination, or an input from outside is awaited. The steps of each run are
+ * counted. The exit status is 1 at the first difference. */
 #include "model.h"
 #include <inttypes.h>
 #include <stdio.h>
