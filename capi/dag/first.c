@@ -10,11 +10,9 @@ static double x, y, z;
 
 static int body(void *context, uint32_t task) {
     (void)context;
-    switch (task) {
-    case 0: x = sqrt(2); break;
-    case 1: y = exp(1); break;
-    case 2: z = x * y; break;
-    }
+    if (task == 0) x = sqrt(2);
+    if (task == 1) y = exp(1);
+    if (task == 2) z = x * y;
     return 0;
 }
 
