@@ -89,6 +89,13 @@ module gerfmuod
       integer(c_int32_t) :: refused
     end function
 
+    ! The same graph once more, after a run that ended.
+    function gerfmuod_team_again(team) bind(c) result(refused)
+      import :: c_ptr, c_int32_t
+      type(c_ptr), value :: team
+      integer(c_int32_t) :: refused
+    end function
+
     function gerfmuod_team_at(team) bind(c) result(task)
       import :: c_ptr, c_int32_t
       type(c_ptr), value :: team

@@ -101,6 +101,10 @@ class Pool {
         check(refused);
     }
 
+    // The same graph once more, after run(): run() may be called again, and calls the same bodies. Inputs from outside have to
+    // be announced again. Throws Refused when gerfmuod_team_again is refused.
+    void again() { check(gerfmuod_team_again(team.get())); }
+
     // The number of tasks that were described.
     std::size_t size() const { return bodies.size(); }
 

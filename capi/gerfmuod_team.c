@@ -26,10 +26,11 @@ struct gerfmuod_team {
     uint32_t sleeping[GERFMUOD_DAG_MAX_NODES];
     uint32_t first_task[GERFMUOD_DAG_MAX_NODES]; /* of each node, or GERFMUOD_DAG_NONE */
     uint32_t nodes, tasks, processors;
-    uint32_t threads;           /* 0 until the pool is started */
+    uint32_t threads;           /* 0 until a run is started */
     uint32_t fault, at;         /* the refusal that ends every turn, and the task of the last refusal */
     uint32_t executing;         /* tasks that were returned and are not done */
     uint32_t waiting, spinning; /* threads that wait, and those of them that spin */
+    bool is_complete; /* the pool was started: no task may be described */
     bool is_over, is_in_run;
     char apart[64]; /* keeps the counters that spinning threads read off the cache lines above */
     uint32_t version[GERFMUOD_DAG_MAX_NODES]; /* incremented at news; read without the lock */
@@ -128,7 +129,7 @@ static inline uint32_t describe_task(gerfmuod_team *team, uint32_t node, uint32_
 /* Returns the refusal if no task may be described now. */
 static uint32_t check_description(gerfmuod_team *team) {
     if (team->fault) return team->fault;
-    return team->threads ? refuse(team, GERFMUOD_DAG_WRONG_LIFE, team->tasks) : GERFMUOD_DAG_OK;
+    return team->is_complete ? refuse(team, GERFMUOD_DAG_WRONG_LIFE, team->tasks) : GERFMUOD_DAG_OK;
 }
 
 uint32_t gerfmuod_team_task(gerfmuod_team *team, uint32_t node, uint32_t class_, const uint32_t *inputs, size_t count,
@@ -191,7 +192,7 @@ static uint32_t check_threads(gerfmuod_team *team, uint32_t threads) {
     return GERFMUOD_DAG_OK;
 }
 
-/* Returns the refusal if the pool may not be started with this number of threads. */
+/* Returns the refusal if a run may not be started with this number of threads. */
 static uint32_t check_start(gerfmuod_team *team, uint32_t threads) {
     if (team->fault) return team->fault;
     if (team->is_in_run) return refuse(team, GERFMUOD_TEAM_RUNNING, GERFMUOD_DAG_NONE);
@@ -200,12 +201,14 @@ static uint32_t check_start(gerfmuod_team *team, uint32_t threads) {
     return check_threads(team, threads);
 }
 
-/* Starts the pool. Tasks may have been described since check_start, so this checks the threads again. */
+/* Starts a run; gerfmuod_team_again has started the pool. Tasks may have been described since check_start, so this checks the
+ * threads again. */
 static uint32_t start(gerfmuod_team *team, uint32_t threads) {
     uint32_t refused = check_threads(team, threads);
     if (refused) return refused;
-    refused = gerfmuod_dag_start(&team->dag).refused;
+    if (!team->is_complete) refused = gerfmuod_dag_start(&team->dag).refused;
     if (refused) return refuse(team, refused, GERFMUOD_DAG_NONE);
+    team->is_complete = true;
     team->threads = threads;
     tell(team, ALL_NODES, true);
     return GERFMUOD_DAG_OK;
@@ -260,7 +263,7 @@ static uint32_t wait_for_news(gerfmuod_team *team, uint32_t node, uint32_t spins
 static gerfmuod_dag_answer take(gerfmuod_team *team, uint32_t node) {
     gerfmuod_dag_answer answer = {0, 0, 0, 0};
     for (uint32_t spins = SPINS; !team->fault; spins = wait_for_news(team, node, spins)) {
-        if (!team->threads) continue; /* not started yet */
+        if (!team->threads) continue; /* no run is started yet */
         answer = gerfmuod_dag_next(&team->dag, node);
         if (answer.refused) {
             fail(team, answer.refused, GERFMUOD_DAG_NONE);
@@ -380,7 +383,24 @@ uint32_t gerfmuod_team_run(gerfmuod_team *team, uint32_t threads, gerfmuod_team_
     return refused;
 }
 
+/* Returns the refusal if the graph may not run once more. A thread that waits is in a turn of the run that ended. */
+static uint32_t check_again(gerfmuod_team *team) {
+    if (team->fault) return team->fault;
+    if (team->is_in_run || team->waiting) return refuse(team, GERFMUOD_TEAM_RUNNING, GERFMUOD_DAG_NONE);
+    return team->is_over ? GERFMUOD_DAG_OK : refuse(team, GERFMUOD_DAG_WRONG_LIFE, GERFMUOD_DAG_NONE);
+}
+
+uint32_t gerfmuod_team_again(gerfmuod_team *team) {
+    pthread_mutex_lock(&team->lock);
+    uint32_t refused = check_again(team);
+    if (!refused) refused = result_of(team, gerfmuod_dag_again(&team->dag), GERFMUOD_DAG_NONE);
+    if (!refused) team->threads = 0, team->is_over = false;
+    pthread_mutex_unlock(&team->lock);
+    return refused;
+}
+
 uint32_t gerfmuod_team_at(gerfmuod_team *team) {
+    if (!team) return GERFMUOD_DAG_NONE;
     pthread_mutex_lock(&team->lock);
     uint32_t at = team->at;
     pthread_mutex_unlock(&team->lock);

@@ -14,7 +14,7 @@
  * returned before those of classes 1 to 3.
  *
  * This file and gerfmuod_team.c are C: they are tested, not proved. What the pool below guarantees is in gerfmuod_dag.h.
- * Every function except open, run and close may be called by several threads at once, also from a body, and by threads that
+ * Every function except open, run, again and close may be called by several threads at once, also from a body, and by threads that
  * run no tasks. Each returns GERFMUOD_DAG_OK or the refusal: an enum gerfmuod_dag_refusal or an enum gerfmuod_team_refusal.
  *
  * Link with -lgerfmuod -pthread.
@@ -35,7 +35,7 @@ enum gerfmuod_team_refusal {
     GERFMUOD_TEAM_NO_THREAD = 64,    /* a node with a task has no thread: `threads` is too small */
     GERFMUOD_TEAM_NOT_STARTED = 65,  /* the operating system started too few threads; no body ran */
     GERFMUOD_TEAM_STOPPED = 66,      /* a body failed, or gerfmuod_team_stop was called */
-    GERFMUOD_TEAM_RUNNING = 67       /* gerfmuod_team_run was called while it runs */
+    GERFMUOD_TEAM_RUNNING = 67       /* gerfmuod_team_run or gerfmuod_team_again was called while it runs */
 };
 
 /* The body of all tasks: runs one of them. Returns 0 if the task is done; another value if it failed, and the team stops. */
@@ -73,12 +73,19 @@ uint32_t gerfmuod_team_outside(gerfmuod_team *team, uint32_t task);
 uint32_t gerfmuod_team_release(gerfmuod_team *team, uint32_t task);
 
 /* Runs all tasks on `threads` threads, of which the caller is one, and returns when all are done. Thread w is at node
- * w modulo the number of nodes. Refused before any body runs: RUNNING, ENDED, WRONG_LIFE if gerfmuod_team_start was called;
+ * w modulo the number of nodes. Refused before any body runs: RUNNING; ENDED if all are done, until gerfmuod_team_again;
+ * WRONG_LIFE if gerfmuod_team_start was called;
  * NO_THREAD, HISTORY_FULL, NO_MEMORY, NOT_STARTED, after which the pool may be run again. Refused after bodies ran: STOPPED,
  * NO_MEMORY. */
 uint32_t gerfmuod_team_run(gerfmuod_team *team, uint32_t threads, gerfmuod_team_body body, void *context);
 
-/* Returns the task that the last refusal is about, or GERFMUOD_DAG_NONE. */
+/* The same graph once more, after a run that ended: gerfmuod_team_run or gerfmuod_team_start may be called again, with any
+ * number of threads. Inputs from outside have to be announced again, by gerfmuod_team_outside after this call; a task without
+ * inputs cannot await one any more. The trace is that of the new run. Refused, and nothing changes: the reason that ends every
+ * turn; RUNNING if gerfmuod_team_run or a turn has not returned; WRONG_LIFE if not all tasks are done; NO_MEMORY. */
+uint32_t gerfmuod_team_again(gerfmuod_team *team);
+
+/* Returns the task that the last refusal is about, or GERFMUOD_DAG_NONE, also if `team` is NULL. */
 uint32_t gerfmuod_team_at(gerfmuod_team *team);
 
 /* Return the name of a refusal, such as "NoTask", and a sentence that explains it, as static strings. */

@@ -1,5 +1,5 @@
-// exceptions.cpp: tests of exceptions and refusals in gerfmuod.hpp, of a graph on two nodes with its trace, and of inputs from
-// outside.
+// exceptions.cpp: tests of exceptions and refusals in gerfmuod.hpp, of a graph on two nodes with its trace, of inputs from
+// outside, and of graphs that run again.
 #include "gerfmuod.hpp"
 
 #include <cstdio>
@@ -100,8 +100,34 @@ static bool waits() {
     return seen == 12 && again.rfind("WrongLife at task 1:", 0) == 0 && late.rfind("WrongLife at task 0:", 0) == 0;
 }
 
+// The same graph three times. The last time a body throws; after that the pool cannot run again.
+static bool repeats() {
+    gerfmuod::Pool pool(2);
+    int runs = 0, seen = 0;
+    auto first = pool.task([&] { runs++; });
+    pool.task(
+        [&] {
+            if (runs == 3) throw std::domain_error("third");
+            seen = 10 * seen + runs;
+        },
+        {first}, {1, 0});
+    std::string early = refusal([&] { pool.again(); });
+    for (int run = 0; run < 2; run++) {
+        pool.run(2 + run);
+        pool.again();
+    }
+    bool is_thrown = false;
+    try {
+        pool.run(2);
+    } catch (const std::domain_error &) {
+        is_thrown = true;
+    }
+    std::string late = refusal([&] { pool.again(); });
+    return is_thrown && seen == 12 && early.rfind("WrongLife:", 0) == 0 && late.rfind("Stopped", 0) == 0;
+}
+
 int main() {
-    bool well = sums() && stops() && refuses() && waits();
+    bool well = sums() && stops() && refuses() && waits() && repeats();
     std::printf("%s\n", well ? "as it should be" : "not as it should be");
     return well ? 0 : 1;
 }

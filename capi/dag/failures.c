@@ -1,5 +1,5 @@
 /* failures.c: a pool and a team when an allocation fails, or a thread cannot be started. For each N, the Nth allocation of the
- * same run fails: the call is refused as NO_MEMORY, is repeated, and succeeds; the pool then runs to its end. A team stops
+ * same run fails: the call is refused as NO_MEMORY, is repeated, and succeeds; the pool then runs to its end, twice. A team stops
  * instead. Then the memory of a large pool is measured. Prints each check that fails; the exit status is 1 if one failed.
  *
  * Link with -Wl,--wrap=malloc,--wrap=calloc,--wrap=realloc,--wrap=free,--wrap=pthread_create. */
@@ -65,7 +65,8 @@ enum { TASKS = 3000, PHASES = 8, NODES = 3 };
 
 /* Of a pool: task t is at node t % NODES, and waits for t - 1 and t - 2. */
 static uint32_t pool_tasks;
-static uint32_t refused_calls, refused_next, refused_done, refused_between; /* between: a done that had sent a message */
+static uint32_t refused_calls, refused_next, refused_again;
+static uint32_t refused_done, refused_between; /* between: a done that had sent a message */
 
 /* Repeats a call that was refused because memory ran out. Returns its result, and counts the refusals. */
 static gerfmuod_dag_answer needed(gerfmuod_dag_answer first, gerfmuod_dag_answer (*again)(gerfmuod_dag *, uint32_t), gerfmuod_dag *dag,
@@ -90,10 +91,15 @@ static bool describe(gerfmuod_dag *dag) {
     return is_well && !needed(gerfmuod_dag_start(dag), start_again, dag, 0).refused;
 }
 
-/* The kind of the newest step. */
-static uint32_t newest_step(const gerfmuod_dag *dag) {
+static uint32_t steps_of(const gerfmuod_dag *dag) {
     uint32_t steps = 0;
     while (gerfmuod_dag_step(dag, steps).kind != 255) steps++;
+    return steps;
+}
+
+/* The kind of the newest step. */
+static uint32_t newest_step(const gerfmuod_dag *dag) {
+    uint32_t steps = steps_of(dag);
     return steps ? gerfmuod_dag_step(dag, steps - 1).kind : 255;
 }
 
@@ -126,7 +132,19 @@ static bool runs(gerfmuod_dag *dag) {
     return false;
 }
 
-/* Whether all allocations of a run were made to fail, each in a run of its own. */
+/* Prepares a pool that is over for another run, again if memory ran out: then the pool is as it was. */
+static bool is_prepared(gerfmuod_dag *dag) {
+    uint32_t steps = steps_of(dag);
+    gerfmuod_dag_answer answer = gerfmuod_dag_again(dag);
+    if (answer.refused == GERFMUOD_DAG_NO_MEMORY) {
+        refused_calls++, refused_again++;
+        if (steps_of(dag) != steps || gerfmuod_dag_next(dag, 0).told != GERFMUOD_DAG_OVER) return false;
+        answer = gerfmuod_dag_again(dag);
+    }
+    return !answer.refused;
+}
+
+/* Makes each allocation of two runs of a pool fail, with a new pool for each. */
 static void check_pool_of(uint32_t tasks) {
     pool_tasks = tasks;
     for (long n = 1;; n++) {
@@ -134,7 +152,7 @@ static void check_pool_of(uint32_t tasks) {
         gerfmuod_dag_open(&dag, NODES);
         refused_calls = 0;
         allocations_left = n;
-        bool is_well = describe(&dag) && runs(&dag), has_failed = allocations_left < 0;
+        bool is_well = describe(&dag) && runs(&dag) && is_prepared(&dag) && runs(&dag), has_failed = allocations_left < 0;
         allocations_left = -1;
         gerfmuod_dag_close(&dag);
         check("a pool whose allocation failed", is_well);
@@ -146,8 +164,9 @@ static void check_pool_of(uint32_t tasks) {
 /* Graphs of several lengths, so that the list of steps has no room at each kind of step. */
 static void check_pool(void) {
     for (uint32_t tasks = 600; tasks < 600 + PHASES; tasks++) check_pool_of(tasks);
-    printf("repeated because an allocation failed: gerfmuod_dag_next %u times, gerfmuod_dag_done %u, %u of them after a message\n",
-           refused_next, refused_done, refused_between);
+    printf("repeated because an allocation failed: gerfmuod_dag_next %u times, gerfmuod_dag_again %u,\n", refused_next, refused_again);
+    printf("gerfmuod_dag_done %u, %u of them after a message\n", refused_done, refused_between);
+    check("an allocation of gerfmuod_dag_again failed", refused_again > 0);
 }
 
 static int body(void *context, uint32_t task) {
@@ -156,9 +175,9 @@ static int body(void *context, uint32_t task) {
     return 0;
 }
 
-static bool is_complete(const uint8_t *ran) {
+static bool is_complete(const uint8_t *ran, int times) {
     for (uint32_t t = 0; t < TASKS; t++)
-        if (ran[t] != 1) return false;
+        if (ran[t] != times) return false;
     return true;
 }
 
@@ -175,12 +194,16 @@ static void check_team(void) {
             refused = gerfmuod_team_task(team, 0, 0, inputs, t < 2 ? t : 2, NULL);
         }
         if (!opened) refused = gerfmuod_team_run(team, 1, body, ran);
+        bool has_run = !opened && !refused;
+        if (has_run) refused = gerfmuod_team_again(team);
+        if (has_run && !refused) refused = gerfmuod_team_run(team, 1, body, ran);
+        else if (has_run) check("again after a failure", !gerfmuod_team_again(team));
         has_failed = allocations_left < 0;
         allocations_left = -1;
         check("a team without memory", !opened || (opened == GERFMUOD_DAG_NO_MEMORY && !team));
         check("a task or a run without memory", !refused || refused == GERFMUOD_DAG_NO_MEMORY);
         check("a failure is not hidden", has_failed == (opened || refused));
-        check("all ran if none failed", has_failed || is_complete(ran));
+        check("all ran twice if none failed", has_failed || is_complete(ran, 2));
         gerfmuod_team_close(team);
     }
 }
@@ -195,7 +218,7 @@ static void check_threads(void) {
         check("a thread that does not start", gerfmuod_team_run(team, 4, body, ran) == GERFMUOD_TEAM_NOT_STARTED);
         check("nothing ran", !ran[0]);
         check("it runs when threads do start", gerfmuod_team_run(team, 4, body, ran) == GERFMUOD_DAG_OK);
-        check("each task once", is_complete(ran));
+        check("each task once", is_complete(ran, 1));
         gerfmuod_team_close(team);
     }
 }

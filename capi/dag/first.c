@@ -10,11 +10,9 @@ static double x, y, z;
 
 static int body(void *context, uint32_t task) {
     (void)context;
-    switch (task) {
-    case 0: x = sqrt(2); break;
-    case 1: y = exp(1); break;
-    case 2: z = x * y; break;
-    }
+    if (task == 0) x = sqrt(2);
+    if (task == 1) y = exp(1);
+    if (task == 2) z = x * y;
     return 0;
 }
 
@@ -25,7 +23,7 @@ int main(void) {
     uint32_t refused = gerfmuod_team_open(&team, 1);
     if (!refused) refused = gerfmuod_team_describe(team, 3, NULL, NULL, offsets, inputs);
     if (!refused) refused = gerfmuod_team_run(team, 4, body, NULL);
-    if (refused) fprintf(stderr, "task %u: %s\n", gerfmuod_team_at(team), gerfmuod_team_meaning(refused));
+    if (refused) fprintf(stderr, "%s: %s\n", gerfmuod_team_name(refused), gerfmuod_team_meaning(refused));
     else printf("%.6f\n", z); /* 3.844231 */
     gerfmuod_team_close(team);
     return refused != 0;

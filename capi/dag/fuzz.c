@@ -3,15 +3,15 @@
  *   fuzz CALLS [SEED [forgets|loses]]     forgets: the model sometimes drops an input; loses: it sometimes drops an input from
  *                                         outside. Both have to be detected
  *
- * Each pool has up to 64 tasks. After its random calls it is run to its end. Then no wait is silent: each round of calls makes
- * progress or detects termination, or an input from outside is awaited. The steps of the pool are counted. The exit status is 1
- * at the first difference. */
+ * Each pool has up to 64 tasks. After its random calls it is run to its end, and some pools then run again. No wait is silent:
+ * each round of calls makes progress or detects termination, or an input from outside is awaited. The steps of each run are
+ * counted. The exit status is 1 at the first difference. */
 #include "model.h"
 #include <inttypes.h>
 #include <stdio.h>
 #include <stdlib.h>
 
-static uint64_t seed, calls, counts[16];
+static uint64_t seed, calls, reruns, counts[16];
 static gerfmuod_dag dag;
 static model m;
 static bool forgets, loses;
@@ -76,6 +76,8 @@ static void close_pool(void) { check("close", gerfmuod_dag_close(&dag), model_cl
 
 static void start(void) { check("start", gerfmuod_dag_start(&dag), model_start(&m)); }
 
+static void again(void) { check("again", gerfmuod_dag_again(&dag), model_again(&m)); }
+
 static void describe(void) {
     uint32_t tasks = below(MOST_TASKS);
     for (uint32_t i = 0; i < tasks && m.tasks < MOST_TASKS - 2; i++) {
@@ -84,6 +86,7 @@ static void describe(void) {
         if (below(4) == 0) outside(about(m.tasks));
         if (below(16) == 0) release(about(m.tasks));
         if (below(50) == 0) next(below(m.nodes));
+        if (below(50) == 0) again();
         if (below(50) == 0) done(about(m.nodes), about(m.tasks));
     }
 }
@@ -97,7 +100,8 @@ static void step(void) {
     else if (kind < 83) outside(about(m.tasks));
     else if (kind < 90) release(about(m.tasks));
     else if (kind < 95) done(about(m.nodes), about(m.tasks));
-    else if (kind < 97) task();
+    else if (kind < 96) task();
+    else if (kind < 97) again(); /* refused, unless the random calls have come to the end */
     else if (kind < 99) input();
     else start();
 }
@@ -146,6 +150,19 @@ static void count_steps(void) {
     }
 }
 
+/* Makes random calls on a pool that was started; then mostly runs it to its end, and sometimes again. */
+static void run(void) {
+    do {
+        for (uint32_t i = below(100); i > 0; i--) step();
+        if (below(10) == 0) return; /* it is closed in the middle */
+        finish();
+        count_steps();
+        if (below(2)) return;
+        again();
+        reruns++;
+    } while (true);
+}
+
 int main(int argc, char **argv) {
     uint64_t most = argc > 1 ? strtoull(argv[1], NULL, 10) : 100000, pools = 0;
     seed = argc > 2 ? strtoull(argv[2], NULL, 10) * 2 + 1 : 88172645463325253u;
@@ -156,22 +173,18 @@ int main(int argc, char **argv) {
         describe();
         if (below(20) && m.is_open) { /* else it is closed before it is started */
             start();
-            for (uint32_t i = below(100); i > 0; i--) step();
-            if (below(10)) { /* else it is closed in the middle */
-                finish();
-                count_steps();
-            }
+            run();
         }
         task(), input(), outside(0), release(0), start(), next(0), done(0, 0);
         close_pool();
         if (below(4) == 0) {
-            task(), input(), outside(about(1)), release(about(1)), start(), next(about(1)), done(0, about(1));
+            task(), input(), outside(about(1)), release(about(1)), start(), again(), next(about(1)), done(0, about(1));
             close_pool();
         }
         if (gerfmuod_dag_step(&dag, 0).kind != 255) return printf("a closed pool has steps\n"), 1;
     }
     printf("%" PRIu64 " calls on %" PRIu64 " pools: %" PRIu64 " refused, %" PRIu64 " tasks run, %" PRIu64 " waits, ", calls, pools,
            counts[0], counts[GERFMUOD_DAG_RUN + 1], counts[GERFMUOD_DAG_WAIT + 1]);
-    printf("as the model says\n");
+    printf("%" PRIu64 " pools run again, as the model says\n", reruns);
     return 0;
 }

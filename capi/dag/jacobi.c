@@ -3,6 +3,7 @@
  *
  *   jacobi SIDE BLOCK STEPS ROUNDS WAY..     SIDE is a multiple of BLOCK; a WAY is
  *     NxT     a pool of N nodes with T threads each; blocks of neighbouring rows are at one node
+ *     NxT:K   the same with a graph of K steps, which is described once and runs STEPS / K times
  *     loop    the plain loop
  *     omp:T   OpenMP's `parallel for`, with a barrier after each step   (built with -fopenmp)
  *     dep:T   OpenMP's tasks with `depend`
@@ -13,6 +14,7 @@
 #include <string.h>
 
 static int side, block, steps, blocks;
+static int first_step; /* of the run of a pool */
 static double *grid[2]; /* side + 2 rows of side + 2: the border is fixed */
 
 static void fill(void) {
@@ -38,14 +40,15 @@ static void by_loop(void) {
 static int body(void *context, uint32_t task) {
     int b = (int)task;
     (void)context;
-    update(b / (blocks * blocks), b / blocks % blocks, b % blocks);
+    update(first_step + b / (blocks * blocks), b / blocks % blocks, b % blocks);
     return 0;
 }
 
-static void by_pool(uint32_t nodes, uint32_t threads) {
+static void by_pool(uint32_t nodes, uint32_t threads, int steps_of_graph) {
     gerfmuod_team *team;
+    need(steps_of_graph <= 0 || steps % steps_of_graph, "K does not divide STEPS");
     need(gerfmuod_team_open(&team, nodes), "open");
-    for (int s = 0; s < steps; s++)
+    for (int s = 0; s < steps_of_graph; s++)
         for (int i = 0; i < blocks; i++)
             for (int j = 0; j < blocks; j++) {
                 uint32_t inputs[5], count = 0, before = (uint32_t)(((s - 1) * blocks + i) * blocks + j);
@@ -56,7 +59,10 @@ static void by_pool(uint32_t nodes, uint32_t threads) {
                 if (s && j < blocks - 1) inputs[count++] = before + 1;
                 need(gerfmuod_team_task(team, (uint32_t)i * nodes / (uint32_t)blocks, 0, inputs, count, NULL), "task");
             }
-    need(gerfmuod_team_run(team, nodes * threads, body, NULL), "run");
+    for (first_step = 0; first_step < steps; first_step += steps_of_graph) {
+        if (first_step) need(gerfmuod_team_again(team), "again");
+        need(gerfmuod_team_run(team, nodes * threads, body, NULL), "run");
+    }
     gerfmuod_team_close(team);
 }
 
@@ -88,9 +94,10 @@ static void by_depend(int threads) {
 #endif
 
 static void go(const char *way) {
-    unsigned nodes, threads;
+    unsigned nodes, threads, count;
     if (!strcmp(way, "loop")) by_loop();
-    else if (sscanf(way, "%ux%u", &nodes, &threads) == 2) by_pool(nodes, threads);
+    else if (sscanf(way, "%ux%u:%u", &nodes, &threads, &count) == 3) by_pool(nodes, threads, (int)count);
+    else if (sscanf(way, "%ux%u", &nodes, &threads) == 2) by_pool(nodes, threads, steps);
 #ifdef _OPENMP
     else if (!strncmp(way, "omp:", 4)) by_for(atoi(way + 4));
     else if (!strncmp(way, "dep:", 4)) by_depend(atoi(way + 4));

@@ -139,6 +139,15 @@ static expected model_done(model *m, uint32_t node, uint32_t task) {
     return wanted;
 }
 
+static expected model_again(model *m) {
+    if (!m->is_open) return (expected){.refused = GERFMUOD_DAG_NO_POOL};
+    if (!m->is_over) return (expected){.refused = GERFMUOD_DAG_WRONG_LIFE};
+    m->is_over = false, m->messages = 0;
+    for (uint32_t t = 0; t < m->tasks; t++) m->task[t].stage = FRESH;
+    for (uint32_t k = 0; k < m->inputs; k++) m->input[k].way = OUT;
+    return (expected){0};
+}
+
 static expected model_close(model *m) {
     if (!m->is_open) return (expected){.refused = GERFMUOD_DAG_NO_POOL};
     memset(m, 0, sizeof *m);

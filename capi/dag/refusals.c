@@ -31,6 +31,7 @@ static void check_not_open(gerfmuod_dag *dag) {
     check("start without a pool", gerfmuod_dag_start(dag).refused, GERFMUOD_DAG_NO_POOL);
     check("next without a pool", gerfmuod_dag_next(dag, 0).refused, GERFMUOD_DAG_NO_POOL);
     check("done without a pool", gerfmuod_dag_done(dag, 0, 0).refused, GERFMUOD_DAG_NO_POOL);
+    check("again without a pool", gerfmuod_dag_again(dag).refused, GERFMUOD_DAG_NO_POOL);
     check("step without a pool", gerfmuod_dag_step(dag, 0).kind, 255);
     check("close without a pool", gerfmuod_dag_close(dag).refused, GERFMUOD_DAG_NO_POOL);
 }
@@ -144,6 +145,45 @@ static void check_outside(void) {
     gerfmuod_dag_close(&dag);
 }
 
+/* The same graph three times: task 1, at node 1, waits for task 0 at node 0. */
+static void check_again(void) {
+    gerfmuod_dag dag;
+    gerfmuod_dag_open(&dag, 2);
+    check("again without a task", gerfmuod_dag_again(&dag).refused, GERFMUOD_DAG_WRONG_LIFE);
+    gerfmuod_dag_task(&dag, 0, 0);
+    gerfmuod_dag_task(&dag, 1, 0);
+    gerfmuod_dag_input(&dag, 0);
+    gerfmuod_dag_outside(&dag, 1);
+    gerfmuod_dag_release(&dag, 1);
+    check("again before the start", gerfmuod_dag_again(&dag).refused, GERFMUOD_DAG_WRONG_LIFE);
+    gerfmuod_dag_start(&dag);
+    uint32_t steps[3];
+    for (uint32_t run = 0; run < 3; run++) {
+        check("again before the first task", gerfmuod_dag_again(&dag).refused, GERFMUOD_DAG_WRONG_LIFE);
+        check("start again", gerfmuod_dag_start(&dag).refused, GERFMUOD_DAG_WRONG_LIFE);
+        check("task of a second run", gerfmuod_dag_task(&dag, 0, 0).refused, GERFMUOD_DAG_WRONG_LIFE);
+        check("input of a second run", gerfmuod_dag_input(&dag, 0).refused, GERFMUOD_DAG_WRONG_LIFE);
+        check("done before it was returned", gerfmuod_dag_done(&dag, 0, 0).refused, GERFMUOD_DAG_WRONG_LIFE);
+        check("release of the run before", gerfmuod_dag_release(&dag, 1).refused, GERFMUOD_DAG_WRONG_LIFE);
+        check("outside of a task without inputs", gerfmuod_dag_outside(&dag, 0).refused, GERFMUOD_DAG_WRONG_LIFE);
+        check("outside of a task that waits", gerfmuod_dag_outside(&dag, 1).refused, GERFMUOD_DAG_OK);
+        check("a task that waits", gerfmuod_dag_next(&dag, 1).told, GERFMUOD_DAG_WAIT);
+        check("the first task", gerfmuod_dag_next(&dag, 0).told, GERFMUOD_DAG_RUN);
+        check("its news", gerfmuod_dag_done(&dag, 0, 0).news, 2);
+        check("an input from outside is awaited", gerfmuod_dag_next(&dag, 1).told, GERFMUOD_DAG_WAIT);
+        check("its release", gerfmuod_dag_release(&dag, 1).news, 2);
+        check("the second task", gerfmuod_dag_next(&dag, 1).told, GERFMUOD_DAG_RUN);
+        check("again while it runs", gerfmuod_dag_again(&dag).refused, GERFMUOD_DAG_WRONG_LIFE);
+        gerfmuod_dag_done(&dag, 1, 1);
+        check("again before the end was returned", gerfmuod_dag_again(&dag).refused, GERFMUOD_DAG_WRONG_LIFE);
+        check("over", gerfmuod_dag_next(&dag, 0).told, GERFMUOD_DAG_OVER);
+        for (steps[run] = 0; gerfmuod_dag_step(&dag, steps[run]).kind != 255;) steps[run]++;
+        check("the steps are those of one run", steps[run], steps[0]);
+        check("again", gerfmuod_dag_again(&dag).refused, GERFMUOD_DAG_OK);
+    }
+    gerfmuod_dag_close(&dag);
+}
+
 /* The library writes only to the memory of the pool. */
 static void check_size(void) {
     struct {
@@ -158,6 +198,7 @@ static void check_size(void) {
     gerfmuod_dag_start(&memory.dag);
     for (uint32_t t = 0; t < 100; t++) gerfmuod_dag_done(&memory.dag, t % 8, gerfmuod_dag_next(&memory.dag, t % 8).number);
     check("100 tasks at 8 nodes", gerfmuod_dag_next(&memory.dag, 7).told, GERFMUOD_DAG_OVER);
+    check("once more", gerfmuod_dag_again(&memory.dag).refused, GERFMUOD_DAG_OK);
     gerfmuod_dag_close(&memory.dag);
     for (int i = 0; i < 16; i++) is_well &= memory.before[i] == 0x5a5a5a5a5a5a5a5a && memory.after[i] == 0x5a5a5a5a5a5a5a5a;
     check("what lies round a pool stays", is_well, true);
@@ -237,6 +278,7 @@ static void check_team_description(void) {
     const uint8_t far[] = {0, 7, 0}, classes[] = {0, 0, 4};
     check("team of 9 nodes", gerfmuod_team_open(&team, 9), GERFMUOD_DAG_BAD_SPEC);
     check("is none", team == NULL, 1);
+    check("at no task", gerfmuod_team_at(team), GERFMUOD_DAG_NONE);
     gerfmuod_team_close(team);
     gerfmuod_team_open(&team, 2);
     check("task with an input that is not earlier", gerfmuod_team_task(team, 0, 0, inputs, 1, NULL), GERFMUOD_DAG_NO_TASK);
@@ -280,6 +322,53 @@ static void check_team_run(void) {
     gerfmuod_team_stop(seen.team, 0);
     check("a turn after the end", gerfmuod_team_turn(seen.team, 1, GERFMUOD_DAG_NONE).told, GERFMUOD_DAG_OVER);
     gerfmuod_team_close(seen.team);
+}
+
+/* Tries to run its team again; the second task fails if `fails` is set. */
+struct repeated {
+    gerfmuod_team *team;
+    uint32_t ran, refused_inside;
+    bool fails;
+};
+static int repeated_body(void *context, uint32_t task) {
+    struct repeated *repeated = context;
+    repeated->ran++;
+    repeated->refused_inside = gerfmuod_team_again(repeated->team);
+    return task == 1 && repeated->fails;
+}
+
+static void check_team_again(void) {
+    struct repeated it = {0};
+    uint32_t input = 0;
+    gerfmuod_team_open(&it.team, 1);
+    check("again of an empty team", gerfmuod_team_again(it.team), GERFMUOD_DAG_WRONG_LIFE);
+    gerfmuod_team_task(it.team, 0, 0, NULL, 0, NULL);
+    gerfmuod_team_task(it.team, 0, 0, &input, 1, NULL);
+    check("again before a run", gerfmuod_team_again(it.team), GERFMUOD_DAG_WRONG_LIFE);
+    check("a run", gerfmuod_team_run(it.team, 1, repeated_body, &it), GERFMUOD_DAG_OK);
+    check("again inside a run", it.refused_inside, GERFMUOD_TEAM_RUNNING);
+    check("again", gerfmuod_team_again(it.team), GERFMUOD_DAG_OK);
+    check("again twice", gerfmuod_team_again(it.team), GERFMUOD_DAG_WRONG_LIFE);
+    check("a task after it", gerfmuod_team_task(it.team, 9, 9, &input, 9, NULL), GERFMUOD_DAG_WRONG_LIFE);
+    check("a graph after it", gerfmuod_team_describe(it.team, 0, NULL, NULL, &input, NULL), GERFMUOD_DAG_WRONG_LIFE);
+    check("a run without a thread", gerfmuod_team_run(it.team, 0, repeated_body, &it), GERFMUOD_TEAM_NO_THREAD);
+    check("outside of a task without inputs", gerfmuod_team_outside(it.team, 0), GERFMUOD_DAG_WRONG_LIFE);
+    check("outside", gerfmuod_team_outside(it.team, 1), GERFMUOD_DAG_OK);
+    check("release", gerfmuod_team_release(it.team, 1), GERFMUOD_DAG_OK);
+    check("a second run", gerfmuod_team_run(it.team, 1, repeated_body, &it), GERFMUOD_DAG_OK);
+    check("each task ran twice", it.ran, 4);
+    check("a third run", gerfmuod_team_run(it.team, 1, repeated_body, &it), GERFMUOD_DAG_ENDED);
+    check("again", gerfmuod_team_again(it.team), GERFMUOD_DAG_OK);
+    check("with turns", gerfmuod_team_start(it.team, 1), GERFMUOD_DAG_OK);
+    check("again after a start", gerfmuod_team_again(it.team), GERFMUOD_DAG_WRONG_LIFE);
+    check("the first task", gerfmuod_team_turn(it.team, 0, GERFMUOD_DAG_NONE).number, 0);
+    check("the second one", gerfmuod_team_turn(it.team, 0, 0).number, 1);
+    check("the end", gerfmuod_team_turn(it.team, 0, 1).told, GERFMUOD_DAG_OVER);
+    check("again", gerfmuod_team_again(it.team), GERFMUOD_DAG_OK);
+    it.fails = true;
+    check("a body that fails", gerfmuod_team_run(it.team, 1, repeated_body, &it), GERFMUOD_TEAM_STOPPED);
+    check("again after it", gerfmuod_team_again(it.team), GERFMUOD_TEAM_STOPPED);
+    gerfmuod_team_close(it.team);
 }
 
 static void check_team_outside(void) {
@@ -366,10 +455,12 @@ int main(int argc, char **argv) {
     check_description();
     check_run();
     check_outside();
+    check_again();
     check_size();
     if (argc == 1) check_limits(), check_outside_limit(), check_team_limits();
     check_team_description();
     check_team_run();
+    check_team_again();
     check_team_outside();
     check_trace();
     check_team_stop();

@@ -6,8 +6,9 @@
  *
  * Every second round runs on its own threads with gerfmuod_team_turn, which begin before the pool is started or after it.
  * Some rounds have a body that fails. One more thread releases the inputs from outside in random order, before the start and
- * after it. Every tenth graph is one task and then tasks that run on all threads at the same time. If the library has
- * gerfmuod_audit, it judges the trace of each round. The exit status is 1 if a check failed. */
+ * after it. Every tenth graph is one task and then tasks that run on all threads at the same time. Many graphs run again, with
+ * gerfmuod_team_again. If the library has gerfmuod_audit, it judges the trace of each run. The exit status is 1 if a check
+ * failed. */
 #define _POSIX_C_SOURCE 200809L
 #include "gerfmuod.h"
 #include "gerfmuod_team.h"
@@ -28,6 +29,7 @@ static uint32_t offsets[MOST + 1], inputs[MOST * INPUTS];
 static uint32_t releases[MOST * OUTSIDE], release_count; /* the tasks of the inputs from outside, in the order of their release */
 static char has_ended[MOST], awaited[MOST], has_come[MOST];
 static int wrong, unreleased; /* bodies that ran too early or twice, releases that were refused; only written if there are some */
+static uint32_t repeated; /* runs that were not the first of their graph */
 static bool is_early;
 static gerfmuod_team *team;
 
@@ -36,9 +38,18 @@ static uint32_t below(uint32_t limit) {
     return (uint32_t)((seed >> 11) % limit);
 }
 
-static void draw_releases(void) {
-    for (uint32_t t = 0; t < tasks; t++)
-        for (uint32_t k = below(6) ? 0 : 1 + below(OUTSIDE); k > 0; k--) awaited[t]++, releases[release_count++] = t;
+static void clear_run(void) {
+    arrived = release_count = 0;
+    memset(has_ended, 0, sizeof has_ended), memset(awaited, 0, sizeof awaited), memset(has_come, 0, sizeof has_come);
+}
+
+/* Draws the inputs from outside. After the first run only tasks that wait for others may have some. */
+static void draw_releases(bool is_first_run) {
+    for (uint32_t t = 0; t < tasks; t++) {
+        uint32_t count = below(6) ? 0 : 1 + below(OUTSIDE);
+        if (!is_first_run && offsets[t] == offsets[t + 1]) count = 0;
+        for (; count > 0; count--) awaited[t]++, releases[release_count++] = t;
+    }
     for (uint32_t i = release_count; i > 1; i--) {
         uint32_t other = below(i), t = releases[i - 1];
         releases[i - 1] = releases[other], releases[other] = t;
@@ -57,7 +68,7 @@ static void draw_graph(void) {
         for (uint32_t k = t ? below(INPUTS + 1) : 0; k > 0; k--) inputs[offsets[t + 1]++] = t - 1 - below(t < 20 ? t : 20);
     }
     failing = tasks && below(8) == 0 ? below(tasks) : GERFMUOD_DAG_NONE;
-    draw_releases();
+    draw_releases(true);
 }
 
 /* One task, and then one for each thread, all of which have to run at the same time. */
@@ -147,25 +158,38 @@ static bool is_sound(void) {
     return judged.outcome == GERFMUOD_WRITTEN;
 }
 
-static bool round_is_well(uint32_t round) {
+/* Runs the graph. Odd runs are on threads of this program; in every second one of them, turns begin before the start. */
+static bool run_is_well(uint32_t round, uint32_t run) {
     pthread_t releasing;
-    meeting = arrived = release_count = 0;
-    memset(has_ended, 0, sizeof has_ended), memset(awaited, 0, sizeof awaited), memset(has_come, 0, sizeof has_come);
-    if (round % 10 == 0 && !is_early) draw_meeting();
-    else draw_graph();
-    need(gerfmuod_team_open(&team, nodes), "open");
-    need(gerfmuod_team_describe(team, tasks, homes, classes, offsets, inputs), "describe");
     for (uint32_t i = 0; i < release_count; i++) need(gerfmuod_team_outside(team, releases[i]), "outside");
     need(pthread_create(&releasing, NULL, release_all, NULL) != 0, "pthread_create");
-    uint32_t refused = round % 2 || is_early ? run_own_threads(round % 4 == 1) : gerfmuod_team_run(team, threads, body, NULL);
+    uint32_t refused = run % 2 || is_early ? run_own_threads(run % 4 == 1) : gerfmuod_team_run(team, threads, body, NULL);
     pthread_join(releasing, NULL);
     bool is_well = !wrong && !unreleased && is_sound();
     if (failing == GERFMUOD_DAG_NONE) is_well &= !refused && is_complete();
     else is_well &= refused == GERFMUOD_TEAM_STOPPED && gerfmuod_team_at(team) == failing && !has_ended[failing];
-    gerfmuod_team_close(team);
     if (!is_well)
         printf("round %u: %u tasks, %u nodes, %u threads: refused %u, %d bodies too early or twice, %d releases refused\n", round,
                tasks, nodes, threads, refused, wrong, unreleased);
+    return is_well;
+}
+
+static bool round_is_well(uint32_t round) {
+    meeting = 0;
+    clear_run();
+    if (round % 10 == 0 && !is_early) draw_meeting();
+    else draw_graph();
+    need(gerfmuod_team_open(&team, nodes), "open");
+    need(gerfmuod_team_describe(team, tasks, homes, classes, offsets, inputs), "describe");
+    bool is_well = run_is_well(round, round);
+    for (uint32_t again = below(3); again > 0 && is_well && failing == GERFMUOD_DAG_NONE; again--) {
+        need(gerfmuod_team_again(team), "again");
+        clear_run();
+        if (!meeting) draw_releases(false);
+        threads = meeting ? meeting : nodes + below(MOST_THREADS - nodes + 1);
+        is_well = run_is_well(round, below(4)), repeated += is_well;
+    }
+    gerfmuod_team_close(team);
     return is_well;
 }
 
@@ -175,6 +199,7 @@ int main(int argc, char **argv) {
     is_early = argc > 3;
     for (uint32_t round = 0; round < rounds; round++)
         if (!round_is_well(round)) return 1;
-    printf("%u rounds, each task once and after all that it waits for%s\n", rounds, gerfmuod_audit ? ", each trace sound" : "");
+    printf("%u rounds, %u repeated, each task once and after all that it waits for%s\n", rounds, repeated,
+           gerfmuod_audit ? ", each trace sound" : "");
     return 0;
 }

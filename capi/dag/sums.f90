@@ -1,6 +1,6 @@
 ! sums.f90: the sum of squares of an array, by blocks: a task for each block, and a chain of tasks that adds the parts in order.
-! It runs twice, with gerfmuod_team_run and on OpenMP's threads, and is compared with one sum over the whole array. In the
-! second run, the first block is an input from outside.
+! The graph runs twice, with gerfmuod_team_run and on OpenMP's threads, and is compared with one sum over the whole array. In
+! the second run, the first sum awaits an input from outside.
 !
 !   gfortran -fopenmp capi/gerfmuod.f90 capi/dag/sums.f90 -Llib -lgerfmuod -pthread -o sums && ./sums
 module blocks
@@ -65,13 +65,13 @@ program sums
 
   team = described()
   call need(gerfmuod_team_run(team, 4, c_funloc(run_task), c_null_ptr))
-  call gerfmuod_team_close(team)
   call compare('gerfmuod_team_run')
 
-  team = described()
-  call need(gerfmuod_team_outside(team, 0))
+  total = 0
+  call need(gerfmuod_team_again(team))
+  call need(gerfmuod_team_outside(team, count))
   call need(gerfmuod_team_start(team, 4))
-  call need(gerfmuod_team_release(team, 0))
+  call need(gerfmuod_team_release(team, count))
   !$omp parallel num_threads(4) private(answer, done)
   done = gerfmuod_none
   do

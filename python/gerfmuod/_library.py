@@ -55,6 +55,7 @@ def _declare(library: ctypes.CDLL) -> ctypes.CDLL:
         "gerfmuod_team_release": (u32, [team, u32]),
         "gerfmuod_team_start": (u32, [team, u32]),
         "gerfmuod_team_turn": (Answer, [team, u32, u32]),
+        "gerfmuod_team_again": (u32, [team]),
         "gerfmuod_team_stop": (None, [team, u32]),
         "gerfmuod_team_at": (u32, [team]),
         "gerfmuod_team_name": (ctypes.c_char_p, [u32]),

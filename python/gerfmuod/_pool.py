@@ -16,11 +16,11 @@ Result = TypeVar("Result")
 class Task(Generic[Result]):
     """A task of a pool. As an argument of a later task it is replaced by its result."""
 
-    __slots__ = ("number", "_pool", "_result", "_is_done")
+    __slots__ = ("number", "_owner", "_result", "_is_done")
 
-    def __init__(self, pool: "Pool", number: int) -> None:
+    def __init__(self, owner: object, number: int) -> None:
         self.number = number
-        self._pool = pool
+        self._owner = owner  # of one pool; a reference to the pool itself would be a cycle
         self._result: Any = None
         self._is_done = False
 
@@ -51,9 +51,12 @@ class _Job(NamedTuple):
         self.task._result = self.function(*values)
         self.task._is_done = True
 
+    def forget(self) -> None:
+        self.task._result, self.task._is_done = None, False
+
 
 class Pool:
-    """A graph of tasks, which runs once.
+    """A graph of tasks, which runs once, or again after :meth:`again`.
 
     Args:
         nodes: the number of groups of tasks, 1 to 8. One is right in most cases.
@@ -72,7 +75,9 @@ class Pool:
             raise Refused(refused)
         self._team: Optional[ctypes.c_void_p] = team
         self._nodes = nodes
-        self._jobs: List[Optional[_Job]] = []
+        self._identity = object()
+        self._jobs: List[_Job] = []
+        self._length = 0
         self._errors: List[BaseException] = []
         self._close = weakref.finalize(self, library.gerfmuod_team_close, team)
 
@@ -93,7 +98,8 @@ class Pool:
                 values are not found.
             after: further tasks that the new task waits for.
             node: the group of the task, below the pool's ``nodes``.
-            priority: 0 to 3. Ready tasks of a node with a lower number run first.
+            priority: the class of the task, 0 to 3. Ready tasks of a node with a lower number
+                run first.
 
         Raises:
             ValueError: a task is of another pool, or the pool is closed.
@@ -101,15 +107,16 @@ class Pool:
                 ``HistoryFull`` or ``NoMemory``.
         """
         waits_for = [it for it in (*arguments, *after) if isinstance(it, Task)]
-        if any(it._pool is not self for it in waits_for):
+        if any(it._owner is not self._identity for it in waits_for):
             raise ValueError("a task of another pool cannot be an input")
         inputs = (ctypes.c_uint32 * len(waits_for))(*(it.number for it in waits_for))
         number, team = ctypes.c_uint32(), self._open_team()
         place = _number(node), _number(priority)
         written = ctypes.byref(number)
         _check(team, library.gerfmuod_team_task(team, *place, inputs, len(inputs), written))
-        task: "Task[Result]" = Task(self, number.value)
+        task: "Task[Result]" = Task(self._identity, number.value)
         self._jobs.append(_Job(task, function, arguments))
+        self._length += 1
         return task
 
     def outside(self, task: "Task[Any]") -> None:
@@ -176,6 +183,22 @@ class Pool:
             raise self._errors[0]
         _check(team, library.gerfmuod_team_turn(team, 0, NONE).refused)
 
+    def again(self) -> None:
+        """Prepares the same graph for one more run, after one that ended.
+
+        The results of that run are forgotten. Inputs from outside have to be announced again, by
+        :meth:`outside` after this call; a task without inputs cannot await one any more.
+
+        Raises:
+            ValueError: the pool is closed.
+            Refused: ``WrongLife`` if the pool has not run, ``Running`` while it runs, ``Stopped``
+                if an exception has stopped it, ``NoMemory``.
+        """
+        team = self._open_team()
+        _check(team, library.gerfmuod_team_again(team))
+        for job in self._jobs:
+            job.forget()
+
     def trace(self) -> str:
         """Returns the steps of the pool as a trace, which ``tp audit`` judges.
 
@@ -189,12 +212,13 @@ class Pool:
         return room.value.decode()
 
     def close(self) -> None:
-        """Frees the pool. Results may still be used.
+        """Frees the pool, which until then keeps all functions, arguments and results.
 
-        A pool that is no longer referenced is closed as well.
+        Results may still be used. A pool that is no longer referenced is closed as well.
         """
         self._close()
         self._team = None
+        self._jobs = []
 
     def __enter__(self) -> "Pool":
         return self
@@ -204,10 +228,10 @@ class Pool:
 
     def __len__(self) -> int:
         """Returns the number of tasks that were described."""
-        return len(self._jobs)
+        return self._length
 
     def _number_of(self, task: "Task[Any]") -> int:
-        if task._pool is not self:
+        if task._owner is not self._identity:
             raise ValueError("the task is of another pool")
         return task.number
 
@@ -224,10 +248,8 @@ class Pool:
             if answer.refused or answer.told == OVER:
                 return
             done = answer.number
-            job, self._jobs[done] = self._jobs[done], None
             try:
-                assert job is not None
-                job.run()
+                self._jobs[done].run()
             except BaseException as error:
                 self._stop(team, done, error)
                 return

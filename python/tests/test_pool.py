@@ -169,6 +169,59 @@ class Outside(unittest.TestCase):
         self.assertEqual(caught.exception.name, "Stopped")
 
 
+class Again(unittest.TestCase):
+    def test_a_graph_runs_again_and_again(self):
+        for threads in (2, 5):
+            pool, ran = Pool(2), []
+            first = pool.task(lambda: ran.append(1) or len(ran))
+            last = pool.task(lambda x: 10 * x, first, node=1)
+            for run in range(1, 6):
+                pool.run(threads)
+                self.assertEqual((first.result, last.result, len(ran)), (run, 10 * run, run))
+                self.assertEqual(pool.trace().splitlines().count("begin 0"), 1)
+                pool.again()
+                self.assertRaises(RuntimeError, lambda: last.result)
+
+    def test_inputs_from_outside_are_announced_again(self):
+        pool, data = Pool(), []
+        first = pool.task(int)
+        last = pool.task(lambda _: data[-1], first)
+        for run in range(3):
+            pool.outside(last)
+            threading.Timer(0.02, deliver, (pool, last, data, run)).start()
+            pool.run(2)
+            self.assertEqual(last.result, run)
+            pool.again()
+        self.assertRaises(Refused, pool.outside, first)
+
+    def test_refusals(self):
+        pool = Pool()
+        pool.task(pool.again)
+        calls = ((pool.again, "WrongLife"), (lambda: pool.run(1), "WrongLife"), (pool.again, "Stopped"))
+        for call, name in calls:
+            with self.assertRaises(Refused) as caught:
+                call()
+            self.assertEqual(caught.exception.name, name)
+        pool = Pool()
+        pool.task(int)
+        pool.run(1)
+        pool.again()
+        self.assertRaises(Refused, pool.task, int)
+        pool.run(1)
+        self.assertEqual(len(pool), 1)
+        pool.close()
+        self.assertRaises(ValueError, pool.again)
+        self.assertEqual(len(pool), 1)
+
+    def test_a_pool_that_has_run_is_freed_at_once(self):
+        pool = Pool()
+        task = pool.task(int)
+        pool.run(1)
+        closing = pool._close
+        del pool
+        self.assertEqual((task.result, closing.alive), (0, False))
+
+
 class Exceptions(unittest.TestCase):
     def test_an_exception_stops_the_pool_and_is_raised(self):
         for threads in (1, 4):

@@ -61,12 +61,14 @@ def programs(is_full):
     outside = [Run(["300", "8", "4"], 0, ", 0 wrong"), Run(["300", "8", "4", "early"], 1, " wrong")]
     small_grain = [[shape, "200", "1", "1", "3x1"] for shape in SHAPES]
     ways = ["loop", "1x1", "1x4", "2x2", "8x1"]
+    # a graph of so many steps of Jacobi, run again and again
+    repeated = ["1x4:1", "2x2:2", "4x1:5"]
     return [
         Program("first.c", C, ["-lm"], [Run([], 0, "3.844231")], [[]]),
         Program("first.cpp", CPP, [], [Run([], 0, "3.844231")], [[]]),
         Program("exceptions.cpp", CPP, [], [Run([], 0, "\nas it should be")], [[]]),
         Program("refusals.c", C, [], [Run([], 0, ", 0 not as they should be")], [["quick"]]),
-        Program("jacobi.c", C, [], [Run(["128", "16", "20", "1", *ways], 0, "8x1 1280")], [["32", "16", "3", "1", "2x2"]]),
+        Program("jacobi.c", C, [], [Run(["128", "16", "20", "1", *repeated, *ways], 0, "8x1 1280")], [["32", "16", "3", "1", "2x2", "2x2:1"]]),
         Program("cholesky.c", C, ["-lm"], [Run(["256", "32", "1", *ways, "whole:1"], 0, "8x1 120")], [["64", "16", "1", "2x2"]]),
         Program("recursion.c", C, [], [Run(["100000", "500", "1", *ways], 0, "8x1 511")], [["2000", "100", "1", "2x2"]]),
         Program("grain.c", C, [], [Run([shape, "5000", "10", "1", *ways], 0, "8x1 5000") for shape in SHAPES], small_grain),
