@@ -132,8 +132,8 @@ gerfmuod_dag_answer gerfmuod_dag_done(gerfmuod_dag *dag, uint32_t node, uint32_t
 
 /* The same graph once more, after GERFMUOD_DAG_OVER: all tasks wait again for their inputs, and gerfmuod_dag_next may be
  * called at once. Inputs from outside have to be declared again, which a task without inputs cannot do: it may be returned at
- * any time. The steps are those of the new run. Refused: WRONG_LIFE if gerfmuod_dag_next has not returned OVER; NO_MEMORY, after
- * which nothing has changed. */
+ * any time. The steps are those of the new run. Refused, and nothing changes: WRONG_LIFE if gerfmuod_dag_next has not returned
+ * OVER; NO_MEMORY. */
 gerfmuod_dag_answer gerfmuod_dag_again(gerfmuod_dag *dag);
 
 /* The step with number k, from 0. Its kind is 255 if there is none, or if the pool is not open. */
