@@ -7,9 +7,9 @@
 //     pool.task([&] { z = x * y; }, {a, b}); // waits for a and b
 //     pool.run(4);
 //
-// A body runs once, after all tasks that it waits for, and sees what they wrote. A pool is used by one thread, except that
-// run() calls the bodies on several threads, and that any thread may call outside() and release(). If a body throws, the
-// pool stops, and run() throws that exception.
+// In a run, a body runs once, after all tasks that it waits for, and sees what they wrote. A pool is used by one thread,
+// except that run() calls the bodies on several threads, and that any thread may call outside() and release(). If a body
+// throws, the pool stops, and run() throws that exception.
 // Link with -lgerfmuod -pthread.
 #ifndef GERFMUOD_HPP
 #define GERFMUOD_HPP

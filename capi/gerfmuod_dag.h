@@ -7,9 +7,9 @@
  * your data, and it starts no thread. gerfmuod_team.h adds the lock, the waiting and the threads; begin there.
  *
  * Proved, for every sequence of calls that come one at a time, whatever their arguments:
- *   - gerfmuod_dag_next returns a task at most once, only at the node of that task, and only after each of its inputs was
- *     reported as done, and was received as a message if it comes from another node, and each of its inputs from outside was
- *     released;
+ *   - in each run, gerfmuod_dag_next returns a task at most once, only at the node of that task, and only after each of its
+ *     inputs was reported as done, and was received as a message if it comes from another node, and each of its inputs from
+ *     outside was released;
  *   - it returns GERFMUOD_DAG_OVER only if each task of the graph was returned and reported as done, each once, and no
  *     message is under way;
  *   - no silent wait: while not all tasks are done and no input from outside is awaited, some task runs, or
@@ -43,7 +43,7 @@ extern "C" {
 #define GERFMUOD_DAG_CLASSES 4u
 /* No task has this number. */
 #define GERFMUOD_DAG_NONE UINT32_MAX
-/* The most steps of a pool: 3 for each task, 3 for each input that comes from another node, at most 10 for each node. */
+/* The most steps of a run: 3 for each task, 3 for each input that comes from another node, at most 10 for each node. */
 #define GERFMUOD_DAG_MAX_STEPS 1048576u
 
 /* Why a call was refused. A refused call changes nothing, except for NO_MEMORY as described at gerfmuod_dag_start,
@@ -132,8 +132,8 @@ gerfmuod_dag_answer gerfmuod_dag_done(gerfmuod_dag *dag, uint32_t node, uint32_t
 
 /* The same graph once more, after GERFMUOD_DAG_OVER: all tasks wait again for their inputs, and gerfmuod_dag_next may be
  * called at once. Inputs from outside have to be declared again, which a task without inputs cannot do: it may be returned at
- * any time. The steps are those of the new run. Refused: WRONG_LIFE if gerfmuod_dag_next has not returned OVER; NO_MEMORY, after
- * which nothing has changed. */
+ * any time. The steps are those of the new run. Refused, and nothing changes: WRONG_LIFE if gerfmuod_dag_next has not returned
+ * OVER; NO_MEMORY. */
 gerfmuod_dag_answer gerfmuod_dag_again(gerfmuod_dag *dag);
 
 /* The step with number k, from 0. Its kind is 255 if there is none, or if the pool is not open. */

@@ -383,16 +383,11 @@ uint32_t gerfmuod_team_run(gerfmuod_team *team, uint32_t threads, gerfmuod_team_
     return refused;
 }
 
-/* Returns the refusal if the graph may not run once more. A thread that waits is in a turn of the run that ended. */
-static uint32_t check_again(gerfmuod_team *team) {
-    if (team->fault) return team->fault;
-    if (team->is_in_run || team->waiting) return refuse(team, GERFMUOD_TEAM_RUNNING, GERFMUOD_DAG_NONE);
-    return team->is_over ? GERFMUOD_DAG_OK : refuse(team, GERFMUOD_DAG_WRONG_LIFE, GERFMUOD_DAG_NONE);
-}
-
 uint32_t gerfmuod_team_again(gerfmuod_team *team) {
     pthread_mutex_lock(&team->lock);
-    uint32_t refused = check_again(team);
+    uint32_t refused = team->fault;
+    /* a thread that waits is in a turn of the run that ended */
+    if (!refused && (team->is_in_run || team->waiting)) refused = refuse(team, GERFMUOD_TEAM_RUNNING, GERFMUOD_DAG_NONE);
     if (!refused) refused = result_of(team, gerfmuod_dag_again(&team->dag), GERFMUOD_DAG_NONE);
     if (!refused) team->threads = 0, team->is_over = false;
     pthread_mutex_unlock(&team->lock);

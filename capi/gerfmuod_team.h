@@ -14,8 +14,9 @@
  * returned before those of classes 1 to 3.
  *
  * This file and gerfmuod_team.c are C: they are tested, not proved. What the pool below guarantees is in gerfmuod_dag.h.
- * Every function except open, run, again and close may be called by several threads at once, also from a body, and by threads that
- * run no tasks. Each returns GERFMUOD_DAG_OK or the refusal: an enum gerfmuod_dag_refusal or an enum gerfmuod_team_refusal.
+ * Every function except open, run, again and close may be called by several threads at once, also from a body, and by threads
+ * that run no tasks. Each returns GERFMUOD_DAG_OK or the refusal: an enum gerfmuod_dag_refusal or an enum
+ * gerfmuod_team_refusal.
  *
  * Link with -lgerfmuod -pthread.
  */

@@ -223,10 +223,15 @@ static void check_threads(void) {
     }
 }
 
+static void run_all(gerfmuod_dag *dag, uint32_t nodes) {
+    gerfmuod_dag_answer answer;
+    for (uint32_t node = 0; (answer = gerfmuod_dag_next(dag, node)).told != GERFMUOD_DAG_OVER; node = (node + 1) % nodes)
+        if (answer.told == GERFMUOD_DAG_RUN) gerfmuod_dag_done(dag, node, answer.number);
+}
+
 /* Returns the bytes of a pool that has run, in which each task waits for the `inputs` tasks before it. */
 static size_t bytes_of(uint32_t tasks, uint32_t nodes, uint32_t inputs) {
     gerfmuod_dag dag;
-    gerfmuod_dag_answer answer;
     size_t before = allocated;
     gerfmuod_dag_open(&dag, nodes);
     for (uint32_t t = 0; t < tasks; t++) {
@@ -234,9 +239,11 @@ static size_t bytes_of(uint32_t tasks, uint32_t nodes, uint32_t inputs) {
         for (uint32_t back = 1; back <= inputs && back <= t; back++) gerfmuod_dag_input(&dag, t - back);
     }
     gerfmuod_dag_start(&dag);
-    for (uint32_t node = 0; (answer = gerfmuod_dag_next(&dag, node)).told != GERFMUOD_DAG_OVER; node = (node + 1) % nodes)
-        if (answer.told == GERFMUOD_DAG_RUN) gerfmuod_dag_done(&dag, node, answer.number);
+    run_all(&dag, nodes);
     size_t used = allocated - before;
+    check("again", !gerfmuod_dag_again(&dag).refused);
+    run_all(&dag, nodes);
+    check("a second run uses no more", allocated - before <= used);
     gerfmuod_dag_close(&dag);
     check("all memory is given back", allocated == before);
     return used;

@@ -3,12 +3,15 @@
  *
  *   refusals [quick]     quick: without what is too large
  */
+#define _POSIX_C_SOURCE 200809L
 #include "gerfmuod.h"
 #include "gerfmuod_team.h"
+#include <pthread.h>
 #include <stdbool.h>
 #include <stdio.h>
 #include <stdlib.h>
 #include <string.h>
+#include <time.h>
 
 #pragma weak gerfmuod_refusal_name
 
@@ -371,6 +374,30 @@ static void check_team_again(void) {
     gerfmuod_team_close(it.team);
 }
 
+static void *one_turn(void *team) {
+    gerfmuod_team_turn(team, 0, GERFMUOD_DAG_NONE);
+    return NULL;
+}
+
+/* A thread that waits in a turn belongs to the run before. This one waits for the first start. */
+static void check_again_during_a_turn(void) {
+    gerfmuod_team *team;
+    pthread_t thread;
+    uint32_t refused = GERFMUOD_DAG_WRONG_LIFE;
+    gerfmuod_team_open(&team, 1);
+    check("a thread", pthread_create(&thread, NULL, one_turn, team) != 0, 0);
+    for (int tries = 0; tries < 10000 && refused == GERFMUOD_DAG_WRONG_LIFE; tries++) {
+        nanosleep(&(struct timespec){.tv_nsec = 1000000}, NULL);
+        refused = gerfmuod_team_again(team);
+    }
+    check("again while a turn waits", refused, GERFMUOD_TEAM_RUNNING);
+    check("a start ends the turn", gerfmuod_team_start(team, 1), GERFMUOD_DAG_OK);
+    pthread_join(thread, NULL);
+    check("again", gerfmuod_team_again(team), GERFMUOD_DAG_OK);
+    check("and a run of no tasks", gerfmuod_team_run(team, 3, count_body, NULL), GERFMUOD_DAG_OK);
+    gerfmuod_team_close(team);
+}
+
 static void check_team_outside(void) {
     gerfmuod_team *team;
     uint32_t ran = 0;
@@ -461,6 +488,7 @@ int main(int argc, char **argv) {
     check_team_description();
     check_team_run();
     check_team_again();
+    check_again_during_a_turn();
     check_team_outside();
     check_trace();
     check_team_stop();
