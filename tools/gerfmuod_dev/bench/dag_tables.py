@@ -1,4 +1,4 @@
-"""The tables of docs/YOUR-BODIES.md, from the rows of `dag`."""
+"""The tables of task graphs in docs/measurements/details.md, from the rows of `dag`."""
 import re
 
 from . import tables

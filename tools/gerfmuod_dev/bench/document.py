@@ -1,4 +1,4 @@
-"""The tables in docs/PERFORMANCE.md, docs/YOUR-BODIES.md, docs/measurements/details.md and README.md, between marks."""
+"""The tables in docs/PERFORMANCE.md, docs/measurements/details.md and README.md, between marks."""
 import re
 
 from ..repository import TOP, text_of
@@ -7,7 +7,7 @@ from .cases import MEASUREMENTS
 from .rows import kept, origins
 
 DETAILS = "docs/measurements/details.md"
-PAGES = "docs/PERFORMANCE.md", DETAILS, "README.md", "docs/YOUR-BODIES.md"
+PAGES = "docs/PERFORMANCE.md", DETAILS, "README.md"
 # tables of details.md, each with its measurement
 MORE = {"more": ("run", tables.more_of_pools), "kernels": ("patterns", tables.kernels)}
 BLOCK = re.compile(r"(<!-- bench (\w+) -->\n).*?(<!-- end of bench -->\n)", re.S)
