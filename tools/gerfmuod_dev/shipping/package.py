@@ -30,7 +30,7 @@ from . import dist, generated, layout, placeholders
 FILES = "tools/data/package/files"
 PROJECT = "tools/data/package"
 SONAME = shared_object.SONAME
-PREFIX = "/opt/gerfmuod"
+PREFIX = "/usr/gerfmuod"
 # the folders of Debian, with headers in a folder of their own
 OTHER = {"PREFIX": "/usr", "LIBDIR": "/usr/lib/x86_64-linux-gnu", "INCLUDEDIR": "/usr/include/gerfmuod", "MANDIR": "/srv/man"}
 
