@@ -85,6 +85,14 @@ def pass_on(name, room, others):
             renew(source, target)
 
 
+def keep(crates, room):
+    """Copies what was proved of these crates to their own folders, where a check of this repository or of a pool of one's own finds it."""
+    for name, part in itertools.product(crates, ("rlib", "incremental")):
+        source = f"{room}/crates/{name}/out/{part}"
+        if os.path.exists(source):
+            renew(source, f"crates/{name}/out/{part}")
+
+
 def shares(free, ready):
     """Yields how many of the free processors each crate gets that can begin; the first one gets what the others leave."""
     for place, crate in enumerate(ready):
@@ -156,5 +164,7 @@ def run(options):
     )
     with rooms() as (_, copies):
         is_well = prove_all(crates, copies)
+        if is_well:
+            keep(crates, copies[0])
     print("Proved and built." if is_well else "NOT PROVED.")
     return 0 if is_well else 1

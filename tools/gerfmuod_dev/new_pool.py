@@ -1,7 +1,7 @@
 """Creates a folder with a pool of your own, which runs before anything in it is proved.
 
 FOLDER gets the crate NAME, a program with a graph in it that runs this graph by threads and prints the results, and the
-crates of this repository that NAME is built on, without their mutants. With `--like chain` NAME is a copy of the crate
+crates of this repository that NAME is built on, without their mutants, with what `make` proved of them. With `--like chain` NAME is a copy of the crate
 chain, a chain of tasks that add; with `--like rod` it is a copy of the rod of pool_stencil, cells in blocks, with the
 program of tools/data/rod_run. A NAME is lowercase letters, digits and _, and no crate of this repository or of the
 toolchain has it. docs/RUNNING-A-POOL.md describes the next steps.
@@ -14,6 +14,7 @@ import shutil
 import subprocess
 
 from . import repository
+from .build import keep
 from .repository import text_of
 
 # for each kind: the crate that it copies, and the crate's parts that it takes (all if there is no list)

@@ -110,7 +110,8 @@ module _ {G : Type 0} (meaning : G → TaskGraph) (pool : ℕ) (link new : Line 
       subst (All IsOver) (sym is) (All-cons IsOver m (drop 1 link.messages) way (All-drop IsOver 1 link.messages each))
   each_over (Err back) each way _ is = subst (All IsOver) (sym is) each
 
-  pub pool_link_with_front : (r : Result (Carried G) (Carried G)) → IsPoolLink meaning pool link share → (new.from ≡ link.from) × (new.to ≡ link.to)
+  pub pool_link_with_front : (r : Result (Carried G) (Carried G)) → IsPoolLink meaning pool link share → (new.from ≡ link.from)
+      × (new.to ≡ link.to)
       → OnOk r (new.messages ≡ m ∷ drop 1 link.messages) → OnErr r (new.messages ≡ link.messages)
       → length new.messages ≡ length link.messages → IsOver m → IsPoolLink meaning pool new share
   pool_link_with_front r kept ends replaced same number way =

@@ -41,7 +41,8 @@ module _ {V : Type 0} (l : LocalState V) (s : Content V) (t : TaskId) (is : l.st
 
   insertion_of_new : refusal_of_insertion l t ≡ refusal_of_new s
   insertion_of_new =
-      alike (is_some (task_of l.store t)) (is_inactive l) (Some TaskKnown) (refusal_of_new l.store) new (active (pending_here l) m counted some)
+      alike (is_some (task_of l.store t)) (is_inactive l) (Some TaskKnown) (refusal_of_new l.store) new
+          (active (pending_here l) m counted some)
       ∙ ap refusal_of_new is
 
   -- the refusal of an insertion is the store's
@@ -86,7 +87,8 @@ delivery_free l t arity slot free some =
     (active (pending_here l) (pending_here l) refl (λ none. absurd (omega (arith, some, none))))
 
 -- if something is pending, a delivery is refused for what the store says
-pub delivery_active : {V : Type 0} (l : LocalState V) (s : Content V) (t : TaskId) → l.store ≡ s → (m : ℕ) → m ≡ pending_here l → (m ≡ 0 → ⊥)
+pub delivery_active : {V : Type 0} (l : LocalState V) (s : Content V) (t : TaskId) → l.store ≡ s → (m : ℕ) → m ≡ pending_here l
+    → (m ≡ 0 → ⊥)
     → (arity slot : ℕ)
     → refusal_of_deliver s t arity slot ≡ refusal_of_delivery l t arity slot
 delivery_active l s t is m counted some arity slot = go (is_some (task_of l.store t)) refl

@@ -52,13 +52,18 @@ module _ (R : RattleType) where
       owning_send O all (λ d. cells-Keyless s d.cells) (λ k. quiet (to O) (exits_of k (fields O)) ((struct_send (shape O) all).leaving k))
 
   pub Cells-sync : IsSync R → IsSync (Cells.the_row R)
-  Cells-sync y = let O = Cells.the_type R in record { shared = λ d b o κ. ((struct_sync (shape O) (search sendable, tt)).shared (to O d) b o κ, cells_lent-Common y d.cells κ) }
+  Cells-sync y = let O = Cells.the_type R in record {
+    shared = λ d b o κ. ((struct_sync (shape O) (search sendable, tt)).shared (to O d) b o κ, cells_lent-Common y d.cells κ);
+  }
 
   module _ (A : RattleType) (g : Ghosts A.Denot) where
     pub Deed-send : Frees g g.dealloc_token → IsSend (Deed.the_row R A g)
     Deed-send f =
         let O = Deed.the_type R A g in let all : AllSend (fields O) = (search sendable, tt) in
-        owning_send O all (λ d. (f.frees d.alloc _ d.at, (tt, tt))) (λ k. quiet (to O) (exits_of k (fields O)) ((struct_send (shape O) all).leaving k))
+        owning_send O all (λ d. (f.frees d.alloc _ d.at, (tt, tt)))
+            (λ k. quiet (to O) (exits_of k (fields O)) ((struct_send (shape O) all).leaving k))
 
     pub Deed-sync : IsSync (Deed.the_row R A g)
-    Deed-sync = let O = Deed.the_type R A g in record { shared = λ d b o κ. ((struct_sync (shape O) (search sendable, tt)).shared (to O d) b o κ, tt) }
+    Deed-sync = let O = Deed.the_type R A g in record {
+      shared = λ d b o κ. ((struct_sync (shape O) (search sendable, tt)).shared (to O d) b o κ, tt);
+    }

@@ -13,13 +13,15 @@ use Rattle.tp_slots.proofs.Standing.{stands, stands-cons, stands-push}
 
 once_more : (places : List ℕ) (x : ℕ) → ((q : ℕ) → stands q places ≤ 1) → stands x places ≡ 0 → (q : ℕ) → stands q (places ++ x ∷ []) ≤ 1
 once_more places x once none q = elim (cases_eq x q) [
-  | inl same ↦ let gone : stands q places ≡ 0 = subst (λ y. stands y places ≡ 0) same none in grind (arith, nat_tests, stands-push q x places)
+  | inl same ↦ let gone : stands q places ≡ 0 = subst (λ y. stands y places ≡ 0) same none in
+      grind (arith, nat_tests, stands-push q x places)
   | inr differs ↦ grind (arith, nat_tests, stands-push q x places, once q)
 ]
 
 pub once_before : (places : List ℕ) (x : ℕ) → ((q : ℕ) → stands q places ≤ 1) → stands x places ≡ 0 → (q : ℕ) → stands q (x ∷ places) ≤ 1
 once_before places x once none q = elim (cases_eq x q) [
-  | inl same ↦ let gone : stands q places ≡ 0 = subst (λ y. stands y places ≡ 0) same none in grind (arith, nat_tests, stands-cons q x places)
+  | inl same ↦ let gone : stands q places ≡ 0 = subst (λ y. stands y places ≡ 0) same none in
+      grind (arith, nat_tests, stands-cons q x places)
   | inr differs ↦ grind (arith, nat_tests, stands-cons q x places, once q)
 ]
 
@@ -66,41 +68,49 @@ module _ {T : Type 0} where
     path_kept p f (q ∷ qs) None none path = path
     path_kept p f (q ∷ qs) (Some l) none path =
         let differs : q ≢ i = λ e. grind (arith, nat_tests, stands-cons i q qs) in
-        (path.0, still_full p f l.place l.ptr path.1, rw (next_other q differs) (path_kept p f qs (next_at cs q) (omega (arith, stands-cons i q qs)) path.2))
+        (path.0, still_full p f l.place l.ptr path.1, rw (next_other q differs)
+            (path_kept p f qs (next_at cs q) (omega (arith, stands-cons i q qs)) path.2))
 
     pub keeps : (p : Ptr) → IsFull cs i p → KeepsOthers cs new (i ∷ [])
     keeps p f = record {
       long = length-set cs i ((cell_at cs i).0, led_to next (cell_at cs i).1);
       others = λ j none. other_cell j (λ e. grind (arith, nat_tests, stands-cons j i []));
       ptrs = λ j. elim (cases_eq j i) [
-        | inl same ↦ ap (λ (c : Ptr × Option (Slot T)). c.0) (ap (cell_at new) same ∙ this_cell p f) ∙ sym (ap (λ (c : Ptr × Option (Slot T)). c.0) (ap (cell_at cs) same ∙ f.1))
+        | inl same ↦ ap (λ (c : Ptr × Option (Slot T)). c.0) (ap (cell_at new) same ∙ this_cell p f)
+            ∙ sym (ap (λ (c : Ptr × Option (Slot T)). c.0) (ap (cell_at cs) same ∙ f.1))
         | inr other ↦ ap (λ (c : Ptr × Option (Slot T)). c.0) (other_cell j other)
       ];
       items = λ j. elim (cases_eq j i) [
-        | inl same ↦ ap (λ (c : Ptr × Option (Slot T)). item_in c.1) (ap (cell_at new) same ∙ this_cell p f) ∙ sym (ap (λ (c : Ptr × Option (Slot T)). item_in c.1) (ap (cell_at cs) same ∙ f.1))
+        | inl same ↦ ap (λ (c : Ptr × Option (Slot T)). item_in c.1) (ap (cell_at new) same ∙ this_cell p f)
+            ∙ sym (ap (λ (c : Ptr × Option (Slot T)). item_in c.1) (ap (cell_at cs) same ∙ f.1))
         | inr other ↦ ap (λ (c : Ptr × Option (Slot T)). item_in c.1) (other_cell j other)
       ];
       full = λ j. elim (cases_eq j i) [
-        | inl same ↦ ap (λ (c : Ptr × Option (Slot T)). is_some c.1) (ap (cell_at new) same ∙ this_cell p f) ∙ sym (ap (λ (c : Ptr × Option (Slot T)). is_some c.1) (ap (cell_at cs) same ∙ f.1))
+        | inl same ↦ ap (λ (c : Ptr × Option (Slot T)). is_some c.1) (ap (cell_at new) same ∙ this_cell p f)
+            ∙ sym (ap (λ (c : Ptr × Option (Slot T)). is_some c.1) (ap (cell_at cs) same ∙ f.1))
         | inr other ↦ ap (λ (c : Ptr × Option (Slot T)). is_some c.1) (other_cell j other)
       ];
     }
 
   -- the slot at the end of a path leads on to another
-  pub path_extended : (cs : List (Ptr × Option (Slot T))) (b l : Link T) → IsLink cs b → IsLink cs l → l.place ≢ b.place → next_at cs l.place ≡ None → (qs : List ℕ) (o : Option (Link T))
+  pub path_extended : (cs : List (Ptr × Option (Slot T))) (b l : Link T) → IsLink cs b → IsLink cs l → l.place ≢ b.place
+      → next_at cs l.place ≡ None → (qs : List ℕ) (o : Option (Link T))
       → stands b.place qs ≡ 0 → IsPath cs o (qs ++ b.place ∷ [])
       → IsPath (with_next cs b.place (Some l)) o (qs ++ b.place ∷ l.place ∷ [])
   path_extended cs b l hb hl ne last [] None none path = absurd path
   path_extended cs b l hb hl ne last [] (Some m) none path =
       let full = still_full cs b.place (Some l) b.ptr hb in
-      (path.0, full m.place m.ptr path.1, rw (next_here cs b.place (Some l) b.ptr hb) (refl, full l.place l.ptr hl, next_other cs b.place (Some l) l.place ne ∙ last))
+      (path.0, full m.place m.ptr path.1, rw (next_here cs b.place (Some l) b.ptr hb)
+          (refl, full l.place l.ptr hl, next_other cs b.place (Some l) l.place ne ∙ last))
   path_extended cs b l hb hl ne last (q ∷ qs) None none path = absurd path
   path_extended cs b l hb hl ne last (q ∷ qs) (Some m) none path =
       let full = still_full cs b.place (Some l) b.ptr hb in
       let differs : q ≢ b.place = λ e. grind (arith, nat_tests, stands-cons b.place q qs) in
-      (path.0, full m.place m.ptr path.1, rw (next_other cs b.place (Some l) q differs) (path_extended cs b l hb hl ne last qs (next_at cs q) (omega (arith, stands-cons b.place q qs)) path.2))
+      (path.0, full m.place m.ptr path.1, rw (next_other cs b.place (Some l) q differs)
+          (path_extended cs b l hb hl ne last qs (next_at cs q) (omega (arith, stands-cons b.place q qs)) path.2))
 
-  pub appended_first : (cs : List (Ptr × Option (Slot T))) (l : Link T) → IsLink cs l → IsChain (with_next cs l.place None) (record { front = Some l; back = Some l }) (l.place ∷ [])
+  pub appended_first : (cs : List (Ptr × Option (Slot T))) (l : Link T) → IsLink cs l
+      → IsChain (with_next cs l.place None) (record { front = Some l; back = Some l }) (l.place ∷ [])
   appended_first cs l hl =
       let full = still_full cs l.place None l.ptr hl l.place l.ptr hl in
       record {
@@ -123,10 +133,13 @@ module _ {T : Type 0} where
       let apart : l.place ≢ b.place = λ e. grind (arith, nat_tests, stands-push l.place b.place qs) in
       let once' : stands b.place (qs ++ b.place ∷ []) ≤ 1 = subst (λ ps. stands b.place ps ≤ 1) cut (chain.once b.place) in
       let alone : stands b.place qs ≡ 0 = grind (arith, nat_tests, stands-push b.place b.place qs) in
-      let path' : IsPath ds front (qs ++ b.place ∷ []) = path_kept cs l.place None l.ptr hl (qs ++ b.place ∷ []) front none' (subst (IsPath cs front) cut chain.path) in
-      let whole : places ++ l.place ∷ [] ≡ qs ++ b.place ∷ l.place ∷ [] = ap (λ ps. ps ++ l.place ∷ []) cut ∙ append_assoc qs (b.place ∷ []) (l.place ∷ []) in
+      let path' : IsPath ds front (qs ++ b.place ∷ []) = path_kept cs l.place None l.ptr hl (qs ++ b.place ∷ []) front none'
+          (subst (IsPath cs front) cut chain.path) in
+      let whole : places ++ l.place ∷ [] ≡ qs ++ b.place ∷ l.place ∷ [] = ap (λ ps. ps ++ l.place ∷ []) cut
+          ∙ append_assoc qs (b.place ∷ []) (l.place ∷ []) in
       record {
-        path = subst (IsPath (with_next ds b.place (Some l)) front) (sym whole) (path_extended ds b l hb' hl' apart (next_here cs l.place None l.ptr hl) qs front alone path');
+        path = subst (IsPath (with_next ds b.place (Some l)) front) (sym whole)
+            (path_extended ds b l hb' hl' apart (next_here cs l.place None l.ptr hl) qs front alone path');
         back = (still_full ds b.place (Some l) b.ptr hb' l.place l.ptr hl', places, refl);
         once = once_more places l.place chain.once none;
       }
@@ -135,17 +148,21 @@ module _ {T : Type 0} where
       → IsChain cs (record { front = front; back = back }) places → stands l.place places ≡ 0
       → IsPath (with_next cs l.place front) (Some l) (l.place ∷ places)
   put_before cs front back l places hl chain none =
-      (refl, still_full cs l.place front l.ptr hl l.place l.ptr hl, rw (next_here cs l.place front l.ptr hl) (path_kept cs l.place front l.ptr hl places front none chain.path))
+      (refl, still_full cs l.place front l.ptr hl l.place l.ptr hl, rw (next_here cs l.place front l.ptr hl)
+          (path_kept cs l.place front l.ptr hl places front none chain.path))
 
-  pub empty_back : (cs : List (Ptr × Option (Slot T))) (places : List ℕ) (back : Option (Link T)) → back ≡ None → IsBack cs back places → places ≡ []
+  pub empty_back : (cs : List (Ptr × Option (Slot T))) (places : List ℕ) (back : Option (Link T)) → back ≡ None → IsBack cs back places
+      → places ≡ []
   empty_back cs places back e h = subst (λ o. IsBack cs o places) e h
 
-  pub empty_front : (cs : List (Ptr × Option (Slot T))) (places : List ℕ) (front : Option (Link T)) → front ≡ None → IsPath cs front places → places ≡ []
+  pub empty_front : (cs : List (Ptr × Option (Slot T))) (places : List ℕ) (front : Option (Link T)) → front ≡ None
+      → IsPath cs front places → places ≡ []
   empty_front cs [] front e h = refl
   empty_front cs (p ∷ ps) front e h = absurd (subst (λ o. IsPath cs o (p ∷ ps)) e h)
 
   -- a list with a front has that place first
-  pub first_place : (cs : List (Ptr × Option (Slot T))) (places : List ℕ) (front : Option (Link T)) (l : Link T) → front ≡ Some l → IsPath cs front places
+  pub first_place : (cs : List (Ptr × Option (Slot T))) (places : List ℕ) (front : Option (Link T)) (l : Link T) → front ≡ Some l
+      → IsPath cs front places
       → IsLink cs l × (rest : List ℕ) × (places ≡ l.place ∷ rest) × IsPath cs (next_at cs l.place) rest
   first_place cs [] front l e h = let clash : None ≡ Some l = sym h ∙ e in cc
   first_place cs (p ∷ ps) front l e h =
@@ -153,7 +170,8 @@ module _ {T : Type 0} where
       (at.1, ps, ap (λ q. q ∷ ps) (sym at.0), subst (λ q. IsPath cs (next_at cs q) ps) (sym at.0) at.2)
 
   -- the back stays if the front is removed and others remain
-  pub back_of_rest : (cs : List (Ptr × Option (Slot T))) (back : Option (Link T)) (x y : ℕ) (rest : List ℕ) → IsBack cs back (x ∷ y ∷ rest) → IsBack cs back (y ∷ rest)
+  pub back_of_rest : (cs : List (Ptr × Option (Slot T))) (back : Option (Link T)) (x y : ℕ) (rest : List ℕ)
+      → IsBack cs back (x ∷ y ∷ rest) → IsBack cs back (y ∷ rest)
   back_of_rest cs None x y rest h = cc
   back_of_rest cs (Some b) x y rest h = cut h.1 h.2
     where
@@ -161,27 +179,39 @@ module _ {T : Type 0} where
       cut [] e = cc
       cut (z ∷ zs) e = (h.0, zs, cc)
 
-  pub chain_rest : (cs : List (Ptr × Option (Slot T))) (back next m : Option (Link T)) (l k : Link T) (rest : List ℕ) → next ≡ Some k → IsPath cs next rest
+  pub chain_rest : (cs : List (Ptr × Option (Slot T))) (back next m : Option (Link T)) (l k : Link T) (rest : List ℕ) → next ≡ Some k
+      → IsPath cs next rest
       → IsBack cs back (l.place ∷ rest) → ((q : ℕ) → stands q (l.place ∷ rest) ≤ 1) → IsChain cs (record { front = next; back = back }) rest
   chain_rest cs back next m l k [] e path h once = let clash : None ≡ Some k = sym path ∙ e in cc
-  chain_rest cs back next m l k (y ∷ ys) e path h once = record { path = path; back = back_of_rest cs back l.place y ys h; once = once_rest l.place (y ∷ ys) once }
+  chain_rest cs back next m l k (y ∷ ys) e path h once = record {
+    path = path;
+    back = back_of_rest cs back l.place y ys h;
+    once = once_rest l.place (y ∷ ys) once;
+  }
 
-  pub back_before : (cs : List (Ptr × Option (Slot T))) (back next : Option (Link T)) (l : Link T) (places : List ℕ) (b : Link T) → IsLink cs l → back ≡ Some b → IsBack cs back places
+  pub back_before : (cs : List (Ptr × Option (Slot T))) (back next : Option (Link T)) (l : Link T) (places : List ℕ) (b : Link T)
+      → IsLink cs l → back ≡ Some b → IsBack cs back places
       → IsBack (with_next cs l.place next) back (l.place ∷ places)
   back_before cs None next l places b hl e h = cc
-  back_before cs (Some x) next l places b hl e h = (still_full cs l.place next l.ptr hl x.place x.ptr h.0, l.place ∷ h.1, ap (λ ps. l.place ∷ ps) h.2)
+  back_before cs (Some x) next l places b hl e h = (
+    still_full cs l.place next l.ptr hl x.place x.ptr h.0,
+    l.place ∷ h.1,
+    ap (λ ps. l.place ∷ ps) h.2,
+  )
 
   module _ (cs : List (Ptr × Option (Slot T))) (places : List ℕ) (chain : Chain T) (l : Link T) (next : Option (Link T))
       (at : chain.front ≡ Some l) (whole : IsChain cs chain places) (leads : next_at cs l.place ≡ next) where
     -- the only slot is taken
-    pub taken_last : next ≡ None → IsLink cs l × (rest : List ℕ) × (places ≡ l.place ∷ rest) × IsChain cs (record { front = next; back = None }) rest
+    pub taken_last : next ≡ None → IsLink cs l × (rest : List ℕ) × (places ≡ l.place ∷ rest)
+        × IsChain cs (record { front = next; back = None }) rest
     taken_last none =
         let first = first_place cs places chain.front l at whole.path in
         let rest : first.1 ≡ [] = empty_front cs first.1 (next_at cs l.place) (leads ∙ none) first.3 in
         (first.0, [], first.2 ∙ ap (λ r. l.place ∷ r) rest, record { path = none; back = refl; once = λ q. omega arith })
 
     -- the first of several is taken
-    pub taken_first : (k : Link T) → next ≡ Some k → IsLink cs l × (rest : List ℕ) × (places ≡ l.place ∷ rest) × IsChain cs (record { front = next; back = chain.back }) rest
+    pub taken_first : (k : Link T) → next ≡ Some k → IsLink cs l × (rest : List ℕ) × (places ≡ l.place ∷ rest)
+        × IsChain cs (record { front = next; back = chain.back }) rest
     taken_first k some =
         let first = first_place cs places chain.front l at whole.path in
         let path : IsPath cs next first.1 = subst (λ o. IsPath cs o first.1) leads first.3 in

@@ -101,9 +101,11 @@ module _ {G : Type 0} where
   pub run_queue_turned : (ws us : List (Begun G)) (old new : NodeState G) (b l : BoardState) → us ≡ reverse ws → BeginsEach ws old new b l
       → length ws ≤ 7 → IsRunQueue (run_queue new (reverse us))
   run_queue_turned ws us old new b l e each few =
-      subst (λ (vs : List (Begun G)). IsRunQueue (run_queue new vs)) (sym (ap reverse e ∙ reverse-reverse ws)) (run_queue_after ws old new b l each few)
+      subst (λ (vs : List (Begun G)). IsRunQueue (run_queue new vs)) (sym (ap reverse e ∙ reverse-reverse ws))
+          (run_queue_after ws old new b l each few)
 
-  pub run_queue_stays : (old new : NodeState G) (ws : List (Begun G)) → IsRunQueue (run_queue old ws) → new.graph ≡ old.graph → IsRunQueue (run_queue new ws)
+  pub run_queue_stays : (old new : NodeState G) (ws : List (Begun G)) → IsRunQueue (run_queue old ws) → new.graph ≡ old.graph
+      → IsRunQueue (run_queue new ws)
   run_queue_stays old new ws is same = record {
     few = is.few;
     graph = subst (λ g. All (λ (w : Begun G). w.graph ≡ g) ws) (sym same) is.graph;

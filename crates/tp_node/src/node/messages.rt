@@ -158,7 +158,8 @@ impl<G: Comparable, K: Ledgers> Node<G, K> {
             (result ≡ Ok tt) (λ e. result ≡ Err e) }
         ensures graph { OnOk result (message.now.graph ≡ self.now.graph) }
         ensures generation { OnOk result (message.now.generation.0 ≡ generation_of board.now) }
-        ensures sent { OnOk result (IsTrue (any (is_send_to pool_link.now.to message.now.number.0) (present (steps_of board.now.history)))) }
+        ensures sent { OnOk result
+            (IsTrue (any (is_send_to pool_link.now.to message.now.number.0) (present (steps_of board.now.history)))) }
         ensures closed { OnOk result ((self.now.state.ended ≡ false) × (has_message self.now.state.actions message.now.number.0 ≡ false)) }
     {
         if self.local.is_over() {

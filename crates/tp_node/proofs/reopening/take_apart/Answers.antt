@@ -49,7 +49,8 @@ loop-node-preserved g c =
       board = c.apart-share.ensures.board ∙ kept.board;
       shares = mapped-more (λ (n : NodeState g.row.G.Denot). n.numbers) yielded node c.loop-node.shares.items _ _ kept.shares
           c.apart-share.ensures.shares c.push_reserved.ensures.items;
-      unshared = mapped-more (anew {G = g.row.G.Denot}) yielded node c.loop-node.unshared.items _ _ kept.unshared c.apart-share.ensures.unshared
+      unshared = mapped-more (anew {G = g.row.G.Denot}) yielded node c.loop-node.unshared.items _ _ kept.unshared
+          c.apart-share.ensures.unshared
           c.push_reserved-in-loop-node.ensures.items;
       pool =
           subst (All P) (sym c.push_reserved-in-loop-node.ensures.items)

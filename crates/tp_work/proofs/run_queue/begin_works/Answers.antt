@@ -18,7 +18,8 @@ loop-preserved g c = record {
   room = let p = c.push_reserved.ensures.len in let q = c.push_reserved.ensures.capacity in let r = c.loop.invariant.room in
       let t = c.loop-test.true in omega (arith, p, q, r, t);
   few = let p = c.push_reserved.ensures.len in let r = c.loop.invariant.few in omega (arith, p, r);
-  began = subst (λ ws. BeginsEach ws c.args.node.now c.begin.new.self c.args.board.now c.begin.new.board) (sym c.push_reserved.ensures.items)
+  began = subst (λ ws. BeginsEach ws c.args.node.now c.begin.new.self c.args.board.now c.begin.new.board)
+      (sym c.push_reserved.ensures.items)
       (then_one c.loop.works.items c.args.node.now c.loop.node c.begin.new.self c.args.board.now c.loop.board c.begin.new.board
       c.in-Ok-Some.work c.loop.invariant.began (rw c.in-Ok-Some.field-0-is at c.in-Ok-Some.ensures.begun));
 }

@@ -16,7 +16,12 @@ follow-requires-clause-few c =
 pub returns-then-count-self-clause-refusal : goal.returns-then-count-self-clause-refusal
 returns-then-count-self-clause-refusal c =
     let event_log = c.self.inside in
-    let now : BoardState = record { history = event_log.history.events; limit = event_log.limit; reserved = event_log.reserved; fault = event_log.fault } in
+    let now : BoardState = record {
+      history = event_log.history.events;
+      limit = event_log.limit;
+      reserved = event_log.reserved;
+      fault = event_log.fault;
+    } in
     rw (← c.self.view_is)
     (full now 1 c.len-count.result _ c.len-count.ensures (omega (arith, c.len-count.ensures, c.if-count-self.true)) refl)
 
