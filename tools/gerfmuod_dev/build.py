@@ -93,15 +93,22 @@ def keep(crates, room):
             renew(source, f"crates/{name}/out/{part}")
 
 
-def shares(free, ready):
-    """Yields how many of the free processors each crate gets that can begin; the first one gets what the others leave."""
+def shares(free, ready, head, most):
+    """Yields how many of the free processors each crate gets that can begin; the first one gets what the others leave. The head of
+    the longest chain gets up to `most`, also those that are not free: everything waits for it, and the others end before it."""
     for place, crate in enumerate(ready):
-        if not free:
+        if free <= 0:
             return
         left = len(ready) - place - 1
-        jobs = max(1, min(free - left, crate.lines // LINES_OF_A_JOB))
+        jobs = max(1, min(most if crate.name == head else free - left, crate.lines // LINES_OF_A_JOB))
         free -= jobs
         yield crate, jobs
+
+
+def head_of(crates, done):
+    """Returns the crate with the most lines on the chains above it of those that are not done."""
+    longest = longest_chains(crates)
+    return max((name for name in crates if name not in done), key=longest.get, default=None)
 
 
 def ready_crates(crates, done, running):
@@ -119,7 +126,7 @@ def prove_all(crates, copies):
     with ThreadPoolExecutor(len(copies)) as lanes:
         while is_well and len(done) < len(crates) or running:
             ready = ready_crates(crates, done, running) if is_well else []
-            for crate, jobs in list(shares(free, ready)):
+            for crate, jobs in list(shares(free, ready, head_of(crates, done), max(1, len(copies) - 1))):
                 job = Job(crate, free_copies.pop(), jobs, time.time())
                 running[lanes.submit(prove, crate, job.room, jobs)] = job
                 free -= jobs
