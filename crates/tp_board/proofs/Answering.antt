@@ -61,7 +61,7 @@ pub refused : {A : Type 0} (n nodes : ℕ) (event_log now : BoardState) (t : Boo
 refused n nodes event_log now t w s ds e err result board is exact some answer =
     let first = exact n _ _ (stands_now n nodes event_log.history t w board) in
     rw (← is) (answers_refused (control_checks n (present (steps_of event_log.history)) s) ds 1 event_log result e (sym first ∙ some)
-        answer)
+    answer)
 
 same_answer-to : {A B : Type 0} (o : Option Refusal) (want : Type 0) (r : Result A Refusal) (q : Result B Refusal)
     → result_err r ≡ result_err q

@@ -42,7 +42,7 @@ module _ {V : Type 0} (l : LocalState V) (s : Content V) (t : TaskId) (is : l.st
   insertion_of_new : refusal_of_insertion l t ≡ refusal_of_new s
   insertion_of_new =
       alike (is_some (task_of l.store t)) (is_inactive l) (Some TaskKnown) (refusal_of_new l.store) new
-          (active (pending_here l) m counted some)
+      (active (pending_here l) m counted some)
       ∙ ap refusal_of_new is
 
   -- the refusal of an insertion is the store's

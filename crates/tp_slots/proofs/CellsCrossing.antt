@@ -61,7 +61,7 @@ module _ (R : RattleType) where
     Deed-send f =
         let O = Deed.the_type R A g in let all : AllSend (fields O) = (search sendable, tt) in
         owning_send O all (λ d. (f.frees d.alloc _ d.at, (tt, tt)))
-            (λ k. quiet (to O) (exits_of k (fields O)) ((struct_send (shape O) all).leaving k))
+        (λ k. quiet (to O) (exits_of k (fields O)) ((struct_send (shape O) all).leaving k))
 
     pub Deed-sync : IsSync (Deed.the_row R A g)
     Deed-sync = let O = Deed.the_type R A g in record {

@@ -67,9 +67,12 @@ module _ {T : Type 0} where
     path_kept p f [] o none path = path
     path_kept p f (q ∷ qs) None none path = path
     path_kept p f (q ∷ qs) (Some l) none path =
-        let differs : q ≢ i = λ e. grind (arith, nat_tests, stands-cons i q qs) in
-        (path.0, still_full p f l.place l.ptr path.1, rw (next_other q differs)
-            (path_kept p f qs (next_at cs q) (omega (arith, stands-cons i q qs)) path.2))
+        let differs : q ≢ i = λ e. grind (arith, nat_tests, stands-cons i q qs) in (
+          path.0,
+          still_full p f l.place l.ptr path.1,
+          rw (next_other q differs)
+              (path_kept p f qs (next_at cs q) (omega (arith, stands-cons i q qs)) path.2),
+        )
 
     pub keeps : (p : Ptr) → IsFull cs i p → KeepsOthers cs new (i ∷ [])
     keeps p f = record {
@@ -99,15 +102,21 @@ module _ {T : Type 0} where
       → IsPath (with_next cs b.place (Some l)) o (qs ++ b.place ∷ l.place ∷ [])
   path_extended cs b l hb hl ne last [] None none path = absurd path
   path_extended cs b l hb hl ne last [] (Some m) none path =
-      let full = still_full cs b.place (Some l) b.ptr hb in
-      (path.0, full m.place m.ptr path.1, rw (next_here cs b.place (Some l) b.ptr hb)
-          (refl, full l.place l.ptr hl, next_other cs b.place (Some l) l.place ne ∙ last))
+      let full = still_full cs b.place (Some l) b.ptr hb in (
+        path.0,
+        full m.place m.ptr path.1,
+        rw (next_here cs b.place (Some l) b.ptr hb)
+            (refl, full l.place l.ptr hl, next_other cs b.place (Some l) l.place ne ∙ last),
+      )
   path_extended cs b l hb hl ne last (q ∷ qs) None none path = absurd path
   path_extended cs b l hb hl ne last (q ∷ qs) (Some m) none path =
       let full = still_full cs b.place (Some l) b.ptr hb in
-      let differs : q ≢ b.place = λ e. grind (arith, nat_tests, stands-cons b.place q qs) in
-      (path.0, full m.place m.ptr path.1, rw (next_other cs b.place (Some l) q differs)
-          (path_extended cs b l hb hl ne last qs (next_at cs q) (omega (arith, stands-cons b.place q qs)) path.2))
+      let differs : q ≢ b.place = λ e. grind (arith, nat_tests, stands-cons b.place q qs) in (
+        path.0,
+        full m.place m.ptr path.1,
+        rw (next_other cs b.place (Some l) q differs)
+            (path_extended cs b l hb hl ne last qs (next_at cs q) (omega (arith, stands-cons b.place q qs)) path.2),
+      )
 
   pub appended_first : (cs : List (Ptr × Option (Slot T))) (l : Link T) → IsLink cs l
       → IsChain (with_next cs l.place None) (record { front = Some l; back = Some l }) (l.place ∷ [])
@@ -134,9 +143,9 @@ module _ {T : Type 0} where
       let once' : stands b.place (qs ++ b.place ∷ []) ≤ 1 = subst (λ ps. stands b.place ps ≤ 1) cut (chain.once b.place) in
       let alone : stands b.place qs ≡ 0 = grind (arith, nat_tests, stands-push b.place b.place qs) in
       let path' : IsPath ds front (qs ++ b.place ∷ []) = path_kept cs l.place None l.ptr hl (qs ++ b.place ∷ []) front none'
-          (subst (IsPath cs front) cut chain.path) in
+      (subst (IsPath cs front) cut chain.path) in
       let whole : places ++ l.place ∷ [] ≡ qs ++ b.place ∷ l.place ∷ [] = ap (λ ps. ps ++ l.place ∷ []) cut
-          ∙ append_assoc qs (b.place ∷ []) (l.place ∷ []) in
+      ∙ append_assoc qs (b.place ∷ []) (l.place ∷ []) in
       record {
         path = subst (IsPath (with_next ds b.place (Some l)) front) (sym whole)
             (path_extended ds b l hb' hl' apart (next_here cs l.place None l.ptr hl) qs front alone path');
@@ -147,9 +156,12 @@ module _ {T : Type 0} where
   pub put_before : (cs : List (Ptr × Option (Slot T))) (front back : Option (Link T)) (l : Link T) (places : List ℕ) → IsLink cs l
       → IsChain cs (record { front = front; back = back }) places → stands l.place places ≡ 0
       → IsPath (with_next cs l.place front) (Some l) (l.place ∷ places)
-  put_before cs front back l places hl chain none =
-      (refl, still_full cs l.place front l.ptr hl l.place l.ptr hl, rw (next_here cs l.place front l.ptr hl)
-          (path_kept cs l.place front l.ptr hl places front none chain.path))
+  put_before cs front back l places hl chain none = (
+    refl,
+    still_full cs l.place front l.ptr hl l.place l.ptr hl,
+    rw (next_here cs l.place front l.ptr hl)
+        (path_kept cs l.place front l.ptr hl places front none chain.path),
+  )
 
   pub empty_back : (cs : List (Ptr × Option (Slot T))) (places : List ℕ) (back : Option (Link T)) → back ≡ None → IsBack cs back places
       → places ≡ []

@@ -102,7 +102,7 @@ module _ {G : Type 0} where
       → length ws ≤ 7 → IsRunQueue (run_queue new (reverse us))
   run_queue_turned ws us old new b l e each few =
       subst (λ (vs : List (Begun G)). IsRunQueue (run_queue new vs)) (sym (ap reverse e ∙ reverse-reverse ws))
-          (run_queue_after ws old new b l each few)
+      (run_queue_after ws old new b l each few)
 
   pub run_queue_stays : (old new : NodeState G) (ws : List (Begun G)) → IsRunQueue (run_queue old ws) → new.graph ≡ old.graph
       → IsRunQueue (run_queue new ws)

@@ -14,7 +14,7 @@ series_of-requires-clause-nodes g c κs within = sym c.requires.nodes ∙ ap (λ
 pub returns-in-Err-run_earlier-clause-fault : goal.returns-in-Err-run_earlier-clause-fault
 returns-in-Err-run_earlier-clause-fault g c =
     subst (λ (t : TaskGraph). IsSeriesFault c.args.config.nodes t c.args.count c.in-Err-run_earlier.fault)
-        (ap g.G.Graph.meaning c.new.ensures)
+    (ap g.G.Graph.meaning c.new.ensures)
     c.in-Err-run_earlier.ensures.fault
 
 pub returns-in-Ok-run_generation-clause-series : goal.returns-in-Ok-run_generation-clause-series
@@ -26,5 +26,5 @@ returns-in-Ok-run_generation-clause-series g c =
 pub returns-in-Ok-run_generation-clause-fault : goal.returns-in-Ok-run_generation-clause-fault
 returns-in-Ok-run_generation-clause-fault g c =
     subst (λ (t : TaskGraph). IfErr c.series_of.result (IsSeriesFault c.args.config.nodes t c.args.count))
-        (ap g.G.Graph.meaning c.new.ensures)
+    (ap g.G.Graph.meaning c.new.ensures)
     (rw c.in-Ok-run_earlier.ensures.many at c.series_of.ensures.fault)

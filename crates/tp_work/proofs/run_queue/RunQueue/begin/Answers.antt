@@ -11,7 +11,7 @@ returns-then-share-gt1-clause-begun g c =
     let begun = c.in_ok-begun.field-0 in
     let rest = c.begin_more.new.self.begun in
     subst (λ (n : NodeState _). BeginsEach (option_to_list begun ++ rest) n c.begin_more.new.self.node c.args.board.now
-        c.begin_more.new.board)
+    c.begin_more.new.board)
     (ap (λ (d : RunQueueState _). d.node) c.self.view_is)
     (begun_before begun rest c.self.inside.node c.begin.new.self c.begin_more.new.self.node c.args.board.now c.begin.new.board
     c.begin_more.new.board c.in_ok-begun.ensures.begun c.begin_more.ensures)
