@@ -10,7 +10,7 @@ ghost use Rattle.tp_core.specs.RecorderKept.{AreFirst, AreIdleBelow};
 
 use crate::numbers::{NodeNumbers, Numbers};
 use counting::counted;
-use room::make_room;
+use room::keep;
 use std::alloc::Global;
 use std::marker::Model;
 use tp_base::{NodeId, Refusal, Step};
@@ -102,10 +102,7 @@ impl Recorder {
         }
         let own = self.numbers[node.0 as usize];
         let (own, under) = counted(step, own, self.under)?;
-        if self.keeps {
-            make_room(&mut self.steps, 1)?;
-            self.steps.push_reserved(step);
-        }
+        keep(self.keeps, &mut self.steps, step)?;
         self.numbers[node.0 as usize] = own;
         self.under = under;
         Ok(())

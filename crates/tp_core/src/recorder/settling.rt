@@ -11,7 +11,7 @@ ghost use Rattle.tp_core.specs.RecorderKept.{AreFew, IsFresh};
 ghost use Rattle.tp_core.specs.RecorderSettling.{IsBehind, IsMade, IsDone};
 
 use super::Recorder;
-use super::room::make_room;
+use super::room::{append, make_room};
 use crate::numbers::NodeNumbers;
 use tp_base::{MAX_NODES, NodeId, Refusal, Step};
 use tp_wave::Wave;
@@ -43,9 +43,7 @@ impl Recorder {
         if !self.is_quiet() {
             return Err(Refusal::NotIdle);
         }
-        if self.keeps {
-            make_room(&mut self.steps, 9 * self.nodes as usize)?;
-        }
+        make_room(self.keeps, &mut self.steps, 9 * self.nodes as usize)?;
         let before = self.steps.len();
         let mut wave = self.wave;
         let settled = take_to_end(
@@ -88,9 +86,7 @@ fn take_to_end(
         let Ok(told) = make(wave, numbers, step) else {
             return None;
         };
-        if keeps {
-            steps.push_reserved(step);
-        }
+        append(keeps, steps, step);
         count += 1;
         if let Some(ended) = told {
             return Some((ended, count));
