@@ -3,7 +3,7 @@
 use std::alloc::Global;
 use std::test::Fail;
 use tp_base::{ActionId, Generation, Inputs, MessageId, NodeId, Refusal, Step, TaskId};
-use tp_core::{Core, Recorder};
+use tp_core::{Core, Numbers, Recorder};
 
 const TASK: TaskId = TaskId(1);
 
@@ -124,5 +124,55 @@ fn a_recorder_refuses_what_its_counters_exclude(rt: HostRuntime) -> Result<(), F
         Err(Refusal::Inactive),
     ];
     assert_eq!(rt; refused, expected);
+    Ok(())
+}
+
+/// The numbers of a recorder, and how many steps it keeps.
+fn state_of(recorder: &Recorder) -> (Numbers, Option<usize>) {
+    (
+        recorder.numbers(),
+        recorder.steps().map(|steps| steps.len()),
+    )
+}
+
+/// Records a step, again if it is refused memory. Returns whether it was recorded, and a refusal changed nothing.
+fn is_recorded(recorder: &mut Recorder, node: u32, step: Step) -> bool {
+    let before = state_of(recorder);
+    match recorder.record(NodeId(node), step) {
+        Err(Refusal::NoMemory) => {
+            let same = state_of(recorder) == before;
+            same && recorder.record(NodeId(node), step).is_ok()
+        }
+        other => other.is_ok(),
+    }
+}
+
+/// Settles, again if it is refused memory. Returns whether it settled, and a refusal changed nothing.
+fn is_settled(recorder: &mut Recorder) -> bool {
+    let before = state_of(recorder);
+    match recorder.settle() {
+        Err(Refusal::NoMemory) => {
+            let same = state_of(recorder) == before;
+            same && recorder.settle().is_ok()
+        }
+        other => other.is_ok(),
+    }
+}
+
+#[test]
+fn a_recorder_refused_memory_is_as_before(rt: HostRuntime) -> Result<(), Fail> {
+    let one = Inputs::new(1).ok_or("one input")?;
+    let mut recorder = Recorder::new(rt.alloc(), 2, true);
+    let mut recorded = 0_u32;
+    for (node, step) in whole_run(one).as_slice() {
+        if is_recorded(&mut recorder, *node, *step) {
+            recorded = recorded.saturating_add(1);
+        }
+    }
+    let settled = is_settled(&mut recorder);
+    assert_eq!(rt;
+        (recorded, settled, state_of(&recorder).1),
+        (11, true, Some(23))
+    );
     Ok(())
 }

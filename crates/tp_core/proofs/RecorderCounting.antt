@@ -69,7 +69,8 @@ needed_there {a} {h} {node} {s} b m =
     let needed : Needs a.nodes (history a.nodes h) node s =
     subst (λ (i : ℕ). Needs a.nodes (history a.nodes h) i s) (sym m.beside) whole.0.needed in
     needed_by s (slice_index_or a.numbers node zeros) a.under a.nodes (history a.nodes h) node m.of_pool needed
-    (ap (λ (x : NodeNumbers). x.pending) (b.numbers.each node zeros (omega (arith, inside, few))) ∙ sym (pending_is a.nodes h run node inside))
+    (ap (λ (x : NodeNumbers). x.pending) (b.numbers.each node zeros (omega (arith, inside, few)))
+    ∙ sym (pending_is a.nodes h run node inside))
     (b.under ∙ sym (under_way_is a.nodes h run) ∙ ap under_way (sym (steps_of-history a.nodes h)))
 
 -- ---- the counters after the step
@@ -130,7 +131,8 @@ pub few_next : {numbers : List NodeNumbers} {v : NodeNumbers} (under node : ℕ)
 few_next {numbers} {v} under node s few low is none =
     let x : NodeNumbers = slice_index_or numbers node zeros in
     let size = few.size in
-    let sent : v.sent ≤ MAX_STEPS = subst (λ (y : NodeNumbers). y.sent ≤ MAX_STEPS) (sym is) (sent_few s x under (few.sent node zeros low) none) in
+    let sent : v.sent ≤ MAX_STEPS = subst (λ (y : NodeNumbers). y.sent ≤ MAX_STEPS) (sym is)
+    (sent_few s x under (few.sent node zeros low) none) in
     let received : v.received ≤ MAX_STEPS =
     subst (λ (y : NodeNumbers). y.received ≤ MAX_STEPS) (sym is) (received_few s x under (few.received node zeros low) none) in
     record {

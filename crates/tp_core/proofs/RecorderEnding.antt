@@ -32,14 +32,16 @@ quiet_by n h pos run idle none = (quiet_seen n h pos run).0 (record {
   none_under_way = rw steps_of-history (under_way_is n h run ∙ none);
 })
 
-pub quiet_from_counters : {a : Recorded} {h : List Step} → Backs h a → a.under ≡ 0 → AreIdleBelow a.nodes a.numbers → IsQuiet (world a.nodes h)
+pub quiet_from_counters : {a : Recorded} {h : List Step} → Backs h a → a.under ≡ 0 → AreIdleBelow a.nodes a.numbers
+    → IsQuiet (world a.nodes h)
 quiet_from_counters {a} {h} b under idle =
     let few = b.few_nodes in
     quiet_by a.nodes h b.some_node (run_of b)
     (λ i l. sym (ap (λ (x : NodeNumbers). x.pending) (b.numbers.each i zeros (omega (arith, l, few)))) ∙ idle i zeros l)
     (sym b.under ∙ under)
 
-pub counters_from_quiet : {a : Recorded} {h : List Step} → Backs h a → IsQuiet (world a.nodes h) → (a.under ≡ 0) × AreIdleBelow a.nodes a.numbers
+pub counters_from_quiet : {a : Recorded} {h : List Step} → Backs h a → IsQuiet (world a.nodes h) → (a.under ≡ 0)
+    × AreIdleBelow a.nodes a.numbers
 counters_from_quiet {a} {h} b q =
     let few = b.few_nodes in (
       b.under ∙ ap length q.2,
@@ -52,7 +54,8 @@ pub by_quiet : (a : Recorded) (h : List Step) (asks : Bool) → IsFalse (is_ende
     → IsRefusedFor (first_refusal (settling_checks a h)) asks NotIdle
 by_quiet a h asks e q = rw (e, q) refl
 
-pub by_room : (a : Recorded) (h : List Step) (asks : Bool) (r : Refusal) → IsFalse (is_ended a.nodes h) → IsTrue (is_quiet (world a.nodes h))
+pub by_room : (a : Recorded) (h : List Step) (asks : Bool) (r : Refusal) → IsFalse (is_ended a.nodes h)
+    → IsTrue (is_quiet (world a.nodes h))
     → IsRefusedFor (first_refusal (kept_checks a.steps (9 * a.nodes))) asks r
     → IsRefusedFor (first_refusal (settling_checks a h)) asks r
 by_room a h asks r e q told = rw (e, q) told
@@ -111,7 +114,8 @@ judged_made {n} {numbers} {wave} {h} (Err e) new b due exact follows same =
 
 -- ---- the loop
 pub one_further : {n count : ℕ} {numbers : List NodeNumbers} {keeps : Bool} {old new next : List Step} {first wave after' : Wave}
-    {r : Result (Option ℕ) Refusal} (s : Step) (u : IsUnderWay n numbers keeps old new first wave count) → count < 9 * n → IsTrue (is_control s)
+    {r : Result (Option ℕ) Refusal} (s : Step) (u : IsUnderWay n numbers keeps old new first wave count) → count < 9 * n
+    → IsTrue (is_control s)
     → next ≡ kept_with keeps (s ∷ []) new
     → r ≡ Ok None → IfOk r (λ told. Stands n (is_some told) (s ∷ u.taken) after') → started after' ≤ started wave + 1
     → ((h : List Step) → IsBehind n numbers wave h → IsDue n h s)
@@ -129,7 +133,8 @@ one_further {n} {count} {numbers} {keeps} {old} {new} {next} {first} {wave} {aft
       behind = λ h b.
           let now = u.behind h b in
           let d = due (u.taken ++ h) now in
-          let m = subst (λ (x : Result (Option ℕ) Refusal). IsMade n (u.taken ++ h) s x after') is (made (u.taken ++ h) now d) in behind_next s now control d m.0 m.1;
+          let m = subst (λ (x : Result (Option ℕ) Refusal). IsMade n (u.taken ++ h) s x after') is (made (u.taken ++ h) now d) in
+          behind_next s now control d m.0 m.1;
     }
   where
     kept_more : (b : Bool) (s : Step) (taken old new : List Step) → new ≡ kept_with b taken old
@@ -138,7 +143,8 @@ one_further {n} {count} {numbers} {keeps} {old} {new} {next} {first} {wave} {aft
     kept_more false s taken old new e = e
 
 pub done : {n count w : ℕ} {numbers : List NodeNumbers} {keeps : Bool} {old new next : List Step} {first wave after' : Wave}
-    {r : Result (Option ℕ) Refusal} (s : Step) (u : IsUnderWay n numbers keeps old new first wave count) → count < 9 * n → IsTrue (is_control s)
+    {r : Result (Option ℕ) Refusal} (s : Step) (u : IsUnderWay n numbers keeps old new first wave count) → count < 9 * n
+    → IsTrue (is_control s)
     → next ≡ kept_with keeps (s ∷ []) new → r ≡ Ok (Some w) → IfOk r (λ told. (v : ℕ) → told ≡ Some v → s ≡ Judge)
     → IfOk r (λ told. Stands n (is_some told) (s ∷ u.taken) after')
     → ((h : List Step) → IsBehind n numbers wave h → IsDue n h s)
@@ -214,7 +220,8 @@ few_kept false n taken old new e few within room =
     let size : length new ≡ length old = sym (length-reverse new) ∙ ap length e ∙ length-reverse old in omega (arith, size, within)
 
 -- ---- the list after settling
-none_reopened : (later h : List Step) → IsTrue (list_all is_control later) → IsFalse (any is_reopen h) → IsFalse (any is_reopen (later ++ h))
+none_reopened : (later h : List Step) → IsTrue (list_all is_control later) → IsFalse (any is_reopen h)
+    → IsFalse (any is_reopen (later ++ h))
 none_reopened [] h c f = f
 none_reopened (s ∷ later) h c f =
     let parts : IsTrue (is_control s) × IsTrue (list_all is_control later) = and_parts (is_control s) (list_all is_control later) c in
@@ -225,7 +232,8 @@ kept_whole : (b : Bool) (later old new h : List Step) → reverse new ≡ kept_w
 kept_whole true later old new h e k = e ∙ ap (λ (xs : List Step). later ++ xs) k
 kept_whole false later old new h e k = tt
 
-pub settled : {a : Recorded} {h : List Step} {w count : ℕ} {keeps : Bool} (old new : List Step) {wave : Wave} → Backs h a → IsFalse (is_ended a.nodes h) → IsTrue (is_quiet (world a.nodes h)) → a.steps ≡ kept_steps keeps old
+pub settled : {a : Recorded} {h : List Step} {w count : ℕ} {keeps : Bool} (old new : List Step) {wave : Wave} → Backs h a
+    → IsFalse (is_ended a.nodes h) → IsTrue (is_quiet (world a.nodes h)) → a.steps ≡ kept_steps keeps old
     → IsDone a.nodes a.numbers keeps (reverse old) (reverse new) a.wave wave w count
     → HasSettled h a (record { nodes = a.nodes; numbers = a.numbers; under = a.under; wave = wave; steps = kept_steps keeps new }) w count
 settled {a} {h} {w} {count} {keeps} old new {wave} b e q kept d =

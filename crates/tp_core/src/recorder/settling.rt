@@ -76,7 +76,8 @@ fn take_to_end(
     requires few { AreFew numbers.now }
     requires fresh { IsFresh nodes wave.old }
     requires room { IsTrue keeps → length steps.old.items + 9 * nodes ≤ vec_capacity steps.old }
-    ensures done { IfSome result (λ r. IsDone nodes numbers.now keeps (reverse steps.old.items) (reverse steps.new.items) wave.old wave.new r.0 r.1) }
+    ensures done { IfSome result (λ r. IsDone nodes numbers.now keeps (reverse steps.old.items) (reverse steps.new.items) wave.old
+        wave.new r.0 r.1) }
     ensures none { result ≡ None → (h : List Step) → IsBehind nodes numbers.now wave.old h → ⊥ }
     ensures stay { take (length steps.old.items) steps.new.items ≡ steps.old.items }
 {

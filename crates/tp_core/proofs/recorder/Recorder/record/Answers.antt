@@ -15,7 +15,8 @@ returns-in_err-own-clause-why c =
     rw (p.1, p.2)
     (subst (λ (a : Recorded). (h : List Step) → Backs h a → MayBeRecorded a.nodes c.args.node.0 h c.args.step
     → IsRefusedFor (first_refusal (record_checks a c.args.node.0 c.args.step)) (is_some a.steps) c.in_err-own.field-0.0) c.self.view_is
-    (λ h b m. by_limit (recorded c.self.inside) c.args.node.0 c.args.step _ c.in_err-own.field-0.0 (c.in_err-own.ensures.err (needed_there b m))))
+    (λ h b m. by_limit (recorded c.self.inside) c.args.node.0 c.args.step _ c.in_err-own.field-0.0
+    (c.in_err-own.ensures.err (needed_there b m))))
 
 pub invariant_of-self-2 : goal.invariant_of-self-2
 invariant_of-self-2 c =
@@ -24,7 +25,8 @@ invariant_of-self-2 c =
     record {
       some_node = sound.some_node;
       few_nodes = sound.few_nodes;
-      few = few_next c.self.inside.under c.args.node.0 c.args.step sound.few (omega arith) (c.in_ok-own.ensures.ok).0 c.in_ok-own.ensures.below;
+      few = few_next c.self.inside.under c.args.node.0 c.args.step sound.few (omega arith) (c.in_ok-own.ensures.ok).0
+          c.in_ok-own.ensures.below;
       waves = sound.waves;
       few_steps = c.keep.ensures.within;
     }

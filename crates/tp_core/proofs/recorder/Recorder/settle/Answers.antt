@@ -22,7 +22,8 @@ quiet c h b =
 
 taken : (c : In-Some)
     → IsDone c.self.inside.nodes c.self.inside.numbers c.self.inside.keeps (reverse c.self.inside.steps.items)
-    (reverse c.take_to_end-settled.new.steps.items) c.self.inside.wave c.take_to_end-settled.new.wave c.in-Some.settled.0 c.in-Some.settled.1
+    (reverse c.take_to_end-settled.new.steps.items) c.self.inside.wave c.take_to_end-settled.new.wave c.in-Some.settled.0
+    c.in-Some.settled.1
 taken c = rw (c.in-Some.is, c.make_room.ensures.items) at c.take_to_end-settled.ensures.done
 
 pub returns-then-not-is_quiet-clause-why : goal.returns-then-not-is_quiet-clause-why
@@ -78,4 +79,5 @@ returns-clause-ok c h b =
       wave = c.take_to_end-settled.new.wave;
       steps = c.take_to_end-settled.new.steps;
     })) c.in-Some.settled.0 c.in-Some.settled.1) c.self.view_is
-    (settled c.self.inside.steps.items c.take_to_end-settled.new.steps.items b' (not_ended at h b') (quiet at h b') refl (taken (goal.at.returns-clause-ok c).In-Some))
+    (settled c.self.inside.steps.items c.take_to_end-settled.new.steps.items b' (not_ended at h b') (quiet at h b') refl
+    (taken (goal.at.returns-clause-ok c).In-Some))
