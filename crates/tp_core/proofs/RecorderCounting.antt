@@ -1,10 +1,10 @@
 -- A list behind the counters of a recorder goes on by a step, and the step's checks are exact for it.
-use Rattle.tp_core.proofs.Words.{ℕ, ◌+◌, ◌≡◌, ◌<◌, ◌≤◌, List, [], ◌∷◌, ◌++◌, Bool, true, false, Option, Some, None, length, reverse, refl, ap}
-use Rattle.tp_core.proofs.Words.{sym, subst, ◌∙◌, arith, IsTrue, IsFalse, nat_tests, nat_lt, ◌||◌, set, length-set, length-reverse, is_some}
+use Rattle.tp_core.proofs.Words.{ℕ, ◌≡◌, ◌<◌, ◌≤◌, List, [], ◌∷◌, Bool, true, false, Option, Some, None, refl, ap}
+use Rattle.tp_core.proofs.Words.{sym, subst, ◌∙◌, arith, IsTrue, IsFalse, nat_tests, nat_lt, ◌||◌, set, length-set}
 use Rattle.tp_core.proofs.Words.{option_map, slice_index_or, if◌then◌else◌, Step, Insert, Supply, Begin, Done, ActionOpen, ActionClose}
 use Rattle.tp_core.proofs.Words.{Ready, Send, Recv, MessageEnd, MAX_STEPS, MAX_NODES, Refusal, first_refusal, is_control, is_reopen, any}
-use Rattle.tp_core.proofs.Words.{History, Needs, pending_at, under_way, under_way_after, steps_of, present, NodeNumbers, world, node_of}
-use Rattle.tp_core.proofs.Words.{history, IsLawful, IsLawfulRun, IsRefusedFor, rooms_check, opened_below, numbers_in, HasNumbers, pool_step}
+use Rattle.tp_core.proofs.Words.{History, Needs, pending_at, under_way, under_way_after, steps_of, present, NodeNumbers}
+use Rattle.tp_core.proofs.Words.{history, IsLawful, IsLawfulRun, IsRefusedFor, opened_below, numbers_in, pool_step}
 use Rattle.tp_core.proofs.Words.{Wave, Follows}
 use Rattle.std.specs.Prelude.{IfSome}
 use Rattle.tp_core.proofs.Counting.{steps_of-history, pending_is, under_way_is, node_inside, is_run, open_at-openings}

@@ -1,10 +1,10 @@
 -- Settling of a recorder: the lists behind its counters go on by the control steps that are taken, up to the judgement.
-use Rattle.tp_core.proofs.Words.{ℕ, ◌+◌, ◌*◌, ◌≡◌, ◌<◌, ◌≤◌, ◌↔◌, List, [], ◌∷◌, ◌++◌, Bool, true, false, Option, Some, None, length, reverse, refl, ap}
-use Rattle.tp_core.proofs.Words.{sym, subst, ◌∙◌, arith, IsTrue, IsFalse, nat_tests, list_all, and_parts, ◌||◌, length-append, length-reverse}
-use Rattle.tp_core.proofs.Words.{control_refusal, inl, inr, is_some, reverse-append, take, if◌then◌else◌, slice_index_or, Result, Ok, Err, Refusal, NotIdle, first_refusal, Step}
-use Rattle.tp_core.proofs.Words.{Start, Down, Give, Up, Judge, MAX_STEPS, MAX_NODES, is_control, is_reopen, IsDue, any, count, is_send_of}
-use Rattle.tp_core.proofs.Words.{is_recv_at, present, waves, is_ended, judgement, Wave, Follows, Stands, NodeNumbers, World, world, IsQuiet}
-use Rattle.tp_core.proofs.Words.{is_quiet, pending, IsLawful, IsLawfulRun, AreRuns, HasNumbers, IsRefusedFor, IsSettled, IsTold}
+use Rattle.tp_core.proofs.Words.{ℕ, ◌+◌, ◌*◌, ◌≡◌, ◌<◌, ◌≤◌, List, [], ◌∷◌, ◌++◌, Bool, true, false, Option, Some, None, length, reverse, refl, ap}
+use Rattle.tp_core.proofs.Words.{sym, subst, ◌∙◌, arith, IsTrue, IsFalse, list_all, and_parts, length-append, length-reverse}
+use Rattle.tp_core.proofs.Words.{control_refusal, inl, inr, is_some, reverse-append, take, if◌then◌else◌, Result, Ok, Err, Refusal, NotIdle, first_refusal, Step}
+use Rattle.tp_core.proofs.Words.{Judge, MAX_STEPS, is_control, is_reopen, IsDue, any}
+use Rattle.tp_core.proofs.Words.{present, waves, is_ended, judgement, Wave, Follows, Stands, NodeNumbers, World, world, IsQuiet}
+use Rattle.tp_core.proofs.Words.{is_quiet, pending, IsLawful, IsLawfulRun, AreRuns, IsRefusedFor}
 use Rattle.std.proofs.lemmas.List.{reverse-reverse}
 use Rattle.std.proofs.Math.Seq.{take-append_seam}
 use Rattle.std.specs.Prelude.{◌⊎◌, IfSome, IfOk, OnOk}
@@ -13,15 +13,15 @@ use Rattle.tp_wave.proofs.Exact.{checks_exact}
 use Rattle.tp_core.proofs.Advancing.{moved_stays, world_stays, told_judge}
 use Rattle.tp_core.proofs.Counting.{steps_of-history, pending_is, under_way_is}
 use Rattle.tp_core.proofs.Due.{lawful_due}
-use Rattle.tp_core.proofs.Ending.{quiet_shown, runs_on, same_numbers, same_quiet, same_world}
-use Rattle.tp_core.proofs.Generations.{no_reopening, present-control}
+use Rattle.tp_core.proofs.Ending.{quiet_shown, runs_on, same_numbers, same_world}
+use Rattle.tp_core.proofs.Generations.{no_reopening}
 use Rattle.tp_core.proofs.Keeping.{numbers_stay, zeros}
 use Rattle.tp_core.proofs.Quiet.{nothing_pending_when_quiet, quiet_seen}
 use Rattle.tp_core.proofs.RecorderCounting.{present-first, run_of}
 use Rattle.tp_core.proofs.Settling.{judged_soon}
 use Rattle.tp_core.specs.Recording.{Recorded, Backs, kept_checks, settling_checks, HasSettled}
 use Rattle.tp_core.specs.RecorderKept.{AreIdleBelow, IsFresh, IsOver, kept_steps}
-use Rattle.tp_core.specs.RecorderSettling.{IsBehind, IsMade, kept_with, IsUnderWay, IsAtEnd, IsDone}
+use Rattle.tp_core.specs.RecorderSettling.{IsBehind, IsMade, kept_with, IsUnderWay, IsDone}
 use Rattle.tp_wave.specs.Wave.{started}
 
 -- ---- whether the pool is quiet

@@ -37,7 +37,7 @@ pub record IsOver (n : ℕ) (w : Wave) : Type 0 where
   pub steps : List Step
   pub stands : Stands n true steps w
 
--- This holds also if no list is behind the counters.
+-- What a recorder keeps, whether or not a list is behind its counters: all counts are in bounds, and no wave is open.
 pub record IsSound (c : Inside) : Type 0 where
   pub some_node : 1 ≤ c.nodes
   pub few_nodes : c.nodes ≤ MAX_NODES

@@ -1,14 +1,13 @@
 -- What contracts see of a recorder: counters, and the lists of steps that have them.
-use Rattle.std.specs.Prelude.{ℕ, ◌+◌, ◌*◌, ◌==◌, ◌||◌, ◌≡◌, ◌≤◌, List, [], ◌∷◌, ◌++◌, Bool, true, false, not, nat_le, IsFalse, length}
+use Rattle.std.specs.Prelude.{ℕ, ◌*◌, ◌==◌, ◌||◌, ◌≡◌, ◌≤◌, List, [], ◌∷◌, ◌++◌, not, nat_le, IsFalse, length}
 use Rattle.std.specs.Prelude.{Option, Some, None, IfSome}
 use Rattle.std.specs.List.{slice_index_or}
 use Rattle.tp_base.specs.Checks.{Check}
 use Rattle.tp_base.specs.declared.limits.TheConstants.{MAX_STEPS, MAX_NODES}
 use Rattle.tp_base.specs.declared.Refusal.TheVariants.{Ended, NotIdle, HistoryFull}
 use Rattle.tp_base.specs.declared.Step.{Step}
-use Rattle.tp_base.specs.declared.Step.TheVariants.{Insert, Supply, Begin, Done, ActionOpen, ActionClose, Ready, Send, Recv, MessageEnd}
+use Rattle.tp_base.specs.declared.Step.TheVariants.{Insert, ActionOpen, Send, Recv}
 use Rattle.tp_wave.specs.Control.{is_control}
-use Rattle.tp_wave.specs.Machine.{pending_after}
 use Rattle.tp_wave.specs.Steps.{any, is_reopen}
 use Rattle.tp_wave.specs.Sums.{is_ended}
 use Rattle.tp_wave.specs.Wave.{Follows}

@@ -1,5 +1,5 @@
-use Rattle.tp_core.proofs.Words.{List, ◌+◌, ◌*◌, ◌≡◌, ◌≤◌, ◌∷◌, ◌∙◌, None, true, false, length, reverse, arith, sym, subst, inr, nat_tests}
-use Rattle.tp_core.proofs.Words.{common_steps, is_some, err_from_is_err_and, refl, IsTrue, IsFalse, Step, Judge, MAX_STEPS, IsRefusedFor}
+use Rattle.tp_core.proofs.Words.{List, ◌*◌, ◌≡◌, ◌≤◌, ◌∷◌, ◌∙◌, None, true, false, length, reverse, arith, sym, subst, inr, nat_tests}
+use Rattle.tp_core.proofs.Words.{common_steps, is_some, err_from_is_err_and, refl, IsTrue, IsFalse, Step, Judge, IsRefusedFor}
 use Rattle.tp_core.proofs.Words.{first_refusal, is_ended, is_quiet, world}
 use Rattle.tp_core.proofs.Lemmas.{same_quiet}
 use Rattle.tp_core.proofs.RecorderEnding.{behind_of, by_quiet, by_room, few_kept, fresh_of, settled}
