@@ -46,8 +46,8 @@ IsTraceCall room = IsCall (record { outcome = 5; length = 0 }, room) (λ a u b. 
 
 -- An open core is closed; a core that is not open does not change.
 pub record IsClosed (old : CoreState) (new : CoreState) : Type 0 where
-  pub not_open : IsFalse old.is_open → new ≡ old
-  pub open : IsTrue old.is_open → new ≡ closed
+  pub if_not_open : IsFalse old.is_open → new ≡ old
+  pub if_open : IsTrue old.is_open → new ≡ closed
 
 -- If termination was detected, the core is a new one of the same nodes; else the call is refused and nothing changes.
 pub record IsRestarted (old : Accepted) (refused : ℕ) (new : Accepted) : Type 0 where

@@ -8,7 +8,7 @@ ghost use Rattle.gerfmuod.specs.Events.{event_of};
 ghost use Rattle.gerfmuod.specs.Makers.{IsMade};
 ghost use Rattle.gerfmuod.specs.Pool.{TellsNoEarlyEnd};
 ghost use Rattle.gerfmuod.specs.Slot.{can_be, opened, opening};
-ghost use Rattle.gerfmuod.specs.Told.{is_ending_if, refusal_told, reply_told, IsTold};
+ghost use Rattle.gerfmuod.specs.Told.{is_ending_if, leaves_nothing, refusal_told, reply_told, IsTold};
 
 use crate::answer::{Answer, Counters, Settled, Whole};
 use crate::event::{Event, made_step, maker_of, step_of};
@@ -55,12 +55,26 @@ const PLAIN: Answer = Answer {
     received: 0,
 };
 
+/// The result of a step that ended something and left nothing.
+const QUIET: Answer = Answer { told: 5, ..PLAIN };
+
 /// The refusal of a step whose maker may not make it.
 const NO_MAKER: u16 = 29;
 
+#[inline(always)]
+fn of_reply(reply: Reply) -> Answer
+    ensures { result ≡ reply_told reply }
+{
+    match reply {
+        // the case of most steps
+        Reply::Plain => PLAIN,
+        _ => of_control_reply(reply),
+    }
+}
+
 #[cold]
 #[inline(never)]
-fn of_reply(reply: Reply) -> Answer
+fn of_control_reply(reply: Reply) -> Answer
     ensures { result ≡ reply_told reply }
 {
     match reply {
@@ -115,21 +129,27 @@ fn is_ending(step: Option<Step>) -> bool
     }
 }
 
+/// Returns whether the step that was taken ended something, and nothing is left.
+#[inline(always)]
+fn leaves_nothing(room: &CoreRoom, step: Option<Step>) -> bool
+    ensures { result ≡ leaves_nothing step room.now }
+{
+    room.core().quiet() && is_ending(step)
+}
+
 /// Takes the next step if there is one, and returns the result for C.
 #[inline(always)]
 fn told(room: &mut CoreRoom, step: Option<Step>) -> Answer
     ensures { IsTold room.old step result room.new × TellsNoEarlyEnd (result.told ≡ 3) result.number room.new }
 {
     match room.take(step) {
-        // the case of most steps
-        Ok(Reply::Plain) => {
-            if room.core().quiet() && is_ending(step) {
-                Answer { told: 5, ..PLAIN }
+        Ok(reply) => {
+            if leaves_nothing(room, step) {
+                QUIET
             } else {
-                PLAIN
+                of_reply(reply)
             }
         }
-        Ok(reply) => of_reply(reply),
         Err(refusal) => of_refusal(refusal),
     }
 }
@@ -167,7 +187,7 @@ fn told_by(room: &mut CoreRoom, maker: Option<Maker>, step: Option<Step>) -> Ans
     let (Some(maker), Some(made)) = (maker, step) else {
         return told(room, None);
     };
-    if !room.core().is_maker(maker, made) {
+    if !room.is_maker(maker, made) {
         return Answer {
             refused: NO_MAKER,
             ..PLAIN
@@ -200,7 +220,11 @@ pub(crate) fn answered_by(
         third,
         generation,
     };
-    told_by(&mut slot.room, maker_of(maker_kind, maker), made_step(event))
+    told_by(
+        &mut slot.room,
+        maker_of(maker_kind, maker),
+        made_step(event),
+    )
 }
 
 /// Returns the counters of a node.

@@ -6,7 +6,7 @@ ghost use Rattle.tp_base.specs.declared.limits.TheConstants.{MAX_NODES, MAX_STEP
 use std::alloc::Global;
 use std::marker::Model;
 use tp_base::{MAX_STEPS, Refusal, Step};
-use tp_core::{Core, Reply};
+use tp_core::{Core, Maker, Reply};
 
 /// A core, the number of its nodes, and the number of steps up to which steps are taken. Contracts see what the core has
 /// accepted.
@@ -31,7 +31,9 @@ impl Model for CoreRoom {
 }
 
 impl CoreRoom {
+    ghost use Rattle.tp_core.specs.Accepted.{world_of};
     ghost use Rattle.tp_core.specs.Generations.{AreRuns, InEach};
+    ghost use Rattle.tp_core.specs.Makers.{is_maker};
     ghost use Rattle.tp_core.specs.NeverEarly.{IsNeverEarly};
     ghost use Rattle.tp_core.specs.Settled.{Settles};
     ghost use Rattle.gerfmuod.specs.Room.{room_of};
@@ -80,6 +82,15 @@ impl CoreRoom {
         self.limit.saturating_sub(self.core.steps().len() as u32)
     }
 
+    /// Returns whether the maker may make the step.
+    #[inline(always)]
+    pub(crate) fn is_maker(&self, maker: Maker, step: Step) -> bool
+        ensures is_maker { result ≡ is_maker maker step (world_of self.now) }
+        ensures never_early { InEach (IsNeverEarly self.now.nodes) self.now.steps }
+    {
+        self.core.is_maker(maker, step)
+    }
+
     /// Takes the next step as `Core::step` does. Refused, before that, as `BadSpec` if there is none, and as
     /// `HistoryFull` if there is no room for it.
     #[inline(always)]
@@ -87,10 +98,10 @@ impl CoreRoom {
         ensures answers { AnswersTo self.old step result self.new }
         ensures never_early { InEach (IsNeverEarly self.new.nodes) self.new.steps }
     {
+        let taken = self.core.steps().len() as u32;
         let Some(step) = step else {
             return Err(Refusal::BadSpec);
         };
-        let taken = self.core.steps().len() as u32;
         if taken >= self.limit {
             return Err(Refusal::HistoryFull(taken));
         }
