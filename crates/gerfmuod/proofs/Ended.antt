@@ -72,7 +72,8 @@ told_three false reply e = reply_over reply e
 full_is_refused : (old : Accepted) (s : Step) (reply : Reply) (new : Accepted) → AnswersInRoom old s (Ok reply) new → IsFalse (is_full old)
 full_is_refused old s reply new a = elim (cases_Bool (is_full old)) [ inl e ↦ let none = (a.full e).0 in cc | inr e ↦ e ]
 
-answered_in_room : (old : Accepted) (s : Step) (reply : Reply) (new : Accepted) → AnswersInRoom old s (Ok reply) new → Answers old s (Ok reply) new
+answered_in_room : (old : Accepted) (s : Step) (reply : Reply) (new : Accepted) → AnswersInRoom old s (Ok reply) new
+    → Answers old s (Ok reply) new
 answered_in_room old s reply new a = a.taken (full_is_refused old s reply new a)
 
 pub told_over : (old new : Accepted) (o : Option Step) (r : Result Reply Refusal) → AnswersTo old o r new

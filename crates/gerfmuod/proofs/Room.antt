@@ -1,5 +1,6 @@
 -- A core keeps room for settling, so settling is never refused for lack of it.
-use Rattle.std.proofs.Common.{ℕ, ◌≡◌, ◌≢◌, ◌+◌, ◌*◌, ◌≤◌, ◌++◌, Bool, true, false, List, ◌∷◌, [], length, Result, Some, refl, sym, ap, subst, ◌∙◌, arith}
+use Rattle.std.proofs.Common.{ℕ, ◌≡◌, ◌≢◌, ◌+◌, ◌*◌, ◌≤◌, ◌++◌, Bool, true, false, List, ◌∷◌, [], length, Result, Some, refl, sym}
+use Rattle.std.proofs.Common.{ap, subst, ◌∙◌, arith}
 use Rattle.std.specs.Prelude.{Ok, Err, None, IsFalse, IsTrue, nat_lt, not}
 use Rattle.std.proofs.lemmas.List.{length-append}
 use Rattle.std.proofs.lemmas.Bool.{both_ways}
@@ -29,7 +30,8 @@ HasRoom a = IsFalse (is_ended a.nodes (present a.steps)) → length a.steps + 9 
 room_left : (a : Accepted) → a.nodes ≤ 8 → IsFalse (is_full a) → length a.steps + 1 + 9 * a.nodes ≤ MAX_STEPS
 room_left a few left = grind (arith, nat_tests)
 
-pub room_after_step : (old new : Accepted) (s : Step) (r : Result Reply Refusal) → Answers old s r new → old.nodes ≤ 8 → IsFalse (is_full old)
+pub room_after_step : (old new : Accepted) (s : Step) (r : Result Reply Refusal) → Answers old s r new → old.nodes ≤ 8
+    → IsFalse (is_full old)
     → HasRoom old → HasRoom new
 room_after_step old new s (Ok reply) a few left room =
     subst HasRoom (sym a.2) (λ e. let l = room_left old few left in omega (arith, l))

@@ -26,8 +26,9 @@ opening n = if can_be n then 0 else number_of BadSpec
 abbrev pub closed : CoreState
 closed = record { is_open = false; core = new_core 1 }
 
--- A call on a core that is not open has this result and changes nothing. On an open core it does this, and the core
--- stays open.
-pub record IsCall {A : Type 0} (unopened : A) (does : Accepted → A → Accepted → Type 0) (old : CoreState) (answer : A) (new : CoreState) : Type 0 where
-  pub if_not_open : IsFalse old.is_open → (answer ≡ unopened) × (new ≡ old)
-  pub if_open : IsTrue old.is_open → IsTrue new.is_open × does old.core answer new.core
+-- A call on a core that is not open returns `none` and changes nothing. On an open core it does this, and the core stays
+-- open.
+pub record IsCall {A : Type 0} (none : A) (does : Accepted → A → Accepted → Type 0)
+    (old : CoreState) (u : A) (new : CoreState) : Type 0 where
+  pub if_not_open : IsFalse old.is_open → (u ≡ none) × (new ≡ old)
+  pub if_open : IsTrue old.is_open → IsTrue new.is_open × does old.core u new.core

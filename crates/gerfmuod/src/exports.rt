@@ -3,7 +3,8 @@ ghost use Rattle.std.specs.Prelude.{◌≡◌, ◌≤◌};
 ghost use Rattle.std.specs.Borrow.{full_share, sem};
 ghost use Rattle.std.specs.Ptr.{lies_at, room_at};
 ghost use Rattle.gerfmuod.specs.contracts.slot.CoreSlot.{the_row as slot_row};
-ghost use Rattle.gerfmuod.specs.Calls.{IsByCall, IsClosed, IsNumbersCall, IsRestartCall, IsSettleCall, IsStepCall, IsTraceCall, IsWholeCall};
+ghost use Rattle.gerfmuod.specs.Calls.{IsByCall, IsClosed, IsNumbersCall, IsRestartCall, IsSettleCall, IsStepCall, IsTraceCall};
+ghost use Rattle.gerfmuod.specs.Calls.{IsWholeCall};
 ghost use Rattle.gerfmuod.specs.Events.{event_of};
 ghost use Rattle.gerfmuod.specs.Slot.{CoreState, opened, opening};
 

@@ -1,5 +1,6 @@
 -- The proof of `gerfmuod_close`: it borrows the core for a lifetime that is created for the call.
-use Rattle.gerfmuod.proofs.Walks.{◌≡◌, [], ◌∷◌, refl, ap, unit, unit_lit, vunit, feq_i, feq_l, MutBor, proved, full_share, sep, ex, id⊢, GName, Lft, ftrue, flft, flent, named}
+use Rattle.gerfmuod.proofs.Walks.{◌≡◌, [], ◌∷◌, refl, ap, unit, unit_lit, vunit, feq_i, feq_l, MutBor}
+use Rattle.gerfmuod.proofs.Walks.{proved, full_share, sep, ex, id⊢, GName, Lft, ftrue, flft, flent, named}
 use Rattle.gerfmuod.proofs.Walks.{vptr, WpFn, fact, tables, ‵, raw, ◌⊛◌, some, later, prop, ◌$◌, ◌∵◌, !, qed, done, move, keep, drop, use1}
 use Rattle.gerfmuod.proofs.Walks.{use2, use3, split, join, fsplit, pick, await, regoal, suffices, group, lft_new, lft_end, Body, enter}
 use Rattle.gerfmuod.proofs.Walks.{of_opd, addr, stop, no_more, and_then, returns, alloc_all, pass_all, free_all, look_at, get, through}
@@ -55,7 +56,7 @@ gerfmuod_close_spec 𝓤 𝓛 𝓜 𝓡 wired =
     use1 𝓛 (raw (ex 𝓤 (λ (new : CoreState). sep 𝓤 (types.Logic.sem 𝓛 (lies_at R full_share (block_ptr b o) new)) (fact 𝓤 (Told u new)))))
     (lies_so 𝓛 R (block_ptr b o) (Told u) ws.0 told) $
     -- [the core; its borrow; nothing; nothing; the result]
-    move ! (4 ∷ []) $ feq_l ! (λ is_unit. drop ! $
+    move ! (4 ∷ []) $ feq_l ! (λ is_unit.
     lands_as ! (ap only is_unit) refl (tt, tt) $
     sets ! (of_opd ! (unit_lit !)) refl (tt, tt) $
     returns ! (look_at ! 0 refl) $ free_all ! refl $ keep ! (0 ∷ []) $

@@ -32,10 +32,21 @@ pub gerfmuod_step_by_spec : {M : Type 1} → statement M
 gerfmuod_step_by_spec 𝓤 𝓛 𝓜 𝓡 wired =
     let c = f.clauses 𝓛 𝓜.mem 𝓡.returns in let W = walk_of 𝓛 f.ended stayed c in let 𝓣 = tables 𝓤 𝓛.H 𝓜 𝓡 𝓡.env in
     let num = Goes-dropped 𝓛 0 (plain (λ _. u32)) yes (λ κs x w. refl) in
-    proved 𝓛 f.ended stayed c 𝓜 𝓡 (Goes-dropped 𝓛 0 (plain (λ _. RawPtr)) yes (λ κs x w. refl), (num, (num, (num, (num, (num, (num, (num, tt))))))))
+    proved 𝓛 f.ended stayed c 𝓜 𝓡 (
+      Goes-dropped 𝓛 0 (plain (λ _. RawPtr)) yes (λ κs x w. refl),
+      (
+        num,
+        (num, (num, (num, (num, (num, (num, tt)))))),
+      ),
+    )
     f.Key.name code.function (code.unfolded 𝓤 𝓛.H 𝓜 𝓡 wired)
-    (λ κs. (rawptr_vals, (uint_vals w32, (uint_vals w32, (uint_vals w32, (uint_vals w32, (uint_vals w32, (uint_vals w32, (uint_vals w32, tt))))))))) (λ κs.
-    (rawptr_Tells, (uint_Tells w32, (uint_Tells w32, (uint_Tells w32, (uint_Tells w32, (uint_Tells w32, (uint_Tells w32, (uint_Tells w32, tt)))))))))
+    (λ κs. (
+      rawptr_vals,
+      (uint_vals w32, (uint_vals w32, (uint_vals w32, (uint_vals w32, (uint_vals w32, (uint_vals w32, (uint_vals w32, tt))))))),
+    )) (λ κs. (
+      rawptr_Tells,
+      (uint_Tells w32, (uint_Tells w32, (uint_Tells w32, (uint_Tells w32, (uint_Tells w32, (uint_Tells w32, (uint_Tells w32, tt))))))),
+    ))
     (λ κs qs bounds a n are.
     let p0 = a.1.0 in let p1 = a.1.1.0 in let rest = a.1.1.1 in let are' = are.1.1.1 in
     let k = rest.0 in let i = rest.1.0 in let j = rest.1.1.0 in let m = rest.1.1.1.0 in let h = rest.1.1.1.1.0 in
@@ -113,9 +124,12 @@ gerfmuod_step_by_spec 𝓤 𝓛 𝓜 𝓡 wired =
     calls_at ! (framed 𝓤 𝓛.H 𝓜 𝓣) G (met 𝓤 𝓛 𝓜 𝓡 (code.calls-gerfmuod::calls::answered_by 𝓡.env wired)) z
     (and_then ! (get ! refl)
     (and_then ! (get ! refl)
-    (and_then ! (get ! refl) (and_then ! (get ! refl) (and_then ! (get ! refl) (and_then ! (get ! refl) (and_then ! (get ! refl) (and_then ! (get ! refl) (no_more !))))))))) (λ v.
+    (and_then ! (get ! refl)
+    (and_then ! (get ! refl)
+    (and_then ! (get ! refl) (and_then ! (get ! refl) (and_then ! (get ! refl) (and_then ! (get ! refl) (no_more !))))))))) (λ v.
     use1 𝓛 (later (some (λ (u : Answer). ((‵ (flft κ full_share) ⊛ ‵ ftrue) ⊛ ‵ (A.own_val u (v ∷ []))) ⊛
-    some (λ (ws : CoreState × (Unit {0} × (Unit {0} × (Unit {0} × (Unit {0} × (Unit {0} × (Unit {0} × (Unit {0} × Unit {0})))))))). ‵ (lasts g.ended z.0.0 z.0.3 ws)
+    some (λ (ws : CoreState
+    × (Unit {0} × (Unit {0} × (Unit {0} × (Unit {0} × (Unit {0} × (Unit {0} × (Unit {0} × Unit {0})))))))). ‵ (lasts g.ended z.0.0 z.0.3 ws)
     ⊛ raw (fact 𝓤 (Told u ws.0)))))) (id⊢ 𝓤 _) $
     await ! tt $ pick ! (λ u. split ! $ split ! $ split ! $ lft_end ! tt $
     -- [κ has ended; nothing; the result; the call's postcondition; the lender's claim]
@@ -129,6 +143,8 @@ gerfmuod_step_by_spec 𝓤 𝓛 𝓜 𝓡 wired =
     lands_as ! (ap only same) refl good $
     returns ! (look_at ! 0 refl) $ free_all ! refl $ keep ! (0 ∷ 1 ∷ []) $
     suffices ! _
-    (ends_at 𝓛 f.ended stayed c (y (block_ptr b o)) w u (tt, (tt, (tt, (tt, (tt, (tt, (tt, (tt, tt)))))))) (tt, (tt, (tt, (tt, (tt, (tt, (tt, (tt, tt))))))))) $
-    nothing ! $ nothing ! $ join ! $ nothing ! $ join ! $ nothing ! $ join ! $ nothing ! $ join ! $ nothing ! $ join ! $ nothing ! $ join ! $ nothing ! $ join ! $ nothing ! $
+    (ends_at 𝓛 f.ended stayed c (y (block_ptr b o)) w u (tt, (tt, (tt, (tt, (tt, (tt, (tt, (tt, tt))))))))
+    (tt, (tt, (tt, (tt, (tt, (tt, (tt, (tt, tt))))))))) $
+    nothing ! $ nothing ! $ join ! $ nothing ! $ join ! $ nothing ! $ join ! $ nothing ! $ join ! $ nothing ! $ join ! $ nothing ! $
+    join ! $ nothing ! $ join ! $ nothing ! $
     join ! $ nothing ! $ group ! 3 $ done !))))))))))
