@@ -1,5 +1,5 @@
 //! The calls on a core, as C gets their results.
-ghost use Rattle.std.specs.Prelude.{◌≡◌};
+ghost use Rattle.std.specs.Prelude.{◌≡◌, Ok};
 ghost use Rattle.tp_base.specs.Refusals.{number_of};
 ghost use Rattle.tp_core.specs.Accepted.{no_numbers};
 ghost use Rattle.gerfmuod.specs.Asked.{counters, unsettled};
@@ -8,7 +8,7 @@ ghost use Rattle.gerfmuod.specs.Events.{event_of};
 ghost use Rattle.gerfmuod.specs.Makers.{IsMade};
 ghost use Rattle.gerfmuod.specs.Pool.{TellsNoEarlyEnd};
 ghost use Rattle.gerfmuod.specs.Slot.{can_be, opened, opening};
-ghost use Rattle.gerfmuod.specs.Told.{is_ending_if, leaves_nothing, refusal_told, reply_told, IsTold};
+ghost use Rattle.gerfmuod.specs.Told.{is_ending_if, leaves_nothing, refusal_told, reply_told, told as result_of, IsTold};
 
 use crate::answer::{Answer, Counters, Settled, Whole};
 use crate::event::{Event, made_step, maker_of, step_of};
@@ -61,20 +61,7 @@ const QUIET: Answer = Answer { told: 5, ..PLAIN };
 /// The refusal of a step whose maker may not make it.
 const NO_MAKER: u16 = 29;
 
-#[inline(always)]
-fn of_reply(reply: Reply) -> Answer
-    ensures { result ≡ reply_told reply }
-{
-    match reply {
-        // the case of most steps
-        Reply::Plain => PLAIN,
-        _ => of_control_reply(reply),
-    }
-}
-
-#[cold]
-#[inline(never)]
-fn of_control_reply(reply: Reply) -> Answer
+fn plain_reply(reply: Reply) -> Answer
     ensures { result ≡ reply_told reply }
 {
     match reply {
@@ -130,26 +117,41 @@ fn is_ending(step: Option<Step>) -> bool
 }
 
 /// Returns whether the step that was taken ended something, and nothing is left.
-#[inline(always)]
 fn leaves_nothing(room: &CoreRoom, step: Option<Step>) -> bool
     ensures { result ≡ leaves_nothing step room.now }
 {
     room.core().quiet() && is_ending(step)
 }
 
+/// Returns the result of a step that was taken.
+#[cold]
+#[inline(never)]
+fn of_reply(room: &CoreRoom, step: Option<Step>, reply: Reply) -> Answer
+    ensures { result ≡ result_of step (Ok reply) room.now }
+{
+    if leaves_nothing(room, step) {
+        QUIET
+    } else {
+        plain_reply(reply)
+    }
+}
+
 /// Takes the next step if there is one, and returns the result for C.
 #[inline(always)]
+#[tactic(auto, using(crate::proofs::Ended::told_over))]
 fn told(room: &mut CoreRoom, step: Option<Step>) -> Answer
     ensures { IsTold room.old step result room.new × TellsNoEarlyEnd (result.told ≡ 3) result.number room.new }
 {
     match room.take(step) {
-        Ok(reply) => {
-            if leaves_nothing(room, step) {
-                QUIET
+        // the case of most steps
+        Ok(Reply::Plain) => {
+            if room.core().quiet() {
+                of_reply(room, step, Reply::Plain)
             } else {
-                of_reply(reply)
+                PLAIN
             }
         }
+        Ok(reply) => of_reply(room, step, reply),
         Err(refusal) => of_refusal(refusal),
     }
 }
