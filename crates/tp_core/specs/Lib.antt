@@ -13,10 +13,7 @@ pub mod Reached
 pub mod Settled
 pub mod Advancing
 pub mod ToTheEnd
-<<<<<<< HEAD
 pub mod Recording
 pub mod RecorderKept
 pub mod RecorderSettling
-=======
 pub mod Makers
->>>>>>> 1d55c02452b15278252cda2d786527a946ff38c7
