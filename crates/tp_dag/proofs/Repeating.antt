@@ -131,11 +131,12 @@ kept_again p q k r b nodes ended = record {
 }
 
 pub is_again : (p : Inside) (core : Accepted) (board : BoardState) (now : PoolState) → IsPool p → state_of p ≡ now → IsReset p.board board
-    → IsBeginning p.nodes (length p.board.tasks) core → IsAgain now (seen core.nodes true board core.steps)
+    → IsBeginning p.nodes (length p.board.tasks) core → IsAgain now (seen core.nodes (record { started = true; extended = false }) board core.steps)
 is_again p core board now k same r b =
-    subst (λ (a : PoolState). IsAgain a (seen core.nodes true board core.steps)) same (record {
+    subst (λ (a : PoolState). IsAgain a (seen core.nodes (record { started = true; extended = false }) board core.steps)) same (record {
       nodes = b.nodes_are ∙ sym k.nodes;
       started = refl;
+      extended = refl;
       tasks = entries board.tasks p.board.tasks r.tasks;
       inputs = ap (map input_of) r.edges ∙ inputs_same p.board.edges;
       stages = all_fresh r;

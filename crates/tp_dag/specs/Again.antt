@@ -32,6 +32,7 @@ pub record IsBeginning (nodes count : ℕ) (core : Accepted) : Type 0 where
 pub record IsAgain (old new : PoolState) : Type 0 where
   pub nodes : new.nodes ≡ old.nodes
   pub started : IsTrue new.started
+  pub extended : IsFalse new.extended
   pub tasks : new.tasks ≡ old.tasks
   pub inputs : new.inputs ≡ old.inputs
   pub stages : (t : ℕ) (s : Stage) → slice_get new.stages t ≡ Some s → s ≡ stage.Fresh

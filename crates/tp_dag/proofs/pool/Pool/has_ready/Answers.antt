@@ -6,4 +6,4 @@ use Rattle.tp_dag.proofs.pool.Pool.has_ready.Goals as goal
 pub returns : goal.returns
 returns c = λ h.
     subst (λ (a : PoolState). HasNoneReady c.args.node a) c.self.view_is
-    (none_ready_seen c.self.inside.core.nodes c.self.inside.started c.self.inside.core.steps c.self.inside.board c.args.node (c.has_ready.ensures.no h))
+    (none_ready_seen c.self.inside.core.nodes c.self.inside.progress c.self.inside.core.steps c.self.inside.board c.args.node (c.has_ready.ensures.no h))
