@@ -39,10 +39,11 @@ use Rattle.tp_dag.specs.declared.pool.Pool.TheInside.{Inside}
 use Rattle.tp_dag.specs.Board as on_board
 use Rattle.tp_dag.specs.Board.{BoardState, HasBegun, HasEdge, HasOutside, HasReleased, HasLeft, HasArrived, HasFinished, with_task}
 use Rattle.tp_dag.specs.Counts.{BoardFacts}
-use Rattle.tp_dag.specs.State.{PoolState, SameGraph, AddsOnly, WasDone, WasReceived, IsReceived, IsComing, IsOutput, IsFinished, IsCompleted, IsInputAdded, IsOutsideAdded, IsReleased, IsDispatched, LacksInput, AreSent, is_delivery, is_sending, dispatched, outside_checks, release_checks}
-use Rattle.tp_dag.specs.Kept.{state_of, seen, entry_of, stage_of, outside_of, input_of, way_of, Facts, IsPool, IsFrom, IsHome, AllPassed, SendsOne}
+use Rattle.tp_dag.specs.State.{PoolState, SameGraph, AddsOnly, WasDone, WasReceived, IsReceived, IsComing, IsOutput, IsFinished, IsCompleted, IsInputAdded, MayWait, extends, IsOutsideAdded, IsReleased, IsDispatched, LacksInput, AreSent, is_delivery, is_sending, dispatched, outside_checks, release_checks}
+use Rattle.tp_dag.specs.Kept.{state_of, seen, entry_of, stage_of, outside_of, input_of, way_of, extend, Facts, IsPool, IsFrom, IsHome, AllPassed, SendsOne}
 use Rattle.tp_dag.proofs.Lists.{map_get, map_got}
 use Rattle.tp_dag.proofs.Finding.{ready_lacks_none}
+use Rattle.tp_dag.proofs.Reading.{lacks_input}
 use Rattle.tp_dag.proofs.Steps.{facts_step, facts_begin, facts_done, facts_way, facts_task, facts_input, done_now, same_trans, adds_none, received_steps, one_generation, count_only, count_adds, all_append, delivery_begins_none, sending_begins_none, control_begins_none}
 use Rattle.tp_dag.proofs.Ended.{finished, any_append}
 use Rattle.tp_dag.proofs.Views.{some_same, seen_stage, seen_outside, seen_way, seen_task, seen_edge, consistent, coming_board, coming_seen, passed_seen, lacks_seen, lacks_board, unsent_seen}
@@ -421,80 +422,76 @@ pub has_arrived : (p q : Inside) (now : PoolState) (k : ℕ) → state_of p ≡ 
 has_arrived p q now k same h core progress =
     arrived_state p q k h.0 core progress h.1 ∙ ap (λ (a : PoolState). record a { ways = set a.ways k way.Received }) same
 
--- ---- a task more
-task_state : (p q : Inside) (b : BoardState) (node class r : ℕ) (s : Step) → q.core ≡ with_step p.core s → q.progress ≡ p.progress
-    → b ≡ record p.board { task_room = r } → q.board ≡ with_task node class b
+-- ---- a task or an input more
+facts_extended : {a : PoolState} (more : Bool) → Facts a → Facts (record a { extended = more })
+facts_extended more f = record { by_steps = f.by_steps; arrived = f.arrived }
+
+task_state : (p q : Inside) (b : BoardState) (node class r : ℕ) (held : Bool) (s : Step) → q.core ≡ with_step p.core s
+    → q.progress ≡ extend p.progress → held ≡ p.progress.started → b ≡ record p.board { task_room = r } → q.board ≡ with_task node class held b
     → state_of q ≡ record (state_of p) {
+      extended = extends (state_of p);
       tasks = map entry_of p.board.tasks ++ record { node = node; class = class } ∷ [];
       stages = map stage_of p.board.tasks ++ stage.Fresh ∷ [];
-      outside = map outside_of p.board.tasks ++ 0 ∷ [];
+      outside = map outside_of p.board.tasks ++ (if p.progress.started then 1 else 0) ∷ [];
       steps = s ∷ p.core.steps;
     }
-task_state p q b node class r s core progress room added =
-    rw (core, progress, added, room) (seen_task p.core.nodes p.progress (s ∷ p.core.steps) p.board node class)
+task_state p q b node class r held s core progress same room added =
+    rw (core, progress, added, same, room) (seen_task p.core.nodes (extend p.progress) (s ∷ p.core.steps) p.board node class p.progress.started)
 
-pub kept_task : (p q : Inside) (b : BoardState) (node class r : ℕ) (s : Step) → IsPool p → BoardFacts p.board → is_some p.ended_with ≡ false
+pub kept_task : (p q : Inside) (b : BoardState) (node class r : ℕ) (held : Bool) (s : Step) → IsPool p → BoardFacts p.board
+    → is_some p.ended_with ≡ false
     → MayCome p.core.nodes p.core.steps s → IsFalse (is_reopen s) → IsTrue (is_insert_of (length p.board.tasks) s)
-    → q.core ≡ with_step p.core s → q.nodes ≡ p.nodes → q.progress ≡ p.progress → q.ended_with ≡ p.ended_with
-    → b ≡ record p.board { task_room = r } → q.board ≡ with_task node class b → IsPool q
-kept_task p q b node class r s k f none may on of core nodes progress ended room added =
+    → q.core ≡ with_step p.core s → q.nodes ≡ p.nodes → q.progress ≡ extend p.progress → held ≡ p.progress.started
+    → q.ended_with ≡ p.ended_with → b ≡ record p.board { task_room = r } → q.board ≡ with_task node class held b → IsPool q
+kept_task p q b node class r held s k f none may on of core nodes progress same ended room added =
     let long : length (map entry_of p.board.tasks) ≡ length p.board.tasks = length-map p.board.tasks entry_of in
     kept_on p q _ k none (ap (λ (x : Accepted). x.nodes) core) nodes
     (ap (λ (x : BoardState). x.nodes) added ∙ ap (λ (x : BoardState). x.nodes) room) ended
-    (task_state p q b node class r s core progress room added)
-    (facts_task (record { node = node; class = class }) (map outside_of p.board.tasks ++ 0 ∷ []) s k.facts
+    (task_state p q b node class r held s core progress same room added)
+    (facts_extended (extends (state_of p))
+    (facts_task (record { node = node; class = class }) (map outside_of p.board.tasks ++ (if p.progress.started then 1 else 0) ∷ []) s k.facts
     (consistent p.core.nodes p.progress p.core.steps p.board f (k.board ∙ sym k.nodes)) may on
-    (subst (λ (m : ℕ). IsTrue (is_insert_of m s)) (sym long) of))
+    (subst (λ (m : ℕ). IsTrue (is_insert_of m s)) (sym long) of)))
 
--- ---- an input more
-edge_state : (p q : Inside) (b : BoardState) (source r : ℕ) (u : Task) → q.core ≡ p.core → q.progress ≡ p.progress
-    → b ≡ record p.board { edge_room = r } → slice_get p.board.tasks source ≡ Some u → u.stage ≢ stage.Done → (h : HasEdge source b q.board)
+edge_state : (p q : Inside) (b : BoardState) (source target r : ℕ) → q.core ≡ p.core → q.progress ≡ extend p.progress
+    → b ≡ record p.board { edge_room = r } → source < target → HasEdge source target b q.board
     → state_of q ≡ record (state_of p) {
-      inputs = map input_of p.board.edges ++ record { source = source; target = h.newest } ∷ [];
+      extended = extends (state_of p);
+      inputs = map input_of p.board.edges ++ record { source = source; target = target } ∷ [];
       ways = map way_of p.board.edges ++ way.Out ∷ [];
     }
-edge_state p q b source r u core progress room is apart h =
-    let tasks : b.tasks ≡ p.board.tasks = ap (λ (x : BoardState). x.tasks) room in
-    let same : h.from ≡ u = some_same h.from u (sym h.of ∙ (ap (λ (xs : List Task). slice_get xs source) tasks ∙ is)) in
-    let becomes = h.not_done (λ d. apart (ap (λ (x : Task). x.stage) (sym same) ∙ d)) in
-    let seen_b = seen_edge p.core.nodes p.progress p.core.steps b source h.newest h.task h.from h.is h.of h.before in
+edge_state p q b source target r core progress room before h =
+    let now : Progress = extend p.progress in
     ap (λ (c : Accepted). seen c.nodes q.progress q.board c.steps) core
     ∙ (ap (λ (z : Progress). seen p.core.nodes z q.board p.core.steps) progress
-    ∙ (ap (λ (x : BoardState). seen p.core.nodes p.progress x p.core.steps) becomes
-    ∙ (seen_b ∙ ap (λ (x : BoardState). record (seen p.core.nodes p.progress x p.core.steps) {
-      inputs = map input_of x.edges ++ record { source = source; target = h.newest } ∷ [];
+    ∙ (ap (λ (x : BoardState). seen p.core.nodes now x p.core.steps) h.becomes
+    ∙ (seen_edge p.core.nodes now p.core.steps b source target h.task h.from h.is h.of before
+    ∙ ap (λ (x : BoardState). record (seen p.core.nodes now x p.core.steps) {
+      inputs = map input_of x.edges ++ record { source = source; target = target } ∷ [];
       ways = map way_of x.edges ++ way.Out ∷ [];
     }) room)))
 
-edge_nodes : {source : ℕ} {b c : BoardState} (h : HasEdge source b c) → h.from.stage ≢ stage.Done → c.nodes ≡ b.nodes
-edge_nodes h apart = ap (λ (x : BoardState). x.nodes) (h.not_done apart)
+pub kept_input : (p q : Inside) (b : BoardState) (source target r : ℕ) → IsPool p → BoardFacts p.board → q.core ≡ p.core → q.nodes ≡ p.nodes
+    → q.progress ≡ extend p.progress → q.ended_with ≡ p.ended_with → b ≡ record p.board { edge_room = r } → source < target
+    → HasEdge source target b q.board → IsPool q
+kept_input p q b source target r k f core nodes progress ended room before h =
+    kept_same p q _ k core nodes (ap (λ (x : BoardState). x.nodes) h.becomes ∙ ap (λ (x : BoardState). x.nodes) room) ended
+    (edge_state p q b source target r core progress room before h) refl refl refl
+    (facts_extended (extends (state_of p)) (facts_input (record { source = source; target = target }) k.facts
+    (consistent p.core.nodes p.progress p.core.steps p.board f (k.board ∙ sym k.nodes))))
 
-pub kept_input : (p q : Inside) (b : BoardState) (source r : ℕ) (u : Task) → IsPool p → BoardFacts p.board → q.core ≡ p.core → q.nodes ≡ p.nodes
-    → q.progress ≡ p.progress → q.ended_with ≡ p.ended_with → b ≡ record p.board { edge_room = r } → slice_get p.board.tasks source ≡ Some u
-    → u.stage ≢ stage.Done → HasEdge source b q.board → IsPool q
-kept_input p q b source r u k f core nodes progress ended room is apart h =
-    let tasks : b.tasks ≡ p.board.tasks = ap (λ (x : BoardState). x.tasks) room in
-    let same : h.from ≡ u = some_same h.from u (sym h.of ∙ (ap (λ (xs : List Task). slice_get xs source) tasks ∙ is)) in
-    kept_same p q _ k core nodes
-    (edge_nodes h (λ d. apart (ap (λ (x : Task). x.stage) (sym same) ∙ d)) ∙ ap (λ (x : BoardState). x.nodes) room) ended
-    (edge_state p q b source r u core progress room is apart h) refl refl refl
-    (facts_input (record { source = source; target = h.newest }) k.facts
-    (consistent p.core.nodes p.progress p.core.steps p.board f (k.board ∙ sym k.nodes)))
-
-pub input_added : (p q : Inside) (b : BoardState) (now : PoolState) (source r : ℕ) (u : Task) → state_of p ≡ now → q.core ≡ p.core → q.progress ≡ p.progress
-    → b ≡ record p.board { edge_room = r } → slice_get p.board.tasks source ≡ Some u → u.stage ≢ stage.Done → HasEdge source b q.board
-    → IsInputAdded source now (state_of q)
-input_added p q b now source r u same core progress room is apart h =
-    let tasks : length b.tasks ≡ length p.board.tasks = ap (λ (x : BoardState). length x.tasks) room in
-    let long : length (map entry_of p.board.tasks) ≡ length p.board.tasks = length-map p.board.tasks entry_of in
-    let last = h.last in
+pub input_added : (p q : Inside) (b : BoardState) (now : PoolState) (source target r : ℕ) → state_of p ≡ now → q.core ≡ p.core
+    → q.progress ≡ extend p.progress → b ≡ record p.board { edge_room = r } → source < target → target + 1 ≡ length now.tasks
+    → HasEdge source target b q.board → IsInputAdded source now (state_of q)
+input_added p q b now source target r same core progress room before last h =
     subst (λ (a : PoolState). IsInputAdded source a (state_of q)) same
-    (subst (λ (a : PoolState). IsInputAdded source (state_of p) a) (sym (edge_state p q b source r u core progress room is apart h)) (record {
+    (subst (λ (a : PoolState). IsInputAdded source (state_of p) a) (sym (edge_state p q b source target r core progress room before h)) (record {
       nodes = refl;
-      started = refl; extended = refl;
-      newest = h.newest;
-      last = omega (arith, last, tasks, long);
-      before = h.before;
+      started = refl;
+      extended = refl;
+      newest = target;
+      last = subst (λ (a : PoolState). target + 1 ≡ length a.tasks) (sym same) last;
+      before = before;
       tasks = refl;
       stages = refl;
       inputs = refl;
@@ -661,8 +658,14 @@ pub releases_now : (p : Inside) (now : PoolState) (t : ℕ) (x : Task) → state
 releases_now p now t x same is some =
     let e = task_now p now t x same is in release_passes now t x.outside (entry_of x) e.0 e.2 some
 
-pub fresh_not_done : (g : Stage) → g ≡ stage.Fresh → g ≢ stage.Done
-fresh_not_done g e d = cc
+pub release_refused : (a : PoolState) (t : ℕ) (x : Entry) → slice_get a.tasks t ≡ Some x → slice_get a.outside t ≡ Some 0
+    → first_refusal (release_checks a t) ≡ Some refusal.WrongLife
+release_refused a t x is at = rw (is, at) refl
+
+pub refuses_now : (p : Inside) (now : PoolState) (t : ℕ) (x : Task) → state_of p ≡ now → slice_get p.board.tasks t ≡ Some x → x.outside ≡ 0
+    → first_refusal (release_checks now t) ≡ Some refusal.WrongLife
+refuses_now p now t x same is none =
+    let e = task_now p now t x same is in release_refused now t (entry_of x) e.0 (e.2 ∙ ap Some none)
 
 pub ready_if : (p : Inside) (t : ℕ) (x : Task) → slice_get p.board.tasks t ≡ Some x → x.stage ≡ stage.Fresh → x.missing ≡ 0
     → on_board.IsReady x.node t p.board
@@ -675,6 +678,27 @@ both_true false n h = cc
 pub not_zero : (a : Bool) (n : ℕ) → IsFalse (a && (n == 0)) → IsTrue a → n ≢ 0
 not_zero true n h t z = grind (arith, nat_tests, h, z)
 not_zero false n h t z = cc
+
+-- ---- whether a task may get one more input
+pub may_wait_yes : (p : Inside) (now : PoolState) (t : ℕ) (x : Task) → state_of p ≡ now → BoardFacts p.board → slice_get p.board.tasks t ≡ Some x
+    → x.stage ≡ stage.Fresh → IsFalse (p.progress.started && (x.missing == 0)) → MayWait t now
+may_wait_yes p now t x same f is fresh closed =
+    subst (λ (a : PoolState). MayWait t a) same (record {
+      fresh = map_get stage_of p.board.tasks t x is ∙ ap Some fresh;
+      lacking = λ s. lacks_seen p.core.nodes p.progress p.core.steps p.board t
+          (lacks_input t x f is (not_zero p.progress.started x.missing closed s));
+    })
+
+pub may_wait_no : (p : Inside) (now : PoolState) (t : ℕ) (x : Task) → state_of p ≡ now → BoardFacts p.board → slice_get p.board.tasks t ≡ Some x
+    → x.stage ≡ stage.Fresh → IsTrue (p.progress.started && (x.missing == 0)) → MayWait t now → ⊥
+may_wait_no p now t x same f is fresh closed m =
+    let both = both_true p.progress.started x.missing closed in
+    lacks_none p now x.node t same f (ready_if p t x is fresh both.1)
+    (m.lacking (subst (λ (a : PoolState). IsTrue a.started) same both.0))
+
+pub may_wait_fresh : (p : Inside) (now : PoolState) (t : ℕ) (x : Task) → state_of p ≡ now → slice_get p.board.tasks t ≡ Some x
+    → MayWait t now → x.stage ≡ stage.Fresh
+may_wait_fresh p now t x same is m = some_same x.stage stage.Fresh (sym (task_now p now t x same is).1 ∙ m.fresh)
 
 -- ---- what is found
 pub some_coming : (p : Inside) (node : ℕ) (o : Option ℕ) → BoardFacts p.board → IfSome o (λ k. on_board.IsComing node k p.board)

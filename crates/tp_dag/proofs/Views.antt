@@ -1,6 +1,6 @@
 -- What contracts see of a pool: after a call of its board, and what the board's words say in the pool's.
 use Rattle.std.proofs.Common.{arith, ◌+◌, ◌<◌, ℕ, ◌≡◌, ◌≢◌, List, [], ◌∷◌, ◌++◌, map, Bool, IsTrue, Some, refl, ap, sym, ◌∙◌, inl, inr}
-use Rattle.std.specs.Prelude.{slice_get}
+use Rattle.std.specs.Prelude.{slice_get, if◌then◌else◌}
 use Rattle.std.proofs.Math.ListN.{set}
 use Rattle.std.proofs.lemmas.List.{length-map}
 use Rattle.tp_base.specs.declared.Step.{Step}
@@ -64,13 +64,13 @@ seen_way n s st b t k x y e w is one two three at =
     (map_same input_of b.edges k e (record e { way = w }) at refl) (map_write way_of b.edges k (record e { way = w }))
     (map_same outside_of b.tasks t x y is three)
 
-pub seen_task : (n : ℕ) (s : Progress) (st : List Step) (b : BoardState) (node class : ℕ)
-    → seen n s (with_task node class b) st ≡ record (seen n s b st) {
+pub seen_task : (n : ℕ) (s : Progress) (st : List Step) (b : BoardState) (node class : ℕ) (held : Bool)
+    → seen n s (with_task node class held b) st ≡ record (seen n s b st) {
       tasks = map entry_of b.tasks ++ record { node = node; class = class } ∷ [];
       stages = map stage_of b.tasks ++ stage.Fresh ∷ [];
-      outside = map outside_of b.tasks ++ 0 ∷ [];
+      outside = map outside_of b.tasks ++ (if held then 1 else 0) ∷ [];
     }
-seen_task n s st b node class =
+seen_task n s st b node class held =
     same_state n s st _ _ _ _ _ _ _ _ _ _ (map_push entry_of b.tasks _) (map_push stage_of b.tasks _) refl refl (map_push outside_of b.tasks _)
 
 twice : {A B : Type 0} (f : A → B) (xs : List A) (i k : ℕ) (x y u v : A) → slice_get xs i ≡ Some x → slice_get xs k ≡ Some u → k ≢ i
@@ -80,7 +80,7 @@ twice f xs i k x y u v is at apart one two =
 
 pub seen_edge : (n : ℕ) (s : Progress) (st : List Step) (b : BoardState) (source target : ℕ) (x u : Task) → slice_get b.tasks target ≡ Some x
     → slice_get b.tasks source ≡ Some u → source < target
-    → seen n s (with_open_edge source target x u b) st ≡ record (seen n s b st) {
+    → seen n s (with_edge source target x u b) st ≡ record (seen n s b st) {
       inputs = map input_of b.edges ++ record { source = source; target = target } ∷ [];
       ways = map way_of b.edges ++ way.Out ∷ [];
     }

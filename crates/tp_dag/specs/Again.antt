@@ -1,5 +1,5 @@
 -- The same graph once more: what `again` does, and the steps with which it begins.
-use Rattle.std.specs.Prelude.{ℕ, ◌≡◌, ◌<◌, List, Bool, true, false, slice_get, Some, IsTrue, IsFalse}
+use Rattle.std.specs.Prelude.{ℕ, ◌≡◌, ◌<◌, Bool, true, false, slice_get, Some, IsTrue, IsFalse}
 use Rattle.std.specs.List.{list_all}
 use Rattle.tp_base.specs.declared.Step.{Step}
 use Rattle.tp_base.specs.declared.Step.TheVariants.{Insert, Ready}

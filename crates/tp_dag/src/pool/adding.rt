@@ -1,5 +1,5 @@
 //! The calls that add tasks and inputs, before the start and after it.
-ghost use Rattle.std.specs.Prelude.{◌≡◌, ◌≢◌, ◌<◌, ◌+◌, ◌⊎◌, ℕ, length, IfOk, IfErr, IfSome, IfNone, OnOk, OnErr, IsTrue, IsFalse, slice_get, Err, Some};
+ghost use Rattle.std.specs.Prelude.{◌≡◌, ◌≢◌, ◌<◌, ◌≤◌, ◌+◌, ◌⊎◌, ℕ, length, IfOk, IfErr, IfSome, IfNone, OnOk, OnErr, IsTrue, IsFalse, slice_get, Err, Some};
 ghost use Rattle.tp_base.specs.declared.limits.TheConstants.{MAX_STEPS};
 ghost use Rattle.tp_base.specs.Checks.{first_refusal};
 ghost use Rattle.tp_dag.specs.declared.entry.Stage.TheVariants as stage;
@@ -103,7 +103,7 @@ impl Pool {
         if let Some(refusal) = self.input_refusal(source) {
             return Err(refusal);
         }
-        let newest = (self.board.task_count() - 1) as u32;
+        let newest = self.newest();
         if !self.may_wait(newest) {
             return Err(Refusal::WrongLife);
         }
@@ -127,6 +127,14 @@ impl Pool {
             return Some(Refusal::HistoryFull(MAX_STEPS));
         }
         None
+    }
+
+    fn newest(&self) -> u32
+        requires { 1 ≤ length self.now.tasks }
+        ensures { result + 1 ≡ length self.now.tasks }
+    {
+        self.board.known();
+        (self.board.task_count() - 1) as u32
     }
 
     // whether a task may get one more input

@@ -5,7 +5,7 @@ ghost use Rattle.tp_dag.specs.Again.{IsAgain, IsBeginning};
 ghost use Rattle.tp_dag.specs.State.{IsFinished};
 
 use crate::board::Board;
-use crate::entry::Task;
+use crate::entry::{Progress, Task};
 use crate::pool::{Pool, take_step};
 use std::alloc::Global;
 use tp_base::{Inputs, NodeId, Refusal, Step, TaskId};
@@ -74,7 +74,10 @@ impl Pool {
         let core = begun_core(self.alloc, self.nodes, &self.board)?;
         self.core = core;
         self.board.reset();
-        self.progress.started = true;
+        self.progress = Progress {
+            started: true,
+            extended: false,
+        };
         self.ended_with = None;
         self.hints.forget();
         self.push_ready_tasks();
