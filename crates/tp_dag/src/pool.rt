@@ -326,8 +326,10 @@ impl Pool {
 
     /// Whether a node has another task that is ready.
     pub fn has_ready(&self, node: u32) -> bool
-        ensures { IsFalse result → HasNoneReady node self.now }
+        ensures no { IsFalse result → HasNoneReady node self.now }
+        ensures yes { IsTrue result → HasNoneReady node self.now → ⊥ }
     {
+        self.board.known();
         self.board.has_ready(node)
     }
 
