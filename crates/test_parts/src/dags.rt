@@ -1,6 +1,6 @@
-//! The pool of tasks that a caller runs: two nodes, an input that is sent, one from outside, call by call.
+//! The pool of tasks that a caller runs, call by call: an input that is sent, one from outside, tasks that a running task adds.
 
-use tp_base::Refusal;
+use tp_base::{MAX_STEPS, Refusal};
 use tp_dag::{Next, Pool};
 
 /// A call of `Pool`.
@@ -13,6 +13,7 @@ enum Call {
     Start,
     Next(u32),
     Done(u32, u32),
+    Again,
 }
 
 /// What a call returns: of `next` the task to be run, or one of these.
@@ -49,6 +50,7 @@ fn returned(pool: &mut Pool, what: Call) -> Answer {
         Call::Start => of_unit(pool.start()),
         Call::Next(node) => of_next(pool.next(node)),
         Call::Done(node, task) => pool.done(node, task),
+        Call::Again => of_unit(pool.again()),
     }
 }
 
@@ -89,5 +91,64 @@ fn a_task_waits_for_a_message_and_for_the_outside(rt: HostRuntime) {
         (Call::Next(1), FINISHED),
     ];
     let mut pool = Pool::new(rt.alloc(), 2);
+    assert_eq!(rt; first_wrong(&mut pool, rows.as_slice()), None);
+}
+
+#[test]
+fn a_running_task_adds_tasks(rt: HostRuntime) {
+    let rows = [
+        (Call::Task(0, 0), Ok(0)),
+        (Call::Task(1, 0), Ok(1)),
+        (Call::Start, Ok(0)),
+        (Call::Next(0), Ok(0)),
+        (Call::Task(0, 1), Ok(2)),
+        // task 2 is held, and waits for the running task that added it and for one at another node
+        (Call::Next(0), WAIT),
+        (Call::Input(0), Ok(0)),
+        (Call::Input(1), Ok(0)),
+        (Call::Input(2), Err(Refusal::NoTask)),
+        (Call::Release(2), Ok(0)),
+        (Call::Next(0), WAIT),
+        (Call::Done(0, 0), Ok(0)),
+        (Call::Next(1), Ok(1)),
+        (Call::Done(1, 1), Ok(1)),
+        (Call::Task(1, 0), Err(Refusal::Inactive)),
+        (Call::Next(0), Ok(2)),
+        (Call::Input(0), Err(Refusal::WrongLife)),
+        (Call::Task(0, 0), Ok(3)),
+        (Call::Input(1), Ok(0)),
+        (Call::Release(3), Ok(1)),
+        (Call::Input(1), Err(Refusal::WrongLife)),
+        (Call::Next(0), Ok(3)),
+        (Call::Done(0, 2), Ok(0)),
+        (Call::Done(0, 3), Ok(0)),
+        (Call::Next(1), FINISHED),
+        (Call::Task(0, 0), Err(Refusal::Ended)),
+        (Call::Again, Err(Refusal::WrongLife)),
+    ];
+    let mut pool = Pool::new(rt.alloc(), 2);
+    assert_eq!(rt; first_wrong(&mut pool, rows.as_slice()), None);
+}
+
+fn add_tasks(pool: &mut Pool, count: u32) {
+    for _ in 0..count {
+        let _ = pool.task(0, 3);
+    }
+}
+
+#[test]
+fn steps_are_counted_ahead(rt: HostRuntime) {
+    let full = Err(Refusal::HistoryFull(MAX_STEPS));
+    // the graph needs all steps but 5: 3 a task and 10 a node
+    let rows = [
+        (Call::Task(1, 0), Ok(349_516)),
+        (Call::Start, Ok(0)),
+        (Call::Task(1, 0), Ok(349_517)),
+        (Call::Input(0), full),
+        (Call::Input(349_516), Ok(0)),
+        (Call::Task(0, 0), full),
+    ];
+    let mut pool = Pool::new(rt.alloc(), 2);
+    add_tasks(&mut pool, 349_516);
     assert_eq!(rt; first_wrong(&mut pool, rows.as_slice()), None);
 }

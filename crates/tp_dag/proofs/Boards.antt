@@ -1,5 +1,5 @@
 -- What is true of a board stays true when a task is written, when an edge and a task are written, and when a task or an edge is added.
-use Rattle.std.proofs.Common.{arith, ◌+◌, ◌<◌, ℕ, zero, suc, ◌≡◌, ◌≢◌, List, [], ◌∷◌, ◌++◌, length, length-set, Bool, false, IsTrue, Some, refl, ap, subst, sym, ◌∙◌, inl, inr}
+use Rattle.std.proofs.Common.{arith, ◌+◌, ◌<◌, ◌≤◌, ℕ, zero, suc, ◌≡◌, ◌≢◌, List, [], ◌∷◌, ◌++◌, length, length-set, Bool, false, IsTrue, Some, refl, ap, subst, sym, ◌∙◌, inl, inr}
 use Rattle.std.specs.Prelude.{slice_get, ◌==◌, ◌&&◌, not}
 use Rattle.std.proofs.Math.ListN.{set}
 use Rattle.std.proofs.lemmas.Bool.Decides.{nat_tests}
@@ -10,7 +10,7 @@ use Rattle.tp_dag.specs.declared.entry.Edge.{Edge}
 use Rattle.tp_dag.specs.declared.entry.Stage.{Stage}
 use Rattle.tp_dag.specs.declared.entry.Way.{Way}
 use Rattle.tp_dag.specs.declared.entry.Way.TheVariants as way
-use Rattle.tp_dag.specs.Board.{BoardState, with_open_edge}
+use Rattle.tp_dag.specs.Board.{BoardState, with_edge}
 use Rattle.tp_dag.specs.Counts.{count_where, is_fresh, is_out, is_received, may_be, is_missing, is_unsent, IsPlaced, IsCounted, BoardFacts}
 use Rattle.tp_dag.proofs.Lists.{set_cases, set_apart, last_cases}
 use Rattle.tp_dag.proofs.Counting.{one, count_set, count_push, count_zero}
@@ -124,9 +124,12 @@ facts_both {a} k t e w x y f at is home same ok missing unsent c = record {
 }
 
 -- ---- a task is added
-pub facts_push_task : {a : BoardState} (y : Task) → BoardFacts a → length a.tasks < MAX_STEPS → y.node < a.nodes → y.outside ≡ 0
-    → y.missing ≡ 0 → y.unsent ≡ 0 → BoardFacts (record a { tasks = a.tasks ++ y ∷ [] })
-facts_push_task {a} y f few home outside missing unsent = record {
+fresh_lacks : (s : Stage) {P : Type 0} → IsTrue (is_fresh s) → is_fresh s ≡ false → P
+fresh_lacks s h g = cc
+
+pub facts_push_task : {a : BoardState} (y : Task) → BoardFacts a → length a.tasks < MAX_STEPS → y.node < a.nodes → y.outside ≤ MAX_STEPS
+    → y.missing ≡ y.outside → y.unsent ≡ 0 → IsTrue (is_fresh y.stage) → BoardFacts (record a { tasks = a.tasks ++ y ∷ [] })
+facts_push_task {a} y f few home outside missing unsent fresh = record {
   few_nodes = f.few_nodes;
   few_tasks = (let l = length_push a.tasks y in omega (arith, l, few));
   few_edges = f.few_edges;
@@ -156,10 +159,10 @@ facts_push_task {a} y f few home outside missing unsent = record {
     new_counted : IsCounted a.nodes a.edges (length a.tasks) y
     new_counted = record {
       home = home;
-      few = omega (arith, outside);
-      missing = (let n = none_missing in omega (arith, n, outside, missing));
+      few = outside;
+      missing = (let n = none_missing in omega (arith, n, missing));
       unsent = (let n = none_unsent in omega (arith, n, unsent));
-      begun = λ b. missing;
+      begun = fresh_lacks y.stage fresh;
     }
 
 -- ---- an edge is added
@@ -171,26 +174,6 @@ more_counted nodes edges u e z m n c = record {
   missing = (let s = count_push (is_missing u) edges e in let r = c.missing in omega (arith, s, r, m));
   unsent = (let s = count_push (is_unsent u) edges e in let r = c.unsent in omega (arith, s, r, n));
   begun = c.begun;
-}
-
-pub facts_push : {a : BoardState} (e : Edge) → BoardFacts a → length a.edges < MAX_STEPS → IsPlaced a.tasks e
-    → ((u : ℕ) → one (is_missing u e) ≡ 0) → ((u : ℕ) → one (is_unsent u e) ≡ 0)
-    → ((z : Task) → slice_get a.tasks e.source ≡ Some z → IsTrue (may_be e.way z.stage))
-    → BoardFacts (record a { edges = a.edges ++ e ∷ [] })
-facts_push {a} e f few p missing unsent ok = record {
-  few_nodes = f.few_nodes;
-  few_tasks = f.few_tasks;
-  few_edges = (let l = length_push a.edges e in omega (arith, l, few));
-  placed = λ k g h. elim (last_cases a.edges k g e h) [
-    | inl l ↦ f.placed k g l
-    | inr l ↦ subst (λ (i : Edge). IsPlaced a.tasks i) (sym l.1) p
-  ];
-  counted = λ u z h. more_counted a.nodes a.edges u e z (missing u) (unsent u) (f.counted u z h);
-  goes = λ k g z h i. elim (last_cases a.edges k g e h) [
-    | inl l ↦ f.goes k g z l i
-    | inr l ↦ subst (λ (q : Edge). IsTrue (may_be q.way z.stage)) (sym l.1)
-        (ok z (subst (λ (q : Edge). slice_get a.tasks q.source ≡ Some z) l.1 i))
-  ];
 }
 
 abbrev pub lacking_more : Task → Task
@@ -214,9 +197,6 @@ out_missing_here source target task = grind (arith, nat_tests)
 
 out_unsent_here : (source target : ℕ) (task : Task) → one (is_unsent source (out_edge source target task)) ≡ 1
 out_unsent_here source target task = grind (arith, nat_tests)
-
-fresh_lacks : (s : Stage) {P : Type 0} → IsTrue (is_fresh s) → is_fresh s ≡ false → P
-fresh_lacks s h g = cc
 
 -- an edge that is not passed on is added: its target lacks one input more, its source has one output more to pass on
 module _ {a : BoardState} (source target : ℕ) (task from : Task) (f : BoardFacts a) (few : length a.edges < MAX_STEPS)
@@ -262,7 +242,7 @@ module _ {a : BoardState} (source target : ℕ) (task from : Task) (f : BoardFac
     begun = c.begun;
   }
 
-  pub facts_open : BoardFacts (with_open_edge source target task from a)
+  pub facts_open : BoardFacts (with_edge source target task from a)
   facts_open = record {
     few_nodes = f.few_nodes;
     few_tasks = (let l = length-set (set a.tasks target (lacking_more task)) source (owing_more from) in

@@ -11,10 +11,10 @@ use Rattle.tp_dag.specs.declared.entry.Stage.{Stage}
 use Rattle.tp_dag.specs.declared.entry.Stage.TheVariants as stage
 use Rattle.tp_dag.specs.declared.entry.Way.{Way}
 use Rattle.tp_dag.specs.declared.entry.Way.TheVariants as way
-use Rattle.tp_dag.specs.Board.{BoardState}
+use Rattle.tp_dag.specs.Board.{BoardState, new_task}
 use Rattle.tp_dag.specs.Counts.{is_fresh, is_out, is_received, is_under_way, may_be, is_missing, is_unsent, is_coming, is_ready, BoardFacts, AreCounts}
 use Rattle.tp_dag.proofs.Counting.{one, count_set, count_some, counts_same, counts_push, counts_push_none}
-use Rattle.tp_dag.proofs.Boards.{moved, some_same, get_other, out_edge, lacking_more, owing_more, facts_task, facts_both, facts_push, facts_push_task}
+use Rattle.tp_dag.proofs.Boards.{moved, some_same, get_other, out_edge, lacking_more, owing_more, facts_task, facts_both, facts_push_task}
 use Rattle.tp_dag.proofs.Numbers.{may_begin, one_here, one_else, one_if, one_less, ready_set, ready_same, some_ready, coming_set}
 
 -- ---- boards with the same lists
@@ -273,41 +273,31 @@ arrived_ready k e x f c at is l u =
     lacking_ready e.target e.to x (lacking_less x) c is l ((f.placed k e at).home x is) (lacks_fresh e.target x f is m) m refl refl refl
 
 -- ---- add_task
-abbrev pub new_task : ℕ → ℕ → Task
-new_task node class = record { node = node; class = class; stage = stage.Fresh; missing = 0; unsent = 0; outside = 0 }
+held_few : (held : Bool) → (if held then 1 else 0) ≤ MAX_STEPS
+held_few true = omega arith
+held_few false = omega arith
 
-pub added_task_facts : {a : BoardState} (node class : ℕ) → BoardFacts a → length a.tasks < MAX_STEPS → node < a.nodes
-    → BoardFacts (record a { tasks = a.tasks ++ new_task node class ∷ [] })
-added_task_facts node class f few home = facts_push_task (new_task node class) f few home refl refl refl
+pub added_task_facts : {a : BoardState} (node class : ℕ) (held : Bool) → BoardFacts a → length a.tasks < MAX_STEPS → node < a.nodes
+    → BoardFacts (record a { tasks = a.tasks ++ new_task node class held ∷ [] })
+added_task_facts node class held f few home = facts_push_task (new_task node class held) f few home (held_few held) refl refl refl
 
-pub added_task_ready : {tasks : List Task} {rs : List ℕ} (node class : ℕ) → AreCounts is_ready tasks rs → node < MAX_NODES
-    → AreCounts is_ready (tasks ++ new_task node class ∷ []) (set rs node (slice_index_or rs node 0 + 1))
-added_task_ready {tasks} {rs} node class c l =
-    counts_push node (slice_index_or rs node 0 + 1) (new_task node class) c l (λ n o. one_else node n true (λ h. o (sym h)))
-    (let h = one_here node true in omega (arith, h))
+-- it is ready if it is not held
+held_begins : (node class : ℕ) (held : Bool) → one (may_begin (new_task node class held)) ≡ one (not held)
+held_begins node class true = refl
+held_begins node class false = refl
 
--- ---- add_edge, from a task that is done
-abbrev pub done_edge : ℕ → ℕ → ℕ → Edge
-done_edge source target to = record { source = source; target = target; to = to; way = way.Received }
+pub added_task_ready : {tasks : List Task} {rs : List ℕ} (node class : ℕ) (held : Bool) → AreCounts is_ready tasks rs → node < MAX_NODES
+    → AreCounts is_ready (tasks ++ new_task node class held ∷ []) (set rs node (slice_index_or rs node 0 + (if not held then 1 else 0)))
+added_task_ready {tasks} {rs} node class held c l =
+    let x : Task = new_task node class held in
+    counts_push node (slice_index_or rs node 0 + (if not held then 1 else 0)) x c l (λ n o. one_else node n (may_begin x) (λ h. o (sym h)))
+    (let h = one_here node (may_begin x) in let b = held_begins node class held in let i = one_if (not held) in omega (arith, h, b, i))
 
+-- ---- add_edge
 none_and : (b : Bool) → one (b && false) ≡ 0
 none_and true = refl
 none_and false = refl
 
-pub received_facts : {a : BoardState} (source target to : ℕ) → BoardFacts a → length a.edges < MAX_STEPS → target + 1 ≡ length a.tasks
-    → source < target → ((x : Task) → slice_get a.tasks target ≡ Some x → to ≡ x.node)
-    → ((x : Task) → slice_get a.tasks source ≡ Some x → x.stage ≡ stage.Done)
-    → BoardFacts (record a { edges = a.edges ++ done_edge source target to ∷ [] })
-received_facts source target to f few newest before home ended =
-    facts_push (done_edge source target to) f few (record { before = before; within = omega (arith, newest); home = home })
-    (λ u. none_and (target == u)) (λ u. none_and (source == u))
-    (λ z h. subst (λ (s : Stage). IsTrue (may_be way.Received s)) (sym (ended z h)) refl)
-
-pub received_coming : {edges : List Edge} {cs : List ℕ} (source target to : ℕ) → AreCounts is_coming edges cs
-    → AreCounts is_coming (edges ++ done_edge source target to ∷ []) cs
-received_coming source target to c = counts_push_none (done_edge source target to) c (λ n. none_and (to == n))
-
--- ---- add_edge, from a task that is not done
 pub open_coming : {edges : List Edge} {cs : List ℕ} (source target : ℕ) (task : Task) → AreCounts is_coming edges cs
     → AreCounts is_coming (edges ++ out_edge source target task ∷ []) cs
 open_coming source target task c = counts_push_none (out_edge source target task) c (λ n. none_and (task.node == n))

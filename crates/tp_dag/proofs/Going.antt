@@ -41,6 +41,7 @@ pub ways_graph : (a b : PoolState) → b ≡ record a { ways = b.ways } → Same
 ways_graph a b e = record {
   nodes = ap (λ (x : PoolState). x.nodes) e;
   started = ap (λ (x : PoolState). x.started) e;
+  extended = ap (λ (x : PoolState). x.extended) e;
   tasks = ap (λ (x : PoolState). x.tasks) e;
   inputs = ap (λ (x : PoolState). x.inputs) e;
   outside = ap (λ (x : PoolState). x.outside) e;
@@ -49,7 +50,14 @@ ways_graph a b e = record {
 -- steps were added, then ways changed
 pub adds_ways : {test : Step → Bool} (a b c : PoolState) (ws : List Way) → AddsOnly test a b → c ≡ record b { ways = ws } → AddsOnly test a c
 adds_ways {test} a b c ws x e = subst (λ (z : PoolState). AddsOnly test a z) (sym e) (record {
-  graph = record { nodes = x.graph.nodes; started = x.graph.started; tasks = x.graph.tasks; inputs = x.graph.inputs; outside = x.graph.outside };
+  graph = record {
+    nodes = x.graph.nodes;
+    started = x.graph.started;
+    extended = x.graph.extended;
+    tasks = x.graph.tasks;
+    inputs = x.graph.inputs;
+    outside = x.graph.outside;
+  };
   stages = x.stages;
   later = x.later;
   steps = x.steps;

@@ -27,6 +27,7 @@ use Rattle.tp_core.proofs.Once.{tasks_run_once}
 use Rattle.tp_dag.specs.declared.entry.Edge.{Edge}
 use Rattle.tp_dag.specs.declared.entry.Entry.{Entry}
 use Rattle.tp_dag.specs.declared.entry.Input.{Input}
+use Rattle.tp_dag.specs.declared.entry.Progress.{Progress}
 use Rattle.tp_dag.specs.declared.entry.Stage.{Stage}
 use Rattle.tp_dag.specs.declared.entry.Stage.TheVariants as stage
 use Rattle.tp_dag.specs.declared.entry.Task.{Task}
@@ -38,10 +39,11 @@ use Rattle.tp_dag.specs.declared.pool.Pool.TheInside.{Inside}
 use Rattle.tp_dag.specs.Board as on_board
 use Rattle.tp_dag.specs.Board.{BoardState, HasBegun, HasEdge, HasOutside, HasReleased, HasLeft, HasArrived, HasFinished, with_task}
 use Rattle.tp_dag.specs.Counts.{BoardFacts}
-use Rattle.tp_dag.specs.State.{PoolState, SameGraph, AddsOnly, WasDone, WasReceived, IsReceived, IsComing, IsOutput, IsFinished, IsCompleted, IsInputAdded, IsOutsideAdded, IsReleased, IsDispatched, LacksInput, AreSent, is_delivery, is_sending, dispatched, outside_checks, release_checks}
-use Rattle.tp_dag.specs.Kept.{state_of, seen, entry_of, stage_of, outside_of, input_of, way_of, Facts, IsPool, IsFrom, IsHome, AllPassed, SendsOne}
+use Rattle.tp_dag.specs.State.{PoolState, SameGraph, AddsOnly, WasDone, WasReceived, IsReceived, IsComing, IsOutput, IsFinished, IsCompleted, IsInputAdded, MayWait, extends, IsOutsideAdded, IsReleased, IsDispatched, LacksInput, HasNoneReady, AreSent, is_delivery, is_sending, dispatched, outside_checks, release_checks}
+use Rattle.tp_dag.specs.Kept.{state_of, seen, entry_of, stage_of, outside_of, input_of, way_of, extend, Facts, IsPool, IsFrom, IsHome, AllPassed, SendsOne}
 use Rattle.tp_dag.proofs.Lists.{map_get, map_got}
 use Rattle.tp_dag.proofs.Finding.{ready_lacks_none}
+use Rattle.tp_dag.proofs.Reading.{lacks_input}
 use Rattle.tp_dag.proofs.Steps.{facts_step, facts_begin, facts_done, facts_way, facts_task, facts_input, done_now, same_trans, adds_none, received_steps, one_generation, count_only, count_adds, all_append, delivery_begins_none, sending_begins_none, control_begins_none}
 use Rattle.tp_dag.proofs.Ended.{finished, any_append}
 use Rattle.tp_dag.proofs.Views.{some_same, seen_stage, seen_outside, seen_way, seen_task, seen_edge, consistent, coming_board, coming_seen, passed_seen, lacks_seen, lacks_board, unsent_seen}
@@ -88,45 +90,45 @@ kept_same p q a k core nodes board ended same one two three f = record {
 -- ---- one step more
 pub kept_step : (p q : Inside) (core : Accepted) (s : Step) (r : Result (Unit {0}) Refusal) → IsPool p → is_some p.ended_with ≡ false
     → IsFalse (is_reopen s) → OnOk r (MayCome p.core.nodes p.core.steps s × (core ≡ with_step p.core s)) → OnErr r (core ≡ p.core)
-    → q.core ≡ core → q.nodes ≡ p.nodes → q.started ≡ p.started → q.board ≡ p.board → q.ended_with ≡ p.ended_with → IsPool q
-kept_step p q core s (Ok u) k none on ok err is nodes started board ended =
+    → q.core ≡ core → q.nodes ≡ p.nodes → q.progress ≡ p.progress → q.board ≡ p.board → q.ended_with ≡ p.ended_with → IsPool q
+kept_step p q core s (Ok u) k none on ok err is nodes progress board ended =
     kept_on p q (record (state_of p) { steps = s ∷ p.core.steps }) k none (ap (λ (x : Accepted). x.nodes) (is ∙ ok.1)) nodes
-    (ap (λ (x : BoardState). x.nodes) board) ended (rw (is, ok.1, started, board) refl) (facts_step s k.facts ok.0 on)
-kept_step p q core s (Err e) k none on ok err is nodes started board ended =
+    (ap (λ (x : BoardState). x.nodes) board) ended (rw (is, ok.1, progress, board) refl) (facts_step s k.facts ok.0 on)
+kept_step p q core s (Err e) k none on ok err is nodes progress board ended =
     kept_on p q (state_of p) k none (ap (λ (x : Accepted). x.nodes) (is ∙ err)) nodes
-    (ap (λ (x : BoardState). x.nodes) board) ended (rw (is, err, started, board) refl) k.facts
+    (ap (λ (x : BoardState). x.nodes) board) ended (rw (is, err, progress, board) refl) k.facts
 
 pub adds_step : (p : Inside) (now : PoolState) (core : Accepted) (s : Step) (r : Result (Unit {0}) Refusal) (test : Step → Bool)
     → state_of p ≡ now → IsTrue (test s)
     → OnOk r (MayCome p.core.nodes p.core.steps s × (core ≡ with_step p.core s)) → OnErr r (core ≡ p.core)
-    → AddsOnly test now (seen core.nodes p.started p.board core.steps)
+    → AddsOnly test now (seen core.nodes p.progress p.board core.steps)
 adds_step p now core s (Ok u) test same h ok err =
-    subst (λ (a : PoolState). AddsOnly test a (seen core.nodes p.started p.board core.steps)) same
-    (subst (λ (c : Accepted). AddsOnly test (state_of p) (seen c.nodes p.started p.board c.steps)) (sym ok.1)
+    subst (λ (a : PoolState). AddsOnly test a (seen core.nodes p.progress p.board core.steps)) same
+    (subst (λ (c : Accepted). AddsOnly test (state_of p) (seen c.nodes p.progress p.board c.steps)) (sym ok.1)
     (record {
-      graph = record { nodes = refl; started = refl; tasks = refl; inputs = refl; outside = refl };
+      graph = record { nodes = refl; started = refl; extended = refl; tasks = refl; inputs = refl; outside = refl };
       stages = refl;
       later = s ∷ [];
       steps = refl;
       only = rw h refl;
     }))
 adds_step p now core s (Err e) test same h ok err =
-    subst (λ (a : PoolState). AddsOnly test a (seen core.nodes p.started p.board core.steps)) same
-    (subst (λ (c : Accepted). AddsOnly test (state_of p) (seen c.nodes p.started p.board c.steps)) (sym err) (adds_none test (state_of p)))
+    subst (λ (a : PoolState). AddsOnly test a (seen core.nodes p.progress p.board core.steps)) same
+    (subst (λ (c : Accepted). AddsOnly test (state_of p) (seen c.nodes p.progress p.board c.steps)) (sym err) (adds_none test (state_of p)))
 
 -- ---- a task begins
-begun_state : (p q : Inside) (t : ℕ) → q.core ≡ with_step p.core (Begin (record { 0 = t })) → q.started ≡ p.started → HasBegun t p.board q.board
+begun_state : (p q : Inside) (t : ℕ) → q.core ≡ with_step p.core (Begin (record { 0 = t })) → q.progress ≡ p.progress → HasBegun t p.board q.board
     → state_of q ≡ record (state_of p) { stages = set (map stage_of p.board.tasks) t stage.Running; steps = Begin (record { 0 = t }) ∷ p.core.steps }
-begun_state p q t core started h =
-    rw (core, started, h.becomes)
-    (seen_stage p.core.nodes p.started (Begin (record { 0 = t }) ∷ p.core.steps) p.board t h.was stage.Running h.is)
+begun_state p q t core progress h =
+    rw (core, progress, h.becomes)
+    (seen_stage p.core.nodes p.progress (Begin (record { 0 = t }) ∷ p.core.steps) p.board t h.was stage.Running h.is)
 
 pub kept_dispatch : (p q : Inside) (t : ℕ) → IsPool p → is_some p.ended_with ≡ false
     → MayCome p.core.nodes p.core.steps (Begin (record { 0 = t })) → q.core ≡ with_step p.core (Begin (record { 0 = t }))
-    → HasBegun t p.board q.board → q.nodes ≡ p.nodes → q.started ≡ p.started → q.ended_with ≡ p.ended_with → IsPool q
-kept_dispatch p q t k none may core h nodes started ended =
+    → HasBegun t p.board q.board → q.nodes ≡ p.nodes → q.progress ≡ p.progress → q.ended_with ≡ p.ended_with → IsPool q
+kept_dispatch p q t k none may core h nodes progress ended =
     kept_on p q _ k none (ap (λ (x : Accepted). x.nodes) core) nodes (ap (λ (x : BoardState). x.nodes) h.becomes) ended
-    (begun_state p q t core started h) (facts_begin t (facts_step (Begin (record { 0 = t })) k.facts may refl))
+    (begun_state p q t core progress h) (facts_begin t (facts_step (Begin (record { 0 = t })) k.facts may refl))
 
 -- ---- a task is dispatched
 begins_few : (o : Option Life) → begins o ≤ 1
@@ -160,7 +162,7 @@ first_begin {a} t f may =
     let more : count (is_begin_of t) (Begin (record { 0 = t }) ∷ a.steps) ≡ count (is_begin_of t) a.steps + 1 = begin_counted t a.steps in
     omega (arith, few, more)
 
-inputs_there : (b : BoardState) (n : ℕ) (s : Bool) (st : List Step) (node t : ℕ) (x : Task) → Facts (seen n s b st) → slice_get b.tasks t ≡ Some x
+inputs_there : (b : BoardState) (n : ℕ) (s : Progress) (st : List Step) (node t : ℕ) (x : Task) → Facts (seen n s b st) → slice_get b.tasks t ≡ Some x
     → x.node ≡ node → ((k : ℕ) (e : Edge) → slice_get b.edges k ≡ Some e → e.target ≡ t → e.way ≡ way.Received)
     → (k : ℕ) (i : Input) → slice_get (map input_of b.edges) k ≡ Some i → i.target ≡ t → IsReceived node k i (map entry_of b.tasks) st
 inputs_there b n s st node t x f is home all k i at to =
@@ -173,11 +175,11 @@ inputs_there b n s st node t x f is home all k i at to =
 
 pub is_dispatched : (p q : Inside) (now : PoolState) (node t : ℕ) → IsPool p → state_of p ≡ now → on_board.IsReady node t p.board
     → MayCome p.core.nodes p.core.steps (Begin (record { 0 = t })) → q.core ≡ with_step p.core (Begin (record { 0 = t }))
-    → HasBegun t p.board q.board → q.started ≡ p.started → IsDispatched node t now (state_of q)
-is_dispatched p q now node t k same r may core h started =
+    → HasBegun t p.board q.board → q.progress ≡ p.progress → IsDispatched node t now (state_of q)
+is_dispatched p q now node t k same r may core h progress =
     subst (λ (a : PoolState). IsDispatched node t a (state_of q)) same
-    (subst (λ (a : PoolState). IsDispatched node t (state_of p) a) (sym (begun_state p q t core started h)) (record {
-      graph = record { nodes = refl; started = refl; tasks = refl; inputs = refl; outside = refl };
+    (subst (λ (a : PoolState). IsDispatched node t (state_of p) a) (sym (begun_state p q t core progress h)) (record {
+      graph = record { nodes = refl; started = refl; extended = refl; tasks = refl; inputs = refl; outside = refl };
       entry = entry_of r.task;
       is = map_get entry_of p.board.tasks t r.task r.is;
       home = r.home;
@@ -186,7 +188,7 @@ is_dispatched p q now node t k same r may core h started =
       received = [];
       only = refl;
       steps = refl;
-      inputs = inputs_there p.board p.core.nodes p.started p.core.steps node t r.task k.facts r.is r.home h.received;
+      inputs = inputs_there p.board p.core.nodes p.progress p.core.steps node t r.task k.facts r.is r.home h.received;
       awaits_none = map_get outside_of p.board.tasks t h.was h.is ∙ ap Some h.outside;
       before = first_begin t k.facts may;
     }))
@@ -238,27 +240,27 @@ completed_later {t} {a} {b} {c} d h = record {
 }
 
 -- ---- a task is done
-finished_state : (p q : Inside) (t : ℕ) → q.core ≡ with_step p.core (Done (record { 0 = t })) → q.started ≡ p.started → HasFinished t p.board q.board
+finished_state : (p q : Inside) (t : ℕ) → q.core ≡ with_step p.core (Done (record { 0 = t })) → q.progress ≡ p.progress → HasFinished t p.board q.board
     → state_of q ≡ record (state_of p) { stages = set (map stage_of p.board.tasks) t stage.Done; steps = Done (record { 0 = t }) ∷ p.core.steps }
-finished_state p q t core started h =
-    rw (core, started, h.becomes)
-    (seen_stage p.core.nodes p.started (Done (record { 0 = t }) ∷ p.core.steps) p.board t h.was stage.Done h.is)
+finished_state p q t core progress h =
+    rw (core, progress, h.becomes)
+    (seen_stage p.core.nodes p.progress (Done (record { 0 = t }) ∷ p.core.steps) p.board t h.was stage.Done h.is)
 
 pub kept_complete : (p q : Inside) (t : ℕ) → IsPool p → is_some p.ended_with ≡ false
     → MayCome p.core.nodes p.core.steps (Done (record { 0 = t })) → q.core ≡ with_step p.core (Done (record { 0 = t }))
-    → HasFinished t p.board q.board → q.nodes ≡ p.nodes → q.started ≡ p.started → q.ended_with ≡ p.ended_with → IsPool q
-kept_complete p q t k none may core h nodes started ended =
+    → HasFinished t p.board q.board → q.nodes ≡ p.nodes → q.progress ≡ p.progress → q.ended_with ≡ p.ended_with → IsPool q
+kept_complete p q t k none may core h nodes progress ended =
     kept_on p q _ k none (ap (λ (x : Accepted). x.nodes) core) nodes (ap (λ (x : BoardState). x.nodes) h.becomes) ended
-    (finished_state p q t core started h)
+    (finished_state p q t core progress h)
     (facts_done t (facts_step (Done (record { 0 = t })) k.facts may refl) (done_now t p.core.steps))
 
 pub is_completed : (p q : Inside) (now : PoolState) (t : ℕ) → state_of p ≡ now → AllPassed t now
-    → q.core ≡ with_step p.core (Done (record { 0 = t })) → HasFinished t p.board q.board → q.started ≡ p.started
+    → q.core ≡ with_step p.core (Done (record { 0 = t })) → HasFinished t p.board q.board → q.progress ≡ p.progress
     → IsCompleted t now (state_of q)
-is_completed p q now t same passed core h started =
+is_completed p q now t same passed core h progress =
     subst (λ (a : PoolState). IsCompleted t a (state_of q)) same
-    (subst (λ (a : PoolState). IsCompleted t (state_of p) a) (sym (finished_state p q t core started h)) (record {
-      graph = record { nodes = refl; started = refl; tasks = refl; inputs = refl; outside = refl };
+    (subst (λ (a : PoolState). IsCompleted t (state_of p) a) (sym (finished_state p q t core progress h)) (record {
+      graph = record { nodes = refl; started = refl; extended = refl; tasks = refl; inputs = refl; outside = refl };
       running = map_get stage_of p.board.tasks t h.was h.is ∙ ap Some h.running;
       stages = refl;
       sent = [];
@@ -268,9 +270,9 @@ is_completed p q now t same passed core h started =
     }))
 
 pub completed_ways : (p q : Inside) (now : PoolState) (t : ℕ) → state_of p ≡ now → q.core ≡ with_step p.core (Done (record { 0 = t }))
-    → HasFinished t p.board q.board → q.started ≡ p.started → (state_of q).ways ≡ now.ways
-completed_ways p q now t same core h started =
-    ap (λ (a : PoolState). a.ways) (finished_state p q t core started h) ∙ ap (λ (a : PoolState). a.ways) same
+    → HasFinished t p.board q.board → q.progress ≡ p.progress → (state_of q).ways ≡ now.ways
+completed_ways p q now t same core h progress =
+    ap (λ (a : PoolState). a.ways) (finished_state p q t core progress h) ∙ ap (λ (a : PoolState). a.ways) same
 
 pub finishes_surely : (p : Inside) (now : PoolState) (t : ℕ) (r : Bool) → state_of p ≡ now → slice_get now.stages t ≡ Some stage.Running → AllPassed t now
     → (IsFalse r → (x : Task) → slice_get p.board.tasks t ≡ Some x → x.stage ≡ stage.Running → (k : ℕ) × on_board.IsUnsent t k p.board) → IsFalse r → ⊥
@@ -278,47 +280,47 @@ finishes_surely p now t r same running passed exact fails =
     let run : slice_get (map stage_of p.board.tasks) t ≡ Some stage.Running = subst (λ (a : PoolState). slice_get a.stages t ≡ Some stage.Running) (sym same) running in
     let x = map_got stage_of p.board.tasks t stage.Running run in
     let u = exact fails x.0 x.1 x.2 in
-    let o = unsent_seen p.core.nodes p.started p.core.steps p.board t u.0 u.1 in
+    let o = unsent_seen p.core.nodes p.progress p.core.steps p.board t u.0 u.1 in
     (subst (λ (a : PoolState). AllPassed t a) (sym same) passed) u.0 o.0 o.1
 
 -- ---- an input is passed on
-left_state : (p q : Inside) (k : ℕ) → q.started ≡ p.started → HasLeft k p.board q.board
-    → state_of q ≡ record (seen q.core.nodes p.started p.board q.core.steps) { ways = set (map way_of p.board.edges) k way.UnderWay }
-left_state p q k started h =
-    rw (started, h.becomes)
-    (seen_way q.core.nodes p.started q.core.steps p.board h.may.edge.source k h.may.source _ h.may.edge way.UnderWay h.may.from refl refl refl h.may.is)
+left_state : (p q : Inside) (k : ℕ) → q.progress ≡ p.progress → HasLeft k p.board q.board
+    → state_of q ≡ record (seen q.core.nodes p.progress p.board q.core.steps) { ways = set (map way_of p.board.edges) k way.UnderWay }
+left_state p q k progress h =
+    rw (progress, h.becomes)
+    (seen_way q.core.nodes p.progress q.core.steps p.board h.may.edge.source k h.may.source _ h.may.edge way.UnderWay h.may.from refl refl refl h.may.is)
 
 not_received : way.UnderWay ≡ way.Received → ⊥
 not_received e = cc
 
 pub kept_send : (p q : Inside) (core : Accepted) (k : ℕ) → IsPool p → is_some p.ended_with ≡ false → SendsOne p.core core → q.core ≡ core
-    → HasLeft k p.board q.board → q.nodes ≡ p.nodes → q.started ≡ p.started → q.ended_with ≡ p.ended_with → IsPool q
-kept_send p q core k kept none (inl same) is h nodes started ended =
+    → HasLeft k p.board q.board → q.nodes ≡ p.nodes → q.progress ≡ p.progress → q.ended_with ≡ p.ended_with → IsPool q
+kept_send p q core k kept none (inl same) is h nodes progress ended =
     kept_on p q (record (state_of p) { ways = set (map way_of p.board.edges) k way.UnderWay }) kept none
     (ap (λ (x : Accepted). x.nodes) (is ∙ same)) nodes (ap (λ (x : BoardState). x.nodes) h.becomes) ended
-    (left_state p q k started h
-    ∙ ap (λ (x : Accepted). record (seen x.nodes p.started p.board x.steps) { ways = set (map way_of p.board.edges) k way.UnderWay }) (is ∙ same))
+    (left_state p q k progress h
+    ∙ ap (λ (x : Accepted). record (seen x.nodes p.progress p.board x.steps) { ways = set (map way_of p.board.edges) k way.UnderWay }) (is ∙ same))
     (facts_way k way.UnderWay kept.facts (λ e. absurd (not_received e)))
-kept_send p q core k kept none (inr more) is h nodes started ended =
+kept_send p q core k kept none (inr more) is h nodes progress ended =
     kept_on p q (record (state_of p) { ways = set (map way_of p.board.edges) k way.UnderWay; steps = more.0 ∷ p.core.steps }) kept none
     (ap (λ (x : Accepted). x.nodes) (is ∙ more.4)) nodes (ap (λ (x : BoardState). x.nodes) h.becomes) ended
-    (left_state p q k started h
-    ∙ ap (λ (x : Accepted). record (seen x.nodes p.started p.board x.steps) { ways = set (map way_of p.board.edges) k way.UnderWay }) (is ∙ more.4))
+    (left_state p q k progress h
+    ∙ ap (λ (x : Accepted). record (seen x.nodes p.progress p.board x.steps) { ways = set (map way_of p.board.edges) k way.UnderWay }) (is ∙ more.4))
     (facts_way k way.UnderWay (facts_step more.0 kept.facts more.3 more.2) (λ e. absurd (not_received e)))
 
 sends_only : (p : Inside) (core : Accepted) (ws : List Way) → SendsOne p.core core
-    → AddsOnly is_sending (state_of p) (record (seen core.nodes p.started p.board core.steps) { ways = ws })
+    → AddsOnly is_sending (state_of p) (record (seen core.nodes p.progress p.board core.steps) { ways = ws })
 sends_only p core ws (inl same) =
-    subst (λ (c : Accepted). AddsOnly is_sending (state_of p) (record (seen c.nodes p.started p.board c.steps) { ways = ws })) (sym same) (record {
-      graph = record { nodes = refl; started = refl; tasks = refl; inputs = refl; outside = refl };
+    subst (λ (c : Accepted). AddsOnly is_sending (state_of p) (record (seen c.nodes p.progress p.board c.steps) { ways = ws })) (sym same) (record {
+      graph = record { nodes = refl; started = refl; extended = refl; tasks = refl; inputs = refl; outside = refl };
       stages = refl;
       later = [];
       steps = refl;
       only = refl;
     })
 sends_only p core ws (inr more) =
-    subst (λ (c : Accepted). AddsOnly is_sending (state_of p) (record (seen c.nodes p.started p.board c.steps) { ways = ws })) (sym more.4) (record {
-      graph = record { nodes = refl; started = refl; tasks = refl; inputs = refl; outside = refl };
+    subst (λ (c : Accepted). AddsOnly is_sending (state_of p) (record (seen c.nodes p.progress p.board c.steps) { ways = ws })) (sym more.4) (record {
+      graph = record { nodes = refl; started = refl; extended = refl; tasks = refl; inputs = refl; outside = refl };
       stages = refl;
       later = more.0 ∷ [];
       steps = refl;
@@ -326,16 +328,16 @@ sends_only p core ws (inr more) =
     })
 
 pub adds_send : (p q : Inside) (now : PoolState) (k : ℕ) → state_of p ≡ now → SendsOne p.core q.core → HasLeft k p.board q.board
-    → q.started ≡ p.started → AddsOnly is_sending now (state_of q)
-adds_send p q now k same sends h started =
+    → q.progress ≡ p.progress → AddsOnly is_sending now (state_of q)
+adds_send p q now k same sends h progress =
     subst (λ (a : PoolState). AddsOnly is_sending a (state_of q)) same
-    (subst (λ (a : PoolState). AddsOnly is_sending (state_of p) a) (sym (left_state p q k started h))
+    (subst (λ (a : PoolState). AddsOnly is_sending (state_of p) a) (sym (left_state p q k progress h))
     (sends_only p q.core (set (map way_of p.board.edges) k way.UnderWay) sends))
 
-pub left_ways : (p q : Inside) (now : PoolState) (k : ℕ) → state_of p ≡ now → HasLeft k p.board q.board → q.started ≡ p.started
+pub left_ways : (p q : Inside) (now : PoolState) (k : ℕ) → state_of p ≡ now → HasLeft k p.board q.board → q.progress ≡ p.progress
     → (state_of q).ways ≡ set now.ways k way.UnderWay
-left_ways p q now k same h started =
-    ap (λ (a : PoolState). a.ways) (left_state p q k started h) ∙ ap (λ (a : PoolState). set a.ways k way.UnderWay) same
+left_ways p q now k same h progress =
+    ap (λ (a : PoolState). a.ways) (left_state p q k progress h) ∙ ap (λ (a : PoolState). set a.ways k way.UnderWay) same
 
 output_board : (p : Inside) (t k : ℕ) (e : Edge) → slice_get p.board.edges k ≡ Some e → e.source ≡ t → IsOutput t k (state_of p)
 output_board p t k e at source = record { input = input_of e; is = map_get input_of p.board.edges k e at; source = source }
@@ -350,9 +352,9 @@ way_now p now k e w same at is =
     subst (λ (a : PoolState). slice_get a.ways k ≡ Some w) same (map_get way_of p.board.edges k e at ∙ ap Some is)
 
 pub sent_ways : (p q : Inside) (now : PoolState) (t k : ℕ) (e : Edge) → state_of p ≡ now → slice_get p.board.edges k ≡ Some e → e.source ≡ t
-    → e.way ≡ way.Out → HasLeft k p.board q.board → q.started ≡ p.started → AreSent t now (state_of q)
-sent_ways p q now t k e same at source out h started =
-    sent_one t k now (state_of q) (output_now p now t k e same at source) (way_now p now k e way.Out same at out) (left_ways p q now k same h started)
+    → e.way ≡ way.Out → HasLeft k p.board q.board → q.progress ≡ p.progress → AreSent t now (state_of q)
+sent_ways p q now t k e same at source out h progress =
+    sent_one t k now (state_of q) (output_now p now t k e same at source) (way_now p now k e way.Out same at out) (left_ways p q now k same h progress)
 
 -- the edge of an input that comes from the task is there
 pub output_edge : (p : Inside) (now : PoolState) (t k : ℕ) (w : Way) → state_of p ≡ now → IsOutput t k now → slice_get now.ways k ≡ Some w
@@ -378,11 +380,11 @@ leaves_surely p now t k e r same running at source out exact fails =
     })
 
 -- ---- an input is received
-arrived_state : (p q : Inside) (k : ℕ) (last : Bool) → q.core ≡ p.core → q.started ≡ p.started → HasArrived k last p.board q.board
+arrived_state : (p q : Inside) (k : ℕ) (last : Bool) → q.core ≡ p.core → q.progress ≡ p.progress → HasArrived k last p.board q.board
     → state_of q ≡ record (state_of p) { ways = set (map way_of p.board.edges) k way.Received }
-arrived_state p q k last core started h =
-    rw (core, started, h.becomes)
-    (seen_way p.core.nodes p.started p.core.steps p.board h.may.edge.target k h.target _ h.may.edge way.Received h.of refl refl refl h.may.is)
+arrived_state p q k last core progress h =
+    rw (core, progress, h.becomes)
+    (seen_way p.core.nodes p.progress p.core.steps p.board h.may.edge.target k h.target _ h.may.edge way.Received h.of refl refl refl h.may.is)
 
 received_by : (a : PoolState) (node k : ℕ) (i : Input) → WasDone i.source a.steps → slice_get a.inputs k ≡ Some i
     → IsFrom node k a ⊎ WasReceived node k a.steps → IsReceived node k i a.tasks a.steps
@@ -402,98 +404,94 @@ pub arrives_surely : (p : Inside) (now : PoolState) (node k : ℕ) (r : Option B
     → IsComing node k now → IfSome r (λ last. HasArrived k last p.board b) → IfNone r (on_board.MayArrive k p.board → ⊥)
     → (last : Bool) × HasArrived k last p.board b
 arrives_surely p now node k None b same f c ok exact =
-    absurd (exact (coming_board p.core.nodes p.started p.core.steps p.board node k f (subst (λ (a : PoolState). IsComing node k a) (sym same) c)).may)
+    absurd (exact (coming_board p.core.nodes p.progress p.core.steps p.board node k f (subst (λ (a : PoolState). IsComing node k a) (sym same) c)).may)
 arrives_surely p now node k (Some last) b same f c ok exact = (last, ok)
 
 pub kept_arrive : (p q : Inside) (now : PoolState) (node k : ℕ) → IsPool p → state_of p ≡ now → IsComing node k now
     → IsFrom node k now ⊎ WasReceived node k now.steps → (last : Bool) × HasArrived k last p.board q.board
-    → q.core ≡ p.core → q.nodes ≡ p.nodes → q.started ≡ p.started → q.ended_with ≡ p.ended_with → IsPool q
-kept_arrive p q now node k kept same c how h core nodes started ended =
+    → q.core ≡ p.core → q.nodes ≡ p.nodes → q.progress ≡ p.progress → q.ended_with ≡ p.ended_with → IsPool q
+kept_arrive p q now node k kept same c how h core nodes progress ended =
     kept_same p q (record (state_of p) { ways = set (map way_of p.board.edges) k way.Received }) kept core nodes
-    (ap (λ (x : BoardState). x.nodes) h.1.becomes) ended (arrived_state p q k h.0 core started h.1) refl refl refl
+    (ap (λ (x : BoardState). x.nodes) h.1.becomes) ended (arrived_state p q k h.0 core progress h.1) refl refl refl
     (facts_way k way.Received kept.facts (λ e. coming_there (state_of p) node k kept.facts
     (subst (λ (a : PoolState). IsComing node k a) (sym same) c)
     (subst (λ (a : PoolState). IsFrom node k a ⊎ WasReceived node k a.steps) (sym same) how)))
 
 pub has_arrived : (p q : Inside) (now : PoolState) (k : ℕ) → state_of p ≡ now → (last : Bool) × HasArrived k last p.board q.board
-    → q.core ≡ p.core → q.started ≡ p.started → state_of q ≡ record now { ways = slice_set now.ways k way.Received }
-has_arrived p q now k same h core started =
-    arrived_state p q k h.0 core started h.1 ∙ ap (λ (a : PoolState). record a { ways = set a.ways k way.Received }) same
+    → q.core ≡ p.core → q.progress ≡ p.progress → state_of q ≡ record now { ways = slice_set now.ways k way.Received }
+has_arrived p q now k same h core progress =
+    arrived_state p q k h.0 core progress h.1 ∙ ap (λ (a : PoolState). record a { ways = set a.ways k way.Received }) same
 
--- ---- a task more
-task_state : (p q : Inside) (b : BoardState) (node class r : ℕ) (s : Step) → q.core ≡ with_step p.core s → q.started ≡ p.started
-    → b ≡ record p.board { task_room = r } → q.board ≡ with_task node class b
+-- ---- a task or an input more
+facts_extended : {a : PoolState} (more : Bool) → Facts a → Facts (record a { extended = more })
+facts_extended more f = record { by_steps = f.by_steps; arrived = f.arrived }
+
+task_state : (p q : Inside) (b : BoardState) (node class r : ℕ) (held : Bool) (s : Step) → q.core ≡ with_step p.core s
+    → q.progress ≡ extend p.progress → held ≡ p.progress.started → b ≡ record p.board { task_room = r } → q.board ≡ with_task node class held b
     → state_of q ≡ record (state_of p) {
+      extended = extends (state_of p);
       tasks = map entry_of p.board.tasks ++ record { node = node; class = class } ∷ [];
       stages = map stage_of p.board.tasks ++ stage.Fresh ∷ [];
-      outside = map outside_of p.board.tasks ++ 0 ∷ [];
+      outside = map outside_of p.board.tasks ++ (if p.progress.started then 1 else 0) ∷ [];
       steps = s ∷ p.core.steps;
     }
-task_state p q b node class r s core started room added =
-    rw (core, started, added, room) (seen_task p.core.nodes p.started (s ∷ p.core.steps) p.board node class)
+task_state p q b node class r held s core progress same room added =
+    rw (core, progress, added, same, room) (seen_task p.core.nodes (extend p.progress) (s ∷ p.core.steps) p.board node class p.progress.started)
 
-pub kept_task : (p q : Inside) (b : BoardState) (node class r : ℕ) (s : Step) → IsPool p → BoardFacts p.board → is_some p.ended_with ≡ false
+pub kept_task : (p q : Inside) (b : BoardState) (node class r : ℕ) (held : Bool) (s : Step) → IsPool p → BoardFacts p.board
+    → is_some p.ended_with ≡ false
     → MayCome p.core.nodes p.core.steps s → IsFalse (is_reopen s) → IsTrue (is_insert_of (length p.board.tasks) s)
-    → q.core ≡ with_step p.core s → q.nodes ≡ p.nodes → q.started ≡ p.started → q.ended_with ≡ p.ended_with
-    → b ≡ record p.board { task_room = r } → q.board ≡ with_task node class b → IsPool q
-kept_task p q b node class r s k f none may on of core nodes started ended room added =
+    → q.core ≡ with_step p.core s → q.nodes ≡ p.nodes → q.progress ≡ extend p.progress → held ≡ p.progress.started
+    → q.ended_with ≡ p.ended_with → b ≡ record p.board { task_room = r } → q.board ≡ with_task node class held b → IsPool q
+kept_task p q b node class r held s k f none may on of core nodes progress same ended room added =
     let long : length (map entry_of p.board.tasks) ≡ length p.board.tasks = length-map p.board.tasks entry_of in
     kept_on p q _ k none (ap (λ (x : Accepted). x.nodes) core) nodes
     (ap (λ (x : BoardState). x.nodes) added ∙ ap (λ (x : BoardState). x.nodes) room) ended
-    (task_state p q b node class r s core started room added)
-    (facts_task (record { node = node; class = class }) (map outside_of p.board.tasks ++ 0 ∷ []) s k.facts
-    (consistent p.core.nodes p.started p.core.steps p.board f (k.board ∙ sym k.nodes)) may on
-    (subst (λ (m : ℕ). IsTrue (is_insert_of m s)) (sym long) of))
+    (task_state p q b node class r held s core progress same room added)
+    (facts_extended (extends (state_of p))
+    (facts_task (record { node = node; class = class }) (map outside_of p.board.tasks ++ (if p.progress.started then 1 else 0) ∷ []) s k.facts
+    (consistent p.core.nodes p.progress p.core.steps p.board f (k.board ∙ sym k.nodes)) may on
+    (subst (λ (m : ℕ). IsTrue (is_insert_of m s)) (sym long) of)))
 
--- ---- an input more
-edge_state : (p q : Inside) (b : BoardState) (source r : ℕ) (u : Task) → q.core ≡ p.core → q.started ≡ p.started
-    → b ≡ record p.board { edge_room = r } → slice_get p.board.tasks source ≡ Some u → u.stage ≢ stage.Done → (h : HasEdge source b q.board)
+edge_state : (p q : Inside) (b : BoardState) (source target r : ℕ) → q.core ≡ p.core → q.progress ≡ extend p.progress
+    → b ≡ record p.board { edge_room = r } → source < target → HasEdge source target b q.board
     → state_of q ≡ record (state_of p) {
-      inputs = map input_of p.board.edges ++ record { source = source; target = h.newest } ∷ [];
+      extended = extends (state_of p);
+      inputs = map input_of p.board.edges ++ record { source = source; target = target } ∷ [];
       ways = map way_of p.board.edges ++ way.Out ∷ [];
     }
-edge_state p q b source r u core started room is apart h =
-    let tasks : b.tasks ≡ p.board.tasks = ap (λ (x : BoardState). x.tasks) room in
-    let same : h.from ≡ u = some_same h.from u (sym h.of ∙ (ap (λ (xs : List Task). slice_get xs source) tasks ∙ is)) in
-    let becomes = h.not_done (λ d. apart (ap (λ (x : Task). x.stage) (sym same) ∙ d)) in
-    let seen_b = seen_edge p.core.nodes p.started p.core.steps b source h.newest h.task h.from h.is h.of h.before in
-    ap (λ (c : Accepted). seen c.nodes q.started q.board c.steps) core
-    ∙ (ap (λ (z : Bool). seen p.core.nodes z q.board p.core.steps) started
-    ∙ (ap (λ (x : BoardState). seen p.core.nodes p.started x p.core.steps) becomes
-    ∙ (seen_b ∙ ap (λ (x : BoardState). record (seen p.core.nodes p.started x p.core.steps) {
-      inputs = map input_of x.edges ++ record { source = source; target = h.newest } ∷ [];
+edge_state p q b source target r core progress room before h =
+    let now : Progress = extend p.progress in
+    ap (λ (c : Accepted). seen c.nodes q.progress q.board c.steps) core
+    ∙ (ap (λ (z : Progress). seen p.core.nodes z q.board p.core.steps) progress
+    ∙ (ap (λ (x : BoardState). seen p.core.nodes now x p.core.steps) h.becomes
+    ∙ (seen_edge p.core.nodes now p.core.steps b source target h.task h.from h.is h.of before
+    ∙ ap (λ (x : BoardState). record (seen p.core.nodes now x p.core.steps) {
+      inputs = map input_of x.edges ++ record { source = source; target = target } ∷ [];
       ways = map way_of x.edges ++ way.Out ∷ [];
     }) room)))
 
-edge_nodes : {source : ℕ} {b c : BoardState} (h : HasEdge source b c) → h.from.stage ≢ stage.Done → c.nodes ≡ b.nodes
-edge_nodes h apart = ap (λ (x : BoardState). x.nodes) (h.not_done apart)
+pub kept_input : (p q : Inside) (b : BoardState) (source target r : ℕ) → IsPool p → BoardFacts p.board → q.core ≡ p.core → q.nodes ≡ p.nodes
+    → q.progress ≡ extend p.progress → q.ended_with ≡ p.ended_with → b ≡ record p.board { edge_room = r } → source < target
+    → HasEdge source target b q.board → IsPool q
+kept_input p q b source target r k f core nodes progress ended room before h =
+    kept_same p q _ k core nodes (ap (λ (x : BoardState). x.nodes) h.becomes ∙ ap (λ (x : BoardState). x.nodes) room) ended
+    (edge_state p q b source target r core progress room before h) refl refl refl
+    (facts_extended (extends (state_of p)) (facts_input (record { source = source; target = target }) k.facts
+    (consistent p.core.nodes p.progress p.core.steps p.board f (k.board ∙ sym k.nodes))))
 
-pub kept_input : (p q : Inside) (b : BoardState) (source r : ℕ) (u : Task) → IsPool p → BoardFacts p.board → q.core ≡ p.core → q.nodes ≡ p.nodes
-    → q.started ≡ p.started → q.ended_with ≡ p.ended_with → b ≡ record p.board { edge_room = r } → slice_get p.board.tasks source ≡ Some u
-    → u.stage ≢ stage.Done → HasEdge source b q.board → IsPool q
-kept_input p q b source r u k f core nodes started ended room is apart h =
-    let tasks : b.tasks ≡ p.board.tasks = ap (λ (x : BoardState). x.tasks) room in
-    let same : h.from ≡ u = some_same h.from u (sym h.of ∙ (ap (λ (xs : List Task). slice_get xs source) tasks ∙ is)) in
-    kept_same p q _ k core nodes
-    (edge_nodes h (λ d. apart (ap (λ (x : Task). x.stage) (sym same) ∙ d)) ∙ ap (λ (x : BoardState). x.nodes) room) ended
-    (edge_state p q b source r u core started room is apart h) refl refl refl
-    (facts_input (record { source = source; target = h.newest }) k.facts
-    (consistent p.core.nodes p.started p.core.steps p.board f (k.board ∙ sym k.nodes)))
-
-pub input_added : (p q : Inside) (b : BoardState) (now : PoolState) (source r : ℕ) (u : Task) → state_of p ≡ now → q.core ≡ p.core → q.started ≡ p.started
-    → b ≡ record p.board { edge_room = r } → slice_get p.board.tasks source ≡ Some u → u.stage ≢ stage.Done → HasEdge source b q.board
-    → IsInputAdded source now (state_of q)
-input_added p q b now source r u same core started room is apart h =
-    let tasks : length b.tasks ≡ length p.board.tasks = ap (λ (x : BoardState). length x.tasks) room in
-    let long : length (map entry_of p.board.tasks) ≡ length p.board.tasks = length-map p.board.tasks entry_of in
-    let last = h.last in
+pub input_added : (p q : Inside) (b : BoardState) (now : PoolState) (source target r : ℕ) → state_of p ≡ now → q.core ≡ p.core
+    → q.progress ≡ extend p.progress → b ≡ record p.board { edge_room = r } → source < target → target + 1 ≡ length now.tasks
+    → HasEdge source target b q.board → IsInputAdded source now (state_of q)
+input_added p q b now source target r same core progress room before last h =
     subst (λ (a : PoolState). IsInputAdded source a (state_of q)) same
-    (subst (λ (a : PoolState). IsInputAdded source (state_of p) a) (sym (edge_state p q b source r u core started room is apart h)) (record {
+    (subst (λ (a : PoolState). IsInputAdded source (state_of p) a) (sym (edge_state p q b source target r core progress room before h)) (record {
       nodes = refl;
       started = refl;
-      newest = h.newest;
-      last = omega (arith, last, tasks, long);
-      before = h.before;
+      extended = refl;
+      newest = target;
+      last = subst (λ (a : PoolState). target + 1 ≡ length a.tasks) (sym same) last;
+      before = before;
       tasks = refl;
       stages = refl;
       inputs = refl;
@@ -506,47 +504,47 @@ input_added p q b now source r u same core started room is apart h =
 facts_outside : {a : PoolState} (o : List ℕ) → Facts a → Facts (record a { outside = o })
 facts_outside o f = record { by_steps = f.by_steps; arrived = f.arrived }
 
-outside_state : (p q : Inside) (t m o : ℕ) (x : Task) → q.core ≡ p.core → q.started ≡ p.started → slice_get p.board.tasks t ≡ Some x
+outside_state : (p q : Inside) (t m o : ℕ) (x : Task) → q.core ≡ p.core → q.progress ≡ p.progress → slice_get p.board.tasks t ≡ Some x
     → q.board ≡ record p.board { tasks = set p.board.tasks t (record x { missing = m; outside = o }) }
     → state_of q ≡ record (state_of p) { outside = set (map outside_of p.board.tasks) t o }
-outside_state p q t m o x core started is becomes =
-    rw (core, started, becomes) (seen_outside p.core.nodes p.started p.core.steps p.board t m o x is)
+outside_state p q t m o x core progress is becomes =
+    rw (core, progress, becomes) (seen_outside p.core.nodes p.progress p.core.steps p.board t m o x is)
 
-kept_count : (p q : Inside) (t m o : ℕ) (x : Task) → IsPool p → q.core ≡ p.core → q.nodes ≡ p.nodes → q.started ≡ p.started
+kept_count : (p q : Inside) (t m o : ℕ) (x : Task) → IsPool p → q.core ≡ p.core → q.nodes ≡ p.nodes → q.progress ≡ p.progress
     → q.ended_with ≡ p.ended_with → slice_get p.board.tasks t ≡ Some x
     → q.board ≡ record p.board { tasks = set p.board.tasks t (record x { missing = m; outside = o }) } → IsPool q
-kept_count p q t m o x k core nodes started ended is becomes =
-    kept_same p q _ k core nodes (ap (λ (b : BoardState). b.nodes) becomes) ended (outside_state p q t m o x core started is becomes) refl refl refl
+kept_count p q t m o x k core nodes progress ended is becomes =
+    kept_same p q _ k core nodes (ap (λ (b : BoardState). b.nodes) becomes) ended (outside_state p q t m o x core progress is becomes) refl refl refl
     (facts_outside (set (map outside_of p.board.tasks) t o) k.facts)
 
-pub kept_outside : (p q : Inside) (t : ℕ) → IsPool p → HasOutside t p.board q.board → q.core ≡ p.core → q.nodes ≡ p.nodes → q.started ≡ p.started
+pub kept_outside : (p q : Inside) (t : ℕ) → IsPool p → HasOutside t p.board q.board → q.core ≡ p.core → q.nodes ≡ p.nodes → q.progress ≡ p.progress
     → q.ended_with ≡ p.ended_with → IsPool q
-kept_outside p q t k h core nodes started ended = kept_count p q t (h.was.missing + 1) (h.was.outside + 1) h.was k core nodes started ended h.is h.becomes
+kept_outside p q t k h core nodes progress ended = kept_count p q t (h.was.missing + 1) (h.was.outside + 1) h.was k core nodes progress ended h.is h.becomes
 
 pub kept_release : (p q : Inside) (t : ℕ) (last : Bool) → IsPool p → HasReleased t last p.board q.board → q.core ≡ p.core → q.nodes ≡ p.nodes
-    → q.started ≡ p.started → q.ended_with ≡ p.ended_with → IsPool q
-kept_release p q t last k h core nodes started ended =
-    kept_count p q t (h.was.missing - 1) (h.was.outside - 1) h.was k core nodes started ended h.is h.becomes
+    → q.progress ≡ p.progress → q.ended_with ≡ p.ended_with → IsPool q
+kept_release p q t last k h core nodes progress ended =
+    kept_count p q t (h.was.missing - 1) (h.was.outside - 1) h.was k core nodes progress ended h.is h.becomes
 
 pub outside_added : (p q : Inside) (now : PoolState) (t : ℕ) → state_of p ≡ now → HasOutside t p.board q.board → q.core ≡ p.core
-    → q.started ≡ p.started → (IsTrue p.started → on_board.LacksInput t p.board) → IsOutsideAdded t now (state_of q)
-outside_added p q now t same h core started lacking =
+    → q.progress ≡ p.progress → (IsTrue p.progress.started → on_board.LacksInput t p.board) → IsOutsideAdded t now (state_of q)
+outside_added p q now t same h core progress lacking =
     subst (λ (a : PoolState). IsOutsideAdded t a (state_of q)) same (record {
       fresh = map_get stage_of p.board.tasks t h.was h.is ∙ ap Some h.fresh;
-      lacking = λ s. lacks_seen p.core.nodes p.started p.core.steps p.board t (lacking s);
+      lacking = λ s. lacks_seen p.core.nodes p.progress p.core.steps p.board t (lacking s);
       was = h.was.outside;
       awaited = map_get outside_of p.board.tasks t h.was h.is;
-      becomes = outside_state p q t (h.was.missing + 1) (h.was.outside + 1) h.was core started h.is h.becomes;
+      becomes = outside_state p q t (h.was.missing + 1) (h.was.outside + 1) h.was core progress h.is h.becomes;
     })
 
 pub is_released : (p q : Inside) (now : PoolState) (t : ℕ) (last : Bool) → state_of p ≡ now → HasReleased t last p.board q.board → q.core ≡ p.core
-    → q.started ≡ p.started → IsReleased t now (state_of q)
-is_released p q now t last same h core started =
+    → q.progress ≡ p.progress → IsReleased t now (state_of q)
+is_released p q now t last same h core progress =
     subst (λ (a : PoolState). IsReleased t a (state_of q)) same (record {
       was = h.was.outside;
       awaited = map_get outside_of p.board.tasks t h.was h.is;
       some = h.some;
-      becomes = outside_state p q t (h.was.missing - 1) (h.was.outside - 1) h.was core started h.is h.becomes;
+      becomes = outside_state p q t (h.was.missing - 1) (h.was.outside - 1) h.was core progress h.is h.becomes;
     })
 
 -- a task that lacks nothing, in the words of the pool
@@ -554,17 +552,31 @@ pub lacks_none : (p : Inside) (now : PoolState) (node t : ℕ) → state_of p �
     → LacksInput t now → ⊥
 lacks_none p now node t same f r h =
     ready_lacks_none node t f r
-    (lacks_board p.core.nodes p.started p.core.steps p.board t (subst (λ (a : PoolState). LacksInput t a) (sym same) h))
+    (lacks_board p.core.nodes p.progress p.core.steps p.board t (subst (λ (a : PoolState). LacksInput t a) (sym same) h))
+
+pub task_now : (p : Inside) (now : PoolState) (t : ℕ) (x : Task) → state_of p ≡ now → slice_get p.board.tasks t ≡ Some x
+    → (slice_get now.tasks t ≡ Some (entry_of x)) × (slice_get now.stages t ≡ Some x.stage) × (slice_get now.outside t ≡ Some x.outside)
+task_now p now t x same is = (
+  subst (λ (a : PoolState). slice_get a.tasks t ≡ Some (entry_of x)) same (map_get entry_of p.board.tasks t x is),
+  subst (λ (a : PoolState). slice_get a.stages t ≡ Some x.stage) same (map_get stage_of p.board.tasks t x is),
+  subst (λ (a : PoolState). slice_get a.outside t ≡ Some x.outside) same (map_get outside_of p.board.tasks t x is),
+)
+
+pub some_ready : (p : Inside) (now : PoolState) (node t : ℕ) → state_of p ≡ now → BoardFacts p.board → on_board.IsReady node t p.board
+    → HasNoneReady node now → ⊥
+some_ready p now node t same f r h =
+    let e = task_now p now t r.task same r.is in
+    lacks_none p now node t same f r (h t (entry_of r.task) e.0 r.home (e.1 ∙ ap Some r.fresh))
 
 -- ---- the end is judged
 pub kept_end : (p q : Inside) (core : Accepted) (w count : ℕ) → IsPool p → IsSettled p.core core w count
-    → InEach (IsNeverEarly core.nodes) core.steps → q.core ≡ core → q.nodes ≡ p.nodes → q.started ≡ p.started → q.board ≡ p.board
+    → InEach (IsNeverEarly core.nodes) core.steps → q.core ≡ core → q.nodes ≡ p.nodes → q.progress ≡ p.progress → q.board ≡ p.board
     → q.ended_with ≡ Some w → IsPool q
-kept_end p q core w count k is never core_is nodes started board ended =
+kept_end p q core w count k is never core_is nodes progress board ended =
     let all = finished (length (map entry_of p.board.tasks)) p.core core w count is never k.facts.by_steps.first k.facts.by_steps.known in
     let more = λ (t : ℕ) (h : WasDone t p.core.steps). subst (λ (xs : List Step). WasDone t xs) (sym is.steps)
     (any_append (is_done_of t) (Judge ∷ is.taken) p.core.steps h) in
-    let same : state_of q ≡ record (state_of p) { nodes = core.nodes; steps = core.steps } = rw (core_is, started, board) refl in
+    let same : state_of q ≡ record (state_of p) { nodes = core.nodes; steps = core.steps } = rw (core_is, progress, board) refl in
     let f : Facts (record (state_of p) { nodes = core.nodes; steps = core.steps }) = record {
       by_steps = record {
         some_node = subst (λ (n : ℕ). 1 ≤ n) (sym is.nodes) k.facts.by_steps.some_node;
@@ -586,10 +598,10 @@ kept_end p q core w count k is never core_is nodes started board ended =
     }
 
 pub end_graph : (p : Inside) (now : PoolState) (core : Accepted) (w count : ℕ) → state_of p ≡ now → IsSettled p.core core w count
-    → SameGraph now (seen core.nodes p.started p.board core.steps)
+    → SameGraph now (seen core.nodes p.progress p.board core.steps)
 end_graph p now core w count same is =
-    subst (λ (a : PoolState). SameGraph a (seen core.nodes p.started p.board core.steps)) same
-    (record { nodes = is.nodes; started = refl; tasks = refl; inputs = refl; outside = refl })
+    subst (λ (a : PoolState). SameGraph a (seen core.nodes p.progress p.board core.steps)) same
+    (record { nodes = is.nodes; started = refl; extended = refl; tasks = refl; inputs = refl; outside = refl })
 
 pub end_begins_none : (p : Inside) (now : PoolState) (core : Accepted) (w count' t : ℕ) → state_of p ≡ now → IsSettled p.core core w count'
     → count (is_begin_of t) core.steps ≡ count (is_begin_of t) now.steps
@@ -636,14 +648,6 @@ pub not_refused : (o : Option Refusal) (P : Refusal → Type 0) → o ≡ None �
 not_refused None P h = tt
 not_refused (Some r) P h = cc
 
-pub task_now : (p : Inside) (now : PoolState) (t : ℕ) (x : Task) → state_of p ≡ now → slice_get p.board.tasks t ≡ Some x
-    → (slice_get now.tasks t ≡ Some (entry_of x)) × (slice_get now.stages t ≡ Some x.stage) × (slice_get now.outside t ≡ Some x.outside)
-task_now p now t x same is = (
-  subst (λ (a : PoolState). slice_get a.tasks t ≡ Some (entry_of x)) same (map_get entry_of p.board.tasks t x is),
-  subst (λ (a : PoolState). slice_get a.stages t ≡ Some x.stage) same (map_get stage_of p.board.tasks t x is),
-  subst (λ (a : PoolState). slice_get a.outside t ≡ Some x.outside) same (map_get outside_of p.board.tasks t x is),
-)
-
 -- the refusal of `outside` for a task that is not released is for one of its checks
 pub full_now : (p : Inside) (now : PoolState) (t : ℕ) (x : Task) → state_of p ≡ now → slice_get p.board.tasks t ≡ Some x → x.stage ≡ stage.Fresh
     → MAX_STEPS ≤ x.outside → first_refusal (outside_checks now t) ≡ Some (refusal.HistoryFull MAX_STEPS)
@@ -660,8 +664,14 @@ pub releases_now : (p : Inside) (now : PoolState) (t : ℕ) (x : Task) → state
 releases_now p now t x same is some =
     let e = task_now p now t x same is in release_passes now t x.outside (entry_of x) e.0 e.2 some
 
-pub fresh_not_done : (g : Stage) → g ≡ stage.Fresh → g ≢ stage.Done
-fresh_not_done g e d = cc
+pub release_refused : (a : PoolState) (t : ℕ) (x : Entry) → slice_get a.tasks t ≡ Some x → slice_get a.outside t ≡ Some 0
+    → first_refusal (release_checks a t) ≡ Some refusal.WrongLife
+release_refused a t x is at = rw (is, at) refl
+
+pub refuses_now : (p : Inside) (now : PoolState) (t : ℕ) (x : Task) → state_of p ≡ now → slice_get p.board.tasks t ≡ Some x → x.outside ≡ 0
+    → first_refusal (release_checks now t) ≡ Some refusal.WrongLife
+refuses_now p now t x same is none =
+    let e = task_now p now t x same is in release_refused now t (entry_of x) e.0 (e.2 ∙ ap Some none)
 
 pub ready_if : (p : Inside) (t : ℕ) (x : Task) → slice_get p.board.tasks t ≡ Some x → x.stage ≡ stage.Fresh → x.missing ≡ 0
     → on_board.IsReady x.node t p.board
@@ -675,26 +685,47 @@ pub not_zero : (a : Bool) (n : ℕ) → IsFalse (a && (n == 0)) → IsTrue a →
 not_zero true n h t z = grind (arith, nat_tests, h, z)
 not_zero false n h t z = cc
 
+-- ---- whether a task may get one more input
+pub may_wait_yes : (p : Inside) (now : PoolState) (t : ℕ) (x : Task) → state_of p ≡ now → BoardFacts p.board → slice_get p.board.tasks t ≡ Some x
+    → x.stage ≡ stage.Fresh → IsFalse (p.progress.started && (x.missing == 0)) → MayWait t now
+may_wait_yes p now t x same f is fresh closed =
+    subst (λ (a : PoolState). MayWait t a) same (record {
+      fresh = map_get stage_of p.board.tasks t x is ∙ ap Some fresh;
+      lacking = λ s. lacks_seen p.core.nodes p.progress p.core.steps p.board t
+          (lacks_input t x f is (not_zero p.progress.started x.missing closed s));
+    })
+
+pub may_wait_no : (p : Inside) (now : PoolState) (t : ℕ) (x : Task) → state_of p ≡ now → BoardFacts p.board → slice_get p.board.tasks t ≡ Some x
+    → x.stage ≡ stage.Fresh → IsTrue (p.progress.started && (x.missing == 0)) → MayWait t now → ⊥
+may_wait_no p now t x same f is fresh closed m =
+    let both = both_true p.progress.started x.missing closed in
+    lacks_none p now x.node t same f (ready_if p t x is fresh both.1)
+    (m.lacking (subst (λ (a : PoolState). IsTrue a.started) same both.0))
+
+pub may_wait_fresh : (p : Inside) (now : PoolState) (t : ℕ) (x : Task) → state_of p ≡ now → slice_get p.board.tasks t ≡ Some x
+    → MayWait t now → x.stage ≡ stage.Fresh
+may_wait_fresh p now t x same is m = some_same x.stage stage.Fresh (sym (task_now p now t x same is).1 ∙ m.fresh)
+
 -- ---- what is found
 pub some_coming : (p : Inside) (node : ℕ) (o : Option ℕ) → BoardFacts p.board → IfSome o (λ k. on_board.IsComing node k p.board)
     → IfSome o (λ k. IsComing node k (state_of p))
 some_coming p node None f h = tt
-some_coming p node (Some k) f h = coming_seen p.core.nodes p.started p.core.steps p.board node k f h
+some_coming p node (Some k) f h = coming_seen p.core.nodes p.progress p.core.steps p.board node k f h
 
 pub none_coming : (p : Inside) (node : ℕ) (o : Option ℕ) → BoardFacts p.board → IfNone o ((k : ℕ) → on_board.IsComing node k p.board → ⊥)
     → IfNone o ((k : ℕ) → IsComing node k (state_of p) → ⊥)
-none_coming p node None f h = λ k c. h k (coming_board p.core.nodes p.started p.core.steps p.board node k f c)
+none_coming p node None f h = λ k c. h k (coming_board p.core.nodes p.progress p.core.steps p.board node k f c)
 none_coming p node (Some k) f h = tt
 
 pub some_unsent : (p : Inside) (now : PoolState) (t : ℕ) (o : Option ℕ) → state_of p ≡ now → IfSome o (λ k. on_board.IsUnsent t k p.board)
     → IfSome o (λ k. IsOutput t k now × (slice_get now.ways k ≡ Some way.Out))
 some_unsent p now t None same h = tt
 some_unsent p now t (Some k) same h =
-    subst (λ (a : PoolState). IsOutput t k a × (slice_get a.ways k ≡ Some way.Out)) same (unsent_seen p.core.nodes p.started p.core.steps p.board t k h)
+    subst (λ (a : PoolState). IsOutput t k a × (slice_get a.ways k ≡ Some way.Out)) same (unsent_seen p.core.nodes p.progress p.core.steps p.board t k h)
 
 pub none_unsent : (p : Inside) (now : PoolState) (t : ℕ) (o : Option ℕ) → state_of p ≡ now → IfNone o ((k : ℕ) → on_board.IsUnsent t k p.board → ⊥)
     → IfNone o (AllPassed t now)
-none_unsent p now t None same h = subst (λ (a : PoolState). AllPassed t a) same (passed_seen p.core.nodes p.started p.core.steps p.board t h)
+none_unsent p now t None same h = subst (λ (a : PoolState). AllPassed t a) same (passed_seen p.core.nodes p.progress p.core.steps p.board t h)
 none_unsent p now t (Some k) same h = tt
 
 -- an output of a task that is done, at its own node
@@ -703,7 +734,7 @@ pub output_coming : (p : Inside) (now : PoolState) (node t k : ℕ) (e : Edge) �
 output_coming p now node t k e same f at source is to done =
     let run : slice_get (map stage_of p.board.tasks) t ≡ Some stage.Done = subst (λ (a : PoolState). slice_get a.stages t ≡ Some stage.Done) (sym same) done in
     let x = map_got stage_of p.board.tasks t stage.Done run in
-    subst (λ (a : PoolState). IsComing node k a) same (coming_seen p.core.nodes p.started p.core.steps p.board node k f (record {
+    subst (λ (a : PoolState). IsComing node k a) same (coming_seen p.core.nodes p.progress p.core.steps p.board node k f (record {
       may = record {
         edge = e;
         is = at;

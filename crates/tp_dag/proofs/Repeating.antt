@@ -1,13 +1,10 @@
 -- The beginning of the same graph once more.
-use Rattle.std.proofs.Common.{arith, ℕ, ◌+◌, ◌<◌, ◌≤◌, ◌⊎◌, ◌≡◌, ◌≢◌, List, [], ◌∷◌, map, Bool, true, false, length, refl, ap, subst, ◌∙◌, sym, IsTrue, IsFalse, Option, Some, None, Result, inl, inr}
-use Rattle.std.specs.Prelude.{slice_get, ◌||◌, ◌&&◌, IfSome, is_some, OnOk, OnErr, Ok, Err}
-use Rattle.std.specs.List.{list_all}
+use Rattle.std.proofs.Common.{arith, ℕ, ◌+◌, ◌≤◌, ◌≡◌, List, [], ◌∷◌, map, Bool, true, false, length, refl, ap, subst, ◌∙◌, sym, IsTrue, IsFalse, Option, Some, None, Result, inl, inr}
+use Rattle.std.specs.Prelude.{slice_get, ◌||◌, IfSome, is_some, OnOk, OnErr, Ok, Err}
 use Rattle.std.proofs.lemmas.List.{length-map}
-use Rattle.std.proofs.lemmas.Bool.Decides.{nat_tests}
 use Rattle.tp_base.specs.declared.limits.TheConstants.{MAX_NODES}
 use Rattle.tp_base.specs.declared.Refusal.{Refusal}
 use Rattle.tp_base.specs.declared.Step.{Step}
-use Rattle.tp_base.specs.declared.Step.TheVariants.{Insert, Ready}
 use Rattle.tp_wave.specs.Steps.{any, is_reopen}
 use Rattle.tp_core.specs.Accepted.{Accepted, with_step}
 use Rattle.tp_core.specs.Generations.{AreRuns, MayCome}
@@ -23,7 +20,7 @@ use Rattle.tp_dag.specs.declared.entry.Way.TheVariants as way
 use Rattle.tp_dag.specs.declared.pool.Pool.TheInside.{Inside}
 use Rattle.tp_dag.specs.Again.{IsAgain, IsBeginning, is_beginning}
 use Rattle.tp_dag.specs.Board.{BoardState, IsReset, described, not_passed_on}
-use Rattle.tp_dag.specs.Kept.{state_of, seen, entry_of, stage_of, outside_of, input_of, way_of, Facts, IsPool}
+use Rattle.tp_dag.specs.Kept.{state_of, seen, entry_of, stage_of, outside_of, input_of, way_of, IsPool}
 use Rattle.tp_dag.specs.State.{PoolState, IsFinished}
 use Rattle.tp_dag.proofs.Lists.{map_got}
 use Rattle.tp_dag.proofs.Counting.{same_or}
@@ -131,11 +128,12 @@ kept_again p q k r b nodes ended = record {
 }
 
 pub is_again : (p : Inside) (core : Accepted) (board : BoardState) (now : PoolState) → IsPool p → state_of p ≡ now → IsReset p.board board
-    → IsBeginning p.nodes (length p.board.tasks) core → IsAgain now (seen core.nodes true board core.steps)
+    → IsBeginning p.nodes (length p.board.tasks) core → IsAgain now (seen core.nodes (record { started = true; extended = false }) board core.steps)
 is_again p core board now k same r b =
-    subst (λ (a : PoolState). IsAgain a (seen core.nodes true board core.steps)) same (record {
+    subst (λ (a : PoolState). IsAgain a (seen core.nodes (record { started = true; extended = false }) board core.steps)) same (record {
       nodes = b.nodes_are ∙ sym k.nodes;
       started = refl;
+      extended = refl;
       tasks = entries board.tasks p.board.tasks r.tasks;
       inputs = ap (map input_of) r.edges ∙ inputs_same p.board.edges;
       stages = all_fresh r;

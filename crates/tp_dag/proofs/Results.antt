@@ -7,7 +7,7 @@ use Rattle.tp_dag.specs.declared.entry.Edge.{Edge}
 use Rattle.tp_dag.specs.declared.entry.Stage.TheVariants as stage
 use Rattle.tp_dag.specs.declared.entry.Way.TheVariants as way
 use Rattle.tp_dag.specs.declared.board.Board.TheInside.{Inside}
-use Rattle.tp_dag.specs.Board.{BoardState, LacksInput, IsUnsent, with_open_edge, HasOutside, HasReleased, HasBegun, HasLeft, HasArrived, HasFinished}
+use Rattle.tp_dag.specs.Board.{BoardState, LacksInput, IsUnsent, HasEdge, HasOutside, HasReleased, HasBegun, HasLeft, HasArrived, HasFinished}
 use Rattle.tp_dag.specs.Counts.{BoardFacts, board_of}
 use Rattle.tp_dag.proofs.Boards.{moved, some_same, out_edge, lacking_more, owing_more}
 use Rattle.tp_dag.proofs.Reading.{all_received, all_sent, lacks_input, some_unsent}
@@ -90,23 +90,22 @@ has_arrived p now k e s x same at u from ended is =
       becomes = refl;
     })
 
--- ---- add_edge, from a task that is not done
-pub open_result : (p : Inside) (now : BoardState) (source target : ℕ) (task from x y : Task) (es : List Edge) (r : ℕ) → board_of p ≡ now
+-- ---- add_edge
+pub has_edge : (p : Inside) (now : BoardState) (source target : ℕ) (task from : Task) (es : List Edge) (r : ℕ) → board_of p ≡ now
     → slice_get p.tasks.items target ≡ Some task → slice_get p.tasks.items source ≡ Some from
-    → slice_get now.tasks target ≡ Some x → slice_get now.tasks source ≡ Some y
     → es ≡ p.edges.items ++ out_edge source target task ∷ [] → r ≡ vec_capacity p.edges
-    → record (board_of p) { tasks = set (set p.tasks.items target (lacking_more task)) source (owing_more from); edges = es; edge_room = r }
-    ≡ with_open_edge source target x y now
-open_result p now source target task from x y es r same is of hx hy added room =
+    → HasEdge source target now
+    (record (board_of p) { tasks = set (set p.tasks.items target (lacking_more task)) source (owing_more from); edges = es; edge_room = r })
+has_edge p now source target task from es r same is of added room =
     let New : List Edge → ℕ → BoardState = λ e q. record (board_of p) {
       tasks = set (set p.tasks.items target (lacking_more task)) source (owing_more from);
       edges = e;
       edge_room = q;
     } in
-    let ex = read_again p now target task x same is hx in
-    let ey = read_again p now source from y same of hy in
-    ap (λ (e : List Edge). New e r) added
-    ∙ (ap (λ (q : ℕ). New (p.edges.items ++ out_edge source target task ∷ []) q) room
-    ∙ (ap (λ (a : BoardState). with_open_edge source target task from a) same
-    ∙ (ap (λ (t : Task). with_open_edge source target t from now) ex
-    ∙ ap (λ (u : Task). with_open_edge source target x u now) ey)))
+    subst (λ (a : BoardState). HasEdge source target a (New es r)) same (record {
+      task = task;
+      is = is;
+      from = from;
+      of = of;
+      becomes = ap (λ (e : List Edge). New e r) added ∙ ap (λ (q : ℕ). New (p.edges.items ++ out_edge source target task ∷ []) q) room;
+    })

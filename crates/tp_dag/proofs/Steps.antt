@@ -187,12 +187,13 @@ facts_input {a} e f c = record {
 
 -- ---- what is added
 pub same_graph : (a : PoolState) → SameGraph a a
-same_graph a = record { nodes = refl; started = refl; tasks = refl; inputs = refl; outside = refl }
+same_graph a = record { nodes = refl; started = refl; extended = refl; tasks = refl; inputs = refl; outside = refl }
 
 pub same_trans : {a b c : PoolState} → SameGraph a b → SameGraph b c → SameGraph a c
 same_trans x y = record {
   nodes = y.nodes ∙ x.nodes;
   started = y.started ∙ x.started;
+  extended = y.extended ∙ x.extended;
   tasks = y.tasks ∙ x.tasks;
   inputs = y.inputs ∙ x.inputs;
   outside = y.outside ∙ x.outside;

@@ -1,5 +1,5 @@
 -- The same graph once more: what `again` does, and the steps with which it begins.
-use Rattle.std.specs.Prelude.{ℕ, ◌≡◌, ◌<◌, List, Bool, true, false, slice_get, Some, IsTrue, IsFalse}
+use Rattle.std.specs.Prelude.{ℕ, ◌≡◌, ◌<◌, Bool, true, false, slice_get, Some, IsTrue, IsFalse}
 use Rattle.std.specs.List.{list_all}
 use Rattle.tp_base.specs.declared.Step.{Step}
 use Rattle.tp_base.specs.declared.Step.TheVariants.{Insert, Ready}
@@ -32,6 +32,7 @@ pub record IsBeginning (nodes count : ℕ) (core : Accepted) : Type 0 where
 pub record IsAgain (old new : PoolState) : Type 0 where
   pub nodes : new.nodes ≡ old.nodes
   pub started : IsTrue new.started
+  pub extended : IsFalse new.extended
   pub tasks : new.tasks ≡ old.tasks
   pub inputs : new.inputs ≡ old.inputs
   pub stages : (t : ℕ) (s : Stage) → slice_get new.stages t ≡ Some s → s ≡ stage.Fresh

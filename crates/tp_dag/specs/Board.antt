@@ -1,9 +1,8 @@
 -- What contracts see of the board of a pool: tasks and edges, what each call does to them, and what a node has to do.
-use Rattle.std.specs.Prelude.{ℕ, ◌+◌, ◌-◌, ◌<◌, ◌≤◌, ◌==◌, ◌⊎◌, ◌≡◌, ◌≢◌, List, [], ◌∷◌, ◌++◌, map, Bool, length, slice_get, slice_set, Some}
+use Rattle.std.specs.Prelude.{ℕ, ◌+◌, ◌-◌, ◌≤◌, ◌==◌, ◌⊎◌, ◌≡◌, ◌≢◌, List, [], ◌∷◌, ◌++◌, map, Bool, if◌then◌else◌, slice_get, slice_set, Some}
 use Rattle.tp_dag.specs.declared.entry.Task.{Task}
 use Rattle.tp_dag.specs.declared.entry.Edge.{Edge}
 use Rattle.tp_dag.specs.declared.entry.Stage.TheVariants as stage
-use Rattle.tp_dag.specs.declared.entry.Way.{Way}
 use Rattle.tp_dag.specs.declared.entry.Way.TheVariants as way
 
 -- The number of nodes, the tasks and edges, and how many of each the board has room for.
@@ -58,41 +57,36 @@ pub record IsUnderWayTo (node k : ℕ) (a : BoardState) : Type 0 where
 abbrev pub HasNoneComing : ℕ → BoardState → Type 0
 HasNoneComing node a = (k : ℕ) (e : Edge) → slice_get a.edges k ≡ Some e → e.to ≡ node → e.way ≢ way.UnderWay
 
--- Nothing that the node could do is there.
-pub record IsIdleAt (node : ℕ) (a : BoardState) : Type 0 where
-  pub lacks : HasNoneReady node a
-  pub none : HasNoneComing node a
-
 -- ---- what each call does
--- `add_task`: its number is how many tasks there were; it lacks nothing so far.
-abbrev pub with_task : ℕ → ℕ → BoardState → BoardState
-with_task node class a = record a {
-  tasks = a.tasks ++ record { node = node; class = class; stage = stage.Fresh; missing = 0; unsent = 0; outside = 0 } ∷ [];
+-- a new task: it lacks nothing so far, or, if it is held, one input from outside
+abbrev pub new_task : ℕ → ℕ → Bool → Task
+new_task node class held = record {
+  node = node;
+  class = class;
+  stage = stage.Fresh;
+  missing = if held then 1 else 0;
+  unsent = 0;
+  outside = if held then 1 else 0;
 }
 
--- the board with one more edge
-abbrev pub with_edge : ℕ → ℕ → ℕ → Way → BoardState → BoardState
-with_edge source target to way a =
-    record a { edges = a.edges ++ record { source = source; target = target; to = to; way = way } ∷ [] }
+-- `add_task`: its number is how many tasks there were.
+abbrev pub with_task : ℕ → ℕ → Bool → BoardState → BoardState
+with_task node class held a = record a { tasks = a.tasks ++ new_task node class held ∷ [] }
 
 -- the board with an edge of which the target lacks one input more, and the source has one output more to pass on
-abbrev pub with_open_edge : ℕ → ℕ → Task → Task → BoardState → BoardState
-with_open_edge source target task from a = record (with_edge source target task.node way.Out a) {
+abbrev pub with_edge : ℕ → ℕ → Task → Task → BoardState → BoardState
+with_edge source target task from a = record a {
   tasks = slice_set (slice_set a.tasks target (record task { missing = task.missing + 1 })) source (record from { unsent = from.unsent + 1 });
+  edges = a.edges ++ record { source = source; target = target; to = task.node; way = way.Out } ∷ [];
 }
 
--- `add_edge`: the newest task waits for one more task, which was added before it. If that one is done, its output is there.
-pub record HasEdge (source : ℕ) (old new : BoardState) : Type 0 where
-  pub newest : ℕ
-  pub last : newest + 1 ≡ length old.tasks
-  pub before : source < newest
+-- `add_edge`: a task waits for one more task, which was added before it and is not done.
+pub record HasEdge (source target : ℕ) (old new : BoardState) : Type 0 where
   pub task : Task
-  pub is : slice_get old.tasks newest ≡ Some task
-  pub fresh : task.stage ≡ stage.Fresh
+  pub is : slice_get old.tasks target ≡ Some task
   pub from : Task
   pub of : slice_get old.tasks source ≡ Some from
-  pub done : from.stage ≡ stage.Done → new ≡ with_edge source newest task.node way.Received old
-  pub not_done : from.stage ≢ stage.Done → new ≡ with_open_edge source newest task from old
+  pub becomes : new ≡ with_edge source target task from old
 
 -- `add_outside`: task t, which has not begun, waits for one more input from outside.
 pub record HasOutside (t : ℕ) (old new : BoardState) : Type 0 where

@@ -1,5 +1,5 @@
 -- The invariant of a pool.
-use Rattle.std.specs.Prelude.{ℕ, ◌≡◌, ◌≢◌, ◌<◌, ◌≤◌, ◌⊎◌, Bool, List, length, map, slice_get, IsTrue, IsFalse, Some, IfSome}
+use Rattle.std.specs.Prelude.{ℕ, ◌≡◌, ◌≢◌, ◌<◌, ◌≤◌, ◌⊎◌, ◌||◌, List, length, map, slice_get, IsTrue, IsFalse, Some, IfSome}
 use Rattle.tp_base.specs.declared.limits.TheConstants.{MAX_NODES}
 use Rattle.tp_base.specs.declared.Step.{Step}
 use Rattle.tp_wave.specs.Steps.{any, is_reopen}
@@ -9,6 +9,7 @@ use Rattle.tp_core.specs.NeverEarly.{is_insert_of}
 use Rattle.tp_dag.specs.declared.entry.Edge.{Edge}
 use Rattle.tp_dag.specs.declared.entry.Entry.{Entry}
 use Rattle.tp_dag.specs.declared.entry.Input.{Input}
+use Rattle.tp_dag.specs.declared.entry.Progress.{Progress}
 use Rattle.tp_dag.specs.declared.entry.Stage.{Stage}
 use Rattle.tp_dag.specs.declared.entry.Stage.TheVariants as stage
 use Rattle.tp_dag.specs.declared.entry.Task.{Task}
@@ -45,10 +46,11 @@ input_of e = record { source = e.source; target = e.target }
 abbrev pub way_of : Edge → Way
 way_of e = e.way
 
-abbrev pub seen : ℕ → Bool → BoardState → List Step → PoolState
-seen nodes started board steps = record {
+abbrev pub seen : ℕ → Progress → BoardState → List Step → PoolState
+seen nodes progress board steps = record {
   nodes = nodes;
-  started = started;
+  started = progress.started;
+  extended = progress.extended;
   tasks = map entry_of board.tasks;
   stages = map stage_of board.tasks;
   inputs = map input_of board.edges;
@@ -57,8 +59,12 @@ seen nodes started board steps = record {
   steps = steps;
 }
 
+-- the progress of a pool after one more task or input
+abbrev pub extend : Progress → Progress
+extend p = record p { extended = p.extended || p.started }
+
 abbrev pub state_of : Inside → PoolState
-state_of p = seen p.core.nodes p.started p.board p.core.steps
+state_of p = seen p.core.nodes p.progress p.board p.core.steps
 
 -- ---- the invariant
 -- The steps are a run of one generation, in which each task was inserted, and each that is kept as done was done.

@@ -1,5 +1,5 @@
 -- What contracts see of a pool, the checks of each call, and what each call does.
-use Rattle.std.specs.Prelude.{ℕ, ◌+◌, ◌-◌, ◌≡◌, ◌≢◌, ◌<◌, ◌≤◌, ◌==◌, ◌&&◌, ◌⊎◌, List, [], ◌∷◌, ◌++◌, Bool, true, false, not, length, slice_get, slice_set, IsTrue}
+use Rattle.std.specs.Prelude.{ℕ, ◌+◌, ◌-◌, ◌≡◌, ◌≢◌, ◌<◌, ◌≤◌, ◌==◌, ◌&&◌, ◌||◌, ◌⊎◌, List, [], ◌∷◌, ◌++◌, Bool, true, false, not, length, slice_get, slice_set, IsTrue}
 use Rattle.std.specs.Prelude.{Option, Some, None, is_some, nat_le, nat_lt, Result, Ok, if◌then◌else◌}
 use Rattle.std.specs.List.{list_all}
 use Rattle.tp_base.specs.declared.limits.TheConstants.{MAX_STEPS}
@@ -21,11 +21,13 @@ use Rattle.tp_dag.specs.declared.entry.Way.TheVariants as way
 use Rattle.tp_dag.specs.declared.pool.Next.{Next}
 use Rattle.tp_dag.specs.declared.pool.Next.TheVariants.{Run}
 
--- The number of nodes, whether the pool was started, the tasks as they were described and how far each is, their inputs and how far each
--- is, how many inputs from outside each task waits for, and the steps so far, the newest first.
+-- The number of nodes, whether the pool was started and whether a task or an input was added after that, the tasks as they were described
+-- and how far each is, their inputs and how far each is, how many inputs from outside each task waits for, and the steps so far, the newest
+-- first.
 pub record PoolState : Type 0 where
   pub nodes : ℕ
   pub started : Bool
+  pub extended : Bool
   pub tasks : List Entry
   pub stages : List Stage
   pub inputs : List Input
@@ -94,6 +96,11 @@ abbrev pub HasNoneReady : ℕ → PoolState → Type 0
 HasNoneReady node a = (t : ℕ) (x : Entry) → slice_get a.tasks t ≡ Some x → x.node ≡ node → slice_get a.stages t ≡ Some stage.Fresh
     → LacksInput t a
 
+-- Task t may get one more input: it was not dispatched, and if the pool was started, it lacks an input, so no thread can be handed it now.
+pub record MayWait (t : ℕ) (a : PoolState) : Type 0 where
+  pub fresh : slice_get a.stages t ≡ Some stage.Fresh
+  pub lacking : IsTrue a.started → LacksInput t a
+
 -- The node has nothing to do: each of its tasks that was not dispatched lacks an input, and none is under way to it from a task that
 -- is done.
 pub record IsIdle (node : ℕ) (a : PoolState) : Type 0 where
@@ -117,13 +124,12 @@ is_at node None = false
 
 abbrev pub task_checks : PoolState → ℕ → ℕ → List Check
 task_checks a node class =
-    (a.started, refusal.WrongLife) ∷ (nat_le a.nodes node, refusal.NoNode) ∷ (nat_lt 3 class, refusal.BadSpec)
+    (nat_le a.nodes node, refusal.NoNode) ∷ (nat_lt 3 class, refusal.BadSpec)
     ∷ (nat_le MAX_STEPS (length a.tasks), refusal.HistoryFull MAX_STEPS) ∷ []
 
 abbrev pub input_checks : PoolState → ℕ → List Check
 input_checks a source =
-    (a.started, refusal.WrongLife) ∷ (nat_le (length a.tasks) (source + 1), refusal.NoTask)
-    ∷ (nat_le MAX_STEPS (length a.inputs), refusal.HistoryFull MAX_STEPS) ∷ []
+    (nat_le (length a.tasks) (source + 1), refusal.NoTask) ∷ (nat_le MAX_STEPS (length a.inputs), refusal.HistoryFull MAX_STEPS) ∷ []
 
 abbrev pub start_checks : PoolState → List Check
 start_checks a = (a.started, refusal.WrongLife) ∷ []
@@ -158,6 +164,7 @@ release_checks a t =
 pub record SameGraph (old new : PoolState) : Type 0 where
   pub nodes : new.nodes ≡ old.nodes
   pub started : new.started ≡ old.started
+  pub extended : new.extended ≡ old.extended
   pub tasks : new.tasks ≡ old.tasks
   pub inputs : new.inputs ≡ old.inputs
   pub outside : new.outside ≡ old.outside
@@ -179,22 +186,28 @@ AreDelivered node old new =
 abbrev pub AreSent : ℕ → PoolState → PoolState → Type 0
 AreSent t old new = (k : ℕ) → (slice_get new.ways k ≡ slice_get old.ways k) ⊎ (IsOutput t k old × (slice_get new.ways k ≢ Some way.Out))
 
--- `task`: its number is how many tasks there were, and it has no input so far.
+-- whether a pool is extended after one more task or input
+abbrev pub extends : PoolState → Bool
+extends a = a.extended || a.started
+
+-- `task`: its number is how many tasks there were, and it has no input so far. After `start` it is held: it waits for one input from outside.
 pub record IsTaskAdded (node class t : ℕ) (old new : PoolState) : Type 0 where
   pub nodes : new.nodes ≡ old.nodes
   pub started : new.started ≡ old.started
+  pub extended : new.extended ≡ extends old
   pub number : t ≡ length old.tasks
   pub tasks : new.tasks ≡ old.tasks ++ record { node = node; class = class } ∷ []
   pub stages : new.stages ≡ old.stages ++ stage.Fresh ∷ []
   pub inputs : new.inputs ≡ old.inputs
   pub ways : new.ways ≡ old.ways
-  pub outside : new.outside ≡ old.outside ++ 0 ∷ []
+  pub outside : new.outside ≡ old.outside ++ (if old.started then 1 else 0) ∷ []
   pub steps : new.steps ≡ Insert (record { 0 = node }) (record { 0 = t }) (record { count = 0 }) ∷ old.steps
 
 -- `input`: the newest task waits for one more task, which was described before it.
 pub record IsInputAdded (source : ℕ) (old new : PoolState) : Type 0 where
   pub nodes : new.nodes ≡ old.nodes
   pub started : new.started ≡ old.started
+  pub extended : new.extended ≡ extends old
   pub newest : ℕ
   pub last : newest + 1 ≡ length old.tasks
   pub before : source < newest

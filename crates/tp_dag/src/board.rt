@@ -5,8 +5,7 @@ ghost use Rattle.std.specs.List.{slice_index_or};
 ghost use Rattle.tp_base.specs.declared.limits.TheConstants.{MAX_NODES, MAX_STEPS};
 ghost use Rattle.tp_dag.specs.declared.entry.Task.{Task};
 ghost use Rattle.tp_dag.specs.declared.entry.Stage.TheVariants as stage;
-ghost use Rattle.tp_dag.specs.declared.entry.Way.TheVariants as way;
-ghost use Rattle.tp_dag.specs.Board.{LacksInput, IsReady, HasNoneReady, IsComing, HasNoneComing, IsIdleAt, MayArrive, MayLeave, IsUnderWayTo, IsUnsent, with_task, with_edge, with_open_edge};
+ghost use Rattle.tp_dag.specs.Board.{LacksInput, IsReady, HasNoneReady, IsComing, HasNoneComing, MayArrive, MayLeave, IsUnderWayTo, IsUnsent, with_task};
 ghost use Rattle.tp_dag.specs.Board.{HasEdge, HasOutside, HasReleased, HasBegun, HasLeft, HasArrived, HasFinished, IsReset};
 ghost use Rattle.tp_dag.specs.Counts.{BoardFacts};
 
@@ -66,6 +65,13 @@ pub fn add_if(counts: &mut [u32; 8], node: u32, more: bool)
     } else {
         counts[node as usize] += 0;
     }
+}
+
+#[inline]
+fn one_if(holds: bool) -> u32
+    ensures { result ≡ (if holds then 1 else 0) }
+{
+    if holds { 1 } else { 0 }
 }
 
 // the count of a node; 0 if there is no such node
@@ -165,48 +171,55 @@ impl Board {
         self.edges.reserve(1)
     }
 
-    /// Adds a task, and returns its number.
-    pub fn add_task(&mut self, node: u32, class: u32) -> u32
+    /// Adds a task, and returns its number. If the task is held, it waits for one input from outside.
+    pub fn add_task(&mut self, node: u32, class: u32, is_held: bool) -> u32
         requires home { node < self.old.nodes }
         requires few { length self.old.tasks < MAX_STEPS }
         requires room { length self.old.tasks < self.old.task_room }
         ensures number { result ≡ length self.old.tasks }
-        ensures added { self.new ≡ with_task node class self.old }
+        ensures added { self.new ≡ with_task node class is_held self.old }
     {
         let number = self.tasks.len() as u32;
-        add_if(&mut self.ready, node, true);
+        let awaited = one_if(is_held);
+        add_if(&mut self.ready, node, !is_held);
         self.tasks.push_reserved(Task {
             node,
             class,
             stage: Stage::Fresh,
-            missing: 0,
+            missing: awaited,
             unsent: 0,
-            outside: 0,
+            outside: awaited,
         });
         number
     }
 
-    /// Lets the newest task wait for an earlier one, if the newest has not begun. If the earlier one is done, its output is there.
-    pub fn add_edge(&mut self, source: u32) -> bool
-        requires newest { source + 1 < length self.old.tasks }
+    /// Lets the newest task, which has not begun, wait for an earlier one, which is not done.
+    pub fn add_edge(&mut self, source: u32, target: u32)
+        requires newest { target + 1 ≡ length self.old.tasks }
+        requires before { source < target }
         requires few { length self.old.edges < MAX_STEPS }
         requires room { length self.old.edges < self.old.edge_room }
-        ensures ok { IsTrue result → HasEdge source self.old self.new }
-        ensures no { IsFalse result → self.new ≡ self.old }
-        ensures exact { IsFalse result → (t : ℕ) (x : Task) → t + 1 ≡ length self.old.tasks → slice_get self.old.tasks t ≡ Some x → x.stage ≡ stage.Fresh → ⊥ }
+        requires fresh { (x : Task) → slice_get self.old.tasks target ≡ Some x → x.stage ≡ stage.Fresh }
+        requires not_done { (x : Task) → slice_get self.old.tasks source ≡ Some x → x.stage ≡ stage.Done → ⊥ }
+        ensures { HasEdge source target self.old self.new }
     {
-        let target = (self.tasks.len() - 1) as u32;
         let task = self.tasks[target as usize];
-        match task.stage {
-            Stage::Fresh => {}
-            _ => return false,
-        }
         let from = self.tasks[source as usize];
-        match from.stage {
-            Stage::Done => self.push_edge(source, target, task.node),
-            _ => self.push_open_edge(source, target),
-        }
-        true
+        take_if(&mut self.ready, task.node, task.missing == 0);
+        self.tasks[target as usize] = Task {
+            missing: task.missing + 1,
+            ..task
+        };
+        self.tasks[source as usize] = Task {
+            unsent: from.unsent + 1,
+            ..from
+        };
+        self.edges.push_reserved(Edge {
+            source,
+            target,
+            to: task.node,
+            way: Way::Out,
+        });
     }
 
     /// Lets a task that has not begun wait for one more input from outside, if it waits for fewer than `MAX_STEPS` of them.
@@ -396,14 +409,6 @@ impl Board {
         x.unsent != 0
     }
 
-    /// Whether the node has nothing to do now.
-    #[inline]
-    pub fn idle(&self, node: u32) -> bool
-        ensures { IsTrue result → IsIdleAt node self.now }
-    {
-        !self.has_ready(node) && !self.has_coming(node)
-    }
-
     /// A task of the node that is ready. It looks at all tasks.
     pub fn find_ready(&self, node: u32) -> Option<u32>
         ensures some { IfSome result (λ t. IsReady node t self.now) }
@@ -440,52 +445,5 @@ impl Board {
         count_edges(&mut self.tasks, &self.edges);
         self.ready = count_ready(&self.tasks);
         self.coming = [0; 8];
-    }
-
-    // an edge from a task that is done
-    fn push_edge(&mut self, source: u32, target: u32, to: u32)
-        requires newest { target + 1 ≡ length self.old.tasks }
-        requires before { source < target }
-        requires few { length self.old.edges < MAX_STEPS }
-        requires room { length self.old.edges < self.old.edge_room }
-        requires home { (x : Task) → slice_get self.old.tasks target ≡ Some x → to ≡ x.node }
-        requires done { (x : Task) → slice_get self.old.tasks source ≡ Some x → x.stage ≡ stage.Done }
-        ensures { self.new ≡ with_edge source target to way.Received self.old }
-    {
-        self.edges.push_reserved(Edge {
-            source,
-            target,
-            to,
-            way: Way::Received,
-        });
-    }
-
-    // an edge from a task that is not done
-    fn push_open_edge(&mut self, source: u32, target: u32)
-        requires newest { target + 1 ≡ length self.old.tasks }
-        requires before { source < target }
-        requires few { length self.old.edges < MAX_STEPS }
-        requires room { length self.old.edges < self.old.edge_room }
-        requires fresh { (x : Task) → slice_get self.old.tasks target ≡ Some x → x.stage ≡ stage.Fresh }
-        requires not_done { (x : Task) → slice_get self.old.tasks source ≡ Some x → x.stage ≡ stage.Done → ⊥ }
-        ensures { (x y : Task) → slice_get self.old.tasks target ≡ Some x → slice_get self.old.tasks source ≡ Some y → self.new ≡ with_open_edge source target x y self.old }
-    {
-        let task = self.tasks[target as usize];
-        let from = self.tasks[source as usize];
-        take_if(&mut self.ready, task.node, task.missing == 0);
-        self.tasks[target as usize] = Task {
-            missing: task.missing + 1,
-            ..task
-        };
-        self.tasks[source as usize] = Task {
-            unsent: from.unsent + 1,
-            ..from
-        };
-        self.edges.push_reserved(Edge {
-            source,
-            target,
-            to: task.node,
-            way: Way::Out,
-        });
     }
 }

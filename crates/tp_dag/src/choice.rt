@@ -7,6 +7,9 @@ use crate::board::Board;
 use crate::entry::{Edge, Stage, Way};
 use crate::hints::Hints;
 
+/// The steps of a task (it is inserted, begins and ends), and of an input between two nodes (it is sent, received and ended).
+pub(crate) const STEPS_EACH: usize = 3;
+
 /// Whether a task is at home at the node, has not begun and lacks nothing.
 #[inline]
 fn is_ready(board: &Board, node: u32, task: u32) -> bool
@@ -127,6 +130,17 @@ pub(crate) fn output_of(board: &Board, task: u32, input: u32, way: Way) -> Optio
         return None;
     }
     Some(edge)
+}
+
+/// The steps of an input: three if it is between two nodes, where it is a message.
+pub(crate) fn steps_of_input(board: &Board, source: u32, target: u32) -> usize {
+    let Some(from) = board.task(source) else {
+        return 0;
+    };
+    match board.task(target) {
+        Some(to) if to.node != from.node => STEPS_EACH,
+        _ => 0,
+    }
 }
 
 /// The node as a bit, if it is to be set.

@@ -22,6 +22,13 @@ pub enum Stage {
     Done,
 }
 
+/// Whether a pool was started, and whether a task or an input was added after that.
+#[derive(Clone, Copy, Debug, PartialEq, Eq)]
+pub struct Progress {
+    pub started: bool,
+    pub extended: bool,
+}
+
 /// How far an input is: its source has not passed it on, it is under way to the home of its target, or it was received there.
 #[derive(Clone, Copy, Debug, PartialEq, Eq)]
 pub enum Way {

@@ -1,5 +1,6 @@
 //! A task pool whose bodies are the caller's: the caller describes a graph, and each of its threads asks for a task,
-//! runs it and completes it. The pool never sees a value. One thread at a time uses it: the caller locks it.
+//! runs it and completes it. A task that runs may add further tasks. The pool never sees a value. One thread at a time
+//! uses it: the caller locks it.
 #![tactic(auto)]
 
 mod board;

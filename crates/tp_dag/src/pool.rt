@@ -8,23 +8,25 @@ ghost use Rattle.tp_core.specs.Generations.{AreRuns, MayCome};
 ghost use Rattle.tp_core.specs.Accepted.{with_step};
 ghost use Rattle.tp_dag.specs.declared.entry.Stage.TheVariants as stage;
 ghost use Rattle.tp_dag.specs.declared.entry.Way.TheVariants as way;
-ghost use Rattle.tp_dag.specs.State.{AddsOnly, IsTaskAdded, IsInputAdded, IsStarted, IsOutsideAdded, IsReleased, IsDispatched, IsFinished, IsCompleted, SameGraph, WasReceived};
+ghost use Rattle.tp_dag.specs.State.{AddsOnly, IsStarted, IsOutsideAdded, IsReleased, IsDispatched, IsFinished, IsCompleted, SameGraph, WasReceived};
 ghost use Rattle.tp_dag.specs.State.{IsIdle, IsComing, IsOutput, LacksInput, HasNoneReady, AreDelivered, AreSent};
-ghost use Rattle.tp_dag.specs.State.{task_checks, input_checks, start_checks, outside_checks, release_checks, next_checks, done_checks, dispatched};
+ghost use Rattle.tp_dag.specs.State.{start_checks, outside_checks, release_checks, next_checks, done_checks, dispatched};
 ghost use Rattle.tp_dag.specs.State.{is_delivery, is_sending, is_readying};
 ghost use Rattle.tp_dag.specs.Kept.{IsConsistent, IsFrom, IsHome, AllPassed, IsMarked, SendsOne};
 
 use crate::board::Board;
 use crate::choice::{
     find_coming, find_ready, may_begin, node_bit, output_of, push_ready, push_released, push_woken,
+    steps_of_input,
 };
-use crate::entry::{Stage, Way};
+use crate::entry::{Progress, Stage, Way};
 use crate::hints::Hints;
 use std::alloc::Global;
 use std::marker::Model;
-use tp_base::{Generation, Inputs, MAX_STEPS, MessageId, NodeId, Refusal, Step, TaskId};
+use tp_base::{Generation, MAX_STEPS, MessageId, NodeId, Refusal, Step, TaskId};
 use tp_core::Core;
 
+mod adding;
 mod repeat;
 
 /// What a thread of a node is to do next.
@@ -44,7 +46,9 @@ pub enum Next {
 pub struct Pool {
     core: Core,
     nodes: u32,
-    started: bool,
+    progress: Progress,
+    // how many steps are left for tasks and inputs that are added after the start
+    spare_steps: usize,
     board: Board,
     // the wave that detected termination
     ended_with: Option<u32>,
@@ -94,6 +98,7 @@ impl Pool {
         ensures { result ≡ record {
           nodes = nodes;
           started = false;
+          extended = false;
           tasks = [];
           stages = [];
           inputs = [];
@@ -105,113 +110,16 @@ impl Pool {
         Pool {
             core: Core::new(alloc, nodes),
             nodes,
-            started: false,
+            progress: Progress {
+                started: false,
+                extended: false,
+            },
+            spare_steps: 0,
             board: Board::new(alloc, nodes),
             ended_with: None,
             hints: Hints::new(alloc),
             alloc,
         }
-    }
-
-    /// Adds a task at a node, of a class 0 (which is dispatched first) to 3, that waits for no input so far. Its number is how many
-    /// tasks there were before it.
-    ///
-    /// Refused, and nothing changes: `WrongLife` if the pool was started; `NoNode`; `BadSpec` if the class is above 3; `HistoryFull`
-    /// if there are 1,048,576 tasks or steps; `NoMemory`; `Inactive` if a `start` that was refused memory has begun at this node.
-    pub fn task(&mut self, node: u32, class: u32) -> Result<u32, Refusal>
-        ensures checks { IfSome (first_refusal (task_checks self.old node class)) (λ r. result ≡ Err r) }
-        ensures ok { IfOk result (λ t. IsTaskAdded node class t self.old self.new) }
-        ensures err { OnErr result (self.new ≡ self.old) }
-    {
-        if let Some(refusal) = self.task_refusal(node, class) {
-            return Err(refusal);
-        }
-        let Some(inputs) = Inputs::new(0) else {
-            return Err(Refusal::BadSpec);
-        };
-        if self.ended_with.is_some() {
-            return Err(Refusal::Ended);
-        }
-        let number = self.board.task_count();
-        if node >= self.nodes || number >= MAX_STEPS as usize {
-            return Err(Refusal::NoNode);
-        }
-        self.board.known();
-        self.board.reserve_task()?;
-        self.hints.add_task()?;
-        take_step(
-            &mut self.core,
-            Step::Insert(NodeId(node), TaskId(number as u32), inputs),
-        )?;
-        Ok(self.board.add_task(node, class))
-    }
-
-    // the first check of `task` that holds
-    fn task_refusal(&self, node: u32, class: u32) -> Option<Refusal>
-        ensures { result ≡ first_refusal (task_checks self.now node class) }
-    {
-        if self.started {
-            return Some(Refusal::WrongLife);
-        }
-        if node >= self.nodes {
-            return Some(Refusal::NoNode);
-        }
-        if class > 3 {
-            return Some(Refusal::BadSpec);
-        }
-        if self.board.task_count() >= MAX_STEPS as usize {
-            return Some(Refusal::HistoryFull(MAX_STEPS));
-        }
-        None
-    }
-
-    /// Lets the newest task wait for task `source`, which was added before it.
-    ///
-    /// Refused, and nothing changes: `WrongLife` if the pool was started; `NoTask` if there is no newest task or `source` is not below
-    /// its number; `HistoryFull` if there are 1,048,576 inputs; `NoMemory`.
-    pub fn input(&mut self, source: u32) -> Result<(), Refusal>
-        ensures checks { IfSome (first_refusal (input_checks self.old source)) (λ r. result ≡ Err r) }
-        ensures ok { OnOk result (IsInputAdded source self.old self.new) }
-        ensures err { OnErr result (self.new ≡ self.old) }
-    {
-        if let Some(refusal) = self.input_refusal(source) {
-            return Err(refusal);
-        }
-        let (tasks, inputs) = (self.board.task_count(), self.board.edge_count());
-        if source as usize + 1 >= tasks || inputs >= MAX_STEPS as usize {
-            return Err(Refusal::NoTask);
-        }
-        let Some(from) = self.board.task(source) else {
-            return Err(Refusal::NoTask);
-        };
-        match from.stage {
-            Stage::Fresh => {}
-            _ => return Err(Refusal::WrongLife),
-        }
-        self.board.known();
-        self.board.reserve_edge()?;
-        self.hints.add_input()?;
-        if !self.board.add_edge(source) {
-            return Err(Refusal::WrongLife);
-        }
-        self.hints.add_output(source, inputs as u32);
-        Ok(())
-    }
-
-    // the first check of `input` that holds
-    fn input_refusal(&self, source: u32) -> Option<Refusal>
-        ensures { result ≡ first_refusal (input_checks self.now source) }
-    {
-        if self.started {
-            return Some(Refusal::WrongLife);
-        }
-        if source as usize + 1 >= self.board.task_count() {
-            return Some(Refusal::NoTask);
-        }
-        if self.board.edge_count() >= MAX_STEPS as usize {
-            return Some(Refusal::HistoryFull(MAX_STEPS));
-        }
-        None
     }
 
     /// Lets a task that was not dispatched wait for one more input from outside, which the caller reports by `release`.
@@ -236,7 +144,7 @@ impl Pool {
             return Err(Refusal::HistoryFull(MAX_STEPS));
         }
         self.board.known();
-        if may_begin(self.started, found.missing) {
+        if may_begin(self.progress.started, found.missing) {
             return Err(Refusal::WrongLife);
         }
         let added = self.board.add_outside(task);
@@ -260,7 +168,13 @@ impl Pool {
         let Some(last) = self.board.release(task) else {
             return Err(Refusal::WrongLife);
         };
-        push_released(&self.board, &mut self.hints, task, self.started, last);
+        push_released(
+            &self.board,
+            &mut self.hints,
+            task,
+            self.progress.started,
+            last,
+        );
         Ok(node_bit(found.node, last))
     }
 
@@ -268,22 +182,23 @@ impl Pool {
     ///
     /// Refused, and the graph is as before: `WrongLife` if the pool was started; `HistoryFull` if the graph would need more than
     /// 1,048,576 steps, which are 3 a task, 3 an input from another node and 10 a node; `NoMemory`, after which `start` may be
-    /// called again.
+    /// called again. Steps that are left are for tasks and inputs that are added later.
     pub fn start(&mut self) -> Result<(), Refusal>
         ensures checks { IfSome (first_refusal (start_checks self.old)) (λ r. (result ≡ Err r) × (self.new ≡ self.old)) }
         ensures ok { OnOk result (IsStarted self.old self.new) }
         ensures err { OnErr result (AddsOnly is_readying self.old self.new) }
         ensures ways { self.new.ways ≡ self.old.ways }
     {
-        if self.started {
+        if self.progress.started {
             return Err(Refusal::WrongLife);
         }
-        let taken = self.core.steps().len();
-        if self.steps_needed() > (MAX_STEPS as usize).saturating_sub(taken) {
+        let needed = self.steps_needed();
+        let left = (MAX_STEPS as usize).saturating_sub(self.core.steps().len());
+        if needed > left {
             return Err(Refusal::HistoryFull(MAX_STEPS));
         }
         self.ready_all()?;
-        self.set_started();
+        self.set_started(left - needed);
         self.push_ready_tasks();
         Ok(())
     }
@@ -303,10 +218,11 @@ impl Pool {
         Ok(())
     }
 
-    fn set_started(&mut self)
+    fn set_started(&mut self, spare_steps: usize)
         ensures { self.new ≡ record self.old { started = true } }
     {
-        self.started = true;
+        self.spare_steps = spare_steps;
+        self.progress.started = true;
     }
 
     // how many steps are to come: two a task, three an input from another node, at most ten a node
@@ -317,11 +233,8 @@ impl Pool {
             .saturating_mul(2)
             .saturating_add((self.nodes as usize).saturating_mul(10));
         for edge in self.board.edges() {
-            if let Some(source) = self.board.task(edge.source) {
-                if source.node != edge.to {
-                    steps_needed = steps_needed.saturating_add(3);
-                }
-            }
+            let steps = steps_of_input(&self.board, edge.source, edge.target);
+            steps_needed = steps_needed.saturating_add(steps);
         }
         steps_needed
     }
@@ -380,7 +293,7 @@ impl Pool {
     fn next_refusal(&self, node: u32) -> Option<Refusal>
         ensures { result ≡ first_refusal (next_checks self.now node) }
     {
-        if !self.started {
+        if !self.progress.started {
             return Some(Refusal::WrongLife);
         }
         if node >= self.nodes {
@@ -413,8 +326,10 @@ impl Pool {
 
     /// Whether a node has another task that is ready.
     pub fn has_ready(&self, node: u32) -> bool
-        ensures { IsFalse result → HasNoneReady node self.now }
+        ensures no { IsFalse result → HasNoneReady node self.now }
+        ensures yes { IsTrue result → HasNoneReady node self.now → ⊥ }
     {
+        self.board.known();
         self.board.has_ready(node)
     }
 

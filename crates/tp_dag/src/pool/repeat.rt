@@ -1,11 +1,11 @@
 //! The same graph once more, without describing it: the core is begun anew, and the board is put back to the beginning.
-ghost use Rattle.std.specs.Prelude.{◌≡◌, ◌≤◌, ℕ, [], length, IfOk, OnOk, OnErr};
+ghost use Rattle.std.specs.Prelude.{◌≡◌, ◌≤◌, ℕ, [], length, IfOk, OnOk, OnErr, IsFalse};
 ghost use Rattle.tp_base.specs.declared.limits.TheConstants.{MAX_NODES, MAX_STEPS};
 ghost use Rattle.tp_dag.specs.Again.{IsAgain, IsBeginning};
 ghost use Rattle.tp_dag.specs.State.{IsFinished};
 
 use crate::board::Board;
-use crate::entry::Task;
+use crate::entry::{Progress, Task};
 use crate::pool::{Pool, take_step};
 use std::alloc::Global;
 use tp_base::{Inputs, NodeId, Refusal, Step, TaskId};
@@ -57,19 +57,27 @@ impl Pool {
     /// Starts the same graph once more: its tasks may be dispatched again, and inputs from outside may be declared again. The steps are
     /// those of the new run alone.
     ///
-    /// Refused, and nothing changes: `WrongLife` if `next` has not returned `Finished`; `NoMemory`.
+    /// Refused, and nothing changes: `WrongLife` if `next` has not returned `Finished`, or if a task or an input was added after the
+    /// start, since an input on a task that was done already is not recorded; `NoMemory`.
     pub fn again(&mut self) -> Result<(), Refusal>
         ensures finished { OnOk result (IsFinished self.old) }
+        ensures described { OnOk result (IsFalse self.old.extended) }
         ensures ok { OnOk result (IsAgain self.old self.new) }
         ensures err { OnErr result (self.new ≡ self.old) }
     {
         if self.ended_with.is_none() {
             return Err(Refusal::WrongLife);
         }
+        if self.progress.extended {
+            return Err(Refusal::WrongLife);
+        }
         let core = begun_core(self.alloc, self.nodes, &self.board)?;
         self.core = core;
         self.board.reset();
-        self.started = true;
+        self.progress = Progress {
+            started: true,
+            extended: false,
+        };
         self.ended_with = None;
         self.hints.forget();
         self.push_ready_tasks();

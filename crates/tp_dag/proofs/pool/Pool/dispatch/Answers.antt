@@ -8,7 +8,7 @@ use Rattle.tp_dag.proofs.pool.Pool.dispatch.Goals as goal
 pub returns-in_default-clause-none : goal.returns-in_default-clause-none
 returns-in_default-clause-none c = λ e. (
   c.self.view_is,
-  none_ready_seen c.self.inside.core.nodes c.self.inside.started c.self.inside.core.steps c.self.inside.board c.args.node c.in_default.ensures.none,
+  none_ready_seen c.self.inside.core.nodes c.self.inside.progress c.self.inside.core.steps c.self.inside.board c.args.node c.in_default.ensures.none,
 )
 
 pub prove-unreachable-requires : goal.prove-unreachable-requires

@@ -7,5 +7,5 @@ use Rattle.tp_dag.proofs.pool.Pool.known.Goals as goal
 pub returns : goal.returns
 returns c =
     subst (λ (a : PoolState). IsConsistent a) c.self.view_is
-    (consistent c.self.inside.core.nodes c.self.inside.started c.self.inside.core.steps c.self.inside.board c.known.ensures
+    (consistent c.self.inside.core.nodes c.self.inside.progress c.self.inside.core.steps c.self.inside.board c.known.ensures
     (c.self.invariant.board ∙ sym c.self.invariant.nodes))

@@ -20,7 +20,7 @@ returns-then-may_begin-clause-checks c =
 
 pub returns-then-may_begin-clause-exact : goal.returns-then-may_begin-clause-exact
 returns-then-may_begin-clause-exact c =
-    let both = both_true c.self.inside.started c.in-Some.found.missing (sym c.may_begin.ensures ∙ c.if-may_begin.true) in
+    let both = both_true c.self.inside.progress.started c.in-Some.found.missing (sym c.may_begin.ensures ∙ c.if-may_begin.true) in
     inr (
       refl,
       subst (λ (a : PoolState). IsTrue a.started) c.self.view_is both.0,
@@ -42,4 +42,4 @@ returns-clause-ok c =
     outside_added c.self.inside (record c.self.inside { board = c.add_outside-added.new.self }) c.args.self.now c.args.task c.self.view_is
     (c.add_outside-added.ensures.ok c.if-prove.false) refl refl
     (λ s. lacks_input c.args.task c.in-Some.found c.known.ensures (sym c.task.ensures ∙ c.in-Some.is)
-    (not_zero c.self.inside.started c.in-Some.found.missing (sym c.may_begin.ensures ∙ c.if-may_begin.false) s))
+    (not_zero c.self.inside.progress.started c.in-Some.found.missing (sym c.may_begin.ensures ∙ c.if-may_begin.false) s))

@@ -1,9 +1,14 @@
-use Rattle.std.proofs.Common.{refl}
-use Rattle.tp_dag.proofs.Keeping.{kept_release, is_released, releases_now, not_refused}
+use Rattle.std.proofs.Common.{refl, sym, ◌∙◌}
+use Rattle.tp_dag.proofs.Keeping.{kept_release, is_released, releases_now, refuses_now, not_refused}
 use Rattle.tp_dag.proofs.pool.Pool.release.Goals as goal
 
 pub invariant_of-self-2 : goal.invariant_of-self-2
 invariant_of-self-2 c = kept_release c.self.inside _ c.args.task c.in-Some-release.last c.self.invariant c.in-Some-release.ensures.ok refl refl refl refl
+
+pub returns-in_default-release-clause-exact : goal.returns-in_default-release-clause-exact
+returns-in_default-release-clause-exact c =
+    refuses_now c.self.inside c.args.self.now c.args.task c.in-Some.found c.self.view_is (sym c.task.ensures ∙ c.in-Some.is)
+    (c.in_default-release.ensures.exact c.in-Some.found (sym c.task.ensures ∙ c.in-Some.is))
 
 pub returns-clause-checks : goal.returns-clause-checks
 returns-clause-checks c =

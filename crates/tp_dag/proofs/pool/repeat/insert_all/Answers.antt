@@ -1,4 +1,4 @@
-use Rattle.std.proofs.Common.{◌≡◌, ◌+◌, arith, refl, sym, subst}
+use Rattle.std.proofs.Common.{◌+◌, arith, refl, sym, subst}
 use Rattle.std.specs.List.{slice_index_or}
 use Rattle.std.proofs.lemmas.Bool.Decides.{nat_tests}
 use Rattle.tp_base.specs.declared.Step.{Step}

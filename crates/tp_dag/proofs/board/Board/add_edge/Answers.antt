@@ -9,8 +9,8 @@ use Rattle.tp_dag.proofs.Boards.{facts_open}
 use Rattle.tp_dag.proofs.Reading.{home_few, missing_few, unsent_few}
 use Rattle.tp_dag.specs.Counts.{is_fresh}
 use Rattle.tp_dag.proofs.Calls.{same_facts, outside_some, open_ready, open_coming, may_wait}
-use Rattle.tp_dag.proofs.Results.{open_result}
-use Rattle.tp_dag.proofs.board.Board.push_open_edge.Goals as goal
+use Rattle.tp_dag.proofs.Results.{has_edge}
+use Rattle.tp_dag.proofs.board.Board.add_edge.Goals as goal
 
 pub take_if-requires-clause-place : goal.take_if-requires-clause-place
 take_if-requires-clause-place c =
@@ -62,12 +62,12 @@ invariant_of-self c =
     }
 
 pub returns : goal.returns
-returns c = λ x y hx hy.
+returns c =
     let newest = subst (λ (a : BoardState). c.args.target + 1 ≡ length a.tasks) (sym c.self.view_is) c.requires.newest in
     let before = c.requires.before in
     let task : Task = c.index-task.result.now in
     let from : Task = c.index-from.result.now in
     let is = at_index c.self.inside.tasks.items c.args.target task (omega (arith, newest)) c.index-task.ensures in
     let of = at_index c.self.inside.tasks.items c.args.source from (omega (arith, newest, before)) c.index-from.ensures in
-    open_result c.self.inside c.args.self.now c.args.source c.args.target task from x y _ _ c.self.view_is is of hx hy
+    has_edge c.self.inside c.args.self.now c.args.source c.args.target task from _ _ c.self.view_is is of
     c.push_reserved.ensures.items c.push_reserved.ensures.capacity
