@@ -105,7 +105,8 @@ static void *nothing(void *unused) { return unused; }
 
 static void *take_steps(void *unused) {
     if (tasks(&deep, 3000) || messages(&deep, 3000)) exit(1);
-    for (uint32_t node = 0; node < 8; node++) gerfmuod_ready(&deep, node);
+    for (uint32_t node = 0; node < 8; node++)
+        if (gerfmuod_ready(&deep, node).refused) exit(1);
     if (gerfmuod_settle(&deep).refused || gerfmuod_reopen(&deep).refused) exit(1);
     gerfmuod_whole(&deep);
     gerfmuod_numbers(&deep, 7);
