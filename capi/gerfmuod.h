@@ -42,14 +42,17 @@
 #include <stddef.h>
 #include <stdint.h>
 
-/* A compiler warns if a result is ignored that has to be checked. A program that defines the macro before this header, as
- * nothing, has no such warning. */
+/* A program may define these two before it includes this header: GERFMUOD_CHECKED as nothing, so that no compiler warns if
+ * the result of a call is ignored; and GERFMUOD_INLINE, in one file, as nothing, to define the inline functions itself. */
 #ifndef GERFMUOD_CHECKED
 #if defined(__GNUC__)
 #define GERFMUOD_CHECKED __attribute__((warn_unused_result))
 #else
 #define GERFMUOD_CHECKED
 #endif
+#endif
+#ifndef GERFMUOD_INLINE
+#define GERFMUOD_INLINE static inline
 #endif
 
 #ifdef __cplusplus
@@ -135,7 +138,7 @@ enum {
     GERFMUOD_BY_ACTION = 1,  /* what happens in an open action of the node, given its number */
     GERFMUOD_BY_MESSAGE = 2, /* the handling of a message that the node has received, given its number */
     GERFMUOD_BY_OPENING = 3, /* the opening of the node, before its gerfmuod_ready; the number is ignored */
-    GERFMUOD_BY_THREAD = 4   /* a thread of a node, given the number of the node */
+    GERFMUOD_BY_THREAD = 4   /* a thread of a node, given the number of the node: it only begins and finishes tasks */
 };
 
 /* The result of a step: 16 bytes, by value. */
@@ -221,10 +224,11 @@ GERFMUOD_CHECKED uint32_t gerfmuod_restart(gerfmuod_core *core);
 GERFMUOD_CHECKED gerfmuod_answer gerfmuod_step(gerfmuod_core *core, uint32_t kind, uint32_t first, uint32_t second,
                                                uint32_t third, uint32_t generation);
 
-/* The same step, with what makes it: a GERFMUOD_BY_* and a number. An insert, an opened action and a send have to be made
- * at the node of the step, of a send at the sender; a supply, a begin and a done at the node of the task. Other kinds are
- * BAD_SPEC. Refused for the first reason that applies: NO_POOL; BAD_SPEC; NO_MAKER if that is not running or open at the
- * node, or if the node or the task is not there; else as gerfmuod_step. Since 0.1.0. */
+/* The same step, with what makes it: a GERFMUOD_BY_* and a number. An insert, an opened action and a send are made at the
+ * node of the step (a send at its sender); a supply, a begin and a done at the home of the task. Refused for the first
+ * reason that applies: NO_POOL; BAD_SPEC for what gerfmuod_step refuses so, for another maker kind, and for any other kind
+ * of step; NO_MAKER if the maker is not running or open at that node, or if that node or task is not there; then as
+ * gerfmuod_step, which it is otherwise. Since 0.1.0. */
 GERFMUOD_CHECKED gerfmuod_answer gerfmuod_step_by(gerfmuod_core *core, uint32_t maker_kind, uint32_t maker, uint32_t kind,
                                                   uint32_t first, uint32_t second, uint32_t third, uint32_t generation);
 
@@ -248,7 +252,8 @@ GERFMUOD_CHECKED gerfmuod_written gerfmuod_trace(const gerfmuod_core *core, char
 /* Judges a trace as `tp audit` does, and writes the same text: WRITTEN or COMPLAINT. 256 bytes are enough. Since 0.1.0. */
 GERFMUOD_CHECKED gerfmuod_written gerfmuod_audit(const char *text, size_t text_length, char *room, size_t room_length);
 
-/* Returns the name of a refusal and a sentence that explains it, as one static string. Since 0.1.0. */
+/* Returns the name of a refusal and a sentence that explains it, as one static string: also of gerfmuod_process.h and
+ * gerfmuod_dag.h, and of a number that is no refusal. Since 0.1.0. */
 const char *gerfmuod_refusal_text(uint32_t refused);
 
 /* Writes the name of a refusal, such as NoMessage: at most 12 bytes. NO_TEXT if there is no such refusal. Since 0.1.0. */
@@ -266,11 +271,8 @@ GERFMUOD_CHECKED gerfmuod_written gerfmuod_refusal_meaning(uint32_t refused, cha
 #endif
 #endif
 
-/* ---- One function for each kind of step, with the refusals of its checks, in order. They are inline, and the library has
- * a symbol for each of them, too, for languages that do not read this header. */
-#ifndef GERFMUOD_INLINE
-#define GERFMUOD_INLINE static inline
-#endif
+/* ---- One function for each kind of step, with the refusals of its checks, in order. They are inline functions over
+ * gerfmuod_step, and the library has a symbol for each of them, for languages that do not read this header. */
 
 /* Inserts a task at its home node, which must be active. It waits for 0 to 16 inputs, and is ready if there are none.
  * BAD_SPEC, NO_NODE, TASK_KNOWN, INACTIVE. Since 0.1.0. */

@@ -7,7 +7,6 @@
  * The threads take turns by a counter that orders nothing else, so their calls never overlap, and nothing else is wrong. */
 #include "gerfmuod.h"
 #include <pthread.h>
-#include <stdatomic.h>
 #include <stdio.h>
 #include <string.h>
 
@@ -15,14 +14,14 @@ enum { TURNS = 1000 };
 
 static gerfmuod_core core;
 static pthread_mutex_t lock = PTHREAD_MUTEX_INITIALIZER;
-static atomic_uint turns;
+static uint32_t turns;
 static uint32_t refused, quiet;
 
 static void wait_for_turn(uint32_t own) {
-    while (atomic_load_explicit(&turns, memory_order_relaxed) % 2 != own) continue;
+    while (__atomic_load_n(&turns, __ATOMIC_RELAXED) % 2 != own) continue;
 }
 
-static void end_turn(void) { atomic_fetch_add_explicit(&turns, 1, memory_order_relaxed); }
+static void end_turn(void) { __atomic_fetch_add(&turns, 1, __ATOMIC_RELAXED); }
 
 /* Inserts tasks and runs them, always with the mutex. */
 static void *report(void *unused) {
