@@ -32,7 +32,7 @@ typedef struct {
 } damage;
 
 static const damage damages[] = {
-    {NONE, 0, 0, 1, "no damage"},
+    {NONE, 0, 0, 1, ""},
     {BEHIND, RECEIVE, INSERT, 1, "a receipt is reported after what it brings"},
     {BEHIND, SEND, POST, 1, "a send is reported after the message can be received"},
     {FORGET, DONE, 0, 50, "a done is forgotten"},
@@ -345,18 +345,20 @@ static uint32_t cell(const damage *d, bool keeps_busy, bool by) {
 
 int main(void) {
     uint32_t wrong = 0;
+    for (uint32_t seed = 0; seed < 3 * RUNS; seed++) /* right runs */
+        if (outcome_of(&damages[0], seed % 3 > 0, seed % 3 > 1, seed) != SILENT) return printf("a right run is refused or hangs\n"), 1;
     printf("| Damage | alone | alone, nodes busy | `_by`, nodes busy |\n|---|---|---|---|\n");
-    for (uint32_t k = 0; k < sizeof damages / sizeof *damages; k++) {
+    for (uint32_t k = 1; k < sizeof damages / sizeof *damages; k++) {
         const damage *d = &damages[k];
         printf("| %u: %s", (unsigned)k, d->text);
         if (d->edit == UNLOCKED) {
             printf(" | ThreadSanitizer | ThreadSanitizer | ThreadSanitizer |\n");
             continue;
         }
-        uint32_t silent = cell(d, false, false) + cell(d, true, false), with_makers = cell(d, true, true);
+        cell(d, false, false);
+        cell(d, true, false);
+        wrong += cell(d, true, true) != 0 && k <= 20;
         printf(" |\n");
-        if (k == 0) wrong += silent + with_makers != 3 * RUNS;
-        else if (k <= 20) wrong += with_makers != 0;
     }
     return wrong != 0;
 }

@@ -2,15 +2,16 @@
  *
  * The caller reports each event of a task pool to a core as it happens, one call per event (a step). The core records
  * the steps that it took, refuses a step that is not lawful after them, and detects termination with the four counter
- * method of F. Mattern (1987). Proved, for any sequence of calls: if a step returns GERFMUOD_ENDED with the number of a
- * wave, or gerfmuod_settle returns one, then no task was unfinished, no action open and no message under way when that
+ * method of F. Mattern (1987). Proved, for any sequence of calls: if a step returns GERFMUOD_TOLD_ENDED with the
+ * number of a wave, or gerfmuod_settle returns one, then no task was unfinished, no action open and no message under way when that
  * wave ended, and each task of that generation had been inserted, begun and done, each once. The guarantee is about the
  * events that were reported. Report every event: a send before its message can be received, and a receipt before the
  * message has any effect.
  *
  * Preconditions, which nothing checks:
- *   - the gerfmuod_core was opened and not closed, and its address is a multiple of 8. No other code writes to it until
- *     it is closed. Between two calls it may be moved with memcpy; the old copy must not be used again;
+ *   - the address of a gerfmuod_core is a multiple of 8. No other code writes to an open core. Between two calls it may be
+ *     moved with memcpy; the old copy must not be used again. Every call refuses a core without the mark of an open one: it
+ *     was closed, its opening was refused, or its bytes are 0 or others;
  *   - one call on a core at a time: protect the calls with a mutex. Different cores may be used at the same time;
  *   - a text or a buffer has the length that is passed with it, and does not overlap the core. NULL is valid if the
  *     length is 0;
