@@ -210,10 +210,12 @@ static void plan_message(uint32_t thread, uint32_t at, const event *e) {
 /* Whether an event is about the first damaged task or message, or was made by it. */
 static bool is_of_first(const plan *p, const event *e) {
     const event *first = &run.first;
+    uint32_t kind = is_of_task(first->op) ? GERFMUOD_BY_TASK : GERFMUOD_BY_MESSAGE;
+    uint32_t number = is_of_task(first->op) ? first->task.number : first->message;
     if (!run.has_damaged) return true;
     if (first->op == READY) return e->node == first->node;
-    if (is_of_task(first->op)) return e->task.number == first->task.number || (p->maker_kind == GERFMUOD_BY_TASK && p->maker == first->task.number);
-    return (!is_of_task(e->op) && e->message == first->message) || (p->maker_kind == GERFMUOD_BY_MESSAGE && p->maker == first->message);
+    if (p->maker_kind == kind && p->maker == number) return true;
+    return is_of_task(e->op) == is_of_task(first->op) && (is_of_task(e->op) ? e->task.number : e->message) == number;
 }
 
 static void check(const plan *p, const event *e, gerfmuod_answer answer) {

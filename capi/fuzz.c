@@ -158,7 +158,8 @@ static void any_maker(call *c) {
 }
 
 static void random_step(void) {
-    static const uint32_t kinds[] = {0, 0, 0, 0, 1, 1, 2, 2, 2, 3, 3, 3, 4, 4, 5, 5, 6, 7, 7, 7, 8, 8, 8, 9, 9, 9, 10, 11, 12, 12, 13, 14, 15};
+    static const uint32_t kinds[] = {0, 0, 0, 0, 1, 1, 2, 2, 2, 3, 3,  3,  4,  4,  5,  5, 6,
+                                     7, 7, 7, 8, 8, 8, 9, 9, 9, 10, 11, 12, 12, 13, 14, 15};
     call c = {false, 0, 0, 0, 0, 0, 0, m.generation};
     c.kind = kinds[below(sizeof kinds / sizeof *kinds)];
     c.a = any_node();
@@ -335,7 +336,8 @@ int main(int argc, char **argv) {
         if (below(4) == 0) closed();
         if (below(16) == 0) memset(&core, (int)below(256), sizeof core), closed();
     }
-    printf("%" PRIu64 " calls on %" PRIu64 " cores, %" PRIu64 " steps taken and %" PRIu64 " refused, ", calls, cores, counts[TAKEN], counts[REFUSED]);
+    printf("%" PRIu64 " calls on %" PRIu64 " cores, %" PRIu64 " steps taken and %" PRIu64 " refused, ", calls, cores, counts[TAKEN],
+           counts[REFUSED]);
     printf("%" PRIu64 " times quiet, %" PRIu64 " ends, %" PRIu64 " reopened, %" PRIu64 " restarted, ", counts[QUIET], counts[ENDED],
            counts[REOPENED], counts[RESTARTED]);
     printf("%" PRIu64 " sound and %" PRIu64 " damaged traces, %" PRIu64 " allocations refused: as the model says\n", counts[SOUND],

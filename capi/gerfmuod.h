@@ -2,10 +2,10 @@
  *
  * The caller reports each event of a task pool to a core as it happens, one call per event (a step). The core records
  * the steps that it took, refuses a step that is not lawful after them, and detects termination with the four counter
- * method of F. Mattern (1987). Proved, for any sequence of calls: if a step returns GERFMUOD_TOLD_ENDED with the
- * number of a wave, or gerfmuod_settle returns one, then no task was unfinished, no action open and no message under way when that
- * wave ended, and each task of that generation had been inserted, begun and done, each once. The guarantee is about the
- * events that were reported. Report every event: a send before its message can be received, and a receipt before the
+ * method of F. Mattern (1987). Proved, for any sequence of calls: if a step returns GERFMUOD_TOLD_ENDED with the number
+ * of a wave, or gerfmuod_settle returns one, then no task was unfinished, no action open and no message under way when
+ * that wave ended, and each task of that generation had been inserted, begun and done, each once. The guarantee is about
+ * the events that were reported. Report every event: a send before its message can be received, and a receipt before the
  * message has any effect.
  *
  * Preconditions, which nothing checks:

@@ -122,7 +122,8 @@ static bool model_audit(const char *text, size_t length, char *result, size_t ro
         trace_next(&r, &line);
         if (!trace_step(&r, &line, result, room)) return false;
     }
-    int at = snprintf(result, room, "steps %u\ntasks %u done %u\nmessages %u received %u\n", r.steps, r.inserted, r.done, r.sent, r.received);
+    int at = snprintf(result, room, "steps %u\ntasks %u done %u\n", r.steps, r.inserted, r.done);
+    at += snprintf(result + at, room - (size_t)at, "messages %u received %u\n", r.sent, r.received);
     if (r.version == 2) at += snprintf(result + at, room - (size_t)at, "generation %u\n", r.world.generation);
     snprintf(result + at, room - (size_t)at, r.wave ? "ended %u\n" : "not ended\n", r.wave);
     return true;

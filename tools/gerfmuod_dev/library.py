@@ -1,9 +1,9 @@
 """Proves all that the library for other languages is built on, and builds it: lib/libgerfmuod.a and libgerfmuod.so.0.
 
 The archive has all that it links except the C library and POSIX threads. Two parts in C are not proved: the inline calls as
-symbols, capi/gerfmuod_calls.c, and the team of threads, capi/gerfmuod_team.c. Next to it are the headers for C and C++, the module for Fortran, `gerfmuod.pc` for
-pkg-config, and `SOURCES`, a digest of what it was built from. Prints a line for each crate as it ends; the status is 1 if
-one is not proved.
+symbols, capi/gerfmuod_calls.c, and the team of threads, capi/gerfmuod_team.c. Next to it are the headers for C and C++, the
+module for Fortran, `gerfmuod.pc` for pkg-config, and `SOURCES`, a digest of what it was built from. Prints a line for each
+crate as it ends; the status is 1 if one is not proved.
 """
 import hashlib
 import os
