@@ -9,9 +9,9 @@
  *   - late: a later event was refused;
  *   - hangs: no end was detected in 200,000 turns;
  *   - silent: the end was detected, and nothing refused; early: work was left then.
- * `_by` stands for the calls that name what makes a step. In the second and third column an action keeps each node busy while
- * the tree grows. The output is always the same. The exit status is 1 if a right run fails, or one of the first 20 damages is
- * silent with `_by`. */
+ * In the columns the calls are plain ones, or with `_by` those that take what makes a step; if nodes are busy, an action is open
+ * at each node while the tree grows. The output is always the same. The exit status is 1 if a right run fails, or if one of the
+ * first 20 damages is silent with `_by`. */
 #include "gerfmuod.h"
 #include <stdio.h>
 #include <stdlib.h>

@@ -237,7 +237,7 @@ GERFMUOD_CHECKED gerfmuod_answer gerfmuod_step_by(gerfmuod_core *core, uint32_t 
 gerfmuod_counters gerfmuod_numbers(const gerfmuod_core *core, uint32_t node);
 
 /* The pool as a whole. `quiet` is the cheap answer to whether all is over: once it is true, it stays so until the pool is
- * reopened. Of a closed core all is 0, and it is not quiet. Since 0.1.0. */
+ * reopened or restarted. Of a closed core all is 0, and it is not quiet. Since 0.1.0. */
 gerfmuod_pool gerfmuod_whole(const gerfmuod_core *core);
 
 /* Runs waves until termination is detected, if the pool is quiet: at most two waves, and GERFMUOD_SETTLE_STEPS steps for

@@ -2,11 +2,11 @@
 
 First each compiler on this machine checks the headers and programs as C99, C11 and C++17, with all warnings on. If
 lib/libgerfmuod.a is there and was built from these sources (`make lib` builds it), it compares the names that the archive and
-the shared object define with what the headers declare. Then each program is linked with it and run, and those in C and C++ run
-once more under valgrind: the fuzz of random calls under AddressSanitizer and UndefinedBehaviorSanitizer, a program without a
-lock under ThreadSanitizer. The table that capi/damages.c prints is compared with docs/OTHER-RUNTIMES.md. The programs of
-capi/mpi run if mpicc and mpirun are installed. It names what is not installed, and skips it. The last line is `N passed, M
-failed`; the status is 1 if one failed.
+the shared object define with what the headers declare. Then each program is linked with it and run, and most of those in C and
+C++ once more under valgrind: the fuzz of random calls under AddressSanitizer and UndefinedBehaviorSanitizer, a program without
+a lock under ThreadSanitizer. The table that capi/damages.c prints is compared with docs/OTHER-RUNTIMES.md, whose first program
+runs, too. The programs of capi/mpi run if mpicc and mpirun are installed. It names what is not installed, and skips it. The
+last line is `N passed, M failed`; the status is 1 if one failed.
 
 With --full only the fuzz runs, in its long form. With --bench it runs no program, but measures and prints what a step costs:
 instructions, which valgrind counts at two numbers of steps, memory, nanoseconds, locks, and the depth of the stack.
@@ -22,7 +22,7 @@ from dataclasses import dataclass
 from . import library, mpi, repository, shared_object
 from .c_programs import ADDRESS, FAILURE, THREAD, VALGRIND, WARNINGS, Run, check_sources, has_sanitizer, judge, output_of, start
 from .repository import text_of
-from .running import Tally
+from .running import Tally, write
 from .shipping import generated
 
 LINK = ["-Llib", "-lgerfmuod"]
@@ -159,12 +159,16 @@ def check_symbols(tally):
     print(f"{library.ARCHIVE} and {library.SHARED}: {len(declared)} names, as the headers declare them")
 
 
-def check_table(tally, folder):
-    """Runs damages.c, and compares the table that it prints with that of the page."""
+def check_page(tally, folder):
+    """Compares the table that damages.c prints with that of the page, and runs the page's program."""
     result = start([compile_program(Program("damages.c", C11, []), folder)])
     table = result.out.decode() if result and not result.status else ""
     tally.judge(table and table in text_of(PAGE), f"capi/damages.c fails, or {PAGE} has another table than\n{table}")
-    print(f"capi/damages.c: 1 run, whose table is compared with {PAGE}")
+    source, path = f"{folder}/first.c", f"{folder}/first"
+    write(source, re.search(r"^```c\n(#include .*?)^```$", text_of(PAGE), re.S | re.M)[1])
+    output_of([*C11, source, "-o", path, "-Icapi", *LINK])
+    judge(tally, [path], Run([], 0, "none: the call was not refused"))
+    print(f"{PAGE}: its table, which capi/damages.c prints, and its program")
 
 
 def compile_program(program, folder):
@@ -213,7 +217,7 @@ def run_all(tally, folder):
     """Runs everything with the built library."""
     check_symbols(tally)
     run_programs(tally, PROGRAMS, folder)
-    check_table(tally, folder)
+    check_page(tally, folder)
     mpi.run_quick(tally, folder)
 
 
