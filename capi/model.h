@@ -302,13 +302,13 @@ static gerfmuod_answer model_step_by(model *m, uint32_t maker_kind, uint32_t mak
     if (!m->is_open) return model_refused(GERFMUOD_REFUSED_NO_POOL);
     bool is_of_task = kind == GERFMUOD_STEP_SUPPLY || kind == GERFMUOD_STEP_BEGIN || kind == GERFMUOD_STEP_DONE;
     bool is_of_node = kind == GERFMUOD_STEP_INSERT || kind == GERFMUOD_STEP_ACTION_OPEN || kind == GERFMUOD_STEP_SEND;
-    bool is_thread = maker_kind == GERFMUOD_BY_THREAD;
+    bool is_idle_thread = maker_kind == GERFMUOD_BY_THREAD && kind != GERFMUOD_STEP_BEGIN && kind != GERFMUOD_STEP_DONE;
     if (!(is_of_task || is_of_node) || maker_kind > GERFMUOD_BY_THREAD) return model_refused(GERFMUOD_REFUSED_BAD_SPEC);
     if (kind == GERFMUOD_STEP_INSERT && c > GERFMUOD_MAX_INPUTS) return model_refused(GERFMUOD_REFUSED_BAD_SPEC);
     int k = is_of_task ? model_task(m, a) : -1;
     uint32_t node = k >= 0 ? m->task[k].home : a;
     bool is_there = is_of_task ? k >= 0 : a < m->nodes;
-    if (!is_there || (is_thread && is_of_node) || !model_is_maker(m, maker_kind, maker, node))
+    if (!is_there || is_idle_thread || !model_is_maker(m, maker_kind, maker, node))
         return model_refused(GERFMUOD_REFUSED_NO_MAKER);
     return model_step(m, kind, a, b, c, generation);
 }
