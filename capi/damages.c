@@ -245,6 +245,7 @@ static void act(plan *p) {
     event *e = &p->events[p->next++];
     node *at = &run.nodes[e->op == POST ? e->to : e->node];
     if (e->is_damaged && !run.has_damaged) run.first = *e, run.has_damaged = true;
+    if (at->last == MOST || at->last_message == MOST) exit(9);
     if (e->op == PUSH) at->ready[at->last++] = e->task;
     else if (e->op == POST) at->inbox[at->last_message++] = *e;
     else if (run.damage->edit != FORGET || !e->is_damaged) check(p, e, report(p, e));

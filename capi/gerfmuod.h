@@ -258,10 +258,10 @@ GERFMUOD_CHECKED gerfmuod_written gerfmuod_audit(const char *text, size_t text_l
 const char *gerfmuod_refusal_text(uint32_t refused);
 
 /* Writes the name of a refusal, such as NoMessage: at most 12 bytes. NO_TEXT if there is no such refusal. Since 0.1.0. */
-GERFMUOD_CHECKED gerfmuod_written gerfmuod_refusal_name(uint32_t refused, char *room, size_t room_length);
+gerfmuod_written gerfmuod_refusal_name(uint32_t refused, char *room, size_t room_length);
 
 /* Writes a sentence that explains a refusal: at most 128 bytes. NO_TEXT if there is no such refusal. Since 0.1.0. */
-GERFMUOD_CHECKED gerfmuod_written gerfmuod_refusal_meaning(uint32_t refused, char *room, size_t room_length);
+gerfmuod_written gerfmuod_refusal_meaning(uint32_t refused, char *room, size_t room_length);
 
 /* With ThreadSanitizer, each call above on a core first reports that it reads or writes it. */
 #if defined(__SANITIZE_THREAD__)
