@@ -15,14 +15,12 @@ import tempfile
 from dataclasses import dataclass
 
 from . import library, repository, shared_object
-from .c_programs import VALGRIND, WARNINGS, Run, check_sources, judge, start
-from .running import Tally, short, write
+from .c_programs import ADDRESS, THREAD, VALGRIND, WARNINGS, Run, check_sources, has_sanitizer, judge, start, succeeds
+from .running import Tally, short
 
 C = ["gcc", "-std=c11", *WARNINGS, "-O2", "-g"]
 CPP = ["g++", "-std=c++17", *WARNINGS, "-O2"]
 FORTRAN = ["gfortran", "-std=f2018", "-Wall", "-Wextra", "-Wno-unused-dummy-argument", "-Werror", "-O2", "-fopenmp"]
-ADDRESS = ["-fsanitize=address,undefined", "-fno-sanitize-recover=all"]
-THREAD = ["-fsanitize=thread"]
 WRAPPED = ["-Wl,--wrap=malloc,--wrap=calloc,--wrap=realloc,--wrap=free,--wrap=pthread_create"]
 # the endings of the files of capi/ that a compiler of each language checks
 ENDINGS = {"c": (".c", ".h"), "c++": (".cpp", ".hpp", ".h")}
@@ -98,17 +96,6 @@ def check_page(tally):
     for path, kind, code in blocks:
         tally.judge(path and code in repository.text_of(path, ""), f"{PAGE}: a block of {kind} is not in {path or 'any file'}: {code}")
     print(f"{PAGE}: {len(blocks)} blocks of code, each part of a file")
-
-
-def succeeds(command):
-    result = start(command)
-    return result is not None and result.status == 0
-
-
-def has_sanitizer(options, folder):
-    """Whether a program with this sanitizer can be built and run here."""
-    source, path = write(f"{folder}/empty.c", "int main(void) { return 0; }\n"), f"{folder}/empty"
-    return succeeds(["gcc", *options, source, "-o", path]) and succeeds([path])
 
 
 def compiles(tally, command):
