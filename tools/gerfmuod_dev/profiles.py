@@ -1,0 +1,122 @@
+"""Checks the files that gerfmuod_team_profile writes: trace events in JSON, one file for a run, compared with the run's trace."""
+import collections
+import json
+import re
+from dataclasses import dataclass
+
+
+def nanoseconds(microseconds):
+    """Returns a time of a file, which has three decimals, as a whole number."""
+    return round(microseconds * 1000)
+
+
+@dataclass(frozen=True)
+class Slice:
+    """A body or a wait: its thread, its task or None, and its times."""
+
+    thread: int
+    task: int
+    begin: int
+    end: int
+
+
+class Profile:
+    """The events of a file, by kind."""
+
+    def __init__(self, text):
+        content = json.loads(text)
+        self.about = content["otherData"]
+        self.events = collections.defaultdict(list)
+        for event in content["traceEvents"]:
+            self.events[event["ph"]].append(event)
+        self.slices = [self.slice_of(event) for event in self.events["X"]]
+        self.bodies = [it for it in self.slices if it.task is not None]
+
+    @staticmethod
+    def slice_of(event):
+        begin = nanoseconds(event["ts"])
+        return Slice(event["tid"], event["args"].get("task"), begin, begin + nanoseconds(event["dur"]))
+
+    def messages(self, phase):
+        return {event["id"]: nanoseconds(event["ts"]) for event in self.events[phase]}
+
+    def waves(self):
+        return {event["args"]["wave"]: nanoseconds(event["ts"]) for event in self.events["i"]}
+
+
+def order_faults(profile):
+    """Yields what is wrong with the times: a slice that begins before the one before it in its thread ends, or that ends early."""
+    ends = collections.Counter()
+    for it in profile.slices:
+        if not ends[it.thread] <= it.begin <= it.end:
+            yield f"{it} overlaps, or ends before it begins"
+        ends[it.thread] = it.end
+    end, elapsed = max(ends.values(), default=0), nanoseconds(profile.about["elapsed_us"])
+    if end > elapsed:
+        yield f"a slice ends at {end}, after the run, {elapsed}"
+    critical = nanoseconds(profile.about.get("critical_path_us", 0))
+    if critical > elapsed:
+        yield f"the critical path takes {critical}, the run {elapsed}"
+
+
+def worker_faults(profile):
+    """Yields each thread whose sums are not those of its slices, to a nanosecond for each."""
+    for worker in profile.about["workers"]:
+        own = [it for it in profile.slices if it.thread == worker["thread"] + 1]
+        for key, parts in (
+            ("bodies_us", [it.end - it.begin for it in own if it.task is not None]),
+            ("waiting_us", [it.end - it.begin for it in own if it.task is None]),
+        ):
+            if not worker["lost_slices"] and abs(nanoseconds(worker[key]) - sum(parts)) > len(parts) + 1:
+                yield f"{key} of {worker}: the sum is {sum(parts)}"
+
+
+def message_faults(profile):
+    """Yields each arrow that has one end, comes twice, or arrives before it was sent."""
+    sent, received = profile.messages("s"), profile.messages("f")
+    if sent.keys() != received.keys() or len(sent) != len(profile.events["s"]) or len(received) != len(profile.events["f"]):
+        yield f"the ends of arrows: {len(profile.events['s'])} and {len(profile.events['f'])}"
+    for message in sent.keys() & received.keys():
+        if sent[message] > received[message]:
+            yield f"message {message} was sent at {sent[message]} and received at {received[message]}"
+
+
+def first_numbers(trace, word):
+    """Returns the first number of each line of a trace that begins with this word."""
+    return [int(number) for number in re.findall(rf"^{word} (\d+)", trace, re.M)]
+
+
+def trace_faults(profile, trace):
+    """Yields where the tasks, messages or waves are not those of the trace, each once."""
+    tasks, begun = sorted(it.task for it in profile.bodies), sorted(first_numbers(trace, "begin"))
+    if tasks != begun:
+        yield f"the tasks are {tasks}, those of the trace {begun}"
+    sent = {int(number) for number in re.findall(r"^send \d+ \d+ (\d+)", trace, re.M)}
+    is_over = " ended " in trace
+    if not profile.messages("s").keys() <= sent or is_over and profile.messages("s").keys() != sent:
+        yield f"the messages are {sorted(profile.messages('s'))}, those of the trace {sorted(sent)}"
+    waves, started = sorted(event["args"]["wave"] for event in profile.events["i"]), len(re.findall(r"^start$", trace, re.M))
+    if is_over and waves != list(range(1, started + 1)):
+        yield f"the waves are {waves}, of the trace {started}"
+    ended = re.findall(r"^judge ended (\d+)", trace, re.M)
+    marked = [str(event["args"]["wave"]) for event in profile.events["i"] if event["name"].endswith("the end")]
+    if marked != ended:
+        yield f"the wave that detected the end is {marked}, of the trace {ended}"
+
+
+def wave_faults(profile):
+    """Yields each wave that ran before a body had ended."""
+    last = max((it.end for it in profile.bodies), default=0)
+    for wave, at in profile.waves().items():
+        if at < last:
+            yield f"wave {wave} is at {at}, a body ends at {last}"
+
+
+def faults(text, trace):
+    """Returns what is wrong with a file, whose run has this trace, as lines; none if all is well."""
+    try:
+        profile = Profile(text)
+    except (ValueError, KeyError) as error:
+        return [f"not trace events: {error!r}"]
+    checks = (order_faults, worker_faults, message_faults, wave_faults)
+    return [fault for check in checks for fault in check(profile)] + list(trace_faults(profile, trace))
