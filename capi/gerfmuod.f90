@@ -15,7 +15,7 @@ module gerfmuod
   integer(c_int32_t), parameter :: gerfmuod_inactive = 6, gerfmuod_ended = 15
   integer(c_int32_t), parameter :: gerfmuod_history_full = 16, gerfmuod_no_memory = 17, gerfmuod_bad_spec = 26
   integer(c_int32_t), parameter :: gerfmuod_no_thread = 64, gerfmuod_not_started = 65, gerfmuod_stopped = 66
-  integer(c_int32_t), parameter :: gerfmuod_running = 67
+  integer(c_int32_t), parameter :: gerfmuod_running = 67, gerfmuod_not_written = 68
 
   type, bind(c) :: gerfmuod_answer
     integer(c_int32_t) :: refused, told, number, news

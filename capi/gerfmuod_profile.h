@@ -17,6 +17,10 @@
 #include <cpuid.h>
 #endif
 
+/* A team that does not record has to be as fast as without this file: what is rare is not inlined. */
+#define NOINLINE __attribute__((noinline))
+#define ALWAYS_INLINE __attribute__((always_inline))
+
 /* What a thread did from one time to another: it ran a task, or waited (GERFMUOD_DAG_NONE). The times are ticks. */
 struct slice {
     uint64_t begin, end;
@@ -119,7 +123,7 @@ static void *grown(void *array, size_t *room, size_t count, size_t size) {
 }
 
 /* Makes room for a task and its inputs. Returns whether there was memory for it. */
-static bool profile_reserve(struct profile *profile, size_t inputs) {
+static NOINLINE bool profile_reserve(struct profile *profile, size_t inputs) {
     void *tasks = grown(profile->tasks, &profile->task_room, profile->task_count, sizeof *profile->tasks);
     if (!tasks) return false;
     profile->tasks = tasks;
@@ -132,14 +136,12 @@ static bool profile_reserve(struct profile *profile, size_t inputs) {
     return true;
 }
 
-static void profile_task(struct profile *profile, uint32_t node, uint32_t class_) {
-    profile->tasks[profile->task_count++] = (struct described){(uint8_t)node, (uint8_t)class_, false};
-}
-
-/* An input of the newest task. The pool gives no number to one that is done. */
-static void profile_input(struct profile *profile, uint32_t source) {
-    if (!profile->tasks[source].is_done)
-        profile->edges[profile->edge_count++] = (struct edge){source, (uint32_t)profile->task_count - 1};
+/* A task was described. An input that is done already gets no number from the pool. */
+static NOINLINE void profile_describe(struct profile *profile, uint32_t node, uint32_t class_, const uint32_t *inputs, size_t count) {
+    uint32_t task = (uint32_t)profile->task_count++;
+    profile->tasks[task] = (struct described){(uint8_t)node, (uint8_t)class_, false};
+    for (size_t k = 0; k < count; k++)
+        if (!profile->tasks[inputs[k]].is_done) profile->edges[profile->edge_count++] = (struct edge){inputs[k], task};
 }
 
 /* ---- opening and closing */
@@ -258,13 +260,14 @@ struct turn {
 static inline void profile_end_turn(struct profile *profile, uint32_t node, uint32_t task, struct turn turn) {
     struct ring *ring = profile_claim(profile);
     if (!ring || ring->has_left) return;
-    if (!ring->first) ring->first = ring->last = turn.begun > ring->last ? turn.begun : ring->last;
-    uint64_t before = ring->last, now = ring_time(profile, ring), waited_from = turn.waited;
-    if (waited_from) {
-        if (waited_from < before) waited_from = before; /* a turn that began before the start */
-        if (waited_from > now) waited_from = now, ring->backwards++;
-        ring->waits += now - waited_from;
-        ring_keep(profile, ring, (struct slice){waited_from, now, GERFMUOD_DAG_NONE, node});
+    bool is_first = !ring->first; /* it may have begun before the start */
+    if (is_first) ring->first = ring->last = turn.begun > ring->last ? turn.begun : ring->last;
+    uint64_t before = ring->last, now = ring_time(profile, ring);
+    if (turn.waited) {
+        if (turn.waited < before) turn.waited = before, ring->backwards += !is_first;
+        if (turn.waited > now) turn.waited = now, ring->backwards++;
+        ring->waits += now - turn.waited;
+        ring_keep(profile, ring, (struct slice){turn.waited, now, GERFMUOD_DAG_NONE, node});
     }
     ring->begun = now;
     ring->running = task;

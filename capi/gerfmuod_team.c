@@ -117,7 +117,7 @@ static bool changes_nothing(uint32_t refused) {
 }
 
 /* Describes a task and its inputs. A refusal changes nothing, or ends the team. */
-static inline uint32_t describe_task(gerfmuod_team *team, uint32_t node, uint32_t class_, const uint32_t *inputs, size_t count) {
+static inline ALWAYS_INLINE uint32_t describe_task(gerfmuod_team *team, uint32_t node, uint32_t class_, const uint32_t *inputs, size_t count) {
     uint32_t number = team->tasks, refused;
     for (size_t k = 0; k < count; k++)
         if (inputs[k] >= number) return refuse(team, GERFMUOD_DAG_NO_TASK, number);
@@ -125,13 +125,12 @@ static inline uint32_t describe_task(gerfmuod_team *team, uint32_t node, uint32_
     refused = gerfmuod_dag_task(&team->dag, node, class_).refused;
     if (refused) return changes_nothing(refused) ? refuse(team, refused, number) : fail(team, refused, number);
     team->tasks = number + 1;
-    if (team->profile) profile_task(team->profile, node, class_);
     if (team->first_task[node] == GERFMUOD_DAG_NONE) team->first_task[node] = number;
     for (size_t k = 0; k < count; k++) {
         refused = gerfmuod_dag_input(&team->dag, inputs[k]).refused;
         if (refused) return fail(team, refused, number);
-        if (team->profile) profile_input(team->profile, inputs[k]);
     }
+    if (team->profile) profile_describe(team->profile, node, class_, inputs, count);
     return GERFMUOD_DAG_OK;
 }
 
@@ -273,7 +272,7 @@ static uint32_t wait_for_news(gerfmuod_team *team, uint32_t node, uint32_t spins
 
 /* Returns the next task of a node, waiting for it; the end; or the refusal that ends every turn. If the team records and there
  * was a wait, writes when it began. */
-static gerfmuod_dag_answer take(gerfmuod_team *team, uint32_t node, uint64_t *waited_from) {
+static inline ALWAYS_INLINE gerfmuod_dag_answer take(gerfmuod_team *team, uint32_t node, uint64_t *waited_from) {
     gerfmuod_dag_answer answer = {0, 0, 0, 0};
     for (uint32_t spins = SPINS; !team->fault; spins = wait_for_news(team, node, spins, waited_from)) {
         if (!team->threads) continue; /* no run is started yet */
@@ -301,11 +300,12 @@ static uint32_t task_of(gerfmuod_dag_answer answer) {
     return !answer.refused && answer.told == GERFMUOD_DAG_RUN ? answer.number : GERFMUOD_DAG_NONE;
 }
 
-gerfmuod_dag_answer gerfmuod_team_turn(gerfmuod_team *team, uint32_t node, uint32_t done) {
+/* A turn, which is compiled twice: with the profile of a team that records, and with NULL. */
+static inline ALWAYS_INLINE gerfmuod_dag_answer turn_with(struct profile *profile, gerfmuod_team *team, uint32_t node, uint32_t done) {
     gerfmuod_dag_answer answer = {GERFMUOD_DAG_NO_NODE, 0, 0, 0};
     struct turn turn = {0, 0};
-    if (team->profile && done == GERFMUOD_DAG_NONE) turn.begun = ticks_now(team->profile);
-    else if (team->profile) profile_end_body(team->profile, done);
+    if (profile && done == GERFMUOD_DAG_NONE) turn.begun = ticks_now(profile);
+    else if (profile) profile_end_body(profile, done);
     pthread_mutex_lock(&team->lock);
     if (node < team->nodes) {
         if (done != GERFMUOD_DAG_NONE && !team->fault) {
@@ -313,15 +313,23 @@ gerfmuod_dag_answer gerfmuod_team_turn(gerfmuod_team *team, uint32_t node, uint3
             if (answer.refused) fail(team, answer.refused, done);
             else {
                 team->executing--;
-                if (team->profile) team->profile->tasks[done].is_done = true;
+                if (profile) profile->tasks[done].is_done = true;
                 tell(team, answer.news, false);
             }
         }
         answer = take(team, node, &turn.waited);
     }
     pthread_mutex_unlock(&team->lock);
-    if (team->profile && node < team->nodes) profile_end_turn(team->profile, node, task_of(answer), turn);
+    if (profile && node < team->nodes) profile_end_turn(profile, node, task_of(answer), turn);
     return answer;
+}
+
+static NOINLINE gerfmuod_dag_answer recorded_turn(gerfmuod_team *team, uint32_t node, uint32_t done) {
+    return turn_with(team->profile, team, node, done);
+}
+
+gerfmuod_dag_answer gerfmuod_team_turn(gerfmuod_team *team, uint32_t node, uint32_t done) {
+    return team->profile ? recorded_turn(team, node, done) : turn_with(NULL, team, node, done);
 }
 
 void gerfmuod_team_stop(gerfmuod_team *team, uint32_t task) {
