@@ -116,6 +116,27 @@ module gerfmuod
       type(gerfmuod_answer) :: answer
     end function
 
+    ! Records each later run; each thread keeps its newest `slices` bodies and waits. Call it before the first task.
+    function gerfmuod_team_record(team, slices) bind(c) result(refused)
+      import :: c_ptr, c_int32_t
+      type(c_ptr), value :: team
+      integer(c_int32_t), value :: slices
+      integer(c_int32_t) :: refused
+    end function
+
+    ! Writes the last run as trace events. file is a stream of C, as its fopen returns it; so is that of gerfmuod_team_summary.
+    function gerfmuod_team_profile(team, file) bind(c) result(refused)
+      import :: c_ptr, c_int32_t
+      type(c_ptr), value :: team, file
+      integer(c_int32_t) :: refused
+    end function
+
+    function gerfmuod_team_summary(team, file) bind(c) result(refused)
+      import :: c_ptr, c_int32_t
+      type(c_ptr), value :: team, file
+      integer(c_int32_t) :: refused
+    end function
+
     subroutine gerfmuod_team_stop(team, task) bind(c)
       import :: c_ptr, c_int32_t
       type(c_ptr), value :: team

@@ -1,4 +1,4 @@
-"""Checks the files that gerfmuod_team_profile writes: trace events in JSON, one file for a run, compared with the run's trace."""
+"""Checks the trace events that gerfmuod_team_profile writes, of one run, and compares them with the run's trace."""
 import collections
 import json
 import re
@@ -71,6 +71,15 @@ def worker_faults(profile):
                 yield f"{key} of {worker}: the sum is {sum(parts)}"
 
 
+def task_faults(profile):
+    """Yields whether a task comes twice, or, if none is lost and the end was detected, is not there."""
+    tasks = [it.task for it in profile.bodies]
+    if len(set(tasks)) < len(tasks):
+        yield "a task comes twice"
+    if profile.waves() and not profile.about["lost_slices"] and sorted(tasks) != list(range(profile.about["tasks"])):
+        yield f"{len(tasks)} of {profile.about['tasks']} tasks"
+
+
 def message_faults(profile):
     """Yields each arrow that has one end, comes twice, or arrives before it was sent."""
     sent, received = profile.messages("s"), profile.messages("f")
@@ -112,11 +121,12 @@ def wave_faults(profile):
             yield f"wave {wave} is at {at}, a body ends at {last}"
 
 
-def faults(text, trace):
-    """Returns what is wrong with a file, whose run has this trace, as lines; none if all is well."""
+def faults(text, trace=""):
+    """Returns what is wrong with a file, whose run has this trace, if one is given, as lines; none if all is well."""
     try:
         profile = Profile(text)
     except (ValueError, KeyError) as error:
         return [f"not trace events: {error!r}"]
-    checks = (order_faults, worker_faults, message_faults, wave_faults)
-    return [fault for check in checks for fault in check(profile)] + list(trace_faults(profile, trace))
+    checks = (order_faults, worker_faults, message_faults, wave_faults, task_faults)
+    found = [fault for check in checks for fault in check(profile)]
+    return [*found, *trace_faults(profile, trace)] if trace else found
