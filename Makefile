@@ -40,7 +40,7 @@ lib: lib/libgerfmuod.a
 
 HEADERS := gerfmuod.h gerfmuod_process.h gerfmuod_dag.h gerfmuod_team.h gerfmuod.hpp gerfmuod.f90
 
-lib/libgerfmuod.a: $(SOURCES) crates.txt $(addprefix capi/,$(HEADERS) gerfmuod_team.c gerfmuod.map gerfmuod.pc.in)
+lib/libgerfmuod.a: $(SOURCES) crates.txt $(addprefix capi/,$(HEADERS) gerfmuod_team.c gerfmuod_profile.h gerfmuod.map gerfmuod.pc.in)
 	@tools/dev lib
 
 demo:

@@ -117,7 +117,8 @@ static bool changes_nothing(uint32_t refused) {
 }
 
 /* Describes a task and its inputs. A refusal changes nothing, or ends the team. */
-static inline ALWAYS_INLINE uint32_t describe_task(gerfmuod_team *team, uint32_t node, uint32_t class_, const uint32_t *inputs, size_t count) {
+static inline ALWAYS_INLINE uint32_t describe_task(gerfmuod_team *team, uint32_t node, uint32_t class_, const uint32_t *inputs,
+                                                   size_t count) {
     uint32_t number = team->tasks, refused;
     for (size_t k = 0; k < count; k++)
         if (inputs[k] >= number) return refuse(team, GERFMUOD_DAG_NO_TASK, number);

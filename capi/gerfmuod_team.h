@@ -102,27 +102,28 @@ size_t gerfmuod_team_trace(gerfmuod_team *team, char *room, size_t length);
 
 /* ---- what a run spent its time on */
 
-/* Records each later run: when each body begins and ends and on which thread, and when threads wait. Each thread writes into
- * memory of its own, without a lock, and keeps its newest `slices` bodies and waits, of 24 bytes each; 65,536 are enough in most
- * cases. 0 ends recording. Refused, and nothing changes: the reason that ends every turn; WRONG_LIFE if the team has a task;
- * NO_MEMORY. The graph then also takes 3 bytes more for a task and 8 for an input, and a run is refused as NO_MEMORY if there is
- * none for its slices. */
+/* Records each later run: when each body begins and ends and on which thread, and when threads wait. A thread writes into memory
+ * of its own, without a lock, and keeps its newest `slices` bodies and waits, of 24 bytes each; a body that waits for nothing
+ * costs one slice. 0 ends recording. The graph then takes 3 bytes more for a task and 8 for an input, and a run is also refused
+ * as NO_MEMORY if there is none for its slices. Refused, and nothing changes: the reason that ends every turn; WRONG_LIFE if the
+ * team has a task or was started; NO_MEMORY. */
 uint32_t gerfmuod_team_record(gerfmuod_team *team, uint32_t slices);
 
-/* Writes the last run as trace events in JSON, which Perfetto, chrome://tracing and speedscope show as a timeline: a track for each
- * thread, with a slice for each body (its task, node and class) and for each wait; an arrow for each message between nodes, from
- * the body that sends it to the one that waits for it; and the waves, which ran when the end was detected. `otherData` has what
- * gerfmuod_team_summary prints, the run's start by CLOCK_MONOTONIC, from which the times count, and two numbers: `lost_slices`, of
- * those that were overwritten, and `clock_went_back`, of the readings that were before one of the same thread, and were
- * replaced by that one: no duration is negative. Call it when no thread is in a turn or a body. Refused: RUNNING if the run has not ended; WRONG_LIFE
- * if no run was recorded, or gerfmuod_team_again was called since; NO_MEMORY, and nothing was written; NOT_WRITTEN if the stream
- * fails, which may then have a part of the text. */
+/* Writes the last run as trace events in JSON, which Perfetto, chrome://tracing and speedscope show as a timeline: a track for
+ * each thread that was announced, with a slice for each body (its task, node and class) and for each wait; an arrow for each
+ * message between nodes, from the body that sends it to the one that waits for it; and the waves, which run in the call that
+ * detects the end. Times are microseconds since the run's start, which `otherData` has as `start_ns` of CLOCK_MONOTONIC. It also
+ * has the numbers of gerfmuod_team_summary, `lost_slices`, the number of those that newer ones replaced, and `clock_went_back`:
+ * how often a thread read a time before its last one, which was taken instead, so that no duration is negative. No other thread
+ * may be in a turn or a body. Refused: RUNNING if the run has not ended; WRONG_LIFE if no run was recorded, or if
+ * gerfmuod_team_again was called since; NO_MEMORY, and nothing was written; NOT_WRITTEN if the stream fails, which may have
+ * taken a part. */
 uint32_t gerfmuod_team_profile(gerfmuod_team *team, FILE *file);
 
-/* Prints a line for each thread of the last run: the number of its tasks, and which shares of its time were bodies, waiting for
- * a task, and the rest: taking and reporting tasks, with the waiting for the lock. A last line has the time of the run and,
- * unless slices were lost, that of the critical path: the longest chain of bodies that wait for each other, than which no number
- * of threads is faster. Refused as gerfmuod_team_profile. */
+/* Prints a line for each thread of the last run: the number of its tasks, and which shares of its time, since its first turn,
+ * were bodies, waiting for a task, and the rest: taking and reporting tasks, and waiting for the lock. The last line has the
+ * time of the run and, unless slices were lost, that of the critical path: the longest chain of bodies that wait for each other.
+ * With any number of threads, a run takes at least as long. Refused as gerfmuod_team_profile is. */
 uint32_t gerfmuod_team_summary(gerfmuod_team *team, FILE *file);
 
 /* ---- with your own threads, such as those of OpenMP or Python, instead of gerfmuod_team_run */

@@ -86,7 +86,8 @@ static int64_t clock_offset(int me, int processes) {
 /* ---- the file, which process 0 writes */
 
 static void write_event(FILE *file, const char *phase, int rank, int track, uint64_t at) {
-    fprintf(file, ",\n{\"ph\":\"%s\",\"pid\":%d,\"tid\":%d,\"ts\":%" PRIu64 ".%03u", phase, rank, track, at / 1000, (unsigned)(at % 1000));
+    fprintf(file, ",\n{\"ph\":\"%s\",\"pid\":%d,\"tid\":%d", phase, rank, track);
+    fprintf(file, ",\"ts\":%" PRIu64 ".%03u", at / 1000, (unsigned)(at % 1000));
 }
 
 static void write_slice(FILE *file, int rank, int track, const rank_event *event, uint64_t begin) {
@@ -99,7 +100,7 @@ static void write_slice(FILE *file, int rank, int track, const rank_event *event
 static void write_rank_event(FILE *file, int rank, const rank_event *event, int64_t shift) {
     int64_t moved = (int64_t)event->begin + shift;
     uint64_t at = moved > 0 ? (uint64_t)moved : 0; /* an offset is not exact */
-    unsigned from = event->kind == SENT_WORK ? (unsigned)rank : event->other, to = event->kind == SENT_WORK ? event->other : (unsigned)rank;
+    unsigned own = (unsigned)rank, from = event->kind == SENT_WORK ? own : event->other, to = from == own ? event->other : own;
     switch (event->kind) {
     case SEARCHED:
         write_slice(file, rank, 1, event, at);
@@ -165,8 +166,8 @@ static bool write_events(rank_events *events, wave_log *waves, const char *path,
         lost += head[2] > EVENTS_KEPT ? head[2] - EVENTS_KEPT : 0;
     }
     if (!file) return false;
-    fprintf(file, "\n],\n\"displayTimeUnit\":\"ns\",\"otherData\":{\"clock\":\"CLOCK_MONOTONIC of process 0\",\"processes\":%d,\"lost_events\":%" PRIu64 "}}\n",
-            processes, lost);
+    fprintf(file, "\n],\n\"displayTimeUnit\":\"ns\",\"otherData\":{\"clock\":\"CLOCK_MONOTONIC of process 0\",");
+    fprintf(file, "\"processes\":%d,\"lost_events\":%" PRIu64 "}}\n", processes, lost);
     bool is_written = !ferror(file);
     return fclose(file) == 0 && is_written;
 }

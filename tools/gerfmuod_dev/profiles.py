@@ -1,4 +1,4 @@
-"""Checks the trace events that gerfmuod_team_profile writes, of one run, and compares them with the run's trace."""
+"""Checks trace events with times: those that gerfmuod_team_profile writes, compared with the run's trace, and those of uts_mpi.c."""
 import collections
 import json
 import re
@@ -130,3 +130,38 @@ def faults(text, trace=""):
     checks = (order_faults, worker_faults, message_faults, wave_faults, task_faults)
     found = [fault for check in checks for fault in check(profile)]
     return [*found, *trace_faults(profile, trace)] if trace else found
+
+
+def wave_sum_faults(waves):
+    """Yields what is wrong with the sums of the waves at process 0: the last two, and only they, are all equal."""
+    sums = [(event["args"]["sent"], event["args"]["received"]) for event in waves]
+    equal = [place for place, pair in enumerate(zip(sums, sums[1:])) if len({*pair[0], *pair[1]}) == 1]
+    if equal != [len(sums) - 2]:
+        yield f"the sums of the waves at process 0 are {sums}"
+
+
+def process_faults(text, processes):
+    """Returns what is wrong with the events of a search over MPI with this number of processes, as lines; none if all is well."""
+    try:
+        events = json.loads(text)["traceEvents"]
+        slices = [event for event in events if event["ph"] == "X"]
+        waves = [[event for event in slices if event["tid"] == 2 and event["pid"] == rank] for rank in range(processes)]
+        numbers = [[event["args"]["wave"] for event in own] for own in waves]
+        known = sorted(event["pid"] for event in events if event["ph"] == "i")
+        sent, received = (sorted(event["id"] for event in events if event["ph"] == phase) for phase in "sf")
+        found = list(wave_sum_faults(waves[0]))
+    except (ValueError, KeyError, IndexError) as error:
+        return [f"not trace events: {error!r}"]
+    if any(own != list(range(1, len(waves[0]) + 1)) for own in numbers):
+        found.append(f"the waves at the processes are {numbers}")
+    if known != list(range(processes)):
+        found.append(f"the end is known at {known}")
+    if sent != received or len(set(sent)) < len(sent):
+        found.append(f"the messages sent are {sent}, received {received}")
+    ends = collections.Counter()
+    for event in slices:
+        track, begin = (event["pid"], event["tid"]), nanoseconds(event["ts"])
+        if not ends[track] <= begin:
+            found.append(f"{event} begins before the one before it ends")
+        ends[track] = begin + nanoseconds(event["dur"])
+    return found

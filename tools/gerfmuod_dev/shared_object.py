@@ -1,7 +1,7 @@
 """Adds the team to the library for other languages, and links the library as a shared object: libgerfmuod.so.0.
 
-The team is capi/gerfmuod_team.c. It is C over POSIX threads, and the only part of the library that no proof covers. The
-shared object has a soname, needs only the C library, and exports only the names gerfmuod_*.
+The team is capi/gerfmuod_team.c with gerfmuod_profile.h. It is C over POSIX threads, and the only part of the library that
+no proof covers. The shared object has a soname, needs only the C library, and exports only the names gerfmuod_*.
 """
 import os
 import re
@@ -13,6 +13,8 @@ from .repository import TOP
 
 HEADERS = [f"capi/{name}" for name in ("gerfmuod_dag.h", "gerfmuod_team.h", "gerfmuod.hpp", "gerfmuod.f90")]
 TEAM = "capi/gerfmuod_team.c"
+# part of the team: a header that no other file includes, and that is not installed
+PROFILE = "capi/gerfmuod_profile.h"
 VISIBLE = "capi/gerfmuod.map"
 SONAME = "libgerfmuod.so.0"
 COMPILE = ["-std=c11", "-Wall", "-Wextra", "-pedantic", "-Werror", "-O2", "-fPIC", "-pthread"]
