@@ -1,9 +1,9 @@
 /* gerfmuod_profile.h: the times of a team's run, a part of gerfmuod_team.c: what its threads record, and the texts about it.
  *
  * Each thread writes into a ring of its own, so recording takes no lock. A turn reads a clock when it begins, which ends the
- * body before it; when it finds no task; and when it ends. On x86-64 that clock is the processor's time stamp counter, if it
- * has one rate in all states, since reading CLOCK_MONOTONIC takes longer than all the rest. Its ticks become nanoseconds of
- * CLOCK_MONOTONIC by two readings of both. */
+ * body before it; when it finds no task; and when it ends. If the kernel derives CLOCK_MONOTONIC from the time stamp counter of
+ * x86-64, that clock is the counter itself, which is faster to read. Two readings of both, at the start of the run and when
+ * its texts are written, convert ticks to nanoseconds. */
 #ifndef GERFMUOD_PROFILE_H
 #define GERFMUOD_PROFILE_H
 #include "gerfmuod_dag.h"
@@ -12,10 +12,8 @@
 #include <stdbool.h>
 #include <stdio.h>
 #include <stdlib.h>
+#include <string.h>
 #include <time.h>
-#if defined(__x86_64__)
-#include <cpuid.h>
-#endif
 
 /* A team that does not record has to be as fast as without this file: what is rare is not inlined. */
 #define NOINLINE __attribute__((noinline))
@@ -29,15 +27,16 @@ struct slice {
 
 /* Of one thread. Only this thread writes it, and others read it after the run; `owner` alone is also read meanwhile. */
 struct ring {
-    const void *owner; /* the address of a variable of the thread */
-    uint64_t first, last; /* when its first turn began, and its newest time */
-    uint64_t begun;       /* when its body began, if one runs */
+    const void *owner;      /* the address of a variable of the thread; NULL until it claims the ring */
+    uint64_t first, last;   /* when its first turn began, or 0; its newest time */
+    uint64_t begun;         /* when its body began, if one runs */
     uint64_t bodies, waits; /* sums of ticks, also of slices that are lost */
-    uint64_t slices;        /* in all; the ring keeps the newest */
+    uint64_t slices;        /* the number of all; the ring keeps the newest */
+    uint32_t next;          /* the place of the next one */
     uint32_t running, node; /* the task whose body runs, or GERFMUOD_DAG_NONE */
-    uint32_t tasks, backwards; /* backwards: how often a time was before the one before it, which was taken instead */
-    uint32_t next;             /* the place of the next slice */
-    bool has_left;             /* a turn returned no task */
+    uint32_t tasks;         /* the number of bodies that ended */
+    uint32_t backwards;     /* how often the clock was before the last time, which was taken instead */
+    bool has_left;          /* a turn returned no task */
     struct slice kept[];
 };
 
@@ -50,23 +49,25 @@ struct edge {
     uint32_t source, target;
 };
 
+/* The same time by both clocks. */
 struct instant {
     uint64_t ticks, nanoseconds;
 };
 
 /* Of a team that records. */
 struct profile {
-    uint64_t run; /* another number for each run of each team; 0 before the first */
-    uint32_t most;             /* slices in a ring */
-    uint32_t threads, claimed; /* the number of rings, and of threads that asked for one in this run */
+    uint64_t run;         /* another number for each run of each team; 0 before the first */
+    uint32_t most;        /* the number of slices that a ring keeps */
+    uint32_t threads;     /* the number of rings */
+    uint32_t claimed;     /* the number of threads that asked for a ring in this run */
+    bool has_counter;     /* ticks are those of the time stamp counter; else they are nanoseconds */
     struct ring **rings;
     struct described *tasks;
-    struct edge *edges; /* by the numbers that the pool gives inputs, which are those of messages */
+    struct edge *edges;   /* in the order in which the pool numbers inputs, whose numbers are those of messages */
     size_t task_count, task_room, edge_count, edge_room;
     struct instant start;
-    uint64_t over; /* when the end was detected, or 0; by which wave */
-    uint32_t wave;
-    bool has_counter; /* ticks are those of the time stamp counter; else they are nanoseconds */
+    uint64_t over;        /* when the end was detected, or 0 */
+    uint32_t wave;        /* which wave detected it */
 };
 
 /* ---- clocks */
@@ -90,14 +91,15 @@ static inline uint64_t ticks_now(const struct profile *profile) {
     return nanoseconds_now();
 }
 
-/* Whether there is a time stamp counter with one rate in all states of all processors. */
+/* Whether the kernel relies on the time stamp counter: then it has one rate, and is the same on all processors. */
 static bool has_counter(void) {
-#if defined(__x86_64__) && !defined(GERFMUOD_PROFILE_TICKS)
-    unsigned a, b, c, d;
-    return __get_cpuid(0x80000007u, &a, &b, &c, &d) && (d >> 8 & 1);
-#else
-    return false;
+    char name[8] = "";
+#if defined(__x86_64__) && defined(__linux__) && !defined(GERFMUOD_PROFILE_TICKS)
+    FILE *file = fopen("/sys/devices/system/clocksource/clocksource0/current_clocksource", "r");
+    if (file && !fgets(name, sizeof name, file)) name[0] = 0;
+    if (file) fclose(file);
 #endif
+    return !strcmp(name, "tsc\n");
 }
 
 /* Reads both clocks at the same time: the attempt that took the least time counts. */
@@ -186,7 +188,7 @@ static bool profile_open_rings(struct profile *profile, uint32_t threads) {
 /* A run begins: its threads claim the rings anew. */
 static void profile_start(struct profile *profile) {
     static uint64_t runs;
-    for (size_t t = 0; t < profile->task_count; t++) profile->tasks[t].is_done = false;
+    for (size_t t = 0; profile->run && t < profile->task_count; t++) profile->tasks[t].is_done = false;
     profile->start = instant_now(profile);
     for (uint32_t w = 0; w < profile->threads; w++)
         *profile->rings[w] = (struct ring){.last = profile->start.ticks, .running = GERFMUOD_DAG_NONE};
@@ -285,9 +287,11 @@ static void profile_over(struct profile *profile, uint32_t wave) {
 
 /* The times of a run in nanoseconds since its start. */
 struct times {
-    double rate; /* nanoseconds of a tick */
-    uint64_t start, elapsed, critical; /* critical: the longest chain of bodies that wait for each other */
+    double rate;             /* nanoseconds of a tick */
+    uint64_t start, elapsed; /* start: by CLOCK_MONOTONIC */
+    uint64_t critical;       /* of the longest chain of bodies that wait for each other */
     uint64_t lost, backwards;
+    uint64_t unknown; /* the number of tasks that are done, and whose slices are lost or of a thread without a ring */
     struct timed {
         uint64_t begin, end; /* of the task's body, if its thread is known */
         uint64_t chain;      /* of the chain that ends with it */
@@ -338,6 +342,7 @@ static void find_chains(const struct profile *profile, struct times *times) {
             uint64_t before = times->tasks[profile->edges[edge].source].chain;
             if (before > task->chain) task->chain = before;
         }
+        times->unknown += profile->tasks[t].is_done && task->thread == GERFMUOD_DAG_NONE;
         task->chain += task->end - task->begin;
         if (task->chain > times->critical) times->critical = task->chain;
     }
@@ -412,10 +417,10 @@ static void write_waves(FILE *file, const struct profile *profile, const struct 
     }
 }
 
-/* What of a ring's time was neither bodies nor waiting: taking and reporting tasks, with the waiting for the lock. */
-static uint64_t runtime_of(const struct ring *ring) {
-    return ring->last - ring->first - ring->bodies - ring->waits;
-}
+/* The time of a thread in the run, and what of it was neither bodies nor waiting: taking and reporting tasks, and waiting for
+ * the lock. */
+static uint64_t time_of(const struct ring *ring) { return ring->first ? ring->last - ring->first : 0; }
+static uint64_t runtime_of(const struct ring *ring) { return time_of(ring) - ring->bodies - ring->waits; }
 
 static void write_worker(FILE *file, const struct profile *profile, const struct times *times, uint32_t thread) {
     const struct ring *ring = profile->rings[thread];
@@ -432,7 +437,7 @@ static void write_run(FILE *file, const struct profile *profile, const struct ti
     fprintf(file, "{\"displayTimeUnit\":\"ns\",\"otherData\":{\"clock\":\"CLOCK_MONOTONIC\",\"start_ns\":\"%" PRIu64 "\",\"tasks\":%zu",
             times->start, profile->task_count);
     write_time(file, "elapsed_us", times->elapsed);
-    if (!times->lost) write_time(file, "critical_path_us", times->critical);
+    if (!times->unknown) write_time(file, "critical_path_us", times->critical);
     fprintf(file, ",\"lost_slices\":%" PRIu64 ",\"clock_went_back\":%" PRIu64 ",\"workers\":[", times->lost, times->backwards);
     for (uint32_t w = 0; w < profile->threads; w++) write_worker(file, profile, times, w);
     fprintf(file, "]},\n\"traceEvents\":[\n{\"ph\":\"M\",\"pid\":1,\"name\":\"process_name\",\"args\":{\"name\":\"team\"}}");
@@ -456,7 +461,7 @@ static void profile_summarize(FILE *file, const struct profile *profile, const s
     fprintf(file, "thread    tasks    bodies   waiting   runtime\n");
     for (uint32_t w = 0; w < profile->threads; w++) {
         const struct ring *ring = profile->rings[w];
-        uint64_t all = ring->last - ring->first;
+        uint64_t all = time_of(ring);
         fprintf(file, "%6u %8u", (unsigned)w, (unsigned)ring->tasks);
         write_share(file, ring->bodies, all);
         write_share(file, ring->waits, all);
@@ -464,7 +469,7 @@ static void profile_summarize(FILE *file, const struct profile *profile, const s
         fprintf(file, "\n");
     }
     fprintf(file, "%.3f ms", (double)times->elapsed * 1e-6);
-    if (!times->lost) fprintf(file, ", of which the critical path takes %.3f ms", (double)times->critical * 1e-6);
+    if (!times->unknown) fprintf(file, ", of which the critical path takes %.3f ms", (double)times->critical * 1e-6);
     fprintf(file, "\n");
 }
 #endif

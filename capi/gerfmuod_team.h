@@ -122,8 +122,8 @@ uint32_t gerfmuod_team_profile(gerfmuod_team *team, FILE *file);
 
 /* Prints a line for each thread of the last run: the number of its tasks, and which shares of its time, since its first turn,
  * were bodies, waiting for a task, and the rest: taking and reporting tasks, and waiting for the lock. The last line has the
- * time of the run and, unless slices were lost, that of the critical path: the longest chain of bodies that wait for each other.
- * With any number of threads, a run takes at least as long. Refused as gerfmuod_team_profile is. */
+ * time of the run and, if the times of all bodies are known, that of the critical path: the longest chain of bodies that wait
+ * for each other. With any number of threads, a run of these bodies takes at least as long. Refused as gerfmuod_team_profile is. */
 uint32_t gerfmuod_team_summary(gerfmuod_team *team, FILE *file);
 
 /* ---- with your own threads, such as those of OpenMP or Python, instead of gerfmuod_team_run */
