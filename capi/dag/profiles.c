@@ -11,7 +11,7 @@
 #include <stdlib.h>
 #include <string.h>
 
-enum { TASKS = 100, MANY = 1000, NONE = 0 };
+enum { TASKS = 100, MANY = 1000 };
 
 static int checked, failed;
 
@@ -117,7 +117,12 @@ static void check_refusals(void) {
     free(text_of(own, gerfmuod_team_profile));
     check_refusal("record after a stop", gerfmuod_team_record(own, 9), GERFMUOD_TEAM_STOPPED);
     gerfmuod_team_close(own);
-    gerfmuod_team_close(team_with(1, NONE, 1));
+
+    team = team_with(1, 9, 0);
+    check_refusal("no more recording", gerfmuod_team_record(team, 0), GERFMUOD_DAG_OK);
+    check_refusal("run", gerfmuod_team_run(team, 1, nothing, NULL), GERFMUOD_DAG_OK);
+    check_refusal("profile of what was not recorded", gerfmuod_team_profile(team, stdout), GERFMUOD_DAG_WRONG_LIFE);
+    gerfmuod_team_close(team);
 }
 
 static void check_streams(void) {
@@ -138,11 +143,12 @@ static void check_streams(void) {
 static void check_full_ring(uint32_t kept) {
     gerfmuod_team *team = team_with(1, kept, TASKS);
     check_refusal("run", gerfmuod_team_run(team, 1, nothing, NULL), GERFMUOD_DAG_OK);
-    char *text = text_of(team, gerfmuod_team_profile), *summary = text_of(team, gerfmuod_team_summary), newest[32];
-    snprintf(newest, sizeof newest, "\"task %u\"", (unsigned)(TASKS - kept));
+    char *text = text_of(team, gerfmuod_team_profile), *summary = text_of(team, gerfmuod_team_summary), oldest[32];
+    const char *first = strstr(text, "\"name\":\"task ");
     uint64_t lost = TASKS - kept;
+    snprintf(oldest, sizeof oldest, "\"name\":\"task %u\"", (unsigned)lost);
     check("slices that are kept", count_of(text, "\"ph\":\"X\"") == (int)kept);
-    check("the first one", number_after(text, "\"ph\":\"X\"") != UINT64_MAX && strstr(text, newest));
+    check("the oldest of them", first && !strncmp(first, oldest, strlen(oldest)));
     check("the number of those lost", number_after(text, "\"lost_slices\":") == lost);
     check("all tasks are counted", strstr(text, "{\"thread\":0,\"tasks\":100,") != NULL);
     check("no critical path if some are lost", !strstr(text, "critical_path") == !!lost);

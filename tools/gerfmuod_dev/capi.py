@@ -16,7 +16,7 @@ import sys
 import tempfile
 from dataclasses import dataclass
 
-from . import library, mpi, repository
+from . import library, mpi, repository, shared_object
 from .c_programs import FAILURE, VALGRIND, WARNINGS, Run, check_sources, judge, output_of
 from .running import Tally
 
@@ -107,8 +107,9 @@ PROGRAMS = [
 
 
 def sources(language, _):
-    """Returns the paths of the headers of capi/, and of its programs in this language."""
-    return [f"capi/{name}" for name in sorted(os.listdir("capi")) if name.endswith((".h", ENDINGS[language]))]
+    """Returns the paths of the headers of capi/, without that of the team alone, and of its programs in this language."""
+    paths = [f"capi/{name}" for name in sorted(os.listdir("capi")) if name.endswith((".h", ENDINGS[language]))]
+    return [path for path in paths if path != shared_object.PROFILE]
 
 
 def compile_program(program, folder):
