@@ -1,8 +1,8 @@
 /* gerfmuod_team.c: a pool of gerfmuod_dag.h with a lock and threads that wait. C over pthreads, not proved.
  *
- * One mutex protects the pool and every field. A thread that finds no task first spins on a counter of its node, if there
- * is a processor for it, and then sleeps on a condition variable of its node. News of a node, from a task that is done or
- * from outside, raises its counter and wakes one of its threads. */
+ * One mutex protects the pool and every field; what a thread records of a run is its own (gerfmuod_profile.h). A thread that
+ * finds no task first spins on a counter of its node, if there is a processor for it, and then sleeps on a condition variable
+ * of its node. News of a node, from a task that is done or from outside, raises its counter and wakes one of its threads. */
 #ifndef _GNU_SOURCE
 #define _GNU_SOURCE /* sched_getaffinity */
 #endif
@@ -285,8 +285,10 @@ static inline ALWAYS_INLINE gerfmuod_dag_answer take(gerfmuod_team *team, uint32
             tell(team, answer.news, false);
             return answer;
         } else if (answer.told == GERFMUOD_DAG_OVER) {
-            if (!team->is_over && team->profile) profile_over(team->profile, answer.number);
-            if (!team->is_over) tell(team, ALL_NODES, true);
+            if (!team->is_over) {
+                if (team->profile) profile_over(team->profile, answer.number);
+                tell(team, ALL_NODES, true);
+            }
             team->is_over = true;
             return answer;
         }
