@@ -103,17 +103,17 @@ size_t gerfmuod_team_trace(gerfmuod_team *team, char *room, size_t length);
 /* ---- what a run spent its time on */
 
 /* Records each later run: when each body begins and ends and on which thread, and when threads wait. A thread writes into memory
- * of its own, without a lock, and keeps its newest `slices` bodies and waits, of 24 bytes each; a body that waits for nothing
- * costs one slice. 0 ends recording. The graph then takes 3 bytes more for a task and 8 for an input, and a run is also refused
- * as NO_MEMORY if there is none for its slices. Refused, and nothing changes: the reason that ends every turn; WRONG_LIFE if the
- * team has a task or was started; NO_MEMORY. */
+ * of its own, without a lock, and keeps its newest `slices` bodies and waits, of 24 bytes each. 0 ends recording. While a team
+ * records, its graph takes 3 bytes more for a task and 8 for an input, and a run is also refused as NO_MEMORY if there is no
+ * memory for the slices. Refused, and nothing changes: the reason that ends every turn; WRONG_LIFE if the team has a task or was
+ * started; NO_MEMORY. */
 uint32_t gerfmuod_team_record(gerfmuod_team *team, uint32_t slices);
 
-/* Writes the last run as trace events in JSON, which Perfetto, chrome://tracing and speedscope show as a timeline: a track for
+/* Writes the last run in Chrome's trace event format, JSON that Perfetto and chrome://tracing show as a timeline: a track for
  * each thread that was announced, with a slice for each body (its task, node and class) and for each wait; an arrow for each
  * message between nodes, from the body that sends it to the one that waits for it; and the waves, which run in the call that
  * detects the end. Times are microseconds since the run's start, which `otherData` has as `start_ns` of CLOCK_MONOTONIC. It also
- * has the numbers of gerfmuod_team_summary, `lost_slices`, the number of those that newer ones replaced, and `clock_went_back`:
+ * has the numbers of gerfmuod_team_summary; `lost_slices`, the number of those that newer ones replaced; and `clock_went_back`:
  * how often a thread read a time before its last one, which was taken instead, so that no duration is negative. No other thread
  * may be in a turn or a body. Refused: RUNNING if the run has not ended; WRONG_LIFE if no run was recorded, or if
  * gerfmuod_team_again was called since; NO_MEMORY, and nothing was written; NOT_WRITTEN if the stream fails, which may have
@@ -123,7 +123,7 @@ uint32_t gerfmuod_team_profile(gerfmuod_team *team, FILE *file);
 /* Prints a line for each thread of the last run: the number of its tasks, and which shares of its time, since its first turn,
  * were bodies, waiting for a task, and the rest: taking and reporting tasks, and waiting for the lock. The last line has the
  * time of the run and, if the times of all bodies are known, that of the critical path: the longest chain of bodies that wait
- * for each other. With any number of threads, a run of these bodies takes at least as long. Refused as gerfmuod_team_profile is. */
+ * for each other. With any number of threads, a run of these bodies takes at least as long. Refused as gerfmuod_team_profile. */
 uint32_t gerfmuod_team_summary(gerfmuod_team *team, FILE *file);
 
 /* ---- with your own threads, such as those of OpenMP or Python, instead of gerfmuod_team_run */
