@@ -181,17 +181,20 @@ def run_c(tally, build, is_full):
 
 
 def check_profiles(tally, folder):
-    """Counts whether each profile in a folder is well formed and that of the trace next to it, if there is one; removes it.
+    """Counts whether each profile in a folder is well formed and that of the trace next to it, if there is one.
 
-    Returns how many there were.
+    Removes the profiles, and returns how many there were. Of one with messages it also checks that faults are found.
     """
-    paths = sorted(f"{folder}/{name}" for name in os.listdir(folder) if name.endswith(".json"))
-    for path in paths:
-        trace = repository.text_of(path.replace(".json", ".trace"), "")
-        found = profiles.faults(repository.text_of(path), trace)
+    texts = {}
+    for path in sorted(f"{folder}/{name}" for name in os.listdir(folder) if name.endswith(".json")):
+        texts[path] = repository.text_of(path), repository.text_of(path.replace(".json", ".trace"), "")
+        found = profiles.faults(*texts[path])
         tally.judge(not found, f"{path}: {'; '.join(found)[:2000]}")
         os.remove(path)
-    return len(paths)
+    sample = next(((text, trace) for text, trace in texts.values() if '"ph":"s"' in text and " ended " in trace), None)
+    for number, text in enumerate(profiles.spoiled(sample[0]) if sample else ()):
+        tally.judge(profiles.faults(text, sample[1]), f"fault {number} of a profile was not found")
+    return len(texts)
 
 
 def run_profiles(tally, build, is_full):

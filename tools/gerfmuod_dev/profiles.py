@@ -132,6 +132,18 @@ def faults(text, trace=""):
     return [*found, *trace_faults(profile, trace)] if trace else found
 
 
+def spoiled(text):
+    """Yields a text with one fault each: an event of each kind that is not there, or comes twice, or a body that lasts longer."""
+    content = json.loads(text)
+    events = content["traceEvents"]
+    for phase in "Xsfi":
+        place = next(place for place, event in enumerate(events) if event["ph"] == phase and event["cat"] != "wait")
+        event = events[place]
+        changes = [[], [event, event], *([[{**event, "dur": event["dur"] + 1e6}]] if phase == "X" else [])]
+        for change in changes:
+            yield json.dumps({**content, "traceEvents": [*events[:place], *change, *events[place + 1 :]]})
+
+
 def wave_sum_faults(waves):
     """Yields what is wrong with the sums of the waves at process 0: the last two, and only they, are all equal."""
     sums = [(event["args"]["sent"], event["args"]["received"]) for event in waves]
