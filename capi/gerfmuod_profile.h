@@ -115,27 +115,32 @@ static struct instant instant_now(const struct profile *profile) {
 
 /* ---- the graph, while it is described */
 
-/* Returns an array with room for one more element, or NULL. `room` is its number of elements. */
-static void *grown(void *array, size_t *room, size_t count, size_t size) {
-    if (count < *room) return array;
+/* Returns an array of `room` elements with room for twice as many, or NULL. */
+static void *doubled(void *array, size_t *room, size_t size) {
     size_t more = *room ? 2 * *room : 256;
     void *moved = realloc(array, more * size);
     if (moved) *room = more;
     return moved;
 }
 
-/* Makes room for a task and its inputs. Returns whether there was memory for it. */
-static NOINLINE bool profile_reserve(struct profile *profile, size_t inputs) {
-    void *tasks = grown(profile->tasks, &profile->task_room, profile->task_count, sizeof *profile->tasks);
-    if (!tasks) return false;
-    profile->tasks = tasks;
-    if (!inputs) return true;
+static NOINLINE bool profile_grow(struct profile *profile, size_t inputs) {
+    while (profile->task_count >= profile->task_room) {
+        void *tasks = doubled(profile->tasks, &profile->task_room, sizeof *profile->tasks);
+        if (!tasks) return false;
+        profile->tasks = tasks;
+    }
     while (profile->edge_count + inputs > profile->edge_room) {
-        void *edges = grown(profile->edges, &profile->edge_room, profile->edge_room, sizeof *profile->edges);
+        void *edges = doubled(profile->edges, &profile->edge_room, sizeof *profile->edges);
         if (!edges) return false;
         profile->edges = edges;
     }
     return true;
+}
+
+/* Makes room for a task and its inputs. Returns whether there was memory for it. */
+static inline bool profile_reserve(struct profile *profile, size_t inputs) {
+    bool has_room = profile->task_count < profile->task_room && profile->edge_count + inputs <= profile->edge_room;
+    return has_room || profile_grow(profile, inputs);
 }
 
 /* A task was described. An input that is done already gets no number from the pool. */
@@ -205,11 +210,10 @@ static __thread struct {
     struct ring *ring;
 } here;
 
-/* Returns the ring that this thread has claimed in this run, or NULL. */
-static inline struct ring *profile_ring(struct profile *profile) {
-    if (here.run == profile->run) return here.ring;
+/* Returns the ring that this thread has claimed in this run, or NULL: a body may have used another team. */
+static NOINLINE struct ring *find_ring(struct profile *profile) {
     uint32_t claimed = __atomic_load_n(&profile->claimed, __ATOMIC_RELAXED);
-    for (uint32_t w = 0; w < claimed && w < profile->threads; w++) { /* a body has used another team */
+    for (uint32_t w = 0; w < claimed && w < profile->threads; w++) {
         struct ring *ring = profile->rings[w];
         if (__atomic_load_n(&ring->owner, __ATOMIC_RELAXED) != &here) continue;
         here.run = profile->run, here.ring = ring;
@@ -218,10 +222,10 @@ static inline struct ring *profile_ring(struct profile *profile) {
     return NULL;
 }
 
-/* Claims a ring for this thread, if it has none. Returns NULL if there are more threads than the start announced. */
-static inline struct ring *profile_claim(struct profile *profile) {
-    struct ring *ring = profile_ring(profile);
-    if (here.run == profile->run) return ring;
+/* The same, and claims a ring if it has none. Returns NULL if there are more threads than the start announced. */
+static NOINLINE struct ring *claim_ring(struct profile *profile) {
+    struct ring *ring = find_ring(profile);
+    if (ring) return ring;
     uint32_t claimed = __atomic_fetch_add(&profile->claimed, 1, __ATOMIC_RELAXED);
     if (claimed < profile->threads) ring = profile->rings[claimed];
     if (ring) __atomic_store_n(&ring->owner, &here, __ATOMIC_RELAXED);
@@ -244,7 +248,7 @@ static inline void ring_keep(const struct profile *profile, struct ring *ring, s
 
 /* The body of a task has ended in this thread. */
 static inline void profile_end_body(struct profile *profile, uint32_t task) {
-    struct ring *ring = profile_ring(profile);
+    struct ring *ring = here.run == profile->run ? here.ring : find_ring(profile);
     if (!ring || ring->running != task) return;
     uint64_t now = ring_time(profile, ring);
     ring->bodies += now - ring->begun;
@@ -260,7 +264,7 @@ struct turn {
 
 /* A turn ends, and returns a task or GERFMUOD_DAG_NONE. */
 static inline void profile_end_turn(struct profile *profile, uint32_t node, uint32_t task, struct turn turn) {
-    struct ring *ring = profile_claim(profile);
+    struct ring *ring = here.run == profile->run ? here.ring : claim_ring(profile);
     if (!ring || ring->has_left) return;
     bool is_first = !ring->first; /* it may have begun before the start */
     if (is_first) ring->first = ring->last = turn.begun > ring->last ? turn.begun : ring->last;
