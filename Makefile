@@ -41,7 +41,9 @@ lib: lib/libgerfmuod.a
 
 HEADERS := gerfmuod.h gerfmuod_tsan.h gerfmuod_process.h gerfmuod_dag.h gerfmuod_team.h gerfmuod.hpp gerfmuod.f90
 
-lib/libgerfmuod.a: $(SOURCES) crates.txt $(addprefix capi/,$(HEADERS) gerfmuod_calls.c gerfmuod_team.c gerfmuod.map gerfmuod.pc.in)
+PARTS := gerfmuod_calls.c gerfmuod_team.c gerfmuod_profile.h gerfmuod.map gerfmuod.pc.in
+
+lib/libgerfmuod.a: $(SOURCES) crates.txt $(addprefix capi/,$(HEADERS) $(PARTS))
 	@tools/dev lib
 
 demo:

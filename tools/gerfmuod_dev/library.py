@@ -31,7 +31,7 @@ def digest():
             parts = path.split("/")
             if not set(parts) & set(repository.NO_SOURCES) and path.endswith((".rt", ".antt")):
                 result.update(f"{path}\n{text_of(path)}".encode())
-    for path in [*HEADERS, *shared_object.PARTS, shared_object.VISIBLE]:
+    for path in [*HEADERS, *shared_object.PARTS, shared_object.PROFILE, shared_object.VISIBLE]:
         result.update(text_of(path).encode())
     return result.hexdigest()
 

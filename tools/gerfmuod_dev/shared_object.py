@@ -1,8 +1,8 @@
 """Adds the parts in C to the library for other languages, and links it as a shared object: libgerfmuod.so.0.
 
-The parts are capi/gerfmuod_calls.c, the symbols of the calls that are inline for C, and capi/gerfmuod_team.c, which is over
-POSIX threads. No proof covers them. The archive and the shared object define only names gerfmuod_* for others; the shared
-object has a soname and needs only the C library.
+The parts are capi/gerfmuod_calls.c, the symbols of the calls that are inline for C, and capi/gerfmuod_team.c with
+gerfmuod_profile.h, which is over POSIX threads. No proof covers them. The archive and the shared object define only names
+gerfmuod_* for others; the shared object has a soname and needs only the C library.
 """
 import fnmatch
 import os
@@ -20,6 +20,8 @@ TEAM = "capi/gerfmuod_team.c"
 PARTS = {CALLS: "gerfmuod_insert", TEAM: "gerfmuod_team_open"}
 # what an archive defines for programs that are linked with it
 PUBLIC = "gerfmuod_*"
+# part of the team: a header that no other file includes, and that is not installed
+PROFILE = "capi/gerfmuod_profile.h"
 VISIBLE = "capi/gerfmuod.map"
 SONAME = "libgerfmuod.so.0"
 COMPILE = ["-std=c11", "-Wall", "-Wextra", "-pedantic", "-Werror", "-O2", "-fPIC", "-pthread"]
