@@ -48,6 +48,7 @@ demo:
 
 test:
 	@tools/dev try
+	@tools/dev pages
 	@tools/dev capi
 	@tools/dev dag
 	@tools/dev package

@@ -3,8 +3,8 @@
 Has the program write 40 random runs as events. A JSON parser reads them: each task, message and wave of the trace has to
 be in them once, and they have to be those of a second writer (trace_events.py). If Chromium is installed
 (`tools/page-packages` prints the package), opens the page of a run of 100,000 events in it, zooms, moves, searches, and holds
-the pointer over a task, a message and a wave, in light and dark colours; the page has to report no error. The last line
-is `N passed, M failed`; the status is 1 if one failed.
+the pointer over a task, a message and a wave, in light and dark colours, and opens the pages of the short runs; none may
+report an error. The last line is `N passed, M failed`; the status is 1 if one failed.
 """
 import collections
 import io
@@ -20,17 +20,20 @@ from .limits.random_texts import random_steps, sound_trace
 from .trace_events import events_of
 
 RUNS = 40
-PAGE = "page"
+PAGE, EMPTY = "page", "trace 1\nnodes 1\n"
 DATA = re.compile(r'(<script type="application/json" id="events">\n).*?(</script>)', re.S)
 LINES = 100_000
 
 
 def traces():
-    """Returns the traces of random runs by their names; two of them do not end."""
+    """Returns the traces of random runs by their names: half of them quickly end and are reopened, half are busy and cut off."""
     generator, found = random.Random(7), {}
-    for number in range(RUNS):
+    for number in range(RUNS // 2):
         version, nodes = generator.choice([1, 2]), generator.choice([1, 2, 3, 5, 8])
-        found[f"run-{number:02}"] = sound_trace(version, nodes, random_steps(generator, version, nodes, generator.randrange(20, 300)))
+        found[f"short-{number:02}"] = sound_trace(version, nodes, random_steps(generator, version, nodes, generator.randrange(20, 300)))
+        writer = inputs.Writer(generator, True)
+        inputs.busy(writer, generator.randrange(100, 600))
+        found[f"busy-{number:02}"] = "".join(f"{line}\n" for line in writer.lines)
     return found
 
 
@@ -39,7 +42,7 @@ def written(texts):
     with tempfile.TemporaryDirectory() as cases:
         forms = {**dict.fromkeys(texts, "events"), PAGE: "html"}
         for name, form in forms.items():
-            running.write(f"{cases}/{name}", texts.get(name, "trace 1\nnodes 1\n"))
+            running.write(f"{cases}/{name}", texts.get(name, EMPTY))
             running.write(f"{cases}/{name}.args", ["draw", "run", "--format", form])
         output, _ = tries.rt_try("samples", "--seconds", tries.SECONDS, "--cases", cases)
     found = dict(re.findall(r"^== (\S+)\n(.*?)^case=\1 run=ended status=0", output, re.M | re.S))
@@ -168,16 +171,26 @@ def texts_of(trace):
     yield f"wave {wave}", f"wave {wave}: {sent:,} sent, {received:,} received\nended at {end:,}"
 
 
-def check_page(tally, page):
-    text = io.StringIO()
-    inputs.write_all_steps(text, LINES, True)
-    trace, events = text.getvalue(), events_of(text.getvalue())
-    with tempfile.NamedTemporaryFile("w", suffix=".html") as file, Browser() as browser:
-        file.write(DATA.sub(lambda found: found[1] + json.dumps(events) + "\n" + found[2], page))
+def open_page(browser, page, trace):
+    """Opens the page of a trace: a page with its events as the second writer writes them."""
+    with tempfile.NamedTemporaryFile("w", suffix=".html") as file:
+        data = json.dumps(events_of(trace))
+        file.write(DATA.sub(lambda found: f"{found[1]}{data}\n{found[2]}", page))
         file.flush()
         browser.open(file.name)
+
+
+def check_page(tally, page, texts):
+    text = io.StringIO()
+    inputs.write_all_steps(text, LINES, True)
+    trace = text.getvalue()
+    with Browser() as browser:
+        for short in (EMPTY, *texts):
+            open_page(browser, page, short)
+        open_page(browser, page, trace)
         reader = Reader(tally, browser)
-        reader.zooms(len(trace.splitlines()) - 2)
+        events = len(trace.splitlines()) - 2
+        reader.zooms(events)
         for query, expected in texts_of(trace):
             reader.finds(query, expected)
         browser.key("0")
@@ -186,7 +199,7 @@ def check_page(tally, page):
         tally.judge(browser.screenshot() != light, "the page: it looks alike in light and dark colours")
         milliseconds = browser.value("(began => (draw(), performance.now() - began))(performance.now())")
         tally.judge(not browser.errors, f"the page reports {browser.errors}")
-    print(f"the page of {events['otherData']['events']:,} events: tried in Chromium, which drew all of it in {milliseconds:.0f} ms")
+    print(f"the page of {events:,} events: tried in Chromium, which drew all of it in {milliseconds:.0f} ms")
 
 
 def arguments(parser):
@@ -203,7 +216,7 @@ def run(options):
     if not program():
         print("Chromium is missing (tools/page-packages prints the package): the page was not tried.")
     elif PAGE in outputs:
-        check_page(tally, outputs[PAGE])
+        check_page(tally, outputs[PAGE], texts.values())
     else:
         tally.fails("the program wrote no page")
     return tally.end()

@@ -33,7 +33,7 @@ impl fmt::Display for Head {
             category,
             number,
         } = *self;
-        // (viewers take process 0 and thread 0 for an idle processor)
+        // (both are numbered from 1)
         let (process, thread) = (u64::from(node.0) + 1, u64::from(track) + 1);
         let at = number_of(event);
         f.write_str(",\n")?;

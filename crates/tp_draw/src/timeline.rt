@@ -1,5 +1,7 @@
 //! A run as a page of its own: a timeline on a canvas, which the reader can zoom, and the trace events as its data.
 
+ghost use Rattle.std.specs.Prelude.{◌≤◌};
+
 use crate::events::events_of;
 use std::alloc::Global;
 use tp_base::{Refusal, Step};
