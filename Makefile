@@ -51,6 +51,7 @@ demo:
 
 test:
 	@tools/dev try
+	@tools/dev pages
 	@tools/dev capi
 	@tools/dev dag
 	@tools/dev package
