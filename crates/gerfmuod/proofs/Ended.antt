@@ -1,8 +1,8 @@
 -- Safety of the results: if a call says that the pool had terminated, it had.
-use Rattle.std.proofs.Common.{ℕ, ◌≡◌, ◌+◌, ◌-◌, ◌≤◌, ◌++◌, List, [], ◌∷◌, Option, Some}
+use Rattle.std.proofs.Common.{ℕ, ◌≡◌, ◌+◌, ◌-◌, ◌≤◌, ◌++◌, Bool, true, false, inl, inr, List, [], ◌∷◌, Option, Some}
 use Rattle.std.proofs.Common.{None, Result, length, refl, sym, ap, subst, ◌∙◌, arith}
-use Rattle.std.specs.Prelude.{Ok, Err}
-use Rattle.std.proofs.lemmas.Bool.{lt-leb}
+use Rattle.std.specs.Prelude.{Ok, Err, IsFalse, IsTrue, ◌&&◌, ◌↔◌, if◌then◌else◌}
+use Rattle.std.proofs.lemmas.Bool.{cases_Bool, lt-leb}
 use Rattle.tp_base.specs.declared.Refusal.{Refusal}
 use Rattle.tp_base.specs.declared.Refusal.TheVariants.{HistoryFull}
 use Rattle.tp_base.specs.declared.Step.{Step}
@@ -11,15 +11,19 @@ use Rattle.tp_wave.specs.Generations.{present}
 use Rattle.tp_wave.specs.Sums.{judgement, until, visit, waves, visited_at}
 use Rattle.tp_core.specs.declared.Reply.{Reply}
 use Rattle.tp_core.specs.declared.Reply.TheVariants.{Plain, WaveSums, Not, Over, Opened}
-use Rattle.tp_core.specs.Accepted.{Accepted, judged, reply_to, with_step}
+use Rattle.tp_core.specs.Accepted.{Accepted, Answers, judged, reply_to, with_step, world_of}
 use Rattle.tp_core.specs.Generations.{InEach}
 use Rattle.tp_core.specs.NeverEarly.{IsNeverEarly, IsOverFrom}
 use Rattle.tp_core.specs.Settled.{Settles}
+use Rattle.tp_core.specs.World.{is_quiet, IsQuiet}
+use Rattle.tp_core.proofs.Ending.{same_quiet}
 use Rattle.tp_core.proofs.Generations.{present-control}
 use Rattle.tp_text.proofs.TracedEnds.{judged_wave}
 use Rattle.gerfmuod.specs.Asked.{settled, unsettled}
 use Rattle.gerfmuod.specs.Pool.{IsOver, TellsNoEarlyEnd}
-use Rattle.gerfmuod.specs.Told.{told, reply_told, refusal_told, AnswersTo}
+use Rattle.gerfmuod.specs.Room.{is_full}
+use Rattle.gerfmuod.specs.Told.{is_ending_if, leaves_nothing, plain, told, reply_told, refusal_told, AnswersInRoom, AnswersTo, IsTold}
+use Rattle.gerfmuod.specs.declared.answer.Answer.{Answer}
 
 -- ---- another wave followed the one that is named, so `Judge` does not move its end
 until_judge : (w : ℕ) (past : List Step) → w + 1 ≤ waves past → until w (Judge ∷ past) ≡ until w past
@@ -60,14 +64,56 @@ over_after old new s w e n never =
     subst (λ (a : Accepted). InEach (IsNeverEarly a.nodes) a.steps → IsOver a w) (sym now)
     (λ each. over_at_judge old.nodes w (present old.steps) (each [] (Judge ∷ old.steps) refl) j.1) never
 
+-- the result of a step, if it says that the pool had terminated
+told_three : (left : Bool) (reply : Reply) → (if left then plain 0 5 0 else reply_told reply).told ≡ 3
+    → reply ≡ Over (if left then plain 0 5 0 else reply_told reply).number
+told_three true reply e = cc
+told_three false reply e = reply_over reply e
+
+-- ---- a step that was taken
+full_is_refused : (old : Accepted) (s : Step) (reply : Reply) (new : Accepted) → AnswersInRoom old s (Ok reply) new → IsFalse (is_full old)
+full_is_refused old s reply new a = elim (cases_Bool (is_full old)) [ inl e ↦ let none = (a.full e).0 in cc | inr e ↦ e ]
+
+answered_in_room : (old : Accepted) (s : Step) (reply : Reply) (new : Accepted) → AnswersInRoom old s (Ok reply) new
+    → Answers old s (Ok reply) new
+answered_in_room old s reply new a = a.taken (full_is_refused old s reply new a)
+
 pub told_over : (old new : Accepted) (o : Option Step) (r : Result Reply Refusal) → AnswersTo old o r new
     → InEach (IsNeverEarly new.nodes) new.steps
-    → TellsNoEarlyEnd ((told r).told ≡ 3) (told r).number new
+    → TellsNoEarlyEnd ((told o r new).told ≡ 3) (told o r new).number new
 told_over old new (Some s) (Ok reply) a never =
-    record { ended = λ e. over_after old new s (told (Ok reply)).number (sym a.1 ∙ reply_over reply e) a.2 never; never_early = never }
+    record {
+      ended = λ e.
+          let there = answered_in_room old s reply new a in
+          over_after old new s (told (Some s) (Ok reply) new).number
+          (sym there.1 ∙ told_three (leaves_nothing (Some s) new) reply e) there.2 never;
+      never_early = never;
+    }
 told_over old new (Some s) (Err r) a never = record { ended = λ e. let none = refusal_tells r in cc; never_early = never }
 told_over old new None (Ok reply) a never = record { ended = λ e. let none = a.0 in cc; never_early = never }
 told_over old new None (Err r) a never = record { ended = λ e. let none = refusal_tells r in cc; never_early = never }
+
+-- The result of a step that was taken.
+pub told_as : (old new : Accepted) (o : Option Step) (reply : Reply) (u : Answer) → AnswersTo old o (Ok reply) new
+    → InEach (IsNeverEarly new.nodes) new.steps → u ≡ told o (Ok reply) new
+    → IsTold old o u new × TellsNoEarlyEnd (u.told ≡ 3) u.number new
+told_as old new o reply u a never is = (
+  (Ok reply, a, is),
+  subst (λ (x : Answer). TellsNoEarlyEnd (x.told ≡ 3) x.number new) (sym is) (told_over old new o (Ok reply) a never),
+)
+
+left_behind : (ends : Bool) (quiet : Bool) → IsFalse quiet → IsFalse (ends && quiet)
+left_behind true quiet e = e
+left_behind false quiet e = refl
+
+-- A step after which something is left.
+pub told_plain : (old new : Accepted) (o : Option Step) (quiet : Bool) → AnswersTo old o (Ok Plain) new
+    → InEach (IsNeverEarly new.nodes) new.steps → IsTrue quiet ↔ IsQuiet (world_of new) → IsFalse quiet
+    → IsTold old o (plain 0 0 0) new × TellsNoEarlyEnd ((plain 0 0 0).told ≡ 3) (plain 0 0 0).number new
+told_plain old new o quiet a never shown e =
+    let none : IsFalse (leaves_nothing o new) =
+    left_behind (is_ending_if o) (is_quiet (world_of new)) (same_quiet quiet (world_of new) shown ∙ e) in
+    told_as old new o Plain (plain 0 0 0) a never (rw none refl)
 
 -- ---- the same for `settle`
 unsettled_tells : (r : Refusal) → (unsettled r).refused ≡ 0 → ⊥

@@ -2,6 +2,8 @@
 pub mod DagAnswers
 pub mod Ended
 pub mod Kept
+pub mod Made
 pub mod Recording
+pub mod Room
 pub mod Traced
 pub mod Walks

@@ -1,6 +1,5 @@
 -- The results of the calls that read the counters of a core or settle it.
-use Rattle.std.specs.Prelude.{ℕ, ◌≡◌, ◌+◌, ◌↔◌, IsTrue, length, nat_lt, if◌then◌else◌, Result, Ok, Err}
-use Rattle.tp_base.specs.declared.limits.TheConstants.{MAX_STEPS}
+use Rattle.std.specs.Prelude.{ℕ, ◌≡◌, ◌↔◌, IsTrue, length, nat_lt, if◌then◌else◌, Result, Ok, Err}
 use Rattle.tp_base.specs.Refusals.{number_of}
 use Rattle.tp_base.specs.declared.Refusal.{Refusal}
 use Rattle.tp_base.specs.declared.Refusal.TheVariants.{NoNode, HistoryFull}
@@ -8,6 +7,7 @@ use Rattle.tp_core.specs.declared.numbers.NodeNumbers.{NodeNumbers}
 use Rattle.tp_core.specs.Accepted.{Accepted, numbers_at, no_numbers, world_of}
 use Rattle.tp_core.specs.Settled.{Settles}
 use Rattle.tp_core.specs.World.{IsQuiet}
+use Rattle.gerfmuod.specs.Room.{room_of}
 use Rattle.gerfmuod.specs.declared.answer.Counters.{Counters}
 use Rattle.gerfmuod.specs.declared.answer.Settled.{Settled}
 use Rattle.gerfmuod.specs.declared.answer.Whole.{Whole}
@@ -19,11 +19,11 @@ counters refused n = record { refused = refused; pending = n.pending; sent = n.s
 abbrev pub counters_at : ℕ → Accepted → Counters
 counters_at i a = if nat_lt i a.nodes then counters 0 (numbers_at i a) else counters (number_of NoNode) no_numbers
 
--- The pool as a whole: the steps that were taken, the steps that can still be taken, the messages under way, and
+-- The pool as a whole: the steps that were taken, the steps that can still be reported, the messages under way, and
 -- whether it is quiet.
 pub record IsWhole (a : Accepted) (answer : Whole) : Type 0 where
   pub steps : answer.steps ≡ length a.steps
-  pub room : answer.steps + answer.room ≡ MAX_STEPS
+  pub room : answer.room ≡ room_of a
   pub under_way : answer.under_way ≡ length (world_of a).messages
   pub quiet : IsTrue answer.quiet ↔ IsQuiet (world_of a)
 

@@ -1,12 +1,16 @@
 -- The files of this folder.
 pub mod Asked
+pub mod Calls
+pub mod CoreSlot
 pub mod Dag
 pub mod DagSlot
 pub mod Events
 pub mod Homes
+pub mod Makers
 pub mod Meanings
-pub mod Opened
 pub mod Pool
+pub mod Room
+pub mod Slot
 pub mod Told
 pub mod Wire
 pub mod Written

@@ -1,19 +1,22 @@
 -- The invariant of a `CoreRoom`, and the safety property of the calls on it.
-use Rattle.std.specs.Prelude.{ℕ, ◌≡◌, ◌≤◌, length}
+use Rattle.std.specs.Prelude.{ℕ, ◌≡◌, ◌≤◌, ◌+◌, ◌-◌, ◌*◌, IsFalse, length}
 use Rattle.tp_base.specs.declared.limits.TheConstants.{MAX_NODES, MAX_STEPS}
 use Rattle.tp_core.specs.Accepted.{Accepted}
 use Rattle.tp_core.specs.Generations.{AreRuns, InEach}
 use Rattle.tp_core.specs.NeverEarly.{IsNeverEarly, IsOverFrom}
-use Rattle.tp_wave.specs.Sums.{visited_at}
+use Rattle.tp_wave.specs.Sums.{is_ended, visited_at}
 use Rattle.tp_wave.specs.Generations.{present}
 use Rattle.gerfmuod.specs.declared.pool.CoreRoom.TheInside.{Inside}
 
--- The number of nodes is the core's, and in each generation the core's steps are a run.
+-- The number of nodes and the limit are the core's, and in each generation the core's steps are a run. Until termination is
+-- detected, there is room for 9 steps for each node.
 pub record IsKept (p : Inside) : Type 0 where
   pub nodes : p.nodes ≡ p.core.nodes
   pub some_node : 1 ≤ p.nodes
   pub few_nodes : p.nodes ≤ MAX_NODES
+  pub limit : p.limit ≡ MAX_STEPS - 9 * p.nodes
   pub within : length p.core.steps ≤ MAX_STEPS
+  pub room : IsFalse (is_ended p.core.nodes (present p.core.steps)) → length p.core.steps + 9 * p.core.nodes ≤ MAX_STEPS
   pub runs : AreRuns p.core.nodes p.core.steps
 
 -- The pool was quiet from the end of wave w on, and each task of the present generation had run once by then.

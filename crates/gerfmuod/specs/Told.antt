@@ -1,13 +1,16 @@
 -- The result of a step.
-use Rattle.std.specs.Prelude.{ℕ, ◌≡◌, Result, Ok, Err, Option, Some, None}
+use Rattle.std.specs.Prelude.{ℕ, ◌≡◌, ◌&&◌, Bool, true, false, IsTrue, IsFalse, length, if◌then◌else◌, Result, Ok, Err, Option, Some, None}
 use Rattle.tp_base.specs.Refusals.{number_of}
 use Rattle.tp_base.specs.declared.Refusal.{Refusal}
 use Rattle.tp_base.specs.declared.Refusal.TheVariants.{HistoryFull, BadSpec}
 use Rattle.tp_base.specs.declared.Step.{Step}
-use Rattle.tp_core.specs.Accepted.{Accepted, Answers}
+use Rattle.tp_base.specs.declared.Step.TheVariants.{Done, ActionClose, Ready, MessageEnd}
+use Rattle.tp_core.specs.Accepted.{Accepted, Answers, world_of}
+use Rattle.tp_core.specs.World.{is_quiet}
 use Rattle.tp_core.specs.declared.Reply.{Reply}
 use Rattle.tp_core.specs.declared.Reply.TheVariants.{Plain, WaveSums, Not, Over, Opened}
 use Rattle.gerfmuod.specs.Events.{step_asked}
+use Rattle.gerfmuod.specs.Room.{is_full}
 use Rattle.gerfmuod.specs.declared.event.Event.{Event}
 use Rattle.gerfmuod.specs.declared.answer.Answer.{Answer}
 
@@ -26,18 +29,38 @@ abbrev pub refusal_told : Refusal → Answer
 refusal_told (HistoryFull n) = plain 16 0 n
 refusal_told r = plain (number_of r) 0 0
 
-abbrev pub told : Result Reply Refusal → Answer
-told (Ok reply) = reply_told reply
-told (Err r) = refusal_told r
+-- The step ends something: a task, an action, the opening of a node or a message.
+abbrev pub is_ending : Step → Bool
+is_ending (Done t) = true
+is_ending (ActionClose i a) = true
+is_ending (Ready i) = true
+is_ending (MessageEnd i m g) = true
+is_ending _ = false
 
--- If there is no step, the call is refused and nothing changes; else it returns what the core returns.
+abbrev pub is_ending_if : Option Step → Bool
+is_ending_if None = false
+is_ending_if (Some s) = is_ending s
+
+-- The step ended something, and nothing is left after it.
+abbrev pub leaves_nothing : Option Step → Accepted → Bool
+leaves_nothing o new = is_ending_if o && is_quiet (world_of new)
+
+-- the result of a step after which the core has accepted the new steps
+abbrev pub told : Option Step → Result Reply Refusal → Accepted → Answer
+told o (Ok reply) new = if leaves_nothing o new then plain 0 5 0 else reply_told reply
+told o (Err r) new = refusal_told r
+
+-- If there is no room for the step, it is refused with the number of steps that were taken, and nothing changes. Else the
+-- core's result is returned.
+pub record AnswersInRoom (old : Accepted) (s : Step) (r : Result Reply Refusal) (new : Accepted) : Type 0 where
+  pub full : IsTrue (is_full old) → (r ≡ Err (HistoryFull (length old.steps))) × (new ≡ old)
+  pub taken : IsFalse (is_full old) → Answers old s r new
+
+-- If there is no step, the call is refused and nothing changes.
 abbrev pub AnswersTo : Accepted → Option Step → Result Reply Refusal → Accepted → Type 0
 AnswersTo old None r new = (r ≡ Err BadSpec) × (new ≡ old)
-AnswersTo old (Some s) r new = Answers old s r new
+AnswersTo old (Some s) r new = AnswersInRoom old s r new
 
 -- The result of a step, or of no step, on a core that accepted the old steps, and the core after it.
 abbrev pub IsTold : Accepted → Option Step → Answer → Accepted → Type 0
-IsTold old o answer new = (r : Result Reply Refusal) × AnswersTo old o r new × (answer ≡ told r)
-
-abbrev pub IsToldOf : Accepted → Event → Answer → Accepted → Type 0
-IsToldOf old e answer new = IsTold old (step_asked e) answer new
+IsTold old o answer new = (r : Result Reply Refusal) × AnswersTo old o r new × (answer ≡ told o r new)

@@ -1,7 +1,5 @@
 -- The results of writing a text to a buffer.
-use Rattle.std.specs.Prelude.{ℕ, ◌≡◌, ◌<◌, ◌≤◌, ◌++◌, ◌⊎◌, List, drop, length}
-use Rattle.tp_base.specs.declared.Refusal.{Refusal}
-use Rattle.tp_base.specs.Refusals.{number_of, name_of}
+use Rattle.std.specs.Prelude.{ℕ, ◌≡◌, ◌<◌, ◌≤◌, ◌++◌, ◌⊎◌, List, IsFalse, drop, length}
 use Rattle.tp_core.specs.Accepted.{Accepted}
 use Rattle.tp_text.specs.declared.input.TheConstants.{MAX_TEXT}
 use Rattle.tp_text.specs.declared.verdict.Verdict.{Verdict}
@@ -9,7 +7,8 @@ use Rattle.tp_text.specs.declared.verdict.Verdict.TheVariants.{Sound, Refused}
 use Rattle.tp_text.specs.AuditText.{IsAuditText}
 use Rattle.tp_text.specs.TraceOf.{IsTraceOf, CanBeTraced}
 use Rattle.gerfmuod.specs.declared.answer.Written.{Written}
-use Rattle.gerfmuod.specs.Meanings.{meaning_of}
+use Rattle.gerfmuod.specs.Meanings.{cause_meaning, cause_name, cause_number, is_refusal}
+use Rattle.gerfmuod.specs.declared.names.Cause.{Cause}
 
 -- The text is at the start of the buffer, and the rest of the buffer is unchanged; if the text does not fit, nothing is
 -- written. The result has the length of the text in both cases.
@@ -42,18 +41,14 @@ IsTraced a old answer new =
     ⊎ (((¬ CanBeTraced a.steps) × IsUnwritten 5 old answer new)
     ⊎ IsUnwritten 3 old answer new)
 
--- no refusal has this number
-abbrev pub HasNoRefusal : ℕ → Type 0
-HasNoRefusal number = (number ≡ 0) ⊎ (26 < number)
-
 -- The text of the refusal of this number is written, or there is no such refusal.
-abbrev pub Tells : (Refusal → List ℕ) → ℕ → List ℕ → Written → List ℕ → Type 0
+abbrev pub Tells : (Cause → List ℕ) → ℕ → List ℕ → Written → List ℕ → Type 0
 Tells said number old answer new =
-    ((r : Refusal) × (number_of r ≡ number) × IsPut (said r) 0 old answer new)
-    ⊎ (HasNoRefusal number × IsUnwritten 5 old answer new)
+    ((c : Cause) × (cause_number c ≡ number) × IsPut (said c) 0 old answer new)
+    ⊎ (IsFalse (is_refusal number) × IsUnwritten 5 old answer new)
 
 abbrev pub IsNamed : ℕ → List ℕ → Written → List ℕ → Type 0
-IsNamed = Tells name_of
+IsNamed = Tells cause_name
 
 abbrev pub IsExplained : ℕ → List ℕ → Written → List ℕ → Type 0
-IsExplained = Tells meaning_of
+IsExplained = Tells cause_meaning

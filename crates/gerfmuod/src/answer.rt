@@ -7,7 +7,8 @@ pub struct Answer {
     /// 0: the step was taken. Else the number of its refusal, and nothing changed.
     pub refused: u16,
     /// What a step that was taken showed: 0, nothing more; 1, a wave ended; 2, its sums do not show termination; 3, the
-    /// pool had terminated; 4, it was reopened. 0 if the step was refused.
+    /// pool had terminated; 4, it was reopened; 5, it ended a task, an action, an opening or a message, and the pool is
+    /// quiet after it. 0 if the step was refused.
     pub told: u16,
     /// If `told` is 1 or 3, the number of the wave; if it is 4, the number of the generation that begins; at refusal 16
     /// the number of steps that were taken. Else 0.
@@ -22,7 +23,7 @@ pub struct Answer {
 #[repr(C)]
 #[derive(Clone, Copy, Debug, PartialEq, Eq)]
 pub struct Counters {
-    /// 0, or 1, `NoNode`, if there is no such node: all counters are then 0.
+    /// 0; or 1, `NoNode`, if there is no such node; or 24, `NoPool`, if the core is not open: all counters are then 0.
     pub refused: u32,
     /// The number of tasks there that are not done, plus the number of actions that are open there.
     pub pending: u32,
@@ -32,13 +33,13 @@ pub struct Counters {
     pub received: u32,
 }
 
-/// The pool as a whole.
+/// The pool as a whole. If the core is not open, all numbers are 0, and it is not quiet.
 #[repr(C)]
 #[derive(Clone, Copy, Debug, PartialEq, Eq)]
 pub struct Whole {
     /// The number of steps that were taken, of all generations.
     pub steps: u32,
-    /// The number of steps that can still be taken.
+    /// The number of steps that can still be reported: 9 for each node are kept for settling.
     pub room: u32,
     /// The number of messages under way: sent and not received.
     pub under_way: u32,
@@ -54,7 +55,7 @@ pub struct Settled {
     pub refused: u32,
     /// The number of the wave by whose end the pool had terminated; 0 if the call was refused.
     pub wave: u32,
-    /// The number of steps that were taken; at refusal 16 the number that were taken before. Else 0.
+    /// The number of steps that were taken; 0 if the call was refused.
     pub steps: u32,
 }
 

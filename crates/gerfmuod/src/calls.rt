@@ -1,17 +1,22 @@
 //! The calls on a core, as C gets their results.
-ghost use Rattle.std.specs.Prelude.{◌≡◌};
-ghost use Rattle.gerfmuod.specs.Asked.{counters_at, unsettled, IsSettled, IsWhole};
+ghost use Rattle.std.specs.Prelude.{◌≡◌, Ok};
+ghost use Rattle.tp_base.specs.Refusals.{number_of};
+ghost use Rattle.tp_core.specs.Accepted.{no_numbers};
+ghost use Rattle.gerfmuod.specs.Asked.{counters, unsettled};
+ghost use Rattle.gerfmuod.specs.Calls.{IsByCall, IsClosed, IsNumbersCall, IsRestartCall, IsSettleCall, IsStepCall, IsWholeCall};
 ghost use Rattle.gerfmuod.specs.Events.{event_of};
-ghost use Rattle.gerfmuod.specs.Opened.{can_be, opened, opening};
+ghost use Rattle.gerfmuod.specs.Makers.{IsMade};
 ghost use Rattle.gerfmuod.specs.Pool.{TellsNoEarlyEnd};
-ghost use Rattle.gerfmuod.specs.Told.{reply_told, refusal_told, IsTold, IsToldOf};
+ghost use Rattle.gerfmuod.specs.Slot.{can_be, opened, opening};
+ghost use Rattle.gerfmuod.specs.Told.{is_ending_if, leaves_nothing, refusal_told, reply_told, told as result_of, IsTold};
 
 use crate::answer::{Answer, Counters, Settled, Whole};
-use crate::event::{Event, step_of};
+use crate::event::{Event, made_step, maker_of, step_of};
 use crate::pool::CoreRoom;
+use crate::slot::CoreSlot;
 use std::alloc::Global;
-use tp_base::{MAX_NODES, MAX_STEPS, Refusal, Step};
-use tp_core::Reply;
+use tp_base::{MAX_NODES, Refusal, Step};
+use tp_core::{Maker, Reply};
 
 /// Returns whether a pool can have this number of nodes.
 fn can_be(nodes: u32) -> bool
@@ -20,12 +25,15 @@ fn can_be(nodes: u32) -> bool
     1 <= nodes && nodes <= MAX_NODES
 }
 
-/// Returns a new pool of this number of nodes, or of one node if there cannot be so many.
-pub(crate) fn made(alloc: Global, nodes: u32) -> CoreRoom
+/// Returns a new core of this number of nodes; it is not open if there cannot be so many.
+pub(crate) fn made(alloc: Global, nodes: u32) -> CoreSlot
     ensures { result ≡ opened nodes }
 {
-    let nodes = if can_be(nodes) { nodes } else { 1 };
-    CoreRoom::new(alloc, nodes)
+    if can_be(nodes) {
+        CoreSlot::new(alloc, nodes, true)
+    } else {
+        CoreSlot::new(alloc, 1, false)
+    }
 }
 
 /// Returns 0, or the number of `BadSpec` if a pool cannot have this number of nodes.
@@ -47,9 +55,13 @@ const PLAIN: Answer = Answer {
     received: 0,
 };
 
-#[cold]
-#[inline(never)]
-fn of_reply(reply: Reply) -> Answer
+/// The result of a step that ended something and left nothing.
+const QUIET: Answer = Answer { told: 5, ..PLAIN };
+
+/// The refusal of a step whose maker may not make it.
+const NO_MAKER: u16 = 29;
+
+fn plain_reply(reply: Reply) -> Answer
     ensures { result ≡ reply_told reply }
 {
     match reply {
@@ -91,17 +103,55 @@ fn of_refusal(refusal: Refusal) -> Answer
     }
 }
 
+/// Returns whether the step ends something.
+fn is_ending(step: Option<Step>) -> bool
+    ensures { result ≡ is_ending_if step }
+{
+    match step {
+        Some(Step::Done(_))
+        | Some(Step::ActionClose(_, _))
+        | Some(Step::Ready(_))
+        | Some(Step::MessageEnd(_, _, _)) => true,
+        _ => false,
+    }
+}
+
+/// Returns whether the step that was taken ended something, and nothing is left.
+fn leaves_nothing(room: &CoreRoom, step: Option<Step>) -> bool
+    ensures { result ≡ leaves_nothing step room.now }
+{
+    room.core().quiet() && is_ending(step)
+}
+
+/// Returns the result of a step that was taken.
+#[cold]
+#[inline(never)]
+fn of_reply(room: &CoreRoom, step: Option<Step>, reply: Reply) -> Answer
+    ensures { result ≡ result_of step (Ok reply) room.now }
+{
+    if leaves_nothing(room, step) {
+        QUIET
+    } else {
+        plain_reply(reply)
+    }
+}
+
 /// Takes the next step if there is one, and returns the result for C.
 #[inline(always)]
 #[tactic(auto, using(crate::proofs::Ended::told_over))]
-fn told(pool: &mut CoreRoom, step: Option<Step>) -> Answer
-    ensures { IsTold pool.old step result pool.new
-        × TellsNoEarlyEnd (result.told ≡ 3) result.number pool.new }
+fn told(room: &mut CoreRoom, step: Option<Step>) -> Answer
+    ensures { IsTold room.old step result room.new × TellsNoEarlyEnd (result.told ≡ 3) result.number room.new }
 {
-    match pool.take(step) {
+    match room.take(step) {
         // the case of most steps
-        Ok(Reply::Plain) => PLAIN,
-        Ok(reply) => of_reply(reply),
+        Ok(Reply::Plain) => {
+            if room.core().quiet() {
+                of_reply(room, step, Reply::Plain)
+            } else {
+                PLAIN
+            }
+        }
+        Ok(reply) => of_reply(room, step, reply),
         Err(refusal) => of_refusal(refusal),
     }
 }
@@ -109,16 +159,18 @@ fn told(pool: &mut CoreRoom, step: Option<Step>) -> Answer
 /// Takes the next step, given by the number of its kind and its arguments.
 #[inline(always)]
 pub(crate) fn answered(
-    pool: &mut CoreRoom,
+    slot: &mut CoreSlot,
     kind: u32,
     first: u32,
     second: u32,
     third: u32,
     generation: u32,
 ) -> Answer
-    ensures { IsToldOf pool.old (event_of kind first second third generation) result pool.new
-        × TellsNoEarlyEnd (result.told ≡ 3) result.number pool.new }
+    ensures { IsStepCall (event_of kind first second third generation) slot.old result slot.new }
 {
+    if !slot.is_open() {
+        return of_refusal(Refusal::NoPool);
+    }
     let event = Event {
         kind,
         first,
@@ -126,22 +178,68 @@ pub(crate) fn answered(
         third,
         generation,
     };
-    told(pool, step_of(event))
+    told(&mut slot.room, step_of(event))
+}
+
+/// Takes the next step if its maker may make it.
+#[inline(always)]
+fn told_by(room: &mut CoreRoom, maker: Option<Maker>, step: Option<Step>) -> Answer
+    ensures { IsMade room.old maker step result room.new × TellsNoEarlyEnd (result.told ≡ 3) result.number room.new }
+{
+    let (Some(maker), Some(made)) = (maker, step) else {
+        return told(room, None);
+    };
+    if !room.is_maker(maker, made) {
+        return Answer {
+            refused: NO_MAKER,
+            ..PLAIN
+        };
+    }
+    told(room, step)
+}
+
+/// Takes the next step if its maker may make it, both given by numbers.
+#[inline(always)]
+pub(crate) fn answered_by(
+    slot: &mut CoreSlot,
+    maker_kind: u32,
+    maker: u32,
+    kind: u32,
+    first: u32,
+    second: u32,
+    third: u32,
+    generation: u32,
+) -> Answer
+    ensures { IsByCall maker_kind maker (event_of kind first second third generation) slot.old result slot.new }
+{
+    if !slot.is_open() {
+        return of_refusal(Refusal::NoPool);
+    }
+    let event = Event {
+        kind,
+        first,
+        second,
+        third,
+        generation,
+    };
+    told_by(
+        &mut slot.room,
+        maker_of(maker_kind, maker),
+        made_step(event),
+    )
 }
 
 /// Returns the counters of a node.
-pub(crate) fn counted(pool: &mut CoreRoom, node: u32) -> Counters
-    ensures { (pool.new ≡ pool.old) × (result ≡ counters_at node pool.old) }
+pub(crate) fn counted(slot: &mut CoreSlot, node: u32) -> Counters
+    ensures { IsNumbersCall node slot.old result slot.new }
 {
-    if node >= pool.nodes() {
-        return Counters {
-            refused: u32::from(Refusal::NoNode.number()),
-            pending: 0,
-            sent: 0,
-            received: 0,
-        };
+    if !slot.is_open() {
+        return uncounted(Refusal::NoPool);
     }
-    let own = pool.core().numbers().nodes[node as usize];
+    if node >= slot.room.nodes() {
+        return uncounted(Refusal::NoNode);
+    }
+    let own = slot.room.core().numbers().nodes[node as usize];
     Counters {
         refused: 0,
         pending: own.pending,
@@ -150,25 +248,47 @@ pub(crate) fn counted(pool: &mut CoreRoom, node: u32) -> Counters
     }
 }
 
-/// Returns the counters of the pool as a whole.
-pub(crate) fn seen(pool: &mut CoreRoom) -> Whole
-    ensures { (pool.new ≡ pool.old) × IsWhole pool.old result }
+fn uncounted(refusal: Refusal) -> Counters
+    ensures { result ≡ counters (number_of refusal) no_numbers }
 {
-    let steps = pool.steps().len() as u32;
+    Counters {
+        refused: u32::from(refusal.number()),
+        pending: 0,
+        sent: 0,
+        received: 0,
+    }
+}
+
+/// Returns the counters of the pool as a whole; nothing if the core is not open.
+pub(crate) fn seen(slot: &mut CoreSlot) -> Whole
+    ensures { IsWholeCall slot.old result slot.new }
+{
+    if !slot.is_open() {
+        return Whole {
+            steps: 0,
+            room: 0,
+            under_way: 0,
+            quiet: false,
+        };
+    }
+    let room = &slot.room;
     Whole {
-        steps,
-        room: MAX_STEPS - steps,
-        under_way: pool.core().numbers().under,
-        quiet: pool.core().quiet(),
+        steps: room.steps().len() as u32,
+        room: room.room(),
+        under_way: room.core().numbers().under,
+        quiet: room.core().quiet(),
     }
 }
 
 /// Takes control steps until termination is detected, if the pool is quiet.
 #[tactic(auto, using(crate::proofs::Ended::settled_over))]
-pub(crate) fn settled(pool: &mut CoreRoom) -> Settled
-    ensures { IsSettled pool.old result pool.new × TellsNoEarlyEnd (result.refused ≡ 0) result.wave pool.new }
+pub(crate) fn settled(slot: &mut CoreSlot) -> Settled
+    ensures { IsSettleCall slot.old result slot.new }
 {
-    match pool.settle() {
+    if !slot.is_open() {
+        return unsettled(Refusal::NoPool);
+    }
+    match slot.room.settle() {
         Ok((wave, steps)) => Settled {
             refused: 0,
             wave,
@@ -189,5 +309,28 @@ fn unsettled(refusal: Refusal) -> Settled
         refused: u32::from(refusal.number()),
         wave: 0,
         steps,
+    }
+}
+
+/// Begins anew with no steps, if termination was detected.
+pub(crate) fn restarted(slot: &mut CoreSlot) -> u32
+    ensures { IsRestartCall slot.old result slot.new }
+{
+    if !slot.is_open() {
+        return u32::from(Refusal::NoPool.number());
+    }
+    if !slot.room.core().is_ended() {
+        return u32::from(Refusal::WrongLife.number());
+    }
+    slot.restart();
+    0
+}
+
+/// Closes the core if it is open.
+pub(crate) fn close(slot: &mut CoreSlot)
+    ensures { IsClosed slot.old slot.new }
+{
+    if slot.is_open() {
+        slot.close();
     }
 }

@@ -1,8 +1,10 @@
-//! The steps as C passes them: the number of a kind and four arguments.
+//! The steps and their makers as C passes them: the number of a kind and the numbers of what it names.
 ghost use Rattle.std.specs.Prelude.{◌≡◌};
 ghost use Rattle.gerfmuod.specs.Events.{insert_asked, other_step, step_asked, task_step};
+ghost use Rattle.gerfmuod.specs.Makers.{made_step, maker_asked};
 
 use tp_base::{ActionId, Generation, Inputs, MAX_INPUTS, MessageId, NodeId, Step, TaskId};
+use tp_core::Maker;
 
 /// A step as C passes it: the number of its kind, 0 to 15, and its arguments. Arguments that a kind does not have are
 /// ignored.
@@ -88,5 +90,32 @@ fn insert_step(home: u32, task: u32, inputs: u32) -> Option<Step>
     match Inputs::new(inputs as u8) {
         Some(inputs) => Some(Step::Insert(NodeId(home), TaskId(task), inputs)),
         None => None,
+    }
+}
+
+/// Returns the step if it is one that has a maker: a step of a task, opening an action or sending a message.
+#[inline(always)]
+pub(crate) fn made_step(event: Event) -> Option<Step>
+    ensures { result ≡ made_step event }
+{
+    if event.kind <= 4 || event.kind == 7 {
+        step_of(event)
+    } else {
+        None
+    }
+}
+
+/// Returns the maker of a kind, 0 to 4, and a number; or `None` if there is no such kind.
+#[inline(always)]
+pub(crate) fn maker_of(kind: u32, number: u32) -> Option<Maker>
+    ensures { result ≡ maker_asked kind number }
+{
+    match kind {
+        0 => Some(Maker::Task(TaskId(number))),
+        1 => Some(Maker::Action(ActionId(number))),
+        2 => Some(Maker::Message(MessageId(number))),
+        3 => Some(Maker::Opening),
+        4 => Some(Maker::Thread(NodeId(number))),
+        _ => None,
     }
 }

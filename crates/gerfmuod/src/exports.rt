@@ -2,19 +2,18 @@
 ghost use Rattle.std.specs.Prelude.{◌≡◌, ◌≤◌};
 ghost use Rattle.std.specs.Borrow.{full_share, sem};
 ghost use Rattle.std.specs.Ptr.{lies_at, room_at};
-ghost use Rattle.tp_core.specs.Accepted.{Accepted};
-ghost use Rattle.gerfmuod.specs.contracts.pool.CoreRoom.{the_row as core_row};
-ghost use Rattle.gerfmuod.specs.Asked.{counters_at, IsSettled, IsWhole};
+ghost use Rattle.gerfmuod.specs.contracts.slot.CoreSlot.{the_row as slot_row};
+ghost use Rattle.gerfmuod.specs.Calls.{IsByCall, IsClosed, IsNumbersCall, IsRestartCall, IsSettleCall, IsStepCall, IsTraceCall};
+ghost use Rattle.gerfmuod.specs.Calls.{IsWholeCall};
 ghost use Rattle.gerfmuod.specs.Events.{event_of};
-ghost use Rattle.gerfmuod.specs.Opened.{opened, opening};
-ghost use Rattle.gerfmuod.specs.Pool.{TellsNoEarlyEnd};
-ghost use Rattle.gerfmuod.specs.Told.{IsToldOf};
-ghost use Rattle.gerfmuod.specs.Written.{IsTraced};
+ghost use Rattle.gerfmuod.specs.Slot.{CoreState, opened, opening};
 
 use crate::answer::{Answer, Counters, Settled, Whole, Written};
-use crate::calls::{answered, counted, made, opening, seen, settled};
+use crate::calls::{
+    answered, answered_by, close, counted, made, opening, restarted, seen, settled,
+};
 use crate::history::traced;
-use crate::pool::CoreRoom;
+use crate::slot::CoreSlot;
 use std::alloc::Global;
 
 /// The version of the library, 0.1.0: 10,000 x major + 100 x minor + patch.
@@ -33,24 +32,28 @@ pub extern "C" fn gerfmuod_version() -> u32
 pub extern "C" fn gerfmuod_core_size() -> usize
     ensures { result ≤ 512 }
 {
-    size_of::<CoreRoom>()
+    size_of::<CoreSlot>()
 }
 
 /// Opens a core of 1 to 8 nodes in the memory at `core`. It allocates nothing. Returns 0, or 26, `BadSpec`, if `nodes`
-/// is not 1 to 8: the core is then open and has one node.
+/// is not 1 to 8: then the core is not open.
 #[unsafe(no_mangle)]
 pub unsafe extern "C" fn gerfmuod_open(alloc: Global, core: *mut u8, nodes: u32) -> u32
-    requires* { sem 𝓛 (room_at core_row core) }
-    ensures* { sem 𝓛 (lies_at core_row full_share core (opened nodes)) ∗ ⌜ result ≡ opening nodes ⌝ }
+    requires* { sem 𝓛 (room_at slot_row core) }
+    ensures* { sem 𝓛 (lies_at slot_row full_share core (opened nodes)) ∗ ⌜ result ≡ opening nodes ⌝ }
 {
     let made = made(alloc, nodes);
-    (core as *mut CoreRoom).write(made);
+    (core as *mut CoreSlot).write(made);
     opening(nodes)
 }
 
-/// Takes the next step if it is lawful and there is room for it. A refused step changes nothing: it is refused as
-/// `BadSpec` if there is no such step, else for the first check that fails, as in `Core::step`. If the result says that
-/// the pool had terminated with a wave (`told` is 3), the pool was quiet when that wave ended.
+/// Takes the next step if it is lawful and there is room for it. `told` in the result is 5 if the step ended a task, an
+/// action, the opening of a node or a message, and the pool is quiet after it. If it is 3, the pool had terminated with a
+/// wave: it was quiet when that wave ended.
+///
+/// Refused, and nothing changes: `NoPool` if the core is not open; `BadSpec` if there is no such step; `HistoryFull`, with
+/// the number of steps that were taken, if fewer than 9 steps for each node would be left, which `gerfmuod_settle` may
+/// need; then for the first check that fails, as in `Core::step`.
 #[unsafe(no_mangle)]
 pub unsafe extern "C" fn gerfmuod_step(
     core: *mut u8,
@@ -60,14 +63,13 @@ pub unsafe extern "C" fn gerfmuod_step(
     third: u32,
     generation: u32,
 ) -> Answer
-    ghost old: { Accepted }
-    requires* { sem 𝓛 (lies_at core_row full_share core old) }
-    ensures* { ∃ₛ (λ (new : Accepted). sem 𝓛 (lies_at core_row full_share core new)
-        ∗ ⌜ IsToldOf old (event_of kind first second third generation) result new
-        × TellsNoEarlyEnd (result.told ≡ 3) result.number new ⌝) }
+    ghost old: { CoreState }
+    requires* { sem 𝓛 (lies_at slot_row full_share core old) }
+    ensures* { ∃ₛ (λ (new : CoreState). sem 𝓛 (lies_at slot_row full_share core new)
+        ∗ ⌜ IsStepCall (event_of kind first second third generation) old result new ⌝) }
 {
     answered(
-        &mut *(core as *mut CoreRoom),
+        &mut *(core as *mut CoreSlot),
         kind,
         first,
         second,
@@ -76,63 +78,110 @@ pub unsafe extern "C" fn gerfmuod_step(
     )
 }
 
-/// Returns the counters of a node, or refusal 1, `NoNode`, if there is no such node.
+/// Takes the next step as `gerfmuod_step` does, if its maker may make it: at the node of the step, a running task
+/// (`maker_kind` 0), an open action (1), a message that was received and has not ended (2) or the opening of the node (3)
+/// may insert a task, supply one, open an action, send a message, and begin or finish a task; a thread of node `maker` (4)
+/// may begin and finish tasks. The node of a step is the home of the task that is supplied, begun or finished, or the node
+/// that inserts, opens or sends.
+///
+/// Refused, and nothing changes: `NoPool` if the core is not open; `BadSpec` if there is no such step or maker, or the
+/// step has none (kinds 5, 6 and 8 to 15); 29, `NoMaker`, if the maker does not run or is not open at the node of the
+/// step, or that node or task does not exist; then as `gerfmuod_step` is.
+#[unsafe(no_mangle)]
+pub unsafe extern "C" fn gerfmuod_step_by(
+    core: *mut u8,
+    maker_kind: u32,
+    maker: u32,
+    kind: u32,
+    first: u32,
+    second: u32,
+    third: u32,
+    generation: u32,
+) -> Answer
+    ghost old: { CoreState }
+    requires* { sem 𝓛 (lies_at slot_row full_share core old) }
+    ensures* { ∃ₛ (λ (new : CoreState). sem 𝓛 (lies_at slot_row full_share core new)
+        ∗ ⌜ IsByCall maker_kind maker (event_of kind first second third generation) old result new ⌝) }
+{
+    answered_by(
+        &mut *(core as *mut CoreSlot),
+        maker_kind,
+        maker,
+        kind,
+        first,
+        second,
+        third,
+        generation,
+    )
+}
+
+/// Returns the counters of a node. Refused: `NoPool` if the core is not open; `NoNode` if there is no such node.
 #[unsafe(no_mangle)]
 pub unsafe extern "C" fn gerfmuod_numbers(core: *mut u8, node: u32) -> Counters
-    ghost old: { Accepted }
-    requires* { sem 𝓛 (lies_at core_row full_share core old) }
-    ensures* { ∃ₛ (λ (new : Accepted). sem 𝓛 (lies_at core_row full_share core new)
-        ∗ ⌜ (new ≡ old) × (result ≡ counters_at node old) ⌝) }
+    ghost old: { CoreState }
+    requires* { sem 𝓛 (lies_at slot_row full_share core old) }
+    ensures* { ∃ₛ (λ (new : CoreState). sem 𝓛 (lies_at slot_row full_share core new)
+        ∗ ⌜ IsNumbersCall node old result new ⌝) }
 {
-    counted(&mut *(core as *mut CoreRoom), node)
+    counted(&mut *(core as *mut CoreSlot), node)
 }
 
-/// Returns the counters of the pool as a whole: the steps that were taken, the steps that can still be taken, the
-/// messages under way, and whether the pool is quiet.
+/// Returns the counters of the pool as a whole: the steps that were taken, the steps that can still be reported, the
+/// messages under way, and whether the pool is quiet. If the core is not open, all are 0 and it is not quiet.
 #[unsafe(no_mangle)]
 pub unsafe extern "C" fn gerfmuod_whole(core: *mut u8) -> Whole
-    ghost old: { Accepted }
-    requires* { sem 𝓛 (lies_at core_row full_share core old) }
-    ensures* { ∃ₛ (λ (new : Accepted). sem 𝓛 (lies_at core_row full_share core new)
-        ∗ ⌜ (new ≡ old) × IsWhole old result ⌝) }
+    ghost old: { CoreState }
+    requires* { sem 𝓛 (lies_at slot_row full_share core old) }
+    ensures* { ∃ₛ (λ (new : CoreState). sem 𝓛 (lies_at slot_row full_share core new)
+        ∗ ⌜ IsWholeCall old result new ⌝) }
 {
-    seen(&mut *(core as *mut CoreRoom))
+    seen(&mut *(core as *mut CoreSlot))
 }
 
-/// Takes control steps until termination is detected, if the pool is quiet. It is refused as `Core::settle` is.
+/// Takes control steps until termination is detected, if the pool is quiet. Refused: `NoPool` if the core is not open;
+/// then as `Core::settle` is, but never as `HistoryFull`: there is always room.
 #[unsafe(no_mangle)]
 pub unsafe extern "C" fn gerfmuod_settle(core: *mut u8) -> Settled
-    ghost old: { Accepted }
-    requires* { sem 𝓛 (lies_at core_row full_share core old) }
-    ensures* { ∃ₛ (λ (new : Accepted). sem 𝓛 (lies_at core_row full_share core new)
-        ∗ ⌜ IsSettled old result new × TellsNoEarlyEnd (result.refused ≡ 0) result.wave new ⌝) }
+    ghost old: { CoreState }
+    requires* { sem 𝓛 (lies_at slot_row full_share core old) }
+    ensures* { ∃ₛ (λ (new : CoreState). sem 𝓛 (lies_at slot_row full_share core new)
+        ∗ ⌜ IsSettleCall old result new ⌝) }
 {
-    settled(&mut *(core as *mut CoreRoom))
+    settled(&mut *(core as *mut CoreSlot))
 }
 
-/// Writes the trace of the steps that were taken to the start of the buffer `room`. `tp audit` and `gerfmuod_audit`
-/// judge it.
+/// Writes the trace of the steps that were taken to the start of the buffer `room`; outcome 5 if the core is not open.
+/// `tp audit` and `gerfmuod_audit` judge it.
 #[unsafe(no_mangle)]
 pub unsafe extern "C" fn gerfmuod_trace(alloc: Global, core: *mut u8, room: &mut [u8]) -> Written
-    ghost old: { Accepted }
-    requires* { sem 𝓛 (lies_at core_row full_share core old) }
-    ensures* { ∃ₛ (λ (new : Accepted). sem 𝓛 (lies_at core_row full_share core new)
-        ∗ ⌜ (new ≡ old) × IsTraced old room.old result room.new ⌝) }
+    ghost old: { CoreState }
+    requires* { sem 𝓛 (lies_at slot_row full_share core old) }
+    ensures* { ∃ₛ (λ (new : CoreState). sem 𝓛 (lies_at slot_row full_share core new)
+        ∗ ⌜ IsTraceCall room.old old (result, room.new) new ⌝) }
 {
-    traced(alloc, &mut *(core as *mut CoreRoom), room)
+    traced(alloc, &mut *(core as *mut CoreSlot), room)
 }
 
-fn end(pool: CoreRoom) {
-    drop(pool)
+/// Begins anew with the same nodes and no steps, and frees the memory of the steps that were taken. Returns 0, or why the
+/// call was refused, and nothing changes: 24, `NoPool`, if the core is not open; 5, `WrongLife`, if termination of the
+/// present generation was not detected.
+#[unsafe(no_mangle)]
+pub unsafe extern "C" fn gerfmuod_restart(core: *mut u8) -> u32
+    ghost old: { CoreState }
+    requires* { sem 𝓛 (lies_at slot_row full_share core old) }
+    ensures* { ∃ₛ (λ (new : CoreState). sem 𝓛 (lies_at slot_row full_share core new)
+        ∗ ⌜ IsRestartCall old result new ⌝) }
+{
+    restarted(&mut *(core as *mut CoreSlot))
 }
 
-/// Frees the memory that the core has allocated. A core can be opened in the memory at `core` again.
+/// Frees the memory that the core has allocated. After that the core is not open. A core that is not open does not
+/// change, so closing it twice does nothing.
 #[unsafe(no_mangle)]
 pub unsafe extern "C" fn gerfmuod_close(core: *mut u8)
-    ghost old: { Accepted }
-    requires* { sem 𝓛 (lies_at core_row full_share core old) }
-    ensures* { sem 𝓛 (room_at core_row core) }
+    ghost old: { CoreState }
+    requires* { sem 𝓛 (lies_at slot_row full_share core old) }
+    ensures* { ∃ₛ (λ (new : CoreState). sem 𝓛 (lies_at slot_row full_share core new) ∗ ⌜ IsClosed old new ⌝) }
 {
-    let ended = (core as *mut CoreRoom).read();
-    end(ended)
+    close(&mut *(core as *mut CoreSlot))
 }

@@ -7,11 +7,12 @@ ghost use Rattle.tp_wave.specs.Generations.{present};
 ghost use Rattle.tp_core.specs.Generations.{AreRuns, history_after};
 ghost use Rattle.tp_core.specs.Run.{node_of, world};
 ghost use Rattle.tp_text.specs.TraceOf.{IsTraceOf, CanBeTraced};
+ghost use Rattle.gerfmuod.specs.Calls.{IsTraceCall};
 ghost use Rattle.gerfmuod.specs.Homes.{tasks_after, HasHomes, IsSmall};
-ghost use Rattle.gerfmuod.specs.Written.{IsTraced};
 
 use crate::answer::Written;
 use crate::pool::CoreRoom;
+use crate::slot::CoreSlot;
 use crate::text::{NO_MEMORY, NO_TEXT, WRITTEN, put, unwritten};
 use std::alloc::{AllocError, Global};
 use tp_base::{History, NodeId, Refusal, Step, Table};
@@ -105,11 +106,15 @@ fn trace(alloc: Global, pool: &CoreRoom) -> Result<Vec<u8>, Refusal>
     print_trace(alloc, &history, pool.nodes())
 }
 
-/// Writes the trace of the steps that a pool has taken to the start of the buffer `room`.
-pub(crate) fn traced(alloc: Global, pool: &mut CoreRoom, room: &mut [u8]) -> Written
-    ensures { (pool.new ≡ pool.old) × IsTraced pool.old room.old result room.new }
+/// Writes the trace of the steps that a core has taken to the start of the buffer `room`; there is none if the core is
+/// not open.
+pub(crate) fn traced(alloc: Global, slot: &mut CoreSlot, room: &mut [u8]) -> Written
+    ensures { IsTraceCall room.old slot.old (result, room.new) slot.new }
 {
-    match trace(alloc, pool) {
+    if !slot.is_open() {
+        return unwritten(NO_TEXT);
+    }
+    match trace(alloc, &slot.room) {
         Ok(text) => put(room, &text, WRITTEN),
         Err(Refusal::BadSpec) => unwritten(NO_TEXT),
         Err(_) => unwritten(NO_MEMORY),

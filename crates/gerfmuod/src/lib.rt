@@ -12,5 +12,6 @@ mod history;
 mod names;
 mod pool;
 mod process;
+mod slot;
 mod text;
 mod wire;

@@ -1,16 +1,54 @@
 //! The names and meanings of refusals, as texts for C.
-ghost use Rattle.std.specs.Prelude.{◌≡◌, MatchOption};
-ghost use Rattle.tp_base.specs.Refusals.{number_of};
-ghost use Rattle.gerfmuod.specs.Meanings.{meaning_of};
-ghost use Rattle.gerfmuod.specs.Written.{HasNoRefusal, IsExplained, IsNamed};
+ghost use Rattle.std.specs.Prelude.{◌≡◌, ◌⊎◌, ◌<◌, IsFalse, MatchOption, Some};
+ghost use Rattle.tp_base.specs.Refusals.{number_of as refusal_number};
+ghost use Rattle.gerfmuod.specs.Meanings.{cause_meaning, cause_name, cause_number, is_refusal, meaning_of, process_name};
+ghost use Rattle.gerfmuod.specs.Wire.{refused_as};
+ghost use Rattle.gerfmuod.specs.Written.{IsExplained, IsNamed};
 
 use crate::answer::Written;
+use crate::process::{meaning as process_meaning, number_of};
 use crate::text::{NO_TEXT, WRITTEN, put, unwritten};
 use tp_base::Refusal;
+use tp_process::Refusal as ProcessRefusal;
 
-/// Returns the refusal of this number, if it is 1 to 26.
+/// Why a call of the library was refused.
+#[derive(Clone, Copy, Debug, PartialEq, Eq)]
+enum Cause {
+    /// A refusal of a call on a core or on a pool of task graphs: 1 to 26.
+    Pool(Refusal),
+    /// The maker of a step does not run or is not open at the node of the step: 29.
+    NoMaker,
+    /// A refusal of a call on a process: 101 to 108.
+    Process(ProcessRefusal),
+    /// There is no such control message: 109.
+    Malformed,
+}
+
+/// Returns the refusal of this number, if there is one.
+fn cause_of(number: u32) -> Option<Cause>
+    ensures { MatchOption result (IsFalse (is_refusal number)) (λ c. cause_number c ≡ number) }
+{
+    Some(match number {
+        29 => Cause::NoMaker,
+        101 => Cause::Process(ProcessRefusal::Inactive),
+        102 => Cause::Process(ProcessRefusal::Full),
+        103 => Cause::Process(ProcessRefusal::NotDue),
+        104 => Cause::Process(ProcessRefusal::NotYet),
+        105 => Cause::Process(ProcessRefusal::Late),
+        106 => Cause::Process(ProcessRefusal::NotEnded),
+        107 => Cause::Process(ProcessRefusal::NotOpen),
+        108 => Cause::Process(ProcessRefusal::NoProcess),
+        109 => Cause::Malformed,
+        _ => return match refusal_of(number) {
+            Some(refusal) => Some(Cause::Pool(refusal)),
+            None => None,
+        },
+    })
+}
+
+/// Returns the refusal of this number of a core or a pool, if it is 1 to 26.
 fn refusal_of(number: u32) -> Option<Refusal>
-    ensures { MatchOption result (HasNoRefusal number) (λ refusal. number_of refusal ≡ number) }
+    ensures { MatchOption result ((number ≡ 0) ⊎ (26 < number)) (λ refusal. refusal_number refusal ≡ number) }
 {
     Some(match number {
         1 => Refusal::NoNode,
@@ -43,7 +81,7 @@ fn refusal_of(number: u32) -> Option<Refusal>
     })
 }
 
-/// Returns the meaning of a refusal, if a call on a core can return it.
+/// Returns the meaning of a refusal, if a call on a core or on a pool of task graphs can return it.
 fn meaning(refusal: Refusal) -> &'static str
     ensures { result.now ≡ meaning_of refusal }
 {
@@ -68,18 +106,57 @@ fn meaning(refusal: Refusal) -> &'static str
         Refusal::HistoryFull(_) => "there is no room for more steps",
         Refusal::NoMemory => "an allocation failed",
         Refusal::Stranger => "the message is of another generation",
-        Refusal::BadSpec => "there is no such step, or there cannot be so many nodes",
+        Refusal::NoPool => "the core or the pool is not open",
+        Refusal::BadSpec => "there is no such step or maker, or there cannot be so many nodes",
         _ => "no call of this library returns it",
     }
 }
 
-/// Writes the name of the refusal of a number to the start of the buffer `room`: `NoNode` for 1, to `BadSpec` for 26.
+fn process_name(refusal: ProcessRefusal) -> &'static str
+    ensures { result.now ≡ process_name refusal }
+{
+    match refusal {
+        ProcessRefusal::Inactive => "Inactive",
+        ProcessRefusal::Full => "Full",
+        ProcessRefusal::NotDue => "NotDue",
+        ProcessRefusal::NotYet => "NotYet",
+        ProcessRefusal::Late => "Late",
+        ProcessRefusal::NotEnded => "NotEnded",
+        ProcessRefusal::NotOpen => "NotOpen",
+        ProcessRefusal::NoProcess => "NoProcess",
+    }
+}
+
+fn cause_name(cause: Cause) -> &'static str
+    ensures { result.now ≡ cause_name cause }
+{
+    match cause {
+        Cause::Pool(refusal) => refusal.name(),
+        Cause::NoMaker => "NoMaker",
+        Cause::Process(refusal) => process_name(refusal),
+        Cause::Malformed => "Malformed",
+    }
+}
+
+fn cause_meaning(cause: Cause) -> &'static str
+    ensures { result.now ≡ cause_meaning cause }
+{
+    match cause {
+        Cause::Pool(refusal) => meaning(refusal),
+        Cause::NoMaker => "the maker does not run or is not open at the node of the step",
+        Cause::Process(refusal) => process_meaning(number_of(refusal)),
+        Cause::Malformed => process_meaning(109),
+    }
+}
+
+/// Writes the name of the refusal of a number to the start of the buffer `room`: `NoNode` for 1, to `BadSpec` for 26;
+/// `NoMaker` for 29; and the names of the refusals of a process, 101 to 109.
 #[unsafe(no_mangle)]
 pub extern "C" fn gerfmuod_refusal_name(number: u32, room: &mut [u8]) -> Written
     ensures { IsNamed number room.old result room.new }
 {
-    match refusal_of(number) {
-        Some(refusal) => put(room, refusal.name().as_bytes(), WRITTEN),
+    match cause_of(number) {
+        Some(cause) => put(room, cause_name(cause).as_bytes(), WRITTEN),
         None => unwritten(NO_TEXT),
     }
 }
@@ -89,8 +166,8 @@ pub extern "C" fn gerfmuod_refusal_name(number: u32, room: &mut [u8]) -> Written
 pub extern "C" fn gerfmuod_refusal_meaning(number: u32, room: &mut [u8]) -> Written
     ensures { IsExplained number room.old result room.new }
 {
-    match refusal_of(number) {
-        Some(refusal) => put(room, meaning(refusal).as_bytes(), WRITTEN),
+    match cause_of(number) {
+        Some(cause) => put(room, cause_meaning(cause).as_bytes(), WRITTEN),
         None => unwritten(NO_TEXT),
     }
 }

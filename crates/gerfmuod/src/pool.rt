@@ -1,28 +1,22 @@
-//! The content of a `gerfmuod_core`: a core, with the number of its nodes.
-ghost use Rattle.std.specs.Prelude.{◌≡◌, ◌≤◌, ◌<◌, [], ℕ, reverse, length};
+//! A core that keeps room for settling, with the number of its nodes.
+ghost use Rattle.std.specs.Prelude.{◌≡◌, ◌≢◌, ◌≤◌, ◌<◌, [], ℕ, IfErr, reverse, length};
+ghost use Rattle.tp_base.specs.Refusals.{number_of};
 ghost use Rattle.tp_base.specs.declared.limits.TheConstants.{MAX_NODES, MAX_STEPS};
 
 use std::alloc::Global;
 use std::marker::Model;
-use tp_base::{Refusal, Step};
-use tp_core::{Core, Reply};
+use tp_base::{MAX_STEPS, Refusal, Step};
+use tp_core::{Core, Maker, Reply};
 
-/// A core and the number of its nodes. Contracts see what the core has accepted.
+/// A core, the number of its nodes, and the number of steps up to which steps are taken. Contracts see what the core has
+/// accepted.
 #[derive(Drop)]
 pub(crate) struct CoreRoom {
     core: Core,
     nodes: u32,
+    // 9 steps for each node are kept, so that termination can always be detected
+    limit: u32,
 }
-
-/// The size in bytes of a `gerfmuod_core` in the header.
-const ROOM: usize = 512;
-
-const _: () = prove!(size_of::<CoreRoom>() <= ROOM);
-
-const _: () = prove!(align_of::<CoreRoom>() <= 8);
-
-/// Compiles only for a type that can be sent to another thread: a program in C may use its core from any thread.
-fn can_be_sent<T: Send>() {}
 
 impl Model for CoreRoom {
     ghost use Rattle.tp_core.specs.Accepted.{Accepted};
@@ -37,9 +31,12 @@ impl Model for CoreRoom {
 }
 
 impl CoreRoom {
+    ghost use Rattle.tp_core.specs.Accepted.{world_of};
     ghost use Rattle.tp_core.specs.Generations.{AreRuns, InEach};
+    ghost use Rattle.tp_core.specs.Makers.{is_maker};
     ghost use Rattle.tp_core.specs.NeverEarly.{IsNeverEarly};
     ghost use Rattle.tp_core.specs.Settled.{Settles};
+    ghost use Rattle.gerfmuod.specs.Room.{room_of};
     ghost use Rattle.gerfmuod.specs.Told.{AnswersTo};
 
     /// Returns a pool of the nodes 0 to `nodes` - 1, 1 to 8 of them. It allocates nothing.
@@ -47,10 +44,10 @@ impl CoreRoom {
         requires { (1 ≤ nodes) × (nodes ≤ MAX_NODES) }
         ensures { result ≡ record { nodes = nodes; steps = [] } }
     {
-        can_be_sent::<CoreRoom>();
         CoreRoom {
             core: Core::new(alloc, nodes),
             nodes,
+            limit: MAX_STEPS - 9 * nodes,
         }
     }
 
@@ -78,21 +75,43 @@ impl CoreRoom {
         self.core.steps()
     }
 
-    /// Takes the next step as `Core::step` does, or is refused as `BadSpec` if there is none.
+    /// Returns the number of steps that can still be reported.
+    pub(crate) fn room(&self) -> u32
+        ensures { result ≡ room_of self.now }
+    {
+        self.limit.saturating_sub(self.core.steps().len() as u32)
+    }
+
+    /// Returns whether the maker may make the step.
+    #[inline(always)]
+    pub(crate) fn is_maker(&self, maker: Maker, step: Step) -> bool
+        ensures is_maker { result ≡ is_maker maker step (world_of self.now) }
+        ensures never_early { InEach (IsNeverEarly self.now.nodes) self.now.steps }
+    {
+        self.core.is_maker(maker, step)
+    }
+
+    /// Takes the next step as `Core::step` does. Refused, before that, as `BadSpec` if there is none, and as
+    /// `HistoryFull` if there is no room for it.
     #[inline(always)]
     pub(crate) fn take(&mut self, step: Option<Step>) -> Result<Reply, Refusal>
         ensures answers { AnswersTo self.old step result self.new }
         ensures never_early { InEach (IsNeverEarly self.new.nodes) self.new.steps }
     {
-        match step {
-            Some(step) => self.core.step(step),
-            None => Err(Refusal::BadSpec),
+        let taken = self.core.steps().len() as u32;
+        let Some(step) = step else {
+            return Err(Refusal::BadSpec);
+        };
+        if taken >= self.limit {
+            return Err(Refusal::HistoryFull(taken));
         }
+        self.core.step(step)
     }
 
-    /// Takes control steps until termination is detected, as `Core::settle` does.
+    /// Takes control steps until termination is detected, as `Core::settle` does. There is always room for them.
     pub(crate) fn settle(&mut self) -> Result<(u32, u32), Refusal>
         ensures answers { Settles self.old result self.new }
+        ensures has_room { IfErr result (λ r. number_of r ≢ 16) }
         ensures never_early { InEach (IsNeverEarly self.new.nodes) self.new.steps }
     {
         self.core.settle()

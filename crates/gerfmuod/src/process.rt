@@ -253,7 +253,7 @@ pub extern "C" fn gerfmuod_process_meaning(refused: u32, room: &mut [u8]) -> Wri
     put(room, meaning(refused).as_bytes(), WRITTEN)
 }
 
-fn meaning(number: u32) -> &'static str
+pub(crate) fn meaning(number: u32) -> &'static str
     ensures { result.now ≡ process_meaning number }
 {
     match number {
@@ -273,7 +273,7 @@ fn meaning(number: u32) -> &'static str
 }
 
 /// Returns the number of a refusal.
-fn number_of(refusal: Refusal) -> u32
+pub(crate) fn number_of(refusal: Refusal) -> u32
     ensures { result ≡ refused_as (Some refusal) }
 {
     match refusal {

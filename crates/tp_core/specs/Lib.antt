@@ -13,3 +13,4 @@ pub mod Reached
 pub mod Settled
 pub mod Advancing
 pub mod ToTheEnd
+pub mod Makers

@@ -30,6 +30,16 @@ impl NodeSet {
         self.at[node.0 as usize]
     }
 
+    /// Returns whether a node of any number is in the set.
+    pub fn contains(&self, node: NodeId) -> bool
+        ensures { result ≡ has self.now node.0 }
+    {
+        match self.at.get(node.0 as usize) {
+            Some(is_in) => *is_in,
+            None => false,
+        }
+    }
+
     /// Returns the set with the node added.
     #[tactic(auto, using(crate::proofs::Written::written), unfolding(crate::specs::NodeSet::has))]
     pub fn with(mut self, node: NodeId) -> Self

@@ -1,5 +1,5 @@
 //! Taking the ten steps of a pool, which change its tasks, actions and messages. Each makes its checks, then reserves
-//! room, then takes effect.
+//! room, then takes effect. Those that a pool of tasks takes for each task or message are inlined.
 ghost use Rattle.std.specs.Prelude.{◌≡◌};
 ghost use Rattle.tp_core.specs.Pool.{lacking as lacking_inputs};
 
@@ -14,6 +14,7 @@ use tp_base::{ActionId, Generation, Inputs, MessageId, NodeId, Refusal, Step, Ta
 impl Core {
     ghost use Rattle.tp_core.specs.Accepted.{Answers};
 
+    #[inline(always)]
     pub(super) fn insert(
         &mut self,
         home: NodeId,
@@ -56,6 +57,7 @@ impl Core {
         Ok(Reply::Plain)
     }
 
+    #[inline(always)]
     pub(super) fn begin(&mut self, task: TaskId) -> Result<Reply, Refusal>
         ensures { Answers self.old (Step.Begin task) result self.new }
     {
@@ -72,6 +74,7 @@ impl Core {
         Ok(Reply::Plain)
     }
 
+    #[inline(always)]
     pub(super) fn done(&mut self, task: TaskId) -> Result<Reply, Refusal>
         ensures { Answers self.old (Step.Done task) result self.new }
     {
@@ -148,6 +151,7 @@ impl Core {
         Ok(Reply::Plain)
     }
 
+    #[inline(always)]
     pub(super) fn send(
         &mut self,
         from: NodeId,
@@ -182,6 +186,7 @@ impl Core {
         Ok(Reply::Plain)
     }
 
+    #[inline(always)]
     pub(super) fn recv(
         &mut self,
         node: NodeId,
@@ -213,6 +218,7 @@ impl Core {
         Ok(Reply::Plain)
     }
 
+    #[inline(always)]
     pub(super) fn end(
         &mut self,
         node: NodeId,

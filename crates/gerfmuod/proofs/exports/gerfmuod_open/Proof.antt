@@ -5,12 +5,12 @@ use Rattle.gerfmuod.proofs.Walks.{pick, await, regoal, rewrite, suffices, frame,
 use Rattle.gerfmuod.proofs.Walks.{assigns, returns, alloc_all, pass_all, free_all, look_at, get, through, sets, lands_as, u32, yes, Is}
 use Rattle.gerfmuod.proofs.Walks.{shows, lone, uint_Makes, uint_vals, uint_Tells, uint_Lawful, owns, Ptr, RawPtr, block_ptr, lies_at}
 use Rattle.gerfmuod.proofs.Walks.{room_at, in_a_block, rawptr_vals, rawptr_Tells, plain, nothing, owned, peeks, heard, calls_at, lasts}
-use Rattle.gerfmuod.proofs.Walks.{triple_of, Stays, walk_of, says, stay_dropped, Goes-dropped, ends_at, framed, part_in, Accepted}
+use Rattle.gerfmuod.proofs.Walks.{triple_of, Stays, walk_of, says, stay_dropped, Goes-dropped, ends_at, framed, part_in, CoreState}
 use Rattle.std.specs.contracts.alloc.Global.{the_row as Z}
 use Rattle.std.proofs.alloc.Global.TheLaws as heap
-use Rattle.gerfmuod.specs.contracts.pool.CoreRoom.{the_row as R}
-use Rattle.gerfmuod.proofs.pool.CoreRoom.TheLaws.{the_row_laws}
-use Rattle.gerfmuod.specs.Opened.{opened, opening}
+use Rattle.gerfmuod.specs.contracts.slot.CoreSlot.{the_row as R}
+use Rattle.gerfmuod.proofs.slot.CoreSlot.TheLaws.{the_row_laws}
+use Rattle.gerfmuod.specs.Slot.{opened, opening}
 use Rattle.gerfmuod.specs.contracts.exports.gerfmuod_open as f
 use Rattle.gerfmuod.proofs.exports.gerfmuod_open.Statement.{statement}
 use Rattle.gerfmuod.proofs.exports.gerfmuod_open.Code as code
@@ -51,10 +51,10 @@ gerfmuod_open_spec 𝓤 𝓛 𝓜 𝓡 wired =
     nothing ! $ join ! $ nothing ! $ move ! (1 ∷ 0 ∷ []) $ use2 𝓛 (raw (G.pre z)) (id⊢ 𝓤 _) $
     calls_at ! (framed 𝓤 𝓛.H 𝓜 𝓣) G (g-thm.met 𝓤 𝓛 𝓜 𝓡 (code.calls-gerfmuod::calls::made 𝓡.env wired)) z
     (and_then ! (get ! refl) (and_then ! (get ! refl) (no_more !))) (λ v.
-    use1 𝓛 (later (some (λ (r : Accepted). (‵ ftrue ⊛ ‵ (R.own_val r (v ∷ []))) ⊛
+    use1 𝓛 (later (some (λ (r : CoreState). (‵ ftrue ⊛ ‵ (R.own_val r (v ∷ []))) ⊛
     some (λ (ws : Unit {0} × (Unit {0} × Unit {0})). ‵ (lasts g.ended z.0.0 z.0.3 ws) ⊛ raw (fact 𝓤 (r ≡ opened k)))))) (id⊢ 𝓤 _) $
     await ! tt $ pick ! (λ r. split ! $ split ! $ drop ! $ move ! (1 ∷ []) $ pick ! (λ ws. split ! $ drop ! $ heard ! _ (λ is.
-    rewrite ! 0 (λ (x : Accepted). ‵ (R.own_val x (v ∷ []))) is refl $
+    rewrite ! 0 (λ (x : CoreState). ‵ (R.own_val x (v ∷ []))) is refl $
     peeks ! R (Is R) (shows 𝓛 R) (opened k) (v ∷ []) (λ good. let typed = ((the_row_laws.lawful 𝓛).typed (opened k) (v ∷ []) good).0 in
     lands_as ! refl refl typed $
     -- [the value of the core; the memory; the locals]

@@ -6,8 +6,8 @@ use Rattle.gerfmuod.proofs.Walks.{lft_end, Body, enter, of_opd, addr, stop, no_m
 use Rattle.gerfmuod.proofs.Walks.{look_at, get, through, sets, lands_as, u32, yes, Is, lends_ref, ref_back, mem, uint_Makes, uint_vals}
 use Rattle.gerfmuod.proofs.Walks.{uint_Tells, Ptr, RawPtr, block_ptr, lies_at, in_a_block, rawptr_vals, rawptr_Tells, MutRef, plain}
 use Rattle.gerfmuod.proofs.Walks.{nothing, owned, heard, only, calls_at, lasts, on_entry, triple_of, Stays, walk_of, stay_dropped}
-use Rattle.gerfmuod.proofs.Walks.{Goes-dropped, ends_at, framed, Accepted, event_of, TellsNoEarlyEnd, IsToldOf, Answer, tells, lies_so}
-use Rattle.gerfmuod.specs.contracts.pool.CoreRoom.{the_row as R}
+use Rattle.gerfmuod.proofs.Walks.{Goes-dropped, ends_at, framed, CoreState, event_of, IsStepCall, Answer, tells, lies_so}
+use Rattle.gerfmuod.specs.contracts.slot.CoreSlot.{the_row as R}
 use Rattle.gerfmuod.specs.contracts.answer.Answer.{the_row as A}
 use Rattle.gerfmuod.proofs.answer.Answer.TheLaws.{the_row_laws}
 use Rattle.gerfmuod.specs.contracts.exports.gerfmuod_step as f
@@ -34,7 +34,7 @@ gerfmuod_step_spec 𝓤 𝓛 𝓜 𝓡 wired =
     let k = a.1.0 in let i = a.1.1.0 in let j = a.1.1.1.0 in let m = a.1.1.1.1.0 in let h = a.1.1.1.1.1.0 in
     let fk = are.1.0.1 in let fi = are.1.1.0.1 in let fj = are.1.1.1.0.1 in let fm = are.1.1.1.1.0.1 in let fh = are.1.1.1.1.1.0.1 in
     let words = vint w32 k ∷ vint w32 i ∷ vint w32 j ∷ vint w32 m ∷ vint w32 h ∷ [] in
-    let Told = λ (u : Answer) (new : Accepted). IsToldOf n (event_of k i j m h) u new × TellsNoEarlyEnd (u.told ≡ 3) u.number new in
+    let Told = λ (u : Answer) (new : CoreState). IsStepCall (event_of k i j m h) n u new in
     let y : Ptr → W.Ghost =
     λ p. (
       (
@@ -67,7 +67,7 @@ gerfmuod_step_spec 𝓤 𝓛 𝓜 𝓡 wired =
     sets ! (of_opd ! (get ! refl)) refl (tt, tt) $
     sets ! (addr ! (through ! refl (stop !))) refl (tt, tt) $
     let G = triple_of 𝓛 g.signature (g.spec 𝓛 𝓜.mem 𝓡.returns) in
-    let bor : MutBor Accepted = record { ref_ptr = (b, o); ghost_name = γ; now = n } in
+    let bor : MutBor CoreState = record { ref_ptr = (b, o); ghost_name = γ; now = n } in
     let z : G.Ghost = (
       (
         (κ, tt),
@@ -88,14 +88,14 @@ gerfmuod_step_spec 𝓤 𝓛 𝓜 𝓡 wired =
     (and_then ! (get ! refl)
     (and_then ! (get ! refl) (and_then ! (get ! refl) (and_then ! (get ! refl) (and_then ! (get ! refl) (no_more !))))))) (λ v.
     use1 𝓛 (later (some (λ (u : Answer). ((‵ (flft κ full_share) ⊛ ‵ ftrue) ⊛ ‵ (A.own_val u (v ∷ []))) ⊛
-    some (λ (ws : Accepted × (Unit {0} × (Unit {0} × (Unit {0} × (Unit {0} × (Unit {0} × Unit {0})))))). ‵ (lasts g.ended z.0.0 z.0.3 ws)
+    some (λ (ws : CoreState × (Unit {0} × (Unit {0} × (Unit {0} × (Unit {0} × (Unit {0} × Unit {0})))))). ‵ (lasts g.ended z.0.0 z.0.3 ws)
     ⊛ raw (fact 𝓤 (Told u ws.0)))))) (id⊢ 𝓤 _) $
     await ! tt $ pick ! (λ u. split ! $ split ! $ split ! $ lft_end ! tt $
     -- [κ has ended; nothing; the result; the call's postcondition; the lender's claim]
     move ! (3 ∷ []) $ pick ! (λ ws. split ! $ move ! (1 ∷ []) $ heard ! _ (λ told. fsplit ! $ fsplit ! $
     -- [the core's last value; its borrow; nothing; κ has ended; nothing; the result; the lender's claim]
     move ! (3 ∷ 6 ∷ 0 ∷ []) $ use3 𝓛 (later (‵ (lies_at R full_share (block_ptr b o) ws.0))) (ref_back 𝓛 R κ γ ws.0 b o) $ await ! tt $
-    use1 𝓛 (raw (ex 𝓤 (λ (new : Accepted). sep 𝓤 (types.Logic.sem 𝓛 (lies_at R full_share (block_ptr b o) new)) (fact 𝓤 (Told u new)))))
+    use1 𝓛 (raw (ex 𝓤 (λ (new : CoreState). sep 𝓤 (types.Logic.sem 𝓛 (lies_at R full_share (block_ptr b o) new)) (fact 𝓤 (Told u new)))))
     (lies_so 𝓛 R (block_ptr b o) (Told u) ws.0 told) $
     -- [the core; its borrow; nothing; nothing; the result]
     move ! (4 ∷ []) $ tells A the_row_laws ! u (v ∷ []) (λ w same good.

@@ -7,13 +7,12 @@ use Rattle.gerfmuod.proofs.Walks.{lft_new, lft_end, Body, enter, of_opd, addr, f
 use Rattle.gerfmuod.proofs.Walks.{pass_all, free_all, look_at, look_in_at, get, get_in, through, sets, lands_as, u8, yes, lends_ref}
 use Rattle.gerfmuod.proofs.Walks.{ref_back, mem, owns, Ptr, RawPtr, block_ptr, lies_at, in_a_block, rawptr_vals, rawptr_Tells, MutRef}
 use Rattle.gerfmuod.proofs.Walks.{plain, nothing, heard, only, calls_at, lasts, triple_of, Stays, walk_of, stay_dropped, gave_slice}
-use Rattle.gerfmuod.proofs.Walks.{Goes-dropped, Goes-gave_slice, ends_at, framed, Accepted, tells, lies_so}
+use Rattle.gerfmuod.proofs.Walks.{Goes-dropped, Goes-gave_slice, ends_at, framed, CoreState, IsTraceCall, tells, lies_so}
 use types.Part.{whole, sub, agg}
 use denote.Slice.{MutSlice, mut_slice_vals, mut_slice_Tells}
 use Rattle.std.specs.contracts.alloc.Global.{the_row as Z}
 use Rattle.std.proofs.alloc.Global.TheLaws as heap
-use Rattle.gerfmuod.specs.Written.{IsTraced}
-use Rattle.gerfmuod.specs.contracts.pool.CoreRoom.{the_row as R}
+use Rattle.gerfmuod.specs.contracts.slot.CoreSlot.{the_row as R}
 use Rattle.gerfmuod.specs.declared.answer.Written.{Written}
 use Rattle.gerfmuod.specs.contracts.answer.Written.{the_row as A}
 use Rattle.gerfmuod.proofs.answer.Written.TheLaws.{the_row_laws}
@@ -41,7 +40,7 @@ gerfmuod_trace_spec 𝓤 𝓛 𝓜 𝓡 wired =
     let d = a.0 in let x : MutBor (List ℕ) = a.1.1.0 in let dv = heap.lowered d in
     let sure = ((heap.the_row_laws.lawful 𝓛).typed d (dv ∷ []) are.0).0 in
     let count = are.1.1.0.0.1.0 in
-    let Told = λ (u : Written) (new : Accepted) (ys : List ℕ). (new ≡ n) × IsTraced n x.now u ys in
+    let Told = λ (u : Written) (new : CoreState) (ys : List ℕ). IsTraceCall x.now n (u, ys) new in
     let y : Ptr → W.Ghost = λ p. ((κs, qs, bounds, (d, (p, (x, tt))), (dv ∷ [], (rawptr_vals p, (mut_slice_vals x, tt)))), n) in
     qed 𝓛 (((‵ (flft κ q) ⊛ ‵ ftrue) ⊛ ‵ (owns (Z ∷ RawPtr ∷ MutSlice (named 0) κ u8 ∷ []) a (y a.1.0).0.4))
     ∷ ‵ (lies_at R full_share a.1.0 n) ∷ []) ∵
@@ -64,7 +63,7 @@ gerfmuod_trace_spec 𝓤 𝓛 𝓜 𝓡 wired =
       (tt, (record { fits = count }, tt)),
     ) $
     let G = triple_of 𝓛 g.signature (g.spec 𝓛 𝓜.mem 𝓡.returns) in
-    let bor : MutBor Accepted = record { ref_ptr = (b, o); ghost_name = γ; now = n } in
+    let bor : MutBor CoreState = record { ref_ptr = (b, o); ghost_name = γ; now = n } in
     let z : G.Ghost =
     (((β, (κ, tt)), (full_share, (q, tt)), tt, (d, (bor, (x, tt))), (dv ∷ [], (vptr b o ∷ [], (mut_slice_vals x, tt)))), tt) in
     nothing ! $ move ! (4 ∷ 0 ∷ []) $ join ! $ move ! (1 ∷ 0 ∷ []) $ join ! $ move ! (3 ∷ 0 ∷ []) $ join ! $
@@ -73,7 +72,7 @@ gerfmuod_trace_spec 𝓤 𝓛 𝓜 𝓡 wired =
     calls_at ! (framed 𝓤 𝓛.H 𝓜 𝓣) G (met 𝓤 𝓛 𝓜 𝓡 (code.calls-gerfmuod::history::traced 𝓡.env wired)) z
     (and_then ! (get ! refl) (and_then ! (get ! refl) (and_then ! (get ! refl) (no_more !)))) (λ v.
     use1 𝓛 (later (some (λ (u : Written). ((‵ (flft β full_share) ⊛ (‵ (flft κ q) ⊛ ‵ ftrue)) ⊛ ‵ (A.own_val u (v ∷ []))) ⊛
-    some (λ (ws : Unit {0} × (Accepted × (List ℕ × Unit {0}))). ‵ (lasts g.ended z.0.0 z.0.3 ws)
+    some (λ (ws : Unit {0} × (CoreState × (List ℕ × Unit {0}))). ‵ (lasts g.ended z.0.0 z.0.3 ws)
     ⊛ raw (fact 𝓤 (Told u ws.1.0 ws.1.1.0)))))) (id⊢ 𝓤 _) $
     await ! tt $ pick ! (λ u. split ! $ split ! $ split ! $ lft_end ! tt $
     -- [β has ended; the buffer's token, and nothing; the result; the call's postcondition; the lender's claim]
@@ -86,7 +85,7 @@ gerfmuod_trace_spec 𝓤 𝓛 𝓜 𝓡 wired =
     -- [the buffer's last content; nothing; the core; its borrow; the buffer's token; nothing; the result]
     move ! (2 ∷ []) $
     use1 𝓛 (raw (ex 𝓤
-    (λ (new : Accepted). sep 𝓤 (types.Logic.sem 𝓛 (lies_at R full_share (block_ptr b o) new)) (fact 𝓤 (Told u new ws.1.1.0)))))
+    (λ (new : CoreState). sep 𝓤 (types.Logic.sem 𝓛 (lies_at R full_share (block_ptr b o) new)) (fact 𝓤 (Told u new ws.1.1.0)))))
     (lies_so 𝓛 R (block_ptr b o) (λ new. Told u new ws.1.1.0) ws.1.0 told) $
     move ! (6 ∷ []) $ tells A the_row_laws ! u (v ∷ []) (λ w is good.
     lands_as ! (ap only is) refl good $

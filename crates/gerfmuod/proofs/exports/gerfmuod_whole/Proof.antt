@@ -5,8 +5,8 @@ use Rattle.gerfmuod.proofs.Walks.{use2, use3, split, join, fsplit, pick, await, 
 use Rattle.gerfmuod.proofs.Walks.{of_opd, addr, stop, no_more, and_then, returns, alloc_all, pass_all, free_all, look_at, get, through}
 use Rattle.gerfmuod.proofs.Walks.{sets, lands_as, yes, lends_ref, ref_back, mem, Ptr, RawPtr, block_ptr, lies_at, in_a_block, rawptr_vals}
 use Rattle.gerfmuod.proofs.Walks.{rawptr_Tells, MutRef, plain, nothing, heard, only, calls_at, lasts, on_entry, triple_of, Stays, walk_of}
-use Rattle.gerfmuod.proofs.Walks.{stay_dropped, Goes-dropped, ends_at, framed, Accepted, IsWhole, tells, lies_so}
-use Rattle.gerfmuod.specs.contracts.pool.CoreRoom.{the_row as R}
+use Rattle.gerfmuod.proofs.Walks.{stay_dropped, Goes-dropped, ends_at, framed, CoreState, IsWholeCall, tells, lies_so}
+use Rattle.gerfmuod.specs.contracts.slot.CoreSlot.{the_row as R}
 use Rattle.gerfmuod.specs.declared.answer.Whole.{Whole}
 use Rattle.gerfmuod.specs.contracts.answer.Whole.{the_row as A}
 use Rattle.gerfmuod.proofs.answer.Whole.TheLaws.{the_row_laws}
@@ -26,7 +26,7 @@ gerfmuod_whole_spec 𝓤 𝓛 𝓜 𝓡 wired =
     f.Key.name code.function (code.unfolded 𝓤 𝓛.H 𝓜 𝓡 wired)
     (λ κs. (rawptr_vals, tt)) (λ κs. (rawptr_Tells, tt))
     (λ κs qs bounds a n are.
-    let Told = λ (u : Whole) (new : Accepted). (new ≡ n) × IsWhole n u in
+    let Told = λ (u : Whole) (new : CoreState). IsWholeCall n u new in
     let y : Ptr → W.Ghost = λ p. ((κs, qs, bounds, (p, tt), (rawptr_vals p, tt)), n) in
     qed 𝓛 (raw (on_entry 𝓛 f.signature κs qs a (y a.0).0.4) ∷ ‵ (lies_at R full_share a.0 n) ∷ []) ∵ drop ! $
     in_a_block ! a.0 (λ p. lies_at R full_share p n) (id⊢ 𝓤 _) (λ b o e.
@@ -41,7 +41,7 @@ gerfmuod_whole_spec 𝓤 𝓛 𝓜 𝓡 wired =
     sets ! (of_opd ! (get ! refl)) refl (tt, tt) $
     sets ! (addr ! (through ! refl (stop !))) refl (tt, tt) $
     let G = triple_of 𝓛 g.signature (g.spec 𝓛 𝓜.mem 𝓡.returns) in
-    let bor : MutBor Accepted = record { ref_ptr = (b, o); ghost_name = γ; now = n } in
+    let bor : MutBor CoreState = record { ref_ptr = (b, o); ghost_name = γ; now = n } in
     let z : G.Ghost = (((κ, tt), (full_share, tt), tt, (bor, tt), (vptr b o ∷ [], tt)), tt) in
     nothing ! $
     move ! (1 ∷ 0 ∷ []) $ join ! $
@@ -49,13 +49,13 @@ gerfmuod_whole_spec 𝓤 𝓛 𝓜 𝓡 wired =
     calls_at ! (framed 𝓤 𝓛.H 𝓜 𝓣) G (met 𝓤 𝓛 𝓜 𝓡 (code.calls-gerfmuod::calls::seen 𝓡.env wired)) z
     (and_then ! (get ! refl) (no_more !)) (λ v.
     use1 𝓛 (later (some (λ (u : Whole). ((‵ (flft κ full_share) ⊛ ‵ ftrue) ⊛ ‵ (A.own_val u (v ∷ []))) ⊛
-    some (λ (ws : Accepted × Unit {0}). ‵ (lasts g.ended z.0.0 z.0.3 ws) ⊛ raw (fact 𝓤 (Told u ws.0)))))) (id⊢ 𝓤 _) $
+    some (λ (ws : CoreState × Unit {0}). ‵ (lasts g.ended z.0.0 z.0.3 ws) ⊛ raw (fact 𝓤 (Told u ws.0)))))) (id⊢ 𝓤 _) $
     await ! tt $ pick ! (λ u. split ! $ split ! $ split ! $ lft_end ! tt $
     -- [κ has ended; nothing; the result; the call's postcondition; the lender's claim]
     move ! (3 ∷ []) $ pick ! (λ ws. split ! $ move ! (1 ∷ []) $ heard ! _ (λ told. fsplit ! $ fsplit ! $
     -- [the core's last value; its borrow; nothing; κ has ended; nothing; the result; the lender's claim]
     move ! (3 ∷ 6 ∷ 0 ∷ []) $ use3 𝓛 (later (‵ (lies_at R full_share (block_ptr b o) ws.0))) (ref_back 𝓛 R κ γ ws.0 b o) $ await ! tt $
-    use1 𝓛 (raw (ex 𝓤 (λ (new : Accepted). sep 𝓤 (types.Logic.sem 𝓛 (lies_at R full_share (block_ptr b o) new)) (fact 𝓤 (Told u new)))))
+    use1 𝓛 (raw (ex 𝓤 (λ (new : CoreState). sep 𝓤 (types.Logic.sem 𝓛 (lies_at R full_share (block_ptr b o) new)) (fact 𝓤 (Told u new)))))
     (lies_so 𝓛 R (block_ptr b o) (Told u) ws.0 told) $
     -- [the core; its borrow; nothing; nothing; the result]
     move ! (4 ∷ []) $ tells A the_row_laws ! u (v ∷ []) (λ w same good.

@@ -1,0 +1,10 @@
+use Rattle.std.proofs.Common.{subst}
+use Rattle.tp_core.specs.Accepted.{Accepted}
+use Rattle.tp_core.specs.Generations.{InEach}
+use Rattle.tp_core.specs.NeverEarly.{IsNeverEarly}
+use Rattle.gerfmuod.proofs.Kept.{kept_never_early}
+use Rattle.gerfmuod.proofs.pool.CoreRoom.is_maker.Goals as goal
+
+pub returns-clause-never_early : goal.returns-clause-never_early
+returns-clause-never_early c =
+    subst (λ (a : Accepted). InEach (IsNeverEarly a.nodes) a.steps) c.self.view_is (kept_never_early c.self.inside c.self.invariant)

@@ -1,0 +1,111 @@
+//! Looking at a core: what runs or is open at a node, and who may make a step. Nothing here changes the core.
+ghost use Rattle.std.specs.Prelude.{◌≡◌};
+ghost use Rattle.std.specs.Option.{option_map};
+
+use super::Core;
+use crate::life::Life;
+use crate::posted::{Posted, Stage};
+use tp_base::{ActionId, MessageId, NodeId, Step, TaskId};
+
+/// Who makes a step, at the node of the step.
+#[derive(Clone, Copy, Debug, PartialEq, Eq)]
+pub enum Maker {
+    /// A running task.
+    Task(TaskId),
+    /// An open action.
+    Action(ActionId),
+    /// A message that was received there and has not ended.
+    Message(MessageId),
+    /// The opening of the node.
+    Opening,
+    /// A thread of this node. It makes no work, and begins and finishes tasks.
+    Thread(NodeId),
+}
+
+impl Core {
+    ghost use Rattle.tp_wave.specs.Generations.{present};
+    ghost use Rattle.tp_wave.specs.Sums.{is_ended};
+    ghost use Rattle.tp_core.specs.Accepted.{world_of};
+    ghost use Rattle.tp_core.specs.World.{Opening, Named, OfMessage, is_open};
+    ghost use Rattle.tp_core.specs.Makers.{home_if_known, is_maker, is_running_at};
+
+    /// Returns whether termination of the present generation was detected.
+    pub fn is_ended(&self) -> bool
+        ensures { result ≡ is_ended self.now.nodes (present self.now.steps) }
+    {
+        self.wave.is_over()
+    }
+
+    /// Returns the home of a task, if it was inserted in this generation.
+    pub fn home(&self, task: TaskId) -> Option<NodeId>
+        ensures { option_map (λ i. i.0) result ≡ home_if_known task.0 (world_of self.now) }
+    {
+        match self.tasks.get(task.0) {
+            Some(held) => Some(held.home),
+            None => None,
+        }
+    }
+
+    /// Returns whether a task runs at a node.
+    pub fn is_running(&self, node: NodeId, task: TaskId) -> bool
+        ensures { result ≡ is_running_at node.0 task.0 (world_of self.now) }
+    {
+        match self.tasks.get(task.0) {
+            Some(held) => held.life == Life::Running && held.home.0 == node.0,
+            None => false,
+        }
+    }
+
+    /// Returns whether a named action is open at a node.
+    pub fn is_open(&self, node: NodeId, action: ActionId) -> bool
+        ensures { result ≡ is_open node.0 (Named action.0) (world_of self.now) }
+    {
+        match self.named.get(action.0) {
+            Some(nodes) => nodes.contains(node),
+            None => false,
+        }
+    }
+
+    /// Returns whether a message was received at a node and has not ended.
+    pub fn is_received(&self, node: NodeId, message: MessageId) -> bool
+        ensures { result ≡ is_open node.0 (OfMessage message.0) (world_of self.now) }
+    {
+        self.messages.get(message.0) == Some(Posted::new(node, Stage::Received))
+    }
+
+    /// Returns whether the opening of a node is open.
+    pub fn is_opening(&self, node: NodeId) -> bool
+        ensures { result ≡ is_open node.0 Opening (world_of self.now) }
+    {
+        self.opening.contains(node)
+    }
+
+    /// Returns whether the maker may make the step: it runs or is open at the node of the step, or is a thread of that
+    /// node and the step begins or finishes a task. It is false for a step whose node or task does not exist, and for
+    /// every step that is not `Insert`, `Supply`, `Begin`, `Done`, `ActionOpen` or `Send`.
+    pub fn is_maker(&self, maker: Maker, step: Step) -> bool
+        ensures { result ≡ is_maker maker step (world_of self.now) }
+    {
+        let (node, runs_tasks) = match step {
+            Step::Insert(node, _, _) | Step::ActionOpen(node, _) | Step::Send(node, _, _, _) => {
+                (node, false)
+            }
+            Step::Supply(task) => match self.home(task) {
+                Some(home) => (home, false),
+                None => return false,
+            },
+            Step::Begin(task) | Step::Done(task) => match self.home(task) {
+                Some(home) => (home, true),
+                None => return false,
+            },
+            _ => return false,
+        };
+        match maker {
+            Maker::Task(task) => self.is_running(node, task),
+            Maker::Action(action) => self.is_open(node, action),
+            Maker::Message(message) => self.is_received(node, message),
+            Maker::Opening => self.is_opening(node),
+            Maker::Thread(own) => runs_tasks && own.0 == node.0,
+        }
+    }
+}
