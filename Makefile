@@ -9,7 +9,8 @@
 # make times    the gate, with the processor seconds of each crate
 # make soak     runs each sample pool 200 times at 8 nodes with 8 workers each, compares the outputs and audits the traces;
 #               then runs the program with unusual streams and texts, at a terminal, with every stored text truncated after
-#               each byte, and with random texts; and the programs over borrowed data at a terminal
+#               each byte, and with random texts; the programs over borrowed data at a terminal; and random calls of the
+#               library for C, compared with a model
 # make lib      proves the library for other languages, and builds it: lib/libgerfmuod.a, libgerfmuod.so.0, the headers for C
 #               and C++, the module for Fortran and a pkg-config file
 # make bench    measures the cost of a step that a program in C reports to the library, and compares all programs with others
@@ -38,9 +39,11 @@ bin/samples: $(SOURCES) crates.txt
 
 lib: lib/libgerfmuod.a
 
-HEADERS := gerfmuod.h gerfmuod_process.h gerfmuod_dag.h gerfmuod_team.h gerfmuod.hpp gerfmuod.f90
+HEADERS := gerfmuod.h gerfmuod_tsan.h gerfmuod_process.h gerfmuod_dag.h gerfmuod_team.h gerfmuod.hpp gerfmuod.f90
 
-lib/libgerfmuod.a: $(SOURCES) crates.txt $(addprefix capi/,$(HEADERS) gerfmuod_team.c gerfmuod.map gerfmuod.pc.in)
+PARTS := gerfmuod_calls.c gerfmuod_team.c gerfmuod_profile.h gerfmuod.map gerfmuod.pc.in
+
+lib/libgerfmuod.a: $(SOURCES) crates.txt $(addprefix capi/,$(HEADERS) $(PARTS))
 	@tools/dev lib
 
 demo:
@@ -48,6 +51,7 @@ demo:
 
 test:
 	@tools/dev try
+	@tools/dev pages
 	@tools/dev capi
 	@tools/dev dag
 	@tools/dev package
@@ -68,13 +72,14 @@ mutants:
 times:
 	tools/dev gate-times
 
-soak: bin/samples
+soak: bin/samples lib/libgerfmuod.a
 	tools/dev soak bin/tp --runs 200
 	tools/dev limits strange bin/tp
 	tools/dev limits reasons bin/tp
 	tools/dev limits cuts bin/tp
 	tools/dev limits random bin/tp
 	tools/dev limits progress
+	tools/dev capi --full
 
 bench: bin/samples lib/libgerfmuod.a
 	@tools/dev capi --bench

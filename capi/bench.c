@@ -1,7 +1,8 @@
 /* bench.c: the cost of a step. `bench time N` prints nanoseconds: for a counter that is incremented under a mutex, for a
- * step under the same mutex, and for a step without a mutex. `bench count KIND N` takes N steps of a kind and prints the
- * resident memory in bytes: a tool that counts instructions runs it with two values of N. `bench stack` prints the stack
- * that the calls use. */
+ * step under the same mutex, and for each kind of steps without a mutex. `bench count KIND N` takes N steps of a kind and
+ * prints the resident memory in bytes: a tool that counts instructions runs it with two values of N. `bench locks N` prints
+ * nanoseconds of N steps of several threads, under a mutex and under a spin lock. `bench stack` prints the stack that the
+ * calls use. */
 #define _XOPEN_SOURCE 700
 #include "gerfmuod.h"
 
@@ -54,6 +55,59 @@ static unsigned long messages(gerfmuod_core *core, uint32_t steps) {
     return refused;
 }
 
+/* The tasks again, with what makes each step. */
+static unsigned long made_tasks(gerfmuod_core *core, uint32_t steps) {
+    unsigned long refused = 0;
+    for (uint32_t t = 0; t < steps / 3; t++) {
+        refused += gerfmuod_insert_by(core, GERFMUOD_BY_OPENING, 0, t & 7, t, 0).refused != 0;
+        refused += gerfmuod_begin_at(core, t & 7, t).refused != 0;
+        refused += gerfmuod_done_at(core, t & 7, t).refused != 0;
+    }
+    return refused;
+}
+
+static unsigned long multiples(gerfmuod_core *core, uint32_t steps, uint32_t factor) {
+    unsigned long refused = 0;
+    for (uint32_t t = 0; t < steps / 3; t++) {
+        refused += gerfmuod_insert(core, t & 7, t * factor, 0).refused != 0;
+        refused += gerfmuod_begin(core, t * factor).refused != 0;
+        refused += gerfmuod_done(core, t * factor).refused != 0;
+    }
+    return refused;
+}
+
+/* Tasks whose numbers are consecutive and large, or spread over all 32 bits. */
+static unsigned long large_tasks(gerfmuod_core *core, uint32_t steps) {
+    unsigned long refused = 0;
+    for (uint32_t t = 0; t < steps / 3; t++) {
+        refused += gerfmuod_insert(core, t & 7, t + 3000000000u, 0).refused != 0;
+        refused += gerfmuod_begin(core, t + 3000000000u).refused != 0;
+        refused += gerfmuod_done(core, t + 3000000000u).refused != 0;
+    }
+    return refused;
+}
+
+static unsigned long hashed_tasks(gerfmuod_core *core, uint32_t steps) { return multiples(core, steps, 2654435761u); }
+
+/* Tasks whose numbers are 3 apart. */
+static unsigned long sparse_tasks(gerfmuod_core *core, uint32_t steps) { return multiples(core, steps, 3); }
+
+typedef struct {
+    const char *name;
+    unsigned long (*run)(gerfmuod_core *, uint32_t);
+    const char *meaning;
+} kind;
+
+static const kind kinds[] = {
+    {"tasks", tasks, "step of a task"},
+    {"messages", messages, "step of a message"},
+    {"makers", made_tasks, "step of a task with its maker"},
+    {"sparse", sparse_tasks, "step of a task, numbers 3 apart"},
+    {"large", large_tasks, "step of a task, numbers from 3,000,000,000 on"},
+    {"hashed", hashed_tasks, "step of a task, numbers spread over 32 bits"},
+};
+enum { KINDS = sizeof kinds / sizeof *kinds };
+
 static gerfmuod_answer locked(gerfmuod_core *core, uint32_t kind, uint32_t first, uint32_t second) {
     pthread_mutex_lock(&lock);
     gerfmuod_answer it = gerfmuod_step(core, kind, first, second, 0, 0);
@@ -105,7 +159,8 @@ static void *nothing(void *unused) { return unused; }
 
 static void *take_steps(void *unused) {
     if (tasks(&deep, 3000) || messages(&deep, 3000)) exit(1);
-    for (uint32_t node = 0; node < 8; node++) gerfmuod_ready(&deep, node);
+    for (uint32_t node = 0; node < 8; node++)
+        if (gerfmuod_ready(&deep, node).refused) exit(1);
     if (gerfmuod_settle(&deep).refused || gerfmuod_reopen(&deep).refused) exit(1);
     gerfmuod_whole(&deep);
     gerfmuod_numbers(&deep, 7);
@@ -168,25 +223,92 @@ static int stacks(void) {
     return 0;
 }
 
-int main(int argc, char **argv) {
-    if (argc == 3 && strcmp(argv[1], "time") == 0) {
-        uint32_t steps = (uint32_t)atoi(argv[2]);
-        printf("counter under a mutex %.1f ns\n", best(counted, steps));
-        printf("step under a mutex %.1f ns\n", best(locked_tasks, steps));
-        printf("step of a task %.1f ns\n", best(tasks, steps));
-        printf("step of a message %.1f ns\n", best(messages, steps));
-        return 0;
+/* ---- locks */
+
+typedef struct {
+    pthread_t thread;
+    gerfmuod_core *core;
+    uint32_t from, to;
+    bool spins;
+} reporter;
+
+static pthread_spinlock_t spin;
+
+static gerfmuod_answer step_of(const reporter *r, uint32_t kind, uint32_t first, uint32_t second) {
+    if (r->spins) pthread_spin_lock(&spin);
+    else pthread_mutex_lock(&lock);
+    gerfmuod_answer answer = gerfmuod_step(r->core, kind, first, second, 0, 0);
+    if (r->spins) pthread_spin_unlock(&spin);
+    else pthread_mutex_unlock(&lock);
+    return answer;
+}
+
+static void *report(void *argument) {
+    const reporter *r = argument;
+    for (uint32_t t = r->from; t < r->to; t++) {
+        if (step_of(r, GERFMUOD_STEP_INSERT, t & 7, t).refused) exit(1);
+        if (step_of(r, GERFMUOD_STEP_BEGIN, t, 0).refused) exit(1);
+        if (step_of(r, GERFMUOD_STEP_DONE, t, 0).refused) exit(1);
     }
-    if (argc == 4 && strcmp(argv[1], "count") == 0) {
+    return NULL;
+}
+
+/* The best of three runs, in nanoseconds per step of all threads together. */
+static double contended(uint32_t threads, bool spins, uint32_t steps) {
+    double least = 1e300;
+    for (int round = 0; round < 3; round++) {
         gerfmuod_core core;
-        if (gerfmuod_open(&core, 8)) return 1;
-        uint32_t steps = (uint32_t)atoi(argv[3]);
-        unsigned long refused = strcmp(argv[2], "tasks") == 0 ? tasks(&core, steps) : messages(&core, steps);
-        printf("%ld\n", resident());
+        reporter reporters[64];
+        uint32_t each = steps / 3 / threads;
+        if (gerfmuod_open(&core, 8)) exit(1);
+        double from = now();
+        for (uint32_t i = 0; i < threads; i++) {
+            reporters[i].core = &core;
+            reporters[i].from = i * each;
+            reporters[i].to = (i + 1) * each;
+            reporters[i].spins = spins;
+            if (pthread_create(&reporters[i].thread, NULL, report, &reporters[i])) exit(1);
+        }
+        for (uint32_t i = 0; i < threads; i++) pthread_join(reporters[i].thread, NULL);
+        double took = (now() - from) / (3.0 * each * threads);
+        if (took < least) least = took;
         gerfmuod_close(&core);
-        return refused != 0;
     }
+    return least;
+}
+
+static int locks(uint32_t steps) {
+    if (pthread_spin_init(&spin, PTHREAD_PROCESS_PRIVATE)) return 1;
+    for (uint32_t threads = 1; threads <= 16; threads *= 2)
+        printf("step of one of %u threads: mutex %.1f ns, spin lock %.1f ns\n", (unsigned)threads, contended(threads, false, steps),
+               contended(threads, true, steps));
+    return 0;
+}
+
+static int times(uint32_t steps) {
+    printf("counter under a mutex %.1f ns\n", best(counted, steps));
+    printf("step under a mutex %.1f ns\n", best(locked_tasks, steps));
+    for (int k = 0; k < KINDS; k++) printf("%s %.1f ns\n", kinds[k].meaning, best(kinds[k].run, steps));
+    return 0;
+}
+
+static int count(const char *name, uint32_t steps) {
+    gerfmuod_core core;
+    int k = 0;
+    while (k < KINDS && strcmp(kinds[k].name, name)) k++;
+    if (k == KINDS || gerfmuod_open(&core, 8)) return 2;
+    unsigned long refused = kinds[k].run(&core, steps);
+    printf("%ld\n", resident());
+    gerfmuod_close(&core);
+    return refused != 0;
+}
+
+int main(int argc, char **argv) {
+    uint32_t steps = argc > 2 ? (uint32_t)strtoul(argv[argc - 1], NULL, 10) : 0;
+    if (argc == 3 && strcmp(argv[1], "time") == 0) return times(steps);
+    if (argc == 3 && strcmp(argv[1], "locks") == 0) return locks(steps);
+    if (argc == 4 && strcmp(argv[1], "count") == 0) return count(argv[2], steps);
     if (argc == 2 && strcmp(argv[1], "stack") == 0) return stacks();
-    fputs("bench time N | bench count tasks N | bench count messages N | bench stack\n", stderr);
+    fputs("bench time N | bench locks N | bench count KIND N | bench stack\n", stderr);
     return 2;
 }

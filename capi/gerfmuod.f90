@@ -15,7 +15,7 @@ module gerfmuod
   integer(c_int32_t), parameter :: gerfmuod_inactive = 6, gerfmuod_ended = 15
   integer(c_int32_t), parameter :: gerfmuod_history_full = 16, gerfmuod_no_memory = 17, gerfmuod_bad_spec = 26
   integer(c_int32_t), parameter :: gerfmuod_no_thread = 64, gerfmuod_not_started = 65, gerfmuod_stopped = 66
-  integer(c_int32_t), parameter :: gerfmuod_running = 67
+  integer(c_int32_t), parameter :: gerfmuod_running = 67, gerfmuod_not_written = 68
 
   type, bind(c) :: gerfmuod_answer
     integer(c_int32_t) :: refused, told, number, news
@@ -114,6 +114,27 @@ module gerfmuod
       type(c_ptr), value :: team
       integer(c_int32_t), value :: node, done
       type(gerfmuod_answer) :: answer
+    end function
+
+    ! Records each later run; each thread keeps its newest `slices` bodies and waits. Call it before the first task.
+    function gerfmuod_team_record(team, slices) bind(c) result(refused)
+      import :: c_ptr, c_int32_t
+      type(c_ptr), value :: team
+      integer(c_int32_t), value :: slices
+      integer(c_int32_t) :: refused
+    end function
+
+    ! Writes the last run as trace events. file is a stream of C, as its fopen returns it; so is that of gerfmuod_team_summary.
+    function gerfmuod_team_profile(team, file) bind(c) result(refused)
+      import :: c_ptr, c_int32_t
+      type(c_ptr), value :: team, file
+      integer(c_int32_t) :: refused
+    end function
+
+    function gerfmuod_team_summary(team, file) bind(c) result(refused)
+      import :: c_ptr, c_int32_t
+      type(c_ptr), value :: team, file
+      integer(c_int32_t) :: refused
     end function
 
     subroutine gerfmuod_team_stop(team, task) bind(c)

@@ -17,6 +17,7 @@
 #include "gerfmuod_team.h"
 
 #include <cstdint>
+#include <cstdio>
 #include <exception>
 #include <functional>
 #include <memory>
@@ -114,6 +115,14 @@ class Pool {
         gerfmuod_team_trace(team.get(), &text[0], text.size() + 1);
         return text;
     }
+
+    // Records each later run; each thread keeps its newest `slices` bodies and waits. Call it before the first task. Throws
+    // Refused when gerfmuod_team_record is refused.
+    void record(std::uint32_t slices = 65536) { check(gerfmuod_team_record(team.get(), slices)); }
+
+    // Writes the last run as trace events, or as a summary. Throws Refused when gerfmuod_team_profile is refused.
+    void profile(std::FILE *file) const { check(gerfmuod_team_profile(team.get(), file)); }
+    void summary(std::FILE *file) const { check(gerfmuod_team_summary(team.get(), file)); }
 
     static std::uint32_t default_threads() {
         unsigned processors = std::thread::hardware_concurrency();

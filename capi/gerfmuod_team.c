@@ -1,12 +1,13 @@
 /* gerfmuod_team.c: a pool of gerfmuod_dag.h with a lock and threads that wait. C over pthreads, not proved.
  *
- * One mutex protects the pool and every field. A thread that finds no task first spins on a counter of its node, if there
- * is a processor for it, and then sleeps on a condition variable of its node. News of a node, from a task that is done or
- * from outside, raises its counter and wakes one of its threads. */
+ * One mutex protects the pool and every field; what a thread records of a run is its own (gerfmuod_profile.h). A thread that
+ * finds no task first spins on a counter of its node, if there is a processor for it, and then sleeps on a condition variable
+ * of its node. News of a node, from a task that is done or from outside, raises its counter and wakes one of its threads. */
 #ifndef _GNU_SOURCE
 #define _GNU_SOURCE /* sched_getaffinity */
 #endif
 #include "gerfmuod_team.h"
+#include "gerfmuod_profile.h"
 
 #include <pthread.h>
 #include <sched.h>
@@ -18,6 +19,9 @@
 
 /* The number of polls of a thread in one turn before it sleeps: 20 to 100 microseconds. */
 enum { SPINS = 2000, ALL_NODES = (1 << GERFMUOD_DAG_MAX_NODES) - 1 };
+
+/* Some GERFMUOD_STEP_* of gerfmuod.h, and the kind of a step that is not there. */
+enum { STEP_START = 10, STEP_JUDGE = 14, NO_STEP = 255 };
 
 struct gerfmuod_team {
     gerfmuod_dag dag;
@@ -32,6 +36,7 @@ struct gerfmuod_team {
     uint32_t waiting, spinning; /* threads that wait, and those of them that spin */
     bool is_complete; /* the pool was started: no task may be described */
     bool is_over, is_in_run;
+    struct profile *profile; /* NULL unless the team records */
     char apart[64]; /* keeps the counters that spinning threads read off the cache lines above */
     uint32_t version[GERFMUOD_DAG_MAX_NODES]; /* incremented at news; read without the lock */
 };
@@ -71,6 +76,7 @@ uint32_t gerfmuod_team_open(gerfmuod_team **opened, uint32_t nodes) {
 void gerfmuod_team_close(gerfmuod_team *team) {
     if (!team) return;
     gerfmuod_dag_close(&team->dag);
+    profile_close(team->profile);
     pthread_mutex_destroy(&team->lock);
     for (uint32_t i = 0; i < GERFMUOD_DAG_MAX_NODES; i++) pthread_cond_destroy(&team->news[i]);
     free(team);
@@ -111,10 +117,12 @@ static bool changes_nothing(uint32_t refused) {
 }
 
 /* Describes a task and its inputs. A refusal changes nothing, or ends the team. */
-static inline uint32_t describe_task(gerfmuod_team *team, uint32_t node, uint32_t class_, const uint32_t *inputs, size_t count) {
+static inline ALWAYS_INLINE uint32_t describe_task(gerfmuod_team *team, uint32_t node, uint32_t class_, const uint32_t *inputs,
+                                                   size_t count) {
     uint32_t number = team->tasks, refused;
     for (size_t k = 0; k < count; k++)
         if (inputs[k] >= number) return refuse(team, GERFMUOD_DAG_NO_TASK, number);
+    if (team->profile && !profile_reserve(team->profile, count)) return fail(team, GERFMUOD_DAG_NO_MEMORY, number);
     refused = gerfmuod_dag_task(&team->dag, node, class_).refused;
     if (refused) return changes_nothing(refused) ? refuse(team, refused, number) : fail(team, refused, number);
     team->tasks = number + 1;
@@ -123,6 +131,7 @@ static inline uint32_t describe_task(gerfmuod_team *team, uint32_t node, uint32_
         refused = gerfmuod_dag_input(&team->dag, inputs[k]).refused;
         if (refused) return fail(team, refused, number);
     }
+    if (team->profile) profile_describe(team->profile, node, class_, inputs, count);
     return GERFMUOD_DAG_OK;
 }
 
@@ -206,10 +215,12 @@ static uint32_t check_start(gerfmuod_team *team, uint32_t threads) {
 static uint32_t start(gerfmuod_team *team, uint32_t threads) {
     uint32_t refused = check_threads(team, threads);
     if (refused) return refused;
+    if (team->profile && !profile_open_rings(team->profile, threads)) return refuse(team, GERFMUOD_DAG_NO_MEMORY, GERFMUOD_DAG_NONE);
     if (!team->is_complete) refused = gerfmuod_dag_start(&team->dag).refused;
     if (refused) return refuse(team, refused, GERFMUOD_DAG_NONE);
     team->is_complete = true;
     team->threads = threads;
+    if (team->profile) profile_start(team->profile);
     tell(team, ALL_NODES, true);
     return GERFMUOD_DAG_OK;
 }
@@ -251,7 +262,8 @@ static uint32_t spin_until_news(gerfmuod_team *team, uint32_t node, uint32_t spi
 }
 
 /* Waits for news at a node: spins if polls are left and a processor is idle. Returns the number of polls that are left. */
-static uint32_t wait_for_news(gerfmuod_team *team, uint32_t node, uint32_t spins) {
+static uint32_t wait_for_news(gerfmuod_team *team, uint32_t node, uint32_t spins, uint64_t *waited_from) {
+    if (team->profile && !*waited_from) *waited_from = ticks_now(team->profile);
     team->waiting++;
     if (spins > 0 && team->spinning + team->executing < team->processors) spins = spin_until_news(team, node, spins);
     else sleep_until_news(team, node);
@@ -259,10 +271,11 @@ static uint32_t wait_for_news(gerfmuod_team *team, uint32_t node, uint32_t spins
     return spins;
 }
 
-/* Returns the next task of a node, waiting for it; the end; or the refusal that ends every turn. */
-static gerfmuod_dag_answer take(gerfmuod_team *team, uint32_t node) {
+/* Returns the next task of a node, waiting for it; the end; or the refusal that ends every turn. If the team records and there
+ * was a wait, writes when it began. */
+static inline ALWAYS_INLINE gerfmuod_dag_answer take(gerfmuod_team *team, uint32_t node, uint64_t *waited_from) {
     gerfmuod_dag_answer answer = {0, 0, 0, 0};
-    for (uint32_t spins = SPINS; !team->fault; spins = wait_for_news(team, node, spins)) {
+    for (uint32_t spins = SPINS; !team->fault; spins = wait_for_news(team, node, spins, waited_from)) {
         if (!team->threads) continue; /* no run is started yet */
         answer = gerfmuod_dag_next(&team->dag, node);
         if (answer.refused) {
@@ -272,7 +285,10 @@ static gerfmuod_dag_answer take(gerfmuod_team *team, uint32_t node) {
             tell(team, answer.news, false);
             return answer;
         } else if (answer.told == GERFMUOD_DAG_OVER) {
-            if (!team->is_over) tell(team, ALL_NODES, true);
+            if (!team->is_over) {
+                if (team->profile) profile_over(team->profile, answer.number);
+                tell(team, ALL_NODES, true);
+            }
             team->is_over = true;
             return answer;
         }
@@ -282,8 +298,17 @@ static gerfmuod_dag_answer take(gerfmuod_team *team, uint32_t node) {
     return answer;
 }
 
-gerfmuod_dag_answer gerfmuod_team_turn(gerfmuod_team *team, uint32_t node, uint32_t done) {
+/* Returns the task that a turn returns, or GERFMUOD_DAG_NONE. */
+static uint32_t task_of(gerfmuod_dag_answer answer) {
+    return !answer.refused && answer.told == GERFMUOD_DAG_RUN ? answer.number : GERFMUOD_DAG_NONE;
+}
+
+/* A turn, which is compiled twice: with the profile of a team that records, and with NULL. */
+static inline ALWAYS_INLINE gerfmuod_dag_answer turn_with(struct profile *profile, gerfmuod_team *team, uint32_t node, uint32_t done) {
     gerfmuod_dag_answer answer = {GERFMUOD_DAG_NO_NODE, 0, 0, 0};
+    struct turn turn = {0, 0};
+    if (profile && done == GERFMUOD_DAG_NONE) turn.begun = ticks_now(profile);
+    else if (profile) profile_end_body(profile, done);
     pthread_mutex_lock(&team->lock);
     if (node < team->nodes) {
         if (done != GERFMUOD_DAG_NONE && !team->fault) {
@@ -291,16 +316,27 @@ gerfmuod_dag_answer gerfmuod_team_turn(gerfmuod_team *team, uint32_t node, uint3
             if (answer.refused) fail(team, answer.refused, done);
             else {
                 team->executing--;
+                if (profile) profile->tasks[done].is_done = true;
                 tell(team, answer.news, false);
             }
         }
-        answer = take(team, node);
+        answer = take(team, node, &turn.waited);
     }
     pthread_mutex_unlock(&team->lock);
+    if (profile && node < team->nodes) profile_end_turn(profile, node, task_of(answer), turn);
     return answer;
 }
 
+static NOINLINE gerfmuod_dag_answer recorded_turn(gerfmuod_team *team, uint32_t node, uint32_t done) {
+    return turn_with(team->profile, team, node, done);
+}
+
+gerfmuod_dag_answer gerfmuod_team_turn(gerfmuod_team *team, uint32_t node, uint32_t done) {
+    return team->profile ? recorded_turn(team, node, done) : turn_with(NULL, team, node, done);
+}
+
 void gerfmuod_team_stop(gerfmuod_team *team, uint32_t task) {
+    if (task != GERFMUOD_DAG_NONE && team->profile) profile_end_body(team->profile, task);
     pthread_mutex_lock(&team->lock);
     if (!team->is_over) fail(team, GERFMUOD_TEAM_STOPPED, task);
     pthread_mutex_unlock(&team->lock);
@@ -402,6 +438,55 @@ uint32_t gerfmuod_team_at(gerfmuod_team *team) {
     return at;
 }
 
+/* ---- times of a run */
+
+uint32_t gerfmuod_team_record(gerfmuod_team *team, uint32_t slices) {
+    pthread_mutex_lock(&team->lock);
+    uint32_t refused = check_description(team);
+    if (!refused && team->tasks) refused = refuse(team, GERFMUOD_DAG_WRONG_LIFE, GERFMUOD_DAG_NONE);
+    if (!refused) {
+        struct profile *profile = slices ? profile_open(slices) : NULL;
+        if (slices && !profile) refused = refuse(team, GERFMUOD_DAG_NO_MEMORY, GERFMUOD_DAG_NONE);
+        else profile_close(team->profile), team->profile = profile;
+    }
+    pthread_mutex_unlock(&team->lock);
+    return refused;
+}
+
+/* Returns the refusal if there is no run that ended and was recorded. */
+static uint32_t check_recorded(gerfmuod_team *team) {
+    bool has_ended = team->is_over || team->fault;
+    if (team->is_in_run || (team->threads && !has_ended)) return refuse(team, GERFMUOD_TEAM_RUNNING, GERFMUOD_DAG_NONE);
+    if (!team->threads || !team->profile) return refuse(team, GERFMUOD_DAG_WRONG_LIFE, GERFMUOD_DAG_NONE);
+    return GERFMUOD_DAG_OK;
+}
+
+static uint32_t waves_of(const gerfmuod_team *team) {
+    uint32_t waves = 0, kind;
+    for (uint32_t k = 0; (kind = gerfmuod_dag_step(&team->dag, k).kind) != NO_STEP; k++) waves += kind == STEP_START;
+    return waves;
+}
+
+/* Writes a text about the run that was recorded: the events, or the summary. */
+static uint32_t write_recorded(gerfmuod_team *team, FILE *file, bool is_summary) {
+    struct times times;
+    pthread_mutex_lock(&team->lock);
+    uint32_t refused = check_recorded(team);
+    if (!refused && !profile_times(team->profile, &times)) refused = refuse(team, GERFMUOD_DAG_NO_MEMORY, GERFMUOD_DAG_NONE);
+    if (!refused) {
+        if (is_summary) profile_summarize(file, team->profile, &times);
+        else profile_write(file, team->profile, &times, waves_of(team));
+        free(times.tasks);
+        if (fflush(file) || ferror(file)) refused = refuse(team, GERFMUOD_TEAM_NOT_WRITTEN, GERFMUOD_DAG_NONE);
+    }
+    pthread_mutex_unlock(&team->lock);
+    return refused;
+}
+
+uint32_t gerfmuod_team_profile(gerfmuod_team *team, FILE *file) { return write_recorded(team, file, false); }
+
+uint32_t gerfmuod_team_summary(gerfmuod_team *team, FILE *file) { return write_recorded(team, file, true); }
+
 /* ---- texts */
 
 static const struct refusal {
@@ -421,6 +506,7 @@ static const struct refusal {
     {GERFMUOD_TEAM_NOT_STARTED, "NotStarted", "the operating system started too few threads"},
     {GERFMUOD_TEAM_STOPPED, "Stopped", "a body failed, or the team was stopped"},
     {GERFMUOD_TEAM_RUNNING, "Running", "the pool is running"},
+    {GERFMUOD_TEAM_NOT_WRITTEN, "NotWritten", "the stream did not take the whole text"},
 };
 
 static const struct refusal *refusal_of(uint32_t number) {
@@ -440,7 +526,6 @@ static const struct word {
     int numbers;
 } words[] = {{"insert", 3}, {"supply", 1}, {"begin", 1}, {"done", 1}, {"open", 2},  {"close", 2}, {"ready", 1}, {"send", 3},
              {"recv", 2},   {"end", 2},    {"start", 0}, {"down", 1}, {"give", 1},  {"up", 1},    {"judge", 0}};
-enum { STEP_START = 10, STEP_JUDGE = 14, NO_STEP = 255 };
 
 struct text {
     char *room;
@@ -476,11 +561,10 @@ static void append_step(struct text *text, gerfmuod_dag_taken step, uint32_t wav
 
 size_t gerfmuod_team_trace(gerfmuod_team *team, char *room, size_t length) {
     struct text text = {room, length, 0};
-    uint32_t last_wave = 0, waves = 0;
+    uint32_t waves = 0;
     gerfmuod_dag_taken step;
     pthread_mutex_lock(&team->lock);
-    if (team->is_over)
-        for (uint32_t k = 0; (step = gerfmuod_dag_step(&team->dag, k)).kind != NO_STEP; k++) last_wave += step.kind == STEP_START;
+    uint32_t last_wave = team->is_over ? waves_of(team) : 0;
     append(&text, "trace 1\nnodes");
     append_number(&text, team->nodes);
     append(&text, "\n");

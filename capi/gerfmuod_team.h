@@ -14,8 +14,8 @@
  * returned before those of classes 1 to 3.
  *
  * This file and gerfmuod_team.c are C: they are tested, not proved. What the pool below guarantees is in gerfmuod_dag.h.
- * Every function except open, run, again and close may be called by several threads at once, also from a body, and by threads
- * that run no tasks. Each returns GERFMUOD_DAG_OK or the refusal: an enum gerfmuod_dag_refusal or an enum
+ * Every function except open, record, run, again, profile, summary and close may be called by several threads at once, also
+ * from a body, and by threads that run no tasks. Each returns GERFMUOD_DAG_OK or the refusal: an enum gerfmuod_dag_refusal or an enum
  * gerfmuod_team_refusal.
  *
  * Link with -lgerfmuod -pthread.
@@ -24,6 +24,8 @@
 #define GERFMUOD_TEAM_H
 
 #include "gerfmuod_dag.h"
+
+#include <stdio.h>
 
 #ifdef __cplusplus
 extern "C" {
@@ -36,7 +38,8 @@ enum gerfmuod_team_refusal {
     GERFMUOD_TEAM_NO_THREAD = 64,    /* a node with a task has no thread: `threads` is too small */
     GERFMUOD_TEAM_NOT_STARTED = 65,  /* the operating system started too few threads; no body ran */
     GERFMUOD_TEAM_STOPPED = 66,      /* a body failed, or gerfmuod_team_stop was called */
-    GERFMUOD_TEAM_RUNNING = 67       /* gerfmuod_team_run or gerfmuod_team_again was called while it runs */
+    GERFMUOD_TEAM_RUNNING = 67,      /* the call cannot be made while the pool runs */
+    GERFMUOD_TEAM_NOT_WRITTEN = 68   /* a stream did not take the whole text */
 };
 
 /* The body of all tasks: runs one of them. Returns 0 if the task is done; another value if it failed, and the team stops. */
@@ -96,6 +99,32 @@ const char *gerfmuod_team_meaning(uint32_t refused);
 /* Writes the steps of the pool as a trace, which `tp audit` judges: at most `length` bytes with a zero byte at the end.
  * Returns the length of the whole text without that byte, as snprintf does. */
 size_t gerfmuod_team_trace(gerfmuod_team *team, char *room, size_t length);
+
+/* ---- what a run spent its time on */
+
+/* Records each later run: when each body begins and ends and on which thread, and when threads wait. A thread writes into memory
+ * of its own, without a lock, and keeps its newest `slices` bodies and waits, of 24 bytes each. 0 ends recording. While a team
+ * records, its graph takes 3 bytes more for a task and 8 for an input, and a run is also refused as NO_MEMORY if there is no
+ * memory for the slices. Refused, and nothing changes: the reason that ends every turn; WRONG_LIFE if the team has a task or was
+ * started; NO_MEMORY. */
+uint32_t gerfmuod_team_record(gerfmuod_team *team, uint32_t slices);
+
+/* Writes the last run in Chrome's trace event format, JSON that Perfetto and chrome://tracing show as a timeline: a track for
+ * each thread that was announced, with a slice for each body (its task, node and class) and for each wait; an arrow for each
+ * message between nodes, from the body that sends it to the one that waits for it; and the waves, which run in the call that
+ * detects the end. Times are microseconds since the run's start, which `otherData` has as `start_ns` of CLOCK_MONOTONIC. It also
+ * has the numbers of gerfmuod_team_summary; `lost_slices`, the number of those that newer ones replaced; and `clock_went_back`:
+ * how often a thread read a time before its last one, which was taken instead, so that no duration is negative. No other thread
+ * may be in a turn or a body. Refused: RUNNING if the run has not ended; WRONG_LIFE if no run was recorded, or if
+ * gerfmuod_team_again was called since; NO_MEMORY, and nothing was written; NOT_WRITTEN if the stream fails, which may have
+ * taken a part. */
+uint32_t gerfmuod_team_profile(gerfmuod_team *team, FILE *file);
+
+/* Prints a line for each thread of the last run: the number of its tasks, and which shares of its time, since its first turn,
+ * were bodies, waiting for a task, and the rest: taking and reporting tasks, and waiting for the lock. The last line has the
+ * time of the run and, if the times of all bodies are known, that of the critical path: the longest chain of bodies that wait
+ * for each other. With any number of threads, a run of these bodies takes at least as long. Refused as gerfmuod_team_profile. */
+uint32_t gerfmuod_team_summary(gerfmuod_team *team, FILE *file);
 
 /* ---- with your own threads, such as those of OpenMP or Python, instead of gerfmuod_team_run */
 

@@ -41,11 +41,8 @@ class Detector {
     template <typename Call> void tell(const char *what, Number node, Number number, Call call) {
         std::lock_guard<std::mutex> held(lock);
         if (Number why = call(&core).refused) {
-            char name[16], meaning[128];
-            int n = static_cast<int>(gerfmuod_refusal_name(why, name, sizeof name).length);
-            int m = static_cast<int>(gerfmuod_refusal_meaning(why, meaning, sizeof meaning).length);
-            std::fprintf(stderr, "after step %u, %s %u at node %u: refused %u %.*s: %.*s\n", gerfmuod_length(&core),
-                         what, number, node, why, n, name, m, meaning);
+            std::fprintf(stderr, "after step %u, %s %u at node %u: refused %u %s\n", gerfmuod_length(&core), what, number,
+                         node, why, gerfmuod_refusal_text(why));
             std::_Exit(3);
         }
     }
@@ -151,9 +148,9 @@ class Pool {
         }
         detector.ask(gerfmuod_start);
         gerfmuod_answer sums = detector.ask([](auto *c) { return gerfmuod_give(c, 0); });
-        if (sums.told != GERFMUOD_WAVE) return false;
+        if (sums.told != GERFMUOD_TOLD_WAVE) return false;
         gerfmuod_answer judged = detector.ask(gerfmuod_judge);
-        if (sums.sent != sums.received || judged.told == GERFMUOD_ENDED) return judged.told == GERFMUOD_ENDED;
+        if (sums.sent != sums.received || judged.told == GERFMUOD_TOLD_ENDED) return judged.told == GERFMUOD_TOLD_ENDED;
         std::fprintf(stderr, "after step %u, the end after wave %u with %u sent and %u received: judged not\n",
                      detector.ask(gerfmuod_length), sums.number, sums.sent, sums.received);
         std::_Exit(3);

@@ -5,6 +5,7 @@ use std::sync::Mutex;
 use std::sync::atomic::{AtomicU32, Ordering};
 use std::thread;
 
+/// A `gerfmuod_core`. While it is all zeros it is not open, and every call refuses it.
 #[repr(C)]
 struct Core([u64; 64]);
 
@@ -19,54 +20,35 @@ struct Answer {
 }
 
 unsafe extern "C" {
-    fn gerfmuod_open(core: *mut Core, nodes: u32) -> u32;
-    fn gerfmuod_step(core: *mut Core, kind: u32, first: u32, second: u32, third: u32, generation: u32) -> Answer;
-    fn gerfmuod_close(core: *mut Core);
+    safe fn gerfmuod_open(core: &mut Core, nodes: u32) -> u32;
+    safe fn gerfmuod_close(core: &mut Core);
+    safe fn gerfmuod_ready(core: &mut Core, node: u32) -> Answer;
+    safe fn gerfmuod_send(core: &mut Core, from: u32, to: u32, message: u32, generation: u32) -> Answer;
+    safe fn gerfmuod_receive(core: &mut Core, node: u32, message: u32, generation: u32) -> Answer;
+    safe fn gerfmuod_message_end(core: &mut Core, node: u32, message: u32, generation: u32) -> Answer;
+    safe fn gerfmuod_start(core: &mut Core) -> Answer;
+    safe fn gerfmuod_down(core: &mut Core, node: u32) -> Answer;
+    safe fn gerfmuod_give(core: &mut Core, node: u32) -> Answer;
+    safe fn gerfmuod_up(core: &mut Core, node: u32) -> Answer;
+    safe fn gerfmuod_judge(core: &mut Core) -> Answer;
 }
+
+const TOLD_ENDED: u16 = 3;
+const FIRST_GENERATION: u32 = 1;
 
 /// A core that is open, on the heap.
 struct Detector(Box<Core>);
 
-#[derive(Clone, Copy)]
-enum Step {
-    Ready(u32),
-    Send(u32, u32, u32),
-    Receive(u32, u32),
-    MessageEnd(u32, u32),
-    Start,
-    Down(u32),
-    Give(u32),
-    Up(u32),
-    Judge,
-}
-
-const ENDED: u16 = 3;
-
 impl Detector {
     fn new(nodes: u32) -> Option<Detector> {
         let mut it = Detector(Box::new(Core([0; 64])));
-        (unsafe { gerfmuod_open(&mut *it.0, nodes) } == 0).then_some(it)
-    }
-
-    fn step(&mut self, step: Step) -> Answer {
-        let (kind, first, second, third) = match step {
-            Step::Ready(node) => (6, node, 0, 0),
-            Step::Send(from, to, message) => (7, from, to, message),
-            Step::Receive(node, message) => (8, node, message, 0),
-            Step::MessageEnd(node, message) => (9, node, message, 0),
-            Step::Start => (10, 0, 0, 0),
-            Step::Down(node) => (11, node, 0, 0),
-            Step::Give(node) => (12, node, 0, 0),
-            Step::Up(node) => (13, node, 0, 0),
-            Step::Judge => (14, 0, 0, 0),
-        };
-        unsafe { gerfmuod_step(&mut *self.0, kind, first, second, third, 1) }
+        (gerfmuod_open(&mut it.0, nodes) == 0).then_some(it)
     }
 }
 
 impl Drop for Detector {
     fn drop(&mut self) {
-        unsafe { gerfmuod_close(&mut *self.0) }
+        gerfmuod_close(&mut self.0)
     }
 }
 
@@ -84,33 +66,32 @@ struct Ring {
 
 impl Ring {
     /// Takes a step that must not be refused.
-    fn tell(&self, step: Step) {
-        let it = self.detector.lock().unwrap().step(step);
-        assert_eq!(it.refused, 0);
+    fn tell(&self, step: impl FnOnce(&mut Core) -> Answer) {
+        assert_eq!(self.ask(step).refused, 0);
     }
 
     /// Takes a step that may be refused, which then changes nothing.
-    fn ask(&self, step: Step) -> Answer {
-        self.detector.lock().unwrap().step(step)
+    fn ask(&self, step: impl FnOnce(&mut Core) -> Answer) -> Answer {
+        step(&mut self.detector.lock().unwrap().0)
     }
 
     fn send(&self, from: u32, hops: u32) {
         let (to, message) = ((from + 1) % NODES, self.messages.fetch_add(1, Ordering::SeqCst));
-        self.tell(Step::Send(from, to, message));
+        self.tell(|core| gerfmuod_send(core, from, to, message, FIRST_GENERATION));
         self.inboxes[to as usize].lock().unwrap().push_back((message, hops));
     }
 
     fn wave(&self, node: u32) {
         if node > 0 {
-            self.ask(Step::Down(node));
-            self.ask(Step::Give(node));
-            self.ask(Step::Up(node));
+            self.ask(|core| gerfmuod_down(core, node));
+            self.ask(|core| gerfmuod_give(core, node));
+            self.ask(|core| gerfmuod_up(core, node));
             return;
         }
-        self.ask(Step::Start);
-        self.ask(Step::Give(0));
-        let it = self.ask(Step::Judge);
-        if it.refused == 0 && it.told == ENDED {
+        self.ask(|core| gerfmuod_start(core));
+        self.ask(|core| gerfmuod_give(core, 0));
+        let it = self.ask(|core| gerfmuod_judge(core));
+        if it.refused == 0 && it.told == TOLD_ENDED {
             self.ended.store(it.number, Ordering::SeqCst);
         }
     }
@@ -121,7 +102,7 @@ impl Ring {
                 self.send(0, HOPS);
             }
         }
-        self.tell(Step::Ready(node));
+        self.tell(|core| gerfmuod_ready(core, node));
         while self.ended.load(Ordering::SeqCst) == 0 {
             let next = self.inboxes[node as usize].lock().unwrap().pop_front();
             let Some((message, hops)) = next else {
@@ -129,11 +110,11 @@ impl Ring {
                 thread::yield_now();
                 continue;
             };
-            self.tell(Step::Receive(node, message));
+            self.tell(|core| gerfmuod_receive(core, node, message, FIRST_GENERATION));
             if hops > 0 {
                 self.send(node, hops - 1);
             }
-            self.tell(Step::MessageEnd(node, message));
+            self.tell(|core| gerfmuod_message_end(core, node, message, FIRST_GENERATION));
         }
     }
 }

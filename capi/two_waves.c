@@ -1,5 +1,6 @@
 /* two_waves.c: a pool of two nodes from its opening to its end, reported event by event: one task, one message, two waves.
- * Wrong events are refused where they happen. Then the pool is reopened and terminates once more. */
+ * Wrong events are refused where they happen, also those of makers that are over or elsewhere. Then the pool is reopened and
+ * terminates once more, and at last it begins anew without its steps. */
 #include "gerfmuod.h"
 
 #include <stdio.h>
@@ -16,11 +17,12 @@
 
 /* The step was taken, and showed nothing more. */
 static void taken(gerfmuod_answer it) {
-    CHECK(it.refused == 0 && it.told == GERFMUOD_PLAIN && it.number == 0 && it.sent == 0 && it.received == 0);
+    CHECK(it.refused == 0 && it.told == GERFMUOD_TOLD_PLAIN && it.number == 0 && it.sent == 0 && it.received == 0);
 }
 
 static void refused(gerfmuod_answer it, unsigned why) {
-    CHECK(it.refused == why && it.told == GERFMUOD_PLAIN);
+    if (it.refused != why) fprintf(stderr, "refused %u, %s\n", it.refused, gerfmuod_refusal_text(it.refused));
+    CHECK(it.refused == why && it.told == GERFMUOD_TOLD_PLAIN);
 }
 
 /* A wave over both nodes: checks its sums. Returns the judgement. */
@@ -30,7 +32,7 @@ static gerfmuod_answer wave(gerfmuod_core *core, uint32_t number, uint32_t messa
     taken(gerfmuod_give(core, 1));
     taken(gerfmuod_up(core, 1));
     gerfmuod_answer sums = gerfmuod_give(core, 0);
-    CHECK(sums.refused == 0 && sums.told == GERFMUOD_WAVE && sums.number == number);
+    CHECK(sums.refused == 0 && sums.told == GERFMUOD_TOLD_WAVE && sums.number == number);
     CHECK(sums.sent == messages && sums.received == messages);
     gerfmuod_answer judged = gerfmuod_judge(core);
     CHECK(judged.refused == 0);
@@ -54,7 +56,31 @@ static void one_task_and_a_message(gerfmuod_core *core, uint32_t generation) {
     CHECK(gerfmuod_settle(core).refused == GERFMUOD_REFUSED_NOT_IDLE);
     taken(gerfmuod_action_open(core, 1, 3));
     taken(gerfmuod_message_end(core, 1, 1, generation));
-    taken(gerfmuod_action_close(core, 1, 3));
+    gerfmuod_answer last = gerfmuod_action_close(core, 1, 3);
+    CHECK(last.refused == 0 && last.told == GERFMUOD_TOLD_QUIET); /* nothing is left */
+}
+
+/* The same pool, with what makes each step. */
+static void with_makers(gerfmuod_core *core) {
+    const uint32_t generation = GERFMUOD_FIRST_GENERATION;
+    taken(gerfmuod_insert_by(core, GERFMUOD_BY_OPENING, 0, 0, 7, 1));
+    taken(gerfmuod_supply_by(core, GERFMUOD_BY_OPENING, 0, 7));
+    taken(gerfmuod_ready(core, 0));
+    refused(gerfmuod_begin_at(core, 1, 7), GERFMUOD_REFUSED_NO_MAKER); /* its home is node 0 */
+    taken(gerfmuod_begin_at(core, 0, 7));
+    refused(gerfmuod_insert_by(core, GERFMUOD_BY_OPENING, 0, 0, 8, 0), GERFMUOD_REFUSED_NO_MAKER); /* that is over */
+    refused(gerfmuod_insert_by(core, GERFMUOD_BY_TASK, 7, 1, 8, 0), GERFMUOD_REFUSED_NO_MAKER);    /* it is at node 0 */
+    taken(gerfmuod_open_by(core, GERFMUOD_BY_TASK, 7, 0, 3));
+    taken(gerfmuod_send_by(core, GERFMUOD_BY_ACTION, 3, 0, 1, 1, generation));
+    taken(gerfmuod_done_at(core, 0, 7));
+    refused(gerfmuod_insert_by(core, GERFMUOD_BY_TASK, 7, 0, 8, 0), GERFMUOD_REFUSED_NO_MAKER); /* node 0 is busy */
+    taken(gerfmuod_action_close(core, 0, 3));
+    taken(gerfmuod_receive(core, 1, 1, generation));
+    taken(gerfmuod_insert_by(core, GERFMUOD_BY_MESSAGE, 1, 1, 8, 0));
+    taken(gerfmuod_message_end(core, 1, 1, generation));
+    taken(gerfmuod_begin_at(core, 1, 8));
+    taken(gerfmuod_done_at(core, 1, 8));
+    CHECK(gerfmuod_ready(core, 1).told == GERFMUOD_TOLD_QUIET);
 }
 
 static void questions(gerfmuod_core *core) {
@@ -63,7 +89,7 @@ static void questions(gerfmuod_core *core) {
     own = gerfmuod_numbers(core, 2);
     CHECK(own.refused == GERFMUOD_REFUSED_NO_NODE && own.pending == 0 && own.sent == 0 && own.received == 0);
     gerfmuod_pool all = gerfmuod_whole(core);
-    CHECK(all.under_way == 0 && all.quiet && all.steps + all.room == GERFMUOD_MAX_STEPS);
+    CHECK(all.under_way == 0 && all.quiet && all.steps + all.room == GERFMUOD_MAX_STEPS - 2 * GERFMUOD_SETTLE_STEPS);
     CHECK(gerfmuod_length(core) == all.steps && gerfmuod_room(core) == all.room);
 }
 
@@ -71,8 +97,9 @@ static void opened_wrongly(void) {
     gerfmuod_core core;
     CHECK(gerfmuod_open(&core, 0) == GERFMUOD_REFUSED_BAD_SPEC);
     CHECK(gerfmuod_open(&core, 9) == GERFMUOD_REFUSED_BAD_SPEC);
-    refused(gerfmuod_ready(&core, 1), GERFMUOD_REFUSED_NO_NODE); /* it has one node */
-    taken(gerfmuod_ready(&core, 0));
+    refused(gerfmuod_ready(&core, 0), GERFMUOD_REFUSED_NO_POOL);
+    CHECK(gerfmuod_settle(&core).refused == GERFMUOD_REFUSED_NO_POOL && !gerfmuod_whole(&core).quiet);
+    gerfmuod_close(&core);
     gerfmuod_close(&core);
 }
 
@@ -87,12 +114,12 @@ int main(void) {
     refused(gerfmuod_reopen(&core), GERFMUOD_REFUSED_WRONG_LIFE);
     one_task_and_a_message(&core, GERFMUOD_FIRST_GENERATION);
     questions(&core);
-    CHECK(wave(&core, 1, 1).told == GERFMUOD_NOT);
+    CHECK(wave(&core, 1, 1).told == GERFMUOD_TOLD_NOT);
     gerfmuod_answer end = wave(&core, 2, 1);
-    CHECK(end.told == GERFMUOD_ENDED && end.number == 1);
+    CHECK(end.told == GERFMUOD_TOLD_ENDED && end.number == 1);
     refused(gerfmuod_start(&core), GERFMUOD_REFUSED_ENDED);
     gerfmuod_answer next = gerfmuod_reopen(&core);
-    CHECK(next.refused == 0 && next.told == GERFMUOD_REOPENED && next.number == 2);
+    CHECK(next.refused == 0 && next.told == GERFMUOD_TOLD_REOPENED && next.number == 2);
     gerfmuod_core moved = core; /* between two calls */
     memset(&core, 255, sizeof core);
     one_task_and_a_message(&moved, 2);
@@ -100,6 +127,12 @@ int main(void) {
     CHECK(settled.refused == 0 && settled.wave == 1 && settled.steps == 12);
     CHECK(gerfmuod_settle(&moved).refused == GERFMUOD_REFUSED_ENDED);
     printf("two generations, %u steps: each ended with wave %u\n", gerfmuod_length(&moved), settled.wave);
+    CHECK(gerfmuod_restart(&moved) == 0 && gerfmuod_length(&moved) == 0);
+    CHECK(gerfmuod_restart(&moved) == GERFMUOD_REFUSED_WRONG_LIFE);
+    with_makers(&moved);
+    settled = gerfmuod_settle(&moved);
+    CHECK(settled.refused == 0 && settled.wave == 1);
     gerfmuod_close(&moved);
+    refused(gerfmuod_start(&moved), GERFMUOD_REFUSED_NO_POOL);
     return 0;
 }

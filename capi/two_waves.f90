@@ -1,77 +1,122 @@
 ! two_waves.f90: a pool of two nodes from Fortran, with iso_c_binding: one message, then two waves that detect the end.
-module gerfmuod
+module detector
   use iso_c_binding
   implicit none
 
-  type, bind(c) :: core_t
+  type, bind(c) :: gerfmuod_core
     integer(c_int64_t) :: words(64)
   end type
 
-  type, bind(c) :: answer_t
+  type, bind(c) :: gerfmuod_answer
     integer(c_int16_t) :: refused, told
     integer(c_int32_t) :: number, sent, received
   end type
 
-  integer(c_int32_t), parameter :: ready = 6, send = 7, receive = 8, message_end = 9
-  integer(c_int32_t), parameter :: start = 10, down = 11, give = 12, up = 13, judge = 14
-  integer(c_int32_t), parameter :: first_generation = 1
-  integer(c_int16_t), parameter :: told_not = 2, told_ended = 3
+  integer(c_int32_t), parameter :: gerfmuod_first_generation = 1
+  integer(c_int16_t), parameter :: gerfmuod_told_not = 2, gerfmuod_told_ended = 3, gerfmuod_told_quiet = 5
 
   interface
     function gerfmuod_open(core, nodes) bind(c) result(refused)
       import
-      type(core_t) :: core
+      type(gerfmuod_core) :: core
       integer(c_int32_t), value :: nodes
       integer(c_int32_t) :: refused
     end function
-    function gerfmuod_step(core, kind, first, second, third, generation) bind(c) result(answer)
-      import
-      type(core_t) :: core
-      integer(c_int32_t), value :: kind, first, second, third, generation
-      type(answer_t) :: answer
-    end function
     subroutine gerfmuod_close(core) bind(c)
       import
-      type(core_t) :: core
+      type(gerfmuod_core) :: core
     end subroutine
+    function gerfmuod_ready(core, node) bind(c) result(answer)
+      import
+      type(gerfmuod_core) :: core
+      integer(c_int32_t), value :: node
+      type(gerfmuod_answer) :: answer
+    end function
+    function gerfmuod_send(core, from, to, message, generation) bind(c) result(answer)
+      import
+      type(gerfmuod_core) :: core
+      integer(c_int32_t), value :: from, to, message, generation
+      type(gerfmuod_answer) :: answer
+    end function
+    function gerfmuod_receive(core, node, message, generation) bind(c) result(answer)
+      import
+      type(gerfmuod_core) :: core
+      integer(c_int32_t), value :: node, message, generation
+      type(gerfmuod_answer) :: answer
+    end function
+    function gerfmuod_message_end(core, node, message, generation) bind(c) result(answer)
+      import
+      type(gerfmuod_core) :: core
+      integer(c_int32_t), value :: node, message, generation
+      type(gerfmuod_answer) :: answer
+    end function
+    function gerfmuod_start(core) bind(c) result(answer)
+      import
+      type(gerfmuod_core) :: core
+      type(gerfmuod_answer) :: answer
+    end function
+    function gerfmuod_down(core, node) bind(c) result(answer)
+      import
+      type(gerfmuod_core) :: core
+      integer(c_int32_t), value :: node
+      type(gerfmuod_answer) :: answer
+    end function
+    function gerfmuod_give(core, node) bind(c) result(answer)
+      import
+      type(gerfmuod_core) :: core
+      integer(c_int32_t), value :: node
+      type(gerfmuod_answer) :: answer
+    end function
+    function gerfmuod_up(core, node) bind(c) result(answer)
+      import
+      type(gerfmuod_core) :: core
+      integer(c_int32_t), value :: node
+      type(gerfmuod_answer) :: answer
+    end function
+    function gerfmuod_judge(core) bind(c) result(answer)
+      import
+      type(gerfmuod_core) :: core
+      type(gerfmuod_answer) :: answer
+    end function
   end interface
 contains
-  ! Takes a step that must not be refused.
-  function taken(core, kind, first, second, third) result(it)
-    type(core_t), intent(inout) :: core
-    integer(c_int32_t), intent(in) :: kind, first, second, third
-    type(answer_t) :: it
-    it = gerfmuod_step(core, kind, first, second, third, first_generation)
-    if (it%refused /= 0) then
-      print '(a, i0, a, i0)', 'kind ', kind, ' refused ', it%refused
+  ! The step must not be refused. Returns what it showed.
+  function taken(answer) result(told)
+    type(gerfmuod_answer), intent(in) :: answer
+    integer(c_int16_t) :: told
+    if (answer%refused /= 0) then
+      print '(a, i0)', 'refused ', answer%refused
       stop 1
     end if
+    told = answer%told
   end function
 end module
 
 program two_waves
-  use gerfmuod
+  use detector
   implicit none
-  type(core_t) :: core
-  type(answer_t) :: it
+  integer(c_int32_t), parameter :: g = gerfmuod_first_generation
+  type(gerfmuod_core) :: core
+  type(gerfmuod_answer) :: sums, judged
+  integer(c_int16_t) :: told
   integer :: wave
-  if (gerfmuod_open(core, 2_c_int32_t) /= 0) stop 1
-  it = taken(core, send, 0, 1, 5)
-  it = taken(core, receive, 1, 5, 0)
-  it = taken(core, message_end, 1, 5, 0)
-  it = taken(core, ready, 0, 0, 0)
-  it = taken(core, ready, 1, 0, 0)
+  if (gerfmuod_open(core, 2) /= 0) stop 1
+  told = taken(gerfmuod_send(core, 0, 1, 5, g))
+  told = taken(gerfmuod_receive(core, 1, 5, g))
+  told = taken(gerfmuod_message_end(core, 1, 5, g))
+  told = taken(gerfmuod_ready(core, 0))
+  if (taken(gerfmuod_ready(core, 1)) /= gerfmuod_told_quiet) stop 1
   do wave = 1, 2
-    it = taken(core, start, 0, 0, 0)
-    it = taken(core, down, 1, 0, 0)
-    it = taken(core, give, 1, 0, 0)
-    it = taken(core, up, 1, 0, 0)
-    it = taken(core, give, 0, 0, 0)
-    if (it%sent /= 1 .or. it%received /= 1) stop 1
-    it = taken(core, judge, 0, 0, 0)
-    if (wave == 1 .and. it%told /= told_not) stop 1
+    told = taken(gerfmuod_start(core))
+    told = taken(gerfmuod_down(core, 1))
+    told = taken(gerfmuod_give(core, 1))
+    told = taken(gerfmuod_up(core, 1))
+    sums = gerfmuod_give(core, 0)
+    if (sums%refused /= 0 .or. sums%sent /= 1 .or. sums%received /= 1) stop 1
+    judged = gerfmuod_judge(core)
+    if (wave == 1 .and. judged%told /= gerfmuod_told_not) stop 1
   end do
-  if (it%told /= told_ended .or. it%number /= 1) stop 1
-  print '(a, i0)', 'ended with wave ', it%number
+  if (judged%told /= gerfmuod_told_ended .or. judged%number /= 1) stop 1
+  print '(a, i0)', 'ended with wave ', judged%number
   call gerfmuod_close(core)
 end program

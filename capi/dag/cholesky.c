@@ -1,18 +1,19 @@
 /* cholesky.c: Cholesky factorization of a matrix of doubles in tiles. A task is one kernel on one tile; it waits for the last
  * writers of the tiles that it reads and writes. Each result is compared with a factorization of the whole matrix.
  *
- *   cholesky ORDER TILE ROUNDS WAY..     ORDER is a multiple of TILE; a WAY is
+ *   cholesky [--profile FILE] ORDER TILE ROUNDS WAY..     ORDER is a multiple of TILE; a WAY is
  *     NxT       a pool of N nodes with T threads each
  *     loop      the tiles in sequence
  *     omp:T     OpenMP's tasks with `depend`                     (built with -fopenmp)
  *     whole:T   one call of OpenBLAS's dpotrf, with T threads    (built with -DHAVE_BLAS)
  *     starpu    StarPU, with STARPU_NCPU workers                 (built with -DHAVE_STARPU, only for this way)
  *
+ * With --profile pools record their runs, and FILE gets the trace events of the last one.
  * With -DHAVE_BLAS the kernels are those of BLAS and LAPACK, else plain loops. OPENBLAS_NUM_THREADS=1 has to be set.
  */
 #define _POSIX_C_SOURCE 200809L
-#include "gerfmuod_team.h"
 #include "kernels.h"
+#include "profiled.h"
 #include "timing.h"
 #include <math.h>
 #include <string.h>
@@ -95,11 +96,10 @@ static int body(void *context, uint32_t task) { return run(((const job *)context
 
 static void by_pool(uint32_t nodes, uint32_t threads) {
     graph g = graph_of(nodes);
-    gerfmuod_team *team;
-    need(gerfmuod_team_open(&team, nodes), "open");
+    gerfmuod_team *team = open_team(nodes);
     need(gerfmuod_team_describe(team, g.tasks, g.nodes, g.classes, g.offsets, g.inputs), "describe");
     need(gerfmuod_team_run(team, nodes * threads, body, g.jobs), "run");
-    gerfmuod_team_close(team);
+    close_team(team);
     drop(&g);
 }
 
@@ -207,6 +207,7 @@ static double whole(const double *start, double *copy, int threads) {
 
 int main(int argc, char **argv) {
     static double times[MAX_WAYS][MAX_ROUNDS];
+    take_profile_option(&argc, &argv);
     if (argc < 5 || argc - 4 > MAX_WAYS || atoi(argv[3]) >= MAX_ROUNDS) return 1;
     order = atoi(argv[1]), tile = atoi(argv[2]), tiles = order / tile;
     int rounds = atoi(argv[3]);
@@ -245,6 +246,7 @@ int main(int argc, char **argv) {
 #ifdef HAVE_STARPU
     starpu_shutdown();
 #endif
+    write_profile();
     free(start), free(wanted), free(copy), free(work);
     return 0;
 }

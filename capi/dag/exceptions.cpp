@@ -1,5 +1,5 @@
 // exceptions.cpp: tests of exceptions and refusals in gerfmuod.hpp, of a graph on two nodes with its trace, of inputs from
-// outside, and of graphs that run again.
+// outside, of graphs that run again, and of recorded times.
 #include "gerfmuod.hpp"
 
 #include <cstdio>
@@ -126,8 +126,26 @@ static bool repeats() {
     return is_thrown && seen == 12 && early.rfind("WrongLife:", 0) == 0 && late.rfind("Stopped", 0) == 0;
 }
 
+// A run is recorded, and its events and the summary are written to a file.
+static bool records() {
+    gerfmuod::Pool pool, late;
+    late.task([] {});
+    std::string refused = refusal([&] { late.record(); }), early = refusal([&] { pool.profile(stdout); });
+    pool.record(8);
+    pool.task([] {});
+    pool.run(1);
+    std::FILE *file = std::tmpfile();
+    if (!file) return false;
+    pool.profile(file);
+    long events = std::ftell(file);
+    pool.summary(file);
+    bool is_longer = std::ftell(file) > events;
+    std::fclose(file);
+    return events > 0 && is_longer && refused.rfind("WrongLife:", 0) == 0 && early.rfind("WrongLife:", 0) == 0;
+}
+
 int main() {
-    bool well = sums() && stops() && refuses() && waits() && repeats();
+    bool well = sums() && stops() && refuses() && waits() && repeats() && records();
     std::printf("%s\n", well ? "as it should be" : "not as it should be");
     return well ? 0 : 1;
 }

@@ -181,23 +181,28 @@ static bool is_complete(const uint8_t *ran, int times) {
     return true;
 }
 
-static void check_team(void) {
+/* A team whose Nth allocation fails, which records its runs or does not. */
+static void check_team(bool records) {
     bool has_failed = true;
+    FILE *file = fopen("/dev/null", "w");
     for (long n = 1; has_failed; n++) {
         uint8_t ran[TASKS] = {0};
         gerfmuod_team *team;
         uint32_t refused = 0, inputs[2];
         allocations_left = n;
         uint32_t opened = gerfmuod_team_open(&team, 1);
-        for (uint32_t t = 0; t < TASKS && !opened && !refused; t++) {
+        if (!opened && records) refused = gerfmuod_team_record(team, TASKS);
+        bool is_open = !opened && !refused;
+        for (uint32_t t = 0; t < TASKS && is_open && !refused; t++) {
             inputs[0] = t - 1, inputs[1] = t - 2;
             refused = gerfmuod_team_task(team, 0, 0, inputs, t < 2 ? t : 2, NULL);
         }
-        if (!opened) refused = gerfmuod_team_run(team, 1, body, ran);
-        bool has_run = !opened && !refused;
+        if (is_open) refused = gerfmuod_team_run(team, 1, body, ran);
+        bool has_run = is_open && !refused;
         if (has_run) refused = gerfmuod_team_again(team);
         if (has_run && !refused) refused = gerfmuod_team_run(team, 1, body, ran);
         else if (has_run) check("again after a failure", !gerfmuod_team_again(team));
+        if (has_run && !refused && records) refused = gerfmuod_team_profile(team, file);
         has_failed = allocations_left < 0;
         allocations_left = -1;
         check("a team without memory", !opened || (opened == GERFMUOD_DAG_NO_MEMORY && !team));
@@ -206,6 +211,7 @@ static void check_team(void) {
         check("all ran twice if none failed", has_failed || is_complete(ran, 2));
         gerfmuod_team_close(team);
     }
+    check("a stream", file && !fclose(file));
 }
 
 static void check_threads(void) {
@@ -261,7 +267,8 @@ static void check_memory(void) {
 
 int main(void) {
     check_pool();
-    check_team();
+    check_team(false);
+    check_team(true);
     check_threads();
     check_memory();
     printf("%d results checked, %d not as they should be\n", checked, failed);

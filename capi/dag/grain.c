@@ -1,15 +1,15 @@
 /* grain.c: the overhead of a task: graphs of small tasks with bodies of a chosen length.
  *
- *   grain SHAPE TASKS ITERATIONS ROUNDS WAY..     shapes.h describes the SHAPEs; a WAY is
+ *   grain [--profile FILE] SHAPE TASKS ITERATIONS ROUNDS WAY..     shapes.h describes the SHAPEs; a WAY is
  *     NxT     a pool of N nodes with T threads each; task t is at node t modulo N
  *     loop    the bodies in sequence
  *     omp:T   OpenMP's tasks with `depend`     (built with -fopenmp)
  *
- * Each body checks that its inputs are done and that it runs for the first time. The times include describing the graph and
- * running it.
+ * With --profile pools record their runs, and FILE gets the trace events of the last one. Each body checks that its inputs are
+ * done and that it runs for the first time. The times include describing the graph and running it.
  */
 #define _POSIX_C_SOURCE 200809L
-#include "gerfmuod_team.h"
+#include "profiled.h"
 #include "shapes.h"
 #include "timing.h"
 
@@ -20,14 +20,13 @@ static int body(void *context, uint32_t task) {
 }
 
 static void by_pool(uint32_t nodes, uint32_t threads) {
-    gerfmuod_team *team;
     uint8_t *homes = malloc((size_t)task_count + 1);
     need(!homes, "malloc");
     for (uint32_t t = 0; t < task_count; t++) homes[t] = (uint8_t)(t % nodes);
-    need(gerfmuod_team_open(&team, nodes), "open");
+    gerfmuod_team *team = open_team(nodes);
     need(gerfmuod_team_describe(team, task_count, homes, NULL, offsets, inputs), "describe");
     need(gerfmuod_team_run(team, nodes * threads, body, NULL), "run");
-    gerfmuod_team_close(team);
+    close_team(team);
     free(homes);
 }
 
@@ -74,6 +73,7 @@ static void go(const char *way) {
 
 int main(int argc, char **argv) {
     static double times[MAX_WAYS][MAX_ROUNDS];
+    take_profile_option(&argc, &argv);
     if (argc < 6 || argc - 5 > MAX_WAYS || atoi(argv[4]) >= MAX_ROUNDS) return 1;
     task_count = (uint32_t)atol(argv[2]);
     iterations = atol(argv[3]);
@@ -91,6 +91,7 @@ int main(int argc, char **argv) {
             }
         }
     for (int w = 5; w < argc; w++) print_times(argv[w], task_count, times[w - 5], rounds);
+    write_profile();
     free(offsets), free(inputs), free(has_ended);
     return 0;
 }

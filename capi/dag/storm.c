@@ -2,7 +2,8 @@
  * there, and that it runs for the first time. Its data has no lock and no atomics, so ThreadSanitizer also checks that the pool
  * orders the bodies.
  *
- *   storm ROUNDS [SEED [early]]     early: threads report tasks as done before they run them; this has to be detected
+ *   storm ROUNDS [SEED [early | FOLDER]]     early: threads report tasks as done before they run them; this has to be detected.
+ *                                            Else each run writes its trace and its events into FOLDER
  *
  * Every second round runs on its own threads with gerfmuod_team_turn, which begin before the pool is started or after it.
  * Some rounds have a body that fails. One more thread releases the inputs from outside in random order, before the start and
@@ -31,6 +32,8 @@ static char has_ended[MOST], awaited[MOST], has_come[MOST];
 static int wrong, unreleased; /* bodies that ran too early or twice, releases that were refused; only written if there are some */
 static uint32_t repeated; /* runs that were not the first of their graph */
 static bool is_early;
+static const char *folder; /* for the traces and events; NULL if there are none */
+static unsigned written;
 static gerfmuod_team *team;
 
 static uint32_t below(uint32_t limit) {
@@ -146,6 +149,25 @@ static bool is_complete(void) {
     return true;
 }
 
+/* Opens a file of this run in the folder. */
+static FILE *new_file(const char *ending) {
+    char path[4096];
+    snprintf(path, sizeof path, "%s/%u.%s", folder, written, ending);
+    FILE *file = fopen(path, "w");
+    need(!file, path);
+    return file;
+}
+
+/* Writes what was recorded of a run. */
+static void write_run(const char *trace) {
+    if (!folder) return;
+    FILE *events = new_file("json"), *steps = new_file("trace");
+    need(gerfmuod_team_profile(team, events), "profile");
+    fputs(trace, steps);
+    need(fclose(events) || fclose(steps), folder);
+    written++;
+}
+
 /* Returns whether the audit finds the trace sound; true if the library has no audit. */
 static bool is_sound(void) {
     size_t length = gerfmuod_team_trace(team, NULL, 0);
@@ -154,6 +176,7 @@ static bool is_sound(void) {
     gerfmuod_written judged = {GERFMUOD_WRITTEN, 0};
     if (gerfmuod_audit) judged = gerfmuod_audit(text, length, verdict, sizeof verdict);
     if (judged.outcome != GERFMUOD_WRITTEN) printf("%.*s\n", (int)judged.length, verdict);
+    write_run(text);
     free(text);
     return judged.outcome == GERFMUOD_WRITTEN;
 }
@@ -180,6 +203,7 @@ static bool round_is_well(uint32_t round) {
     if (round % 10 == 0 && !is_early) draw_meeting();
     else draw_graph();
     need(gerfmuod_team_open(&team, nodes), "open");
+    if (folder) need(gerfmuod_team_record(team, 2 * MOST), "record");
     need(gerfmuod_team_describe(team, tasks, homes, classes, offsets, inputs), "describe");
     bool is_well = run_is_well(round, round);
     for (uint32_t again = below(3); again > 0 && is_well && failing == GERFMUOD_DAG_NONE; again--) {
@@ -196,7 +220,8 @@ static bool round_is_well(uint32_t round) {
 int main(int argc, char **argv) {
     uint32_t rounds = argc > 1 ? (uint32_t)atoi(argv[1]) : 100;
     if (argc > 2) seed = (uint64_t)atoll(argv[2]) * 2 + 1;
-    is_early = argc > 3;
+    is_early = argc > 3 && !strcmp(argv[3], "early");
+    folder = argc > 3 && !is_early ? argv[3] : NULL;
     for (uint32_t round = 0; round < rounds; round++)
         if (!round_is_well(round)) return 1;
     printf("%u rounds, %u repeated, each task once and after all that it waits for%s\n", rounds, repeated,

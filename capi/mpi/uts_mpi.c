@@ -2,14 +2,17 @@
  * a random other one for some of its nodes. A detector reports when the whole tree is searched.
  *
  *   mpicc -O2 -Icapi capi/mpi/uts_mpi.c -Llib -lgerfmuod -lm -o uts_mpi
- *   mpirun -n 4 ./uts_mpi T1|T3|T0 [proved|hand|safra|reductions] [right|late|late_kept|early|uncounted] [seed]
+ *   mpirun -n 4 ./uts_mpi [--profile FILE] T1|T3|T0 [proved|hand|safra|reductions] [right|late|late_kept|early|uncounted] [seed]
  *
  * Messages with nodes are counted. Requests and refusals of requests create no work, so they need not be counted.
  * The third argument selects a faulty variant, to show that the check can fail. late: counts a receipt after its work, and
  * sends even if the detector refuses. late_kept: the same, but obeys the refusals. early: closes the work of a message
- * when it comes. uncounted: does not count what it sends; it never ends. The exit status is 1 if nodes are missing. */
+ * when it comes. uncounted: does not count what it sends; it never ends. The exit status is 1 if nodes are missing.
+ * With --profile, FILE gets the searches, the messages with nodes and the waves of all processes as trace events. */
+#define _POSIX_C_SOURCE 200809L
 #include <mpi.h>
 #include "detectors.h"
+#include "rank_events.h"
 #include "uts.h"
 #include <inttypes.h>
 #include <stdio.h>
@@ -27,6 +30,8 @@ static node *stack;
 static size_t many;
 static uint64_t nodes, leaves, steals, asks, refusals, left, late;
 static double last_work, told_at;
+static rank_events events; /* nothing is recorded without --profile, nor the waves of other detectors */
+static wave_log waves;
 static uint64_t seed;
 
 static uint32_t draw(void) {
@@ -36,10 +41,20 @@ static uint32_t draw(void) {
     return (uint32_t)(seed >> 32);
 }
 
+static void note_wave(unsigned next, const control *c) {
+    if (events.kept && d.kind == PROVED) wave_log_note(&waves, &d.proved, next, c, nanoseconds_now());
+}
+
+static unsigned next_of_detector(control *c) {
+    unsigned next = detector_next(&d, c);
+    note_wave(next, c);
+    return next;
+}
+
 static void ask_detector(void) {
     control c;
     unsigned next;
-    while ((next = detector_next(&d, &c)) == GERFMUOD_PROCESS_SEND)
+    while ((next = next_of_detector(&c)) == GERFMUOD_PROCESS_SEND)
         MPI_Send(&c, sizeof c, MPI_BYTE, (int)c.to, CONTROL, MPI_COMM_WORLD);
     if (next == GERFMUOD_PROCESS_ENDED && !has_ended) {
         has_ended = true;
@@ -61,6 +76,7 @@ static void give_work(int to) {
         MPI_Send(NULL, 0, MPI_BYTE, to, NONE, MPI_COMM_WORLD);
         return;
     }
+    note_message(&events, SENT_WORK, to);
     MPI_Send(stack, (int)(give * sizeof(node)), MPI_BYTE, to, WORK, MPI_COMM_WORLD);
     memmove(stack, stack + give, (many - give) * sizeof(node));
     many -= give;
@@ -72,6 +88,8 @@ static void take_work(const MPI_Status *s) {
     if (wrong == LATE || wrong == LATE_KEPT) uncounted_receipts++;
     else count_receipt();
     MPI_Recv(stack + many, bytes, MPI_BYTE, s->MPI_SOURCE, WORK, MPI_COMM_WORLD, MPI_STATUS_IGNORE);
+    note_search(&events, true);
+    note_message(&events, RECEIVED_WORK, s->MPI_SOURCE);
     many += (size_t)bytes / sizeof(node);
     steals++;
     asked = -1;
@@ -89,6 +107,7 @@ static bool poll(void) {
         control c;
         MPI_Recv(&c, sizeof c, MPI_BYTE, s.MPI_SOURCE, CONTROL, MPI_COMM_WORLD, MPI_STATUS_IGNORE);
         detector_take(&d, &c);
+        note_wave(GERFMUOD_PROCESS_NOTHING, &c);
     } else if (s.MPI_TAG == WORK) {
         take_work(&s);
     } else {
@@ -113,6 +132,7 @@ static void search(const tree *t) {
 /* Closes the piece of work that the beginning or the last message opened. */
 static void finish_work(void) {
     is_working = false;
+    note_search(&events, false);
     last_work = MPI_Wtime();
     if (uncounted_receipts) {
         count_receipt();
@@ -171,14 +191,19 @@ int main(int argc, char **argv) {
     MPI_Init(&argc, &argv);
     MPI_Comm_rank(MPI_COMM_WORLD, &me);
     MPI_Comm_size(MPI_COMM_WORLD, &n);
+    const char *profile = argc > 2 && !strcmp(argv[1], "--profile") ? argv[2] : NULL;
+    if (profile) argc -= 2, argv += 2, open_events(&events, n);
+    int64_t offset = profile ? clock_offset(me, n) : 0;
     const tree *t = uts_tree(argc > 1 ? argv[1] : "T1");
     const char *kind = argc > 2 ? argv[2] : "proved", *how = argc > 3 ? argv[3] : "right";
     while (wrong < UNCOUNTED && strcmp(how, names[wrong])) wrong++;
     seed = 0x9e3779b97f4a7c15u * (uint64_t)(me + 1) + (argc > 4 ? strtoull(argv[4], NULL, 10) * 0xd1342543de82ef95u : 0);
     stack = malloc(ROOM * sizeof *stack);
     if (!stack) MPI_Abort(MPI_COMM_WORLD, 9);
+    uint64_t before = nanoseconds_now();
     MPI_Barrier(MPI_COMM_WORLD);
     double begun = MPI_Wtime();
+    note_search(&events, true);
     detector_new(&d, detector_named(kind), me, n);
     if (me == 0) stack[many++] = uts_root(t);
     while (!has_ended) {
@@ -190,6 +215,10 @@ int main(int argc, char **argv) {
     }
     drain();
     int is_right = report(t, kind, how, begun);
+    if (profile && !write_events(&events, &waves, profile, before, offset, me, n)) {
+        fprintf(stderr, "%s: not written\n", profile);
+        MPI_Abort(MPI_COMM_WORLD, 4);
+    }
     MPI_Finalize();
     return is_right ? 0 : 1;
 }

@@ -61,6 +61,11 @@ def _declare(library: ctypes.CDLL) -> ctypes.CDLL:
         "gerfmuod_team_name": (ctypes.c_char_p, [u32]),
         "gerfmuod_team_meaning": (ctypes.c_char_p, [u32]),
         "gerfmuod_team_trace": (size, [team, ctypes.c_char_p, size]),
+        "gerfmuod_team_record": (u32, [team, u32]),
+        "gerfmuod_team_profile": (u32, [team, ctypes.c_void_p]),
+        "gerfmuod_team_summary": (u32, [team, ctypes.c_void_p]),
+        "fopen": (ctypes.c_void_p, [ctypes.c_char_p, ctypes.c_char_p]),  # of the C library
+        "fclose": (ctypes.c_int, [ctypes.c_void_p]),
     }
     for name, (result, arguments) in types.items():
         function = getattr(library, name)

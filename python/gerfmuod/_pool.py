@@ -211,6 +211,34 @@ class Pool:
         library.gerfmuod_team_trace(team, room, length + 1)
         return room.value.decode()
 
+    def record(self, slices: int = 65536) -> None:
+        """Records when functions begin and end, and when threads wait, in each later run.
+
+        Args:
+            slices: how many functions and waits each thread keeps, the newest; 0 ends recording.
+
+        Raises:
+            ValueError: the pool is closed.
+            Refused: ``WrongLife`` if the pool has a task; ``NoMemory``.
+        """
+        team = self._open_team()
+        _check(team, library.gerfmuod_team_record(team, _number(slices)))
+
+    def profile(self, path: str) -> None:
+        """Writes the last run to a file, as trace events for Perfetto or chrome://tracing.
+
+        Raises:
+            ValueError: the pool is closed.
+            OSError: the file cannot be opened.
+            Refused: ``WrongLife`` if no run was recorded, ``Running``, ``NoMemory``, and
+                ``NotWritten`` if not all of the file could be written.
+        """
+        self._write(library.gerfmuod_team_profile, path)
+
+    def summary(self, path: str) -> None:
+        """Writes which share of its time each thread spent on what. It is refused as :meth:`profile`."""
+        self._write(library.gerfmuod_team_summary, path)
+
     def close(self) -> None:
         """Frees the pool, which until then keeps all functions, arguments and results.
 
@@ -229,6 +257,15 @@ class Pool:
     def __len__(self) -> int:
         """Returns the number of tasks that were described."""
         return self._length
+
+    def _write(self, write: Callable[..., int], path: str) -> None:
+        team, file = self._open_team(), library.fopen(os.fsencode(path), b"w")
+        if not file:
+            raise OSError(f"{path} cannot be opened")
+        try:
+            _check(team, write(team, file))
+        finally:
+            library.fclose(file)
 
     def _number_of(self, task: "Task[Any]") -> int:
         if task._owner is not self._identity:

@@ -1,6 +1,9 @@
-"""Tests of the package: results, order, threads, refusals, exceptions, traces."""
+"""Tests of the package: results, order, threads, refusals, exceptions, traces, recorded times."""
+import json
+import os
 import random
 import signal
+import tempfile
 import threading
 import unittest
 
@@ -253,6 +256,35 @@ class Traces(unittest.TestCase):
             self.assertEqual(lines.count(line), 1)
         self.assertLess(lines.index("recv 1 0"), lines.index("begin 1"))
         self.assertRegex(lines[-1], r"^judge ended \d+$")
+
+
+class Times(unittest.TestCase):
+    def test_a_recorded_run_has_each_task_once(self):
+        pool = Pool()
+        pool.record()
+        first = pool.task(int)
+        for _ in range(20):
+            pool.task(int, after=[first])
+        pool.run(3)
+        with tempfile.TemporaryDirectory() as folder:
+            path = os.path.join(folder, "events.json")
+            pool.profile(path)
+            with open(path, encoding="utf-8") as file:
+                events = json.load(file)["traceEvents"]
+            tasks = [it["args"]["task"] for it in events if it["ph"] == "X" and it["cat"] == "task"]
+            self.assertEqual(sorted(tasks), list(range(21)))
+            pool.summary(path)
+            with open(path, encoding="utf-8") as file:
+                self.assertEqual(len(file.readlines()), 5)
+            self.assertRaises(OSError, pool.profile, folder)
+
+    def test_refusals(self):
+        pool = Pool()
+        pool.task(int)
+        for call in (pool.record, lambda: pool.profile(os.devnull)):
+            with self.assertRaises(Refused) as caught:
+                call()
+            self.assertEqual(caught.exception.name, "WrongLife")
 
 
 class Names(unittest.TestCase):

@@ -8,6 +8,8 @@ from .running import short
 
 WARNINGS = ["-Wall", "-Wextra", "-pedantic", "-Werror"]
 VALGRIND = ["valgrind", "-q", "--error-exitcode=99", "--leak-check=full", "--errors-for-leak-kinds=all"]
+ADDRESS = ["-fsanitize=address,undefined", "-fno-sanitize-recover=all"]
+THREAD = ["-fsanitize=thread"]
 # a run that takes longer has failed
 SECONDS = 300
 # instead of an expected exit status: any but 0
@@ -46,6 +48,17 @@ def start(command, **options):
         return running.run(command, stderr=subprocess.STDOUT, timeout=SECONDS, **options)
     except subprocess.TimeoutExpired:
         return None
+
+
+def succeeds(command):
+    result = start(command)
+    return result is not None and result.status == 0
+
+
+def has_sanitizer(options, folder):
+    """Whether a program with this sanitizer can be built and run here."""
+    source, path = running.write(f"{folder}/empty.c", "int main(void) { return 0; }\n"), f"{folder}/empty"
+    return succeeds(["gcc", *options, source, "-o", path]) and succeeds([path])
 
 
 def output_of(command, **options):

@@ -1,12 +1,15 @@
 """Compiles the programs of capi/ and runs them with the proved library.
 
 First each compiler on this machine checks the headers and programs as C99, C11 and C++17, with all warnings on. If
-lib/libgerfmuod.a is there and was built from these sources (`make lib` builds it), each program is linked with it and run,
-and those in C and C++ run once more under valgrind. The programs of capi/mpi run if mpicc and mpirun are installed. It
-names what is not installed, and skips it. The last line is `N passed, M failed`; the status is 1 if one failed.
+lib/libgerfmuod.a is there and was built from these sources (`make lib` builds it), it compares the names that the archive and
+the shared object define with what the headers declare. Then each program is linked with it and run, and most of those in C and
+C++ once more under valgrind: the fuzz of random calls under AddressSanitizer and UndefinedBehaviorSanitizer, a program without
+a lock under ThreadSanitizer. The table that capi/damages.c prints is compared with docs/OTHER-RUNTIMES.md, whose first program
+runs, too. The programs of capi/mpi run if mpicc and mpirun are installed. It names what is not installed, and skips it. The
+last line is `N passed, M failed`; the status is 1 if one failed.
 
-With --bench it runs no program, but measures and prints what a step costs: instructions, which valgrind counts at two
-numbers of steps, memory, nanoseconds, and the depth of the stack.
+With --full only the fuzz runs, in its long form. With --bench it runs no program, but measures and prints what a step costs:
+instructions, which valgrind counts at two numbers of steps, memory, nanoseconds, locks, and the depth of the stack.
 """
 import os
 import re
@@ -16,29 +19,65 @@ import sys
 import tempfile
 from dataclasses import dataclass
 
-from . import library, mpi, repository
-from .c_programs import FAILURE, VALGRIND, WARNINGS, Run, check_sources, judge, output_of
-from .running import Tally
+from . import library, mpi, repository, shared_object
+from .c_programs import ADDRESS, FAILURE, THREAD, VALGRIND, WARNINGS, Run, check_sources, has_sanitizer, judge, output_of, start
+from .repository import text_of
+from .running import Tally, write
+from .shipping import generated
 
 LINK = ["-Llib", "-lgerfmuod"]
 # the ending of a program in each language
 ENDINGS = {"c": ".c", "c++": ".cpp"}
 STEPS = 999_999
+# of the calls of fuzz.c, in the quick form and in each of the long ones
+CALLS, ALL_CALLS = 1_000_000, 20_000_000
+SEEDS = 4
+# a header that another one includes in its middle
+INCLUDED = ("capi/gerfmuod_tsan.h",)
+C11 = ["gcc", "-std=c11", *WARNINGS, "-O2"]
+WRAPPED = ["-Wl,--wrap=malloc,--wrap=realloc"]
+PAGE = "docs/OTHER-RUNTIMES.md"
+# the kinds of steps of bench.c
+KINDS = ("tasks", "messages", "makers", "sparse", "large", "hashed")
 
 
 @dataclass(frozen=True)
 class Program:
-    """A source of capi/, the command that compiles it, its runs, and whether the first of them is repeated under valgrind."""
+    """A source of capi/, the command that compiles it, its runs, and the arguments of one more run under valgrind, if any."""
 
     name: str
     compiler: list
     runs: list
-    is_checked: bool
+    checked: list = None
+
+    @property
+    def sanitizer(self):
+        return [option for option in self.compiler if option in (*ADDRESS, *THREAD)]
+
+
+def fuzz_runs(calls, seeds):
+    return [Run([str(calls), str(seed)], 0, "as the model says") for seed in seeds]
 
 
 PROGRAMS = [
-    Program("two_waves.c", ["gcc", "-std=c11", *WARNINGS, "-O2"], [Run([], 0, "two generations")], True),
-    Program("texts.c", ["gcc", "-std=c99", *WARNINGS, "-O2"], [Run([], 0, "as they should be")], True),
+    Program("two_waves.c", C11, [Run([], 0, "two generations")], []),
+    Program("texts.c", ["gcc", "-std=c99", *WARNINGS, "-O2"], [Run([], 0, "as they should be")], []),
+    Program("limits.c", C11, [Run([], 0, "as they should be")]),
+    Program("fuzz.c", [*C11, "-g", *ADDRESS, *WRAPPED], fuzz_runs(CALLS, [1])),
+    Program(
+        "fuzz.c",
+        [*C11, "-g", *WRAPPED],
+        [Run(["100000", "2", "forgets"], 1, "not as the model says"), Run(["100000", "2", "early"], 1, "not as the model says")],
+        ["20000", "3"],
+    ),
+    Program(
+        "unlocked.c",
+        [*C11, "-g", "-pthread", *THREAD],
+        [
+            *(Run([call], 0, " 0 not as they should be") for call in ("step", "settle", "read")),
+            *(Run([call, "unlocked"], FAILURE, "data race") for call in ("step", "settle", "read")),
+        ],
+    ),
     Program(
         "pool.cpp",
         ["g++", "-std=c++17", *WARNINGS, "-O2", "-pthread"],
@@ -48,13 +87,13 @@ PROGRAMS = [
             Run(["late"], 3, "receipt of message 40 at node"),
             Run(["early"], 3, "judged not"),
         ],
-        True,
+        [],
     ),
     Program(
         "layout.c",
         ["gcc", "-std=c99", *WARNINGS, "-O2"],
         [Run([], 0, ", 0 failed"), Run(["swapped"], 98, "or another struct")],
-        True,
+        [],
     ),
     Program(
         "storm.c",
@@ -73,7 +112,7 @@ PROGRAMS = [
             Run(["8", "20", "uncounted"], 2, "20 SILENT"),
             Run(["8", "50", "twice"], 2, "twice: "),
         ],
-        True,
+        ["8", "20"],
     ),
     Program(
         "epochs.c",
@@ -87,7 +126,7 @@ PROGRAMS = [
             Run(["8", "8", "5", "unmarked"], 1, "unmarked: "),
             Run(["8", "8", "5", "dropped"], 2, " 0 EARLY"),
         ],
-        True,
+        ["3", "4", "20"],
     ),
     Program(
         "threads.c",
@@ -99,16 +138,37 @@ PROGRAMS = [
             Run(["8", "2", "early"], FAILURE, ""),
             Run(["64", "1", "uncounted"], 2, ""),
         ],
-        False,
     ),
-    Program("ring.rs", ["rustc", "--edition", "2024", "-O"], [Run([], 0, "ended: 1608 messages, none was left")], False),
-    Program("two_waves.f90", ["gfortran", "-std=f2018", "-Wall", "-Wextra", "-O2"], [Run([], 0, "ended with wave 1")], False),
+    Program("ring.rs", ["rustc", "--edition", "2024", "-O"], [Run([], 0, "ended: 1608 messages, none was left")]),
+    Program("two_waves.f90", ["gfortran", "-std=f2018", "-Wall", "-Wextra", "-O2"], [Run([], 0, "ended with wave 1")]),
 ]
 
 
 def sources(language, _):
-    """Returns the paths of the headers of capi/, and of its programs in this language."""
-    return [f"capi/{name}" for name in sorted(os.listdir("capi")) if name.endswith((".h", ENDINGS[language]))]
+    """Returns the paths of the library's headers, and of the programs of capi/ in this language."""
+    headers = [path for path in library.HEADERS if path.endswith(".h") and path not in INCLUDED]
+    return headers + [f"capi/{name}" for name in sorted(os.listdir("capi")) if name.endswith(ENDINGS[language])]
+
+
+def check_symbols(tally):
+    """Compares the names that the archive and the shared object define for others with what the headers declare."""
+    declared = {*generated.declared()}
+    for path, options in ((library.ARCHIVE, []), (library.SHARED, ["-D"])):
+        differing = sorted(declared ^ shared_object.symbols(path, *options))
+        tally.judge(not differing, f"{path} and the headers differ in {' '.join(differing)}")
+    print(f"{library.ARCHIVE} and {library.SHARED}: {len(declared)} names, as the headers declare them")
+
+
+def check_page(tally, folder):
+    """Compares the table that damages.c prints with that of the page, and runs the page's program."""
+    result = start([compile_program(Program("damages.c", C11, []), folder)])
+    table = result.out.decode() if result and not result.status else ""
+    tally.judge(table and table in text_of(PAGE), f"capi/damages.c fails, or {PAGE} has another table than\n{table}")
+    source, path = f"{folder}/first.c", f"{folder}/first"
+    write(source, re.search(r"^```c\n(#include .*?)^```$", text_of(PAGE), re.S | re.M)[1])
+    output_of([*C11, source, "-o", path, "-Icapi", *LINK])
+    judge(tally, [path], Run([], 0, "none: the call was not refused"))
+    print(f"{PAGE}: its table, which capi/damages.c prints, and its program")
 
 
 def compile_program(program, folder):
@@ -130,22 +190,45 @@ def run_program(tally, program, folder, has_valgrind):
     before, path = tally.failed, compile_program(program, folder)
     for expected in program.runs:
         judge(tally, [path, *expected.arguments], expected)
-    is_checked = program.is_checked and has_valgrind
+    is_checked = program.checked is not None and has_valgrind
     if is_checked:
-        judge(tally, [*VALGRIND, path], program.runs[0])
+        judge(tally, [*VALGRIND, path, *program.checked], Run([], 0, ""))
     count = f"{len(program.runs)} run{'s' * (len(program.runs) != 1)}"
-    print(f"capi/{program.name}: {count}{', one more under valgrind' * is_checked}{', FAILED' * (tally.failed > before)}", flush=True)
+    options = "".join(f" {option}" for option in program.sanitizer[:1])
+    more = ", one more under valgrind" * is_checked
+    print(f"capi/{program.name}{options}: {count}{more}{', FAILED' * (tally.failed > before)}", flush=True)
 
 
-def run_programs(tally, folder):
+def run_programs(tally, programs, folder):
     has_valgrind = bool(shutil.which("valgrind"))
     if not has_valgrind:
         print("valgrind is not installed: no program runs under it")
-    for program in PROGRAMS:
-        if shutil.which(program.compiler[0]):
+    is_available = {tuple(options): has_sanitizer(options, folder) for options in (ADDRESS, THREAD)}
+    for program in programs:
+        if not shutil.which(program.compiler[0]):
+            print(f"{program.compiler[0]} is not installed: capi/{program.name} is skipped")
+        elif is_available.get(tuple(program.sanitizer), True):
             run_program(tally, program, folder, has_valgrind)
         else:
-            print(f"{program.compiler[0]} is not installed: capi/{program.name} is skipped")
+            print(f"{' '.join(program.sanitizer)}: not on this machine, capi/{program.name} does not run under it")
+
+
+def run_all(tally, folder):
+    """Runs everything with the built library."""
+    check_symbols(tally)
+    run_programs(tally, PROGRAMS, folder)
+    check_page(tally, folder)
+    mpi.run_quick(tally, folder)
+
+
+def run_fuzz(folder):
+    """Runs the long form of the fuzz."""
+    tally = Tally()
+    seeds = range(1, SEEDS + 1)
+    for options in ([*ADDRESS], []):
+        program = Program("fuzz.c", [*C11, "-g", *options, *WRAPPED], fuzz_runs(ALL_CALLS, seeds))
+        run_programs(tally, [program], folder)
+    return tally.end()
 
 
 def instructions(program, kind, steps):
@@ -162,9 +245,9 @@ def memory(program, kind, steps):
 
 def bench(folder):
     """Measures what a step costs, and prints it."""
-    program = compile_program(Program("bench.c", ["gcc", "-std=c11", *WARNINGS, "-O2", "-pthread"], [], False), folder)
+    program = compile_program(Program("bench.c", [*C11, "-pthread"], []), folder)
     print(f"{STEPS:,} steps at 8 nodes, called from C:")
-    for kind in ("tasks", "messages"):
+    for kind in KINDS:
         if shutil.which("valgrind"):
             counted = instructions(program, kind, STEPS) - instructions(program, kind, 0)
             print(f"{kind}: {counted / STEPS:.1f} instructions a step, including the loop and the close")
@@ -174,22 +257,24 @@ def bench(folder):
         print("valgrind is not installed: no instructions are counted")
     sys.stdout.flush()
     subprocess.run([program, "time", str(STEPS)], check=True)
+    subprocess.run([program, "locks", str(STEPS)], check=True)
     subprocess.run([program, "stack"], check=True)
+    return 0
 
 
 def arguments(parser):
     parser.add_argument("--bench", action="store_true", help="measure what a step costs")
+    parser.add_argument("--full", action="store_true", help=f"the long form of the fuzz alone: {SEEDS} times {ALL_CALLS:,} calls")
 
 
 def run(options):
     repository.go_to_top()
     reason = library.reason_not_built()
-    if options.bench:
+    if options.bench or options.full:
         if reason:
             sys.exit(f"{reason}: make lib builds it")
         with tempfile.TemporaryDirectory() as folder:
-            bench(folder)
-        return 0
+            return bench(folder) if options.bench else run_fuzz(folder)
     tally = Tally()
     check_sources(tally, sources)
     print("the headers and programs of capi/: checked as C99, C11 and C++17")
@@ -197,6 +282,5 @@ def run(options):
         print(f"{reason}: no program of capi/ was linked and run. make lib builds it")
     else:
         with tempfile.TemporaryDirectory() as folder:
-            run_programs(tally, folder)
-            mpi.run_quick(tally, folder)
+            run_all(tally, folder)
     return tally.end()

@@ -5,7 +5,7 @@ They work on the repository that they are in, from whatever folder they are call
 import argparse
 
 from . import bench, build, capi, dag_programs, demo, docs, drawn, gate_times, lanes, library, limits, lines
-from . import mpi, mutants, new_pool, proved, soak, tries, words
+from . import mpi, mutants, new_pool, pages, proved, soak, tries, words
 from .limits import cuts, generations, hostile_numbers, live, memory, pictures, progress, random_texts, reasons
 from .limits import refuse, refuse_tests, stacks, strange
 from .shipping import completion, dist, installing, manual, package
@@ -18,6 +18,7 @@ COMMANDS = {
     "mpi": mpi,
     "demo": demo,
     "try": tries,
+    "pages": pages,
     "mutants": mutants,
     "gate-times": gate_times,
     "lanes": lanes,

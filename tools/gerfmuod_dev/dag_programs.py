@@ -2,9 +2,9 @@
 
 They are linked with lib/libgerfmuod.a, if it is there and was built from these sources (`make lib` builds it), or with the
 library of another folder. The fuzz of random calls runs under AddressSanitizer and UndefinedBehaviorSanitizer, random
-graphs on threads also under ThreadSanitizer, and each program once under valgrind. Programs with a fault must fail. It
-names what is not on this machine, and skips it; `tools/bench-packages` prints the packages. The last line is
-`N passed, M failed`; the status is 1 if one failed.
+graphs on threads also under ThreadSanitizer, and each program once under valgrind. Programs with a fault must fail. What
+teams record of their runs is compared with the traces. It names what is not on this machine, and skips it;
+`tools/bench-packages` prints the packages. The last line is `N passed, M failed`; the status is 1 if one failed.
 """
 import dataclasses
 import os
@@ -14,15 +14,14 @@ import sys
 import tempfile
 from dataclasses import dataclass
 
-from . import library, repository, shared_object
-from .c_programs import VALGRIND, WARNINGS, Run, check_sources, judge, start
+from . import library, profiles, repository, shared_object
+from .c_programs import ADDRESS, THREAD, VALGRIND, WARNINGS, Run, check_sources, has_sanitizer, judge, start, succeeds
 from .running import Tally, short, write
 
 C = ["gcc", "-std=c11", *WARNINGS, "-O2", "-g"]
 CPP = ["g++", "-std=c++17", *WARNINGS, "-O2"]
 FORTRAN = ["gfortran", "-std=f2018", "-Wall", "-Wextra", "-Wno-unused-dummy-argument", "-Werror", "-O2", "-fopenmp"]
-ADDRESS = ["-fsanitize=address,undefined", "-fno-sanitize-recover=all"]
-THREAD = ["-fsanitize=thread"]
+TEST_CLOCK = "-DGERFMUOD_PROFILE_TICKS=test_ticks"
 WRAPPED = ["-Wl,--wrap=malloc,--wrap=calloc,--wrap=realloc,--wrap=free,--wrap=pthread_create"]
 # the endings of the files of capi/ that a compiler of each language checks
 ENDINGS = {"c": (".c", ".h"), "c++": (".cpp", ".hpp", ".h")}
@@ -31,6 +30,8 @@ SHAPES = ["wide", "chain", "wave", "stencil", "three"]
 # of the fuzz, in the quick form and in full
 CALLS, ALL_CALLS = 1_000_000, 10_000_000
 STORM, LONG_STORM = 100, 2000
+# of random graphs whose profiles are checked
+PROFILED, LONG_PROFILED = 40, 400
 # the faults that the model of fuzz.c has as an argument
 FUZZ_FAULTS = ["forgets", "loses"]
 
@@ -78,6 +79,8 @@ def programs(is_full):
         Program("storm.c", C, [], storm, [["10"]]),
         Program("storm.c", [*C, *THREAD], [], storm[:1], []),
         Program("storm.c", [*C, *ADDRESS], [], storm[:1], []),
+        Program("profiles.c", [*C, TEST_CLOCK], [], [Run([], 0, ", 0 not as they should be")], [[]]),
+        Program("profiles.c", [*C, TEST_CLOCK, *ADDRESS], [], [Run([], 0, ", 0 not as they should be")], []),
         Program("fuzz.c", C, [], fuzz, [["20000"]]),
         Program("fuzz.c", [*C, *ADDRESS], [], [Run([str(calls)], 0, "as the model says")], []),
         Program("refusals.c", [*C, *ADDRESS], [], [Run([], 0, ", 0 not as they should be")], []),
@@ -98,17 +101,6 @@ def check_page(tally):
     for path, kind, code in blocks:
         tally.judge(path and code in repository.text_of(path, ""), f"{PAGE}: a block of {kind} is not in {path or 'any file'}: {code}")
     print(f"{PAGE}: {len(blocks)} blocks of code, each part of a file")
-
-
-def succeeds(command):
-    result = start(command)
-    return result is not None and result.status == 0
-
-
-def has_sanitizer(options, folder):
-    """Whether a program with this sanitizer can be built and run here."""
-    source, path = write(f"{folder}/empty.c", "int main(void) { return 0; }\n"), f"{folder}/empty"
-    return succeeds(["gcc", *options, source, "-o", path]) and succeeds([path])
 
 
 def compiles(tally, command):
@@ -175,6 +167,44 @@ def run_c(tally, build, is_full):
             run_program(tally, build, program, has_valgrind)
 
 
+def check_profiles(tally, folder):
+    """Counts whether each profile in a folder is well formed and that of the trace next to it, if there is one.
+
+    Removes the profiles, and returns how many there were. Of one with messages it also checks that faults are found.
+    """
+    texts = {}
+    for path in sorted(f"{folder}/{name}" for name in os.listdir(folder) if name.endswith(".json")):
+        texts[path] = repository.text_of(path), repository.text_of(path.replace(".json", ".trace"), "")
+        found = profiles.faults(*texts[path])
+        tally.judge(not found, f"{path}: {'; '.join(found)[:2000]}")
+        os.remove(path)
+    sample = next(((text, trace) for text, trace in texts.values() if '"ph":"s"' in text and " ended " in trace), None)
+    for number, text in enumerate(profiles.spoiled(sample[0]) if sample else ()):
+        tally.judge(profiles.faults(text, sample[1]), f"fault {number} of a profile was not found")
+    return len(texts)
+
+
+def run_profiles(tally, build, is_full):
+    """Runs programs that record times, and checks what they write: random graphs, also with ThreadSanitizer, and two examples."""
+    rounds = str(LONG_PROFILED if is_full else PROFILED)
+    folder = tempfile.mkdtemp(dir=build.folder)
+    own = [
+        (Program("storm.c", C, [], [], []), [rounds, "1", folder], f"{rounds} rounds"),
+        (Program("grain.c", C, [], [], []), ["--profile", f"{folder}/grain.json", "three", "5000", "10", "1", "2x2"], "critical path"),
+        (Program("cholesky.c", C, ["-lm"], [], []), ["--profile", f"{folder}/cholesky.json", "256", "32", "1", "1x4"], "critical path"),
+    ]
+    if has_sanitizer(THREAD, build.folder):
+        own.append((Program("storm.c", [*C, *THREAD], [], [], []), [rounds, "2", folder], f"{rounds} rounds"))
+    count = 0
+    for program, arguments, output in own:
+        path = build.compile(program, tally)
+        if path:
+            judge(tally, [path, *arguments], Run([], 0, output))
+            count += check_profiles(tally, folder)
+    tally.judge(count >= 2 * PROFILED, f"only {count} profiles were checked")
+    print(f"the profiles of {count} runs, read as JSON: each task, message and wave of the trace once, no slices that overlap")
+
+
 def run_blas(tally, build):
     """Runs Cholesky over OpenBLAS, if that is installed."""
     program = Program("cholesky.c", [*C, "-DHAVE_BLAS"], ["-lopenblas", "-lm"], [], [])
@@ -239,6 +269,7 @@ def run_all(tally, library_folder, is_full):
     with tempfile.TemporaryDirectory() as folder:
         build = Build(library_folder, folder)
         run_c(tally, build, is_full)
+        run_profiles(tally, build, is_full)
         run_blas(tally, build)
         run_fortran(tally, build)
         run_python(tally, library_folder, folder)

@@ -1,12 +1,14 @@
-"""Draws the pictures of runs in docs/figures, from stored traces, with bin/samples.
+"""Draws the pictures of runs in docs/figures, from stored traces, with bin/samples, and the page of one with Chromium.
 
-`tools/dev try samples` compares them with what the program draws unproved. Prints a line for each. The status is 1 if
-one could not be drawn.
+`tools/dev try samples` compares the pictures with what the program draws unproved. Prints a line for each. The status is
+1 if one could not be drawn; without Chromium (`tools/page-packages` prints the package) the page is left as it is.
 """
 import subprocess
+import tempfile
 from dataclasses import dataclass
 
 from . import repository
+from .browser import Browser, program
 from .repository import text_of
 
 EXAMPLES = "crates/tp_examples/data"
@@ -34,8 +36,26 @@ PICTURES = {
 }
 
 
+# the page, its trace, its size, and where the pointer is on it
+PAGE, TRACE, SIZE, PLACE = "docs/figures/a-page.png", "tools/data/statuses/samples/0-draw-a-run-of-some-hundred-events", (1000, 500), (420, 310)
+
+
 def path_of(name):
     return f"docs/figures/{name}.svg"
+
+
+def draw_page(samples):
+    """Draws the page of a run as a reader sees it; returns whether that worked."""
+    command = [samples, "draw", "run", "--format", "html"]
+    with tempfile.NamedTemporaryFile(suffix=".html") as file, open(TRACE, "rb") as trace, Browser(*SIZE) as browser:
+        if subprocess.run(command, stdin=trace, stdout=file, check=False).returncode:
+            return False
+        browser.open(file.name)
+        browser.mouse("mouseMoved", *PLACE)
+        picture = browser.screenshot()
+    with open(PAGE, "wb") as file:
+        file.write(picture)
+    return not browser.errors
 
 
 def arguments(parser):
@@ -54,4 +74,10 @@ def run(options):
         else:
             is_well = False
         print(f"{path_of(name)}: {'drawn' if process.returncode == picture.status else f'status {process.returncode}'}")
+    if program():
+        is_drawn = draw_page(options.samples)
+        is_well = is_well and is_drawn
+        print(f"{PAGE}: {'drawn' if is_drawn else 'failed'}")
+    else:
+        print(f"{PAGE}: Chromium is missing")
     return 0 if is_well else 1

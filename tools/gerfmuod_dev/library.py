@@ -1,9 +1,9 @@
 """Proves all that the library for other languages is built on, and builds it: lib/libgerfmuod.a and libgerfmuod.so.0.
 
-The archive has all that it links except the C library and POSIX threads; the team of threads, capi/gerfmuod_team.c, is the
-only part that is not proved. Next to it are the headers for C and C++, the module for Fortran, `gerfmuod.pc` for
-pkg-config, and `SOURCES`, a digest of what it was built from. Prints a line for each crate as it ends; the status is 1 if
-one is not proved.
+The archive has all that it links except the C library and POSIX threads. Two parts in C are not proved: the inline calls as
+symbols, capi/gerfmuod_calls.c, and the team of threads, capi/gerfmuod_team.c. Next to it are the headers for C and C++, the
+module for Fortran, `gerfmuod.pc` for pkg-config, and `SOURCES`, a digest of what it was built from. Prints a line for each
+crate as it ends; the status is 1 if one is not proved.
 """
 import hashlib
 import os
@@ -24,14 +24,14 @@ DIGEST = "lib/SOURCES"
 
 
 def digest():
-    """Returns a hash of the sources of the library, of the crates below it, of the headers and of the team."""
+    """Returns a hash of the sources of the library, of the crates below it, of the headers and of the parts in C."""
     result = hashlib.sha256()
     for crate in repository.crates(build.LIBRARIES):
         for path in repository.files_in(f"crates/{crate}"):
             parts = path.split("/")
             if not set(parts) & set(repository.NO_SOURCES) and path.endswith((".rt", ".antt")):
                 result.update(f"{path}\n{text_of(path)}".encode())
-    for path in [*HEADERS, shared_object.TEAM, shared_object.VISIBLE]:
+    for path in [*HEADERS, *shared_object.PARTS, shared_object.PROFILE, shared_object.VISIBLE]:
         result.update(text_of(path).encode())
     return result.hexdigest()
 
@@ -85,7 +85,8 @@ def run(options):
         is_proved = build.prove_all(crates, copies)
     if is_proved:
         add_heap()
-        shared_object.add_team(ARCHIVE)
+        shared_object.seal(ARCHIVE)
+        shared_object.add_parts(ARCHIVE)
         shared_object.link(ARCHIVE, SHARED)
         for header in HEADERS:
             shutil.copy2(header, "lib")

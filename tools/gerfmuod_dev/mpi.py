@@ -2,7 +2,8 @@
 
 uts_mpi.c searches two trees whose numbers of nodes and leaves are known, T1 and T3, with 1, 2, 4, 8 and 16 processes on
 this machine. Then it searches a small tree with each hand-written detector, and with each of three faults: with a fault it
-has to miss nodes or not to end, which shows that the check can fail. mpi_cholesky.c factors a matrix, each process with a
+has to miss nodes or not to end, which shows that the check can fail. The events of a small search, with their times, are
+checked. mpi_cholesky.c factors a matrix, each process with a
 task graph of its own, and compares the factors with those of the whole matrix, over OpenBLAS if it is installed; it has a
 fault, too. With --quick trees and matrix are small, and the processes at most 4. Needs mpicc and mpirun of Open MPI
 (`tools/mpi-packages` prints the packages); if one is missing, says so, and with --quick that is no failure. The last line
@@ -15,7 +16,7 @@ import sys
 import tempfile
 from dataclasses import dataclass
 
-from . import library, repository, running
+from . import library, profiles, repository, running
 from .c_programs import output_of
 from .repository import TOP
 from .running import Tally
@@ -74,6 +75,15 @@ def judge_processes(tally, program, processes, arguments):
     tally.judge(not result.status, f"{name} with {processes} processes: status {result.status}")
 
 
+def judge_events(tally, program, folder, processes):
+    """Searches a small tree, and counts whether the events of all processes are well formed."""
+    path = f"{folder}/events.json"
+    result = run_processes(program, processes, ["--profile", path, "T0"], 60)
+    tally.judge(not result.status, f"T0 with events and {processes} processes: status {result.status}")
+    found = profiles.process_faults(repository.text_of(path, ""), processes)
+    tally.judge(not found, f"events of {processes} processes: {'; '.join(found)[:2000]}")
+
+
 def is_detected(program, fault):
     """Whether the program with this fault misses nodes, or does not end, with one of a few seeds."""
     return any(run_processes(program, 4, ["T0", "proved", fault, str(seed)], 5).status for seed in range(1, SEEDS + 1))
@@ -101,6 +111,8 @@ def run_searches(tally, folder, size):
     for tree in size.trees:
         for processes in size.counts:
             judge_processes(tally, program, processes, [tree])
+    for processes in QUICK.counts:
+        judge_events(tally, program, folder, processes)
     for peer in PEERS:
         result = run_processes(program, 4, ["T0", peer], 60)
         tally.judge(not result.status, f"T0 with the detector {peer}: status {result.status}")

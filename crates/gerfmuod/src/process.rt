@@ -3,8 +3,8 @@
 
 ghost use Rattle.std.specs.Prelude.{◌≡◌, ◌⊎◌, ◌&&◌, true, Some};
 ghost use Rattle.std.specs.Result.{result_err};
-ghost use Rattle.gerfmuod.specs.Wire.{after_event, after_init, after_taking, message_of, next_as, process_meaning, receipt_refused};
-ghost use Rattle.gerfmuod.specs.Wire.{IsKept, refused_as, refused_by, taken_as, wire_after};
+ghost use Rattle.gerfmuod.specs.Wire.{after_event, after_init, after_taking, message_of, message_with, next_as, process_meaning};
+ghost use Rattle.gerfmuod.specs.Wire.{IsKept, receipt_refused, refused_as, refused_by, taken_as, wire_after};
 ghost use Rattle.gerfmuod.specs.Written.{IsPut};
 ghost use Rattle.tp_process.specs.Calls.{close_refusal, closed, moved, open_refusal, opened, send_refusal, sent};
 ghost use Rattle.tp_process.specs.Epochs.{received_in, reopen_refusal, reopened};
@@ -13,13 +13,11 @@ ghost use Rattle.tp_process.specs.State.{read};
 
 use crate::answer::Written;
 use crate::text::{WRITTEN, put};
-use crate::wire::{WireMessage, message_of, wire_of};
-use tp_process::{Next, Process, Refusal};
+use crate::wire::{WireMessage, wire_of};
+use tp_process::{ControlMessage, Next, Process, Refusal, Token};
 
-/// The refusals of a call with a control message that has no such token, in the order of the checks. All refusals of
-/// processes are above 100, so they differ from the results of `gerfmuod_process_next` and from the refusals of a core.
-const NOT_OPEN: u32 = 107;
-
+/// The refusal of a control message that has no such token. All refusals of processes are above 100, so they differ from
+/// the results of `gerfmuod_process_next` and from the refusals of a core.
 const MALFORMED: u32 = 109;
 
 /// Opens process `number` of `processes`, in epoch 0 and with one piece of work open. Returns 0 or the refusal; if the
@@ -141,13 +139,34 @@ pub extern "C" fn gerfmuod_process_take(process: &mut Process, message: &WireMes
     ensures state { read process.new ≡ after_taking message.now.epoch (message_of message.now) (read process.old) }
     ensures kept { IsKept result process.old process.new }
 {
-    match message_of(*message) {
-        Some(taken) => match process.take(message.epoch, taken) {
-            Ok(()) => 0,
-            Err(refusal) => number_of(refusal),
-        },
-        None if process.is_open() => MALFORMED,
-        None => NOT_OPEN,
+    // A leaf of the tree takes nothing else until the end, and half of the processes are leaves.
+    if message.token == 0 {
+        return take(process, message, Token::Down);
+    }
+    match message.token {
+        _ if !process.is_open() => number_of(Refusal::NotOpen),
+        1 => take(process, message, Token::Up(message.sent, message.received)),
+        2 => take(process, message, Token::Over),
+        _ => MALFORMED,
+    }
+}
+
+/// Takes a control message with this token. Returns 0 or the refusal, as in `Process::take`.
+#[inline(always)]
+fn take(process: &mut Process, message: &WireMessage, token: Token) -> u32
+    ensures refused { result ≡ taken_as message.now.epoch (Some (message_with message.now token)) (read process.old) }
+    ensures state { read process.new ≡ after_taking message.now.epoch (Some (message_with message.now token)) (read process.old) }
+    ensures kept { IsKept result process.old process.new }
+{
+    let taken = ControlMessage {
+        from: message.from,
+        to: message.to,
+        wave: message.wave,
+        token,
+    };
+    match process.take(message.epoch, taken) {
+        Ok(()) => 0,
+        Err(refusal) => number_of(refusal),
     }
 }
 
@@ -161,7 +180,7 @@ pub extern "C" fn gerfmuod_process_next(process: &mut Process, message_out: &mut
     ensures kept { (is_open (read process.old) ≡ true) ⊎ (process.new ≡ process.old) }
 {
     if !process.is_open() {
-        return NOT_OPEN;
+        return number_of(Refusal::NotOpen);
     }
     match process.next() {
         Ok(Next::Nothing) => 0,
@@ -272,7 +291,9 @@ pub(crate) fn meaning(number: u32) -> &'static str
     }
 }
 
-/// Returns the number of a refusal.
+/// Returns the number of a refusal. Out of line, so that a call that is not refused is shorter.
+#[cold]
+#[inline(never)]
 pub(crate) fn number_of(refusal: Refusal) -> u32
     ensures { result ≡ refused_as (Some refusal) }
 {
@@ -283,7 +304,7 @@ pub(crate) fn number_of(refusal: Refusal) -> u32
         Refusal::NotYet => 104,
         Refusal::Late => 105,
         Refusal::NotEnded => 106,
-        Refusal::NotOpen => NOT_OPEN,
+        Refusal::NotOpen => 107,
         Refusal::NoProcess => 108,
     }
 }

@@ -1,7 +1,7 @@
-//! A control message of a process as the transport carries it, which is seven numbers, and its conversion.
+//! A control message of a process as the transport carries it, which is seven numbers, and the conversion into them.
 
 ghost use Rattle.std.specs.Prelude.{◌≡◌};
-ghost use Rattle.gerfmuod.specs.Wire.{message_of, wire_of};
+ghost use Rattle.gerfmuod.specs.Wire.{wire_of};
 
 use tp_process::{ControlMessage, Token};
 
@@ -22,6 +22,7 @@ pub struct WireMessage {
 }
 
 /// Returns the seven numbers of a control message of an epoch.
+#[inline(always)]
 pub(crate) fn wire_of(epoch: u64, message: ControlMessage) -> WireMessage
     ensures { result ≡ wire_of epoch message }
 {
@@ -39,24 +40,6 @@ pub(crate) fn wire_of(epoch: u64, message: ControlMessage) -> WireMessage
         sent,
         received,
     }
-}
-
-/// Returns the control message of seven numbers, or `None` if there is no such token.
-pub(crate) fn message_of(wire: WireMessage) -> Option<ControlMessage>
-    ensures { result ≡ message_of wire }
-{
-    let token = match wire.token {
-        0 => Token::Down,
-        1 => Token::Up(wire.sent, wire.received),
-        2 => Token::Over,
-        _ => return None,
-    };
-    Some(ControlMessage {
-        from: wire.from,
-        to: wire.to,
-        wave: wire.wave,
-        token,
-    })
 }
 
 const _: () = prove!(size_of::<WireMessage>() == 56);

@@ -8,9 +8,7 @@ use tp_shell::{VERSION, with_counts};
 /// Returns the program's command line.
 pub(crate) fn samples_command<'a>(alloc: Global) -> Result<Command<'a>, AllocError> {
     // `draw` reads its own arguments: here it only has a line of the help.
-    let draw = Command::new(alloc, "draw").about(
-        "Draws runs of pools, and their task graphs, as SVG",
-    );
+    let draw = Command::new(alloc, "draw").about("Draws runs of pools, and their task graphs");
     Command::new(alloc, "samples")
         .bin_name("samples")?
         .version(VERSION)

@@ -11,5 +11,6 @@ mod dags;
 mod memory;
 #[cfg(test)]
 mod processes;
+mod recorders;
 #[cfg(test)]
 mod slots;

@@ -18,7 +18,7 @@ pub stands : {n : ℕ} {numbers : List NodeNumbers} {steps : List Step} {w : Wav
 stands {n} {numbers} {steps} {w} m = subst (λ (b : Bool). Stands n b (present steps) w) m.not_ended m.waves.follows.stands
 
 -- ---- the next step is lawful, and passes all checks
-lawful_due : (n : ℕ) (past : List Step) (s : Step) → IsFalse (is_ended n past) → IsQuiet (world n past) → IsTrue (is_control s)
+pub lawful_due : (n : ℕ) (past : List Step) (s : Step) → IsFalse (is_ended n past) → IsQuiet (world n past) → IsTrue (is_control s)
     → IsDue n past s → IsLawful n past s
 lawful_due n past Start e q c d = (e, d)
 lawful_due n past (Down j) e q c d = (e, d)

@@ -15,7 +15,7 @@ use Rattle.tp_core.proofs.Generations.{no_reopening, present-control}
 use Rattle.tp_core.proofs.Advancing.{control_comes, world_stays, moved_stays, waves_of}
 
 -- ---- the test whether the world is quiet
-quiet_shown : (w : World) → IsTrue (is_quiet w) → IsQuiet w
+pub quiet_shown : (w : World) → IsTrue (is_quiet w) → IsQuiet w
 quiet_shown w q = (
   grind (arith, nat_tests, q),
   none_from_length w.actions (grind (arith, nat_tests, q)),
@@ -71,13 +71,13 @@ ready_there c mid agree e q stay =
     (subst (λ (xs : List Step). MaySettle c.nodes c.numbers (reverse xs) c.wave) (sym stay) (may_settle agree e q))
 
 -- ---- after the steps were taken
-same_world : (n : ℕ) (later old : List Step) → IsTrue (list_all is_control later) → world n (later ++ old) ≡ world n old
+pub same_world : (n : ℕ) (later old : List Step) → IsTrue (list_all is_control later) → world n (later ++ old) ≡ world n old
 same_world n [] old c = refl
 same_world n (s ∷ later) old c =
     let parts : IsTrue (is_control s) × IsTrue (list_all is_control later) = and_parts (is_control s) (list_all is_control later) c in
     world_stays s (world n (later ++ old)) parts.0 ∙ same_world n later old parts.1
 
-same_numbers : (n : ℕ) (xs : List NodeNumbers) (later old : List Step) → IsTrue (list_all is_control later) → IsLawfulRun n (later ++ old)
+pub same_numbers : (n : ℕ) (xs : List NodeNumbers) (later old : List Step) → IsTrue (list_all is_control later) → IsLawfulRun n (later ++ old)
     → HasNumbers xs (record { nodes = n; steps = old }) → HasNumbers xs (record { nodes = n; steps = later ++ old })
 same_numbers n xs [] old c r h = h
 same_numbers n xs (s ∷ later) old c r h =
@@ -88,7 +88,7 @@ same_numbers n xs (s ∷ later) old c r h =
 pub fewer_pieces : (few many capacity : ℕ) → few ≤ many → HasPieces many capacity → HasPieces few capacity
 fewer_pieces few many capacity l h = omega (arith, l, h)
 
-runs_on : (n : ℕ) (later old : List Step) → IsTrue (list_all is_control later) → IsLawfulRun n (later ++ present old) → AreRuns n old
+pub runs_on : (n : ℕ) (later old : List Step) → IsTrue (list_all is_control later) → IsLawfulRun n (later ++ present old) → AreRuns n old
     → AreRuns n (later ++ old)
 runs_on n [] old c r all = all
 runs_on n (s ∷ later) old c r all =

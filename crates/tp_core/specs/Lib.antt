@@ -13,4 +13,7 @@ pub mod Reached
 pub mod Settled
 pub mod Advancing
 pub mod ToTheEnd
+pub mod Recording
+pub mod RecorderKept
+pub mod RecorderSettling
 pub mod Makers

@@ -39,7 +39,7 @@ use Rattle.tp_dag.specs.declared.pool.Pool.TheInside.{Inside}
 use Rattle.tp_dag.specs.Board as on_board
 use Rattle.tp_dag.specs.Board.{BoardState, HasBegun, HasEdge, HasOutside, HasReleased, HasLeft, HasArrived, HasFinished, with_task}
 use Rattle.tp_dag.specs.Counts.{BoardFacts}
-use Rattle.tp_dag.specs.State.{PoolState, SameGraph, AddsOnly, WasDone, WasReceived, IsReceived, IsComing, IsOutput, IsFinished, IsCompleted, IsInputAdded, MayWait, extends, IsOutsideAdded, IsReleased, IsDispatched, LacksInput, AreSent, is_delivery, is_sending, dispatched, outside_checks, release_checks}
+use Rattle.tp_dag.specs.State.{PoolState, SameGraph, AddsOnly, WasDone, WasReceived, IsReceived, IsComing, IsOutput, IsFinished, IsCompleted, IsInputAdded, MayWait, extends, IsOutsideAdded, IsReleased, IsDispatched, LacksInput, HasNoneReady, AreSent, is_delivery, is_sending, dispatched, outside_checks, release_checks}
 use Rattle.tp_dag.specs.Kept.{state_of, seen, entry_of, stage_of, outside_of, input_of, way_of, extend, Facts, IsPool, IsFrom, IsHome, AllPassed, SendsOne}
 use Rattle.tp_dag.proofs.Lists.{map_get, map_got}
 use Rattle.tp_dag.proofs.Finding.{ready_lacks_none}
@@ -554,6 +554,20 @@ lacks_none p now node t same f r h =
     ready_lacks_none node t f r
     (lacks_board p.core.nodes p.progress p.core.steps p.board t (subst (λ (a : PoolState). LacksInput t a) (sym same) h))
 
+pub task_now : (p : Inside) (now : PoolState) (t : ℕ) (x : Task) → state_of p ≡ now → slice_get p.board.tasks t ≡ Some x
+    → (slice_get now.tasks t ≡ Some (entry_of x)) × (slice_get now.stages t ≡ Some x.stage) × (slice_get now.outside t ≡ Some x.outside)
+task_now p now t x same is = (
+  subst (λ (a : PoolState). slice_get a.tasks t ≡ Some (entry_of x)) same (map_get entry_of p.board.tasks t x is),
+  subst (λ (a : PoolState). slice_get a.stages t ≡ Some x.stage) same (map_get stage_of p.board.tasks t x is),
+  subst (λ (a : PoolState). slice_get a.outside t ≡ Some x.outside) same (map_get outside_of p.board.tasks t x is),
+)
+
+pub some_ready : (p : Inside) (now : PoolState) (node t : ℕ) → state_of p ≡ now → BoardFacts p.board → on_board.IsReady node t p.board
+    → HasNoneReady node now → ⊥
+some_ready p now node t same f r h =
+    let e = task_now p now t r.task same r.is in
+    lacks_none p now node t same f r (h t (entry_of r.task) e.0 r.home (e.1 ∙ ap Some r.fresh))
+
 -- ---- the end is judged
 pub kept_end : (p q : Inside) (core : Accepted) (w count : ℕ) → IsPool p → IsSettled p.core core w count
     → InEach (IsNeverEarly core.nodes) core.steps → q.core ≡ core → q.nodes ≡ p.nodes → q.progress ≡ p.progress → q.board ≡ p.board
@@ -633,14 +647,6 @@ release_passes a t n x is at some = let h : nat_le 1 n ≡ true = grind (arith, 
 pub not_refused : (o : Option Refusal) (P : Refusal → Type 0) → o ≡ None → IfSome o P
 not_refused None P h = tt
 not_refused (Some r) P h = cc
-
-pub task_now : (p : Inside) (now : PoolState) (t : ℕ) (x : Task) → state_of p ≡ now → slice_get p.board.tasks t ≡ Some x
-    → (slice_get now.tasks t ≡ Some (entry_of x)) × (slice_get now.stages t ≡ Some x.stage) × (slice_get now.outside t ≡ Some x.outside)
-task_now p now t x same is = (
-  subst (λ (a : PoolState). slice_get a.tasks t ≡ Some (entry_of x)) same (map_get entry_of p.board.tasks t x is),
-  subst (λ (a : PoolState). slice_get a.stages t ≡ Some x.stage) same (map_get stage_of p.board.tasks t x is),
-  subst (λ (a : PoolState). slice_get a.outside t ≡ Some x.outside) same (map_get outside_of p.board.tasks t x is),
-)
 
 -- the refusal of `outside` for a task that is not released is for one of its checks
 pub full_now : (p : Inside) (now : PoolState) (t : ℕ) (x : Task) → state_of p ≡ now → slice_get p.board.tasks t ≡ Some x → x.stage ≡ stage.Fresh

@@ -57,11 +57,6 @@ pub record IsUnderWayTo (node k : ℕ) (a : BoardState) : Type 0 where
 abbrev pub HasNoneComing : ℕ → BoardState → Type 0
 HasNoneComing node a = (k : ℕ) (e : Edge) → slice_get a.edges k ≡ Some e → e.to ≡ node → e.way ≢ way.UnderWay
 
--- Nothing that the node could do is there.
-pub record IsIdleAt (node : ℕ) (a : BoardState) : Type 0 where
-  pub lacks : HasNoneReady node a
-  pub none : HasNoneComing node a
-
 -- ---- what each call does
 -- a new task: it lacks nothing so far, or, if it is held, one input from outside
 abbrev pub new_task : ℕ → ℕ → Bool → Task

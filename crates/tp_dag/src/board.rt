@@ -5,7 +5,7 @@ ghost use Rattle.std.specs.List.{slice_index_or};
 ghost use Rattle.tp_base.specs.declared.limits.TheConstants.{MAX_NODES, MAX_STEPS};
 ghost use Rattle.tp_dag.specs.declared.entry.Task.{Task};
 ghost use Rattle.tp_dag.specs.declared.entry.Stage.TheVariants as stage;
-ghost use Rattle.tp_dag.specs.Board.{LacksInput, IsReady, HasNoneReady, IsComing, HasNoneComing, IsIdleAt, MayArrive, MayLeave, IsUnderWayTo, IsUnsent, with_task};
+ghost use Rattle.tp_dag.specs.Board.{LacksInput, IsReady, HasNoneReady, IsComing, HasNoneComing, MayArrive, MayLeave, IsUnderWayTo, IsUnsent, with_task};
 ghost use Rattle.tp_dag.specs.Board.{HasEdge, HasOutside, HasReleased, HasBegun, HasLeft, HasArrived, HasFinished, IsReset};
 ghost use Rattle.tp_dag.specs.Counts.{BoardFacts};
 
@@ -407,14 +407,6 @@ impl Board {
             return false;
         };
         x.unsent != 0
-    }
-
-    /// Whether the node has nothing to do now.
-    #[inline]
-    pub fn idle(&self, node: u32) -> bool
-        ensures { IsTrue result → IsIdleAt node self.now }
-    {
-        !self.has_ready(node) && !self.has_coming(node)
     }
 
     /// A task of the node that is ready. It looks at all tasks.

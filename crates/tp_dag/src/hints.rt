@@ -10,20 +10,31 @@ const NONE: u32 = u32::MAX;
 /// Classes of tasks at a node.
 const CLASSES: u32 = 4;
 
+/// The hints of a task: the task that became ready before it, and the first and the last of the inputs that come from it.
+#[derive(Clone, Copy)]
+struct OfTask {
+    older_ready: u32,
+    first_output: u32,
+    last_output: u32,
+}
+
+/// The hints of an input: the message that was sent before it, and the input that comes after it from the same task.
+#[derive(Clone, Copy)]
+struct OfInput {
+    older_message: u32,
+    next_output: u32,
+}
+
 #[derive(Drop)]
 pub(crate) struct Hints {
-    // the newest ready task of each node and class, and the ready task before each
+    // the newest ready task of each node and class
     newest_ready: [u32; 32],
-    older_ready: Vec<u32>,
-    // the newest message under way to each node, and the message before each
+    // the newest message under way to each node
     newest_message: [u32; 8],
-    older_message: Vec<u32>,
     // the message that each node received and has not ended
     open_message: [u32; 8],
-    // the inputs that come from each task, in their order
-    first_output: Vec<u32>,
-    last_output: Vec<u32>,
-    next_output: Vec<u32>,
+    tasks: Vec<OfTask>,
+    inputs: Vec<OfInput>,
 }
 
 #[inline]
@@ -53,65 +64,88 @@ impl Hints {
     pub(crate) fn new(alloc: Global) -> Hints {
         Hints {
             newest_ready: [NONE; 32],
-            older_ready: Vec::new(alloc),
             newest_message: [NONE; 8],
-            older_message: Vec::new(alloc),
             open_message: [NONE; 8],
-            first_output: Vec::new(alloc),
-            last_output: Vec::new(alloc),
-            next_output: Vec::new(alloc),
+            tasks: Vec::new(alloc),
+            inputs: Vec::new(alloc),
         }
     }
 
     /// Makes room for the hints of one more task. Room for more tasks than there are does no harm.
+    #[inline]
     pub(crate) fn add_task(&mut self) -> Result<(), AllocError> {
-        self.older_ready.push(NONE)?;
-        self.first_output.push(NONE)?;
-        self.last_output.push(NONE)?;
+        self.tasks.push(OfTask {
+            older_ready: NONE,
+            first_output: NONE,
+            last_output: NONE,
+        })?;
         Ok(())
     }
 
     /// Makes room for the hints of one more input.
+    #[inline]
     pub(crate) fn add_input(&mut self) -> Result<(), AllocError> {
-        self.older_message.push(NONE)?;
-        self.next_output.push(NONE)?;
+        self.inputs.push(OfInput {
+            older_message: NONE,
+            next_output: NONE,
+        })?;
         Ok(())
     }
 
     /// Adds an input to the outputs of its source.
+    #[inline(always)]
     pub(crate) fn add_output(&mut self, source: u32, input: u32) {
-        match known(number_at(&self.last_output, source)) {
-            Some(last) => set_number(&mut self.next_output, last, input),
-            None => set_number(&mut self.first_output, source, input),
+        if let Some(place) = self.tasks.get_mut(source as usize) {
+            let last = place.last_output;
+            place.last_output = input;
+            if last == NONE {
+                place.first_output = input;
+                return;
+            }
+            if let Some(before) = self.inputs.get_mut(last as usize) {
+                before.next_output = input;
+            }
         }
-        set_number(&mut self.last_output, source, input);
     }
 
     /// The first input that comes from a task.
     #[inline]
     pub(crate) fn first_output(&self, task: u32) -> Option<u32> {
-        known(number_at(&self.first_output, task))
+        match self.tasks.get(task as usize) {
+            Some(place) => known(place.first_output),
+            None => None,
+        }
     }
 
     /// The input that comes after this one from the same task.
     #[inline]
     pub(crate) fn next_output(&self, input: u32) -> Option<u32> {
-        known(number_at(&self.next_output, input))
+        match self.inputs.get(input as usize) {
+            Some(place) => known(place.next_output),
+            None => None,
+        }
     }
 
+    #[inline]
     pub(crate) fn push_ready(&mut self, node: u32, class: u32, task: u32) {
         let list = node.saturating_mul(CLASSES).saturating_add(class);
         let newest = number_at(&self.newest_ready, list);
-        set_number(&mut self.older_ready, task, newest);
+        if let Some(place) = self.tasks.get_mut(task as usize) {
+            place.older_ready = newest;
+        }
         set_number(&mut self.newest_ready, list, task);
     }
 
+    #[inline]
     pub(crate) fn pop_ready(&mut self, node: u32) -> Option<u32> {
         for class in 0..CLASSES {
             let list = node.saturating_mul(CLASSES).saturating_add(class);
             let newest = number_at(&self.newest_ready, list);
             if newest != NONE {
-                let older = number_at(&self.older_ready, newest);
+                let older = match self.tasks.get(newest as usize) {
+                    Some(place) => place.older_ready,
+                    None => NONE,
+                };
                 set_number(&mut self.newest_ready, list, older);
                 return Some(newest);
             }
@@ -121,13 +155,18 @@ impl Hints {
 
     pub(crate) fn push_message(&mut self, node: u32, input: u32) {
         let newest = number_at(&self.newest_message, node);
-        set_number(&mut self.older_message, input, newest);
+        if let Some(place) = self.inputs.get_mut(input as usize) {
+            place.older_message = newest;
+        }
         set_number(&mut self.newest_message, node, input);
     }
 
     pub(crate) fn pop_message(&mut self, node: u32) -> Option<u32> {
         let newest = known(number_at(&self.newest_message, node))?;
-        let older = number_at(&self.older_message, newest);
+        let older = match self.inputs.get(newest as usize) {
+            Some(place) => place.older_message,
+            None => NONE,
+        };
         set_number(&mut self.newest_message, node, older);
         Some(newest)
     }

@@ -68,7 +68,8 @@ impl Model for Pool {
     ghost invariant = { IsPool };
 }
 
-/// Takes a step of one generation.
+/// Takes a step of one generation. Inlined, as `Core::step` is: each caller knows the kind of its step.
+#[inline(always)]
 fn take_step(core: &mut Core, step: Step) -> Result<(), Refusal>
     ensures ok { OnOk result (MayCome core.old.nodes core.old.steps step × (core.new ≡ with_step core.old step)) }
     ensures err { OnErr result (core.new ≡ core.old) }
@@ -326,8 +327,10 @@ impl Pool {
 
     /// Whether a node has another task that is ready.
     pub fn has_ready(&self, node: u32) -> bool
-        ensures { IsFalse result → HasNoneReady node self.now }
+        ensures no { IsFalse result → HasNoneReady node self.now }
+        ensures yes { IsTrue result → HasNoneReady node self.now → ⊥ }
     {
+        self.board.known();
         self.board.has_ready(node)
     }
 
@@ -457,6 +460,7 @@ impl Pool {
     }
 
     // marks an input of a task at this node as received
+    #[inline(always)]
     fn arrive(&mut self, node: u32, input: u32)
         requires coming { IsComing node input self.old }
         requires there { IsFrom node input self.old ⊎ WasReceived node input self.old.steps }
@@ -562,6 +566,7 @@ impl Pool {
     }
 
     // passes an input on that comes from a running task, if it was not
+    #[inline(always)]
     fn send(&mut self, node: u32, task: u32, input: u32) -> Result<(), Refusal>
         requires { slice_get self.old.stages task ≡ Some stage.Running }
         ensures adds { AddsOnly is_sending self.old self.new }

@@ -1,6 +1,7 @@
 //! The command line: its options and help texts.
 
 use crate::picture::{MAX_PIXELS, MIN_PIXELS};
+use clap::builder::ValueParser;
 use clap::{Arg, ArgAction, Command, value_parser};
 use std::alloc::{AllocError, Global};
 use tp_base::MAX_NODES;
@@ -10,7 +11,7 @@ use tp_shell::{VERSION, count_option};
 pub(crate) fn draw_command<'a>(alloc: Global) -> Result<Command<'a>, AllocError> {
     Command::new(alloc, "draw")
         .version(VERSION)
-        .about("Draws runs of pools, and their task graphs, as SVG")
+        .about("Draws runs of pools, and their task graphs")
         .after_help(DRAW_HELP)
         .subcommand_required(true)
         .subcommand(run_command(alloc)?)?
@@ -21,6 +22,7 @@ fn run_command<'a>(alloc: Global) -> Result<Command<'a>, AllocError> {
     Command::new(alloc, "run")
         .about("Draws the run that a trace records")
         .after_help(RUN_HELP)
+        .arg(format_option(alloc))?
         .arg(width_option(alloc))?
         .arg(until_flag(alloc))
 }
@@ -40,6 +42,18 @@ fn spec_argument<'a>(alloc: Global) -> Arg<'a> {
     Arg::new(alloc, "SPEC").required(true).help(
         "The pool, such as product:4:2:0, wavefront:8:8:0 or reduce:16:0",
     )
+}
+
+/// The option for what is written of a run. The name of its value is what is allowed, so that an error line for any
+/// other argument shows that.
+fn format_option<'a>(alloc: Global) -> Arg<'a> {
+    Arg::new(alloc, "format")
+        .long("format")
+        .value_name("svg|html|events")
+        .value_parser(ValueParser::Names(&FORMATS))
+        .hide_possible_values(true)
+        .default_value("svg")
+        .help("A picture, a page with a timeline, or Chrome's trace events")
 }
 
 fn width_option<'a>(alloc: Global) -> Arg<'a> {
@@ -65,8 +79,11 @@ fn flag<'a>(alloc: Global, name: &'a str) -> Arg<'a> {
     Arg::new(alloc, name).long(name).action(ArgAction::SetTrue)
 }
 
+static FORMATS: [&str; 3] = ["svg", "html", "events"];
+
 static DRAW_HELP: &str = "Draw a run:
   tp run wavefront:4:4:0 --nodes 2 --trace | samples draw run > run.svg
+  tp run wavefront:4:4:0 --nodes 2 --trace | samples draw run --format html > run.html
 
 Draw a graph:
   samples draw graph wavefront:4:4:0 --nodes 2 > graph.svg
@@ -87,10 +104,17 @@ Above 2,500 events hills show how many tasks run, and ribbons the messages. A
 pointer over a task, a message or a wave shows its numbers. A viewer that prefers
 dark colours shows the picture in dark ones.
 
+--format html writes a page with the same run, to zoom in and to search: one file
+that needs no other. --format events writes Chrome's trace events, as JSON, for
+viewers of timelines: a process for each node, in it a thread for each task that
+runs at the same time, messages as flows, waves and judgements as instants, and a
+counter of what is pending. A trace has no times, so event n is at n microseconds.
+With both, --width has no effect.
+
 The exit status is
-  0  if the picture was written;
+  0  if all was written;
   1  if the arguments are wrong, the trace cannot be read or is longer than
-     33,554,432 bytes, or the picture cannot be written;
+     33,554,432 bytes, or the output cannot be written;
   2  if the trace is not sound: the line of `tp audit` is printed on standard
      error, and nothing is drawn. With --until-fault, what is before the first
      wrong line is drawn all the same;

@@ -1,4 +1,4 @@
-//! Pictures of runs and of graphs, as SVG or for graphviz, and the program `draw` as a call over its arguments, its
+//! Pictures of runs and of graphs, as SVG, as a page, as trace events or for graphviz, and the program `draw` as a call over its arguments, its
 //! input and its output.
 //!
 //! The pictures are tested: they are compared with stored ones. Contracts say that every call is safe and ends, and the
@@ -11,6 +11,7 @@ mod cli;
 mod columns;
 mod command;
 mod cuts;
+mod events;
 mod fault;
 mod graph_picture;
 mod graphviz;
@@ -29,6 +30,7 @@ mod run_style;
 mod scene;
 mod sketch;
 mod sums;
+mod timeline;
 mod tracks;
 mod waves;
 
@@ -37,7 +39,7 @@ pub use fault::{Fault, without_words};
 pub use graph_picture::graph_page;
 pub use graphviz::dot;
 pub use picture::Picture;
-pub use run::{View, draw_run};
+pub use run::{Form, View, draw_run};
 pub use run_page::svg;
 pub use scene::Scene;
 pub use sketch::scene_of;

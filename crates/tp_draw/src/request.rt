@@ -1,7 +1,7 @@
 //! What the arguments ask for.
 
 use crate::command::draw_command;
-use crate::run::View;
+use crate::run::{Form, View};
 use clap::error::ErrorKind;
 use clap::{ArgMatches, Error};
 use std::alloc::Global;
@@ -20,7 +20,7 @@ pub(crate) enum GraphForm {
 /// What the arguments ask for.
 #[derive(Drop)]
 pub(crate) enum Request<'a> {
-    /// The picture of the run that a trace records.
+    /// The run that a trace records.
     Run(View),
     /// The graph of a pool specification, on a number of nodes.
     Graph(&'a str, u32, GraphForm),
@@ -40,7 +40,11 @@ fn request_of<'a>(matches: &ArgMatches<'a>) -> Option<Request<'a>> {
     let pixels = arguments.get_one::<u32>("width");
     match name {
         "run" => Some(Request::Run(View {
-            pixels,
+            form: match arguments.get_str("format")? {
+                "html" => Form::Timeline,
+                "events" => Form::Events,
+                _ => Form::Picture(pixels),
+            },
             until_fault: arguments.get_flag("until-fault"),
         })),
         "graph" => {

@@ -1,28 +1,40 @@
-//! The picture of the run that a trace records.
+//! The run that a trace records, as a picture, as a page or as events.
 
 ghost use Rattle.std.specs.Prelude.{◌≡◌, ◌≢◌, ◌≤◌, IfErr, OnOk, false};
 ghost use Rattle.tp_draw.specs.Ends.{HasReadTrace};
 
+use crate::events::events_of;
 use crate::fault::Fault;
 use crate::picture::Picture;
 use crate::run_page::{svg, svg_until};
 use crate::sketch::scene_of;
+use crate::timeline::timeline_of;
 use std::alloc::Global;
 use std::io::{Read, Write};
-use tp_base::MAX_NODES;
+use tp_base::{MAX_NODES, Step};
 use tp_shell::write_text;
 use tp_text::{Reading, Trace, read_trace};
 
-/// How the picture of a run is shown.
+/// What is written of a run.
+#[derive(Clone, Copy, Debug, PartialEq, Eq)]
+pub enum Form {
+    /// A picture as SVG: this many pixels wide, or in its own size.
+    Picture(Option<u32>),
+    /// A page with a timeline.
+    Timeline,
+    /// Chrome's trace events.
+    Events,
+}
+
+/// How a run is shown.
 #[derive(Clone, Copy, Debug, PartialEq, Eq)]
 pub struct View {
-    /// Its width in pixels; without one, it has its own size.
-    pub pixels: Option<u32>,
+    pub form: Form,
     /// Whether the steps before the first line at fault are drawn.
     pub until_fault: bool,
 }
 
-/// Reads a trace and writes the picture of its run. Nothing is written before the whole picture is complete.
+/// Reads a trace and writes its run. Nothing is written before the whole text is complete.
 pub fn draw_run<I: Read, O: Write>(
     alloc: Global,
     view: View,
@@ -36,13 +48,13 @@ pub fn draw_run<I: Read, O: Write>(
 {
     match read_trace(alloc, reader) {
         Ok(Reading::Sound(trace)) => {
-            let text = picture_of(alloc, &trace, None, view.pixels)?;
+            let text = text_of_run(alloc, &trace, None, view.form)?;
             write_picture(out, &text)
         }
         Ok(Reading::Flawed(trace, complaint)) => {
             let line = text_of(alloc, complaint);
             if view.until_fault {
-                let text = picture_of(alloc, &trace, Some(&line), view.pixels)?;
+                let text = text_of_run(alloc, &trace, Some(&line), view.form)?;
                 write_picture(out, &text)?;
             }
             Err(Fault::Unsound(line))
@@ -57,16 +69,35 @@ fn text_of(alloc: Global, complaint: Vec<u8>) -> String {
     String::from_utf8(complaint).unwrap_or(String::new(alloc))
 }
 
-/// The picture of the steps of a trace, with the mark of the fault after them if there is one.
-fn picture_of(
+/// What is written of the steps of a trace, with the mark of the fault after them if there is one.
+fn text_of_run(
     alloc: Global,
     trace: &Trace,
     fault: Option<&str>,
-    pixels: Option<u32>,
+    form: Form,
 ) -> Result<String, Fault>
     ensures { IfErr result (λ fault. fault ≡ Fault.Memory) }
 {
-    let Ok(scene) = scene_of(alloc, trace.nodes.clamp(1, MAX_NODES), &trace.steps) else {
+    let (nodes, steps) = (trace.nodes.clamp(1, MAX_NODES), trace.steps.as_slice());
+    let text = match form {
+        Form::Picture(pixels) => return picture_of(alloc, nodes, steps, fault, pixels),
+        Form::Timeline => timeline_of(alloc, nodes, steps, fault),
+        Form::Events => events_of(alloc, nodes, steps, fault, String::new(alloc)),
+    };
+    text.map_err(|_| Fault::Memory)
+}
+
+fn picture_of(
+    alloc: Global,
+    nodes: u32,
+    steps: &[Step],
+    fault: Option<&str>,
+    pixels: Option<u32>,
+) -> Result<String, Fault>
+    requires { (1 ≤ nodes) × (nodes ≤ 8) }
+    ensures { IfErr result (λ fault. fault ≡ Fault.Memory) }
+{
+    let Ok(scene) = scene_of(alloc, nodes, steps) else {
         return Err(Fault::Memory);
     };
     let text = match fault {

@@ -40,9 +40,14 @@ impl Tracks {
         }
     }
 
+    /// The node of a task of the present generation.
+    pub(crate) fn home(&self, task: TaskId) -> NodeId {
+        self.homes.get(task.0).unwrap_or(NodeId(0))
+    }
+
     /// A task begins, on the first track of its lane that is free.
     fn begin(&mut self, task: TaskId, event: u32) -> Result<(), AllocError> {
-        let node = self.homes.get(task.0).unwrap_or(NodeId(0));
+        let node = self.home(task);
         // (before this event at most as many tasks began)
         let track = free_track(&self.running, node, event);
         if let Some(rows) = self.rows.get_mut(node.0 as usize) {

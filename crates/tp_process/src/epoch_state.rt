@@ -3,8 +3,8 @@
 
 ghost use Rattle.std.specs.Prelude.{◌≡◌, ◌+◌, not, OnErr};
 ghost use Rattle.std.specs.Result.{result_err};
-ghost use Rattle.tp_process.specs.Calls.{acts, blank, closed, control, ends, gives, is_down_due, is_due, judges, left_of};
-ghost use Rattle.tp_process.specs.Calls.{moved, opened, opens, ready, received, right_of, sent, takes, notifies, took, due};
+ghost use Rattle.tp_process.specs.Calls.{blank, closed, control, ends, gives, is_down_due, is_due, judges, left_of};
+ghost use Rattle.tp_process.specs.Calls.{moved, opened, opens, received, right_of, sent, takes, notifies, took, due, visits};
 ghost use Rattle.tp_process.specs.Calls.{close_refusal, open_refusal, receive_refusal, send_refusal, take_refusal};
 ghost use Rattle.tp_process.specs.Epochs.{has_notified};
 ghost use Rattle.tp_process.specs.State.{is_set, read_state, stored_state};
@@ -149,6 +149,7 @@ impl StoredState {
     ///
     /// Refused: `NotDue` if it is for another process or of another wave, or was taken before, or if a sum would
     /// overflow.
+    #[inline(always)]
     pub fn take(&mut self, message: ControlMessage) -> Result<(), Refusal>
         ensures refused { result_err result ≡ take_refusal message (read_state self.old) }
         ensures state { read_state self.new ≡ took message (read_state self.old) }
@@ -164,6 +165,7 @@ impl StoredState {
         }
     }
 
+    #[inline(always)]
     fn take_down(&mut self, wave: u64) -> Result<(), Refusal>
         ensures refused { result_err result ≡ due (is_down_due wave (read_state self.old)) }
         ensures state { read_state self.new ≡ takes 0 wave Token.Down (read_state self.old) }
@@ -176,6 +178,7 @@ impl StoredState {
         Ok(())
     }
 
+    #[inline(always)]
     fn take_up(&mut self, from: u64, wave: u64, sent: u64, received: u64) -> Result<(), Refusal>
         ensures refused { result_err result ≡ due (is_due from wave (Token.Up sent received) (read_state self.old)) }
         ensures state { read_state self.new ≡ takes from wave (Token.Up sent received) (read_state self.old) }
@@ -184,10 +187,10 @@ impl StoredState {
         if self.here == 0 || wave != self.wave {
             return Err(Refusal::NotDue);
         }
-        let (Some(all_sent), Some(all_received)) = (
-            self.taken_sent.checked_add(sent),
-            self.taken_received.checked_add(received),
-        ) else {
+        let Some(all_sent) = self.taken_sent.checked_add(sent) else {
+            return Err(Refusal::NotDue);
+        };
+        let Some(all_received) = self.taken_received.checked_add(received) else {
             return Err(Refusal::NotDue);
         };
         if self.up_left != 0 && from == self.left() {
@@ -259,35 +262,33 @@ impl StoredState {
     }
 
     /// Returns what the process has to do next, and records that it does it.
+    #[inline(always)]
     pub fn next(&mut self) -> Next
         ensures state { read_state self.new ≡ (moved (read_state self.old)).state }
         ensures next { result ≡ (moved (read_state self.old)).next }
-    {
-        self.start();
-        self.act()
-    }
-
-    /// Starts the next wave if this is process 0, it is idle, it does not know the end and no wave is open.
-    fn start(&mut self)
-        ensures { read_state self.new ≡ ready (read_state self.old) }
-    {
-        if self.number == 0 && self.over == 0 && self.here == 0 && self.pending == 0 {
-            if let Some(wave) = self.wave.checked_add(1) {
-                self.visit(wave);
-            }
-        }
-    }
-
-    fn act(&mut self) -> Next
-        ensures state { read_state self.new ≡ (acts (read_state self.old)).state }
-        ensures next { result ≡ (acts (read_state self.old)).next }
     {
         if self.over != 0 {
             return self.notify();
         }
         if self.here == 0 {
-            return Next::Nothing;
+            // Process 0, if it is idle, starts the next wave.
+            if self.number != 0 || self.pending != 0 {
+                return Next::Nothing;
+            }
+            let Some(wave) = self.wave.checked_add(1) else {
+                return Next::Nothing;
+            };
+            self.visit(wave);
         }
+        self.pass()
+    }
+
+    /// Passes on the newest wave, which is here: down to the children and, when they have reported, up.
+    #[inline(always)]
+    fn pass(&mut self) -> Next
+        ensures state { read_state self.new ≡ (visits (read_state self.old)).state }
+        ensures next { result ≡ (visits (read_state self.old)).next }
+    {
         if self.down_left != 0 {
             self.down_left = 0;
             return Next::Send(self.control(self.left(), Token::Down));
@@ -299,13 +300,13 @@ impl StoredState {
         if self.up_left != 0 || self.up_right != 0 || self.pending > 0 {
             return Next::Nothing;
         }
-        match (
-            self.taken_sent.checked_add(self.sent),
-            self.taken_received.checked_add(self.received),
-        ) {
-            (Some(sent), Some(received)) => self.give(sent, received),
-            _ => Next::Nothing,
-        }
+        let Some(sent) = self.taken_sent.checked_add(self.sent) else {
+            return Next::Nothing;
+        };
+        let Some(received) = self.taken_received.checked_add(self.received) else {
+            return Next::Nothing;
+        };
+        self.give(sent, received)
     }
 
     /// Returns the notification of the next child of the end, or `Ended` if all were notified.
@@ -325,6 +326,7 @@ impl StoredState {
     }
 
     /// Passes the wave up with what this process and all below it have counted; process 0 judges the wave instead.
+    #[inline(always)]
     fn give(&mut self, sent: u64, received: u64) -> Next
         requires sent { sent ≡ (read_state self.old).taken_sent + (read_state self.old).sent }
         requires received { received ≡ (read_state self.old).taken_received + (read_state self.old).received }
@@ -338,6 +340,7 @@ impl StoredState {
         Next::Send(self.control((self.number as u64 - 1) / 2, Token::Up(sent, received)))
     }
 
+    #[inline(always)]
     fn judge(&mut self, sent: u64, received: u64) -> Next
         requires sent { sent ≡ (read_state self.old).taken_sent + (read_state self.old).sent }
         requires received { received ≡ (read_state self.old).taken_received + (read_state self.old).received }
@@ -364,6 +367,7 @@ impl StoredState {
     }
 
     /// Records that a wave comes here.
+    #[inline(always)]
     fn visit(&mut self, wave: u64)
         ensures { read_state self.new ≡ opens wave (read_state self.old) }
     {
@@ -371,10 +375,19 @@ impl StoredState {
         self.here = 1;
         self.taken_sent = 0;
         self.taken_received = 0;
-        self.down_left = flag(self.left() < self.processes as u64);
-        self.down_right = flag(self.right() < self.processes as u64);
-        self.up_left = self.down_left;
-        self.up_right = self.down_right;
+        // Half of the processes are leaves. With this branch, the compiler stores a leaf's four bytes at once.
+        if self.left() < self.processes as u64 {
+            let has_right = flag(self.right() < self.processes as u64);
+            self.down_left = 1;
+            self.down_right = has_right;
+            self.up_left = 1;
+            self.up_right = has_right;
+        } else {
+            self.down_left = 0;
+            self.down_right = 0;
+            self.up_left = 0;
+            self.up_right = 0;
+        }
     }
 
     fn left(&self) -> u64

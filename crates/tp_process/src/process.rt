@@ -194,6 +194,7 @@ impl Process {
     /// Refused: `NotOpen`; `NotYet` if its epoch is later: keep it, and take it again after `reopen`; `Late` if its
     /// epoch is older; `NotDue` if it is for another process or of another wave, or was taken before, or if a sum would
     /// overflow.
+    #[inline(always)]
     pub fn take(&mut self, epoch: u64, message: ControlMessage) -> Result<(), Refusal>
         ensures refused { result_err result ≡ checked_in epoch (read self.old) (take_refusal message (read self.old).state) }
         ensures state { read self.new ≡ if_open (read self.old) (took_in epoch message (read self.old)) }
@@ -208,6 +209,7 @@ impl Process {
     /// A control message that it returns belongs to `epoch()`.
     ///
     /// Refused: `NotOpen`.
+    #[inline(always)]
     pub fn next(&mut self) -> Result<Next, Refusal>
         ensures next { result ≡ next_of (read self.old) }
         ensures state { read self.new ≡ if_open (read self.old) (with_state (read self.old) (moved (read self.old).state).state) }

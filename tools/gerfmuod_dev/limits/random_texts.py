@@ -81,6 +81,12 @@ def trace(generator, version, nodes, steps):
     return damaged(generator, text)
 
 
+def sound_trace(version, nodes, steps):
+    """Returns the trace of the accepted steps."""
+    accepted = [(line(step)[:-1], reply) for step, reply in steps if not reply.startswith("refused")]
+    return f"trace {version}\nnodes {nodes}\n" + "".join(f"judge {reply}\n" if text == "judge" else f"{text}\n" for text, reply in accepted)
+
+
 def damaged(generator, text):
     """Returns a text in which sometimes one byte is changed."""
     result = bytearray(text.encode())

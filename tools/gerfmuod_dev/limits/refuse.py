@@ -126,6 +126,8 @@ def commands_of_samples(samples, folder):
     yield command("heat --help", ["heat", "--help"])
     trace = running.write(f"{folder}/drawn", ["trace 1", "nodes 8", *list(steps())[:80]])
     yield command("draw run", ["draw", "run"], trace)
+    for form in ("html", "events"):
+        yield command(f"draw run --format {form}", ["draw", "run", "--format", form], trace)
     yield command("draw graph wavefront:6:5:0", ["draw", "graph", "wavefront:6:5:0", "--nodes", "3"])
     yield command("draw graph product:4:2:0 --dot", ["draw", "graph", "product:4:2:0", "--dot"])
     yield command("draw --help", ["draw", "--help"])

@@ -1,4 +1,4 @@
-"""Prints what bash loads to complete the command line of tp or samples: subcommands, options and numbers of options.
+"""Prints what bash loads to complete the command line of tp or samples: subcommands, options and their values.
 
 It is generated from the command lines in the sources, as the manual is. `make install` installs it; to try it, run
 `source <(tools/dev completion tp)`. The status is 0.
@@ -39,7 +39,9 @@ def reply(words):
 def values_of(argument):
     """Returns the values of an option that has few."""
     found = RANGE.fullmatch(argument.metavar)
-    return [str(value) for value in range(int(found[1]), int(found[2]) + 1)] if found else []
+    if found:
+        return [str(value) for value in range(int(found[1]), int(found[2]) + 1)]
+    return argument.metavar.split("|") if "|" in argument.metavar else []
 
 
 def choices_of(command):

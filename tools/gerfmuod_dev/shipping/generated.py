@@ -18,6 +18,7 @@ COMPLETED = (
     ("tp run --nodes = ", ONE_TO_EIGHT),
     ("samples draw g", ["graph"]),
     ("samples draw graph --d", ["--dot"]),
+    ("samples draw run --format ", ["svg", "html", "events"]),
     ("samples heat --q", ["--quiet"]),
 )
 COMPLETE = 'source /dev/stdin; COMP_WORDS=("$@"); COMP_CWORD=$(($# - 1)); _$1; echo "${COMPREPLY[@]}"'

@@ -11,10 +11,12 @@ from ..repository import text_of
 HEADERS = ("gerfmuod.h", "gerfmuod_process.h", "gerfmuod_dag.h", "gerfmuod_team.h")
 COMMENT = re.compile(r"/\*(.*?)\*/\s*", re.S)
 # blocks of code that say nothing to a reader: guards, includes, and checks of the layout
-GUARD = re.compile(r"#ifndef \w+_H\n#define \w+_H\n?|#include .*|#endif|#(?:ifdef|if defined).*__cplusplus[^\n]*")
+GUARD = re.compile(r"#ifndef \w+_H\n#define \w+_H\n?|#include .*|#endif|#(?:ifdef|if defined).*__(?:cplusplus|SANITIZE)[^\n]*")
 CHECK = re.compile(r"typedef char \w+\[|^GERFMUOD_\w*(?:ASSERT|AT)\(|#define GERFMUOD_\w*(?:ASSERT|AT)\(|_Static_assert", re.M)
 BODY = re.compile(r" \{\n.*?^\}$", re.S | re.M)
 FUNCTION = re.compile(r"^(?!typedef|enum|struct|#| |\}|/)[^;{}=]*?\b(gerfmuod_\w+)\([^;{}]*?\)(?=;)", re.M)
+# what is before the type of a function, and says nothing to a caller
+BEFORE = re.compile(r"(?:static inline |GERFMUOD_CHECKED |GERFMUOD_INLINE )+")
 # the sign of a comment that is a title
 RULE = "---- "
 
@@ -67,11 +69,19 @@ def alone(comment):
     return f".SS {roff.escaped(first[0].upper() + ' '.join(first.split())[1:].rstrip('.'))}\n" + roff.paragraphs(others)
 
 
+def prototype(lines):
+    """Returns the lines of a prototype without what is before its type, and moved to the left by that."""
+    found = BEFORE.match(lines)
+    cut = found.end() if found else 0
+    first, *others = lines[cut:].split("\n")
+    return "\n".join([first, *(line[min(cut, len(line) - len(line.lstrip())) :] for line in others)])
+
+
 def described(code, comment):
-    """Returns the declarations of functions, without `static inline`, and the comment about them."""
-    lines = re.sub(r"^static inline ", "", code, flags=re.M).split("\n")
-    prototypes = "\n".join(roff.bold(line) for line in lines)
-    return ".PP\n" + roff.as_lines(prototypes) + (f".RS 4\n{roff.paragraphs(comment)}.RE\n" if comment else "")
+    """Returns the declarations of functions, and the comment about them."""
+    declarations = [prototype(lines) for lines in re.split(r"(?<=;)\n", code)]
+    bold = "\n".join(roff.bold(line) for line in "\n".join(declarations).split("\n"))
+    return ".PP\n" + roff.as_lines(bold) + (f".RS 4\n{roff.paragraphs(comment)}.RE\n" if comment else "")
 
 
 def body_of(code):

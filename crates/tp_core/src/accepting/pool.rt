@@ -1,5 +1,5 @@
 //! Taking the ten steps of a pool, which change its tasks, actions and messages. Each makes its checks, then reserves
-//! room, then takes effect. Those that a pool of tasks takes for each task or message are inlined.
+//! room, then takes effect. A pool of tasks takes `insert`, `begin` and `done` for each task, so these are inlined.
 ghost use Rattle.std.specs.Prelude.{◌≡◌};
 ghost use Rattle.tp_core.specs.Pool.{lacking as lacking_inputs};
 
@@ -151,7 +151,6 @@ impl Core {
         Ok(Reply::Plain)
     }
 
-    #[inline(always)]
     pub(super) fn send(
         &mut self,
         from: NodeId,
@@ -186,7 +185,6 @@ impl Core {
         Ok(Reply::Plain)
     }
 
-    #[inline(always)]
     pub(super) fn recv(
         &mut self,
         node: NodeId,
@@ -218,7 +216,6 @@ impl Core {
         Ok(Reply::Plain)
     }
 
-    #[inline(always)]
     pub(super) fn end(
         &mut self,
         node: NodeId,

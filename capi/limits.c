@@ -1,0 +1,77 @@
+/* limits.c: cores at their limits. A core that is full still detects termination, and the calls that take a const core do not
+ * write to it: here its memory is read-only. */
+#define _DEFAULT_SOURCE
+#include "gerfmuod.h"
+#include <stdio.h>
+#include <stdlib.h>
+#include <sys/mman.h>
+
+#define CHECK(what)                                                                                                    \
+    do {                                                                                                               \
+        if (!(what)) {                                                                                                 \
+            fprintf(stderr, "line %d: check failed: %s\n", __LINE__, #what);                                           \
+            exit(1);                                                                                                   \
+        }                                                                                                              \
+    } while (0)
+
+/* Takes steps until there is room for one more. */
+static void fill(gerfmuod_core *core) {
+    if (gerfmuod_room(core) % 2 == 0) { /* three steps */
+        CHECK(gerfmuod_insert(core, 0, 1, 0).refused == 0);
+        CHECK(gerfmuod_begin(core, 1).refused == 0);
+        CHECK(gerfmuod_done(core, 1).told == GERFMUOD_TOLD_PLAIN);
+    }
+    for (uint32_t left = gerfmuod_room(core); left > 1; left -= 2) {
+        CHECK(gerfmuod_room(core) == left);
+        CHECK(gerfmuod_action_open(core, 0, 2).refused == 0);
+        CHECK(gerfmuod_action_close(core, 0, 2).told == GERFMUOD_TOLD_PLAIN);
+    }
+}
+
+/* Fills a core, if `has_wave` while a wave is under way, and settles it. */
+static void full(uint32_t nodes, bool has_wave) {
+    const uint32_t limit = GERFMUOD_MAX_STEPS - GERFMUOD_SETTLE_STEPS * nodes;
+    gerfmuod_core core;
+    CHECK(gerfmuod_open(&core, nodes) == 0 && gerfmuod_room(&core) == limit);
+    for (uint32_t node = 1; node < nodes; node++) CHECK(gerfmuod_ready(&core, node).refused == 0);
+    if (has_wave) CHECK(gerfmuod_start(&core).refused == 0);
+    fill(&core);
+    CHECK(gerfmuod_length(&core) == limit - 1 && gerfmuod_ready(&core, 0).told == GERFMUOD_TOLD_QUIET);
+    gerfmuod_answer more = gerfmuod_ready(&core, 9); /* before the checks of the kind */
+    CHECK(more.refused == GERFMUOD_REFUSED_HISTORY_FULL && more.number == limit && gerfmuod_room(&core) == 0);
+    CHECK(gerfmuod_insert(&core, 0, 1, 17).refused == GERFMUOD_REFUSED_BAD_SPEC);
+    gerfmuod_settled settled = gerfmuod_settle(&core);
+    CHECK(settled.refused == 0 && settled.steps > 0 && settled.steps <= GERFMUOD_SETTLE_STEPS * nodes);
+    CHECK(gerfmuod_settle(&core).refused == GERFMUOD_REFUSED_ENDED && gerfmuod_length(&core) == limit + settled.steps);
+    CHECK(gerfmuod_reopen(&core).refused == GERFMUOD_REFUSED_HISTORY_FULL && gerfmuod_restart(&core) == 0);
+    CHECK(gerfmuod_length(&core) == 0 && gerfmuod_room(&core) == limit);
+    gerfmuod_close(&core);
+}
+
+static void read_only(void) {
+    size_t size = 65536;
+    gerfmuod_core *core = mmap(NULL, size, PROT_READ | PROT_WRITE, MAP_PRIVATE | MAP_ANONYMOUS, -1, 0);
+    static char room[256];
+    CHECK(core != MAP_FAILED && gerfmuod_open(core, 3) == 0);
+    for (uint32_t task = 0; task < 5; task++) CHECK(gerfmuod_insert(core, task % 3, task, 0).refused == 0);
+    CHECK(mprotect(core, size, PROT_READ) == 0);
+    CHECK(gerfmuod_length(core) == 5 && gerfmuod_room(core) > 0 && !gerfmuod_whole(core).quiet);
+    CHECK(gerfmuod_numbers(core, 0).pending == 3 && gerfmuod_numbers(core, 3).refused == GERFMUOD_REFUSED_NO_NODE);
+    CHECK(gerfmuod_trace(core, room, sizeof room).outcome == GERFMUOD_WRITTEN);
+    CHECK(mprotect(core, size, PROT_READ | PROT_WRITE) == 0);
+    gerfmuod_close(core);
+    CHECK(mprotect(core, size, PROT_READ) == 0); /* and if it is closed */
+    CHECK(gerfmuod_length(core) == 0 && gerfmuod_numbers(core, 0).refused == GERFMUOD_REFUSED_NO_POOL);
+    CHECK(gerfmuod_trace(core, room, sizeof room).outcome == GERFMUOD_NO_TEXT);
+    munmap(core, size);
+}
+
+int main(void) {
+    full(1, false);
+    full(1, true);
+    full(7, false);
+    full(8, true);
+    read_only();
+    puts("limits: as they should be");
+    return 0;
+}

@@ -1,0 +1,112 @@
+"""Opens a page in headless Chromium, and drives it as a reader does: by the DevTools protocol, over a pipe."""
+import base64
+import json
+import os
+import shutil
+import subprocess
+import tempfile
+
+NAMES = ("chromium", "chromium-browser", "google-chrome")
+# a shell gives Chromium the descriptors 3 and 4, on which it reads and writes
+SHELL = 'reads=$1 writes=$2; shift 2; exec "$@" 3<&"$reads" 4>&"$writes"'
+OPTIONS = ("--headless=new", "--remote-debugging-pipe", "--disable-gpu", "--no-first-run", "--hide-scrollbars")
+SECONDS = 120
+
+
+def program():
+    """Returns the path of Chromium, or None if it is not installed."""
+    return next((path for path in map(shutil.which, NAMES) if path), None)
+
+
+class Browser:
+    """A page in Chromium, of this size in pixels; `errors` has what the page reported as an error."""
+
+    def __init__(self, width=1200, height=640):
+        self.folder = tempfile.TemporaryDirectory(ignore_cleanup_errors=True)
+        reads, to_browser = os.pipe()
+        from_browser, writes = os.pipe()
+        options = [*OPTIONS, f"--user-data-dir={self.folder.name}", f"--window-size={width},{height}"]
+        options += ["--no-sandbox"] * (os.geteuid() == 0)
+        command = ["sh", "-c", SHELL, "sh", str(reads), str(writes), "timeout", str(SECONDS), program(), *options]
+        self.process = subprocess.Popen(command, pass_fds=(reads, writes), stdin=subprocess.DEVNULL, stderr=subprocess.DEVNULL)
+        os.close(reads)
+        os.close(writes)
+        self.out, self.source = os.fdopen(to_browser, "wb"), os.fdopen(from_browser, "rb")
+        self.session, self.number, self.rest, self.errors = None, 0, b"", []
+        target = self.call("Target.createTarget", url="about:blank")["targetId"]
+        self.session = self.call("Target.attachToTarget", targetId=target, flatten=True)["sessionId"]
+        for domain in ("Page", "Runtime", "Log"):
+            self.call(f"{domain}.enable")
+        self.call("Emulation.setDeviceMetricsOverride", width=width, height=height, deviceScaleFactor=1, mobile=False)
+
+    def __enter__(self):
+        return self
+
+    def __exit__(self, *_):
+        self.out.close()
+        self.process.wait()
+        self.source.close()
+        self.folder.cleanup()
+
+    def receive(self):
+        """Returns the next message of the browser, and keeps it if it is an error of the page."""
+        while b"\0" not in self.rest:
+            read = self.source.read1(1 << 16)
+            if not read:
+                raise EOFError("Chromium has ended")
+            self.rest += read
+        text, _, self.rest = self.rest.partition(b"\0")
+        message = json.loads(text)
+        event, details = message.get("method"), message.get("params", {})
+        is_error = event == "Runtime.consoleAPICalled" and details["type"] in ("error", "warning", "assert")
+        if is_error or event == "Runtime.exceptionThrown" or event == "Log.entryAdded" and details["entry"]["level"] == "error":
+            self.errors.append(json.dumps(details)[:500])
+        return message
+
+    def call(self, method, **parameters):
+        """Calls a method of the protocol, and returns its result."""
+        self.number += 1
+        message = {"id": self.number, "method": method, "params": parameters}
+        if self.session:
+            message["sessionId"] = self.session
+        self.out.write(json.dumps(message).encode() + b"\0")
+        self.out.flush()
+        while (reply := self.receive()).get("id") != self.number:
+            pass
+        if "error" in reply:
+            raise RuntimeError(f"{method}: {reply['error']}")
+        return reply["result"]
+
+    def open(self, path):
+        self.call("Page.navigate", url=f"file://{os.path.abspath(path)}")
+        while self.receive().get("method") != "Page.loadEventFired":
+            pass
+        self.settle()
+
+    def value(self, expression):
+        """Returns the value of an expression in the page, after a promise has ended."""
+        result = self.call("Runtime.evaluate", expression=expression, returnByValue=True, awaitPromise=True)
+        return result["result"].get("value")
+
+    def settle(self):
+        """Waits until the page has drawn what was asked for before; returns the milliseconds."""
+        frames = "new Promise(end => requestAnimationFrame(() => requestAnimationFrame(() => end(performance.now() - began))))"
+        return self.value(f"(began => {frames})(performance.now())")
+
+    def mouse(self, kind, x, y, **more):
+        self.call("Input.dispatchMouseEvent", type=kind, x=x, y=y, **more)
+        self.settle()
+
+    def key(self, key, text=""):
+        self.call("Input.dispatchKeyEvent", type="keyDown", key=key, text=text)
+        self.call("Input.dispatchKeyEvent", type="keyUp", key=key)
+        self.settle()
+
+    def prefer(self, scheme):
+        """Prefers light or dark colours."""
+        self.call("Emulation.setEmulatedMedia", features=[{"name": "prefers-color-scheme", "value": scheme}])
+        self.settle()
+
+    def screenshot(self):
+        """Returns what the page looks like, as a PNG."""
+        return base64.b64decode(self.call("Page.captureScreenshot", format="png")["data"])

@@ -1,0 +1,222 @@
+"""Tries the trace events and the page that `samples draw run` writes, unproved.
+
+Has the program write 40 random runs as events. A JSON parser reads them: each task, message and wave of the trace has to
+be in them once, and they have to be those of a second writer (trace_events.py). If Chromium is installed
+(`tools/page-packages` prints the package), opens the page of a run of 100,000 events in it, zooms, moves, searches, and holds
+the pointer over a task, a message and a wave, in light and dark colours, and opens the pages of the short runs; none may
+report an error. The last line is `N passed, M failed`; the status is 1 if one failed.
+"""
+import collections
+import io
+import json
+import random
+import re
+import tempfile
+
+from . import repository, running, tries
+from .bench import inputs
+from .browser import Browser, program
+from .limits.random_texts import random_steps, sound_trace
+from .trace_events import events_of
+
+RUNS = 40
+PAGE, EMPTY = "page", "trace 1\nnodes 1\n"
+DATA = re.compile(r'(<script type="application/json" id="events">\n).*?(</script>)', re.S)
+LINES = 100_000
+
+
+def traces():
+    """Returns the traces of random runs by their names: half of them quickly end and are reopened, half are busy and cut off."""
+    generator, found = random.Random(7), {}
+    for number in range(RUNS // 2):
+        version, nodes = generator.choice([1, 2]), generator.choice([1, 2, 3, 5, 8])
+        found[f"short-{number:02}"] = sound_trace(version, nodes, random_steps(generator, version, nodes, generator.randrange(20, 300)))
+        writer = inputs.Writer(generator, True)
+        inputs.busy(writer, generator.randrange(100, 600))
+        found[f"busy-{number:02}"] = "".join(f"{line}\n" for line in writer.lines)
+    return found
+
+
+def written(texts):
+    """Returns what the program writes of each trace as events, and of one of them as a page."""
+    with tempfile.TemporaryDirectory() as cases:
+        forms = {**dict.fromkeys(texts, "events"), PAGE: "html"}
+        for name, form in forms.items():
+            running.write(f"{cases}/{name}", texts.get(name, EMPTY))
+            running.write(f"{cases}/{name}.args", ["draw", "run", "--format", form])
+        output, _ = tries.rt_try("samples", "--seconds", tries.SECONDS, "--cases", cases)
+    found = dict(re.findall(r"^== (\S+)\n(.*?)^case=\1 run=ended status=0", output, re.M | re.S))
+    if len(found) != len(forms):
+        print(output)
+    return found
+
+
+def things_of(trace):
+    """Counts the tasks that began, the two ends of each message, and the waves of a trace, each with its generation."""
+    things, generation, wave = collections.Counter(), 1, 0
+    for word, *numbers in map(str.split, trace.splitlines()[2:]):
+        if word == "reopen":
+            generation, wave = generation + 1, 0
+        wave += [word, *numbers] == ["give", "0"]
+        found = {"begin": ("X", "task"), "send": ("s", "message"), "recv": ("f", "message"), "give": ("i", "wave")}.get(word)
+        number = {"send": numbers[2:3], "recv": numbers[1:2], "give": [wave] if numbers == ["0"] else []}.get(word, numbers)
+        things.update((*found, generation, int(number[0])) for _ in number[:1] if found)
+    return things
+
+
+def things_in(events):
+    """Counts the same in trace events. A task that runs has its event at the end, in the last generation."""
+    things, generation = collections.Counter(), 1
+    for event in events:
+        category, _, number = event.get("cat", ""), *event["name"].partition(" ")[1:]
+        if category == "generation":
+            generation = int(number)
+        if event["ph"] in "Xsfi" and category in ("task", "message", "wave"):
+            things[event["ph"], category, generation, int(number)] += 1
+    return things
+
+
+def check_events(tally, texts, outputs):
+    total = collections.Counter()
+    for name, trace in texts.items():
+        found = json.loads(outputs.get(name, "null")) or {"traceEvents": []}
+        things, events = things_of(trace), found["traceEvents"]
+        tally.judge(things == things_in(events) and set(things.values()) <= {1}, f"{name}: not each thing of this trace once: {trace}")
+        expected = events_of(trace)
+        is_same = found.get("otherData") == expected["otherData"] and sorted(map(str, events)) == sorted(map(str, expected["traceEvents"]))
+        tally.judge(is_same, f"{name}: the second writer has other events for this trace: {trace}")
+        total.update(category for _, category, _, _ in things)
+    print(f"{len(texts)} runs as events: {total['task']} tasks, {total['message']} ends of messages, {total['wave']} waves", flush=True)
+
+
+class Reader:
+    """Does with the page what a reader does, and judges what it shows."""
+
+    def __init__(self, tally, browser):
+        self.tally, self.browser = tally, browser
+        box = "(box => [box.left, box.top, box.right, box.bottom])(canvas.getBoundingClientRect())"
+        self.left, self.top, self.right, self.bottom = browser.value(box)
+        # (64 pixels of the canvas are to the left of the lanes, and 24 to the right)
+        self.middle = (self.left + 64 + self.right - 24) / 2
+
+    def text(self, name):
+        return self.browser.value(f"(part => part.hidden ? '' : part.textContent)(document.getElementById('{name}'))")
+
+    def shown(self):
+        """Returns the first and the last event in view."""
+        first, last = re.match(r"events ([\d,]+) to ([\d,]+) of", self.text("shown")).groups()
+        return int(first.replace(",", "")), int(last.replace(",", ""))
+
+    def expect(self, what, is_well):
+        self.tally.judge(is_well, f"the page: {what}: it shows {self.text('shown')}, and says {self.text('tip')!r}")
+
+    def zooms(self, events):
+        y, every = (self.top + self.bottom) / 2, (1, events)
+        self.expect("all is in view", self.shown() == every)
+        self.browser.mouse("mouseWheel", self.middle, y, deltaX=0, deltaY=-1500)
+        first, last = self.shown()
+        self.expect("the wheel zooms in at the pointer", last - first < events / 5 and abs(first + last - events) < events / 50)
+        self.browser.key("-")
+        wider = self.shown()
+        self.expect("the key - zooms out", wider[0] < first and last < wider[1])
+        self.browser.key("ArrowLeft")
+        moved = self.shown()
+        self.expect("an arrow moves", moved[0] < wider[0] and moved[1] < wider[1])
+        self.browser.mouse("mousePressed", self.middle, y, button="left", buttons=1)
+        self.browser.mouse("mouseMoved", self.middle - 200, y, button="left", buttons=1)
+        self.browser.mouse("mouseReleased", self.middle - 200, y, button="left")
+        self.expect("dragging moves", self.shown()[0] > moved[0])
+        self.browser.key("0")
+        self.expect("the key 0 shows all", self.shown() == every)
+
+    def finds(self, query, expected):
+        """Searches for a thing, and then holds the pointer over it."""
+        self.browser.key("/")
+        self.browser.value("document.getElementById('query').select()")
+        self.browser.call("Input.insertText", text=query)
+        self.browser.key("Enter", "\r")
+        self.expect(f"search for {query}", self.text("tip") == expected)
+        self.browser.key("Escape")
+        for y in range(int(self.top) + 60, int(self.bottom) - 30, 4):
+            for x in (self.middle, *(self.middle + apart for apart in range(-20, 21, 4))):
+                self.browser.call("Input.dispatchMouseEvent", type="mouseMoved", x=x, y=y)
+                if self.text("tip") == expected:
+                    self.tally.passes()
+                    return
+        self.expect(f"a pointer over {query}", False)
+
+
+def texts_of(trace):
+    """Returns queries for a task, a message and a wave in the middle of a trace, and what the page has to say of them."""
+    steps = [line.split() for line in trace.splitlines()[2:]]
+    places = {}
+    for at, step in enumerate(steps, 1):
+        places.setdefault((step[0], step[-1] if step[0] in ("send", "recv") else " ".join(step[1:])), []).append(at)
+    task = next(step[1] for step in steps[len(steps) // 2 :] if step[0] == "begin" and ("supply", step[1]) in places)
+    node, inputs = next((step[1], step[3]) for step in steps if step[0] == "insert" and step[2] == task)
+    supplied, began, done = (places[word, task][-1] for word in ("supply", "begin", "done"))
+    inserted = places["insert", f"{node} {task} {inputs}"][0]
+    yield f"task {task}", (
+        f"task {task} at node {node}\n{inputs} input{'s' * (inputs != '1')}, inserted at {inserted:,}, ready at {supplied:,}\n"
+        f"ran from {began:,} to {done:,}"
+    )
+    _, sender, receiver, message = next(step for step in steps[len(steps) // 2 :] if step[0] == "send")
+    sent, received = places["send", message][0], places["recv", message][0]
+    yield f"message {message}", f"message {message} from node {sender} to node {receiver}\nsent at {sent:,}, received at {received:,}"
+    wave = len(places["give", "0"]) // 2
+    end = places["give", "0"][wave - 1]
+    gives = {step[1]: at for at, step in enumerate(steps[:end], 1) if step[0] == "give"}
+    sent = sum(steps[at][:2] == ["send", node] for node, give in gives.items() for at in range(give))
+    received = sum(steps[at][:2] == ["recv", node] for node, give in gives.items() for at in range(give))
+    yield f"wave {wave}", f"wave {wave}: {sent:,} sent, {received:,} received\nended at {end:,}"
+
+
+def open_page(browser, page, trace):
+    """Opens the page of a trace: a page with its events as the second writer writes them."""
+    with tempfile.NamedTemporaryFile("w", suffix=".html") as file:
+        data = json.dumps(events_of(trace))
+        file.write(DATA.sub(lambda found: f"{found[1]}{data}\n{found[2]}", page))
+        file.flush()
+        browser.open(file.name)
+
+
+def check_page(tally, page, texts):
+    text = io.StringIO()
+    inputs.write_all_steps(text, LINES, True)
+    trace = text.getvalue()
+    with Browser() as browser:
+        for short in (EMPTY, *texts):
+            open_page(browser, page, short)
+        open_page(browser, page, trace)
+        reader = Reader(tally, browser)
+        events = len(trace.splitlines()) - 2
+        reader.zooms(events)
+        for query, expected in texts_of(trace):
+            reader.finds(query, expected)
+        browser.key("0")
+        light = browser.screenshot()
+        browser.prefer("dark")
+        tally.judge(browser.screenshot() != light, "the page: it looks alike in light and dark colours")
+        milliseconds = browser.value("(began => (draw(), performance.now() - began))(performance.now())")
+        tally.judge(not browser.errors, f"the page reports {browser.errors}")
+    print(f"the page of {events:,} events: tried in Chromium, which drew all of it in {milliseconds:.0f} ms")
+
+
+def arguments(parser):
+    del parser
+
+
+def run(options):
+    del options
+    repository.go_to_top()
+    tally = running.Tally()
+    texts = traces()
+    outputs = written(texts)
+    check_events(tally, texts, outputs)
+    if not program():
+        print("Chromium is missing (tools/page-packages prints the package): the page was not tried.")
+    elif PAGE in outputs:
+        check_page(tally, outputs[PAGE], texts.values())
+    else:
+        tally.fails("the program wrote no page")
+    return tally.end()
