@@ -10,7 +10,7 @@ NAMES = ("chromium", "chromium-browser", "google-chrome")
 # a shell gives Chromium the descriptors 3 and 4, on which it reads and writes
 SHELL = 'reads=$1 writes=$2; shift 2; exec "$@" 3<&"$reads" 4>&"$writes"'
 OPTIONS = ("--headless=new", "--remote-debugging-pipe", "--disable-gpu", "--no-first-run", "--hide-scrollbars")
-SECONDS = 120
+SECONDS = 600
 
 
 def program():
@@ -22,10 +22,10 @@ class Browser:
     """A page in Chromium, of this size in pixels; `errors` has what the page reported as an error."""
 
     def __init__(self, width=1200, height=640):
-        self.folder = tempfile.TemporaryDirectory(ignore_cleanup_errors=True)
+        self.folder = tempfile.mkdtemp()
         reads, to_browser = os.pipe()
         from_browser, writes = os.pipe()
-        options = [*OPTIONS, f"--user-data-dir={self.folder.name}", f"--window-size={width},{height}"]
+        options = [*OPTIONS, f"--user-data-dir={self.folder}", f"--window-size={width},{height}"]
         options += ["--no-sandbox"] * (os.geteuid() == 0)
         command = ["sh", "-c", SHELL, "sh", str(reads), str(writes), "timeout", str(SECONDS), program(), *options]
         self.process = subprocess.Popen(command, pass_fds=(reads, writes), stdin=subprocess.DEVNULL, stderr=subprocess.DEVNULL)
@@ -46,7 +46,8 @@ class Browser:
         self.out.close()
         self.process.wait()
         self.source.close()
-        self.folder.cleanup()
+        # (a process below Chromium may still write there)
+        shutil.rmtree(self.folder, ignore_errors=True)
 
     def receive(self):
         """Returns the next message of the browser, and keeps it if it is an error of the page."""

@@ -5,7 +5,7 @@ ghost use Rattle.tp_core.specs.Accepted.{no_numbers};
 ghost use Rattle.gerfmuod.specs.Asked.{counters, unsettled};
 ghost use Rattle.gerfmuod.specs.Calls.{IsByCall, IsClosed, IsNumbersCall, IsRestartCall, IsSettleCall, IsStepCall, IsWholeCall};
 ghost use Rattle.gerfmuod.specs.Events.{event_of};
-ghost use Rattle.gerfmuod.specs.Makers.{IsMade};
+ghost use Rattle.gerfmuod.specs.Makers.{made_step, maker_asked, IsMade};
 ghost use Rattle.gerfmuod.specs.Pool.{TellsNoEarlyEnd};
 ghost use Rattle.gerfmuod.specs.Slot.{can_be, opened, opening};
 ghost use Rattle.gerfmuod.specs.Told.{is_ending_if, leaves_nothing, refusal_told, reply_told, told as result_of, IsTold};
@@ -198,6 +198,15 @@ fn told_by(room: &mut CoreRoom, maker: Option<Maker>, step: Option<Step>) -> Ans
     told(room, step)
 }
 
+/// Takes the next step if its maker may make it.
+#[inline(always)]
+fn event_by(room: &mut CoreRoom, maker_kind: u32, maker: u32, event: Event) -> Answer
+    ensures { IsMade room.old (maker_asked maker_kind maker) (made_step event) result room.new
+        × TellsNoEarlyEnd (result.told ≡ 3) result.number room.new }
+{
+    told_by(room, maker_of(maker_kind, maker), made_step(event))
+}
+
 /// Takes the next step if its maker may make it, both given by numbers.
 #[inline(always)]
 pub(crate) fn answered_by(
@@ -222,11 +231,15 @@ pub(crate) fn answered_by(
         third,
         generation,
     };
-    told_by(
-        &mut slot.room,
-        maker_of(maker_kind, maker),
-        made_step(event),
-    )
+    let room = &mut slot.room;
+    // A copy for each kind of step: none of them pays for telling it from the others.
+    match kind {
+        0 => event_by(room, maker_kind, maker, event),
+        1 => event_by(room, maker_kind, maker, event),
+        2 => event_by(room, maker_kind, maker, event),
+        3 => event_by(room, maker_kind, maker, event),
+        _ => event_by(room, maker_kind, maker, event),
+    }
 }
 
 /// Returns the counters of a node.

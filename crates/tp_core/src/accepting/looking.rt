@@ -1,6 +1,7 @@
 //! Looking at a core: what runs or is open at a node, and who may make a step. Nothing here changes the core.
 ghost use Rattle.std.specs.Prelude.{◌≡◌};
 ghost use Rattle.std.specs.Option.{option_map};
+ghost use Rattle.tp_core.specs.Makers.{runs_tasks};
 
 use super::Core;
 use crate::life::Life;
@@ -27,7 +28,7 @@ impl Core {
     ghost use Rattle.tp_wave.specs.Sums.{is_ended};
     ghost use Rattle.tp_core.specs.Accepted.{world_of};
     ghost use Rattle.tp_core.specs.World.{Opening, Named, OfMessage, is_open};
-    ghost use Rattle.tp_core.specs.Makers.{home_if_known, is_maker, is_running_at};
+    ghost use Rattle.tp_core.specs.Makers.{home_if_known, is_maker, is_running_at, made_at};
 
     /// Returns whether termination of the present generation was detected.
     pub fn is_ended(&self) -> bool
@@ -80,32 +81,61 @@ impl Core {
         self.opening.contains(node)
     }
 
+    /// Returns the node at which a step makes work, or begins or finishes a task. There is none for the other steps, or if
+    /// there is no such task.
+    #[inline(always)]
+    pub fn made_at(&self, step: Step) -> Option<NodeId>
+        ensures { option_map (λ i. i.0) result ≡ made_at step (world_of self.now) }
+    {
+        match step {
+            Step::Insert(node, _, _) | Step::ActionOpen(node, _) | Step::Send(node, _, _, _) => {
+                Some(node)
+            }
+            Step::Supply(task) | Step::Begin(task) | Step::Done(task) => self.home(task),
+            _ => None,
+        }
+    }
+
     /// Returns whether the maker may make the step: it runs or is open at the node of the step, or is a thread of that
     /// node and the step begins or finishes a task. It is false for a step whose node or task does not exist, and for
     /// every step that is not `Insert`, `Supply`, `Begin`, `Done`, `ActionOpen` or `Send`.
+    #[inline(always)]
     pub fn is_maker(&self, maker: Maker, step: Step) -> bool
         ensures { result ≡ is_maker maker step (world_of self.now) }
     {
-        let (node, runs_tasks) = match step {
-            Step::Insert(node, _, _) | Step::ActionOpen(node, _) | Step::Send(node, _, _, _) => {
-                (node, false)
-            }
-            Step::Supply(task) => match self.home(task) {
-                Some(home) => (home, false),
-                None => return false,
-            },
-            Step::Begin(task) | Step::Done(task) => match self.home(task) {
-                Some(home) => (home, true),
-                None => return false,
-            },
-            _ => return false,
-        };
+        // (the node is looked up in each arm, so that the maker is matched once)
         match maker {
-            Maker::Task(task) => self.is_running(node, task),
-            Maker::Action(action) => self.is_open(node, action),
-            Maker::Message(message) => self.is_received(node, message),
-            Maker::Opening => self.is_opening(node),
-            Maker::Thread(own) => runs_tasks && own.0 == node.0,
+            Maker::Task(task) => match self.made_at(step) {
+                Some(node) => self.is_running(node, task),
+                None => false,
+            },
+            Maker::Action(action) => match self.made_at(step) {
+                Some(node) => self.is_open(node, action),
+                None => false,
+            },
+            Maker::Message(message) => match self.made_at(step) {
+                Some(node) => self.is_received(node, message),
+                None => false,
+            },
+            Maker::Opening => match self.made_at(step) {
+                Some(node) => self.is_opening(node),
+                None => false,
+            },
+            Maker::Thread(own) => match self.made_at(step) {
+                Some(node) => runs_tasks(step) && own.0 == node.0,
+                None => false,
+            },
         }
+    }
+}
+
+// Returns whether the step begins or finishes a task.
+#[inline(always)]
+fn runs_tasks(step: Step) -> bool
+    ensures { result ≡ runs_tasks step }
+{
+    match step {
+        Step::Begin(_) | Step::Done(_) => true,
+        _ => false,
     }
 }
