@@ -224,7 +224,8 @@ module _ {a : BoardState} (source target : ℕ) (task from : Task) (f : BoardFac
   target_counted = let c = f.counted target task is in record {
     home = c.home;
     few = c.few;
-    missing = (let s = count_push (is_missing target) a.edges (out_edge source target task) in let o = out_missing_here source target task in
+    missing = (let s = count_push (is_missing target) a.edges (out_edge source target task) in let o = out_missing_here source target
+        task in
         let r = c.missing in omega (arith, s, o, r));
     unsent = (let s = count_push (is_unsent target) a.edges (out_edge source target task) in
         let o = out_unsent source target task target (λ e. apart (sym e)) in let r = c.unsent in omega (arith, s, o, r));

@@ -30,9 +30,30 @@ rooms a r s f = record {
 
 pub same_facts : {a b : BoardState} → b.nodes ≡ a.nodes → b.tasks ≡ a.tasks → b.edges ≡ a.edges → BoardFacts a → BoardFacts b
 same_facts {a} {b} n t e f =
-    subst (λ (m : ℕ). BoardFacts (record { nodes = m; tasks = b.tasks; edges = b.edges; task_room = b.task_room; edge_room = b.edge_room })) (sym n)
-    (subst (λ (ts : List Task). BoardFacts (record { nodes = a.nodes; tasks = ts; edges = b.edges; task_room = b.task_room; edge_room = b.edge_room })) (sym t)
-    (subst (λ (es : List Edge). BoardFacts (record { nodes = a.nodes; tasks = a.tasks; edges = es; task_room = b.task_room; edge_room = b.edge_room })) (sym e)
+    subst (λ (m : ℕ). BoardFacts (record {
+      nodes = m;
+      tasks = b.tasks;
+      edges = b.edges;
+      task_room = b.task_room;
+      edge_room =
+          b.edge_room;
+    })) (sym n)
+    (subst (λ (ts : List Task). BoardFacts (record {
+      nodes = a.nodes;
+      tasks = ts;
+      edges = b.edges;
+      task_room = b.task_room;
+      edge_room =
+          b.edge_room;
+    })) (sym t)
+    (subst (λ (es : List Edge). BoardFacts (record {
+      nodes = a.nodes;
+      tasks = a.tasks;
+      edges = es;
+      task_room = b.task_room;
+      edge_room =
+          b.edge_room;
+    })) (sym e)
     (rooms a b.task_room b.edge_room f)))
 
 -- ---- how far edges are while their source goes on
@@ -126,7 +147,8 @@ pub outside_ready : {tasks : List Task} {rs : List ℕ} (t : ℕ) (x : Task) →
 outside_ready {tasks} {rs} t x c is l fresh =
     let o = one_less (x.missing == 0) (slice_index_or rs x.node 0) (outside_some t x c is l fresh) in
     let n = more_lacks x in let b = fresh_begins x fresh in
-    ready_set t x.node (slice_index_or rs x.node 0 - (if x.missing == 0 then 1 else 0)) x (waiting_more x) c is l refl refl (omega (arith, o, n, b))
+    ready_set t x.node (slice_index_or rs x.node 0 - (if x.missing == 0 then 1 else 0)) x (waiting_more x) c is l refl refl
+    (omega (arith, o, n, b))
 
 -- a task that lacks something has not begun
 pub lacks_fresh : {a : BoardState} (t : ℕ) (x : Task) → BoardFacts a → slice_get a.tasks t ≡ Some x → 1 ≤ x.missing → x.stage ≡ stage.Fresh
@@ -195,7 +217,8 @@ same_unsent : (u : ℕ) (e : Edge) (w : Way) → is_out w ≡ is_out e.way → o
 same_unsent u e w h = ap (λ (b : Bool). one ((e.source == u) && b)) h
 
 other_missing : (u : ℕ) (e : Edge) (w : Way) → u ≢ e.target → one (is_missing u (moved e w)) ≡ one (is_missing u e)
-other_missing u e w o = one_else e.target u (not (is_received w)) (λ h. o (sym h)) ∙ sym (one_else e.target u (not (is_received e.way)) (λ h. o (sym h)))
+other_missing u e w o = one_else e.target u (not (is_received w)) (λ h. o (sym h))
+    ∙ sym (one_else e.target u (not (is_received e.way)) (λ h. o (sym h)))
 
 other_unsent : (u : ℕ) (e : Edge) (w : Way) → u ≢ e.source → one (is_unsent u (moved e w)) ≡ one (is_unsent u e)
 other_unsent u e w o = one_else e.source u (is_out w) (λ h. o (sym h)) ∙ sym (one_else e.source u (is_out e.way) (λ h. o (sym h)))
@@ -220,7 +243,8 @@ left_facts {a} k e x f at is out runs =
     })
 
 pub left_coming : {edges : List Edge} {cs : List ℕ} (k : ℕ) (e : Edge) → AreCounts is_coming edges cs → slice_get edges k ≡ Some e
-    → e.to < MAX_NODES → e.way ≡ way.Out → AreCounts is_coming (set edges k (moved e way.UnderWay)) (set cs e.to (slice_index_or cs e.to 0 + 1))
+    → e.to < MAX_NODES → e.way ≡ way.Out → AreCounts is_coming (set edges k (moved e way.UnderWay))
+    (set cs e.to (slice_index_or cs e.to 0 + 1))
 left_coming {edges} {cs} k e c at l out =
     let o : one (is_under_way e.way) ≡ 0 = ap (λ (w : Way). one (is_under_way w)) out in
     coming_set k (slice_index_or cs e.to 0 + 1) e way.UnderWay c at l (omega (arith, o))
@@ -267,7 +291,8 @@ arrived_coming {edges} {cs} k e c at l u some =
 
 pub arrived_ready : {a : BoardState} {rs : List ℕ} (k : ℕ) (e : Edge) (x : Task) → BoardFacts a → AreCounts is_ready a.tasks rs
     → slice_get a.edges k ≡ Some e → slice_get a.tasks e.target ≡ Some x → e.to < MAX_NODES → e.way ≡ way.UnderWay
-    → AreCounts is_ready (set a.tasks e.target (lacking_less x)) (set rs e.to (slice_index_or rs e.to 0 + (if x.missing == 1 then 1 else 0)))
+    → AreCounts is_ready (set a.tasks e.target (lacking_less x))
+    (set rs e.to (slice_index_or rs e.to 0 + (if x.missing == 1 then 1 else 0)))
 arrived_ready k e x f c at is l u =
     let m = missing_some k e x f at is u in
     lacking_ready e.target e.to x (lacking_less x) c is l ((f.placed k e at).home x is) (lacks_fresh e.target x f is m) m refl refl refl
@@ -306,14 +331,16 @@ lacking_begins : (x : Task) → one (may_begin (lacking_more x)) ≡ 0
 lacking_begins x = grind (arith, nat_tests)
 
 pub open_ready : {tasks : List Task} {rs : List ℕ} (source target : ℕ) (task from : Task) → AreCounts is_ready tasks rs
-    → source < target → slice_get tasks target ≡ Some task → slice_get tasks source ≡ Some from → task.node < MAX_NODES → task.stage ≡ stage.Fresh
+    → source < target → slice_get tasks target ≡ Some task → slice_get tasks source ≡ Some from → task.node < MAX_NODES
+    → task.stage ≡ stage.Fresh
     → AreCounts is_ready (set (set tasks target (lacking_more task)) source (owing_more from))
     (set rs task.node (slice_index_or rs task.node 0 - (if task.missing == 0 then 1 else 0)))
 open_ready {tasks} {rs} source target task from c before is of l fresh =
     let o = one_less (task.missing == 0) (slice_index_or rs task.node 0) (outside_some target task c is l fresh) in
     let n = lacking_begins task in let b = fresh_begins task fresh in
     counts_same source from (owing_more from)
-    (ready_set target task.node (slice_index_or rs task.node 0 - (if task.missing == 0 then 1 else 0)) task (lacking_more task) c is l refl refl (omega (arith, o, n, b)))
+    (ready_set target task.node (slice_index_or rs task.node 0 - (if task.missing == 0 then 1 else 0)) task (lacking_more task) c is l
+    refl refl (omega (arith, o, n, b)))
     (get_other tasks target source (lacking_more task) (λ e. omega (arith, e, before)) ∙ of)
     (λ m. refl)
 

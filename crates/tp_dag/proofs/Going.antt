@@ -48,7 +48,8 @@ ways_graph a b e = record {
 }
 
 -- steps were added, then ways changed
-pub adds_ways : {test : Step → Bool} (a b c : PoolState) (ws : List Way) → AddsOnly test a b → c ≡ record b { ways = ws } → AddsOnly test a c
+pub adds_ways : {test : Step → Bool} (a b c : PoolState) (ws : List Way) → AddsOnly test a b → c ≡ record b { ways = ws }
+    → AddsOnly test a c
 adds_ways {test} a b c ws x e = subst (λ (z : PoolState). AddsOnly test a z) (sym e) (record {
   graph = record {
     nodes = x.graph.nodes;
@@ -82,7 +83,8 @@ delivered_one node k a b c e = λ j.
 never_both : (o p : Option Way) → o ≡ Some way.Received → p ≡ Some way.UnderWay → o ≡ p → ⊥
 never_both o p r u e = cc
 
-pub delivered_trans : (node : ℕ) (a b c : PoolState) → AddsOnly is_delivery a b → AreDelivered node a b → AreDelivered node b c → AreDelivered node a c
+pub delivered_trans : (node : ℕ) (a b c : PoolState) → AddsOnly is_delivery a b → AreDelivered node a b → AreDelivered node b c
+    → AreDelivered node a c
 delivered_trans node a b c adds x y = λ k.
     elim (y k) [
       | inl same ↦ elim (x k) [ inl was ↦ inl (same ∙ was) | inr was ↦ inr (was.0, same ∙ was.1) ]
@@ -114,7 +116,8 @@ not_out_under_way o e h = cc
 pub not_out_received : (o : Option Way) → o ≡ Some way.Received → o ≢ Some way.Out
 not_out_received o e h = cc
 
-pub sent_one : (t k : ℕ) (a b : PoolState) → IsOutput t k a → slice_get a.ways k ≡ Some way.Out → b.ways ≡ set a.ways k way.UnderWay → AreSent t a b
+pub sent_one : (t k : ℕ) (a b : PoolState) → IsOutput t k a → slice_get a.ways k ≡ Some way.Out → b.ways ≡ set a.ways k way.UnderWay
+    → AreSent t a b
 sent_one t k a b o out e = λ j.
     let at : slice_get b.ways j ≡ slice_get (set a.ways k way.UnderWay) j = ap (λ (ws : List Way). slice_get ws j) e in
     elim (same_or j k) [
@@ -140,7 +143,8 @@ marked_none t a = record { only = refl; ways = λ k. inl refl }
 pub marked_same : (t : ℕ) (a b : PoolState) → b ≡ a → IsMarked t a b
 marked_same t a b e = subst (λ (x : PoolState). IsMarked t a x) (sym e) (marked_none t a)
 
-pub marked_one : (t k node : ℕ) (a b : PoolState) → IsOutput t k a → IsComing node k a → b ≡ record a { ways = set a.ways k way.Received } → IsMarked t a b
+pub marked_one : (t k node : ℕ) (a b : PoolState) → IsOutput t k a → IsComing node k a → b ≡ record a { ways = set a.ways k way.Received }
+    → IsMarked t a b
 marked_one t k node a b o c e = subst (λ (x : PoolState). IsMarked t a x) (sym e) (record {
   only = refl;
   ways = λ j.
@@ -199,7 +203,8 @@ idle_now node a b c none e ready f = record {
   none = subst (λ (x : PoolState). (k : ℕ) → IsComing node k x → ⊥) (sym (f ∙ e)) none;
 }
 
-pub running_after : {test : Step → Bool} (t : ℕ) (g : Stage) (a b : PoolState) → AddsOnly test a b → slice_get a.stages t ≡ Some g → slice_get b.stages t ≡ Some g
+pub running_after : {test : Step → Bool} (t : ℕ) (g : Stage) (a b : PoolState) → AddsOnly test a b → slice_get a.stages t ≡ Some g
+    → slice_get b.stages t ≡ Some g
 running_after t g a b x e = ap (λ (xs : List Stage). slice_get xs t) x.stages ∙ e
 
 pub done_after : (t : ℕ) (a b : PoolState) → IsCompleted t a b → slice_get b.stages t ≡ Some stage.Done
@@ -208,7 +213,8 @@ done_after t a b h = ap (λ (xs : List Stage). slice_get xs t) h.stages ∙ set_
 pub home_after : (node t : ℕ) (a b : PoolState) → b.tasks ≡ a.tasks → IsHome node t a → IsHome node t b
 home_after node t a b e h = λ x is. h x (ap (λ (xs : List Entry). slice_get xs t) (sym e) ∙ is)
 
-pub done_marked : (t : ℕ) (a b : PoolState) → IsMarked t a b → slice_get a.stages t ≡ Some stage.Done → slice_get b.stages t ≡ Some stage.Done
+pub done_marked : (t : ℕ) (a b : PoolState) → IsMarked t a b → slice_get a.stages t ≡ Some stage.Done
+    → slice_get b.stages t ≡ Some stage.Done
 done_marked t a b x e = ap (λ (z : PoolState). slice_get z.stages t) x.only ∙ e
 
 pub home_marked : (node t : ℕ) (a b : PoolState) → IsMarked t a b → IsHome node t a → IsHome node t b
@@ -218,11 +224,14 @@ pub falls_coming : (ws ms ns : List Way) (k : ℕ) → ms ≡ ws → ns ≡ set 
     → count_where is_under_way ns < count_where is_under_way ws
 falls_coming ws ms ns k e f at =
     let l = fewer_coming ms k at in
-    let a : count_where is_under_way ns ≡ count_where is_under_way (set ms k way.Received) = ap (λ (xs : List Way). count_where is_under_way xs) f in
-    let b : count_where is_under_way ms ≡ count_where is_under_way ws = ap (λ (xs : List Way). count_where is_under_way xs) e in omega (arith, l, a, b)
+    let a : count_where is_under_way ns ≡ count_where is_under_way (set ms k way.Received) = ap
+    (λ (xs : List Way). count_where is_under_way xs) f in
+    let b : count_where is_under_way ms ≡ count_where is_under_way ws = ap (λ (xs : List Way). count_where is_under_way xs) e in omega
+    (arith, l, a, b)
 
 pub falls_unsent : (ws ns : List Way) (k : ℕ) → ns ≡ set ws k way.UnderWay → slice_get ws k ≡ Some way.Out
     → count_where is_out ns < count_where is_out ws
 falls_unsent ws ns k f at =
     let l = fewer_unsent ws k at in
-    let a : count_where is_out ns ≡ count_where is_out (set ws k way.UnderWay) = ap (λ (xs : List Way). count_where is_out xs) f in omega (arith, l, a)
+    let a : count_where is_out ns ≡ count_where is_out (set ws k way.UnderWay) = ap (λ (xs : List Way). count_where is_out xs) f in omega
+    (arith, l, a)

@@ -1,25 +1,28 @@
 -- What the pool keeps through its calls, and what each call has done.
-use Rattle.std.proofs.Common.{cond, ℕ, ◌≡◌, ◌≢◌, ◌<◌, ◌≤◌, ◌+◌, ◌-◌, ◌⊎◌, List, [], ◌∷◌, ◌++◌, Bool, true, false, length, map, refl, ap, subst, ◌∙◌, sym, arith, IsTrue, IsFalse, Result, Option, Some, None, append_assoc, inl, inr}
-use Rattle.std.specs.Prelude.{◌==◌, ◌&&◌, if◌then◌else◌, Ok, Err, IfOk, OnOk, OnErr, IfSome, IfNone, is_some, slice_get, slice_set, nat_le}
-use Rattle.tp_base.specs.declared.limits.TheConstants.{MAX_NODES, MAX_STEPS}
+use Rattle.std.proofs.Common.{cond, ℕ, ◌≡◌, ◌<◌, ◌≤◌, ◌+◌, ◌-◌, ◌⊎◌, List, [], ◌∷◌, ◌++◌, Bool, true, false, length, map, refl, ap, subst, ◌∙◌, sym, arith, IsTrue, IsFalse, Result, Option, Some, None, append_assoc, inl, inr}
+use Rattle.std.specs.Prelude.{◌==◌, if◌then◌else◌, Ok, Err, IfOk, OnOk, OnErr, IfSome, IfNone, is_some, slice_get, slice_set}
+use Rattle.tp_base.specs.declared.limits.TheConstants.{MAX_NODES}
 use Rattle.std.proofs.Math.ListN.{set}
 use Rattle.std.proofs.lemmas.List.{length-map}
 use Rattle.std.proofs.lemmas.Bool.Decides.{nat_tests}
 use Rattle.tp_base.specs.declared.Refusal.{Refusal}
-use Rattle.tp_base.specs.declared.Refusal.TheVariants as refusal
-use Rattle.tp_base.specs.Checks.{first_refusal}
 use Rattle.tp_base.specs.declared.Step.{Step}
-use Rattle.tp_base.specs.declared.Step.TheVariants.{Begin, Done, Judge}
-use Rattle.tp_wave.specs.Steps.{count, is_reopen}
+use Rattle.tp_base.specs.declared.Step.TheVariants.{Insert, Begin, Done, Recv, Judge}
+use Rattle.tp_base.specs.declared.Inputs.{Inputs}
+use Rattle.tp_base.specs.declared.NodeId.{NodeId}
+use Rattle.tp_base.specs.declared.TaskId.{TaskId}
+use Rattle.tp_wave.specs.Steps.{any, count, is_judge, is_reopen}
+use Rattle.tp_wave.specs.Sums.{is_ended}
 use Rattle.tp_wave.specs.Generations.{present}
 use Rattle.tp_wave.specs.Control.{is_control}
 use Rattle.tp_core.specs.Accepted.{Accepted, with_step}
 use Rattle.tp_core.specs.Generations.{MayCome, InEach}
-use Rattle.tp_core.specs.NeverEarly.{IsNeverEarly, is_begin_of, is_done_of, is_insert_of}
+use Rattle.tp_core.specs.NeverEarly.{IsNeverEarly, is_begin_of, is_done_of}
 use Rattle.tp_core.specs.declared.life.Life.{Life}
 use Rattle.tp_core.specs.declared.life.Life.TheVariants as life
-use Rattle.tp_core.specs.World.{life_of}
-use Rattle.tp_core.specs.Run.{world, IsLawfulRun}
+use Rattle.tp_core.specs.World.{World, life_of, is_under_way}
+use Rattle.tp_core.specs.Pool.{MayTake}
+use Rattle.tp_core.specs.Run.{world, IsLawful, IsLawfulRun}
 use Rattle.tp_core.specs.Settled.{IsSettled}
 use Rattle.tp_core.specs.Laws.{begins}
 use Rattle.tp_core.proofs.Generations.{present_run}
@@ -39,29 +42,44 @@ use Rattle.tp_dag.specs.declared.pool.Pool.TheInside.{Inside}
 use Rattle.tp_dag.specs.Board as on_board
 use Rattle.tp_dag.specs.Board.{BoardState, HasBegun, HasEdge, HasOutside, HasReleased, HasLeft, HasArrived, HasFinished, with_task}
 use Rattle.tp_dag.specs.Counts.{BoardFacts}
-use Rattle.tp_dag.specs.State.{PoolState, SameGraph, AddsOnly, WasDone, WasReceived, IsReceived, IsComing, IsOutput, IsFinished, IsCompleted, IsInputAdded, MayWait, extends, IsOutsideAdded, IsReleased, IsDispatched, LacksInput, HasNoneReady, AreSent, is_delivery, is_sending, dispatched, outside_checks, release_checks}
-use Rattle.tp_dag.specs.Kept.{state_of, seen, entry_of, stage_of, outside_of, input_of, way_of, extend, Facts, IsPool, IsFrom, IsHome, AllPassed, SendsOne}
+use Rattle.tp_dag.specs.State.{PoolState, AddsOnly, WasDone, WasReceived, IsReceived, IsComing, IsOutput, IsFinished, IsCompleted, IsInputAdded, extends, IsOutsideAdded, IsReleased, IsDispatched, AreSent, is_delivery, is_sending, dispatched}
+use Rattle.tp_dag.specs.Kept.{state_of, seen, entry_of, stage_of, outside_of, input_of, way_of, extend, Facts, IsPool, IsFrom, IsHome, AllPassed, SendsOne, sending, life_for}
 use Rattle.tp_dag.proofs.Lists.{map_get, map_got}
 use Rattle.tp_dag.proofs.Finding.{ready_lacks_none}
-use Rattle.tp_dag.proofs.Reading.{lacks_input}
-use Rattle.tp_dag.proofs.Steps.{facts_step, facts_begin, facts_done, facts_way, facts_task, facts_input, done_now, same_trans, adds_none, received_steps, one_generation, count_only, count_adds, all_append, delivery_begins_none, sending_begins_none, control_begins_none}
+use Rattle.tp_dag.proofs.Facts.{Leaves, send_leaves, facts_step, facts_begin, facts_done, facts_way, facts_receive, facts_task, facts_input}
+use Rattle.tp_dag.proofs.Worlds.{quiet_takes_none, lawful_now, flies_now, controls_stay, none_or, of_none, if_none}
+use Rattle.tp_dag.proofs.Steps.{or_right, same_trans, adds_none, received_now, received_steps, one_generation, count_only, count_adds, all_append, delivery_begins_none, sending_begins_none, control_begins_none}
 use Rattle.tp_dag.proofs.Ended.{finished, any_append}
-use Rattle.tp_dag.proofs.Views.{some_same, seen_stage, seen_outside, seen_way, seen_task, seen_edge, consistent, coming_board, coming_seen, passed_seen, lacks_seen, lacks_board, unsent_seen}
-use Rattle.tp_dag.proofs.Going.{sent_one}
+use Rattle.tp_dag.proofs.Views.{some_same, seen_stage, seen_outside, seen_way, seen_task, seen_edge, consistent, coming_board, coming_seen, passed_seen, lacks_seen, unsent_seen}
+use Rattle.tp_dag.proofs.Going.{coming_in, sent_one}
 
 pub not_ended : (o : Option ℕ) (P : ℕ → Type 0) → is_some o ≡ false → IfSome o P
 not_ended None P e = tt
 not_ended (Some w) P e = cc
 
 -- ---- what is kept of another state
--- the steps go on, and the end was not detected
-kept_on : (p q : Inside) (a : PoolState) → IsPool p → is_some p.ended_with ≡ false → q.core.nodes ≡ p.core.nodes → q.nodes ≡ p.nodes
-    → q.board.nodes ≡ p.board.nodes → q.ended_with ≡ p.ended_with → state_of q ≡ a → Facts a → IsPool q
-kept_on p q a k none core nodes board ended same f = record {
-  nodes = core ∙ (k.nodes ∙ sym nodes);
+-- a pool that may take a step has not ended
+pub still_open : (p : Inside) (s : Step) → IsPool p → MayCome p.core.nodes p.core.steps s → IsFalse (is_reopen s)
+    → (IsLawful p.core.nodes p.core.steps s → MayTake p.core.nodes (world p.core.nodes p.core.steps) s) → is_some p.ended_with ≡ false
+still_open p s k may on take =
+    none_or p.ended_with (IsFinished (state_of p)) k.ended_with
+    (λ f. quiet_takes_none p.core.nodes (world p.core.nodes p.core.steps) s f.quiet (take (lawful_now s k.facts.by_steps.first on may)))
+
+judges_on : (n : ℕ) (s : Step) (past : List Step) → IsFalse (is_judge s) → IsFalse (is_ended n past) → IsFalse (is_ended n (s ∷ past))
+judges_on n s past h e = rw h e
+
+-- a step was taken, and the end was not detected
+kept_on : (p q : Inside) (s : Step) (a : PoolState) → IsPool p → is_some p.ended_with ≡ false → IsFalse (is_judge s)
+    → q.core ≡ with_step p.core s → q.nodes ≡ p.nodes → q.board.nodes ≡ p.board.nodes → q.ended_with ≡ p.ended_with → state_of q ≡ a
+    → Facts a → IsPool q
+kept_on p q s a k none judge core nodes board ended same f = record {
+  nodes = ap (λ (x : Accepted). x.nodes) core ∙ (k.nodes ∙ sym nodes);
   board = board ∙ (k.board ∙ sym nodes);
   facts = subst (λ (x : PoolState). Facts x) (sym same) f;
   ended_with = not_ended q.ended_with _ (ap is_some ended ∙ none);
+  not_ended = if_none q.ended_with (IsFalse (is_ended q.core.nodes q.core.steps))
+      (subst (λ (c : Accepted). IsFalse (is_ended c.nodes c.steps)) (sym core)
+      (judges_on p.core.nodes s p.core.steps judge (of_none p.ended_with (IsFalse (is_ended p.core.nodes p.core.steps)) k.not_ended none)));
 }
 
 still_finished : (a b : PoolState) → b.nodes ≡ a.nodes → b.steps ≡ a.steps → length b.tasks ≡ length a.tasks → IsFinished a → IsFinished b
@@ -76,7 +94,8 @@ still_ended (Some w) P Q f h = f h
 
 -- the steps and the tasks are as they were
 kept_same : (p q : Inside) (a : PoolState) → IsPool p → q.core ≡ p.core → q.nodes ≡ p.nodes → q.board.nodes ≡ p.board.nodes
-    → q.ended_with ≡ p.ended_with → state_of q ≡ a → a.nodes ≡ p.core.nodes → a.steps ≡ p.core.steps → length a.tasks ≡ length (state_of p).tasks
+    → q.ended_with ≡ p.ended_with → state_of q ≡ a → a.nodes ≡ p.core.nodes → a.steps ≡ p.core.steps
+    → length a.tasks ≡ length (state_of p).tasks
     → Facts a → IsPool q
 kept_same p q a k core nodes board ended same one two three f = record {
   nodes = ap (λ (x : Accepted). x.nodes) core ∙ (k.nodes ∙ sym nodes);
@@ -85,18 +104,23 @@ kept_same p q a k core nodes board ended same one two three f = record {
   ended_with = subst (λ (o : Option ℕ). IfSome o (λ w. IsFinished (state_of q))) (sym ended)
       (still_ended p.ended_with (IsFinished (state_of p)) (IsFinished (state_of q))
       (λ h. subst (λ (x : PoolState). IsFinished x) (sym same) (still_finished (state_of p) a one two three h)) k.ended_with);
+  not_ended = subst (λ (o : Option ℕ). IfNone o (IsFalse (is_ended q.core.nodes q.core.steps))) (sym ended)
+      (subst (λ (c : Accepted). IfNone p.ended_with (IsFalse (is_ended c.nodes c.steps))) (sym core) k.not_ended);
 }
 
 -- ---- one step more
-pub kept_step : (p q : Inside) (core : Accepted) (s : Step) (r : Result (Unit {0}) Refusal) → IsPool p → is_some p.ended_with ≡ false
-    → IsFalse (is_reopen s) → OnOk r (MayCome p.core.nodes p.core.steps s × (core ≡ with_step p.core s)) → OnErr r (core ≡ p.core)
+pub kept_step : (p q : Inside) (core : Accepted) (s : Step) (r : Result (Unit {0}) Refusal) → IsPool p → Leaves s
+    → (IsLawful p.core.nodes p.core.steps s → MayTake p.core.nodes (world p.core.nodes p.core.steps) s)
+    → OnOk r (MayCome p.core.nodes p.core.steps s × (core ≡ with_step p.core s)) → OnErr r (core ≡ p.core)
     → q.core ≡ core → q.nodes ≡ p.nodes → q.progress ≡ p.progress → q.board ≡ p.board → q.ended_with ≡ p.ended_with → IsPool q
-kept_step p q core s (Ok u) k none on ok err is nodes progress board ended =
-    kept_on p q (record (state_of p) { steps = s ∷ p.core.steps }) k none (ap (λ (x : Accepted). x.nodes) (is ∙ ok.1)) nodes
-    (ap (λ (x : BoardState). x.nodes) board) ended (rw (is, ok.1, progress, board) refl) (facts_step s k.facts ok.0 on)
-kept_step p q core s (Err e) k none on ok err is nodes progress board ended =
-    kept_on p q (state_of p) k none (ap (λ (x : Accepted). x.nodes) (is ∙ err)) nodes
-    (ap (λ (x : BoardState). x.nodes) board) ended (rw (is, err, progress, board) refl) k.facts
+kept_step p q core s (Ok u) k leaves take ok err is nodes progress board ended =
+    kept_on p q s (record (state_of p) { steps = s ∷ p.core.steps }) k (still_open p s k ok.0 leaves.goes_on take) leaves.judges
+    (is ∙ ok.1) nodes
+    (ap (λ (x : BoardState). x.nodes) board) ended (rw (is, ok.1, progress, board) refl) (facts_step s k.facts ok.0 leaves)
+kept_step p q core s (Err e) k leaves take ok err is nodes progress board ended =
+    kept_same p q (state_of p) k (is ∙ err) nodes (ap (λ (x : BoardState). x.nodes) board) ended (rw (is, err, progress, board) refl) refl
+    refl refl
+    k.facts
 
 pub adds_step : (p : Inside) (now : PoolState) (core : Accepted) (s : Step) (r : Result (Unit {0}) Refusal) (test : Step → Bool)
     → state_of p ≡ now → IsTrue (test s)
@@ -117,18 +141,23 @@ adds_step p now core s (Err e) test same h ok err =
     (subst (λ (c : Accepted). AddsOnly test (state_of p) (seen c.nodes p.progress p.board c.steps)) (sym err) (adds_none test (state_of p)))
 
 -- ---- a task begins
-begun_state : (p q : Inside) (t : ℕ) → q.core ≡ with_step p.core (Begin (record { 0 = t })) → q.progress ≡ p.progress → HasBegun t p.board q.board
-    → state_of q ≡ record (state_of p) { stages = set (map stage_of p.board.tasks) t stage.Running; steps = Begin (record { 0 = t }) ∷ p.core.steps }
+begun_state : (p q : Inside) (t : ℕ) → q.core ≡ with_step p.core (Begin (record { 0 = t })) → q.progress ≡ p.progress
+    → HasBegun t p.board q.board
+    → state_of q ≡ record (state_of p) {
+      stages = set (map stage_of p.board.tasks) t stage.Running;
+      steps = Begin (record { 0 = t }) ∷
+          p.core.steps;
+    }
 begun_state p q t core progress h =
     rw (core, progress, h.becomes)
     (seen_stage p.core.nodes p.progress (Begin (record { 0 = t }) ∷ p.core.steps) p.board t h.was stage.Running h.is)
 
-pub kept_dispatch : (p q : Inside) (t : ℕ) → IsPool p → is_some p.ended_with ≡ false
+pub kept_dispatch : (p q : Inside) (t : ℕ) → IsPool p
     → MayCome p.core.nodes p.core.steps (Begin (record { 0 = t })) → q.core ≡ with_step p.core (Begin (record { 0 = t }))
     → HasBegun t p.board q.board → q.nodes ≡ p.nodes → q.progress ≡ p.progress → q.ended_with ≡ p.ended_with → IsPool q
-kept_dispatch p q t k none may core h nodes progress ended =
-    kept_on p q _ k none (ap (λ (x : Accepted). x.nodes) core) nodes (ap (λ (x : BoardState). x.nodes) h.becomes) ended
-    (begun_state p q t core progress h) (facts_begin t (facts_step (Begin (record { 0 = t })) k.facts may refl))
+kept_dispatch p q t k may core h nodes progress ended =
+    kept_on p q (Begin (record { 0 = t })) _ k (still_open p (Begin (record { 0 = t })) k may refl (λ l. l)) refl core nodes
+    (ap (λ (x : BoardState). x.nodes) h.becomes) ended (begun_state p q t core progress h) (facts_begin t k.facts may)
 
 -- ---- a task is dispatched
 begins_few : (o : Option Life) → begins o ≤ 1
@@ -143,13 +172,15 @@ begin_counted t past = grind (arith, nat_tests)
 begin_counts : (t u : ℕ) (past : List Step)
     → count (is_begin_of u) (Begin (record { 0 = t }) ∷ past) ≡ count (is_begin_of u) past + (if t == u then 1 else 0)
 begin_counts t u past =
-    elim (t == u) as (λ b. cond b (count (is_begin_of u) past + 1) (count (is_begin_of u) past) ≡ count (is_begin_of u) past + (if b then 1 else 0))
+    elim (t == u) as (λ b. cond b (count (is_begin_of u) past + 1) (count (is_begin_of u) past) ≡ count (is_begin_of u) past +
+    (if b then 1 else 0))
     [ true ↦ refl | false ↦ omega arith ]
 
 pub begun_once : {a : PoolState} (t : ℕ) → Facts a → count (is_begin_of t) a.steps ≤ 1
 begun_once {a} t f =
     let one : present a.steps ≡ a.steps = one_generation a.steps f.by_steps.first in
-    let run : IsLawfulRun a.nodes a.steps = subst (λ (xs : List Step). IsLawfulRun a.nodes xs) one (present_run a.nodes a.steps f.by_steps.runs) in
+    let run : IsLawfulRun a.nodes a.steps = subst (λ (xs : List Step). IsLawfulRun a.nodes xs) one
+    (present_run a.nodes a.steps f.by_steps.runs) in
     let once : count (is_begin_of t) a.steps ≡ begins (life_of t (world a.nodes a.steps)) = (tasks_run_once a.nodes t a.steps run).begun in
     let few : begins (life_of t (world a.nodes a.steps)) ≤ 1 = begins_few (life_of t (world a.nodes a.steps)) in
     omega (arith, once, few)
@@ -158,11 +189,12 @@ first_begin : {a : PoolState} (t : ℕ) → Facts a
     → MayCome a.nodes a.steps (Begin (record { 0 = t })) → count (is_begin_of t) a.steps ≡ 0
 first_begin {a} t f may =
     let few : count (is_begin_of t) (Begin (record { 0 = t }) ∷ a.steps) ≤ 1 =
-    begun_once t (facts_step (Begin (record { 0 = t })) f may refl) in
+    begun_once t (facts_begin t f may) in
     let more : count (is_begin_of t) (Begin (record { 0 = t }) ∷ a.steps) ≡ count (is_begin_of t) a.steps + 1 = begin_counted t a.steps in
     omega (arith, few, more)
 
-inputs_there : (b : BoardState) (n : ℕ) (s : Progress) (st : List Step) (node t : ℕ) (x : Task) → Facts (seen n s b st) → slice_get b.tasks t ≡ Some x
+inputs_there : (b : BoardState) (n : ℕ) (s : Progress) (st : List Step) (node t : ℕ) (x : Task) → Facts (seen n s b st)
+    → slice_get b.tasks t ≡ Some x
     → x.node ≡ node → ((k : ℕ) (e : Edge) → slice_get b.edges k ≡ Some e → e.target ≡ t → e.way ≡ way.Received)
     → (k : ℕ) (i : Input) → slice_get (map input_of b.edges) k ≡ Some i → i.target ≡ t → IsReceived node k i (map entry_of b.tasks) st
 inputs_there b n s st node t x f is home all k i at to =
@@ -240,19 +272,23 @@ completed_later {t} {a} {b} {c} d h = record {
 }
 
 -- ---- a task is done
-finished_state : (p q : Inside) (t : ℕ) → q.core ≡ with_step p.core (Done (record { 0 = t })) → q.progress ≡ p.progress → HasFinished t p.board q.board
-    → state_of q ≡ record (state_of p) { stages = set (map stage_of p.board.tasks) t stage.Done; steps = Done (record { 0 = t }) ∷ p.core.steps }
+finished_state : (p q : Inside) (t : ℕ) → q.core ≡ with_step p.core (Done (record { 0 = t })) → q.progress ≡ p.progress
+    → HasFinished t p.board q.board
+    → state_of q ≡ record (state_of p) {
+      stages = set (map stage_of p.board.tasks) t stage.Done;
+      steps = Done (record { 0 = t }) ∷
+          p.core.steps;
+    }
 finished_state p q t core progress h =
     rw (core, progress, h.becomes)
     (seen_stage p.core.nodes p.progress (Done (record { 0 = t }) ∷ p.core.steps) p.board t h.was stage.Done h.is)
 
-pub kept_complete : (p q : Inside) (t : ℕ) → IsPool p → is_some p.ended_with ≡ false
+pub kept_complete : (p q : Inside) (t : ℕ) → IsPool p
     → MayCome p.core.nodes p.core.steps (Done (record { 0 = t })) → q.core ≡ with_step p.core (Done (record { 0 = t }))
     → HasFinished t p.board q.board → q.nodes ≡ p.nodes → q.progress ≡ p.progress → q.ended_with ≡ p.ended_with → IsPool q
-kept_complete p q t k none may core h nodes progress ended =
-    kept_on p q _ k none (ap (λ (x : Accepted). x.nodes) core) nodes (ap (λ (x : BoardState). x.nodes) h.becomes) ended
-    (finished_state p q t core progress h)
-    (facts_done t (facts_step (Done (record { 0 = t })) k.facts may refl) (done_now t p.core.steps))
+kept_complete p q t k may core h nodes progress ended =
+    kept_on p q (Done (record { 0 = t })) _ k (still_open p (Done (record { 0 = t })) k may refl (λ l. l)) refl core nodes
+    (ap (λ (x : BoardState). x.nodes) h.becomes) ended (finished_state p q t core progress h) (facts_done t k.facts may)
 
 pub is_completed : (p q : Inside) (now : PoolState) (t : ℕ) → state_of p ≡ now → AllPassed t now
     → q.core ≡ with_step p.core (Done (record { 0 = t })) → HasFinished t p.board q.board → q.progress ≡ p.progress
@@ -269,15 +305,13 @@ is_completed p q now t same passed core h progress =
       passed = subst (λ (a : PoolState). AllPassed t a) (sym same) passed;
     }))
 
-pub completed_ways : (p q : Inside) (now : PoolState) (t : ℕ) → state_of p ≡ now → q.core ≡ with_step p.core (Done (record { 0 = t }))
-    → HasFinished t p.board q.board → q.progress ≡ p.progress → (state_of q).ways ≡ now.ways
-completed_ways p q now t same core h progress =
-    ap (λ (a : PoolState). a.ways) (finished_state p q t core progress h) ∙ ap (λ (a : PoolState). a.ways) same
-
-pub finishes_surely : (p : Inside) (now : PoolState) (t : ℕ) (r : Bool) → state_of p ≡ now → slice_get now.stages t ≡ Some stage.Running → AllPassed t now
-    → (IsFalse r → (x : Task) → slice_get p.board.tasks t ≡ Some x → x.stage ≡ stage.Running → (k : ℕ) × on_board.IsUnsent t k p.board) → IsFalse r → ⊥
+pub finishes_surely : (p : Inside) (now : PoolState) (t : ℕ) (r : Bool) → state_of p ≡ now → slice_get now.stages t ≡ Some stage.Running
+    → AllPassed t now
+    → (IsFalse r → (x : Task) → slice_get p.board.tasks t ≡ Some x → x.stage ≡ stage.Running → (k : ℕ) × on_board.IsUnsent t k p.board)
+    → IsFalse r → ⊥
 finishes_surely p now t r same running passed exact fails =
-    let run : slice_get (map stage_of p.board.tasks) t ≡ Some stage.Running = subst (λ (a : PoolState). slice_get a.stages t ≡ Some stage.Running) (sym same) running in
+    let run : slice_get (map stage_of p.board.tasks) t ≡ Some stage.Running = subst
+    (λ (a : PoolState). slice_get a.stages t ≡ Some stage.Running) (sym same) running in
     let x = map_got stage_of p.board.tasks t stage.Running run in
     let u = exact fails x.0 x.1 x.2 in
     let o = unsent_seen p.core.nodes p.progress p.core.steps p.board t u.0 u.1 in
@@ -288,51 +322,90 @@ left_state : (p q : Inside) (k : ℕ) → q.progress ≡ p.progress → HasLeft 
     → state_of q ≡ record (seen q.core.nodes p.progress p.board q.core.steps) { ways = set (map way_of p.board.edges) k way.UnderWay }
 left_state p q k progress h =
     rw (progress, h.becomes)
-    (seen_way q.core.nodes p.progress q.core.steps p.board h.may.edge.source k h.may.source _ h.may.edge way.UnderWay h.may.from refl refl refl h.may.is)
+    (seen_way q.core.nodes p.progress q.core.steps p.board h.may.edge.source k h.may.source _ h.may.edge way.UnderWay h.may.from refl refl
+    refl h.may.is)
 
 not_received : way.UnderWay ≡ way.Received → ⊥
 not_received e = cc
 
-pub kept_send : (p q : Inside) (core : Accepted) (k : ℕ) → IsPool p → is_some p.ended_with ≡ false → SendsOne p.core core → q.core ≡ core
-    → HasLeft k p.board q.board → q.nodes ≡ p.nodes → q.progress ≡ p.progress → q.ended_with ≡ p.ended_with → IsPool q
-kept_send p q core k kept none (inl same) is h nodes progress ended =
-    kept_on p q (record (state_of p) { ways = set (map way_of p.board.edges) k way.UnderWay }) kept none
-    (ap (λ (x : Accepted). x.nodes) (is ∙ same)) nodes (ap (λ (x : BoardState). x.nodes) h.becomes) ended
-    (left_state p q k progress h
-    ∙ ap (λ (x : Accepted). record (seen x.nodes p.progress p.board x.steps) { ways = set (map way_of p.board.edges) k way.UnderWay }) (is ∙ same))
-    (facts_way k way.UnderWay kept.facts (λ e. absurd (not_received e)))
-kept_send p q core k kept none (inr more) is h nodes progress ended =
-    kept_on p q (record (state_of p) { ways = set (map way_of p.board.edges) k way.UnderWay; steps = more.0 ∷ p.core.steps }) kept none
-    (ap (λ (x : Accepted). x.nodes) (is ∙ more.4)) nodes (ap (λ (x : BoardState). x.nodes) h.becomes) ended
-    (left_state p q k progress h
-    ∙ ap (λ (x : Accepted). record (seen x.nodes p.progress p.board x.steps) { ways = set (map way_of p.board.edges) k way.UnderWay }) (is ∙ more.4))
-    (facts_way k way.UnderWay (facts_step more.0 kept.facts more.3 more.2) (λ e. absurd (not_received e)))
+input_edge : (p : Inside) (k : ℕ) (e : Edge) (i : Input) → slice_get p.board.edges k ≡ Some e
+    → slice_get (map input_of p.board.edges) k ≡ Some i
+    → input_of e ≡ i
+input_edge p k e i at input = some_same (input_of e) i (sym (map_get input_of p.board.edges k e at) ∙ input)
 
-sends_only : (p : Inside) (core : Accepted) (ws : List Way) → SendsOne p.core core
+-- the homes of the source and the target of an input
+sent_from : (p : Inside) (node k : ℕ) (e : Edge) (i : Input) (x : Entry) → IsHome node e.source (state_of p)
+    → slice_get p.board.edges k ≡ Some e
+    → slice_get (map input_of p.board.edges) k ≡ Some i → slice_get (map entry_of p.board.tasks) i.source ≡ Some x → x.node ≡ node
+sent_from p node k e i x home at input from =
+    home x (ap (λ (j : Input). slice_get (map entry_of p.board.tasks) j.source) (input_edge p k e i at input) ∙ from)
+
+sent_to : (p : Inside) (k : ℕ) (e : Edge) (i : Input) (y : Entry) → BoardFacts p.board → slice_get p.board.edges k ≡ Some e
+    → slice_get (map input_of p.board.edges) k ≡ Some i → slice_get (map entry_of p.board.tasks) i.target ≡ Some y → e.to ≡ y.node
+sent_to p k e i y f at input to =
+    let there : slice_get (map entry_of p.board.tasks) e.target ≡ Some y =
+    ap (λ (j : Input). slice_get (map entry_of p.board.tasks) j.target) (input_edge p k e i at input) ∙ to in
+    let z = map_got entry_of p.board.tasks e.target y there in
+    (f.placed k e at).home z.0 z.1 ∙ ap (λ (v : Entry). v.node) z.2
+
+pub home_board : (p : Inside) (now : PoolState) (node t u : ℕ) → state_of p ≡ now → u ≡ t → IsHome node t now → IsHome node u (state_of p)
+home_board p now node t u same is home =
+    subst (λ (v : ℕ). IsHome node v (state_of p)) (sym is) (subst (λ (a : PoolState). IsHome node t a) (sym same) home)
+
+-- an input between two nodes was sent
+pub kept_send : (p q : Inside) (core : Accepted) (node k : ℕ) (e : Edge) → IsPool p → BoardFacts p.board → IsHome node e.source (state_of p)
+    → slice_get p.board.edges k ≡ Some e → SendsOne node e.to k p.core core → q.core ≡ core
+    → HasLeft k p.board q.board → q.nodes ≡ p.nodes → q.progress ≡ p.progress → q.ended_with ≡ p.ended_with → IsPool q
+kept_send p q core node k e kept f home at (inl same) is h nodes progress ended =
+    kept_same p q (record (state_of p) { ways = set (map way_of p.board.edges) k way.UnderWay }) kept (is ∙ same.1) nodes
+    (ap (λ (x : BoardState). x.nodes) h.becomes) ended
+    (left_state p q k progress h
+    ∙ ap (λ (x : Accepted). record (seen x.nodes p.progress p.board x.steps) { ways = set (map way_of p.board.edges) k way.UnderWay })
+    (is ∙ same.1))
+    refl refl refl
+    (facts_way k way.UnderWay kept.facts (λ z. absurd (not_received z))
+    (λ z i x y input from to apart. absurd (apart (sent_from p node k e i x home at input from
+    ∙ (same.0 ∙ sent_to p k e i y f at input to)))))
+kept_send p q core node k e kept f home at (inr more) is h nodes progress ended =
+    let s : Step = sending node e.to k in
+    kept_on p q s (record (state_of p) { ways = set (map way_of p.board.edges) k way.UnderWay; steps = s ∷ p.core.steps }) kept
+    (still_open p s kept more.0 refl (λ l. l)) refl (is ∙ more.1) nodes (ap (λ (x : BoardState). x.nodes) h.becomes) ended
+    (left_state p q k progress h
+    ∙ ap (λ (x : Accepted). record (seen x.nodes p.progress p.board x.steps) { ways = set (map way_of p.board.edges) k way.UnderWay })
+    (is ∙ more.1))
+    (facts_way k way.UnderWay (facts_step s kept.facts more.0 (send_leaves node e.to k 1)) (λ z. absurd (not_received z))
+    (λ z i x y input from to apart. subst (λ (n : ℕ). IsTrue (is_under_way k n (world p.core.nodes (s ∷ p.core.steps))))
+    (sent_to p k e i y f at input to)
+    (flies_now k node e.to (world p.core.nodes p.core.steps) (k ∷ (world p.core.nodes p.core.steps).numbers))))
+
+sends_only : (p : Inside) (from to k : ℕ) (core : Accepted) (ws : List Way) → SendsOne from to k p.core core
     → AddsOnly is_sending (state_of p) (record (seen core.nodes p.progress p.board core.steps) { ways = ws })
-sends_only p core ws (inl same) =
-    subst (λ (c : Accepted). AddsOnly is_sending (state_of p) (record (seen c.nodes p.progress p.board c.steps) { ways = ws })) (sym same) (record {
+sends_only p from to k core ws (inl same) =
+    subst (λ (c : Accepted). AddsOnly is_sending (state_of p) (record (seen c.nodes p.progress p.board c.steps) { ways = ws }))
+    (sym same.1) (record {
       graph = record { nodes = refl; started = refl; extended = refl; tasks = refl; inputs = refl; outside = refl };
       stages = refl;
       later = [];
       steps = refl;
       only = refl;
     })
-sends_only p core ws (inr more) =
-    subst (λ (c : Accepted). AddsOnly is_sending (state_of p) (record (seen c.nodes p.progress p.board c.steps) { ways = ws })) (sym more.4) (record {
+sends_only p from to k core ws (inr more) =
+    subst (λ (c : Accepted). AddsOnly is_sending (state_of p) (record (seen c.nodes p.progress p.board c.steps) { ways = ws }))
+    (sym more.1) (record {
       graph = record { nodes = refl; started = refl; extended = refl; tasks = refl; inputs = refl; outside = refl };
       stages = refl;
-      later = more.0 ∷ [];
+      later = sending from to k ∷ [];
       steps = refl;
-      only = rw more.1 refl;
+      only = refl;
     })
 
-pub adds_send : (p q : Inside) (now : PoolState) (k : ℕ) → state_of p ≡ now → SendsOne p.core q.core → HasLeft k p.board q.board
+pub adds_send : (p q : Inside) (now : PoolState) (from to k : ℕ) → state_of p ≡ now → SendsOne from to k p.core q.core
+    → HasLeft k p.board q.board
     → q.progress ≡ p.progress → AddsOnly is_sending now (state_of q)
-adds_send p q now k same sends h progress =
+adds_send p q now from to k same sends h progress =
     subst (λ (a : PoolState). AddsOnly is_sending a (state_of q)) same
     (subst (λ (a : PoolState). AddsOnly is_sending (state_of p) a) (sym (left_state p q k progress h))
-    (sends_only p q.core (set (map way_of p.board.edges) k way.UnderWay) sends))
+    (sends_only p from to k q.core (set (map way_of p.board.edges) k way.UnderWay) sends))
 
 pub left_ways : (p q : Inside) (now : PoolState) (k : ℕ) → state_of p ≡ now → HasLeft k p.board q.board → q.progress ≡ p.progress
     → (state_of q).ways ≡ set now.ways k way.UnderWay
@@ -346,7 +419,8 @@ pub output_now : (p : Inside) (now : PoolState) (t k : ℕ) (e : Edge) → state
     → IsOutput t k now
 output_now p now t k e same at source = subst (λ (a : PoolState). IsOutput t k a) same (output_board p t k e at source)
 
-pub way_now : (p : Inside) (now : PoolState) (k : ℕ) (e : Edge) (w : Way) → state_of p ≡ now → slice_get p.board.edges k ≡ Some e → e.way ≡ w
+pub way_now : (p : Inside) (now : PoolState) (k : ℕ) (e : Edge) (w : Way) → state_of p ≡ now → slice_get p.board.edges k ≡ Some e
+    → e.way ≡ w
     → slice_get now.ways k ≡ Some w
 way_now p now k e w same at is =
     subst (λ (a : PoolState). slice_get a.ways k ≡ Some w) same (map_get way_of p.board.edges k e at ∙ ap Some is)
@@ -354,7 +428,8 @@ way_now p now k e w same at is =
 pub sent_ways : (p q : Inside) (now : PoolState) (t k : ℕ) (e : Edge) → state_of p ≡ now → slice_get p.board.edges k ≡ Some e → e.source ≡ t
     → e.way ≡ way.Out → HasLeft k p.board q.board → q.progress ≡ p.progress → AreSent t now (state_of q)
 sent_ways p q now t k e same at source out h progress =
-    sent_one t k now (state_of q) (output_now p now t k e same at source) (way_now p now k e way.Out same at out) (left_ways p q now k same h progress)
+    sent_one t k now (state_of q) (output_now p now t k e same at source) (way_now p now k e way.Out same at out)
+    (left_ways p q now k same h progress)
 
 -- the edge of an input that comes from the task is there
 pub output_edge : (p : Inside) (now : PoolState) (t k : ℕ) (w : Way) → state_of p ≡ now → IsOutput t k now → slice_get now.ways k ≡ Some w
@@ -365,10 +440,12 @@ output_edge p now t k w same o at =
     let w' : slice_get (map way_of p.board.edges) k ≡ Some w = subst (λ (a : PoolState). slice_get a.ways k ≡ Some w) (sym same) at in
     (e.0, e.1, ap (λ (z : Input). z.source) e.2 ∙ o'.source, some_same e.0.way w (sym (map_get way_of p.board.edges k e.0 e.1) ∙ w'))
 
-pub leaves_surely : (p : Inside) (now : PoolState) (t k : ℕ) (e : Edge) (r : Bool) → state_of p ≡ now → slice_get now.stages t ≡ Some stage.Running
+pub leaves_surely : (p : Inside) (now : PoolState) (t k : ℕ) (e : Edge) (r : Bool) → state_of p ≡ now
+    → slice_get now.stages t ≡ Some stage.Running
     → slice_get p.board.edges k ≡ Some e → e.source ≡ t → e.way ≡ way.Out → (IsFalse r → on_board.MayLeave k p.board → ⊥) → IsFalse r → ⊥
 leaves_surely p now t k e r same running at source out exact fails =
-    let run : slice_get (map stage_of p.board.tasks) t ≡ Some stage.Running = subst (λ (a : PoolState). slice_get a.stages t ≡ Some stage.Running) (sym same) running in
+    let run : slice_get (map stage_of p.board.tasks) t ≡ Some stage.Running = subst
+    (λ (a : PoolState). slice_get a.stages t ≡ Some stage.Running) (sym same) running in
     let x = map_got stage_of p.board.tasks t stage.Running run in
     exact fails (record {
       edge = e;
@@ -384,50 +461,98 @@ arrived_state : (p q : Inside) (k : ℕ) (last : Bool) → q.core ≡ p.core →
     → state_of q ≡ record (state_of p) { ways = set (map way_of p.board.edges) k way.Received }
 arrived_state p q k last core progress h =
     rw (core, progress, h.becomes)
-    (seen_way p.core.nodes p.progress p.core.steps p.board h.may.edge.target k h.target _ h.may.edge way.Received h.of refl refl refl h.may.is)
+    (seen_way p.core.nodes p.progress p.core.steps p.board h.may.edge.target k h.target _ h.may.edge way.Received h.of refl refl refl
+    h.may.is)
 
 received_by : (a : PoolState) (node k : ℕ) (i : Input) → WasDone i.source a.steps → slice_get a.inputs k ≡ Some i
     → IsFrom node k a ⊎ WasReceived node k a.steps → IsReceived node k i a.tasks a.steps
 received_by a node k i done at (inl h) = record { done = done; message = λ x is o. absurd (o (h i x at is)) }
 received_by a node k i done at (inr h) = record { done = done; message = λ x is o. h }
 
-coming_there : (a : PoolState) (node k : ℕ) → Facts a → IsComing node k a → IsFrom node k a ⊎ WasReceived node k a.steps
+coming_there : (a : PoolState) (node k : ℕ) → ((t : ℕ) → slice_get a.stages t ≡ Some stage.Done → WasDone t a.steps) → IsComing node k a
+    → IsFrom node k a ⊎ WasReceived node k a.steps
     → (i : Input) (x : Entry) → slice_get a.inputs k ≡ Some i → slice_get a.tasks i.target ≡ Some x → IsReceived x.node k i a.tasks a.steps
-coming_there a node k f c how i x at is =
+coming_there a node k ended c how i x at is =
     let same : c.input ≡ i = some_same c.input i (sym c.is ∙ at) in
     let target : c.target ≡ x = some_same c.target x (sym c.at ∙ (ap (λ (j : Input). slice_get a.tasks j.target) same ∙ is)) in
     let home : node ≡ x.node = sym c.home ∙ ap (λ (y : Entry). y.node) target in
     let done : slice_get a.stages i.source ≡ Some stage.Done = ap (λ (j : Input). slice_get a.stages j.source) (sym same) ∙ c.done in
-    subst (λ (n : ℕ). IsReceived n k i a.tasks a.steps) home (received_by a node k i (f.by_steps.done i.source done) at how)
+    subst (λ (n : ℕ). IsReceived n k i a.tasks a.steps) home (received_by a node k i (ended i.source done) at how)
 
 pub arrives_surely : (p : Inside) (now : PoolState) (node k : ℕ) (r : Option Bool) (b : BoardState) → state_of p ≡ now → BoardFacts p.board
     → IsComing node k now → IfSome r (λ last. HasArrived k last p.board b) → IfNone r (on_board.MayArrive k p.board → ⊥)
     → (last : Bool) × HasArrived k last p.board b
 arrives_surely p now node k None b same f c ok exact =
-    absurd (exact (coming_board p.core.nodes p.progress p.core.steps p.board node k f (subst (λ (a : PoolState). IsComing node k a) (sym same) c)).may)
+    absurd (exact (coming_board p.core.nodes p.progress p.core.steps p.board node k f
+    (subst (λ (a : PoolState). IsComing node k a) (sym same) c)).may)
 arrives_surely p now node k (Some last) b same f c ok exact = (last, ok)
 
 pub kept_arrive : (p q : Inside) (now : PoolState) (node k : ℕ) → IsPool p → state_of p ≡ now → IsComing node k now
-    → IsFrom node k now ⊎ WasReceived node k now.steps → (last : Bool) × HasArrived k last p.board q.board
+    → IsFrom node k now → (last : Bool) × HasArrived k last p.board q.board
     → q.core ≡ p.core → q.nodes ≡ p.nodes → q.progress ≡ p.progress → q.ended_with ≡ p.ended_with → IsPool q
 kept_arrive p q now node k kept same c how h core nodes progress ended =
     kept_same p q (record (state_of p) { ways = set (map way_of p.board.edges) k way.Received }) kept core nodes
     (ap (λ (x : BoardState). x.nodes) h.1.becomes) ended (arrived_state p q k h.0 core progress h.1) refl refl refl
-    (facts_way k way.Received kept.facts (λ e. coming_there (state_of p) node k kept.facts
+    (facts_way k way.Received kept.facts (λ e. coming_there (state_of p) node k kept.facts.by_steps.done
     (subst (λ (a : PoolState). IsComing node k a) (sym same) c)
-    (subst (λ (a : PoolState). IsFrom node k a ⊎ WasReceived node k a.steps) (sym same) how)))
+    (inl (subst (λ (a : PoolState). IsFrom node k a) (sym same) how))) (λ e. absurd (not_received (sym e))))
 
 pub has_arrived : (p q : Inside) (now : PoolState) (k : ℕ) → state_of p ≡ now → (last : Bool) × HasArrived k last p.board q.board
     → q.core ≡ p.core → q.progress ≡ p.progress → state_of q ≡ record now { ways = slice_set now.ways k way.Received }
 has_arrived p q now k same h core progress =
     arrived_state p q k h.0 core progress h.1 ∙ ap (λ (a : PoolState). record a { ways = set a.ways k way.Received }) same
 
+-- ---- an input is received as a message
+abbrev pub receiving : ℕ → ℕ → Step
+receiving node k = Recv (record { 0 = node }) (record { 0 = k }) (record { 0 = 1 })
+
+received_state : (p q : Inside) (node k : ℕ) (last : Bool) → q.core ≡ with_step p.core (receiving node k) → q.progress ≡ p.progress
+    → HasArrived k last p.board q.board
+    → state_of q ≡ record (state_of p) { ways = set (map way_of p.board.edges) k way.Received; steps = receiving node k ∷ p.core.steps }
+received_state p q node k last core progress h =
+    rw (core, progress, h.becomes)
+    (seen_way p.core.nodes p.progress (receiving node k ∷ p.core.steps) p.board h.may.edge.target k h.target _ h.may.edge way.Received
+    h.of refl refl refl
+    h.may.is)
+
+pub kept_receive : (p q : Inside) (now : PoolState) (node k : ℕ) → IsPool p → state_of p ≡ now → IsComing node k now
+    → MayCome p.core.nodes p.core.steps (receiving node k) → q.core ≡ with_step p.core (receiving node k)
+    → (last : Bool) × HasArrived k last p.board q.board
+    → q.nodes ≡ p.nodes → q.progress ≡ p.progress → q.ended_with ≡ p.ended_with → IsPool q
+kept_receive p q now node k kept same c may core h nodes progress ended =
+    let came : IsComing node k (state_of p) = subst (λ (a : PoolState). IsComing node k a) (sym same) c in
+    let a : PoolState = record (state_of p) { steps = receiving node k ∷ p.core.steps } in
+    kept_on p q (receiving node k) _ kept (still_open p (receiving node k) kept may refl (λ l. l)) refl core nodes
+    (ap (λ (x : BoardState). x.nodes) h.1.becomes) ended (received_state p q node k h.0 core progress h.1)
+    (facts_receive node k kept.facts may (coming_there a node k
+    (λ t e. or_right (is_done_of t (receiving node k)) (any (is_done_of t) p.core.steps) (kept.facts.by_steps.done t e))
+    (coming_in (state_of p) a refl refl refl refl came) (inr (received_now node k 1 p.core.steps))))
+
+pub has_received : (p q : Inside) (now : PoolState) (node k : ℕ) → state_of p ≡ now → q.core ≡ with_step p.core (receiving node k)
+    → (last : Bool) × HasArrived k last p.board q.board → q.progress ≡ p.progress
+    → state_of q ≡ record now { ways = slice_set now.ways k way.Received; steps = receiving node k ∷ now.steps }
+has_received p q now node k same core h progress =
+    received_state p q node k h.0 core progress h.1
+    ∙ ap (λ (a : PoolState). record a { ways = set a.ways k way.Received; steps = receiving node k ∷ a.steps }) same
+
+pub received_adds : (now b : PoolState) (node k : ℕ) (ws : List Way) → b ≡ record now { ways = ws; steps = receiving node k ∷ now.steps }
+    → AddsOnly is_delivery now b
+received_adds now b node k ws e =
+    subst (λ (a : PoolState). AddsOnly is_delivery now a) (sym e) (record {
+      graph = record { nodes = refl; started = refl; extended = refl; tasks = refl; inputs = refl; outside = refl };
+      stages = refl;
+      later = receiving node k ∷ [];
+      steps = refl;
+      only = refl;
+    })
+
 -- ---- a task or an input more
 facts_extended : {a : PoolState} (more : Bool) → Facts a → Facts (record a { extended = more })
-facts_extended more f = record { by_steps = f.by_steps; arrived = f.arrived }
+facts_extended more f = record { by_steps = f.by_steps; arrived = f.arrived; under_way = f.under_way }
 
 task_state : (p q : Inside) (b : BoardState) (node class r : ℕ) (held : Bool) (s : Step) → q.core ≡ with_step p.core s
-    → q.progress ≡ extend p.progress → held ≡ p.progress.started → b ≡ record p.board { task_room = r } → q.board ≡ with_task node class held b
+    → q.progress ≡ extend p.progress → held ≡ p.progress.started → b ≡ record p.board { task_room = r }
+    → q.board ≡ with_task node class held b
     → state_of q ≡ record (state_of p) {
       extended = extends (state_of p);
       tasks = map entry_of p.board.tasks ++ record { node = node; class = class } ∷ [];
@@ -436,22 +561,22 @@ task_state : (p q : Inside) (b : BoardState) (node class r : ℕ) (held : Bool) 
       steps = s ∷ p.core.steps;
     }
 task_state p q b node class r held s core progress same room added =
-    rw (core, progress, added, same, room) (seen_task p.core.nodes (extend p.progress) (s ∷ p.core.steps) p.board node class p.progress.started)
+    rw (core, progress, added, same, room) (seen_task p.core.nodes (extend p.progress) (s ∷ p.core.steps) p.board node class
+    p.progress.started)
 
-pub kept_task : (p q : Inside) (b : BoardState) (node class r : ℕ) (held : Bool) (s : Step) → IsPool p → BoardFacts p.board
-    → is_some p.ended_with ≡ false
-    → MayCome p.core.nodes p.core.steps s → IsFalse (is_reopen s) → IsTrue (is_insert_of (length p.board.tasks) s)
-    → q.core ≡ with_step p.core s → q.nodes ≡ p.nodes → q.progress ≡ extend p.progress → held ≡ p.progress.started
+pub kept_task : (p q : Inside) (b : BoardState) (node class r : ℕ) (held : Bool) (i : NodeId) (u : TaskId) (n : Inputs) → IsPool p
+    → BoardFacts p.board → MayCome p.core.nodes p.core.steps (Insert i u n) → u.0 ≡ length p.board.tasks → n.count ≡ 0
+    → q.core ≡ with_step p.core (Insert i u n) → q.nodes ≡ p.nodes → q.progress ≡ extend p.progress → held ≡ p.progress.started
     → q.ended_with ≡ p.ended_with → b ≡ record p.board { task_room = r } → q.board ≡ with_task node class held b → IsPool q
-kept_task p q b node class r held s k f none may on of core nodes progress same ended room added =
+kept_task p q b node class r held i u n k f may number none core nodes progress same ended room added =
     let long : length (map entry_of p.board.tasks) ≡ length p.board.tasks = length-map p.board.tasks entry_of in
-    kept_on p q _ k none (ap (λ (x : Accepted). x.nodes) core) nodes
+    kept_on p q (Insert i u n) _ k (still_open p (Insert i u n) k may refl (λ l. l)) refl core nodes
     (ap (λ (x : BoardState). x.nodes) added ∙ ap (λ (x : BoardState). x.nodes) room) ended
-    (task_state p q b node class r held s core progress same room added)
+    (task_state p q b node class r held (Insert i u n) core progress same room added)
     (facts_extended (extends (state_of p))
-    (facts_task (record { node = node; class = class }) (map outside_of p.board.tasks ++ (if p.progress.started then 1 else 0) ∷ []) s k.facts
-    (consistent p.core.nodes p.progress p.core.steps p.board f (k.board ∙ sym k.nodes)) may on
-    (subst (λ (m : ℕ). IsTrue (is_insert_of m s)) (sym long) of)))
+    (facts_task (record { node = node; class = class }) (map outside_of p.board.tasks ++ (if p.progress.started then 1 else 0) ∷ []) i u n
+    k.facts
+    (consistent p.core.nodes p.progress p.core.steps p.board f (k.board ∙ sym k.nodes)) may (number ∙ sym long) none))
 
 edge_state : (p q : Inside) (b : BoardState) (source target r : ℕ) → q.core ≡ p.core → q.progress ≡ extend p.progress
     → b ≡ record p.board { edge_room = r } → source < target → HasEdge source target b q.board
@@ -485,7 +610,8 @@ pub input_added : (p q : Inside) (b : BoardState) (now : PoolState) (source targ
     → HasEdge source target b q.board → IsInputAdded source now (state_of q)
 input_added p q b now source target r same core progress room before last h =
     subst (λ (a : PoolState). IsInputAdded source a (state_of q)) same
-    (subst (λ (a : PoolState). IsInputAdded source (state_of p) a) (sym (edge_state p q b source target r core progress room before h)) (record {
+    (subst (λ (a : PoolState). IsInputAdded source (state_of p) a) (sym (edge_state p q b source target r core progress room before h))
+    (record {
       nodes = refl;
       started = refl;
       extended = refl;
@@ -502,7 +628,7 @@ input_added p q b now source target r same core progress room before last h =
 
 -- ---- inputs from outside
 facts_outside : {a : PoolState} (o : List ℕ) → Facts a → Facts (record a { outside = o })
-facts_outside o f = record { by_steps = f.by_steps; arrived = f.arrived }
+facts_outside o f = record { by_steps = f.by_steps; arrived = f.arrived; under_way = f.under_way }
 
 outside_state : (p q : Inside) (t m o : ℕ) (x : Task) → q.core ≡ p.core → q.progress ≡ p.progress → slice_get p.board.tasks t ≡ Some x
     → q.board ≡ record p.board { tasks = set p.board.tasks t (record x { missing = m; outside = o }) }
@@ -514,14 +640,18 @@ kept_count : (p q : Inside) (t m o : ℕ) (x : Task) → IsPool p → q.core ≡
     → q.ended_with ≡ p.ended_with → slice_get p.board.tasks t ≡ Some x
     → q.board ≡ record p.board { tasks = set p.board.tasks t (record x { missing = m; outside = o }) } → IsPool q
 kept_count p q t m o x k core nodes progress ended is becomes =
-    kept_same p q _ k core nodes (ap (λ (b : BoardState). b.nodes) becomes) ended (outside_state p q t m o x core progress is becomes) refl refl refl
+    kept_same p q _ k core nodes (ap (λ (b : BoardState). b.nodes) becomes) ended (outside_state p q t m o x core progress is becomes)
+    refl refl refl
     (facts_outside (set (map outside_of p.board.tasks) t o) k.facts)
 
-pub kept_outside : (p q : Inside) (t : ℕ) → IsPool p → HasOutside t p.board q.board → q.core ≡ p.core → q.nodes ≡ p.nodes → q.progress ≡ p.progress
+pub kept_outside : (p q : Inside) (t : ℕ) → IsPool p → HasOutside t p.board q.board → q.core ≡ p.core → q.nodes ≡ p.nodes
+    → q.progress ≡ p.progress
     → q.ended_with ≡ p.ended_with → IsPool q
-kept_outside p q t k h core nodes progress ended = kept_count p q t (h.was.missing + 1) (h.was.outside + 1) h.was k core nodes progress ended h.is h.becomes
+kept_outside p q t k h core nodes progress ended = kept_count p q t (h.was.missing + 1) (h.was.outside + 1) h.was k core nodes progress
+    ended h.is h.becomes
 
-pub kept_release : (p q : Inside) (t : ℕ) (last : Bool) → IsPool p → HasReleased t last p.board q.board → q.core ≡ p.core → q.nodes ≡ p.nodes
+pub kept_release : (p q : Inside) (t : ℕ) (last : Bool) → IsPool p → HasReleased t last p.board q.board → q.core ≡ p.core
+    → q.nodes ≡ p.nodes
     → q.progress ≡ p.progress → q.ended_with ≡ p.ended_with → IsPool q
 kept_release p q t last k h core nodes progress ended =
     kept_count p q t (h.was.missing - 1) (h.was.outside - 1) h.was k core nodes progress ended h.is h.becomes
@@ -537,7 +667,8 @@ outside_added p q now t same h core progress lacking =
       becomes = outside_state p q t (h.was.missing + 1) (h.was.outside + 1) h.was core progress h.is h.becomes;
     })
 
-pub is_released : (p q : Inside) (now : PoolState) (t : ℕ) (last : Bool) → state_of p ≡ now → HasReleased t last p.board q.board → q.core ≡ p.core
+pub is_released : (p q : Inside) (now : PoolState) (t : ℕ) (last : Bool) → state_of p ≡ now → HasReleased t last p.board q.board
+    → q.core ≡ p.core
     → q.progress ≡ p.progress → IsReleased t now (state_of q)
 is_released p q now t last same h core progress =
     subst (λ (a : PoolState). IsReleased t a (state_of q)) same (record {
@@ -547,27 +678,6 @@ is_released p q now t last same h core progress =
       becomes = outside_state p q t (h.was.missing - 1) (h.was.outside - 1) h.was core progress h.is h.becomes;
     })
 
--- a task that lacks nothing, in the words of the pool
-pub lacks_none : (p : Inside) (now : PoolState) (node t : ℕ) → state_of p ≡ now → BoardFacts p.board → on_board.IsReady node t p.board
-    → LacksInput t now → ⊥
-lacks_none p now node t same f r h =
-    ready_lacks_none node t f r
-    (lacks_board p.core.nodes p.progress p.core.steps p.board t (subst (λ (a : PoolState). LacksInput t a) (sym same) h))
-
-pub task_now : (p : Inside) (now : PoolState) (t : ℕ) (x : Task) → state_of p ≡ now → slice_get p.board.tasks t ≡ Some x
-    → (slice_get now.tasks t ≡ Some (entry_of x)) × (slice_get now.stages t ≡ Some x.stage) × (slice_get now.outside t ≡ Some x.outside)
-task_now p now t x same is = (
-  subst (λ (a : PoolState). slice_get a.tasks t ≡ Some (entry_of x)) same (map_get entry_of p.board.tasks t x is),
-  subst (λ (a : PoolState). slice_get a.stages t ≡ Some x.stage) same (map_get stage_of p.board.tasks t x is),
-  subst (λ (a : PoolState). slice_get a.outside t ≡ Some x.outside) same (map_get outside_of p.board.tasks t x is),
-)
-
-pub some_ready : (p : Inside) (now : PoolState) (node t : ℕ) → state_of p ≡ now → BoardFacts p.board → on_board.IsReady node t p.board
-    → HasNoneReady node now → ⊥
-some_ready p now node t same f r h =
-    let e = task_now p now t r.task same r.is in
-    lacks_none p now node t same f r (h t (entry_of r.task) e.0 r.home (e.1 ∙ ap Some r.fresh))
-
 -- ---- the end is judged
 pub kept_end : (p q : Inside) (core : Accepted) (w count : ℕ) → IsPool p → IsSettled p.core core w count
     → InEach (IsNeverEarly core.nodes) core.steps → q.core ≡ core → q.nodes ≡ p.nodes → q.progress ≡ p.progress → q.board ≡ p.board
@@ -576,6 +686,8 @@ kept_end p q core w count k is never core_is nodes progress board ended =
     let all = finished (length (map entry_of p.board.tasks)) p.core core w count is never k.facts.by_steps.first k.facts.by_steps.known in
     let more = λ (t : ℕ) (h : WasDone t p.core.steps). subst (λ (xs : List Step). WasDone t xs) (sym is.steps)
     (any_append (is_done_of t) (Judge ∷ is.taken) p.core.steps h) in
+    let stays : world core.nodes core.steps ≡ world p.core.nodes p.core.steps = rw (is.nodes, is.steps)
+    (controls_stay p.core.nodes (Judge ∷ is.taken) p.core.steps is.control) in
     let same : state_of q ≡ record (state_of p) { nodes = core.nodes; steps = core.steps } = rw (core_is, progress, board) refl in
     let f : Facts (record (state_of p) { nodes = core.nodes; steps = core.steps }) = record {
       by_steps = record {
@@ -585,9 +697,12 @@ kept_end p q core w count k is never core_is nodes progress board ended =
         first = all.0;
         known = all.1;
         done = λ t h. more t (k.facts.by_steps.done t h);
+        lives = λ t g h. subst (λ (w : World). life_of t w ≡ Some (life_for g)) (sym stays) (k.facts.by_steps.lives t g h);
       };
       arrived = λ j i x h at to. subst (λ (xs : List Step). IsReceived x.node j i (map entry_of p.board.tasks) xs) (sym is.steps)
           (received_steps (Judge ∷ is.taken) (k.facts.arrived j i x h at to));
+      under_way = λ j i x y h at from to o.
+          subst (λ (w : World). IsTrue (is_under_way j y.node w)) (sym stays) (k.facts.under_way j i x y h at from to o);
     } in
     let done : IsFinished (record (state_of p) { nodes = core.nodes; steps = core.steps }) = record { quiet = all.2; once = all.3 } in
     record {
@@ -595,13 +710,8 @@ kept_end p q core w count k is never core_is nodes progress board ended =
       board = ap (λ (x : BoardState). x.nodes) board ∙ (k.board ∙ sym nodes);
       facts = subst (λ (a : PoolState). Facts a) (sym same) f;
       ended_with = rw ended (subst (λ (a : PoolState). IsFinished a) (sym same) done);
+      not_ended = rw ended tt;
     }
-
-pub end_graph : (p : Inside) (now : PoolState) (core : Accepted) (w count : ℕ) → state_of p ≡ now → IsSettled p.core core w count
-    → SameGraph now (seen core.nodes p.progress p.board core.steps)
-end_graph p now core w count same is =
-    subst (λ (a : PoolState). SameGraph a (seen core.nodes p.progress p.board core.steps)) same
-    (record { nodes = is.nodes; started = refl; extended = refl; tasks = refl; inputs = refl; outside = refl })
 
 pub end_begins_none : (p : Inside) (now : PoolState) (core : Accepted) (w count' t : ℕ) → state_of p ≡ now → IsSettled p.core core w count'
     → count (is_begin_of t) core.steps ≡ count (is_begin_of t) now.steps
@@ -625,87 +735,6 @@ pub none_begun_done : {a b : PoolState} (u t : ℕ) → IsCompleted u a b → co
 none_begun_done {a} u t h =
     ap (count (is_begin_of t)) h.steps ∙ count_only is_sending t (sending_begins_none t) h.sent a.steps h.only
 
--- ---- what the checks say
-abbrev Refused : Refusal → Result (Unit {0}) Refusal → Type 0
-Refused e r = Err e ≡ r
-
-pub refused_by : (o : Option Refusal) (e : Refusal) → o ≡ Some e → IfSome o (λ r. Refused e (Err r))
-refused_by o e h = rw h refl
-
-pub outside_full : (a : PoolState) (t n : ℕ) (x : Entry) → slice_get a.tasks t ≡ Some x → slice_get a.stages t ≡ Some stage.Fresh
-    → slice_get a.outside t ≡ Some n → MAX_STEPS ≤ n → first_refusal (outside_checks a t) ≡ Some (refusal.HistoryFull MAX_STEPS)
-outside_full a t n x is fresh at full = let h : nat_le MAX_STEPS n ≡ true = grind (arith, nat_tests, full) in rw (is, fresh, at, h) refl
-
-pub outside_passes : (a : PoolState) (t n : ℕ) (x : Entry) → slice_get a.tasks t ≡ Some x → slice_get a.stages t ≡ Some stage.Fresh
-    → slice_get a.outside t ≡ Some n → n < MAX_STEPS → first_refusal (outside_checks a t) ≡ None
-outside_passes a t n x is fresh at few = let h : nat_le MAX_STEPS n ≡ false = grind (arith, nat_tests, few) in rw (is, fresh, at, h) refl
-
-pub release_passes : (a : PoolState) (t n : ℕ) (x : Entry) → slice_get a.tasks t ≡ Some x → slice_get a.outside t ≡ Some n → 1 ≤ n
-    → first_refusal (release_checks a t) ≡ None
-release_passes a t n x is at some = let h : nat_le 1 n ≡ true = grind (arith, nat_tests, some) in rw (is, at, h) refl
-
-pub not_refused : (o : Option Refusal) (P : Refusal → Type 0) → o ≡ None → IfSome o P
-not_refused None P h = tt
-not_refused (Some r) P h = cc
-
--- the refusal of `outside` for a task that is not released is for one of its checks
-pub full_now : (p : Inside) (now : PoolState) (t : ℕ) (x : Task) → state_of p ≡ now → slice_get p.board.tasks t ≡ Some x → x.stage ≡ stage.Fresh
-    → MAX_STEPS ≤ x.outside → first_refusal (outside_checks now t) ≡ Some (refusal.HistoryFull MAX_STEPS)
-full_now p now t x same is fresh full =
-    let e = task_now p now t x same is in outside_full now t x.outside (entry_of x) e.0 (e.1 ∙ ap Some fresh) e.2 full
-
-pub passes_now : (p : Inside) (now : PoolState) (t : ℕ) (x : Task) → state_of p ≡ now → slice_get p.board.tasks t ≡ Some x → x.stage ≡ stage.Fresh
-    → x.outside < MAX_STEPS → first_refusal (outside_checks now t) ≡ None
-passes_now p now t x same is fresh few =
-    let e = task_now p now t x same is in outside_passes now t x.outside (entry_of x) e.0 (e.1 ∙ ap Some fresh) e.2 few
-
-pub releases_now : (p : Inside) (now : PoolState) (t : ℕ) (x : Task) → state_of p ≡ now → slice_get p.board.tasks t ≡ Some x → 1 ≤ x.outside
-    → first_refusal (release_checks now t) ≡ None
-releases_now p now t x same is some =
-    let e = task_now p now t x same is in release_passes now t x.outside (entry_of x) e.0 e.2 some
-
-pub release_refused : (a : PoolState) (t : ℕ) (x : Entry) → slice_get a.tasks t ≡ Some x → slice_get a.outside t ≡ Some 0
-    → first_refusal (release_checks a t) ≡ Some refusal.WrongLife
-release_refused a t x is at = rw (is, at) refl
-
-pub refuses_now : (p : Inside) (now : PoolState) (t : ℕ) (x : Task) → state_of p ≡ now → slice_get p.board.tasks t ≡ Some x → x.outside ≡ 0
-    → first_refusal (release_checks now t) ≡ Some refusal.WrongLife
-refuses_now p now t x same is none =
-    let e = task_now p now t x same is in release_refused now t (entry_of x) e.0 (e.2 ∙ ap Some none)
-
-pub ready_if : (p : Inside) (t : ℕ) (x : Task) → slice_get p.board.tasks t ≡ Some x → x.stage ≡ stage.Fresh → x.missing ≡ 0
-    → on_board.IsReady x.node t p.board
-ready_if p t x is fresh none = record { task = x; is = is; home = refl; fresh = fresh; lacks_none = none }
-
-pub both_true : (a : Bool) (n : ℕ) → IsTrue (a && (n == 0)) → IsTrue a × (n ≡ 0)
-both_true true n h = (refl, grind (arith, nat_tests, h))
-both_true false n h = cc
-
-pub not_zero : (a : Bool) (n : ℕ) → IsFalse (a && (n == 0)) → IsTrue a → n ≢ 0
-not_zero true n h t z = grind (arith, nat_tests, h, z)
-not_zero false n h t z = cc
-
--- ---- whether a task may get one more input
-pub may_wait_yes : (p : Inside) (now : PoolState) (t : ℕ) (x : Task) → state_of p ≡ now → BoardFacts p.board → slice_get p.board.tasks t ≡ Some x
-    → x.stage ≡ stage.Fresh → IsFalse (p.progress.started && (x.missing == 0)) → MayWait t now
-may_wait_yes p now t x same f is fresh closed =
-    subst (λ (a : PoolState). MayWait t a) same (record {
-      fresh = map_get stage_of p.board.tasks t x is ∙ ap Some fresh;
-      lacking = λ s. lacks_seen p.core.nodes p.progress p.core.steps p.board t
-          (lacks_input t x f is (not_zero p.progress.started x.missing closed s));
-    })
-
-pub may_wait_no : (p : Inside) (now : PoolState) (t : ℕ) (x : Task) → state_of p ≡ now → BoardFacts p.board → slice_get p.board.tasks t ≡ Some x
-    → x.stage ≡ stage.Fresh → IsTrue (p.progress.started && (x.missing == 0)) → MayWait t now → ⊥
-may_wait_no p now t x same f is fresh closed m =
-    let both = both_true p.progress.started x.missing closed in
-    lacks_none p now x.node t same f (ready_if p t x is fresh both.1)
-    (m.lacking (subst (λ (a : PoolState). IsTrue a.started) same both.0))
-
-pub may_wait_fresh : (p : Inside) (now : PoolState) (t : ℕ) (x : Task) → state_of p ≡ now → slice_get p.board.tasks t ≡ Some x
-    → MayWait t now → x.stage ≡ stage.Fresh
-may_wait_fresh p now t x same is m = some_same x.stage stage.Fresh (sym (task_now p now t x same is).1 ∙ m.fresh)
-
 -- ---- what is found
 pub some_coming : (p : Inside) (node : ℕ) (o : Option ℕ) → BoardFacts p.board → IfSome o (λ k. on_board.IsComing node k p.board)
     → IfSome o (λ k. IsComing node k (state_of p))
@@ -721,18 +750,23 @@ pub some_unsent : (p : Inside) (now : PoolState) (t : ℕ) (o : Option ℕ) → 
     → IfSome o (λ k. IsOutput t k now × (slice_get now.ways k ≡ Some way.Out))
 some_unsent p now t None same h = tt
 some_unsent p now t (Some k) same h =
-    subst (λ (a : PoolState). IsOutput t k a × (slice_get a.ways k ≡ Some way.Out)) same (unsent_seen p.core.nodes p.progress p.core.steps p.board t k h)
+    subst (λ (a : PoolState). IsOutput t k a × (slice_get a.ways k ≡ Some way.Out)) same
+    (unsent_seen p.core.nodes p.progress p.core.steps p.board t k h)
 
-pub none_unsent : (p : Inside) (now : PoolState) (t : ℕ) (o : Option ℕ) → state_of p ≡ now → IfNone o ((k : ℕ) → on_board.IsUnsent t k p.board → ⊥)
+pub none_unsent : (p : Inside) (now : PoolState) (t : ℕ) (o : Option ℕ) → state_of p ≡ now
+    → IfNone o ((k : ℕ) → on_board.IsUnsent t k p.board → ⊥)
     → IfNone o (AllPassed t now)
-none_unsent p now t None same h = subst (λ (a : PoolState). AllPassed t a) same (passed_seen p.core.nodes p.progress p.core.steps p.board t h)
+none_unsent p now t None same h = subst (λ (a : PoolState). AllPassed t a) same
+    (passed_seen p.core.nodes p.progress p.core.steps p.board t h)
 none_unsent p now t (Some k) same h = tt
 
 -- an output of a task that is done, at its own node
-pub output_coming : (p : Inside) (now : PoolState) (node t k : ℕ) (e : Edge) → state_of p ≡ now → BoardFacts p.board → slice_get p.board.edges k ≡ Some e
+pub output_coming : (p : Inside) (now : PoolState) (node t k : ℕ) (e : Edge) → state_of p ≡ now → BoardFacts p.board
+    → slice_get p.board.edges k ≡ Some e
     → e.source ≡ t → e.way ≡ way.UnderWay → e.to ≡ node → slice_get now.stages t ≡ Some stage.Done → IsComing node k now
 output_coming p now node t k e same f at source is to done =
-    let run : slice_get (map stage_of p.board.tasks) t ≡ Some stage.Done = subst (λ (a : PoolState). slice_get a.stages t ≡ Some stage.Done) (sym same) done in
+    let run : slice_get (map stage_of p.board.tasks) t ≡ Some stage.Done = subst
+    (λ (a : PoolState). slice_get a.stages t ≡ Some stage.Done) (sym same) done in
     let x = map_got stage_of p.board.tasks t stage.Done run in
     subst (λ (a : PoolState). IsComing node k a) same (coming_seen p.core.nodes p.progress p.core.steps p.board node k f (record {
       may = record {

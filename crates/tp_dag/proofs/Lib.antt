@@ -9,9 +9,12 @@ pub mod Calls
 pub mod Results
 pub mod Finding
 pub mod Steps
+pub mod Worlds
+pub mod Facts
 pub mod Ended
 pub mod Views
 pub mod Going
 pub mod Keeping
+pub mod Refusing
 pub mod Resetting
 pub mod Repeating

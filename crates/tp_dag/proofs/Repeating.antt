@@ -2,11 +2,22 @@
 use Rattle.std.proofs.Common.{arith, ℕ, ◌+◌, ◌≤◌, ◌≡◌, List, [], ◌∷◌, map, Bool, true, false, length, refl, ap, subst, ◌∙◌, sym, IsTrue, IsFalse, Option, Some, None, Result, inl, inr}
 use Rattle.std.specs.Prelude.{slice_get, ◌||◌, IfSome, is_some, OnOk, OnErr, Ok, Err}
 use Rattle.std.proofs.lemmas.List.{length-map}
+use Rattle.std.proofs.lemmas.Bool.Decides.{nat_tests}
 use Rattle.tp_base.specs.declared.limits.TheConstants.{MAX_NODES}
 use Rattle.tp_base.specs.declared.Refusal.{Refusal}
 use Rattle.tp_base.specs.declared.Step.{Step}
-use Rattle.tp_wave.specs.Steps.{any, is_reopen}
+use Rattle.tp_base.specs.declared.Step.TheVariants.{Insert, Ready}
+use Rattle.std.specs.List.{list_all}
+use Rattle.tp_wave.specs.Steps.{any}
+use Rattle.tp_base.specs.declared.Inputs.{Inputs}
+use Rattle.tp_base.specs.declared.NodeId.{NodeId}
+use Rattle.tp_wave.specs.Sums.{is_ended}
+use Rattle.tp_core.specs.declared.life.Life.TheVariants as life
+use Rattle.tp_core.specs.World.{World, life_of}
+use Rattle.tp_core.specs.Pool.{after}
+use Rattle.tp_core.specs.Run.{world}
 use Rattle.tp_core.specs.Accepted.{Accepted, with_step}
+use Rattle.std.proofs.lemmas.Option.{slice_get_within}
 use Rattle.tp_core.specs.Generations.{AreRuns, MayCome}
 use Rattle.tp_core.specs.NeverEarly.{is_insert_of}
 use Rattle.tp_dag.specs.declared.entry.Edge.{Edge}
@@ -20,11 +31,13 @@ use Rattle.tp_dag.specs.declared.entry.Way.TheVariants as way
 use Rattle.tp_dag.specs.declared.pool.Pool.TheInside.{Inside}
 use Rattle.tp_dag.specs.Again.{IsAgain, IsBeginning, is_beginning}
 use Rattle.tp_dag.specs.Board.{BoardState, IsReset, described, not_passed_on}
-use Rattle.tp_dag.specs.Kept.{state_of, seen, entry_of, stage_of, outside_of, input_of, way_of, IsPool}
+use Rattle.tp_dag.specs.Kept.{state_of, seen, entry_of, stage_of, outside_of, input_of, way_of, IsPool, life_for}
 use Rattle.tp_dag.specs.State.{PoolState, IsFinished}
 use Rattle.tp_dag.proofs.Lists.{map_got}
 use Rattle.tp_dag.proofs.Counting.{same_or}
 use Rattle.tp_dag.proofs.Steps.{or_right}
+use Rattle.tp_dag.proofs.Facts.{Leaves}
+use Rattle.tp_dag.proofs.Worlds.{inserted_here, inserted_there, if_none}
 
 or_left : (a b : Bool) → IsTrue a → IsTrue (a || b)
 or_left true b h = refl
@@ -38,40 +51,57 @@ begins_none core none =
       runs = tt;
       first = refl;
       known = λ t l. absurd (omega (arith, l));
+      ready = λ t l. absurd (omega (arith, l));
       only = refl;
     })
 
 pub begins_more : {nodes count : ℕ} {core : Accepted} (s : Step) → IsBeginning nodes count core → MayCome core.nodes core.steps s
-    → IsFalse (is_reopen s) → IsTrue (is_beginning s) → IsBeginning nodes count (with_step core s)
-begins_more {nodes} {count} {core} s b may on is = record {
+    → Leaves s → IsTrue (is_beginning s) → IsBeginning nodes count (with_step core s)
+begins_more {nodes} {count} {core} s b may leaves is = record {
   nodes_are = b.nodes_are;
   runs = (subst (λ (n : ℕ). MayCome n core.steps s) b.nodes_are may, b.runs);
-  first = rw on b.first;
+  first = rw leaves.goes_on b.first;
   known = λ t l. or_right (is_insert_of t s) (any (is_insert_of t) core.steps) (b.known t l);
+  ready = λ t l. leaves.lives t (world nodes core.steps) ∙ b.ready t l;
   only = rw is b.only;
 }
 
-pub inserts_more : {nodes : ℕ} {core : Accepted} (count : ℕ) (s : Step) → IsBeginning nodes count core → MayCome core.nodes core.steps s
-    → IsFalse (is_reopen s) → IsTrue (is_beginning s) → IsTrue (is_insert_of count s) → IsBeginning nodes (count + 1) (with_step core s)
-inserts_more {nodes} {core} count s b may on is of = record {
-  nodes_are = b.nodes_are;
-  runs = (subst (λ (n : ℕ). MayCome n core.steps s) b.nodes_are may, b.runs);
-  first = rw on b.first;
-  known = λ t l. elim (same_or t count) [
-    | inl e ↦ subst (λ (j : ℕ). IsTrue (is_insert_of j s || any (is_insert_of j) core.steps)) (sym e)
-        (or_left (is_insert_of count s) (any (is_insert_of count) core.steps) of)
-    | inr o ↦ or_right (is_insert_of t s) (any (is_insert_of t) core.steps) (b.known t (omega (arith, l, o)))
-  ];
-  only = rw is b.only;
-}
+pub inserts_more : {nodes : ℕ} {core : Accepted} (count : ℕ) (i : NodeId) (k : Inputs) → IsBeginning nodes count core
+    → MayCome core.nodes core.steps (Insert i (record { 0 = count }) k) → k.count ≡ 0
+    → IsBeginning nodes (count + 1) (with_step core (Insert i (record { 0 = count }) k))
+inserts_more {nodes} {core} count i k b may none =
+    let s : Step = Insert i (record { 0 = count }) k in
+    let w : World = world nodes core.steps in
+    let of : IsTrue (is_insert_of count s) = grind (arith, nat_tests) in record {
+      nodes_are = b.nodes_are;
+      runs = (subst (λ (n : ℕ). MayCome n core.steps s) b.nodes_are may, b.runs);
+      first = b.first;
+      known = λ t l. elim (same_or t count) [
+        | inl e ↦ subst (λ (j : ℕ). IsTrue (is_insert_of j s || any (is_insert_of j) core.steps)) (sym e)
+            (or_left (is_insert_of count s) (any (is_insert_of count) core.steps) of)
+        | inr o ↦ or_right (is_insert_of t s) (any (is_insert_of t) core.steps) (b.known t (omega (arith, l, o)))
+      ];
+      ready = λ t l. elim (same_or t count) [
+        | inl e ↦ subst (λ (j : ℕ). life_of j (after s w) ≡ Some life.Ready) (sym e) (inserted_here count i.0 k.count w none)
+        | inr o ↦ inserted_there count t i.0 k.count w o ∙ b.ready t (omega (arith, l, o))
+      ];
+      only = b.only;
+    }
 
 pub readies : {nodes : ℕ} {start old new : Accepted} (s : Step) (r : Result (Unit {0}) Refusal)
     → ((count : ℕ) → IsBeginning nodes count start → IsBeginning nodes count old)
-    → IsFalse (is_reopen s) → IsTrue (is_beginning s) → OnOk r (MayCome old.nodes old.steps s × (new ≡ with_step old s)) → OnErr r (new ≡ old)
+    → Leaves s → IsTrue (is_beginning s) → OnOk r (MayCome old.nodes old.steps s × (new ≡ with_step old s)) → OnErr r (new ≡ old)
     → (count : ℕ) → IsBeginning nodes count start → IsBeginning nodes count new
-readies {nodes} s (Ok u) keeps on is ok err count b =
-    subst (λ (c : Accepted). IsBeginning nodes count c) (sym ok.1) (begins_more s (keeps count b) ok.0 on is)
-readies {nodes} s (Err e) keeps on is ok err count b = subst (λ (c : Accepted). IsBeginning nodes count c) (sym err) (keeps count b)
+readies {nodes} s (Ok u) keeps leaves is ok err count b =
+    subst (λ (c : Accepted). IsBeginning nodes count c) (sym ok.1) (begins_more s (keeps count b) ok.0 leaves is)
+readies {nodes} s (Err e) keeps leaves is ok err count b = subst (λ (c : Accepted). IsBeginning nodes count c) (sym err) (keeps count b)
+
+-- a beginning has no judgement
+begun_not_ended : (n : ℕ) (steps : List Step) → IsTrue (list_all is_beginning steps) → IsFalse (is_ended n steps)
+begun_not_ended n [] h = refl
+begun_not_ended n (Insert i t k ∷ past) h = begun_not_ended n past h
+begun_not_ended n (Ready i ∷ past) h = begun_not_ended n past h
+begun_not_ended n (s ∷ past) h = cc
 
 pub begun : (n m len : ℕ) (start mid core : Accepted) → start ≡ record { nodes = n; steps = [] } → IsBeginning start.nodes m mid → m ≡ len
     → ((count : ℕ) → IsBeginning mid.nodes count mid → IsBeginning mid.nodes count core) → IsBeginning n len core
@@ -121,14 +151,24 @@ kept_again p q k r b nodes ended = record {
       first = b.first;
       known = λ t l. b.known t (let m = length-map q.board.tasks entry_of in let n = reset_long r in omega (arith, l, m, n));
       done = λ t h. let e = all_fresh r t stage.Done h in cc;
+      lives = λ t g h.
+          let e = all_fresh r t g h in
+          let l = slice_get_within (map stage_of q.board.tasks) t g h in
+          let m = length-map q.board.tasks stage_of in
+          let n = reset_long r in
+          subst (λ (v : Stage). life_of t (world q.core.nodes q.core.steps) ≡ Some (life_for v)) (sym e)
+          (subst (λ (v : ℕ). life_of t (world v q.core.steps) ≡ Some life.Ready) (sym b.nodes_are) (b.ready t (omega (arith, l, m, n))));
     };
     arrived = λ n i x h at is. let e = all_out r n way.Received h in cc;
+    under_way = λ n i x y h at from to o. let e = all_out r n way.UnderWay h in cc;
   };
   ended_with = subst (λ (o : Option ℕ). IfSome o (λ w. IsFinished (state_of q))) (sym ended) tt;
+  not_ended = if_none q.ended_with _ (begun_not_ended q.core.nodes q.core.steps b.only);
 }
 
 pub is_again : (p : Inside) (core : Accepted) (board : BoardState) (now : PoolState) → IsPool p → state_of p ≡ now → IsReset p.board board
-    → IsBeginning p.nodes (length p.board.tasks) core → IsAgain now (seen core.nodes (record { started = true; extended = false }) board core.steps)
+    → IsBeginning p.nodes (length p.board.tasks) core → IsAgain now
+    (seen core.nodes (record { started = true; extended = false }) board core.steps)
 is_again p core board now k same r b =
     subst (λ (a : PoolState). IsAgain a (seen core.nodes (record { started = true; extended = false }) board core.steps)) same (record {
       nodes = b.nodes_are ∙ sym k.nodes;

@@ -69,9 +69,17 @@ has_released p now t x same is some =
 -- ---- leave
 pub has_left : (p : Inside) (now : BoardState) (k : ℕ) (e : Edge) (x : Task) → board_of p ≡ now → slice_get p.edges.items k ≡ Some e
     → e.way ≡ way.Out → slice_get p.tasks.items e.source ≡ Some x → x.stage ≡ stage.Running
-    → HasLeft k now (record (board_of p) { tasks = set p.tasks.items e.source (owing_less x); edges = set p.edges.items k (moved e way.UnderWay) })
+    → HasLeft k now (record (board_of p) {
+      tasks = set p.tasks.items e.source (owing_less x);
+      edges = set p.edges.items k
+          (moved e way.UnderWay);
+    })
 has_left p now k e x same at out is runs =
-    subst (λ (a : BoardState). HasLeft k a (record (board_of p) { tasks = set p.tasks.items e.source (owing_less x); edges = set p.edges.items k (moved e way.UnderWay) }))
+    subst (λ (a : BoardState). HasLeft k a (record (board_of p) {
+      tasks = set p.tasks.items e.source (owing_less x);
+      edges = set
+          p.edges.items k (moved e way.UnderWay);
+    }))
     same (record { may = record { edge = e; is = at; out = out; source = x; from = is; running = runs }; becomes = refl })
 
 -- ---- arrive

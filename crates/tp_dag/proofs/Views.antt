@@ -26,9 +26,21 @@ some_same x y e = cc
 -- ---- equal parts
 abbrev made : ℕ → Progress → List Entry → List Stage → List Input → List Way → List ℕ → List Step → PoolState
 made n s ts ss us ws os st =
-    record { nodes = n; started = s.started; extended = s.extended; tasks = ts; stages = ss; inputs = us; ways = ws; outside = os; steps = st }
+    record {
+      nodes = n;
+      started = s.started;
+      extended = s.extended;
+      tasks = ts;
+      stages = ss;
+      inputs = us;
+      ways = ws;
+      outside = os;
+      steps =
+          st;
+    }
 
-same_state : (n : ℕ) (s : Progress) (st : List Step) (ts ts' : List Entry) (ss ss' : List Stage) (us us' : List Input) (ws ws' : List Way) (os os' : List ℕ)
+same_state : (n : ℕ) (s : Progress) (st : List Step) (ts ts' : List Entry) (ss ss' : List Stage) (us us' : List Input) (ws ws' : List Way)
+    (os os' : List ℕ)
     → ts ≡ ts' → ss ≡ ss' → us ≡ us' → ws ≡ ws' → os ≡ os' → made n s ts ss us ws os st ≡ made n s ts' ss' us' ws' os' st
 same_state n s st ts ts' ss ss' us us' ws ws' os os' a b c d e =
     ap (λ (x : List Entry). made n s x ss us ws os st) a
@@ -55,7 +67,8 @@ seen_outside n s st b t m o x is =
     (map_write outside_of b.tasks t (record x { missing = m; outside = o }))
 
 -- an edge goes on; a count of a task is another
-pub seen_way : (n : ℕ) (s : Progress) (st : List Step) (b : BoardState) (t k : ℕ) (x y : Task) (e : Edge) (w : Way) → slice_get b.tasks t ≡ Some x
+pub seen_way : (n : ℕ) (s : Progress) (st : List Step) (b : BoardState) (t k : ℕ) (x y : Task) (e : Edge) (w : Way)
+    → slice_get b.tasks t ≡ Some x
     → entry_of y ≡ entry_of x → y.stage ≡ x.stage → y.outside ≡ x.outside → slice_get b.edges k ≡ Some e
     → seen n s (record b { tasks = set b.tasks t y; edges = set b.edges k (record e { way = w }) }) st
     ≡ record (seen n s b st) { ways = set (map way_of b.edges) k w }
@@ -71,14 +84,16 @@ pub seen_task : (n : ℕ) (s : Progress) (st : List Step) (b : BoardState) (node
       outside = map outside_of b.tasks ++ (if held then 1 else 0) ∷ [];
     }
 seen_task n s st b node class held =
-    same_state n s st _ _ _ _ _ _ _ _ _ _ (map_push entry_of b.tasks _) (map_push stage_of b.tasks _) refl refl (map_push outside_of b.tasks _)
+    same_state n s st _ _ _ _ _ _ _ _ _ _ (map_push entry_of b.tasks _) (map_push stage_of b.tasks _) refl refl
+    (map_push outside_of b.tasks _)
 
 twice : {A B : Type 0} (f : A → B) (xs : List A) (i k : ℕ) (x y u v : A) → slice_get xs i ≡ Some x → slice_get xs k ≡ Some u → k ≢ i
     → f y ≡ f x → f v ≡ f u → map f (set (set xs i y) k v) ≡ map f xs
 twice f xs i k x y u v is at apart one two =
     map_same f (set xs i y) k u v (set_there xs i k y apart ∙ at) two ∙ map_same f xs i x y is one
 
-pub seen_edge : (n : ℕ) (s : Progress) (st : List Step) (b : BoardState) (source target : ℕ) (x u : Task) → slice_get b.tasks target ≡ Some x
+pub seen_edge : (n : ℕ) (s : Progress) (st : List Step) (b : BoardState) (source target : ℕ) (x u : Task)
+    → slice_get b.tasks target ≡ Some x
     → slice_get b.tasks source ≡ Some u → source < target
     → seen n s (with_edge source target x u b) st ≡ record (seen n s b st) {
       inputs = map input_of b.edges ++ record { source = source; target = target } ∷ [];

@@ -4,6 +4,9 @@ use Rattle.std.specs.List.{list_all}
 use Rattle.tp_base.specs.declared.Step.{Step}
 use Rattle.tp_base.specs.declared.Step.TheVariants.{Insert, Ready}
 use Rattle.tp_wave.specs.Steps.{any, is_reopen}
+use Rattle.tp_core.specs.declared.life.Life.TheVariants as life
+use Rattle.tp_core.specs.World.{life_of}
+use Rattle.tp_core.specs.Run.{world}
 use Rattle.tp_core.specs.Accepted.{Accepted}
 use Rattle.tp_core.specs.Generations.{AreRuns}
 use Rattle.tp_core.specs.NeverEarly.{is_insert_of}
@@ -25,10 +28,11 @@ pub record IsBeginning (nodes count : ℕ) (core : Accepted) : Type 0 where
   pub runs : AreRuns nodes core.steps
   pub first : IsFalse (any is_reopen core.steps)
   pub known : (t : ℕ) → t < count → IsTrue (any (is_insert_of t) core.steps)
+  pub ready : (t : ℕ) → t < count → life_of t (world nodes core.steps) ≡ Some life.Ready
   pub only : IsTrue (list_all is_beginning core.steps)
 
--- `again`: the graph is as it was described, and as if it was started just now: no task was dispatched, none waits for an input from outside,
--- no input was passed on, and the steps are those of the new beginning alone.
+-- `again`: the graph is as it was described, and as if it was started just now: no task was dispatched, none waits for an input from
+-- outside, no input was passed on, and the steps are those of the new beginning alone.
 pub record IsAgain (old new : PoolState) : Type 0 where
   pub nodes : new.nodes ≡ old.nodes
   pub started : IsTrue new.started

@@ -76,7 +76,8 @@ with_task node class held a = record a { tasks = a.tasks ++ new_task node class 
 -- the board with an edge of which the target lacks one input more, and the source has one output more to pass on
 abbrev pub with_edge : ℕ → ℕ → Task → Task → BoardState → BoardState
 with_edge source target task from a = record a {
-  tasks = slice_set (slice_set a.tasks target (record task { missing = task.missing + 1 })) source (record from { unsent = from.unsent + 1 });
+  tasks = slice_set (slice_set a.tasks target (record task { missing = task.missing + 1 })) source
+      (record from { unsent = from.unsent + 1 });
   edges = a.edges ++ record { source = source; target = target; to = task.node; way = way.Out } ∷ [];
 }
 

@@ -160,6 +160,12 @@ abbrev pub release_checks : PoolState → ℕ → List Check
 release_checks a t =
     (not (is_some (slice_get a.tasks t)), refusal.NoTask) ∷ (not (awaits 1 (slice_get a.outside t)), refusal.WrongLife) ∷ []
 
+-- whether a refusal is for lack of memory, or of room for steps
+abbrev pub is_of_room : Refusal → Bool
+is_of_room refusal.NoMemory = true
+is_of_room (refusal.HistoryFull n) = true
+is_of_room _ = false
+
 -- ---- what each call does
 pub record SameGraph (old new : PoolState) : Type 0 where
   pub nodes : new.nodes ≡ old.nodes
@@ -190,7 +196,8 @@ AreSent t old new = (k : ℕ) → (slice_get new.ways k ≡ slice_get old.ways k
 abbrev pub extends : PoolState → Bool
 extends a = a.extended || a.started
 
--- `task`: its number is how many tasks there were, and it has no input so far. After `start` it is held: it waits for one input from outside.
+-- `task`: its number is how many tasks there were, and it has no input so far. After `start` it is held: it waits for one input from
+-- outside.
 pub record IsTaskAdded (node class t : ℕ) (old new : PoolState) : Type 0 where
   pub nodes : new.nodes ≡ old.nodes
   pub started : new.started ≡ old.started

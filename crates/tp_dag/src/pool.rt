@@ -5,14 +5,14 @@ ghost use Rattle.tp_base.specs.Checks.{first_refusal};
 ghost use Rattle.tp_wave.specs.Steps.{count};
 ghost use Rattle.tp_core.specs.NeverEarly.{is_begin_of};
 ghost use Rattle.tp_core.specs.Generations.{AreRuns, MayCome};
-ghost use Rattle.tp_core.specs.Accepted.{with_step};
+ghost use Rattle.tp_core.specs.Accepted.{IsRefusedFor, asks_memory, refusal, with_step};
 ghost use Rattle.tp_dag.specs.declared.entry.Stage.TheVariants as stage;
 ghost use Rattle.tp_dag.specs.declared.entry.Way.TheVariants as way;
-ghost use Rattle.tp_dag.specs.State.{AddsOnly, IsStarted, IsOutsideAdded, IsReleased, IsDispatched, IsFinished, IsCompleted, SameGraph, WasReceived};
+ghost use Rattle.tp_dag.specs.State.{AddsOnly, IsStarted, IsOutsideAdded, IsReleased, IsDispatched, IsFinished, IsCompleted, SameGraph};
 ghost use Rattle.tp_dag.specs.State.{IsIdle, IsComing, IsOutput, LacksInput, HasNoneReady, AreDelivered, AreSent};
 ghost use Rattle.tp_dag.specs.State.{start_checks, outside_checks, release_checks, next_checks, done_checks, dispatched};
-ghost use Rattle.tp_dag.specs.State.{is_delivery, is_sending, is_readying};
-ghost use Rattle.tp_dag.specs.Kept.{IsConsistent, IsFrom, IsHome, AllPassed, IsMarked, SendsOne};
+ghost use Rattle.tp_dag.specs.State.{is_delivery, is_sending, is_readying, is_of_room};
+ghost use Rattle.tp_dag.specs.Kept.{IsConsistent, IsFrom, IsFromAfar, IsHome, AllPassed, IsMarked, SendsOne};
 
 use crate::board::Board;
 use crate::choice::{
@@ -73,6 +73,7 @@ impl Model for Pool {
 fn take_step(core: &mut Core, step: Step) -> Result<(), Refusal>
     ensures ok { OnOk result (MayCome core.old.nodes core.old.steps step × (core.new ≡ with_step core.old step)) }
     ensures err { OnErr result (core.new ≡ core.old) }
+    ensures exact { IfErr result (λ r. IsRefusedFor (refusal core.old step) (asks_memory core.old step) r) }
 {
     core.step(step)?;
     Ok(())
@@ -80,7 +81,7 @@ fn take_step(core: &mut Core, step: Step) -> Result<(), Refusal>
 
 /// Sends an input as a message, if it is one of another node.
 fn send_message(core: &mut Core, from: u32, to: u32, input: u32) -> Result<(), Refusal>
-    ensures ok { OnOk result (SendsOne core.old core.new) }
+    ensures ok { OnOk result (SendsOne from to input core.old core.new) }
     ensures err { OnErr result (core.new ≡ core.old) }
 {
     if from == to {
@@ -244,9 +245,6 @@ impl Pool {
         ensures adds { AddsOnly is_readying self.old self.new }
         ensures ways { self.new.ways ≡ self.old.ways }
     {
-        if self.ended_with.is_some() {
-            return Err(Refusal::Ended);
-        }
         take_step(&mut self.core, Step::Ready(NodeId(node)))
     }
 
@@ -264,8 +262,8 @@ impl Pool {
     /// What a thread of a node is to do next: it receives the messages that are under way to the node, and dispatches a task of the node
     /// whose inputs are all there.
     ///
-    /// Refused: `WrongLife` if the pool was not started, and `NoNode`, and nothing changes; `NoMemory`, and the graph is as before: `next`
-    /// may be called again.
+    /// Refused: `WrongLife` if the pool was not started, and `NoNode`, and nothing changes; else only for lack of room, by `NoMemory` or by
+    /// `HistoryFull` if there are 1,048,576 steps, and the graph is as before: `next` may be called again.
     pub fn next(&mut self, node: u32) -> Result<Next, Refusal>
         ensures checks { IfSome (first_refusal (next_checks self.old node)) (λ r. (result ≡ Err r) × (self.new ≡ self.old)) }
         ensures run { IfOk result (λ next. (t : ℕ) → next ≡ Next.Run t → IsDispatched node t self.old self.new) }
@@ -273,15 +271,13 @@ impl Pool {
         ensures wait { result ≡ Ok Next.Wait → IsIdle node self.new }
         ensures waiting { result ≡ Ok Next.Wait → AddsOnly is_delivery self.old self.new }
         ensures err { OnErr result (AddsOnly is_delivery self.old self.new) }
+        ensures refused { IfErr result (λ r. (first_refusal (next_checks self.old node) ≡ Some r) ⊎ IsTrue (is_of_room r)) }
         ensures graph { SameGraph self.old self.new }
         ensures ways { AreDelivered node self.old self.new }
         ensures begun { (t : ℕ) → count (is_begin_of t) self.new.steps ≡ count (is_begin_of t) self.old.steps + dispatched result t }
     {
         if let Some(refusal) = self.next_refusal(node) {
             return Err(refusal);
-        }
-        if let Some(wave) = self.ended_with {
-            return Ok(Next::Finished(wave));
         }
         self.receive_all(node)?;
         match self.dispatch(node)? {
@@ -292,7 +288,8 @@ impl Pool {
 
     // the first check of `next` that holds
     fn next_refusal(&self, node: u32) -> Option<Refusal>
-        ensures { result ≡ first_refusal (next_checks self.now node) }
+        ensures refusal { result ≡ first_refusal (next_checks self.now node) }
+        ensures within { IfNone result (node < self.now.nodes) }
     {
         if !self.progress.started {
             return Some(Refusal::WrongLife);
@@ -342,8 +339,12 @@ impl Pool {
         ensures err { OnErr result (self.new ≡ self.old) }
         ensures graph { SameGraph self.old self.new }
         ensures ways { self.new.ways ≡ self.old.ways }
+        ensures room { IfErr result (λ r. IsTrue (is_of_room r)) }
         ensures begun { (t : ℕ) → count (is_begin_of t) self.new.steps ≡ count (is_begin_of t) self.old.steps }
     {
+        if let Some(wave) = self.ended_with {
+            return Ok(Next::Finished(wave));
+        }
         if !self.core.quiet() {
             return Ok(Next::Wait);
         }
@@ -357,11 +358,9 @@ impl Pool {
         ensures ok { IfOk result (λ found. (t : ℕ) → found ≡ Some t → IsDispatched node t self.old self.new) }
         ensures none { result ≡ Ok None → (self.new ≡ self.old) × HasNoneReady node self.new }
         ensures err { OnErr result (self.new ≡ self.old) }
+        ensures room { IfErr result (λ r. IsTrue (is_of_room r)) }
         ensures ways { self.new.ways ≡ self.old.ways }
     {
-        if self.ended_with.is_some() {
-            return Err(Refusal::Ended);
-        }
         self.board.known();
         let Some(task) = find_ready(&self.board, &mut self.hints, node) else {
             return Ok(None);
@@ -377,9 +376,11 @@ impl Pool {
 
     // receives the inputs that are under way to a node
     fn receive_all(&mut self, node: u32) -> Result<(), Refusal>
+        requires { node < self.old.nodes }
         ensures adds { AddsOnly is_delivery self.old self.new }
         ensures ways { AreDelivered node self.old self.new }
         ensures ok { OnOk result ((k : ℕ) → IsComing node k self.new → ⊥) }
+        ensures room { IfErr result (λ r. IsTrue (is_of_room r)) }
     {
         self.end_open_message(node)?;
         while let Some(input) = self.find_message(node) {
@@ -390,8 +391,10 @@ impl Pool {
 
     // ends a message for which an earlier call found no memory
     fn end_open_message(&mut self, node: u32) -> Result<(), Refusal>
+        requires { node < self.old.nodes }
         ensures adds { AddsOnly is_delivery self.old self.new }
         ensures ways { self.new.ways ≡ self.old.ways }
+        ensures room { IfErr result (λ r. IsTrue (is_of_room r)) }
     {
         if let Some(input) = self.hints.open_message(node) {
             self.end_message(node, input)?;
@@ -411,28 +414,32 @@ impl Pool {
 
     // receives an input
     fn deliver(&mut self, node: u32, input: u32) -> Result<(), Refusal>
-        requires { IsComing node input self.old }
+        requires coming { IsComing node input self.old }
+        requires within { node < self.old.nodes }
         ensures adds { AddsOnly is_delivery self.old self.new }
         ensures ways { AreDelivered node self.old self.new }
         ensures ok { OnOk result (self.new.ways ≡ slice_set self.old.ways input way.Received) }
+        ensures room { IfErr result (λ r. IsTrue (is_of_room r)) }
     {
         if self.is_from(node, input) {
             self.arrive(node, input);
             return Ok(());
         }
         self.receive(node, input)?;
-        self.arrive(node, input);
         self.end_message(node, input)
     }
 
+    // receives an input from another node, as a message
     fn receive(&mut self, node: u32, input: u32) -> Result<(), Refusal>
+        requires coming { IsComing node input self.old }
+        requires afar { IsFromAfar node input self.old }
+        requires within { node < self.old.nodes }
         ensures adds { AddsOnly is_delivery self.old self.new }
-        ensures ways { self.new.ways ≡ self.old.ways }
-        ensures ok { OnOk result (WasReceived node input self.new.steps) }
+        ensures ok { OnOk result (self.new.ways ≡ slice_set self.old.ways input way.Received) }
+        ensures err { OnErr result (self.new ≡ self.old) }
+        ensures room { IfErr result (λ r. IsTrue (is_of_room r)) }
     {
-        if self.ended_with.is_some() {
-            return Err(Refusal::Ended);
-        }
+        self.board.known();
         if let Err(refusal) = take_step(
             &mut self.core,
             Step::Recv(NodeId(node), MessageId(input), Generation(1)),
@@ -441,29 +448,36 @@ impl Pool {
             return Err(refusal);
         }
         self.hints.open(node, input);
+        let last = self.board.arrive(input);
+        push_woken(&self.board, &mut self.hints, input, last);
         Ok(())
     }
 
+    // ends a message, if it is open
     fn end_message(&mut self, node: u32, input: u32) -> Result<(), Refusal>
+        requires { node < self.old.nodes }
         ensures adds { AddsOnly is_delivery self.old self.new }
         ensures ways { self.new.ways ≡ self.old.ways }
+        ensures room { IfErr result (λ r. IsTrue (is_of_room r)) }
     {
-        if self.ended_with.is_some() {
-            return Err(Refusal::Ended);
-        }
-        take_step(
+        if let Err(refusal) = take_step(
             &mut self.core,
             Step::MessageEnd(NodeId(node), MessageId(input), Generation(1)),
-        )?;
+        ) {
+            match refusal {
+                Refusal::NoAction => {}
+                _ => return Err(refusal),
+            }
+        }
         self.hints.close(node);
         Ok(())
     }
 
-    // marks an input of a task at this node as received
+    // marks an input of a task at this node as received, if it is from a task at this node
     #[inline(always)]
     fn arrive(&mut self, node: u32, input: u32)
         requires coming { IsComing node input self.old }
-        requires there { IsFrom node input self.old ⊎ WasReceived node input self.old.steps }
+        requires there { IsFrom node input self.old }
         ensures { self.new ≡ record self.old { ways = slice_set self.old.ways input way.Received } }
     {
         self.board.known();
@@ -473,7 +487,8 @@ impl Pool {
 
     // whether the source of an input is at home at this node
     fn is_from(&self, node: u32, input: u32) -> bool
-        ensures { IsTrue result → IsFrom node input self.now }
+        ensures yes { IsTrue result → IsFrom node input self.now }
+        ensures no { IsFalse result → IsFromAfar node input self.now }
     {
         let Some(edge) = self.board.edge(input) else {
             return false;
@@ -525,7 +540,8 @@ impl Pool {
 
     // passes on all inputs that come from a running task; those of other nodes are sent
     fn send_all(&mut self, node: u32, task: u32) -> Result<(), Refusal>
-        requires { slice_get self.old.stages task ≡ Some stage.Running }
+        requires running { slice_get self.old.stages task ≡ Some stage.Running }
+        requires home { IsHome node task self.old }
         ensures adds { AddsOnly is_sending self.old self.new }
         ensures ways { AreSent task self.old self.new }
         ensures ok { OnOk result (AllPassed task self.new) }
@@ -539,7 +555,8 @@ impl Pool {
 
     // the same, of the inputs that the hints know
     fn send_hinted(&mut self, node: u32, task: u32) -> Result<(), Refusal>
-        requires { slice_get self.old.stages task ≡ Some stage.Running }
+        requires running { slice_get self.old.stages task ≡ Some stage.Running }
+        requires home { IsHome node task self.old }
         ensures adds { AddsOnly is_sending self.old self.new }
         ensures ways { AreSent task self.old self.new }
     {
@@ -568,15 +585,14 @@ impl Pool {
     // passes an input on that comes from a running task, if it was not
     #[inline(always)]
     fn send(&mut self, node: u32, task: u32, input: u32) -> Result<(), Refusal>
-        requires { slice_get self.old.stages task ≡ Some stage.Running }
+        requires running { slice_get self.old.stages task ≡ Some stage.Running }
+        requires home { IsHome node task self.old }
         ensures adds { AddsOnly is_sending self.old self.new }
         ensures ways { AreSent task self.old self.new }
         ensures ok { OnOk result (IsOutput task input self.old → slice_get self.old.ways input ≡ Some way.Out
             → self.new.ways ≡ slice_set self.old.ways input way.UnderWay) }
     {
-        if self.ended_with.is_some() {
-            return Err(Refusal::Ended);
-        }
+        self.board.known();
         let Some(edge) = output_of(&self.board, task, input, Way::Out) else {
             return Ok(());
         };
@@ -593,9 +609,6 @@ impl Pool {
         ensures ways { self.new.ways ≡ self.old.ways }
         ensures err { OnErr result (self.new ≡ self.old) }
     {
-        if self.ended_with.is_some() {
-            return Err(Refusal::Ended);
-        }
         take_step(&mut self.core, Step::Done(TaskId(task)))?;
         let finished = self.board.finish(task);
         prove!(finished);

@@ -23,7 +23,8 @@ pub take_if-requires-clause-some : goal.take_if-requires-clause-some
 take_if-requires-clause-some c = λ h.
     let x : Task = c.index-task.result.now in
     let newest = subst (λ (a : BoardState). c.args.target + 1 ≡ length a.tasks) (sym c.self.view_is) c.requires.newest in
-    let fresh = subst (λ (a : BoardState). (y : Task) → slice_get a.tasks c.args.target ≡ Some y → y.stage ≡ stage.Fresh) (sym c.self.view_is) c.requires.fresh in
+    let fresh = subst (λ (a : BoardState). (y : Task) → slice_get a.tasks c.args.target ≡ Some y → y.stage ≡ stage.Fresh)
+    (sym c.self.view_is) c.requires.fresh in
     let is = at_index c.self.inside.tasks.items c.args.target x (omega (arith, newest)) c.index-task.ensures in
     outside_some c.args.target x c.self.invariant.ready is (home_few c.args.target x c.self.invariant.facts is) (fresh x is) h
 
@@ -48,8 +49,10 @@ invariant_of-self c =
     let y : Task = c.index-from.result.now in
     let newest = subst (λ (a : BoardState). c.args.target + 1 ≡ length a.tasks) (sym c.self.view_is) c.requires.newest in
     let few = subst (λ (a : BoardState). length a.edges < MAX_STEPS) (sym c.self.view_is) c.requires.few in
-    let fresh = subst (λ (a : BoardState). (z : Task) → slice_get a.tasks c.args.target ≡ Some z → z.stage ≡ stage.Fresh) (sym c.self.view_is) c.requires.fresh in
-    let waits = subst (λ (a : BoardState). (z : Task) → slice_get a.tasks c.args.source ≡ Some z → z.stage ≡ stage.Done → ⊥) (sym c.self.view_is) c.requires.not_done in
+    let fresh = subst (λ (a : BoardState). (z : Task) → slice_get a.tasks c.args.target ≡ Some z → z.stage ≡ stage.Fresh)
+    (sym c.self.view_is) c.requires.fresh in
+    let waits = subst (λ (a : BoardState). (z : Task) → slice_get a.tasks c.args.source ≡ Some z → z.stage ≡ stage.Done → ⊥)
+    (sym c.self.view_is) c.requires.not_done in
     let before = c.requires.before in
     let is = at_index c.self.inside.tasks.items c.args.target x (omega (arith, newest)) c.index-task.ensures in
     let of = at_index c.self.inside.tasks.items c.args.source y (omega (arith, newest, before)) c.index-from.ensures in
@@ -57,7 +60,8 @@ invariant_of-self c =
     record {
       facts = same_facts refl refl c.push_reserved.ensures.items
           (facts_open c.args.source c.args.target x y f few newest before is of (ap is_fresh (fresh x is)) (may_wait y.stage (waits y of)));
-      ready = rw c.take_if.ensures (open_ready c.args.source c.args.target x y c.self.invariant.ready before is of (home_few c.args.target x f is) (fresh x is));
+      ready = rw c.take_if.ensures (open_ready c.args.source c.args.target x y c.self.invariant.ready before is of
+          (home_few c.args.target x f is) (fresh x is));
       coming = rw c.push_reserved.ensures.items (open_coming c.args.source c.args.target x c.self.invariant.coming);
     }
 

@@ -30,6 +30,7 @@ invariant_of-self c =
     c.push_reserved.ensures.items c.one_if-awaited.ensures in
     record {
       facts = same_facts refl items refl (added_task_facts c.args.node c.args.class c.args.is_held f few home);
-      ready = rw (items, c.add_if.ensures) (added_task_ready c.args.node c.args.class c.args.is_held c.self.invariant.ready (omega (arith, home, n)));
+      ready = rw (items, c.add_if.ensures) (added_task_ready c.args.node c.args.class c.args.is_held c.self.invariant.ready
+          (omega (arith, home, n)));
       coming = c.self.invariant.coming;
     }

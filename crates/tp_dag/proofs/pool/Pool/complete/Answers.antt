@@ -1,4 +1,4 @@
-use Rattle.std.proofs.Common.{refl, sym, ◌∙◌}
+use Rattle.std.proofs.Common.{refl}
 use Rattle.tp_dag.proofs.Keeping.{finishes_surely, kept_complete, is_completed}
 use Rattle.tp_dag.proofs.pool.Pool.complete.Goals as goal
 
@@ -10,11 +10,12 @@ prove-unreachable-requires c =
 pub invariant_of-self-2 : goal.invariant_of-self-2
 invariant_of-self-2 c =
     let ok = c.in_ok-take_step.ensures.ok in
-    kept_complete c.self.inside _ c.args.task c.self.invariant (sym c.is_some.ensures ∙ c.if-is_some.false) ok.0 ok.1
+    kept_complete c.self.inside _ c.args.task c.self.invariant ok.0 ok.1
     (c.finish-finished.ensures.ok c.if-prove.false) refl refl refl
 
 pub returns-clause-ok : goal.returns-clause-ok
 returns-clause-ok c =
     let ok = c.in_ok-take_step.ensures.ok in
-    is_completed c.self.inside (record c.self.inside { core = c.take_step.new.core; board = c.finish-finished.new.self }) c.args.self.now c.args.task
+    is_completed c.self.inside (record c.self.inside { core = c.take_step.new.core; board = c.finish-finished.new.self }) c.args.self.now
+    c.args.task
     c.self.view_is c.requires.passed ok.1 (c.finish-finished.ensures.ok c.if-prove.false) refl

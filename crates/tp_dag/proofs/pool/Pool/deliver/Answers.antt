@@ -1,19 +1,20 @@
-use Rattle.std.proofs.Common.{ap, ◌∙◌}
-use Rattle.std.proofs.Math.ListN.{set}
-use Rattle.tp_dag.specs.declared.entry.Way.{Way}
-use Rattle.tp_dag.specs.declared.entry.Way.TheVariants as way
+use Rattle.std.proofs.Common.{ap, arith, ◌∙◌}
 use Rattle.tp_dag.specs.State.{PoolState}
 use Rattle.tp_dag.proofs.Steps.{adds_trans}
-use Rattle.tp_dag.proofs.Going.{adds_ways, delivered_one}
+use Rattle.tp_dag.proofs.Going.{delivered_one, delivered_same}
 use Rattle.tp_dag.proofs.pool.Pool.deliver.Goals as goal
-use Rattle.std.proofs.Common.{List}
+
+pub returns-in_err-receive-clause-ways : goal.returns-in_err-receive-clause-ways
+returns-in_err-receive-clause-ways c =
+    delivered_same c.args.node c.args.self.now c.receive.new.self (ap (λ (a : PoolState). a.ways) c.in_err-receive.ensures.err)
+
+pub end_message-requires : goal.end_message-requires
+end_message-requires c = let n = c.receive.ensures.adds.graph.nodes in let w = c.requires.within in omega (arith, n, w)
 
 pub returns-clause-adds : goal.returns-clause-adds
-returns-clause-adds c =
-    adds_trans (adds_ways c.args.self.now c.receive.new.self c.arrive-2.new.self _ c.receive.ensures.adds c.arrive-2.ensures) c.end_message.ensures.adds
+returns-clause-adds c = adds_trans c.receive.ensures.adds c.end_message.ensures.adds
 
 pub returns-clause-ways : goal.returns-clause-ways
 returns-clause-ways c =
-    delivered_one c.args.node c.args.input c.args.self.now c.end_message.new.self c.requires
-    (c.end_message.ensures.ways ∙ (ap (λ (a : PoolState). a.ways) c.arrive-2.ensures
-    ∙ ap (λ (ws : List Way). set ws c.args.input way.Received) c.receive.ensures.ways))
+    delivered_one c.args.node c.args.input c.args.self.now c.end_message.new.self c.requires.coming
+    (c.end_message.ensures.ways ∙ c.in_ok-receive.ensures.ok)

@@ -1,24 +1,27 @@
-use Rattle.std.proofs.Common.{ℕ, refl, sym, subst, ◌∙◌}
+use Rattle.std.proofs.Common.{ℕ, refl, subst}
 use Rattle.tp_dag.proofs.Views.{some_same, none_ready_seen}
 use Rattle.tp_dag.specs.State.{IsDispatched}
 use Rattle.tp_dag.specs.Kept.{state_of}
 use Rattle.tp_dag.proofs.Keeping.{begins_surely, kept_dispatch, is_dispatched}
+use Rattle.tp_dag.proofs.Refusing.{begin_refused}
 use Rattle.tp_dag.proofs.pool.Pool.dispatch.Goals as goal
 
 pub returns-in_default-clause-none : goal.returns-in_default-clause-none
 returns-in_default-clause-none c = λ e. (
   c.self.view_is,
-  none_ready_seen c.self.inside.core.nodes c.self.inside.progress c.self.inside.core.steps c.self.inside.board c.args.node c.in_default.ensures.none,
+  none_ready_seen c.self.inside.core.nodes c.self.inside.progress c.self.inside.core.steps c.self.inside.board c.args.node
+      c.in_default.ensures.none,
 )
 
 pub prove-unreachable-requires : goal.prove-unreachable-requires
 prove-unreachable-requires c =
-    begins_surely c.self.inside c.args.node c.in-Some.task c.begin-begun.result c.known.ensures c.in-Some.ensures.some c.begin-begun.ensures.exact c.if-prove.true
+    begins_surely c.self.inside c.args.node c.in-Some.task c.begin-begun.result c.known.ensures c.in-Some.ensures.some
+    c.begin-begun.ensures.exact c.if-prove.true
 
 pub invariant_of-self-2 : goal.invariant_of-self-2
 invariant_of-self-2 c =
     let ok = c.in_default-take_step.ensures.ok in
-    kept_dispatch c.self.inside _ c.in-Some.task c.self.invariant (sym c.is_some.ensures ∙ c.if-is_some.false) ok.0 ok.1
+    kept_dispatch c.self.inside _ c.in-Some.task c.self.invariant ok.0 ok.1
     (c.begin-begun.ensures.ok c.if-prove.false) refl refl refl
 
 pub returns-clause-ok : goal.returns-clause-ok
@@ -35,3 +38,7 @@ returns-clause-ok c = λ t e.
       hints = c.find_ready.new.hints;
     }) c.args.self.now c.args.node c.in-Some.task c.self.invariant c.self.view_is c.in-Some.ensures.some ok.0 ok.1
     (c.begin-begun.ensures.ok c.if-prove.false) refl)
+
+pub returns-in-Err-clause-room : goal.returns-in-Err-clause-room
+returns-in-Err-clause-room c =
+    begin_refused c.self.inside c.args.node c.in-Some.task c.in-Err.refusal c.self.invariant c.in-Some.ensures.some c.in-Err.ensures.exact

@@ -1,22 +1,26 @@
 use Rattle.std.proofs.Common.{refl, sym, subst, ◌∙◌, inl, inr, IsTrue}
 use Rattle.tp_dag.specs.State.{PoolState}
 use Rattle.tp_dag.proofs.Reading.{lacks_input}
-use Rattle.tp_dag.proofs.Keeping.{kept_outside, outside_added, full_now, passes_now, refused_by, not_refused, both_true, not_zero, ready_if, lacks_none}
+use Rattle.tp_dag.proofs.Keeping.{kept_outside, outside_added}
+use Rattle.tp_dag.proofs.Refusing.{full_now, passes_now, refused_by, not_refused, both_true, not_zero, ready_if, lacks_none}
 use Rattle.tp_dag.proofs.pool.Pool.outside.Goals as goal
 
 pub returns-then-found-ge-MAX_STEPS-clause-checks : goal.returns-then-found-ge-MAX_STEPS-clause-checks
 returns-then-found-ge-MAX_STEPS-clause-checks c =
     refused_by _ _
-    (full_now c.self.inside c.args.self.now c.args.task c.in-Some.found c.self.view_is (sym c.task.ensures ∙ c.in-Some.is) c.in-Fresh.is c.if-found-ge-MAX_STEPS.true)
+    (full_now c.self.inside c.args.self.now c.args.task c.in-Some.found c.self.view_is (sym c.task.ensures ∙ c.in-Some.is) c.in-Fresh.is
+    c.if-found-ge-MAX_STEPS.true)
 
 pub returns-then-found-ge-MAX_STEPS-clause-exact : goal.returns-then-found-ge-MAX_STEPS-clause-exact
 returns-then-found-ge-MAX_STEPS-clause-exact c =
-    inl (full_now c.self.inside c.args.self.now c.args.task c.in-Some.found c.self.view_is (sym c.task.ensures ∙ c.in-Some.is) c.in-Fresh.is c.if-found-ge-MAX_STEPS.true)
+    inl (full_now c.self.inside c.args.self.now c.args.task c.in-Some.found c.self.view_is (sym c.task.ensures ∙ c.in-Some.is)
+    c.in-Fresh.is c.if-found-ge-MAX_STEPS.true)
 
 pub returns-then-may_begin-clause-checks : goal.returns-then-may_begin-clause-checks
 returns-then-may_begin-clause-checks c =
     not_refused _ _
-    (passes_now c.self.inside c.args.self.now c.args.task c.in-Some.found c.self.view_is (sym c.task.ensures ∙ c.in-Some.is) c.in-Fresh.is c.if-found-ge-MAX_STEPS.false)
+    (passes_now c.self.inside c.args.self.now c.args.task c.in-Some.found c.self.view_is (sym c.task.ensures ∙ c.in-Some.is) c.in-Fresh.is
+    c.if-found-ge-MAX_STEPS.false)
 
 pub returns-then-may_begin-clause-exact : goal.returns-then-may_begin-clause-exact
 returns-then-may_begin-clause-exact c =
@@ -35,7 +39,8 @@ invariant_of-self c =
 pub returns-clause-checks : goal.returns-clause-checks
 returns-clause-checks c =
     not_refused _ _
-    (passes_now c.self.inside c.args.self.now c.args.task c.in-Some.found c.self.view_is (sym c.task.ensures ∙ c.in-Some.is) c.in-Fresh.is c.if-found-ge-MAX_STEPS.false)
+    (passes_now c.self.inside c.args.self.now c.args.task c.in-Some.found c.self.view_is (sym c.task.ensures ∙ c.in-Some.is) c.in-Fresh.is
+    c.if-found-ge-MAX_STEPS.false)
 
 pub returns-clause-ok : goal.returns-clause-ok
 returns-clause-ok c =

@@ -1,4 +1,4 @@
-use Rattle.std.proofs.Common.{ap, subst, sym}
+use Rattle.std.proofs.Common.{ap, arith, subst, sym}
 use Rattle.tp_dag.specs.State.{PoolState, AddsOnly, AreDelivered, is_delivery}
 use Rattle.tp_dag.proofs.Steps.{adds_trans}
 use Rattle.tp_dag.proofs.Going.{delivered_trans, falls_coming}
@@ -9,14 +9,23 @@ loop-input-smaller c =
     falls_coming c.loop-input.self.ways c.find_message.new.self.ways c.deliver.new.self.ways c.in-Some.input
     (ap (λ (a : PoolState). a.ways) c.find_message.ensures.same) c.in_ok-deliver.ensures.ok c.in-Some.ensures.some.under_way
 
+pub deliver-requires-clause-within : goal.deliver-requires-clause-within
+deliver-requires-clause-within c =
+    let adds = subst (λ (a : PoolState). AddsOnly is_delivery c.args.self.now a) (sym c.find_message.ensures.same)
+    c.loop-input.invariant.0 in
+    let n = adds.graph.nodes in let w = c.requires in omega (arith, n, w)
+
 pub returns-in_err-deliver-clause-adds : goal.returns-in_err-deliver-clause-adds
 returns-in_err-deliver-clause-adds c =
-    adds_trans (subst (λ (a : PoolState). AddsOnly is_delivery c.args.self.now a) (sym c.find_message.ensures.same) c.loop-input.invariant.0) c.deliver.ensures.adds
+    adds_trans (subst (λ (a : PoolState). AddsOnly is_delivery c.args.self.now a) (sym c.find_message.ensures.same)
+    c.loop-input.invariant.0) c.deliver.ensures.adds
 
 pub loop-input-preserved : goal.loop-input-preserved
 loop-input-preserved c =
-    let adds = subst (λ (a : PoolState). AddsOnly is_delivery c.args.self.now a) (sym c.find_message.ensures.same) c.loop-input.invariant.0 in (
+    let adds = subst (λ (a : PoolState). AddsOnly is_delivery c.args.self.now a) (sym c.find_message.ensures.same)
+    c.loop-input.invariant.0 in (
       adds_trans adds c.deliver.ensures.adds,
       delivered_trans c.args.node c.args.self.now c.find_message.new.self c.deliver.new.self adds
-          (subst (λ (a : PoolState). AreDelivered c.args.node c.args.self.now a) (sym c.find_message.ensures.same) c.loop-input.invariant.1) c.deliver.ensures.ways,
+          (subst (λ (a : PoolState). AreDelivered c.args.node c.args.self.now a) (sym c.find_message.ensures.same)
+          c.loop-input.invariant.1) c.deliver.ensures.ways,
     )

@@ -1,6 +1,6 @@
-use Rattle.std.proofs.Common.{refl, sym, ◌∙◌}
+use Rattle.std.proofs.Common.{refl}
 use Rattle.tp_dag.specs.declared.entry.Way.TheVariants as way
-use Rattle.tp_dag.proofs.Keeping.{output_edge, leaves_surely, kept_send, adds_send, sent_ways, left_ways}
+use Rattle.tp_dag.proofs.Keeping.{output_edge, leaves_surely, home_board, kept_send, adds_send, sent_ways, left_ways}
 use Rattle.tp_dag.proofs.pool.Pool.send.Goals as goal
 
 pub returns-in_default-clause-ok : goal.returns-in_default-clause-ok
@@ -11,26 +11,32 @@ returns-in_default-clause-ok c = λ o at.
 pub prove-unreachable-requires : goal.prove-unreachable-requires
 prove-unreachable-requires c =
     let some = c.in-Some.ensures.some in
-    leaves_surely c.self.inside c.args.self.now c.args.task c.args.input c.in-Some.edge c.leave-left.result c.self.view_is c.requires some.0 some.1 some.2
+    leaves_surely c.self.inside c.args.self.now c.args.task c.args.input c.in-Some.edge c.leave-left.result c.self.view_is
+    c.requires.running some.0 some.1 some.2
     c.leave-left.ensures.exact c.if-prove.true
 
 pub invariant_of-self-2 : goal.invariant_of-self-2
 invariant_of-self-2 c =
-    kept_send c.self.inside _ c.send_message.new.core c.args.input c.self.invariant (sym c.is_some.ensures ∙ c.if-is_some.false)
+    let some = c.in-Some.ensures.some in
+    kept_send c.self.inside _ c.send_message.new.core c.args.node c.args.input c.in-Some.edge c.self.invariant c.known.ensures
+    (home_board c.self.inside c.args.self.now c.args.node c.args.task c.in-Some.edge.source c.self.view_is some.1 c.requires.home) some.0
     c.in_ok-send_message.ensures.ok refl (c.leave-left.ensures.ok c.if-prove.false) refl refl refl
 
 pub returns-clause-adds : goal.returns-clause-adds
 returns-clause-adds c =
-    adds_send c.self.inside (record c.self.inside { core = c.send_message.new.core; board = c.leave-left.new.self }) c.args.self.now c.args.input
-    c.self.view_is c.in_ok-send_message.ensures.ok (c.leave-left.ensures.ok c.if-prove.false) refl
+    adds_send c.self.inside (record c.self.inside { core = c.send_message.new.core; board = c.leave-left.new.self }) c.args.self.now
+    c.args.node c.in-Some.edge.to
+    c.args.input c.self.view_is c.in_ok-send_message.ensures.ok (c.leave-left.ensures.ok c.if-prove.false) refl
 
 pub returns-clause-ways : goal.returns-clause-ways
 returns-clause-ways c =
     let some = c.in-Some.ensures.some in
-    sent_ways c.self.inside (record c.self.inside { core = c.send_message.new.core; board = c.leave-left.new.self }) c.args.self.now c.args.task c.args.input
+    sent_ways c.self.inside (record c.self.inside { core = c.send_message.new.core; board = c.leave-left.new.self }) c.args.self.now
+    c.args.task c.args.input
     c.in-Some.edge c.self.view_is some.0 some.1 some.2 (c.leave-left.ensures.ok c.if-prove.false) refl
 
 pub returns-clause-ok : goal.returns-clause-ok
 returns-clause-ok c = λ o at.
-    left_ways c.self.inside (record c.self.inside { core = c.send_message.new.core; board = c.leave-left.new.self }) c.args.self.now c.args.input
+    left_ways c.self.inside (record c.self.inside { core = c.send_message.new.core; board = c.leave-left.new.self }) c.args.self.now
+    c.args.input
     c.self.view_is (c.leave-left.ensures.ok c.if-prove.false) refl
