@@ -1,5 +1,5 @@
 -- The results of `next` and `done` on a pool of task graphs meet their contracts.
-use Rattle.std.proofs.Common.{ℕ, ◌≡◌, ◌≢◌, ◌≤◌, ◌+◌, length, tt, Unit, Bool, true, false, List, [], ◌∷◌, refl, arith, ap, sym, subst, ◌∙◌, Some, None, Option, Result, IsTrue, IsFalse}
+use Rattle.std.proofs.Common.{ℕ, ◌≡◌, ◌≢◌, ◌≤◌, ◌+◌, length, Bool, true, false, List, [], ◌∷◌, refl, arith, ap, sym, subst, ◌∙◌, Some, None, Option, Result, IsTrue, IsFalse}
 use Rattle.std.specs.Prelude.{Ok, Err, IfSome, not, slice_get, if◌then◌else◌}
 use Rattle.tp_base.specs.declared.Refusal.{Refusal}
 use Rattle.tp_base.specs.declared.Refusal.TheVariants as refusal
@@ -15,7 +15,7 @@ use Rattle.tp_dag.specs.State.{PoolState, AddsOnly, SameGraph, IsInputAdded, IsF
 use Rattle.gerfmuod.specs.declared.dag.answer.DagAnswer.{DagAnswer}
 use Rattle.gerfmuod.specs.declared.dag.slot.PoolSlot.TheInside.{Inside}
 use Rattle.gerfmuod.specs.DagSlot.{state_of}
-use Rattle.gerfmuod.specs.Dag.{SlotState, RefusesBy, IsInput, IsInputRefusal, IsNext, IsDone, IsAgainCall, checks, next_answer, plain, refusal_answer}
+use Rattle.gerfmuod.specs.Dag.{SlotState, RefusesBy, IsInput, IsInputRefusal, IsNext, IsNextRefusal, IsDone, IsAgainCall, checks, next_answer, plain, refusal_answer}
 
 -- The number of a refusal is at least 1.
 pub some_number : (r : Refusal) → 1 ≤ number_of r
@@ -109,6 +109,7 @@ next_done p now pool node news n same live check run finished wait waiting graph
     by_kind (Run u) c r f w d b = record {
       checked = open_refuses (state_of p) new (next_checks p.pool node) (next_answer (Run u) news) here
           (passed {A = Next} (first_refusal (next_checks p.pool node)) (Run u) (pool ≡ p.pool) _ c);
+      exact = λ live z. absurd (omega (arith, z));
       run = λ z. r u refl;
       finished = λ z. absurd (omega (arith, z));
       wait = λ z. absurd (omega (arith, z));
@@ -120,6 +121,7 @@ next_done p now pool node news n same live check run finished wait waiting graph
     by_kind Wait c r f w d b = record {
       checked = open_refuses (state_of p) new (next_checks p.pool node) (next_answer Wait news) here
           (passed {A = Next} (first_refusal (next_checks p.pool node)) Wait (pool ≡ p.pool) _ c);
+      exact = λ live z. absurd (omega (arith, z));
       run = λ z. absurd (omega (arith, z));
       finished = λ z. absurd (omega (arith, z));
       wait = λ z. (w refl, d refl);
@@ -131,6 +133,7 @@ next_done p now pool node news n same live check run finished wait waiting graph
     by_kind (Finished v) c r f w d b = record {
       checked = open_refuses (state_of p) new (next_checks p.pool node) (next_answer (Finished v) news) here
           (passed {A = Next} (first_refusal (next_checks p.pool node)) (Finished v) (pool ≡ p.pool) _ c);
+      exact = λ live z. absurd (omega (arith, z));
       run = λ z. absurd (omega (arith, z));
       finished = λ z. f v refl;
       wait = λ z. absurd (omega (arith, z));
@@ -142,15 +145,16 @@ next_done p now pool node news n same live check run finished wait waiting graph
 
 pub next_refused : (p : Inside) (now : SlotState) (pool : PoolState) (node : ℕ) (e : Refusal) → state_of p ≡ now → IsTrue now.is_open
     → IfSome (first_refusal (next_checks p.pool node)) (λ r. Same Next (Err e) (Err r) × (pool ≡ p.pool)) → AddsOnly is_delivery p.pool pool
-    → SameGraph p.pool pool → AreDelivered node p.pool pool
+    → IsNextRefusal node p.pool e → SameGraph p.pool pool → AreDelivered node p.pool pool
     → ((t : ℕ) → count (is_begin_of t) pool.steps ≡ count (is_begin_of t) p.pool.steps + dispatched (Err e) t)
     → IsNext now node (refusal_answer e) (state_of (record p { pool = pool }))
-next_refused p now pool node e same live check err graph ways begun =
+next_refused p now pool node e same live check err exact graph ways begun =
     subst (λ (a : SlotState). IsNext a node (refusal_answer e) (state_of (record p { pool = pool }))) same (record {
       checked = open_refuses (state_of p) (state_of (record p { pool = pool })) (next_checks p.pool node) (refusal_answer e)
           (ap (λ (a : SlotState). a.is_open) same ∙ live)
           (failed Next (first_refusal (next_checks p.pool node)) e (pool ≡ p.pool) (state_of (record p { pool = pool }) ≡ state_of p)
           (slot_same (state_of p) (state_of (record p { pool = pool })) refl) check);
+      exact = λ live s. (e, refl, exact);
       run = λ z. absurd (omega (arith, z));
       finished = λ z. absurd (omega (arith, z));
       wait = λ z. absurd (omega (arith, z));

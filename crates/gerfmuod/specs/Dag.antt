@@ -12,7 +12,7 @@ use Rattle.tp_base.specs.Refusals.{number_of}
 use Rattle.tp_wave.specs.Steps.{count}
 use Rattle.tp_core.specs.NeverEarly.{is_begin_of}
 use Rattle.tp_dag.specs.State.{PoolState, AddsOnly, SameGraph, IsTaskAdded, IsInputAdded, IsStarted, IsOutsideAdded, IsReleased, IsDispatched, IsFinished, IsCompleted}
-use Rattle.tp_dag.specs.State.{IsIdle, MayWait, AreDelivered, AreSent, extends, is_readying, is_delivery, is_sending}
+use Rattle.tp_dag.specs.State.{IsIdle, MayWait, AreDelivered, AreSent, extends, is_readying, is_delivery, is_sending, is_of_room}
 use Rattle.tp_dag.specs.Again.{IsAgain}
 use Rattle.tp_dag.specs.State.{task_checks, input_checks, start_checks, outside_checks, release_checks, next_checks, done_checks}
 use Rattle.tp_dag.specs.declared.entry.Stage.TheVariants as stage
@@ -110,8 +110,13 @@ pub record IsRelease (old : SlotState) (task : ℕ) (a : DagAnswer) (new : SlotS
 abbrev pub dispatched_by : DagAnswer → ℕ → ℕ
 dispatched_by a t = if a.told == 1 then (if a.number == t then 1 else 0) else 0
 
+-- An open pool refuses `next` by the first check that holds, or for lack of memory or of room for steps.
+abbrev pub IsNextRefusal : ℕ → PoolState → Refusal → Type 0
+IsNextRefusal node a r = (first_refusal (next_checks a node) ≡ Some r) ⊎ IsTrue (is_of_room r)
+
 pub record IsNext (old : SlotState) (node : ℕ) (a : DagAnswer) (new : SlotState) : Type 0 where
   pub checked : RefusesBy (checks old (next_checks old.pool node)) old a new
+  pub exact : IsTrue old.is_open → 1 ≤ a.refused → (r : Refusal) × (a.refused ≡ number_of r) × IsNextRefusal node old.pool r
   pub run : a.told ≡ 1 → IsDispatched node a.number old.pool new.pool
   pub finished : a.told ≡ 3 → IsFinished new.pool
   pub wait : a.told ≡ 2 → IsIdle node new.pool × AddsOnly is_delivery old.pool new.pool
