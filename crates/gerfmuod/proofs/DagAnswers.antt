@@ -1,6 +1,6 @@
 -- The results of `next` and `done` on a pool of task graphs meet their contracts.
-use Rattle.std.proofs.Common.{ℕ, ◌≡◌, ◌≤◌, ◌+◌, Bool, true, false, List, [], ◌∷◌, refl, arith, ap, sym, subst, ◌∙◌, Some, None, Option, Result, IsTrue, IsFalse}
-use Rattle.std.specs.Prelude.{Ok, Err, IfSome, not, if◌then◌else◌}
+use Rattle.std.proofs.Common.{ℕ, ◌≡◌, ◌≢◌, ◌≤◌, ◌+◌, length, Bool, true, false, List, [], ◌∷◌, refl, arith, ap, sym, subst, ◌∙◌, Some, None, Option, Result, IsTrue, IsFalse}
+use Rattle.std.specs.Prelude.{Ok, Err, IfSome, not, slice_get, if◌then◌else◌}
 use Rattle.tp_base.specs.declared.Refusal.{Refusal}
 use Rattle.tp_base.specs.declared.Refusal.TheVariants as refusal
 use Rattle.tp_base.specs.Checks.{Check, first_refusal}
@@ -10,11 +10,12 @@ use Rattle.tp_core.specs.NeverEarly.{is_begin_of}
 use Rattle.tp_dag.specs.Again.{IsAgain}
 use Rattle.tp_dag.specs.declared.Next.{Next}
 use Rattle.tp_dag.specs.declared.Next.TheVariants.{Run, Wait, Finished}
-use Rattle.tp_dag.specs.State.{PoolState, AddsOnly, SameGraph, IsFinished, IsDispatched, IsCompleted, IsIdle, AreDelivered, AreSent, dispatched, is_delivery, is_sending, next_checks, done_checks}
+use Rattle.tp_dag.specs.declared.entry.Stage.TheVariants as stage
+use Rattle.tp_dag.specs.State.{PoolState, AddsOnly, SameGraph, IsInputAdded, IsFinished, IsDispatched, IsCompleted, IsIdle, MayWait, AreDelivered, AreSent, dispatched, extends, is_delivery, is_sending, input_checks, next_checks, done_checks}
 use Rattle.gerfmuod.specs.declared.dag.answer.DagAnswer.{DagAnswer}
 use Rattle.gerfmuod.specs.declared.dag.slot.PoolSlot.TheInside.{Inside}
 use Rattle.gerfmuod.specs.DagSlot.{state_of}
-use Rattle.gerfmuod.specs.Dag.{SlotState, RefusesBy, IsNext, IsDone, IsAgainCall, checks, next_answer, plain, refusal_answer}
+use Rattle.gerfmuod.specs.Dag.{SlotState, RefusesBy, IsInput, IsInputRefusal, IsNext, IsNextRefusal, IsDone, IsAgainCall, checks, next_answer, plain, refusal_answer}
 
 -- The number of a refusal is at least 1.
 pub some_number : (r : Refusal) → 1 ≤ number_of r
@@ -108,6 +109,7 @@ next_done p now pool node news n same live check run finished wait waiting graph
     by_kind (Run u) c r f w d b = record {
       checked = open_refuses (state_of p) new (next_checks p.pool node) (next_answer (Run u) news) here
           (passed {A = Next} (first_refusal (next_checks p.pool node)) (Run u) (pool ≡ p.pool) _ c);
+      exact = λ live z. absurd (omega (arith, z));
       run = λ z. r u refl;
       finished = λ z. absurd (omega (arith, z));
       wait = λ z. absurd (omega (arith, z));
@@ -119,6 +121,7 @@ next_done p now pool node news n same live check run finished wait waiting graph
     by_kind Wait c r f w d b = record {
       checked = open_refuses (state_of p) new (next_checks p.pool node) (next_answer Wait news) here
           (passed {A = Next} (first_refusal (next_checks p.pool node)) Wait (pool ≡ p.pool) _ c);
+      exact = λ live z. absurd (omega (arith, z));
       run = λ z. absurd (omega (arith, z));
       finished = λ z. absurd (omega (arith, z));
       wait = λ z. (w refl, d refl);
@@ -130,6 +133,7 @@ next_done p now pool node news n same live check run finished wait waiting graph
     by_kind (Finished v) c r f w d b = record {
       checked = open_refuses (state_of p) new (next_checks p.pool node) (next_answer (Finished v) news) here
           (passed {A = Next} (first_refusal (next_checks p.pool node)) (Finished v) (pool ≡ p.pool) _ c);
+      exact = λ live z. absurd (omega (arith, z));
       run = λ z. absurd (omega (arith, z));
       finished = λ z. f v refl;
       wait = λ z. absurd (omega (arith, z));
@@ -141,15 +145,16 @@ next_done p now pool node news n same live check run finished wait waiting graph
 
 pub next_refused : (p : Inside) (now : SlotState) (pool : PoolState) (node : ℕ) (e : Refusal) → state_of p ≡ now → IsTrue now.is_open
     → IfSome (first_refusal (next_checks p.pool node)) (λ r. Same Next (Err e) (Err r) × (pool ≡ p.pool)) → AddsOnly is_delivery p.pool pool
-    → SameGraph p.pool pool → AreDelivered node p.pool pool
+    → IsNextRefusal node p.pool e → SameGraph p.pool pool → AreDelivered node p.pool pool
     → ((t : ℕ) → count (is_begin_of t) pool.steps ≡ count (is_begin_of t) p.pool.steps + dispatched (Err e) t)
     → IsNext now node (refusal_answer e) (state_of (record p { pool = pool }))
-next_refused p now pool node e same live check err graph ways begun =
+next_refused p now pool node e same live check err exact graph ways begun =
     subst (λ (a : SlotState). IsNext a node (refusal_answer e) (state_of (record p { pool = pool }))) same (record {
       checked = open_refuses (state_of p) (state_of (record p { pool = pool })) (next_checks p.pool node) (refusal_answer e)
           (ap (λ (a : SlotState). a.is_open) same ∙ live)
           (failed Next (first_refusal (next_checks p.pool node)) e (pool ≡ p.pool) (state_of (record p { pool = pool }) ≡ state_of p)
           (slot_same (state_of p) (state_of (record p { pool = pool })) refl) check);
+      exact = λ live s. (e, refl, exact);
       run = λ z. absurd (omega (arith, z));
       finished = λ z. absurd (omega (arith, z));
       wait = λ z. absurd (omega (arith, z));
@@ -191,13 +196,55 @@ done_refused p now pool node task e same live check is ways begun =
       begun = begun;
     })
 
+-- ---- input
+pub input_done : (p : Inside) (now : SlotState) (pool : PoolState) (source : ℕ) → state_of p ≡ now → IsTrue now.is_open
+    → IfSome (first_refusal (input_checks p.pool source)) (λ r. Same (Unit {0}) (Ok tt) (Err r))
+    → (slice_get p.pool.stages source ≢ Some stage.Done → IsInputAdded source p.pool pool)
+    → (slice_get p.pool.stages source ≡ Some stage.Done → pool ≡ record p.pool { extended = extends p.pool })
+    → ((t : ℕ) → t + 1 ≡ length p.pool.tasks → MayWait t p.pool)
+    → IsInput now source (plain 0 0) (state_of (record p { pool = pool }))
+input_done p now pool source same live check added done waits =
+    subst (λ (a : SlotState). IsInput a source (plain 0 0) (state_of (record p { pool = pool }))) same (record {
+      checked = open_refuses (state_of p) (state_of (record p { pool = pool })) (input_checks p.pool source) (plain 0 0)
+          (ap (λ (a : SlotState). a.is_open) same ∙ live) (none_refused (first_refusal (input_checks p.pool source)) _ check);
+      added = λ z. added;
+      done = λ z. done;
+      waits = λ z. waits;
+      refused = λ s. absurd (omega (arith, s));
+      exact = λ live s. absurd (omega (arith, s));
+    })
+  where
+    none_refused : (o : Option Refusal) (Q : Refusal → Type 0) → IfSome o (λ r. Same (Unit {0}) (Ok tt) (Err r)) → IfSome o Q
+    none_refused None Q h = tt
+    none_refused (Some r) Q h = absurd (never_ok tt r h)
+
+pub input_refused : (p : Inside) (now : SlotState) (pool : PoolState) (source : ℕ) (e : Refusal) → state_of p ≡ now → IsTrue now.is_open
+    → IfSome (first_refusal (input_checks p.pool source)) (λ r. Same (Unit {0}) (Err e) (Err r)) → pool ≡ p.pool → IsInputRefusal source p.pool e
+    → IsInput now source (refusal_answer e) (state_of (record p { pool = pool }))
+input_refused p now pool source e same live check is exact =
+    let still : state_of (record p { pool = pool }) ≡ state_of p = slot_same (state_of p) (state_of (record p { pool = pool })) refl is in
+    subst (λ (a : SlotState). IsInput a source (refusal_answer e) (state_of (record p { pool = pool }))) same (record {
+      checked = open_refuses (state_of p) (state_of (record p { pool = pool })) (input_checks p.pool source) (refusal_answer e)
+          (ap (λ (a : SlotState). a.is_open) same ∙ live) (by_check (first_refusal (input_checks p.pool source)) still check);
+      added = λ z. absurd (not_zero e (number_of e) refl z);
+      done = λ z. absurd (not_zero e (number_of e) refl z);
+      waits = λ z. absurd (not_zero e (number_of e) refl z);
+      refused = λ s. still;
+      exact = λ live s. (e, refl, exact);
+    })
+  where
+    by_check : {T : Type 0} (o : Option Refusal) → T → IfSome o (λ r. Same (Unit {0}) (Err e) (Err r)) → IfSome o (λ r. (number_of e ≡ number_of r) × T)
+    by_check None t h = tt
+    by_check (Some r) t h = (ap number_of (same_err (Unit {0}) e r h), t)
+
 -- ---- again
 pub again_done : (p : Inside) (now : SlotState) (pool : PoolState) → state_of p ≡ now → IsTrue now.is_open → IsFinished p.pool
-    → IsAgain p.pool pool → IsAgainCall now (plain 0 0) (state_of (record p { pool = pool }))
-again_done p now pool same live finished is =
+    → IsFalse p.pool.extended → IsAgain p.pool pool → IsAgainCall now (plain 0 0) (state_of (record p { pool = pool }))
+again_done p now pool same live finished described is =
     subst (λ (a : SlotState). IsAgainCall a (plain 0 0) (state_of (record p { pool = pool }))) same (record {
       checked = open_refuses (state_of p) (state_of (record p { pool = pool })) [] (plain 0 0) (ap (λ (a : SlotState). a.is_open) same ∙ live) tt;
       finished = λ z. finished;
+      described = λ z. described;
       again = λ z. is;
       refused = λ s. absurd (omega (arith, s));
     })
@@ -208,6 +255,7 @@ again_refused p now pool e same live is =
     subst (λ (a : SlotState). IsAgainCall a (refusal_answer e) (state_of (record p { pool = pool }))) same (record {
       checked = open_refuses (state_of p) (state_of (record p { pool = pool })) [] (refusal_answer e) (ap (λ (a : SlotState). a.is_open) same ∙ live) tt;
       finished = λ z. absurd (not_zero e (number_of e) refl z);
+      described = λ z. absurd (not_zero e (number_of e) refl z);
       again = λ z. absurd (not_zero e (number_of e) refl z);
       refused = λ s. slot_same (state_of p) (state_of (record p { pool = pool })) refl is;
     })

@@ -1,19 +1,21 @@
 -- The results and effects of the calls on a pool of task graphs.
-use Rattle.std.specs.Prelude.{ℕ, ◌+◌, ◌≡◌, ◌≤◌, ◌==◌, ◌&&◌, Bool, false, not, nat_le, List, [], ◌∷◌, if◌then◌else◌, IsTrue, IfSome}
+use Rattle.std.specs.Prelude.{ℕ, ◌+◌, ◌≡◌, ◌≢◌, ◌≤◌, ◌==◌, ◌&&◌, ◌⊎◌, Bool, false, not, nat_le, length, List, [], ◌∷◌, if◌then◌else◌, IsTrue, IsFalse, IfSome}
 use Rattle.std.specs.Prelude.{Option, Some, None, slice_get, reverse}
 use Rattle.tp_base.specs.declared.Step.{Step}
 use Rattle.tp_base.specs.declared.Step.TheVariants.{Insert, Supply, Begin, Done, ActionOpen, ActionClose, Ready, Send, Recv, MessageEnd}
 use Rattle.tp_base.specs.declared.Step.TheVariants.{Start, Down, Give, Up, Judge, Reopen}
 use Rattle.tp_base.specs.declared.Refusal.{Refusal}
-use Rattle.tp_base.specs.declared.Refusal.TheVariants.{HistoryFull, NoPool, BadSpec}
+use Rattle.tp_base.specs.declared.limits.TheConstants.{MAX_STEPS}
+use Rattle.tp_base.specs.declared.Refusal.TheVariants.{WrongLife, HistoryFull, NoMemory, NoPool, BadSpec}
 use Rattle.tp_base.specs.Checks.{Check, first_refusal}
 use Rattle.tp_base.specs.Refusals.{number_of}
 use Rattle.tp_wave.specs.Steps.{count}
 use Rattle.tp_core.specs.NeverEarly.{is_begin_of}
 use Rattle.tp_dag.specs.State.{PoolState, AddsOnly, SameGraph, IsTaskAdded, IsInputAdded, IsStarted, IsOutsideAdded, IsReleased, IsDispatched, IsFinished, IsCompleted}
-use Rattle.tp_dag.specs.State.{IsIdle, AreDelivered, AreSent, is_readying, is_delivery, is_sending}
+use Rattle.tp_dag.specs.State.{IsIdle, MayWait, AreDelivered, AreSent, extends, is_readying, is_delivery, is_sending, is_of_room}
 use Rattle.tp_dag.specs.Again.{IsAgain}
 use Rattle.tp_dag.specs.State.{task_checks, input_checks, start_checks, outside_checks, release_checks, next_checks, done_checks}
+use Rattle.tp_dag.specs.declared.entry.Stage.TheVariants as stage
 use Rattle.tp_dag.specs.declared.Next.{Next}
 use Rattle.tp_dag.specs.declared.Next.TheVariants.{Run, Wait, Finished}
 use Rattle.gerfmuod.specs.declared.dag.answer.DagAnswer.{DagAnswer}
@@ -28,7 +30,7 @@ abbrev pub can_be : ℕ → Bool
 can_be n = nat_le 1 n && nat_le n 8
 
 abbrev pub empty : ℕ → PoolState
-empty n = record { nodes = n; started = false; tasks = []; stages = []; inputs = []; ways = []; outside = []; steps = [] }
+empty n = record { nodes = n; started = false; extended = false; tasks = []; stages = []; inputs = []; ways = []; outside = []; steps = [] }
 
 -- a new pool; it is not open if a pool cannot have n nodes
 abbrev pub opened : ℕ → SlotState
@@ -71,10 +73,22 @@ pub record IsTask (old : SlotState) (node class : ℕ) (a : DagAnswer) (new : Sl
   pub added : a.refused ≡ 0 → IsTaskAdded node class a.number old.pool new.pool
   pub refused : 1 ≤ a.refused → new ≡ old
 
+-- Why the newest task does not get this input: by the first check that holds; or since it may not get one more; or a started pool has no
+-- steps left for it; or for lack of memory.
+abbrev pub IsInputRefusal : ℕ → PoolState → Refusal → Type 0
+IsInputRefusal source a r =
+    (first_refusal (input_checks a source) ≡ Some r) ⊎ ((r ≡ WrongLife) × ((t : ℕ) → t + 1 ≡ length a.tasks → MayWait t a → ⊥))
+    ⊎ ((r ≡ HistoryFull MAX_STEPS) × IsTrue a.started)
+    ⊎ (r ≡ NoMemory)
+
+-- `input`: nothing is added if the source is done.
 pub record IsInput (old : SlotState) (source : ℕ) (a : DagAnswer) (new : SlotState) : Type 0 where
   pub checked : RefusesBy (checks old (input_checks old.pool source)) old a new
-  pub added : a.refused ≡ 0 → IsInputAdded source old.pool new.pool
+  pub added : a.refused ≡ 0 → slice_get old.pool.stages source ≢ Some stage.Done → IsInputAdded source old.pool new.pool
+  pub done : a.refused ≡ 0 → slice_get old.pool.stages source ≡ Some stage.Done → new.pool ≡ record old.pool { extended = extends old.pool }
+  pub waits : a.refused ≡ 0 → (t : ℕ) → t + 1 ≡ length old.pool.tasks → MayWait t old.pool
   pub refused : 1 ≤ a.refused → new ≡ old
+  pub exact : IsTrue old.is_open → 1 ≤ a.refused → (r : Refusal) × (a.refused ≡ number_of r) × IsInputRefusal source old.pool r
 
 pub record IsStart (old : SlotState) (a : DagAnswer) (new : SlotState) : Type 0 where
   pub checked : RefusesBy (checks old (start_checks old.pool)) old a new
@@ -96,8 +110,13 @@ pub record IsRelease (old : SlotState) (task : ℕ) (a : DagAnswer) (new : SlotS
 abbrev pub dispatched_by : DagAnswer → ℕ → ℕ
 dispatched_by a t = if a.told == 1 then (if a.number == t then 1 else 0) else 0
 
+-- An open pool refuses `next` by the first check that holds, or for lack of memory or of room for steps.
+abbrev pub IsNextRefusal : ℕ → PoolState → Refusal → Type 0
+IsNextRefusal node a r = (first_refusal (next_checks a node) ≡ Some r) ⊎ IsTrue (is_of_room r)
+
 pub record IsNext (old : SlotState) (node : ℕ) (a : DagAnswer) (new : SlotState) : Type 0 where
   pub checked : RefusesBy (checks old (next_checks old.pool node)) old a new
+  pub exact : IsTrue old.is_open → 1 ≤ a.refused → (r : Refusal) × (a.refused ≡ number_of r) × IsNextRefusal node old.pool r
   pub run : a.told ≡ 1 → IsDispatched node a.number old.pool new.pool
   pub finished : a.told ≡ 3 → IsFinished new.pool
   pub wait : a.told ≡ 2 → IsIdle node new.pool × AddsOnly is_delivery old.pool new.pool
@@ -116,6 +135,7 @@ pub record IsDone (old : SlotState) (node task : ℕ) (a : DagAnswer) (new : Slo
 pub record IsAgainCall (old : SlotState) (a : DagAnswer) (new : SlotState) : Type 0 where
   pub checked : RefusesBy (checks old []) old a new
   pub finished : a.refused ≡ 0 → IsFinished old.pool
+  pub described : a.refused ≡ 0 → IsFalse old.pool.extended
   pub again : a.refused ≡ 0 → IsAgain old.pool new.pool
   pub refused : 1 ≤ a.refused → new ≡ old
 

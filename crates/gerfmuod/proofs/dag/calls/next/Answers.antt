@@ -17,4 +17,4 @@ returns-in-Err c =
     subst (λ (a : DagAnswer). IsNext c.args.slot.now c.args.node a (state_of (record c.slot.inside { pool = c.next.new.self })))
     (sym c.refused-in-Err.ensures)
     (next_refused c.slot.inside c.args.slot.now c.next.new.self c.args.node c.in-Err.refusal c.slot.view_is
-    (opens _ _ c.is_open.ensures c.if-not-is_open.false) c.in-Err.ensures.checks c.in-Err.ensures.err c.in-Err.ensures.graph c.in-Err.ensures.ways c.in-Err.ensures.begun)
+    (opens _ _ c.is_open.ensures c.if-not-is_open.false) c.in-Err.ensures.checks c.in-Err.ensures.err c.in-Err.ensures.refused c.in-Err.ensures.graph c.in-Err.ensures.ways c.in-Err.ensures.begun)
