@@ -2,9 +2,10 @@
  *
  * You describe a graph: tasks, and for each task the earlier tasks that it waits for (its inputs). Then each of your
  * threads repeats three calls: gerfmuod_dag_next returns a task, the thread runs the task on your data, and
- * gerfmuod_dag_done reports that the task is done. A task may also wait for inputs from outside, such as a message, a
- * timer or a device: gerfmuod_dag_outside announces one, gerfmuod_dag_release reports that it is there. The pool never sees
- * your data, and it starts no thread. gerfmuod_team.h adds the lock, the waiting and the threads; begin there.
+ * gerfmuod_dag_done reports that the task is done. A task that runs may add tasks. A task may also wait for inputs from
+ * outside, such as a message, a timer or a device: gerfmuod_dag_outside announces one, gerfmuod_dag_release reports that it is
+ * there. The pool never sees your data, and it starts no thread. gerfmuod_team.h adds the lock, the waiting and the threads;
+ * begin there.
  *
  * Proved, for every sequence of calls that come one at a time, whatever their arguments:
  *   - in each run, gerfmuod_dag_next returns a task at most once, only at the node of that task, and only after each of its
@@ -24,7 +25,8 @@
  *   - gerfmuod_dag_done is called after the last write of a body, gerfmuod_dag_next before the first read of the next one.
  *     The mutex then orders them (happens-before);
  *   - each node that has tasks has a thread that calls gerfmuod_dag_next, or its tasks never run and the pool never ends;
- *   - gerfmuod_dag_release is called once for each input from outside, or its task never runs.
+ *   - gerfmuod_dag_release is called once for each input from outside, and for each task that was added after the start, or
+ *     the task never runs.
  *
  * Tasks, inputs, nodes and steps are counted from 0. Link with -lgerfmuod.
  */
@@ -54,7 +56,7 @@ enum gerfmuod_dag_refusal {
     GERFMUOD_DAG_NO_NODE = 1,       /* there is no such node, or the task is at another node */
     GERFMUOD_DAG_NO_TASK = 4,       /* there is no such task, or an input is not lower than its task */
     GERFMUOD_DAG_WRONG_LIFE = 5,    /* the task, or the pool, is not in the state that the call needs */
-    GERFMUOD_DAG_INACTIVE = 6,      /* a start that ran out of memory has begun at this node */
+    GERFMUOD_DAG_INACTIVE = 6,      /* the pool was started, and all tasks of this node are done */
     GERFMUOD_DAG_ENDED = 15,        /* the pool is over */
     GERFMUOD_DAG_HISTORY_FULL = 16, /* a number would be above GERFMUOD_DAG_MAX_STEPS: of steps, or what the call says */
     GERFMUOD_DAG_NO_MEMORY = 17,    /* an allocation failed */
@@ -94,13 +96,20 @@ typedef struct gerfmuod_dag_taken {
 uint32_t gerfmuod_dag_open(gerfmuod_dag *dag, uint32_t nodes);
 
 /* Describes one more task, at a node and of a class, with no input so far. `number` of the result is its number: the
- * number of tasks before it. Refused, for the first reason that applies: WRONG_LIFE if the pool was started, NO_NODE,
- * BAD_SPEC (class), HISTORY_FULL if there are GERFMUOD_DAG_MAX_STEPS tasks, NO_MEMORY, INACTIVE. */
+ * number of tasks before it. After the start a new task is held, so that no thread can get it half described: it waits for one
+ * input from outside. Its maker calls gerfmuod_dag_input for each task that it waits for, and then gerfmuod_dag_release. Other
+ * calls may come between them, but gerfmuod_dag_input is about the newest task: no other task may be added before the last one.
+ * Refused, for the first reason that applies: NO_NODE; BAD_SPEC (class); HISTORY_FULL if there are GERFMUOD_DAG_MAX_STEPS
+ * tasks; ENDED if gerfmuod_dag_next has returned OVER; HISTORY_FULL if the pool was started and has fewer than 3 steps left;
+ * NO_MEMORY; INACTIVE if the pool was started and all tasks of the node are done. A task that runs is not done: it can always
+ * add tasks at its own node. A start that ran out of memory may have begun at a node, and counts as one there. */
 gerfmuod_dag_answer gerfmuod_dag_task(gerfmuod_dag *dag, uint32_t node, uint32_t class_);
 
-/* The newest task waits for one more task, whose number is lower. An input may be given twice. Refused, for the first reason
- * that applies: WRONG_LIFE if the pool was started, NO_TASK, HISTORY_FULL if there are GERFMUOD_DAG_MAX_STEPS inputs,
- * NO_MEMORY. */
+/* The newest task waits for one more task, whose number is lower. An input may be given twice. If that task is done already,
+ * there is nothing to wait for, and no input is added. Refused, for the first reason that applies: NO_TASK; HISTORY_FULL if
+ * there are GERFMUOD_DAG_MAX_STEPS inputs; WRONG_LIFE if gerfmuod_dag_next returned the newest task, or if the pool was started
+ * and the task waits for nothing, so that it may be returned at any time; HISTORY_FULL if the pool was started, has fewer than 3
+ * steps left, and the input comes from another node; NO_MEMORY. */
 gerfmuod_dag_answer gerfmuod_dag_input(gerfmuod_dag *dag, uint32_t task);
 
 /* One more input from outside for a task, which is not returned before gerfmuod_dag_release was called once for each of them.
@@ -133,7 +142,7 @@ gerfmuod_dag_answer gerfmuod_dag_done(gerfmuod_dag *dag, uint32_t node, uint32_t
 /* The same graph once more, after GERFMUOD_DAG_OVER: all tasks wait again for their inputs, and gerfmuod_dag_next may be
  * called at once. Inputs from outside have to be declared again, which a task without inputs cannot do: it may be returned at
  * any time. The steps are those of the new run. Refused, and nothing changes: WRONG_LIFE if gerfmuod_dag_next has not returned
- * OVER; NO_MEMORY. */
+ * OVER, or if a task or an input was added after the start; NO_MEMORY. */
 gerfmuod_dag_answer gerfmuod_dag_again(gerfmuod_dag *dag);
 
 /* The step with number k, from 0. Its kind is 255 if there is none, or if the pool is not open. */

@@ -34,7 +34,7 @@ struct gerfmuod_team {
     uint32_t fault, at;         /* the refusal that ends every turn, and the task of the last refusal */
     uint32_t executing;         /* tasks that were returned and are not done */
     uint32_t waiting, spinning; /* threads that wait, and those of them that spin */
-    bool is_complete; /* the pool was started: no task may be described */
+    bool is_complete; /* the pool was started: a new task is held until it is released */
     bool is_over, is_in_run;
     struct profile *profile; /* NULL unless the team records */
     char apart[64]; /* keeps the counters that spinning threads read off the cache lines above */
@@ -116,15 +116,21 @@ static bool changes_nothing(uint32_t refused) {
     return refused != GERFMUOD_DAG_NO_MEMORY && refused != GERFMUOD_DAG_HISTORY_FULL;
 }
 
-/* Describes a task and its inputs. A refusal changes nothing, or ends the team. */
+/* A task was refused, and nothing changed. In a run its maker can go on without it; a graph that lacks a task must not run. */
+static uint32_t refuse_task(gerfmuod_team *team, uint32_t refused, uint32_t number, bool is_in_run) {
+    return is_in_run || changes_nothing(refused) ? refuse(team, refused, number) : fail(team, refused, number);
+}
+
+/* Describes a task and its inputs. A refusal changes nothing, or ends the team: in a run, only that of an input does. */
 static inline ALWAYS_INLINE uint32_t describe_task(gerfmuod_team *team, uint32_t node, uint32_t class_, const uint32_t *inputs,
-                                                   size_t count) {
+                                                   size_t count, bool is_in_run) {
     uint32_t number = team->tasks, refused;
     for (size_t k = 0; k < count; k++)
         if (inputs[k] >= number) return refuse(team, GERFMUOD_DAG_NO_TASK, number);
-    if (team->profile && !profile_reserve(team->profile, count)) return fail(team, GERFMUOD_DAG_NO_MEMORY, number);
+    if (team->profile && !profile_reserve(team->profile, count))
+        return refuse_task(team, GERFMUOD_DAG_NO_MEMORY, number, is_in_run);
     refused = gerfmuod_dag_task(&team->dag, node, class_).refused;
-    if (refused) return changes_nothing(refused) ? refuse(team, refused, number) : fail(team, refused, number);
+    if (refused) return refuse_task(team, refused, number, is_in_run);
     team->tasks = number + 1;
     if (team->first_task[node] == GERFMUOD_DAG_NONE) team->first_task[node] = number;
     for (size_t k = 0; k < count; k++) {
@@ -135,17 +141,30 @@ static inline ALWAYS_INLINE uint32_t describe_task(gerfmuod_team *team, uint32_t
     return GERFMUOD_DAG_OK;
 }
 
-/* Returns the refusal if no task may be described now. */
+/* Returns the refusal if no graph may be described now. */
 static uint32_t check_description(gerfmuod_team *team) {
     if (team->fault) return team->fault;
     return team->is_complete ? refuse(team, GERFMUOD_DAG_WRONG_LIFE, team->tasks) : GERFMUOD_DAG_OK;
 }
 
+/* Describes a task, which is held, after the start. */
+static NOINLINE uint32_t hold_task(gerfmuod_team *team, uint32_t node, uint32_t class_, const uint32_t *inputs, size_t count) {
+    bool has_no_thread = team->threads && node >= team->threads && node < team->nodes;
+    if (has_no_thread) return refuse(team, GERFMUOD_TEAM_NO_THREAD, team->tasks);
+    return describe_task(team, node, class_, inputs, count, true);
+}
+
+/* Describes one task, before the start or after it. */
+static inline uint32_t add_task(gerfmuod_team *team, uint32_t node, uint32_t class_, const uint32_t *inputs, size_t count) {
+    if (team->fault) return team->fault;
+    if (team->is_complete) return hold_task(team, node, class_, inputs, count);
+    return describe_task(team, node, class_, inputs, count, false);
+}
+
 uint32_t gerfmuod_team_task(gerfmuod_team *team, uint32_t node, uint32_t class_, const uint32_t *inputs, size_t count,
                             uint32_t *number) {
     pthread_mutex_lock(&team->lock);
-    uint32_t refused = check_description(team);
-    if (!refused) refused = describe_task(team, node, class_, inputs, count);
+    uint32_t refused = add_task(team, node, class_, inputs, count);
     if (!refused && number) *number = team->tasks - 1;
     pthread_mutex_unlock(&team->lock);
     return refused;
@@ -158,21 +177,35 @@ uint32_t gerfmuod_team_describe(gerfmuod_team *team, uint32_t tasks, const uint8
     if (!refused && team->tasks) refused = refuse(team, GERFMUOD_DAG_WRONG_LIFE, GERFMUOD_DAG_NONE);
     for (uint32_t t = 0; t < tasks && !refused; t++) {
         uint32_t end = offsets[t + 1];
+        uint32_t node = nodes ? nodes[t] : 0, class_ = classes ? classes[t] : 0;
         if (from > end || (from < end && !inputs)) refused = refuse(team, GERFMUOD_DAG_BAD_SPEC, t);
-        else refused = describe_task(team, nodes ? nodes[t] : 0, classes ? classes[t] : 0, inputs ? inputs + from : NULL, end - from);
+        else refused = describe_task(team, node, class_, inputs ? inputs + from : NULL, end - from, false);
         from = end;
     }
     pthread_mutex_unlock(&team->lock);
     return refused;
 }
 
-/* ---- inputs from outside */
+/* ---- tasks made by tasks, and inputs from outside */
 
 /* Returns the refusal of a call about a task, which left the pool as it was. If there is none, wakes the threads with news. */
 static uint32_t result_of(gerfmuod_team *team, gerfmuod_dag_answer answer, uint32_t task) {
     if (answer.refused) return refuse(team, answer.refused, task);
     tell(team, answer.news, false);
     return GERFMUOD_DAG_OK;
+}
+
+uint32_t gerfmuod_team_spawn(gerfmuod_team *team, uint32_t node, uint32_t class_, const uint32_t *inputs, size_t count,
+                             gerfmuod_team_attach attach, void *data, uint32_t *number) {
+    pthread_mutex_lock(&team->lock);
+    uint32_t refused = add_task(team, node, class_, inputs, count), task = team->tasks - 1;
+    if (!refused) {
+        if (number) *number = task;
+        if (attach) attach(data, task);
+        if (team->is_complete) refused = result_of(team, gerfmuod_dag_release(&team->dag, task), task);
+    }
+    pthread_mutex_unlock(&team->lock);
+    return refused;
 }
 
 uint32_t gerfmuod_team_outside(gerfmuod_team *team, uint32_t task) {
@@ -496,13 +529,13 @@ static const struct refusal {
     {GERFMUOD_DAG_NO_NODE, "NoNode", "there is no such node, or the task is at another node"},
     {GERFMUOD_DAG_NO_TASK, "NoTask", "there is no such task, or an input is not lower than its task"},
     {GERFMUOD_DAG_WRONG_LIFE, "WrongLife", "the task or the pool is not in the state that the call needs"},
-    {GERFMUOD_DAG_INACTIVE, "Inactive", "a start that ran out of memory has begun at this node"},
+    {GERFMUOD_DAG_INACTIVE, "Inactive", "the pool was started, and all tasks of this node are done"},
     {GERFMUOD_DAG_ENDED, "Ended", "the pool is over"},
-    {GERFMUOD_DAG_HISTORY_FULL, "HistoryFull", "the graph needs more steps than a pool has, or a task awaits too many inputs"},
+    {GERFMUOD_DAG_HISTORY_FULL, "HistoryFull", "the tasks need more steps than a pool has, or a task awaits too many inputs"},
     {GERFMUOD_DAG_NO_MEMORY, "NoMemory", "an allocation failed"},
     {GERFMUOD_DAG_NO_POOL, "NoPool", "the pool is not open"},
     {GERFMUOD_DAG_BAD_SPEC, "BadSpec", "a number of nodes, a class or an array is out of its range"},
-    {GERFMUOD_TEAM_NO_THREAD, "NoThread", "there are fewer threads than nodes, and a node without one has a task"},
+    {GERFMUOD_TEAM_NO_THREAD, "NoThread", "there are fewer threads than nodes, and a node without one has or gets a task"},
     {GERFMUOD_TEAM_NOT_STARTED, "NotStarted", "the operating system started too few threads"},
     {GERFMUOD_TEAM_STOPPED, "Stopped", "a body failed, or the team was stopped"},
     {GERFMUOD_TEAM_RUNNING, "Running", "the pool is running"},

@@ -51,10 +51,11 @@ uint32_t gerfmuod_team_open(gerfmuod_team **team, uint32_t nodes);
 /* Frees the team. No thread may be in a call on it. NULL is ignored. */
 void gerfmuod_team_close(gerfmuod_team *team);
 
-/* Describes one more task that waits for `count` earlier tasks, and writes its number to *number, unless that is NULL.
- * Refused, and the graph does not change: WRONG_LIFE if the pool was started; NO_TASK if an input is not the number of an
- * earlier task; NO_NODE; BAD_SPEC (class). Refused, and every later call is refused for the same reason: HISTORY_FULL,
- * NO_MEMORY. */
+/* Describes one more task that waits for `count` earlier tasks, and writes its number to *number, unless that is NULL. In a
+ * run the new task is held until gerfmuod_team_release(team, its number): until then, store what its body needs. Refused, and
+ * the graph does not change: NO_TASK if an input is not the number of an earlier task; NO_NODE; BAD_SPEC (class). Refused before
+ * the start, and every later call is refused for the same reason: HISTORY_FULL, NO_MEMORY. Refused in a run: as
+ * gerfmuod_team_spawn. */
 uint32_t gerfmuod_team_task(gerfmuod_team *team, uint32_t node, uint32_t class_, const uint32_t *inputs, size_t count,
                             uint32_t *number);
 
@@ -64,6 +65,20 @@ uint32_t gerfmuod_team_task(gerfmuod_team *team, uint32_t node, uint32_t class_,
  * gerfmuod_team_task. gerfmuod_team_at then returns the first invalid task, and the graph has the tasks before it. */
 uint32_t gerfmuod_team_describe(gerfmuod_team *team, uint32_t tasks, const uint8_t *nodes, const uint8_t *classes,
                                 const uint32_t *offsets, const uint32_t *inputs);
+
+/* Called with the number of a new task, before it can run and while the team's lock is held: stores what its body needs. It
+ * makes no call on the team. */
+typedef void (*gerfmuod_team_attach)(void *data, uint32_t task);
+
+/* Describes one more task, as gerfmuod_team_task, and then calls attach(data, number), unless `attach` is NULL. In a run the
+ * task then runs as soon as its inputs are done: bodies call this to make further tasks. An input that is done already is not
+ * waited for. Refused, and nothing changes: as gerfmuod_team_task before the start; in a run NO_TASK; NO_NODE; BAD_SPEC (class);
+ * NO_THREAD if the node has no thread; ENDED if all tasks are done; HISTORY_FULL if fewer than 3 steps are left; NO_MEMORY;
+ * INACTIVE if all tasks of the node are done, which is never so of the node of a body that runs. The body may then do the work
+ * of the task itself. Only an input can be refused when the task was added already, as HISTORY_FULL or NO_MEMORY. Since the
+ * task must not run then, the team stops: every later call is refused for that reason. */
+uint32_t gerfmuod_team_spawn(gerfmuod_team *team, uint32_t node, uint32_t class_, const uint32_t *inputs, size_t count,
+                             gerfmuod_team_attach attach, void *data, uint32_t *number);
 
 /* One more input from outside for a task, such as a message, a timer or a device: the task does not run before
  * gerfmuod_team_release was called once for each of them. The call is valid while the graph is described, and later for a task
