@@ -29,6 +29,13 @@ module gerfmuod
       integer(c_int32_t), value :: task
       integer(c_int) :: failed
     end function
+
+    ! Stores what the body of a new task needs, before the task can run. It makes no call on the team.
+    subroutine gerfmuod_attach(data, task) bind(c)
+      import :: c_ptr, c_int32_t
+      type(c_ptr), value :: data
+      integer(c_int32_t), value :: task
+    end subroutine
   end interface
 
   interface
@@ -61,6 +68,19 @@ module gerfmuod
       integer(c_int32_t), value :: tasks
       integer(c_int8_t), intent(in), optional :: nodes(*), classes(*)
       integer(c_int32_t), intent(in) :: offsets(*), inputs(*)
+      integer(c_int32_t) :: refused
+    end function
+
+    ! One more task, before the start or in a run, which also waits for so many calls of gerfmuod_team_release. attach is
+    ! c_funloc of a gerfmuod_attach, or c_null_funptr.
+    function gerfmuod_team_spawn(team, node, class, inputs, count, outside, attach, data, number) bind(c) result(refused)
+      import :: c_ptr, c_funptr, c_int32_t, c_size_t
+      type(c_ptr), value :: team, data
+      integer(c_int32_t), value :: node, class, outside
+      integer(c_int32_t), intent(in) :: inputs(*)
+      integer(c_size_t), value :: count
+      type(c_funptr), value :: attach
+      integer(c_int32_t), intent(out), optional :: number
       integer(c_int32_t) :: refused
     end function
 

@@ -8,14 +8,15 @@
 //     pool.run(4);
 //
 // In a run, a body runs once, after all tasks that it waits for, and sees what they wrote. A pool is used by one thread,
-// except that run() calls the bodies on several threads, and that any thread may call outside() and release(). If a body
-// throws, the pool stops, and run() throws that exception.
+// except that run() calls the bodies on several threads, and that any thread, also a body, may call task(), outside() and
+// release(). If a body throws, the pool stops, and run() throws that exception.
 // Link with -lgerfmuod -pthread.
 #ifndef GERFMUOD_HPP
 #define GERFMUOD_HPP
 
 #include "gerfmuod_team.h"
 
+#include <array>
 #include <cstdint>
 #include <cstdio>
 #include <exception>
@@ -69,20 +70,20 @@ class Pool {
         check(refused, GERFMUOD_DAG_NONE);
     }
 
-    // Describes one more task, which waits for the tasks in `after`. Throws Refused when gerfmuod_team_task is refused.
-    Task task(Body body, const std::vector<Task> &after = {}, Place place = {}) {
+    // One more task, before the start or in a run. It waits for the tasks in `after`, and for so many calls of release().
+    // Throws Refused when gerfmuod_team_spawn is refused.
+    Task task(Body body, const std::vector<Task> &after = {}, Place place = {}, std::uint32_t releases = 0) {
         std::vector<std::uint32_t> inputs;
         inputs.reserve(after.size());
         for (Task input : after) inputs.push_back(input.number);
-        Task made{GERFMUOD_DAG_NONE};
-        check(gerfmuod_team_task(team.get(), place.node, place.class_, inputs.data(), inputs.size(), &made.number));
-        try {
-            bodies.push_back(std::move(body));
-        } catch (...) { // out of memory: a task without a body must not run
-            gerfmuod_team_stop(team.get(), made.number);
-            throw;
-        }
-        return made;
+        std::lock_guard<std::mutex> held(lock);
+        Body &own = body_of(count, true);
+        own = std::move(body); // before any thread can run it
+        std::uint32_t refused = gerfmuod_team_spawn(team.get(), place.node, place.class_, inputs.data(), inputs.size(), releases,
+                                                    nullptr, nullptr, nullptr);
+        if (refused) own = nullptr;
+        check(refused);
+        return Task{count++};
     }
 
     // One more input from outside for a task, such as a message, a timer or a device: its body does not run before release()
@@ -107,7 +108,7 @@ class Pool {
     void again() { check(gerfmuod_team_again(team.get())); }
 
     // The number of tasks that were described.
-    std::size_t size() const { return bodies.size(); }
+    std::size_t size() const { return std::lock_guard<std::mutex>(lock), count; }
 
     // The steps of the pool as a trace, which `tp audit` judges.
     std::string trace() const {
@@ -145,7 +146,7 @@ class Pool {
     static int call(void *context, std::uint32_t task) noexcept {
         Pool *pool = static_cast<Pool *>(context);
         try {
-            pool->bodies[task]();
+            pool->body_of(task)();
             return 0;
         } catch (...) {
             std::lock_guard<std::mutex> held(pool->lock);
@@ -154,9 +155,18 @@ class Pool {
         }
     }
 
+    // Returns the body of a task. Bodies never move: a block has twice the room of the one before, and the first one 64.
+    Body &body_of(std::uint32_t task, bool is_new = false) {
+        std::uint32_t block = 0, place = task;
+        for (; place >= 64u << block; block++) place -= 64u << block;
+        if (is_new && !blocks[block]) blocks[block].reset(new Body[64u << block]);
+        return blocks[block][place];
+    }
+
     std::unique_ptr<gerfmuod_team, Close> team;
-    std::vector<Body> bodies;
-    std::mutex lock; // of `thrown`
+    mutable std::mutex lock; // of what follows; a body is read without it: its task was taken after it was written
+    std::uint32_t count = 0;
+    std::array<std::unique_ptr<Body[]>, 16> blocks; // for more tasks than a pool can have
     std::exception_ptr thrown;
 };
 

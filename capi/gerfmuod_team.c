@@ -147,24 +147,11 @@ static uint32_t check_description(gerfmuod_team *team) {
     return team->is_complete ? refuse(team, GERFMUOD_DAG_WRONG_LIFE, team->tasks) : GERFMUOD_DAG_OK;
 }
 
-/* Describes a task, which is held, after the start. */
-static NOINLINE uint32_t hold_task(gerfmuod_team *team, uint32_t node, uint32_t class_, const uint32_t *inputs, size_t count) {
-    bool has_no_thread = team->threads && node >= team->threads && node < team->nodes;
-    if (has_no_thread) return refuse(team, GERFMUOD_TEAM_NO_THREAD, team->tasks);
-    return describe_task(team, node, class_, inputs, count, true);
-}
-
-/* Describes one task, before the start or after it. */
-static inline uint32_t add_task(gerfmuod_team *team, uint32_t node, uint32_t class_, const uint32_t *inputs, size_t count) {
-    if (team->fault) return team->fault;
-    if (team->is_complete) return hold_task(team, node, class_, inputs, count);
-    return describe_task(team, node, class_, inputs, count, false);
-}
-
 uint32_t gerfmuod_team_task(gerfmuod_team *team, uint32_t node, uint32_t class_, const uint32_t *inputs, size_t count,
                             uint32_t *number) {
     pthread_mutex_lock(&team->lock);
-    uint32_t refused = add_task(team, node, class_, inputs, count);
+    uint32_t refused = check_description(team);
+    if (!refused) refused = describe_task(team, node, class_, inputs, count, false);
     if (!refused && number) *number = team->tasks - 1;
     pthread_mutex_unlock(&team->lock);
     return refused;
@@ -195,14 +182,30 @@ static uint32_t result_of(gerfmuod_team *team, gerfmuod_dag_answer answer, uint3
     return GERFMUOD_DAG_OK;
 }
 
+/* Describes a task that awaits inputs from outside. In a run the pool lets it await one from the beginning: that is the first of
+ * them, or, if there are none, gerfmuod_team_spawn releases it. */
+static NOINLINE uint32_t hold_task(gerfmuod_team *team, uint32_t node, uint32_t class_, const uint32_t *inputs, size_t count,
+                                   uint32_t outside) {
+    bool is_in_run = team->is_complete;
+    if (team->fault) return team->fault;
+    if (outside > GERFMUOD_DAG_MAX_STEPS) return refuse(team, GERFMUOD_DAG_HISTORY_FULL, team->tasks);
+    if (team->threads && node >= team->threads && node < team->nodes) return refuse(team, GERFMUOD_TEAM_NO_THREAD, team->tasks);
+    uint32_t refused = describe_task(team, node, class_, inputs, count, is_in_run), task = team->tasks - 1;
+    for (uint32_t k = is_in_run; k < outside && !refused; k++) {
+        refused = gerfmuod_dag_outside(&team->dag, task).refused;
+        if (refused) return fail(team, refused, task);
+    }
+    return refused;
+}
+
 uint32_t gerfmuod_team_spawn(gerfmuod_team *team, uint32_t node, uint32_t class_, const uint32_t *inputs, size_t count,
-                             gerfmuod_team_attach attach, void *data, uint32_t *number) {
+                             uint32_t outside, gerfmuod_team_attach attach, void *data, uint32_t *number) {
     pthread_mutex_lock(&team->lock);
-    uint32_t refused = add_task(team, node, class_, inputs, count), task = team->tasks - 1;
+    uint32_t refused = hold_task(team, node, class_, inputs, count, outside), task = team->tasks - 1;
     if (!refused) {
         if (number) *number = task;
         if (attach) attach(data, task);
-        if (team->is_complete) refused = result_of(team, gerfmuod_dag_release(&team->dag, task), task);
+        if (team->is_complete && !outside) refused = result_of(team, gerfmuod_dag_release(&team->dag, task), task);
     }
     pthread_mutex_unlock(&team->lock);
     return refused;

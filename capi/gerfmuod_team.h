@@ -51,11 +51,10 @@ uint32_t gerfmuod_team_open(gerfmuod_team **team, uint32_t nodes);
 /* Frees the team. No thread may be in a call on it. NULL is ignored. */
 void gerfmuod_team_close(gerfmuod_team *team);
 
-/* Describes one more task that waits for `count` earlier tasks, and writes its number to *number, unless that is NULL. In a
- * run the new task is held until gerfmuod_team_release(team, its number): until then, store what its body needs. Refused, and
- * the graph does not change: NO_TASK if an input is not the number of an earlier task; NO_NODE; BAD_SPEC (class). Refused before
- * the start, and every later call is refused for the same reason: HISTORY_FULL, NO_MEMORY. Refused in a run: as
- * gerfmuod_team_spawn. */
+/* Describes one more task that waits for `count` earlier tasks, and writes its number to *number, unless that is NULL.
+ * Refused, and the graph does not change: WRONG_LIFE if the pool was started, where gerfmuod_team_spawn adds tasks; NO_TASK if
+ * an input is not the number of an earlier task; NO_NODE; BAD_SPEC (class). Refused, and every later call is refused for the
+ * same reason: HISTORY_FULL, NO_MEMORY. */
 uint32_t gerfmuod_team_task(gerfmuod_team *team, uint32_t node, uint32_t class_, const uint32_t *inputs, size_t count,
                             uint32_t *number);
 
@@ -70,15 +69,17 @@ uint32_t gerfmuod_team_describe(gerfmuod_team *team, uint32_t tasks, const uint8
  * makes no call on the team. */
 typedef void (*gerfmuod_team_attach)(void *data, uint32_t task);
 
-/* Describes one more task, as gerfmuod_team_task, and then calls attach(data, number), unless `attach` is NULL. In a run the
- * task then runs as soon as its inputs are done: bodies call this to make further tasks. An input that is done already is not
- * waited for. Refused, and nothing changes: as gerfmuod_team_task before the start; in a run NO_TASK; NO_NODE; BAD_SPEC (class);
- * NO_THREAD if the node has no thread; ENDED if all tasks are done; HISTORY_FULL if fewer than 3 steps are left; NO_MEMORY;
- * INACTIVE if all tasks of the node are done, which is never so of the node of a body that runs. The body may then do the work
- * of the task itself. Only an input can be refused when the task was added already, as HISTORY_FULL or NO_MEMORY. Since the
- * task must not run then, the team stops: every later call is refused for that reason. */
+/* One more task, before the start or in a run: bodies call this to make further tasks. It waits for `count` tasks, of which
+ * those that are done already count as nothing, and for `outside` inputs from outside (gerfmuod_team_release), and runs as soon
+ * as all are there. Before it can run, attach(data, its number) is called, unless `attach` is NULL, and its number is written to
+ * *number, unless that is NULL. Refused, and nothing changes: NO_TASK if an input is not the number of an earlier task; NO_NODE;
+ * BAD_SPEC (class); ENDED if all tasks are done; HISTORY_FULL if `outside` is above GERFMUOD_DAG_MAX_STEPS; and in a run:
+ * NO_THREAD if the node has no thread; HISTORY_FULL if fewer than 3 steps are left; NO_MEMORY; INACTIVE if all tasks of the node
+ * are done, which is never so at the node of a body that runs. A body that is refused can do the work of the task itself.
+ * Refused, and every later call is refused for the same reason: HISTORY_FULL or NO_MEMORY before the start, and in a run if it is
+ * an input that is refused, since the task must not run without it. */
 uint32_t gerfmuod_team_spawn(gerfmuod_team *team, uint32_t node, uint32_t class_, const uint32_t *inputs, size_t count,
-                             gerfmuod_team_attach attach, void *data, uint32_t *number);
+                             uint32_t outside, gerfmuod_team_attach attach, void *data, uint32_t *number);
 
 /* One more input from outside for a task, such as a message, a timer or a device: the task does not run before
  * gerfmuod_team_release was called once for each of them. The call is valid while the graph is described, and later for a task

@@ -1,5 +1,5 @@
-// exceptions.cpp: tests of exceptions and refusals in gerfmuod.hpp, of a graph on two nodes with its trace, of inputs from
-// outside, of graphs that run again, and of recorded times.
+// exceptions.cpp: tests of exceptions and refusals in gerfmuod.hpp, of a graph on two nodes with its trace, of tasks made by
+// tasks, of inputs from outside, of graphs that run again, and of recorded times.
 #include "gerfmuod.hpp"
 
 #include <cstdio>
@@ -65,14 +65,33 @@ static bool refuses() {
     });
     std::string inside = refusal([] {
         gerfmuod::Pool pool;
-        pool.task([&] { pool.task([] {}); });
+        pool.task([&] { pool.run(1); });
         pool.run(2);
     });
     std::printf("%s\n%s\n%s\n%s\n%s\n", no_thread.c_str(), no_pool.c_str(), no_task.c_str(), again.c_str(),
                 inside.c_str());
     return no_thread.rfind("NoThread at task 1:", 0) == 0 && no_pool.rfind("BadSpec:", 0) == 0 &&
            no_task.rfind("NoTask at task 0:", 0) == 0 && again.rfind("Ended:", 0) == 0 &&
-           inside.rfind("WrongLife at task 1:", 0) == 0;
+           inside.rfind("Running:", 0) == 0;
+}
+
+// Tasks are made by tasks. The refused ones leave nothing behind, and a graph that grew cannot run again.
+static bool grows() {
+    int runs = 0;
+    std::string refused[3];
+    gerfmuod::Pool pool(2);
+    auto kept = std::make_shared<int>(7);
+    auto first = pool.task([&] {
+        refused[0] = refusal([&] { pool.task([kept] {}, {}, {0, 9}); });
+        refused[1] = refusal([&] { pool.task([kept] {}, {gerfmuod::Task{9}}); });
+        for (int k = 0; k < 100; k++) pool.task([&] { runs++; }, {}, {0, 1});
+    });
+    pool.task([&] { runs += 1000 * *kept; }, {first});
+    pool.run(1);
+    refused[2] = refusal([&] { pool.task([] {}); });
+    std::string again = refusal([&] { pool.again(); });
+    bool is_refused = refused[0].rfind("BadSpec", 0) == 0 && refused[1].rfind("NoTask", 0) == 0 && refused[2].rfind("Ended", 0) == 0;
+    return runs == 7100 && is_refused && again.rfind("WrongLife", 0) == 0 && pool.size() == 102 && kept.use_count() == 1;
 }
 
 // A task waits for a thread of the program's own. A body announces the input of the second one.
@@ -145,7 +164,7 @@ static bool records() {
 }
 
 int main() {
-    bool well = sums() && stops() && refuses() && waits() && repeats() && records();
+    bool well = sums() && stops() && refuses() && grows() && waits() && repeats() && records();
     std::printf("%s\n", well ? "as it should be" : "not as it should be");
     return well ? 0 : 1;
 }

@@ -1,6 +1,6 @@
 /* failures.c: a pool and a team when an allocation fails, or a thread cannot be started. For each N, the Nth allocation of the
  * same run fails: the call is refused as NO_MEMORY, is repeated, and succeeds; the pool then runs to its end, twice. A team stops
- * instead. Then the memory of a large pool is measured. Prints each check that fails; the exit status is 1 if one failed.
+ * instead, unless a body makes a task: that call may be repeated. Then the memory of a large pool is measured. Prints each check that fails; the exit status is 1 if one failed.
  *
  * Link with -Wl,--wrap=malloc,--wrap=calloc,--wrap=realloc,--wrap=free,--wrap=pthread_create. */
 #define _GNU_SOURCE
@@ -214,6 +214,51 @@ static void check_team(bool records) {
     check("a stream", file && !fclose(file));
 }
 
+struct growth {
+    gerfmuod_team *team;
+    uint32_t ran, refused, stopped;
+    bool waits; /* each task waits for the two before it */
+};
+
+/* The first task makes all others. One that is refused is made again. */
+static int growing_body(void *context, uint32_t task) {
+    struct growth *growth = context;
+    growth->ran++;
+    for (uint32_t t = 1; task == 0 && t < TASKS; t++) {
+        const uint32_t inputs[] = {t - 1, t - 2};
+        size_t count = growth->waits ? t < 2 ? t : 2 : 0;
+        uint32_t refused = gerfmuod_team_spawn(growth->team, 0, 0, inputs, count, t % 2, NULL, NULL, NULL);
+        if (refused) growth->refused++, refused = gerfmuod_team_spawn(growth->team, 0, 0, inputs, count, t % 2, NULL, NULL, NULL);
+        if (refused) return growth->stopped++, 0;
+        if (t % 2) check("release", !gerfmuod_team_release(growth->team, t));
+    }
+    return 0;
+}
+
+/* A team whose Nth allocation fails while it runs: a body is refused a task, or the run is refused. */
+static void check_growth(bool records, bool waits) {
+    bool has_failed = true;
+    uint32_t repeated = 0;
+    for (long n = 1; has_failed; n++) {
+        struct growth growth = {.waits = waits};
+        gerfmuod_team_open(&growth.team, 1);
+        if (records) gerfmuod_team_record(growth.team, 16);
+        gerfmuod_team_task(growth.team, 0, 0, NULL, 0, NULL);
+        allocations_left = n;
+        uint32_t refused = gerfmuod_team_run(growth.team, 1, growing_body, &growth);
+        has_failed = allocations_left < 0;
+        allocations_left = -1;
+        check("the run ends, or memory ran out", !refused || refused == GERFMUOD_DAG_NO_MEMORY);
+        check("all ran, or it was refused", refused || growth.ran == TASKS);
+        check("a failure is not hidden", has_failed == (refused || growth.refused));
+        check("only an input that is refused stops the team", !growth.stopped || (waits && refused));
+        check("a task that was refused was made again", !growth.refused || growth.stopped || !refused);
+        repeated += growth.refused && !refused;
+        gerfmuod_team_close(growth.team);
+    }
+    check("a task was made again", repeated > 0);
+}
+
 static void check_threads(void) {
     for (long n = 1; n <= 3; n++) {
         uint8_t ran[TASKS] = {0};
@@ -269,6 +314,7 @@ int main(void) {
     check_pool();
     check_team(false);
     check_team(true);
+    for (int kind = 0; kind < 4; kind++) check_growth(kind & 1, kind & 2);
     check_threads();
     check_memory();
     printf("%d results checked, %d not as they should be\n", checked, failed);

@@ -1,20 +1,21 @@
 /* fuzz.c: random calls on pools, valid and invalid ones, compared with the plain model of model.h.
  *
- *   fuzz CALLS [SEED [forgets|loses]]     forgets: the model sometimes drops an input; loses: it sometimes drops an input from
- *                                         outside. Both have to be detected
+ *   fuzz CALLS [SEED [forgets|loses|holds]]     forgets: the model sometimes drops an input; loses: it sometimes drops an input
+ *                                               from outside; holds: it does not hold a task that is added after the start.
+ *                                               All have to be detected
  *
- * Each pool has up to 64 tasks. After its random calls it is run to its end, and some pools then run again. No wait is silent:
- * each round of calls makes progress or detects termination, or an input from outside is awaited. The steps of each run are
- * counted. The exit status is 1 at the first difference. */
+ * Each pool has up to 64 tasks, some of them added after its start. After its random calls it is run to its end, and some pools
+ * then run again. No wait is silent: each round of calls makes progress or detects termination, or an input from outside is
+ * awaited. The steps of each run are counted. The exit status is 1 at the first difference. */
 #include "model.h"
 #include <inttypes.h>
 #include <stdio.h>
 #include <stdlib.h>
 
-static uint64_t seed, calls, reruns, counts[16];
+static uint64_t seed, calls, reruns, later, counts[16];
 static gerfmuod_dag dag;
 static model m;
-static bool forgets, loses;
+static bool forgets, loses, holds, grows; /* grows: this pool gets tasks after its start */
 
 static uint32_t below(uint32_t limit) {
     seed ^= seed << 13, seed ^= seed >> 7, seed ^= seed << 17;
@@ -50,11 +51,16 @@ static void check(const char *call, gerfmuod_dag_answer got, expected want) {
 
 static void task(void) {
     uint32_t node = about(m.nodes), class_ = about(GERFMUOD_DAG_CLASSES);
+    uint32_t before = m.tasks;
+    if (m.tasks == MOST_TASKS) return;
     check("task", gerfmuod_dag_task(&dag, node, class_), model_task(&m, node, class_));
+    if (m.is_started) later += m.tasks - before;
+    if (holds && m.is_started && m.tasks > before) m.task[before].outside = 0;
 }
 
 static void input(void) {
     uint32_t source = about(m.tasks ? m.tasks - 1 : 0);
+    if (m.inputs == MOST_INPUTS) return;
     check("input", gerfmuod_dag_input(&dag, source), model_input(&m, source));
 }
 
@@ -80,9 +86,9 @@ static void again(void) { check("again", gerfmuod_dag_again(&dag), model_again(&
 
 static void describe(void) {
     uint32_t tasks = below(MOST_TASKS);
-    for (uint32_t i = 0; i < tasks && m.tasks < MOST_TASKS - 2; i++) {
+    for (uint32_t i = 0; i < tasks; i++) {
         task();
-        for (uint32_t inputs = below(4); inputs > 0 && m.inputs < MOST_INPUTS; inputs--) input();
+        for (uint32_t inputs = below(4); inputs > 0; inputs--) input();
         if (below(4) == 0) outside(about(m.tasks));
         if (below(16) == 0) release(about(m.tasks));
         if (below(50) == 0) next(below(m.nodes));
@@ -91,19 +97,28 @@ static void describe(void) {
     }
 }
 
+/* A task is added as a body adds it. Some stay held. */
+static void add(void) {
+    uint32_t before = m.tasks;
+    task();
+    for (uint32_t inputs = below(4); inputs > 0; inputs--) input();
+    if (m.tasks > before && below(4)) release(before);
+}
+
 /* Makes a call after the start, mostly a valid one. */
 static void step(void) {
-    uint32_t kind = below(100), number = below(m.tasks + 1);
-    if (kind < 35) next(below(m.nodes));
+    uint32_t kind = below(grows ? 110 : 95), number = below(m.tasks + 1);
+    if (kind >= 100) add();
+    else if (kind < 35) next(below(m.nodes));
     else if (kind < 40) next(about(m.nodes));
     else if (kind < 80 && number < m.tasks) done(m.task[number].node, number);
     else if (kind < 83) outside(about(m.tasks));
-    else if (kind < 90) release(about(m.tasks));
-    else if (kind < 95) done(about(m.nodes), about(m.tasks));
-    else if (kind < 96) task();
-    else if (kind < 97) again(); /* refused, unless the random calls have come to the end */
-    else if (kind < 99) input();
-    else start();
+    else if (kind < 89) release(about(m.tasks));
+    else if (kind < 93) done(about(m.nodes), about(m.tasks));
+    else if (kind < 94) again(); /* refused, unless the random calls have come to the end */
+    else if (kind < 95) start();
+    else if (kind < 97) task();
+    else input();
 }
 
 /* Releases an input from outside, of a task drawn at random among those that await one. Returns whether there was one. */
@@ -159,17 +174,18 @@ static void run(void) {
         count_steps();
         if (below(2)) return;
         again();
-        reruns++;
-    } while (true);
+        reruns += !m.is_extended;
+    } while (!m.is_extended);
 }
 
 int main(int argc, char **argv) {
     uint64_t most = argc > 1 ? strtoull(argv[1], NULL, 10) : 100000, pools = 0;
     seed = argc > 2 ? strtoull(argv[2], NULL, 10) * 2 + 1 : 88172645463325253u;
-    forgets = argc > 3 && argv[3][0] == 'f', loses = argc > 3 && argv[3][0] == 'l';
+    forgets = argc > 3 && argv[3][0] == 'f', loses = argc > 3 && argv[3][0] == 'l', holds = argc > 3 && argv[3][0] == 'h';
     for (; calls < most; pools++) {
         uint32_t nodes = about(GERFMUOD_DAG_MAX_NODES) + 1;
         if (gerfmuod_dag_open(&dag, nodes) != model_open(&m, nodes)) return printf("open %u\n", nodes), 1;
+        grows = below(2);
         describe();
         if (below(20) && m.is_open) { /* else it is closed before it is started */
             start();
@@ -185,6 +201,6 @@ int main(int argc, char **argv) {
     }
     printf("%" PRIu64 " calls on %" PRIu64 " pools: %" PRIu64 " refused, %" PRIu64 " tasks run, %" PRIu64 " waits, ", calls, pools,
            counts[0], counts[GERFMUOD_DAG_RUN + 1], counts[GERFMUOD_DAG_WAIT + 1]);
-    printf("%" PRIu64 " pools run again, as the model says\n", reruns);
+    printf("%" PRIu64 " pools run again, %" PRIu64 " tasks added in a run, as the model says\n", reruns, later);
     return 0;
 }

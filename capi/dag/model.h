@@ -12,7 +12,7 @@ enum way { OUT, UNDER_WAY, CAME }; /* of an input; one between two nodes is a me
 
 typedef struct {
     uint32_t nodes, tasks, inputs, messages;
-    bool is_open, is_started, is_over;
+    bool is_open, is_started, is_over, is_extended; /* is_extended: a task or an input was added after the start */
     struct {
         uint32_t node, class_, outside; /* outside: how many inputs from outside are awaited */
         enum stage stage;
@@ -36,29 +36,23 @@ static uint32_t model_open(model *m, uint32_t nodes) {
     return m->is_open ? GERFMUOD_DAG_OK : GERFMUOD_DAG_BAD_SPEC;
 }
 
-static bool model_is_done(const model *m) {
+/* Whether all tasks of a node are done, or all tasks (GERFMUOD_DAG_NONE). */
+static bool model_is_done(const model *m, uint32_t node) {
     for (uint32_t t = 0; t < m->tasks; t++)
-        if (m->task[t].stage != DONE) return false;
+        if (m->task[t].stage != DONE && (node == GERFMUOD_DAG_NONE || m->task[t].node == node)) return false;
     return true;
 }
 
 static expected model_task(model *m, uint32_t node, uint32_t class_) {
     if (!m->is_open) return (expected){.refused = GERFMUOD_DAG_NO_POOL};
-    if (m->is_started) return (expected){.refused = GERFMUOD_DAG_WRONG_LIFE};
     if (node >= m->nodes) return (expected){.refused = GERFMUOD_DAG_NO_NODE};
     if (class_ >= GERFMUOD_DAG_CLASSES) return (expected){.refused = GERFMUOD_DAG_BAD_SPEC};
+    if (m->is_over) return (expected){.refused = GERFMUOD_DAG_ENDED};
+    if (m->is_started && model_is_done(m, node)) return (expected){.refused = GERFMUOD_DAG_INACTIVE};
+    m->is_extended |= m->is_started;
     m->task[m->tasks].node = node, m->task[m->tasks].class_ = class_;
-    m->task[m->tasks].outside = 0, m->task[m->tasks].stage = FRESH;
+    m->task[m->tasks].outside = m->is_started, m->task[m->tasks].stage = FRESH; /* held, if the pool was started */
     return (expected){.number = m->tasks++};
-}
-
-static expected model_input(model *m, uint32_t source) {
-    if (!m->is_open) return (expected){.refused = GERFMUOD_DAG_NO_POOL};
-    if (m->is_started) return (expected){.refused = GERFMUOD_DAG_WRONG_LIFE};
-    if (m->tasks == 0 || source >= m->tasks - 1) return (expected){.refused = GERFMUOD_DAG_NO_TASK};
-    m->input[m->inputs].source = source, m->input[m->inputs].target = m->tasks - 1, m->input[m->inputs].way = OUT;
-    m->inputs++;
-    return (expected){0};
 }
 
 /* Whether a task waits for an input, of a task or from outside. */
@@ -66,6 +60,19 @@ static bool model_waits(const model *m, uint32_t task) {
     for (uint32_t k = 0; k < m->inputs; k++)
         if (m->input[k].target == task && m->input[k].way != CAME) return true;
     return m->task[task].outside > 0;
+}
+
+static expected model_input(model *m, uint32_t source) {
+    if (!m->is_open) return (expected){.refused = GERFMUOD_DAG_NO_POOL};
+    if (m->tasks == 0 || source >= m->tasks - 1) return (expected){.refused = GERFMUOD_DAG_NO_TASK};
+    uint32_t target = m->tasks - 1;
+    if (m->task[target].stage != FRESH) return (expected){.refused = GERFMUOD_DAG_WRONG_LIFE};
+    if (m->is_started && !model_waits(m, target)) return (expected){.refused = GERFMUOD_DAG_WRONG_LIFE};
+    m->is_extended |= m->is_started;
+    if (m->task[source].stage == DONE) return (expected){0}; /* there is nothing to wait for */
+    m->input[m->inputs].source = source, m->input[m->inputs].target = target, m->input[m->inputs].way = OUT;
+    m->inputs++;
+    return (expected){0};
 }
 
 static expected model_outside(model *m, uint32_t task) {
@@ -119,7 +126,7 @@ static expected model_next(model *m, uint32_t node) {
         if (m->input[k].way == UNDER_WAY && m->task[m->input[k].target].node == node) m->input[k].way = CAME;
     uint64_t first, all = model_ready(m, node, &first);
     if (all) return (expected){.told = GERFMUOD_DAG_RUN, .ready = first, .news = all & (all - 1) ? 1u << node : 0};
-    m->is_over = model_is_done(m);
+    m->is_over = model_is_done(m, GERFMUOD_DAG_NONE);
     return (expected){.told = m->is_over ? GERFMUOD_DAG_OVER : GERFMUOD_DAG_WAIT};
 }
 
@@ -141,7 +148,7 @@ static expected model_done(model *m, uint32_t node, uint32_t task) {
 
 static expected model_again(model *m) {
     if (!m->is_open) return (expected){.refused = GERFMUOD_DAG_NO_POOL};
-    if (!m->is_over) return (expected){.refused = GERFMUOD_DAG_WRONG_LIFE};
+    if (!m->is_over || m->is_extended) return (expected){.refused = GERFMUOD_DAG_WRONG_LIFE};
     m->is_over = false, m->messages = 0;
     for (uint32_t t = 0; t < m->tasks; t++) m->task[t].stage = FRESH;
     for (uint32_t k = 0; k < m->inputs; k++) m->input[k].way = OUT;

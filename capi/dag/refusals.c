@@ -71,8 +71,9 @@ static void check_run(void) {
     check("done before the start", gerfmuod_dag_done(&dag, 0, 0).refused, GERFMUOD_DAG_WRONG_LIFE);
     check("start", gerfmuod_dag_start(&dag).refused, GERFMUOD_DAG_OK);
     check("start again", gerfmuod_dag_start(&dag).refused, GERFMUOD_DAG_WRONG_LIFE);
-    check("task after the start", gerfmuod_dag_task(&dag, 0, 0).refused, GERFMUOD_DAG_WRONG_LIFE);
-    check("input after the start", gerfmuod_dag_input(&dag, 0).refused, GERFMUOD_DAG_WRONG_LIFE);
+    check("task at no node after the start", gerfmuod_dag_task(&dag, 2, 0).refused, GERFMUOD_DAG_NO_NODE);
+    check("task of no class after the start", gerfmuod_dag_task(&dag, 0, 4).refused, GERFMUOD_DAG_BAD_SPEC);
+    check("input of itself after the start", gerfmuod_dag_input(&dag, 1).refused, GERFMUOD_DAG_NO_TASK);
     check("done before it was returned", gerfmuod_dag_done(&dag, 0, 0).refused, GERFMUOD_DAG_WRONG_LIFE);
     check("done of no task", gerfmuod_dag_done(&dag, 0, 2).refused, GERFMUOD_DAG_NO_TASK);
     check("next at no node", gerfmuod_dag_next(&dag, 2).refused, GERFMUOD_DAG_NO_NODE);
@@ -90,7 +91,8 @@ static void check_run(void) {
     check("done", gerfmuod_dag_done(&dag, 1, 1).refused, GERFMUOD_DAG_OK);
     check("over", gerfmuod_dag_next(&dag, 0).told, GERFMUOD_DAG_OVER);
     check("over again, at each node", gerfmuod_dag_next(&dag, 1).told, GERFMUOD_DAG_OVER);
-    check("task after the end", gerfmuod_dag_task(&dag, 0, 0).refused, GERFMUOD_DAG_WRONG_LIFE);
+    check("task after the end", gerfmuod_dag_task(&dag, 0, 0).refused, GERFMUOD_DAG_ENDED);
+    check("task of no class after the end", gerfmuod_dag_task(&dag, 0, 4).refused, GERFMUOD_DAG_BAD_SPEC);
     check("input after the end", gerfmuod_dag_input(&dag, 0).refused, GERFMUOD_DAG_WRONG_LIFE);
     check("done after the end", gerfmuod_dag_done(&dag, 1, 1).refused, GERFMUOD_DAG_WRONG_LIFE);
     check("no such step", gerfmuod_dag_step(&dag, UINT32_MAX).kind, 255);
@@ -164,8 +166,6 @@ static void check_again(void) {
     for (uint32_t run = 0; run < 3; run++) {
         check("again before the first task", gerfmuod_dag_again(&dag).refused, GERFMUOD_DAG_WRONG_LIFE);
         check("start again", gerfmuod_dag_start(&dag).refused, GERFMUOD_DAG_WRONG_LIFE);
-        check("task of a second run", gerfmuod_dag_task(&dag, 0, 0).refused, GERFMUOD_DAG_WRONG_LIFE);
-        check("input of a second run", gerfmuod_dag_input(&dag, 0).refused, GERFMUOD_DAG_WRONG_LIFE);
         check("done before it was returned", gerfmuod_dag_done(&dag, 0, 0).refused, GERFMUOD_DAG_WRONG_LIFE);
         check("release of the run before", gerfmuod_dag_release(&dag, 1).refused, GERFMUOD_DAG_WRONG_LIFE);
         check("outside of a task without inputs", gerfmuod_dag_outside(&dag, 0).refused, GERFMUOD_DAG_WRONG_LIFE);
@@ -184,6 +184,84 @@ static void check_again(void) {
         check("the steps are those of one run", steps[run], steps[0]);
         check("again", gerfmuod_dag_again(&dag).refused, GERFMUOD_DAG_OK);
     }
+    gerfmuod_dag_close(&dag);
+}
+
+/* Tasks that are added after the start. Task 0 adds tasks 1 and 2, at its own node; the other node has none. */
+static void check_growth(void) {
+    gerfmuod_dag dag;
+    gerfmuod_dag_open(&dag, 2);
+    gerfmuod_dag_task(&dag, 0, 0);
+    gerfmuod_dag_start(&dag);
+    check("task at a node without tasks", gerfmuod_dag_task(&dag, 1, 0).refused, GERFMUOD_DAG_INACTIVE);
+    check("input without a task before", gerfmuod_dag_input(&dag, 0).refused, GERFMUOD_DAG_NO_TASK);
+    check("the first task", gerfmuod_dag_next(&dag, 0).number, 0);
+    check("a new one", gerfmuod_dag_task(&dag, 0, 0).number, 1);
+    check("is held", gerfmuod_dag_next(&dag, 0).told, GERFMUOD_DAG_WAIT);
+    check("and waits", gerfmuod_dag_input(&dag, 0).refused, GERFMUOD_DAG_OK);
+    check("not for itself", gerfmuod_dag_input(&dag, 1).refused, GERFMUOD_DAG_NO_TASK);
+    check("from outside, too", gerfmuod_dag_outside(&dag, 1).refused, GERFMUOD_DAG_OK);
+    check("one more", gerfmuod_dag_task(&dag, 0, 0).number, 2);
+    check("waits for it", gerfmuod_dag_input(&dag, 1).refused, GERFMUOD_DAG_OK);
+    check("release of the newest", gerfmuod_dag_release(&dag, 2).news, 0);
+    check("one of two", gerfmuod_dag_release(&dag, 1).news, 0);
+    check("both", gerfmuod_dag_release(&dag, 1).news, 0);
+    check("once too often", gerfmuod_dag_release(&dag, 1).refused, GERFMUOD_DAG_WRONG_LIFE);
+    check("task 0 is not done", gerfmuod_dag_next(&dag, 0).told, GERFMUOD_DAG_WAIT);
+    check("done", gerfmuod_dag_done(&dag, 0, 0).refused, GERFMUOD_DAG_OK);
+    check("an input that is done", gerfmuod_dag_input(&dag, 0).refused, GERFMUOD_DAG_OK);
+    check("the second task", gerfmuod_dag_next(&dag, 0).number, 1);
+    check("done", gerfmuod_dag_done(&dag, 0, 1).refused, GERFMUOD_DAG_OK);
+    check("input of a task that waits for nothing", gerfmuod_dag_input(&dag, 1).refused, GERFMUOD_DAG_WRONG_LIFE);
+    check("the third task", gerfmuod_dag_next(&dag, 0).number, 2);
+    check("input of a task that runs", gerfmuod_dag_input(&dag, 1).refused, GERFMUOD_DAG_WRONG_LIFE);
+    check("one of which no input is left", gerfmuod_dag_task(&dag, 0, 0).number, 3);
+    check("its input", gerfmuod_dag_input(&dag, 1).refused, GERFMUOD_DAG_OK);
+    check("news at once", gerfmuod_dag_release(&dag, 3).news, 1);
+    check("it runs", gerfmuod_dag_next(&dag, 0).number, 3);
+    gerfmuod_dag_done(&dag, 0, 2);
+    check("not over while it runs", gerfmuod_dag_next(&dag, 0).told, GERFMUOD_DAG_WAIT);
+    gerfmuod_dag_done(&dag, 0, 3);
+    check("task at a node whose tasks are done", gerfmuod_dag_task(&dag, 0, 0).refused, GERFMUOD_DAG_INACTIVE);
+    check("over", gerfmuod_dag_next(&dag, 0).told, GERFMUOD_DAG_OVER);
+    check("task after the end", gerfmuod_dag_task(&dag, 0, 0).refused, GERFMUOD_DAG_ENDED);
+    check("a graph that grew is not run again", gerfmuod_dag_again(&dag).refused, GERFMUOD_DAG_WRONG_LIFE);
+    gerfmuod_dag_close(&dag);
+}
+
+/* Returns how many tasks are returned before the pool is over or waits. Each is done at once. */
+static uint32_t run_all(gerfmuod_dag *dag, uint32_t nodes) {
+    uint32_t ran = 0, node = 0, waits = 0;
+    for (gerfmuod_dag_answer answer; waits < nodes && (answer = gerfmuod_dag_next(dag, node)).told != GERFMUOD_DAG_OVER;) {
+        bool is_run = answer.told == GERFMUOD_DAG_RUN;
+        if (is_run) gerfmuod_dag_done(dag, node, answer.number), ran++;
+        else node = (node + 1) % nodes;
+        waits = is_run ? 0 : waits + 1;
+    }
+    return ran;
+}
+
+/* Tasks and inputs are added until there are no steps for one more; then all run. The second node has one task, which waits. */
+static void check_growth_limits(void) {
+    gerfmuod_dag dag;
+    gerfmuod_dag_answer answer;
+    uint32_t tasks = 2, inputs = 0;
+    gerfmuod_dag_open(&dag, 2);
+    gerfmuod_dag_task(&dag, 0, 0);
+    gerfmuod_dag_task(&dag, 1, 0);
+    gerfmuod_dag_input(&dag, 0);
+    gerfmuod_dag_start(&dag);
+    for (; tasks < 300000 && !gerfmuod_dag_task(&dag, 0, 0).refused; tasks++) gerfmuod_dag_release(&dag, tasks);
+    check("300,000 tasks", tasks, 300000);
+    check("and one that waits", gerfmuod_dag_task(&dag, 0, 0).number, tasks++);
+    while (inputs < GERFMUOD_DAG_MAX_STEPS && !(answer = gerfmuod_dag_input(&dag, 1)).refused) inputs++;
+    check("too many inputs from another node", answer.refused, GERFMUOD_DAG_HISTORY_FULL);
+    check("as many steps as a pool has", answer.number, GERFMUOD_DAG_MAX_STEPS);
+    check("an input from the same node takes none", gerfmuod_dag_input(&dag, 0).refused, GERFMUOD_DAG_OK);
+    check("no room for a task", gerfmuod_dag_task(&dag, 0, 0).refused, GERFMUOD_DAG_HISTORY_FULL);
+    check("release", gerfmuod_dag_release(&dag, tasks - 1).refused, GERFMUOD_DAG_OK);
+    check("all of them run", run_all(&dag, 2), tasks);
+    check("to the end", gerfmuod_dag_next(&dag, 1).told, GERFMUOD_DAG_OVER);
     gerfmuod_dag_close(&dag);
 }
 
@@ -321,6 +399,7 @@ static void check_team_run(void) {
     check("a second run", gerfmuod_team_run(seen.team, 2, body, &seen), GERFMUOD_DAG_ENDED);
     check("a start after the end", gerfmuod_team_start(seen.team, 2), GERFMUOD_DAG_ENDED);
     check("a task after the end", gerfmuod_team_task(seen.team, 0, 0, NULL, 0, NULL), GERFMUOD_DAG_WRONG_LIFE);
+    check("a new one", gerfmuod_team_spawn(seen.team, 0, 0, NULL, 0, 0, NULL, NULL, NULL), GERFMUOD_DAG_ENDED);
     check("a turn at no node", gerfmuod_team_turn(seen.team, 2, GERFMUOD_DAG_NONE).refused, GERFMUOD_DAG_NO_NODE);
     gerfmuod_team_stop(seen.team, 0);
     check("a turn after the end", gerfmuod_team_turn(seen.team, 1, GERFMUOD_DAG_NONE).told, GERFMUOD_DAG_OVER);
@@ -429,6 +508,68 @@ static void check_team_outside(void) {
     gerfmuod_team_close(team);
 }
 
+struct attached {
+    uint32_t task, number; /* what was attached last, and what *number was then */
+};
+static void attach(void *data, uint32_t task) {
+    struct attached *attached = data;
+    check("the number is written before", attached->number, task);
+    attached->task = task;
+}
+
+/* Adds a task at node 0 of a class, and returns the refusal. */
+static uint32_t spawn(gerfmuod_team *team, uint32_t class_, const uint32_t *inputs, size_t count, uint32_t outside) {
+    struct attached attached = {GERFMUOD_DAG_NONE, GERFMUOD_DAG_NONE};
+    uint32_t refused = gerfmuod_team_spawn(team, 0, class_, inputs, count, outside, attach, &attached, &attached.number);
+    check("attached unless it is refused", attached.task == GERFMUOD_DAG_NONE, refused != 0);
+    return refused;
+}
+
+/* Tasks that are added before the start and after it. The lower a class, the sooner a task is returned. */
+static void check_team_spawn(void) {
+    gerfmuod_team *team;
+    const uint32_t inputs[] = {0, 1, 2};
+    gerfmuod_team_open(&team, 2);
+    check("the first task", spawn(team, 0, NULL, 0, 0), GERFMUOD_DAG_OK);
+    check("the second one waits for it, and twice", spawn(team, 1, inputs, 1, 2), GERFMUOD_DAG_OK);
+    for (int run = 0; run < 2; run++) {
+        check("an input that is not earlier", spawn(team, 0, inputs, 3, 0), GERFMUOD_DAG_NO_TASK);
+        check("at task", gerfmuod_team_at(team), 2);
+        check("no class", spawn(team, 4, NULL, 0, 0), GERFMUOD_DAG_BAD_SPEC);
+        check("no node", gerfmuod_team_spawn(team, 2, 0, NULL, 0, 0, NULL, NULL, NULL), GERFMUOD_DAG_NO_NODE);
+        check("too many", spawn(team, 0, NULL, 0, GERFMUOD_DAG_MAX_STEPS + 1), GERFMUOD_DAG_HISTORY_FULL);
+        if (!run) check("start", gerfmuod_team_start(team, 1), GERFMUOD_DAG_OK);
+    }
+    check("no thread", gerfmuod_team_spawn(team, 1, 0, NULL, 0, 0, NULL, NULL, NULL), GERFMUOD_TEAM_NO_THREAD);
+    check("a turn", gerfmuod_team_turn(team, 0, GERFMUOD_DAG_NONE).number, 0);
+    check("a task that waits", spawn(team, 3, inputs, 1, 0), GERFMUOD_DAG_OK);
+    check("one that does not", spawn(team, 0, NULL, 0, 0), GERFMUOD_DAG_OK);
+    check("one that waits twice", spawn(team, 0, NULL, 0, 2), GERFMUOD_DAG_OK);
+    check("only described", gerfmuod_team_task(team, 0, 0, NULL, 0, NULL), GERFMUOD_DAG_WRONG_LIFE);
+    check("release of a task that awaits none", gerfmuod_team_release(team, 2), GERFMUOD_DAG_WRONG_LIFE);
+    for (int k = 0; k < 2; k++) check("release", gerfmuod_team_release(team, 1), GERFMUOD_DAG_OK);
+    check("once too often", gerfmuod_team_release(team, 1), GERFMUOD_DAG_WRONG_LIFE);
+    check("class 0", gerfmuod_team_turn(team, 0, 0).number, 3);
+    check("release", gerfmuod_team_release(team, 4), GERFMUOD_DAG_OK);
+    check("class 1", gerfmuod_team_turn(team, 0, 3).number, 1);
+    check("for one that is done and one that runs", spawn(team, 2, inputs, 2, 0), GERFMUOD_DAG_OK);
+    check("release", gerfmuod_team_release(team, 4), GERFMUOD_DAG_OK);
+    check("class 0", gerfmuod_team_turn(team, 0, 1).number, 4);
+    check("class 2", gerfmuod_team_turn(team, 0, 4).number, 5);
+    check("class 3", gerfmuod_team_turn(team, 0, 5).number, 2);
+    check("the end", gerfmuod_team_turn(team, 0, 2).told, GERFMUOD_DAG_OVER);
+    check("after the end", spawn(team, 0, NULL, 0, 0), GERFMUOD_DAG_ENDED);
+    check("again", gerfmuod_team_again(team), GERFMUOD_DAG_WRONG_LIFE);
+    gerfmuod_team_close(team);
+    gerfmuod_team_open(&team, 2);
+    spawn(team, 0, NULL, 0, 0);
+    check("start", gerfmuod_team_start(team, 2), GERFMUOD_DAG_OK);
+    check("no task", gerfmuod_team_spawn(team, 1, 0, NULL, 0, 0, NULL, NULL, NULL), GERFMUOD_DAG_INACTIVE);
+    gerfmuod_team_stop(team, GERFMUOD_DAG_NONE);
+    check("after a stop", spawn(team, 0, NULL, 0, 0), GERFMUOD_TEAM_STOPPED);
+    gerfmuod_team_close(team);
+}
+
 /* The trace of one task, in full and in a buffer that is too small. */
 static void check_trace(void) {
     static const char wanted[] = "trace 1\nnodes 1\ninsert 0 0 0\nready 0\nbegin 0\ndone 0\nstart\ngive 0\njudge not\nstart\ngive 0\n"
@@ -483,13 +624,15 @@ int main(int argc, char **argv) {
     check_run();
     check_outside();
     check_again();
+    check_growth();
     check_size();
-    if (argc == 1) check_limits(), check_outside_limit(), check_team_limits();
+    if (argc == 1) check_limits(), check_outside_limit(), check_growth_limits(), check_team_limits();
     check_team_description();
     check_team_run();
     check_team_again();
     check_again_during_a_turn();
     check_team_outside();
+    check_team_spawn();
     check_trace();
     check_team_stop();
     check_names();

@@ -65,7 +65,8 @@ class Pool:
         Refused: ``BadSpec`` if ``nodes`` is not 1 to 8; ``NoMemory``.
 
     One thread uses a pool; :meth:`run` calls the functions of the tasks on several threads.
-    Any thread may call :meth:`outside` and :meth:`release`.
+    Any thread, also a function of a task, may call :meth:`task`, :meth:`outside` and
+    :meth:`release`.
     """
 
     def __init__(self, nodes: int = 1) -> None:
@@ -78,6 +79,7 @@ class Pool:
         self._identity = object()
         self._jobs: List[_Job] = []
         self._length = 0
+        self._growing = threading.Lock()  # held while a task gets its number
         self._errors: List[BaseException] = []
         self._close = weakref.finalize(self, library.gerfmuod_team_close, team)
 
@@ -88,8 +90,9 @@ class Pool:
         after: "Iterable[Task[Any]]" = (),
         node: int = 0,
         priority: int = 0,
+        releases: int = 0,
     ) -> "Task[Result]":
-        """Describes a task: one call of a function.
+        """Adds a task, before the run or in it: one call of a function.
 
         Args:
             function: the function that the task calls.
@@ -100,23 +103,30 @@ class Pool:
             node: the group of the task, below the pool's ``nodes``.
             priority: the class of the task, 0 to 3. Ready tasks of a node with a lower number
                 run first.
+            releases: how many calls of :meth:`release` the task waits for.
 
         Raises:
             ValueError: a task is of another pool, or the pool is closed.
-            Refused: ``WrongLife`` if the pool has run, ``NoNode``, ``BadSpec`` (priority),
-                ``HistoryFull`` or ``NoMemory``.
+            Refused: ``NoNode``, ``BadSpec`` (priority), ``Ended`` if all tasks are done,
+                ``HistoryFull``, ``NoMemory``; in a run also ``NoThread`` if the node has no thread,
+                ``Inactive`` if all tasks of the node are done, which the node of the calling
+                function never is, and ``Stopped``.
         """
         waits_for = [it for it in (*arguments, *after) if isinstance(it, Task)]
         if any(it._owner is not self._identity for it in waits_for):
             raise ValueError("a task of another pool cannot be an input")
         inputs = (ctypes.c_uint32 * len(waits_for))(*(it.number for it in waits_for))
-        number, team = ctypes.c_uint32(), self._open_team()
-        place = _number(node), _number(priority)
-        written = ctypes.byref(number)
-        _check(team, library.gerfmuod_team_task(team, *place, inputs, len(inputs), written))
-        task: "Task[Result]" = Task(self._identity, number.value)
-        self._jobs.append(_Job(task, function, arguments))
-        self._length += 1
+        team, place = self._open_team(), (_number(node), _number(priority))
+        awaited = inputs, len(inputs), _number(releases)
+        with self._growing:
+            task: "Task[Result]" = Task(self._identity, self._length)
+            self._jobs.append(_Job(task, function, arguments))  # before any thread can run it
+            refused = library.gerfmuod_team_spawn(team, *place, *awaited, None, None, None)
+            if refused:
+                self._jobs.pop()
+            else:
+                self._length += 1
+        _check(team, refused)
         return task
 
     def outside(self, task: "Task[Any]") -> None:

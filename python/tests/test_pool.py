@@ -106,7 +106,7 @@ class Refusals(unittest.TestCase):
         pool.task(int)
         pool.run(1)
         self.refused("Ended", lambda: pool.run(1))
-        self.refused("WrongLife", lambda: pool.task(int), 1)
+        self.refused("Ended", lambda: pool.task(int), 1)
 
     def test_a_closed_pool(self):
         pool = Pool()
@@ -114,6 +114,62 @@ class Refusals(unittest.TestCase):
         pool.close()
         for call in (pool.run, pool.trace, lambda: pool.task(int)):
             self.assertRaises(ValueError, call)
+
+
+class Growth(unittest.TestCase):
+    def test_tasks_make_tasks(self):
+        for threads in (1, 4):
+            pool, leaves = Pool(), []
+
+            def split(depth, pool=pool, leaves=leaves):
+                if depth == 0:
+                    leaves.append(threading.get_ident())
+                for _ in range(2 if depth else 0):
+                    pool.task(split, depth - 1)
+
+            pool.task(split, 7)
+            pool.run(threads)
+            self.assertEqual((len(leaves), len(pool)), (128, 255))
+            self.assertEqual(pool.trace().count("done"), 255)
+
+    def test_a_new_task_takes_the_results_of_others(self):
+        pool, made = Pool(), []
+        early = pool.task(int, "3")
+        pool.task(lambda: made.append(pool.task(lambda a, b: a + b, early, pool.task(int, "4"))), after=[early])
+        pool.run(2)
+        self.assertEqual(made[0].result, 7)
+
+    def test_a_task_waits_for_the_results_of_tasks_to_come(self):
+        pool, parts = Pool(), []
+        total = pool.task(lambda: sum(parts), releases=4)
+
+        def part(number):
+            parts.append(number)
+            pool.release(total)
+
+        def make():
+            for number in range(4):
+                pool.task(part, number)
+
+        pool.task(make)
+        pool.run(3)
+        self.assertEqual(total.result, 6)
+        self.assertRaises(Refused, pool.again)
+
+    def test_a_refused_task_leaves_nothing_behind(self):
+        pool, names = Pool(2), []
+
+        def make():
+            for place in ({"priority": 4}, {"node": 1}, {"node": 2}, {"releases": 2**21}):
+                with self.assertRaises(Refused) as caught:
+                    pool.task(names.append, "wrong", **place)
+                names.append(caught.exception.name)
+            pool.task(names.append, "new")
+
+        pool.task(make)
+        pool.run(2)
+        self.assertEqual(names, ["BadSpec", "Inactive", "NoNode", "HistoryFull", "new"])
+        self.assertEqual(len(pool), 2)
 
 
 def deliver(pool, task, data, value):
@@ -209,8 +265,8 @@ class Again(unittest.TestCase):
         pool.task(int)
         pool.run(1)
         pool.again()
-        self.assertRaises(Refused, pool.task, int)
         pool.run(1)
+        self.assertRaises(Refused, pool.task, int)
         self.assertEqual(len(pool), 1)
         pool.close()
         self.assertRaises(ValueError, pool.again)

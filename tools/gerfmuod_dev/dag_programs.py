@@ -33,7 +33,7 @@ STORM, LONG_STORM = 100, 2000
 # of random graphs whose profiles are checked
 PROFILED, LONG_PROFILED = 40, 400
 # the faults that the model of fuzz.c has as an argument
-FUZZ_FAULTS = ["forgets", "loses"]
+FUZZ_FAULTS = ["forgets", "loses", "holds"]
 
 
 @dataclass(frozen=True)
@@ -60,6 +60,9 @@ def programs(is_full):
     storm = [Run([str(rounds)], 0, f"{rounds} rounds"), Run(["200", "1", "early"], 1, "too early")]
     fuzz = [Run(["200000", "2"], 0, "as the model says"), *(Run(["200000", "3", fault], 1, "expected") for fault in FUZZ_FAULTS)]
     outside = [Run(["300", "8", "4"], 0, ", 0 wrong"), Run(["300", "8", "4", "early"], 1, " wrong")]
+    sorted_by = ", 0 parts without one; sorted as by qsort"
+    # the second run has more parts than a pool has room for
+    spawn = [Run(["1500000", "4", "1", "4", "8"], 0, sorted_by), Run(["2500000", "2", "1", "4"], 0, "349522 tasks")]
     small_grain = [[shape, "200", "1", "1", "3x1"] for shape in SHAPES]
     ways = ["loop", "1x1", "1x4", "2x2", "8x1"]
     # a graph of so many steps of Jacobi, run again and again
@@ -74,6 +77,8 @@ def programs(is_full):
         Program("recursion.c", C, [], [Run(["100000", "500", "1", *ways], 0, "8x1 511")], [["2000", "100", "1", "2x2"]]),
         Program("grain.c", C, [], [Run([shape, "5000", "10", "1", *ways], 0, "8x1 5000") for shape in SHAPES], small_grain),
         Program("outside.c", C, [], outside, [["30", "4", "2"]]),
+        Program("spawn.c", C, [], spawn, [["20000", "4", "1", "4"]]),
+        Program("fibonacci.cpp", CPP, [], [Run(["20", "4"], 0, "6765, 32837 tasks; a loop: 6765")], [["12", "3"]]),
         Program("failures.c", C, WRAPPED, [Run([], 0, ", 0 not as they should be")], []),
         Program("failures.c", [*C, *ADDRESS], WRAPPED, [Run([], 0, ", 0 not as they should be")], []),
         Program("storm.c", C, [], storm, [["10"]]),
@@ -222,7 +227,7 @@ def run_fortran(tally, build):
     if not shutil.which("gfortran"):
         print("gfortran is not installed: the programs in Fortran are skipped")
         return
-    for name, output in (("first", "3.844231"), ("sums", "threads of OpenMP:  1.644918442")):
+    for name, output in (("first", "3.844231"), ("sums", "threads of OpenMP:  1.644918442"), ("spawn", "1.644918442, 1023 tasks")):
         path = f"{build.folder}/{name}_f90"
         team = shared_object.compile_team(build.folder)
         command = [*FORTRAN, "-J", build.folder, "capi/gerfmuod.f90", f"capi/dag/{name}.f90", team, "-o", path, *build.link]
@@ -247,12 +252,13 @@ def run_python(tally, library_folder, folder):
     environment = {**os.environ, **package, "OPENBLAS_NUM_THREADS": "1"}
     judge(tally, [sys.executable, "-m", "unittest", "discover", "-s", "python/tests"], Run([], 0, "OK"), env=environment)
     judge(tally, [sys.executable, "python/examples/first.py"], Run([], 0, "3.844231"), env=environment)
+    judge(tally, [sys.executable, "python/examples/quicksort.py", "1000", "4"], Run([], 0, "1339 tasks, sorted"), env=environment)
     with_numpy = python_with_numpy()
     if with_numpy:
         judge(tally, [with_numpy, "python/examples/cholesky.py", "512", "64", "4"], Run([], 0, "120 tasks"), env=environment)
     else:
         print("numpy and scipy are not installed: python/examples/cholesky.py is skipped")
-    print(f"{shared_object.SONAME} and the Python package: its tests and {2 if with_numpy else 1} examples")
+    print(f"{shared_object.SONAME} and the Python package: its tests and {3 if with_numpy else 2} examples")
 
 
 def arguments(parser):
