@@ -16,6 +16,7 @@
 
 #include "gerfmuod_team.h"
 
+#include <algorithm>
 #include <array>
 #include <cstdint>
 #include <cstdio>
@@ -31,7 +32,8 @@
 
 namespace gerfmuod {
 
-// A call was refused. what() is the refusal's name, the task that it is about, and what it means.
+// A call was refused, as the call of the same name in gerfmuod_team.h is. what() is the refusal's name, the task that it is
+// about, and what it means.
 class Refused : public std::runtime_error {
   public:
     Refused(std::uint32_t number, std::uint32_t about)
@@ -48,15 +50,10 @@ class Refused : public std::runtime_error {
 };
 
 // A task of the pool that created it, to be used as an input of later tasks.
-struct Task {
-    std::uint32_t number;
-};
+struct Task { std::uint32_t number; };
 
 // Where a task runs, and its priority: a node, below the pool's number of nodes, and a class, 0 (first) to 3.
-struct Place {
-    std::uint32_t node = 0;
-    std::uint32_t class_ = 0;
-};
+struct Place { std::uint32_t node = 0, class_ = 0; };
 
 class Pool {
   public:
@@ -67,11 +64,10 @@ class Pool {
         gerfmuod_team *opened;
         std::uint32_t refused = gerfmuod_team_open(&opened, nodes);
         team.reset(opened);
-        check(refused, GERFMUOD_DAG_NONE);
+        if (refused) throw Refused(refused, GERFMUOD_DAG_NONE);
     }
 
     // One more task, before the start or in a run. It waits for the tasks in `after`, and for so many calls of release().
-    // Throws Refused when gerfmuod_team_spawn is refused.
     Task task(Body body, const std::vector<Task> &after = {}, Place place = {}, std::uint32_t releases = 0) {
         std::vector<std::uint32_t> inputs;
         inputs.reserve(after.size());
@@ -87,12 +83,11 @@ class Pool {
     }
 
     // One more input from outside for a task, such as a message, a timer or a device: its body does not run before release()
-    // was called once for each. A body may call it, for a task that waits for that body. Throws Refused when
-    // gerfmuod_team_outside is refused.
+    // was called once for each. A body may call it, for a task that waits for that body.
     void outside(Task task) { check(gerfmuod_team_outside(team.get(), task.number)); }
 
     // One input from outside of a task is there; the body sees what this thread wrote before. If the input cannot come, release
-    // it all the same, and let the body throw. Throws Refused when gerfmuod_team_release is refused.
+    // it all the same, and let the body throw.
     void release(Task task) { check(gerfmuod_team_release(team.get(), task.number)); }
 
     // Runs all tasks on `threads` threads, of which the caller is one. Throws the first exception that a body threw, or
@@ -103,8 +98,7 @@ class Pool {
         check(refused);
     }
 
-    // The same graph once more, after run(): run() may be called again, and calls the same bodies. Inputs from outside have to
-    // be announced again. Throws Refused when gerfmuod_team_again is refused.
+    // The same graph once more, after run(): run() may be called again. Inputs from outside have to be announced again.
     void again() { check(gerfmuod_team_again(team.get())); }
 
     // The number of tasks that were described.
@@ -117,29 +111,20 @@ class Pool {
         return text;
     }
 
-    // Records each later run; each thread keeps its newest `slices` bodies and waits. Call it before the first task. Throws
-    // Refused when gerfmuod_team_record is refused.
+    // Records each later run; each thread keeps its newest `slices` bodies and waits. Call it before the first task.
     void record(std::uint32_t slices = 65536) { check(gerfmuod_team_record(team.get(), slices)); }
 
-    // Writes the last run as trace events, or as a summary. Throws Refused when gerfmuod_team_profile is refused.
+    // Writes the last run as trace events, or as a summary.
     void profile(std::FILE *file) const { check(gerfmuod_team_profile(team.get(), file)); }
     void summary(std::FILE *file) const { check(gerfmuod_team_summary(team.get(), file)); }
 
-    static std::uint32_t default_threads() {
-        unsigned processors = std::thread::hardware_concurrency();
-        return processors ? processors : 1;
-    }
+    static std::uint32_t default_threads() { return std::max(1u, std::thread::hardware_concurrency()); }
 
   private:
-    struct Close {
-        void operator()(gerfmuod_team *it) const { gerfmuod_team_close(it); }
-    };
+    struct Close { void operator()(gerfmuod_team *it) const { gerfmuod_team_close(it); } };
 
     void check(std::uint32_t refused) const {
-        if (refused) check(refused, gerfmuod_team_at(team.get()));
-    }
-    static void check(std::uint32_t refused, std::uint32_t task) {
-        if (refused) throw Refused(refused, task);
+        if (refused) throw Refused(refused, gerfmuod_team_at(team.get()));
     }
 
     // The body that the team calls. No exception leaves it.
