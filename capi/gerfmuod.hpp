@@ -51,7 +51,6 @@ class Refused : public std::runtime_error {
 
 // A task of the pool that created it, to be used as an input of later tasks.
 struct Task { std::uint32_t number; };
-
 // Where a task runs, and its priority: a node, below the pool's number of nodes, and a class, 0 (first) to 3.
 struct Place { std::uint32_t node = 0, class_ = 0; };
 
@@ -85,7 +84,6 @@ class Pool {
     // One more input from outside for a task, such as a message, a timer or a device: its body does not run before release()
     // was called once for each. A body may call it, for a task that waits for that body.
     void outside(Task task) { check(gerfmuod_team_outside(team.get(), task.number)); }
-
     // One input from outside of a task is there; the body sees what this thread wrote before. If the input cannot come, release
     // it all the same, and let the body throw.
     void release(Task task) { check(gerfmuod_team_release(team.get(), task.number)); }
@@ -100,10 +98,8 @@ class Pool {
 
     // The same graph once more, after run(): run() may be called again. Inputs from outside have to be announced again.
     void again() { check(gerfmuod_team_again(team.get())); }
-
     // The number of tasks that were described.
     std::size_t size() const { return std::lock_guard<std::mutex>(lock), count; }
-
     // The steps of the pool as a trace, which `tp audit` judges.
     std::string trace() const {
         std::string text(gerfmuod_team_trace(team.get(), nullptr, 0), '\0');
@@ -113,20 +109,16 @@ class Pool {
 
     // Records each later run; each thread keeps its newest `slices` bodies and waits. Call it before the first task.
     void record(std::uint32_t slices = 65536) { check(gerfmuod_team_record(team.get(), slices)); }
-
     // Writes the last run as trace events, or as a summary.
     void profile(std::FILE *file) const { check(gerfmuod_team_profile(team.get(), file)); }
     void summary(std::FILE *file) const { check(gerfmuod_team_summary(team.get(), file)); }
-
     static std::uint32_t default_threads() { return std::max(1u, std::thread::hardware_concurrency()); }
 
   private:
     struct Close { void operator()(gerfmuod_team *it) const { gerfmuod_team_close(it); } };
-
     void check(std::uint32_t refused) const {
         if (refused) throw Refused(refused, gerfmuod_team_at(team.get()));
     }
-
     // The body that the team calls. No exception leaves it.
     static int call(void *context, std::uint32_t task) noexcept {
         Pool *pool = static_cast<Pool *>(context);
@@ -139,7 +131,6 @@ class Pool {
             return 1;
         }
     }
-
     // Returns the body of a task. Bodies never move: a block has twice the room of the one before, and the first one 64.
     Body &body_of(std::uint32_t task, bool is_new = false) {
         std::uint32_t block = 0, place = task;
