@@ -25,7 +25,7 @@ ARCHIVE, SHARED = library.ARCHIVE, library.SHARED
 CMAKE = "capi/cmake"
 # documents, and the programs that they name: they keep their places, so that the links of the documents work
 PAGES = ("README.md", "CHANGELOG.md", "CONTRIBUTING.md", "bench/README.md")
-DOCUMENTS = re.compile(r"docs/.*\.(?:md|svg|csv)|capi/(?!gerfmuod)(?!cmake/)[^.].*\.(?:c|cpp|h|f90|rs)|python/examples/.*\.py")
+DOCUMENTS = re.compile(r"docs/.*\.(?:md|svg|png|csv)|capi/(?!gerfmuod)(?!cmake/)[^.].*\.(?:c|cpp|h|f90|rs)|python/examples/.*\.py")
 
 
 @dataclass(frozen=True)
