@@ -7,8 +7,8 @@
  *
  * Every second round runs on its own threads with gerfmuod_team_turn, which begin before the pool is started or after it.
  * Some rounds have a body that fails. One more thread releases the inputs from outside in random order, before the start and
- * after it. Every tenth graph is one task and then tasks that run on all threads at the same time. Many graphs run again, with
- * gerfmuod_team_again. If the library has gerfmuod_audit, it judges the trace of each run. The exit status is 1 if a check
+ * after it. Every tenth graph is one task and then tasks that run on all threads at the same time. Of every third graph only
+ * the beginning is described: its bodies make the other tasks. Many graphs run again, with gerfmuod_team_again. If the library has gerfmuod_audit, it judges the trace of each run. The exit status is 1 if a check
  * failed. */
 #define _POSIX_C_SOURCE 200809L
 #include "gerfmuod.h"
@@ -24,6 +24,10 @@ enum { MOST = 300, MOST_THREADS = 16, INPUTS = 4, OUTSIDE = 2 };
 
 static uint64_t seed = 88172645463325253u;
 static uint32_t tasks, nodes, threads, failing;
+static uint32_t described;        /* the number of tasks that are there before the run; bodies make the others */
+static uint32_t made;             /* the number of tasks that are there, if some are made by bodies; `making` protects it */
+static bool has_run;
+static pthread_mutex_t making = PTHREAD_MUTEX_INITIALIZER;
 static uint32_t meeting, arrived; /* the number of tasks that have to run at the same time, and the number that have begun */
 static uint8_t homes[MOST], classes[MOST];
 static uint32_t offsets[MOST + 1], inputs[MOST * INPUTS];
@@ -31,6 +35,7 @@ static uint32_t releases[MOST * OUTSIDE], release_count; /* the tasks of the inp
 static char has_ended[MOST], awaited[MOST], has_come[MOST];
 static int wrong, unreleased; /* bodies that ran too early or twice, releases that were refused; only written if there are some */
 static uint32_t repeated; /* runs that were not the first of their graph */
+static uint32_t grown;    /* graphs of which bodies made tasks */
 static bool is_early;
 static const char *folder; /* for the traces and events; NULL if there are none */
 static unsigned written;
@@ -91,9 +96,28 @@ static void meet(void) {
     if (seconds_now() - from >= 10) wrong++;
 }
 
+/* Makes the next tasks of the graph, at least one if there is one. A node whose tasks are all done gets none: then it is made at
+ * the node of the body. */
+static void make_tasks(uint32_t maker) {
+    pthread_mutex_lock(&making);
+    for (uint32_t left = 1 + maker % 3; left > 0 && made < tasks; left--) {
+        uint32_t t = made, number = GERFMUOD_DAG_NONE, count = offsets[t + 1] - offsets[t], outside = (uint8_t)awaited[t];
+        uint32_t refused = gerfmuod_team_spawn(team, homes[t], classes[t], inputs + offsets[t], count, outside, NULL, NULL, &number);
+        if (refused == GERFMUOD_DAG_INACTIVE && homes[t] != homes[maker]) {
+            homes[t] = homes[maker];
+            refused = gerfmuod_team_spawn(team, homes[t], classes[t], inputs + offsets[t], count, outside, NULL, NULL, &number);
+        }
+        if (refused == GERFMUOD_TEAM_STOPPED) break;
+        if (refused || number != t) wrong++;
+        __atomic_store_n(&made, t + 1, __ATOMIC_RELEASE);
+    }
+    pthread_mutex_unlock(&making);
+}
+
 static int body(void *context, uint32_t task) {
     (void)context;
     if (task == failing) return 1;
+    if (described < tasks) make_tasks(task);
     if (meeting && task) meet();
     if (has_ended[task] || has_come[task] != awaited[task]) wrong++;
     for (uint32_t k = offsets[task]; k < offsets[task + 1]; k++)
@@ -103,11 +127,18 @@ static int body(void *context, uint32_t task) {
     return 0;
 }
 
+/* Releases the inputs from outside; those of tasks that are not made yet in a later round. */
 static void *release_all(void *argument) {
-    for (uint32_t i = 0; i < release_count; i++) {
-        has_come[releases[i]]++;
-        if (gerfmuod_team_release(team, releases[i]) && failing == GERFMUOD_DAG_NONE) unreleased++;
-        if (i % 7 == 0) sched_yield();
+    for (uint32_t left = release_count; left > 0; sched_yield()) {
+        for (uint32_t i = 0; i < release_count; i++) {
+            uint32_t t = releases[i];
+            bool has_ended_early = __atomic_load_n(&has_run, __ATOMIC_RELAXED); /* a body failed */
+            if (t == GERFMUOD_DAG_NONE || (t >= __atomic_load_n(&made, __ATOMIC_ACQUIRE) && !has_ended_early)) continue;
+            releases[i] = GERFMUOD_DAG_NONE, left--;
+            has_come[t]++;
+            if (gerfmuod_team_release(team, t) && failing == GERFMUOD_DAG_NONE) unreleased++;
+            if (i % 7 == 0) sched_yield();
+        }
     }
     return argument;
 }
@@ -184,9 +215,12 @@ static bool is_sound(void) {
 /* Runs the graph. Odd runs are on threads of this program; in every second one of them, turns begin before the start. */
 static bool run_is_well(uint32_t round, uint32_t run) {
     pthread_t releasing;
-    for (uint32_t i = 0; i < release_count; i++) need(gerfmuod_team_outside(team, releases[i]), "outside");
+    for (uint32_t i = 0; i < release_count; i++)
+        if (releases[i] < described) need(gerfmuod_team_outside(team, releases[i]), "outside");
+    has_run = false;
     need(pthread_create(&releasing, NULL, release_all, NULL) != 0, "pthread_create");
     uint32_t refused = run % 2 || is_early ? run_own_threads(run % 4 == 1) : gerfmuod_team_run(team, threads, body, NULL);
+    __atomic_store_n(&has_run, true, __ATOMIC_RELAXED);
     pthread_join(releasing, NULL);
     bool is_well = !wrong && !unreleased && is_sound();
     if (failing == GERFMUOD_DAG_NONE) is_well &= !refused && is_complete();
@@ -204,9 +238,12 @@ static bool round_is_well(uint32_t round) {
     else draw_graph();
     need(gerfmuod_team_open(&team, nodes), "open");
     if (folder) need(gerfmuod_team_record(team, 2 * MOST), "record");
-    need(gerfmuod_team_describe(team, tasks, homes, classes, offsets, inputs), "describe");
+    described = made = round % 3 == 2 && tasks && !meeting && !is_early ? 1 + below(tasks) : tasks;
+    need(gerfmuod_team_describe(team, described, homes, classes, offsets, inputs), "describe");
     bool is_well = run_is_well(round, round);
-    for (uint32_t again = below(3); again > 0 && is_well && failing == GERFMUOD_DAG_NONE; again--) {
+    grown += described < tasks;
+    if (is_well && described < tasks && failing == GERFMUOD_DAG_NONE) is_well = gerfmuod_team_again(team) == GERFMUOD_DAG_WRONG_LIFE;
+    for (uint32_t again = below(3); again > 0 && is_well && failing == GERFMUOD_DAG_NONE && described == tasks; again--) {
         need(gerfmuod_team_again(team), "again");
         clear_run();
         if (!meeting) draw_releases(false);
@@ -224,7 +261,7 @@ int main(int argc, char **argv) {
     folder = argc > 3 && !is_early ? argv[3] : NULL;
     for (uint32_t round = 0; round < rounds; round++)
         if (!round_is_well(round)) return 1;
-    printf("%u rounds, %u repeated, each task once and after all that it waits for%s\n", rounds, repeated,
+    printf("%u rounds, %u repeated, %u graphs grew, each task once and after all that it waits for%s\n", rounds, repeated, grown,
            gerfmuod_audit ? ", each trace sound" : "");
     return 0;
 }
