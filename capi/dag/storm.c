@@ -8,8 +8,8 @@
  * Every second round runs on its own threads with gerfmuod_team_turn, which begin before the pool is started or after it.
  * Some rounds have a body that fails. One more thread releases the inputs from outside in random order, before the start and
  * after it. Every tenth graph is one task and then tasks that run on all threads at the same time. Of every third graph only
- * the beginning is described: its bodies make the other tasks. Many graphs run again, with gerfmuod_team_again. If the library has gerfmuod_audit, it judges the trace of each run. The exit status is 1 if a check
- * failed. */
+ * the beginning is described: its bodies make the other tasks. Many graphs run again, with gerfmuod_team_again. If the
+ * library has gerfmuod_audit, it judges the trace of each run. The exit status is 1 if a check failed. */
 #define _POSIX_C_SOURCE 200809L
 #include "gerfmuod.h"
 #include "gerfmuod_team.h"
