@@ -125,7 +125,7 @@ size_t gerfmuod_team_trace(gerfmuod_team *team, char *room, size_t length);
  * started; NO_MEMORY. */
 uint32_t gerfmuod_team_record(gerfmuod_team *team, uint32_t slices);
 
-/* Writes the last run in Chrome's trace event format, JSON that Perfetto and chrome://tracing show as a timeline: a track for
+/* Writes the last run in Chrome's trace event format, JSON for viewers of timelines: a track for
  * each thread that was announced, with a slice for each body (its task, node and class) and for each wait; an arrow for each
  * message between nodes, from the body that sends it to the one that waits for it; and the waves, which run in the call that
  * detects the end. Times are microseconds since the run's start, which `otherData` has as `start_ns` of CLOCK_MONOTONIC. It also

@@ -235,7 +235,7 @@ class Pool:
         _check(team, library.gerfmuod_team_record(team, _number(slices)))
 
     def profile(self, path: str) -> None:
-        """Writes the last run to a file, as trace events for Perfetto or chrome://tracing.
+        """Writes the last run to a file, in Chrome's trace event format.
 
         Raises:
             ValueError: the pool is closed.
