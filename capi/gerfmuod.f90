@@ -71,7 +71,7 @@ module gerfmuod
       integer(c_int32_t) :: refused
     end function
 
-    ! One more task, before the start or in a run, which also waits for so many calls of gerfmuod_team_release. attach is
+    ! One more task, before the start or in a run, which also waits for `outside` calls of gerfmuod_team_release. attach is
     ! c_funloc of a gerfmuod_attach, or c_null_funptr.
     function gerfmuod_team_spawn(team, node, class, inputs, count, outside, attach, data, number) bind(c) result(refused)
       import :: c_ptr, c_funptr, c_int32_t, c_size_t

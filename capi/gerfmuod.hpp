@@ -66,7 +66,7 @@ class Pool {
         if (refused) throw Refused(refused, GERFMUOD_DAG_NONE);
     }
 
-    // One more task, before the start or in a run. It waits for the tasks in `after`, and for so many calls of release().
+    // One more task, before the start or in a run. It waits for the tasks in `after`, and for `releases` calls of release().
     Task task(Body body, const std::vector<Task> &after = {}, Place place = {}, std::uint32_t releases = 0) {
         std::vector<std::uint32_t> inputs;
         inputs.reserve(after.size());
