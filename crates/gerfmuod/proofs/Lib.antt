@@ -1,4 +1,6 @@
 -- The files of this folder.
+pub mod Batch
+pub mod Called
 pub mod DagAnswers
 pub mod Ended
 pub mod Kept

@@ -32,6 +32,11 @@ opening n = if can_be n then 0 else number_of BadSpec
 abbrev pub closed : CoreState
 closed = record { use_is = Closed; core = new_core 1 }
 
+-- the refusal of a call on a core that is not open, or on which another call runs
+abbrev pub refusal_of : Use → ℕ
+refusal_of Busy = 28
+refusal_of _ = number_of NoPool
+
 -- A call on a core that is not open is refused as 24, `NoPool`; on a core on which another call runs, as 28, `Busy`: then
 -- nothing changes. On an open core it does this, and afterwards no call runs on the core, which is still open.
 pub record IsCall {A : Type 0} (refused_as : ℕ → A) (does : Accepted → A → Accepted → Type 0)
