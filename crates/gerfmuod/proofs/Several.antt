@@ -1,7 +1,7 @@
 -- Steps that are taken one after the other, and the buffer with their results.
 use Rattle.std.proofs.Common.{ℕ, ◌≡◌, ◌≢◌, ◌+◌, ◌<◌, ◌≤◌, ◌++◌, List, [], ◌∷◌, Result, length, take, drop, set, get_or, refl, sym, ap}
 use Rattle.std.proofs.Common.{subst, ◌∙◌, arith, Option, Some, None, Bool, true, false, inl, inr}
-use Rattle.std.specs.Prelude.{Ok, Err}
+use Rattle.std.specs.Prelude.{Ok, Err, min, if◌then◌else◌}
 use Rattle.std.proofs.lemmas.Bool.{cases_Bool}
 use Rattle.std.proofs.lemmas.List.{take_more, take_more_set, take-set, drop-set, drop-set-lt, drop-drop, drop_more, drop_all, length-set}
 use Rattle.std.proofs.lemmas.List.{take_all}
@@ -44,15 +44,13 @@ result_changes_nothing old o (Err r) new a differs = err_changes_nothing old o r
 
 pub refused_same : (e : Event) (old : Accepted) (u : Answer) (new : Accepted) → IsStep e old u new → u.refused ≢ 0 → new ≡ old
 refused_same e old u new s differs =
-    result_changes_nothing old (step_asked e) s.0.0 new s.0.1.0
-    (subst (λ (x : Answer). x.refused ≢ 0) s.0.1.1 differs)
+    result_changes_nothing old (step_asked e) s.0.0 new s.0.1 (subst (λ (x : Answer). x.refused ≢ 0) s.0.2 differs)
 
 -- ---- one step more
 one_more : (old mid new : Accepted) (es : List Event) (us : List Answer) (e : Event) (u : Answer) → AreTaken old es us mid
     → IsStep e mid u new → u.refused ≡ 0 → AreTaken old (es ++ e ∷ []) (us ++ u ∷ []) new
-one_more old mid new [] [] e u t s taken = (new, (subst (λ (a : Accepted). IsStep e a u new) t s, (taken, refl)))
-one_more old mid new (d ∷ es) (v ∷ us) e u t s taken =
-    (t.0, (t.1.0, (t.1.1.0, one_more t.0 mid new es us e u t.1.1.1 s taken)))
+one_more old mid new [] [] e u t s taken = (new, subst (λ (a : Accepted). IsStep e a u new) t s, taken, refl)
+one_more old mid new (d ∷ es) (v ∷ us) e u t s taken = (t.0, t.1, t.2, one_more t.0 mid new es us e u t.3 s taken)
 one_more old mid new [] (v ∷ us) e u t s taken = absurd t
 one_more old mid new (d ∷ es) [] e u t s taken = absurd t
 
@@ -103,10 +101,9 @@ stops_at events room old k answers mid d u new below few a s refused =
           next_event e (get_or events k d) later (drop (k + 1) events) (sym left ∙ drop_more events k d below) in
           (
             u,
-            (
-              subst (λ (x : Event). IsStep x new u new) is (subst (λ (x : Accepted). IsStep (get_or events k d) x u new) (sym same) s),
-              (refused, drop-set answers k u there ∙ ap (λ (xs : List Answer). u ∷ xs) (rest_after answers room k a.rest)),
-            ),
+            subst (λ (x : Event). IsStep x new u new) is (subst (λ (x : Accepted). IsStep (get_or events k d) x u new) (sym same) s),
+            refused,
+            drop-set answers k u there ∙ ap (λ (xs : List Answer). u ∷ xs) (rest_after answers room k a.rest),
           );
     }
 
@@ -126,3 +123,9 @@ pub refused_at_once : (events : List Event) (room : List Answer) (k : ℕ) (u : 
 refused_at_once [] room k u some is = absurd (omega (arith, some))
 refused_at_once (e ∷ events) [] k u some is = refl
 refused_at_once (e ∷ events) (v ∷ room) k u some is = ap (λ (x : Answer). (0, x ∷ room)) is
+
+pub none_refused : (events : List Event) (room : List Answer) (k : ℕ) → min (length room) (length events) ≡ 0
+    → (0, room) ≡ refused_batch events room k
+none_refused [] room k none = refl
+none_refused (e ∷ events) [] k none = refl
+none_refused (e ∷ events) (v ∷ room) k none = absurd (omega (arith, none))
