@@ -1,7 +1,7 @@
 -- Steps that are taken one after the other, and the buffer with their results.
 use Rattle.std.proofs.Common.{ℕ, ◌≡◌, ◌≢◌, ◌+◌, ◌<◌, ◌≤◌, ◌++◌, List, [], ◌∷◌, Result, length, take, drop, set, get_or, refl, sym, ap}
 use Rattle.std.proofs.Common.{subst, ◌∙◌, arith, Option, Some, None, Bool, true, false, inl, inr}
-use Rattle.std.specs.Prelude.{Ok, Err, min, if◌then◌else◌}
+use Rattle.std.specs.Prelude.{Ok, Err, if◌then◌else◌}
 use Rattle.std.proofs.lemmas.Bool.{cases_Bool}
 use Rattle.std.proofs.lemmas.List.{take_more, take_more_set, take-set, drop-set, drop-set-lt, drop-drop, drop_more, drop_all, length-set}
 use Rattle.std.proofs.lemmas.List.{take_all}
@@ -11,9 +11,10 @@ use Rattle.tp_core.specs.declared.Reply.{Reply}
 use Rattle.tp_core.specs.declared.Reply.TheVariants.{Plain, WaveSums, Not, Over, Opened}
 use Rattle.tp_core.specs.Accepted.{Accepted}
 use Rattle.gerfmuod.specs.Batch.{AreTaken, IsBatch, IsStep}
-use Rattle.gerfmuod.specs.Calls.{refused_batch, refused_step}
+use Rattle.gerfmuod.specs.Calls.{IsStepsCall}
 use Rattle.gerfmuod.specs.Events.{step_asked}
 use Rattle.gerfmuod.specs.Room.{is_full}
+use Rattle.gerfmuod.specs.Slot.{CoreState, Open}
 use Rattle.gerfmuod.specs.Told.{leaves_nothing, plain, reply_told, told, AnswersInRoom, AnswersTo}
 use Rattle.gerfmuod.specs.declared.answer.Answer.{Answer}
 use Rattle.gerfmuod.specs.declared.event.Event.{Event}
@@ -117,15 +118,18 @@ after_all events room old k answers new e a =
       refused = λ x later left. let none : drop k events ≡ [] = drop_all k events (omega (arith, e)) in cc;
     }
 
--- ---- a call on a core that is not open
-pub refused_at_once : (events : List Event) (room : List Answer) (k : ℕ) (u : Answer) → 0 < length events → u ≡ refused_step k
-    → (0, set room 0 u) ≡ refused_batch events room k
-refused_at_once [] room k u some is = absurd (omega (arith, some))
-refused_at_once (e ∷ events) [] k u some is = refl
-refused_at_once (e ∷ events) (v ∷ room) k u some is = ap (λ (x : Answer). (0, x ∷ room)) is
-
-pub none_refused : (events : List Event) (room : List Answer) (k : ℕ) → min (length room) (length events) ≡ 0
-    → (0, room) ≡ refused_batch events room k
-none_refused [] room k none = refl
-none_refused (e ∷ events) [] k none = refl
-none_refused (e ∷ events) (v ∷ room) k none = absurd (omega (arith, none))
+-- A call on an open core takes the events that have a place for their result.
+pub taken_by_call : (events given : List Event) (room : List Answer) (old new : CoreState) (first : Accepted) (count : ℕ)
+    (answers : List Answer)
+    → given ≡ take (length room) events → first ≡ old.core → old.use_is ≡ Open → new.use_is ≡ Open
+    → IsBatch given room first count answers new.core → IsStepsCall events room old (count, answers) new
+taken_by_call events given room old new first count answers same before was is taken =
+    record {
+      if_closed = λ e. cc;
+      if_busy = λ e. cc;
+      if_open = λ e. (
+        is,
+        subst (λ (xs : List Event). IsBatch xs room old.core count answers new.core) same
+        (subst (λ (a : Accepted). IsBatch given room a count answers new.core) before taken),
+      );
+    }
