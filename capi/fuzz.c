@@ -13,7 +13,7 @@
 #include <inttypes.h>
 #include <stdlib.h>
 
-enum { STEPS = 100, FEW = 24 };
+enum { STEPS = 100, FEW = 24, SEVERAL = 4 };
 enum count { REFUSED, TAKEN, QUIET, ENDED, REOPENED, RESTARTED, NO_MEMORY, SOUND, UNSOUND, COUNTS };
 
 static uint64_t seed, calls, counts[COUNTS];
@@ -157,7 +157,8 @@ static void any_maker(call *c) {
     else any_action(&other, OF_MESSAGE), c->maker = other.b;
 }
 
-static void random_step(void) {
+/* A step without a maker. */
+static call any_step(void) {
     static const uint32_t kinds[] = {0, 0, 0, 0, 1, 1, 2, 2, 2, 3, 3,  3,  4,  4,  5,  5, 6,
                                      7, 7, 7, 8, 8, 8, 9, 9, 9, 10, 11, 12, 12, 13, 14, 15};
     call c = {false, 0, 0, 0, 0, 0, 0, m.generation};
@@ -172,8 +173,56 @@ static void random_step(void) {
     else if (c.kind == GERFMUOD_STEP_SEND) c.b = any_node(), c.c = any_number();
     if (below(64) == 0) c.kind = 16 + below(3);
     if (below(64) == 0) c.generation += 1 - below(3);
+    return c;
+}
+
+static void random_step(void) {
+    call c = any_step();
     if (below(3) == 0) any_maker(&c);
     check(&c);
+}
+
+/* Compares the results of several steps with the model, which takes them one by one. Returns how many were taken. */
+static uint32_t check_results(const gerfmuod_event *events, uint32_t most, const gerfmuod_answer *answers, bool refuses) {
+    static model before;
+    for (uint32_t k = 0; k < most; k++) {
+        const gerfmuod_event *e = &events[k];
+        before = m;
+        gerfmuod_answer want = model_step(&m, e->kind, e->first, e->second, e->third, e->generation);
+        if (refuses && !want.refused && answers[k].refused == GERFMUOD_REFUSED_NO_MEMORY) {
+            m = before;
+            counts[NO_MEMORY]++;
+            return k;
+        }
+        if (!is_same(answers[k], want)) fail("the result of one of several steps", NULL);
+        counts[want.refused ? REFUSED : TAKEN]++;
+        counts[QUIET] += want.told == GERFMUOD_TOLD_QUIET;
+        counts[ENDED] += want.told == GERFMUOD_TOLD_ENDED;
+        if (want.refused) return k;
+    }
+    return most;
+}
+
+/* Several steps in one call; the places for their results may be more or fewer. */
+static void random_steps(void) {
+    gerfmuod_event events[SEVERAL];
+    gerfmuod_answer answers[SEVERAL], none;
+    uint32_t length = below(SEVERAL + 1), places = below(SEVERAL + 1), most = length < places ? length : places;
+    bool refuses = below(8) == 0;
+    for (uint32_t k = 0; k < length; k++) {
+        call c = any_step();
+        events[k] = (gerfmuod_event){c.kind, c.a, c.b, c.c, c.generation};
+    }
+    memset(&none, 171, sizeof none);
+    for (uint32_t k = 0; k < SEVERAL; k++) answers[k] = none;
+    calls++;
+    refuse_in = refuses ? 1 + below(3) : 0;
+    size_t taken = gerfmuod_steps(&core, length ? events : NULL, length, places ? answers : NULL, places);
+    refuse_in = 0;
+    if (taken != check_results(events, most, answers, refuses)) fail("the number of steps that were taken", NULL);
+    for (size_t k = taken + (taken < most); k < SEVERAL; k++)
+        if (!is_same(answers[k], none)) fail("the results of steps that were not taken", NULL);
+    compare(&m, NULL);
 }
 
 /* ---- to the end */
@@ -295,6 +344,7 @@ static void audit_trace(void) {
 static bool generation(void) {
     for (uint32_t k = below(STEPS); k > 0; k--) {
         random_step();
+        if (below(8) == 0) random_steps();
         if (below(20) == 0) settle();
         if (below(50) == 0) restart();
     }
@@ -313,12 +363,12 @@ static bool generation(void) {
 /* Every call on a core that is not open. */
 static void closed(void) {
     char room[8];
-    for (uint32_t k = 0; k < 4; k++) random_step();
+    for (uint32_t k = 0; k < 4; k++) random_step(), random_steps();
     settle();
     restart();
     compare(&m, NULL);
     if (gerfmuod_trace(&core, room, sizeof room).outcome != GERFMUOD_NO_TEXT) fail("trace of a closed core", NULL);
-    gerfmuod_close(&core);
+    if (gerfmuod_close(&core) != GERFMUOD_REFUSED_NO_POOL) fail("close of a closed core", NULL);
 }
 
 int main(int argc, char **argv) {
@@ -331,8 +381,7 @@ int main(int argc, char **argv) {
         if (gerfmuod_open(&core, nodes) != model_open(&m, nodes)) fail("open", NULL);
         while (m.is_open && generation()) continue;
         if (m.is_open && below(4) == 0) audit_trace();
-        gerfmuod_close(&core);
-        model_close(&m);
+        if (gerfmuod_close(&core) != model_close(&m)) fail("close", NULL);
         if (below(4) == 0) closed();
         if (below(16) == 0) memset(&core, (int)below(256), sizeof core), closed();
     }

@@ -12,7 +12,9 @@
  *   - the address of a gerfmuod_core is a multiple of 8. No other code writes to an open core. Between two calls it may be
  *     moved with memcpy; the old copy must not be used again. Every call refuses a core without the mark of an open one: it
  *     was closed, its opening was refused, or its bytes are 0 or others;
- *   - one call on a core at a time: protect the calls with a mutex. Different cores may be used at the same time;
+ *   - one call on a core at a time: protect the calls with a mutex. Different cores may be used at the same time. A call that
+ *     begins while another one runs that may change the core is refused as BUSY, if it sees the mark of the other one: always
+ *     if it is made from inside of the other one, as by a malloc that reports to the core, but not always from another thread;
  *   - a text or a buffer has the length that is passed with it, and does not overlap the core. NULL is valid if the
  *     length is 0;
  *   - no call is made from a signal handler, or in the forked child of a process that has threads;
@@ -120,6 +122,7 @@ enum {
     GERFMUOD_REFUSED_STRANGER = 19,       /* the message is of another generation */
     GERFMUOD_REFUSED_NO_POOL = 24,        /* the core is not open: it was closed, or its memory was overwritten */
     GERFMUOD_REFUSED_BAD_SPEC = 26,       /* there is no such step, or a pool cannot have that many nodes */
+    GERFMUOD_REFUSED_BUSY = 28,           /* another call runs on the core: the caller's lock is missing */
     GERFMUOD_REFUSED_NO_MAKER = 29        /* what is said to make the step is not running or open at its node */
 };
 
@@ -141,6 +144,15 @@ enum {
     GERFMUOD_BY_OPENING = 3, /* the opening of the node, before its gerfmuod_ready; the number is ignored */
     GERFMUOD_BY_THREAD = 4   /* a thread of a node, given the number of the node: it only begins and finishes tasks */
 };
+
+/* A step: its kind, and its arguments as gerfmuod_step takes them. */
+typedef struct gerfmuod_event {
+    uint32_t kind;
+    uint32_t first;
+    uint32_t second;
+    uint32_t third;
+    uint32_t generation;
+} gerfmuod_event;
 
 /* The result of a step: 16 bytes, by value. */
 typedef struct gerfmuod_answer {
@@ -191,6 +203,7 @@ typedef struct gerfmuod_written {
 
 /* The library has the same sizes, which are proved. */
 typedef char gerfmuod_core_has_512_bytes[sizeof(gerfmuod_core) == 512 ? 1 : -1];
+typedef char gerfmuod_event_has_20_bytes[sizeof(gerfmuod_event) == 20 ? 1 : -1];
 typedef char gerfmuod_answer_has_16_bytes[sizeof(gerfmuod_answer) == 16 ? 1 : -1];
 typedef char gerfmuod_counters_have_16_bytes[sizeof(gerfmuod_counters) == 16 ? 1 : -1];
 typedef char gerfmuod_pool_has_16_bytes[sizeof(gerfmuod_pool) == 16 ? 1 : -1];
@@ -208,16 +221,16 @@ size_t gerfmuod_core_size(void);
  * core that is open: what it allocated would be lost. Since 0.1.0. */
 GERFMUOD_CHECKED uint32_t gerfmuod_open(gerfmuod_core *core, uint32_t nodes);
 
-/* Frees what the core allocated. It is then closed, and may be opened again. To close a closed core does nothing. Since
- * 0.1.0. */
-void gerfmuod_close(gerfmuod_core *core);
+/* Frees what the core allocated. It is then closed, and may be opened again. Returns 0, or the refusal, and nothing has
+ * changed: NO_POOL, as for a core that is closed; BUSY. Since 0.1.0. */
+uint32_t gerfmuod_close(gerfmuod_core *core);
 
 /* Begins anew with no steps, as a new core of the same nodes, and gives back the memory of the steps: for programs that
- * need no trace of the generations that ended. gerfmuod_reopen keeps them. Refused: NO_POOL; WRONG_LIFE if termination was
- * not detected. Since 0.1.0. */
+ * need no trace of the generations that ended. gerfmuod_reopen keeps them. Refused: NO_POOL; BUSY; WRONG_LIFE if termination
+ * was not detected. Since 0.1.0. */
 GERFMUOD_CHECKED uint32_t gerfmuod_restart(gerfmuod_core *core);
 
-/* Takes the next step, if it is lawful and there is room for it. Refused for the first reason that applies: NO_POOL;
+/* Takes the next step, if it is lawful and there is room for it. Refused for the first reason that applies: NO_POOL; BUSY;
  * BAD_SPEC for a kind above 15 or an insert with more than 16 inputs; HISTORY_FULL if only the steps that are kept for
  * gerfmuod_settle are left; the checks of its kind, in the order that is given at the calls below; NO_MEMORY if an
  * allocation fails. Allocations are for a task, for an action that is opened, for a message that is sent, and once in
@@ -225,29 +238,36 @@ GERFMUOD_CHECKED uint32_t gerfmuod_restart(gerfmuod_core *core);
 GERFMUOD_CHECKED gerfmuod_answer gerfmuod_step(gerfmuod_core *core, uint32_t kind, uint32_t first, uint32_t second,
                                                uint32_t third, uint32_t generation);
 
+/* Takes steps in order, up to the first one that is refused: as gerfmuod_step for each of them, but under one lock. Returns
+ * how many steps were taken. Their results are written to the first places of `answers`, and that of the refused step to
+ * the next one; the other places do not change. A step without a place for its result is not taken. If the core is closed
+ * or busy, no step is taken, and the first result is NO_POOL or BUSY. Since 0.1.0. */
+GERFMUOD_CHECKED size_t gerfmuod_steps(gerfmuod_core *core, const gerfmuod_event *events, size_t events_length,
+                                       gerfmuod_answer *answers, size_t answers_length);
+
 /* The same step, with what makes it: a GERFMUOD_BY_* and a number. An insert, an opened action and a send are made at the
  * node of the step (a send at its sender); a supply, a begin and a done at the home of the task. Refused for the first
- * reason that applies: NO_POOL; BAD_SPEC for what gerfmuod_step refuses so, for another maker kind, and for any other kind
- * of step; NO_MAKER if the maker is not running or open at that node, or if that node or task is not there; then as
+ * reason that applies: NO_POOL; BUSY; BAD_SPEC for what gerfmuod_step refuses so, for another maker kind, and for any other
+ * kind of step; NO_MAKER if the maker is not running or open at that node, or if that node or task is not there; then as
  * gerfmuod_step, which it is otherwise. Since 0.1.0. */
 GERFMUOD_CHECKED gerfmuod_answer gerfmuod_step_by(gerfmuod_core *core, uint32_t maker_kind, uint32_t maker, uint32_t kind,
                                                   uint32_t first, uint32_t second, uint32_t third, uint32_t generation);
 
-/* The counters of a node. Refused: NO_POOL, NO_NODE. Since 0.1.0. */
+/* The counters of a node. Refused: NO_POOL, BUSY, NO_NODE. Since 0.1.0. */
 gerfmuod_counters gerfmuod_numbers(const gerfmuod_core *core, uint32_t node);
 
 /* The pool as a whole. `quiet` is the cheap answer to whether all is over: once it is true, it stays so until the pool is
- * reopened or restarted. Of a closed core all is 0, and it is not quiet. Since 0.1.0. */
+ * reopened or restarted. If the core is closed or busy, all is 0, and it is not quiet. Since 0.1.0. */
 gerfmuod_pool gerfmuod_whole(const gerfmuod_core *core);
 
 /* Runs waves until termination is detected, if the pool is quiet: at most two waves, and GERFMUOD_SETTLE_STEPS steps for
- * each node, for which there is always room. Refused for the first reason that applies: NO_POOL; ENDED if termination was
- * detected before; NOT_IDLE if the pool is not quiet, which costs no step; NO_MEMORY. Since 0.1.0. */
+ * each node, for which there is always room. Refused for the first reason that applies: NO_POOL; BUSY; ENDED if termination
+ * was detected before; NOT_IDLE if the pool is not quiet, which costs no step; NO_MEMORY. Since 0.1.0. */
 GERFMUOD_CHECKED gerfmuod_settled gerfmuod_settle(gerfmuod_core *core);
 
 /* Writes the steps that were taken as a trace, which gerfmuod_audit and `tp audit` judge: 16 bytes, and at most 24 for
  * each step. If room_length is 0, returns the length only. NO_TEXT if a number of more than six digits was used, or if the
- * core is closed. Since 0.1.0. */
+ * core is closed or busy. Since 0.1.0. */
 GERFMUOD_CHECKED gerfmuod_written gerfmuod_trace(const gerfmuod_core *core, char *room, size_t room_length);
 
 /* Judges a trace as `tp audit` does, and writes the same text: WRITTEN or COMPLAINT. 256 bytes are enough. Since 0.1.0. */

@@ -50,6 +50,7 @@ static const char *const of_processes[] = {
 const char *gerfmuod_refusal_text(uint32_t refused) {
     const uint32_t first = 101;
     if (refused < sizeof of_pools / sizeof *of_pools) return of_pools[refused];
+    if (refused == GERFMUOD_REFUSED_BUSY) return "Busy: another call runs on the core";
     if (refused == GERFMUOD_REFUSED_NO_MAKER) return "NoMaker: the maker does not run or is not open at the node of the step";
     if (refused >= first && refused - first < sizeof of_processes / sizeof *of_processes) return of_processes[refused - first];
     return "unknown: there is no such refusal";

@@ -11,9 +11,9 @@ static inline uint32_t gerfmuod_tsan_open(gerfmuod_core *core, uint32_t nodes) {
     return gerfmuod_open(core, nodes);
 }
 
-static inline void gerfmuod_tsan_close(gerfmuod_core *core) {
+static inline uint32_t gerfmuod_tsan_close(gerfmuod_core *core) {
     __tsan_write8(core);
-    gerfmuod_close(core);
+    return gerfmuod_close(core);
 }
 
 static inline uint32_t gerfmuod_tsan_restart(gerfmuod_core *core) {
@@ -30,6 +30,12 @@ static inline gerfmuod_answer gerfmuod_tsan_step(gerfmuod_core *core, uint32_t k
                                                  uint32_t third, uint32_t generation) {
     __tsan_write8(core);
     return gerfmuod_step(core, kind, first, second, third, generation);
+}
+
+static inline size_t gerfmuod_tsan_steps(gerfmuod_core *core, const gerfmuod_event *events, size_t events_length,
+                                         gerfmuod_answer *answers, size_t answers_length) {
+    __tsan_write8(core);
+    return gerfmuod_steps(core, events, events_length, answers, answers_length);
 }
 
 static inline gerfmuod_answer gerfmuod_tsan_step_by(gerfmuod_core *core, uint32_t maker_kind, uint32_t maker,
@@ -59,6 +65,7 @@ static inline gerfmuod_written gerfmuod_tsan_trace(const gerfmuod_core *core, ch
 #define gerfmuod_restart gerfmuod_tsan_restart
 #define gerfmuod_settle gerfmuod_tsan_settle
 #define gerfmuod_step gerfmuod_tsan_step
+#define gerfmuod_steps gerfmuod_tsan_steps
 #define gerfmuod_step_by gerfmuod_tsan_step_by
 #define gerfmuod_numbers gerfmuod_tsan_numbers
 #define gerfmuod_whole gerfmuod_tsan_whole

@@ -353,6 +353,10 @@ static uint32_t model_restart(model *m) {
     return 0;
 }
 
-static void model_close(model *m) { memset(m, 0, sizeof *m); }
+static uint32_t model_close(model *m) {
+    uint32_t refused = m->is_open ? 0 : GERFMUOD_REFUSED_NO_POOL;
+    memset(m, 0, sizeof *m);
+    return refused;
+}
 
 #endif

@@ -21,7 +21,7 @@ struct Answer {
 
 unsafe extern "C" {
     safe fn gerfmuod_open(core: &mut Core, nodes: u32) -> u32;
-    safe fn gerfmuod_close(core: &mut Core);
+    safe fn gerfmuod_close(core: &mut Core) -> u32;
     safe fn gerfmuod_ready(core: &mut Core, node: u32) -> Answer;
     safe fn gerfmuod_send(core: &mut Core, from: u32, to: u32, message: u32, generation: u32) -> Answer;
     safe fn gerfmuod_receive(core: &mut Core, node: u32, message: u32, generation: u32) -> Answer;
@@ -48,7 +48,7 @@ impl Detector {
 
 impl Drop for Detector {
     fn drop(&mut self) {
-        gerfmuod_close(&mut self.0)
+        gerfmuod_close(&mut self.0);
     }
 }
 

@@ -88,7 +88,7 @@ static void static_texts(void) {
         CHECK(strcmp(text, gerfmuod_refusal_text(number)) == 0);
         named += own.outcome == GERFMUOD_WRITTEN;
     }
-    CHECK(named == 26 + 1 + 9);
+    CHECK(named == 26 + 2 + 9);
 }
 
 static void refusals(void) {

@@ -22,10 +22,11 @@ module detector
       integer(c_int32_t), value :: nodes
       integer(c_int32_t) :: refused
     end function
-    subroutine gerfmuod_close(core) bind(c)
+    function gerfmuod_close(core) bind(c) result(refused)
       import
       type(gerfmuod_core) :: core
-    end subroutine
+      integer(c_int32_t) :: refused
+    end function
     function gerfmuod_ready(core, node) bind(c) result(answer)
       import
       type(gerfmuod_core) :: core
@@ -118,5 +119,5 @@ program two_waves
   end do
   if (judged%told /= gerfmuod_told_ended .or. judged%number /= 1) stop 1
   print '(a, i0)', 'ended with wave ', judged%number
-  call gerfmuod_close(core)
+  if (gerfmuod_close(core) /= 0) stop 1
 end program

@@ -36,6 +36,7 @@ SEEDS = 4
 INCLUDED = ("capi/gerfmuod_tsan.h",)
 C11 = ["gcc", "-std=c11", *WARNINGS, "-O2"]
 WRAPPED = ["-Wl,--wrap=malloc,--wrap=realloc"]
+ALL_WRAPPED = ["-Wl,--wrap=malloc,--wrap=realloc,--wrap=free"]
 PAGE = "docs/OTHER-RUNTIMES.md"
 # the kinds of steps of bench.c
 KINDS = ("tasks", "messages", "makers", "sparse", "large", "hashed")
@@ -63,6 +64,7 @@ PROGRAMS = [
     Program("two_waves.c", C11, [Run([], 0, "two generations")], []),
     Program("texts.c", ["gcc", "-std=c99", *WARNINGS, "-O2"], [Run([], 0, "as they should be")], []),
     Program("limits.c", C11, [Run([], 0, "as they should be")]),
+    Program("reentrant.c", [*C11, "-g", *ALL_WRAPPED], [Run([], 0, "calls from inside of a call: refused")], []),
     Program("fuzz.c", [*C11, "-g", *ADDRESS, *WRAPPED], fuzz_runs(CALLS, [1])),
     Program(
         "fuzz.c",

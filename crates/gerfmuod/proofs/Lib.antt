@@ -5,5 +5,6 @@ pub mod Kept
 pub mod Made
 pub mod Recording
 pub mod Room
+pub mod Several
 pub mod Traced
 pub mod Walks

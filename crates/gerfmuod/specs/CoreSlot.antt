@@ -1,8 +1,11 @@
 -- The view of a `CoreSlot` in contracts.
-use Rattle.std.specs.Prelude.{◌==◌}
+use Rattle.std.specs.Prelude.{ℕ, ◌==◌, if◌then◌else◌}
 use Rattle.gerfmuod.specs.declared.slot.CoreSlot.TheInside.{Inside}
-use Rattle.gerfmuod.specs.declared.slot.TheConstants.{MARK}
-use Rattle.gerfmuod.specs.Slot.{CoreState}
+use Rattle.gerfmuod.specs.declared.slot.TheConstants.{OPEN, BUSY}
+use Rattle.gerfmuod.specs.Slot.{CoreState, Use, Closed, Open, Busy}
+
+abbrev pub use_of : ℕ → Use
+use_of mark = if mark == OPEN then Open else (if mark == BUSY then Busy else Closed)
 
 abbrev pub state_of : Inside → CoreState
-state_of p = record { is_open = p.mark == MARK; core = p.room }
+state_of p = record { use_is = use_of p.mark; core = p.room }

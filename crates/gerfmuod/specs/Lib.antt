@@ -1,5 +1,6 @@
 -- The files of this folder.
 pub mod Asked
+pub mod Batch
 pub mod Calls
 pub mod CoreSlot
 pub mod Dag

@@ -48,22 +48,25 @@ process_name of_process.NoProcess = codes "NoProcess"
 
 abbrev pub cause_number : Cause → ℕ
 cause_number (cause.Pool r) = number_of r
+cause_number cause.Busy = 28
 cause_number cause.NoMaker = 29
 cause_number (cause.Process r) = refused_as (Some r)
 cause_number cause.Malformed = 109
 
 abbrev pub cause_name : Cause → List ℕ
 cause_name (cause.Pool r) = name_of r
+cause_name cause.Busy = codes "Busy"
 cause_name cause.NoMaker = codes "NoMaker"
 cause_name (cause.Process r) = process_name r
 cause_name cause.Malformed = codes "Malformed"
 
 abbrev pub cause_meaning : Cause → List ℕ
 cause_meaning (cause.Pool r) = meaning_of r
+cause_meaning cause.Busy = codes "another call runs on the core"
 cause_meaning cause.NoMaker = codes "the maker does not run or is not open at the node of the step"
 cause_meaning (cause.Process r) = process_meaning (refused_as (Some r))
 cause_meaning cause.Malformed = process_meaning 109
 
 -- A refusal has this number.
 abbrev pub is_refusal : ℕ → Bool
-is_refusal k = (nat_le 1 k && nat_le k 26) || (k == 29) || (nat_le 101 k && nat_le k 109)
+is_refusal k = (nat_le 1 k && nat_le k 26) || (k == 28) || (k == 29) || (nat_le 101 k && nat_le k 109)

@@ -1,13 +1,14 @@
 //! The calls on a core, as C gets their results.
-ghost use Rattle.std.specs.Prelude.{◌≡◌, Ok};
+ghost use Rattle.std.specs.Prelude.{◌≡◌, ◌≢◌, Ok};
 ghost use Rattle.tp_base.specs.Refusals.{number_of};
 ghost use Rattle.tp_core.specs.Accepted.{no_numbers};
-ghost use Rattle.gerfmuod.specs.Asked.{counters, unsettled};
+ghost use Rattle.gerfmuod.specs.Asked.{counters, unsettled, IsSettled};
 ghost use Rattle.gerfmuod.specs.Calls.{IsByCall, IsClosed, IsNumbersCall, IsRestartCall, IsSettleCall, IsStepCall, IsWholeCall};
+ghost use Rattle.gerfmuod.specs.Calls.{refused_step, IsRestarted};
 ghost use Rattle.gerfmuod.specs.Events.{event_of};
 ghost use Rattle.gerfmuod.specs.Makers.{made_step, maker_asked, IsMade};
 ghost use Rattle.gerfmuod.specs.Pool.{TellsNoEarlyEnd};
-ghost use Rattle.gerfmuod.specs.Slot.{can_be, opened, opening};
+ghost use Rattle.gerfmuod.specs.Slot.{can_be, opened, opening, refusal_of};
 ghost use Rattle.gerfmuod.specs.Told.{is_ending_if, leaves_nothing, refusal_told, reply_told, told as result_of, IsTold};
 
 use crate::answer::{Answer, Counters, Settled, Whole};
@@ -103,6 +104,18 @@ fn of_refusal(refusal: Refusal) -> Answer
     }
 }
 
+/// Returns the result of a step on a core that is not open, or on which another call runs.
+#[cold]
+#[inline(never)]
+pub(crate) fn not_taken(slot: &CoreSlot) -> Answer
+    ensures { result ≡ refused_step (refusal_of slot.now.use_is) }
+{
+    Answer {
+        refused: slot.refusal(),
+        ..PLAIN
+    }
+}
+
 /// Returns whether the step ends something.
 fn is_ending(step: Option<Step>) -> bool
     ensures { result ≡ is_ending_if step }
@@ -139,7 +152,7 @@ fn of_reply(room: &CoreRoom, step: Option<Step>, reply: Reply) -> Answer
 /// Takes the next step if there is one, and returns the result for C.
 #[inline(always)]
 #[tactic(auto, using(crate::proofs::Ended::told_over))]
-fn told(room: &mut CoreRoom, step: Option<Step>) -> Answer
+pub(crate) fn told(room: &mut CoreRoom, step: Option<Step>) -> Answer
     ensures { IsTold room.old step result room.new × TellsNoEarlyEnd (result.told ≡ 3) result.number room.new }
 {
     match room.take(step) {
@@ -168,8 +181,8 @@ pub(crate) fn answered(
 ) -> Answer
     ensures { IsStepCall (event_of kind first second third generation) slot.old result slot.new }
 {
-    if !slot.is_open() {
-        return of_refusal(Refusal::NoPool);
+    if !slot.enter() {
+        return not_taken(slot);
     }
     let event = Event {
         kind,
@@ -178,7 +191,9 @@ pub(crate) fn answered(
         third,
         generation,
     };
-    told(&mut slot.room, step_of(event))
+    let answer = told(&mut slot.room, step_of(event));
+    slot.leave();
+    answer
 }
 
 /// Takes the next step if its maker may make it.
@@ -221,8 +236,8 @@ pub(crate) fn answered_by(
 ) -> Answer
     ensures { IsByCall maker_kind maker (event_of kind first second third generation) slot.old result slot.new }
 {
-    if !slot.is_open() {
-        return of_refusal(Refusal::NoPool);
+    if !slot.enter() {
+        return not_taken(slot);
     }
     let event = Event {
         kind,
@@ -231,15 +246,9 @@ pub(crate) fn answered_by(
         third,
         generation,
     };
-    let room = &mut slot.room;
-    // A copy for each kind of step: none of them pays for telling it from the others.
-    match kind {
-        0 => event_by(room, maker_kind, maker, event),
-        1 => event_by(room, maker_kind, maker, event),
-        2 => event_by(room, maker_kind, maker, event),
-        3 => event_by(room, maker_kind, maker, event),
-        _ => event_by(room, maker_kind, maker, event),
-    }
+    let answer = event_by(&mut slot.room, maker_kind, maker, event);
+    slot.leave();
+    answer
 }
 
 /// Returns the counters of a node.
@@ -247,10 +256,10 @@ pub(crate) fn counted(slot: &mut CoreSlot, node: u32) -> Counters
     ensures { IsNumbersCall node slot.old result slot.new }
 {
     if !slot.is_open() {
-        return uncounted(Refusal::NoPool);
+        return uncounted(slot.refusal());
     }
     if node >= slot.room.nodes() {
-        return uncounted(Refusal::NoNode);
+        return uncounted(u16::from(Refusal::NoNode.number()));
     }
     let own = slot.room.core().numbers().nodes[node as usize];
     Counters {
@@ -261,11 +270,11 @@ pub(crate) fn counted(slot: &mut CoreSlot, node: u32) -> Counters
     }
 }
 
-fn uncounted(refusal: Refusal) -> Counters
-    ensures { result ≡ counters (number_of refusal) no_numbers }
+fn uncounted(refused: u16) -> Counters
+    ensures { result ≡ counters refused no_numbers }
 {
     Counters {
-        refused: u32::from(refusal.number()),
+        refused: u32::from(refused),
         pending: 0,
         sent: 0,
         received: 0,
@@ -295,13 +304,11 @@ pub(crate) fn seen(slot: &mut CoreSlot) -> Whole
 
 /// Takes control steps until termination is detected, if the pool is quiet.
 #[tactic(auto, using(crate::proofs::Ended::settled_over))]
-pub(crate) fn settled(slot: &mut CoreSlot) -> Settled
-    ensures { IsSettleCall slot.old result slot.new }
+fn settled_room(room: &mut CoreRoom) -> Settled
+    ensures settled { IsSettled room.old result room.new × TellsNoEarlyEnd (result.refused ≡ 0) result.wave room.new }
+    ensures has_room { result.refused ≢ 16 }
 {
-    if !slot.is_open() {
-        return unsettled(Refusal::NoPool);
-    }
-    match slot.room.settle() {
+    match room.settle() {
         Ok((wave, steps)) => Settled {
             refused: 0,
             wave,
@@ -309,6 +316,22 @@ pub(crate) fn settled(slot: &mut CoreSlot) -> Settled
         },
         Err(refusal) => unsettled(refusal),
     }
+}
+
+/// Settles the pool of a core.
+pub(crate) fn settled(slot: &mut CoreSlot) -> Settled
+    ensures { IsSettleCall slot.old result slot.new }
+{
+    if !slot.enter() {
+        return Settled {
+            refused: u32::from(slot.refusal()),
+            wave: 0,
+            steps: 0,
+        };
+    }
+    let answer = settled_room(&mut slot.room);
+    slot.leave();
+    answer
 }
 
 fn unsettled(refusal: Refusal) -> Settled
@@ -326,12 +349,10 @@ fn unsettled(refusal: Refusal) -> Settled
 }
 
 /// Begins anew with no steps, if termination was detected.
-pub(crate) fn restarted(slot: &mut CoreSlot) -> u32
-    ensures { IsRestartCall slot.old result slot.new }
+fn begun_anew(slot: &mut CoreSlot) -> u32
+    ensures restarted { IsRestarted slot.old.core result slot.new.core }
+    ensures use_is { slot.new.use_is ≡ slot.old.use_is }
 {
-    if !slot.is_open() {
-        return u32::from(Refusal::NoPool.number());
-    }
     if !slot.room.core().is_ended() {
         return u32::from(Refusal::WrongLife.number());
     }
@@ -339,11 +360,25 @@ pub(crate) fn restarted(slot: &mut CoreSlot) -> u32
     0
 }
 
-/// Closes the core if it is open.
-pub(crate) fn close(slot: &mut CoreSlot)
-    ensures { IsClosed slot.old slot.new }
+/// Restarts a core.
+pub(crate) fn restarted(slot: &mut CoreSlot) -> u32
+    ensures { IsRestartCall slot.old result slot.new }
 {
-    if slot.is_open() {
-        slot.close();
+    if !slot.enter() {
+        return u32::from(slot.refusal());
     }
+    let refused = begun_anew(slot);
+    slot.leave();
+    refused
+}
+
+/// Closes the core if it is open and no call runs on it.
+pub(crate) fn close(slot: &mut CoreSlot) -> u32
+    ensures { IsClosed slot.old result slot.new }
+{
+    if !slot.is_open() {
+        return u32::from(slot.refusal());
+    }
+    slot.close();
+    0
 }

@@ -8,6 +8,7 @@ use tp_core::Maker;
 
 /// A step as C passes it: the number of its kind, 0 to 15, and its arguments. Arguments that a kind does not have are
 /// ignored.
+#[repr(C)]
 #[derive(Clone, Copy, Debug, PartialEq, Eq)]
 pub struct Event {
     pub kind: u32,
@@ -17,6 +18,8 @@ pub struct Event {
     /// The generation of a message.
     pub generation: u32,
 }
+
+const _: () = prove!(size_of::<Event>() == 20);
 
 /// Returns the step, or `None` if there is no such kind, or for a task of more than 16 inputs.
 #[inline(always)]

@@ -4,14 +4,16 @@ ghost use Rattle.std.specs.Borrow.{full_share, sem};
 ghost use Rattle.std.specs.Ptr.{lies_at, room_at};
 ghost use Rattle.gerfmuod.specs.contracts.slot.CoreSlot.{the_row as slot_row};
 ghost use Rattle.gerfmuod.specs.Calls.{IsByCall, IsClosed, IsNumbersCall, IsRestartCall, IsSettleCall, IsStepCall, IsTraceCall};
-ghost use Rattle.gerfmuod.specs.Calls.{IsWholeCall};
+ghost use Rattle.gerfmuod.specs.Calls.{IsStepsCall, IsWholeCall};
 ghost use Rattle.gerfmuod.specs.Events.{event_of};
 ghost use Rattle.gerfmuod.specs.Slot.{CoreState, opened, opening};
 
 use crate::answer::{Answer, Counters, Settled, Whole, Written};
+use crate::batch::steps;
 use crate::calls::{
     answered, answered_by, close, counted, made, opening, restarted, seen, settled,
 };
+use crate::event::Event;
 use crate::history::traced;
 use crate::slot::CoreSlot;
 use std::alloc::Global;
@@ -51,9 +53,9 @@ pub unsafe extern "C" fn gerfmuod_open(alloc: Global, core: *mut u8, nodes: u32)
 /// action, the opening of a node or a message, and the pool is quiet after it. If it is 3, the pool had terminated with a
 /// wave: it was quiet when that wave ended.
 ///
-/// Refused, and nothing changes: `NoPool` if the core is not open; `BadSpec` if there is no such step; `HistoryFull`, with
-/// the number of steps that were taken, if fewer than 9 steps for each node would be left, which `gerfmuod_settle` may
-/// need; then for the first check that fails, as in `Core::step`.
+/// Refused, and nothing changes: `NoPool` if the core is not open; 28, `Busy`, if another call runs on it; `BadSpec` if
+/// there is no such step; `HistoryFull`, with the number of steps that were taken, if fewer than 9 steps for each node
+/// would be left, which `gerfmuod_settle` may need; then for the first check that fails, as in `Core::step`.
 #[unsafe(no_mangle)]
 pub unsafe extern "C" fn gerfmuod_step(
     core: *mut u8,
@@ -78,15 +80,35 @@ pub unsafe extern "C" fn gerfmuod_step(
     )
 }
 
+/// Takes steps in order, up to the first that is refused, as `gerfmuod_step` does. Returns how many were taken. The result
+/// of each, and that of the refused step, are written to the start of `answers`; the rest of it does not change. Steps
+/// without a place for their result are not taken.
+///
+/// If the core is not open, or another call runs on it, no step is taken and nothing changes; the first place of `answers`
+/// says so, if there are a step and a place.
+#[unsafe(no_mangle)]
+pub unsafe extern "C" fn gerfmuod_steps(
+    core: *mut u8,
+    events: &[Event],
+    answers: &mut [Answer],
+) -> usize
+    ghost old: { CoreState }
+    requires* { sem 𝓛 (lies_at slot_row full_share core old) }
+    ensures* { ∃ₛ (λ (new : CoreState). sem 𝓛 (lies_at slot_row full_share core new)
+        ∗ ⌜ IsStepsCall events.now answers.old old (result, answers.new) new ⌝) }
+{
+    steps(&mut *(core as *mut CoreSlot), events, answers)
+}
+
 /// Takes the next step as `gerfmuod_step` does, if its maker may make it: at the node of the step, a running task
 /// (`maker_kind` 0), an open action (1), a message that was received and has not ended (2) or the opening of the node (3)
 /// may insert a task, supply one, open an action, send a message, and begin or finish a task; a thread of node `maker` (4)
 /// may begin and finish tasks. The node of a step is the home of the task that is supplied, begun or finished, or the node
 /// that inserts, opens or sends.
 ///
-/// Refused, and nothing changes: `NoPool` if the core is not open; `BadSpec` if there is no such step or maker, or the
-/// step has none (kinds 5, 6 and 8 to 15); 29, `NoMaker`, if the maker does not run or is not open at the node of the
-/// step, or that node or task does not exist; then as `gerfmuod_step` is.
+/// Refused, and nothing changes: `NoPool` if the core is not open; 28, `Busy`, if another call runs on it; `BadSpec` if
+/// there is no such step or maker, or the step has none (kinds 5, 6 and 8 to 15); 29, `NoMaker`, if the maker does not run
+/// or is not open at the node of the step, or that node or task does not exist; then as `gerfmuod_step` is.
 #[unsafe(no_mangle)]
 pub unsafe extern "C" fn gerfmuod_step_by(
     core: *mut u8,
@@ -115,7 +137,8 @@ pub unsafe extern "C" fn gerfmuod_step_by(
     )
 }
 
-/// Returns the counters of a node. Refused: `NoPool` if the core is not open; `NoNode` if there is no such node.
+/// Returns the counters of a node. Refused: `NoPool` if the core is not open; 28, `Busy`, if another call runs on it;
+/// `NoNode` if there is no such node.
 #[unsafe(no_mangle)]
 pub unsafe extern "C" fn gerfmuod_numbers(core: *mut u8, node: u32) -> Counters
     ghost old: { CoreState }
@@ -127,7 +150,8 @@ pub unsafe extern "C" fn gerfmuod_numbers(core: *mut u8, node: u32) -> Counters
 }
 
 /// Returns the counters of the pool as a whole: the steps that were taken, the steps that can still be reported, the
-/// messages under way, and whether the pool is quiet. If the core is not open, all are 0 and it is not quiet.
+/// messages under way, and whether the pool is quiet. If the core is not open, or another call runs on it, all are 0 and it
+/// is not quiet.
 #[unsafe(no_mangle)]
 pub unsafe extern "C" fn gerfmuod_whole(core: *mut u8) -> Whole
     ghost old: { CoreState }
@@ -138,8 +162,8 @@ pub unsafe extern "C" fn gerfmuod_whole(core: *mut u8) -> Whole
     seen(&mut *(core as *mut CoreSlot))
 }
 
-/// Takes control steps until termination is detected, if the pool is quiet. Refused: `NoPool` if the core is not open;
-/// then as `Core::settle` is, but never as `HistoryFull`: there is always room.
+/// Takes control steps until termination is detected, if the pool is quiet. Refused: `NoPool` if the core is not open; 28,
+/// `Busy`, if another call runs on it; then as `Core::settle` is, but never as `HistoryFull`: there is always room.
 #[unsafe(no_mangle)]
 pub unsafe extern "C" fn gerfmuod_settle(core: *mut u8) -> Settled
     ghost old: { CoreState }
@@ -150,8 +174,8 @@ pub unsafe extern "C" fn gerfmuod_settle(core: *mut u8) -> Settled
     settled(&mut *(core as *mut CoreSlot))
 }
 
-/// Writes the trace of the steps that were taken to the start of the buffer `room`; outcome 5 if the core is not open.
-/// `tp audit` and `gerfmuod_audit` judge it.
+/// Writes the trace of the steps that were taken to the start of the buffer `room`; outcome 5 if the core is not open, or
+/// another call runs on it. `tp audit` and `gerfmuod_audit` judge it.
 #[unsafe(no_mangle)]
 pub unsafe extern "C" fn gerfmuod_trace(alloc: Global, core: *mut u8, room: &mut [u8]) -> Written
     ghost old: { CoreState }
@@ -163,8 +187,8 @@ pub unsafe extern "C" fn gerfmuod_trace(alloc: Global, core: *mut u8, room: &mut
 }
 
 /// Begins anew with the same nodes and no steps, and frees the memory of the steps that were taken. Returns 0, or why the
-/// call was refused, and nothing changes: 24, `NoPool`, if the core is not open; 5, `WrongLife`, if termination of the
-/// present generation was not detected.
+/// call was refused, and nothing changes: 24, `NoPool`, if the core is not open; 28, `Busy`, if another call runs on it;
+/// 5, `WrongLife`, if termination of the present generation was not detected.
 #[unsafe(no_mangle)]
 pub unsafe extern "C" fn gerfmuod_restart(core: *mut u8) -> u32
     ghost old: { CoreState }
@@ -175,13 +199,14 @@ pub unsafe extern "C" fn gerfmuod_restart(core: *mut u8) -> u32
     restarted(&mut *(core as *mut CoreSlot))
 }
 
-/// Frees the memory that the core has allocated. After that the core is not open. A core that is not open does not
-/// change, so closing it twice does nothing.
+/// Frees the memory that the core has allocated. After that the core is not open. Returns 0, or why the call was refused,
+/// and nothing changes: 24, `NoPool`, if the core is not open; 28, `Busy`, if another call runs on it.
 #[unsafe(no_mangle)]
-pub unsafe extern "C" fn gerfmuod_close(core: *mut u8)
+pub unsafe extern "C" fn gerfmuod_close(core: *mut u8) -> u32
     ghost old: { CoreState }
     requires* { sem 𝓛 (lies_at slot_row full_share core old) }
-    ensures* { ∃ₛ (λ (new : CoreState). sem 𝓛 (lies_at slot_row full_share core new) ∗ ⌜ IsClosed old new ⌝) }
+    ensures* { ∃ₛ (λ (new : CoreState). sem 𝓛 (lies_at slot_row full_share core new)
+        ∗ ⌜ IsClosed old result new ⌝) }
 {
     close(&mut *(core as *mut CoreSlot))
 }

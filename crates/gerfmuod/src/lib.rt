@@ -4,6 +4,7 @@
 #![tactic(auto)]
 
 mod answer;
+mod batch;
 mod calls;
 mod dag;
 mod event;

@@ -16,6 +16,8 @@ use tp_process::Refusal as ProcessRefusal;
 enum Cause {
     /// A refusal of a call on a core or on a pool of task graphs: 1 to 26.
     Pool(Refusal),
+    /// Another call runs on the core: 28.
+    Busy,
     /// The maker of a step does not run or is not open at the node of the step: 29.
     NoMaker,
     /// A refusal of a call on a process: 101 to 108.
@@ -29,6 +31,7 @@ fn cause_of(number: u32) -> Option<Cause>
     ensures { MatchOption result (IsFalse (is_refusal number)) (λ c. cause_number c ≡ number) }
 {
     Some(match number {
+        28 => Cause::Busy,
         29 => Cause::NoMaker,
         101 => Cause::Process(ProcessRefusal::Inactive),
         102 => Cause::Process(ProcessRefusal::Full),
@@ -132,6 +135,7 @@ fn cause_name(cause: Cause) -> &'static str
 {
     match cause {
         Cause::Pool(refusal) => refusal.name(),
+        Cause::Busy => "Busy",
         Cause::NoMaker => "NoMaker",
         Cause::Process(refusal) => process_name(refusal),
         Cause::Malformed => "Malformed",
@@ -143,6 +147,7 @@ fn cause_meaning(cause: Cause) -> &'static str
 {
     match cause {
         Cause::Pool(refusal) => meaning(refusal),
+        Cause::Busy => "another call runs on the core",
         Cause::NoMaker => "the maker does not run or is not open at the node of the step",
         Cause::Process(refusal) => process_meaning(number_of(refusal)),
         Cause::Malformed => process_meaning(109),
@@ -150,7 +155,7 @@ fn cause_meaning(cause: Cause) -> &'static str
 }
 
 /// Writes the name of the refusal of a number to the start of the buffer `room`: `NoNode` for 1, to `BadSpec` for 26;
-/// `NoMaker` for 29; and the names of the refusals of a process, 101 to 109.
+/// `Busy` for 28; `NoMaker` for 29; and the names of the refusals of a process, 101 to 109.
 #[unsafe(no_mangle)]
 pub extern "C" fn gerfmuod_refusal_name(number: u32, room: &mut [u8]) -> Written
     ensures { IsNamed number room.old result room.new }

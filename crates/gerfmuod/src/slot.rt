@@ -1,14 +1,22 @@
-//! The content of a `gerfmuod_core`: a core, and a mark that says whether it is open.
-ghost use Rattle.std.specs.Prelude.{◌≡◌, ◌≤◌, Bool};
+//! The content of a `gerfmuod_core`: a core, and a mark that says whether it is open and whether a call runs on it.
+ghost use Rattle.std.specs.Prelude.{◌≡◌, ◌≢◌, ◌≤◌, ◌↔◌, Bool, IsTrue, IsFalse, if◌then◌else◌};
 ghost use Rattle.tp_base.specs.declared.limits.TheConstants.{MAX_NODES};
-ghost use Rattle.gerfmuod.specs.Slot.{closed, new_core};
+ghost use Rattle.gerfmuod.specs.Slot.{closed, new_core, refusal_of, Busy, Closed, Open};
 
 use crate::pool::CoreRoom;
 use std::alloc::Global;
 use std::marker::Model;
+use tp_base::Refusal;
 
-/// The value of `mark` in an open core: `gerfcore` in ASCII.
-const MARK: u64 = 0x6765_7266_636f_7265;
+/// The value of `mark` in an open core: `core` in ASCII. It has 4 bytes, so that one instruction compares or writes it.
+const OPEN: u32 = 0x636f_7265;
+
+/// The value of `mark` while a call that may change the core runs: `busy` in ASCII.
+const BUSY: u32 = 0x6275_7379;
+
+/// The refusal of a call on a core on which another call runs. Only a caller who forgot a lock, or calls from inside of a
+/// call, can see it.
+const BUSY_REFUSAL: u16 = 28;
 
 /// The size in bytes of a `gerfmuod_core` in the header.
 const ROOM: usize = 512;
@@ -20,10 +28,11 @@ const _: () = prove!(align_of::<CoreSlot>() <= 8);
 /// Compiles only for a type that can be sent to another thread: a program in C may use its core from any thread.
 fn can_be_sent<T: Send>() {}
 
-/// A core that is open or not. Contracts see whether it is open, and what the core has accepted.
+/// A core that is open or not. Contracts see whether it is open, whether a call runs on it, and what the core has
+/// accepted.
 #[derive(Drop)]
 pub(crate) struct CoreSlot {
-    mark: u64,
+    mark: u32,
     pub(crate) room: CoreRoom,
     alloc: Global,
 }
@@ -42,26 +51,59 @@ impl CoreSlot {
     /// Returns a core of the nodes 0 to `nodes` - 1, which is open or not. It allocates nothing.
     pub(crate) fn new(alloc: Global, nodes: u32, is_open: bool) -> CoreSlot
         requires { (1 ≤ nodes) × (nodes ≤ MAX_NODES) }
-        ensures { result ≡ record { is_open = is_open; core = new_core nodes } }
+        ensures { result ≡ record { use_is = if is_open then Open else Closed; core = new_core nodes } }
     {
         can_be_sent::<CoreSlot>();
         CoreSlot {
-            mark: if is_open { MARK } else { 0 },
+            mark: if is_open { OPEN } else { 0 },
             room: CoreRoom::new(alloc, nodes),
             alloc,
         }
     }
 
+    /// Returns whether the core is open and no call runs on it.
     #[inline(always)]
     pub(crate) fn is_open(&self) -> bool
-        ensures { result ≡ self.now.is_open }
+        ensures { IsTrue result ↔ (self.now.use_is ≡ Open) }
     {
-        self.mark == MARK
+        self.mark == OPEN
+    }
+
+    /// Marks an open core as busy, and returns true. Another core does not change.
+    #[inline(always)]
+    pub(crate) fn enter(&mut self) -> bool
+        ensures entered { IsTrue result → (self.old.use_is ≡ Open) × (self.new ≡ record { use_is = Busy; core = self.old.core }) }
+        ensures refused { IsFalse result → (self.old.use_is ≢ Open) × (self.new ≡ self.old) }
+    {
+        if self.mark != OPEN {
+            return false;
+        }
+        self.mark = BUSY;
+        true
+    }
+
+    /// Marks the core as open, at the end of a call.
+    #[inline(always)]
+    pub(crate) fn leave(&mut self)
+        ensures { self.new ≡ record { use_is = Open; core = self.old.core } }
+    {
+        self.mark = OPEN;
+    }
+
+    /// Returns the number of the refusal of a call on a core that is not open, or on which another call runs.
+    pub(crate) fn refusal(&self) -> u16
+        ensures { result ≡ refusal_of self.now.use_is }
+    {
+        if self.mark == BUSY {
+            BUSY_REFUSAL
+        } else {
+            u16::from(Refusal::NoPool.number())
+        }
     }
 
     /// Replaces the core by a new one of the same nodes.
     pub(crate) fn restart(&mut self)
-        ensures { self.new ≡ record { is_open = self.old.is_open; core = new_core self.old.core.nodes } }
+        ensures { self.new ≡ record { use_is = self.old.use_is; core = new_core self.old.core.nodes } }
     {
         self.room = CoreRoom::new(self.alloc, self.room.nodes());
     }

@@ -1,0 +1,30 @@
+use Rattle.std.proofs.Common.{◌≡◌, ◌<◌, length, get_or, subst, sym, arith, Option}
+use Rattle.tp_base.specs.declared.Step.{Step}
+use Rattle.gerfmuod.specs.Batch.{IsStep}
+use Rattle.gerfmuod.specs.Events.{event_of, step_asked}
+use Rattle.gerfmuod.specs.Pool.{TellsNoEarlyEnd}
+use Rattle.gerfmuod.specs.Told.{IsTold}
+use Rattle.gerfmuod.proofs.Several.{after_one, stops_at}
+use Rattle.gerfmuod.proofs.batch.taken.Goals as goal
+
+pub returns-then-answer-ne0 : goal.returns-then-answer-ne0
+returns-then-answer-ne0 c =
+    let none = event_of 0 0 0 0 0 in
+    let u = c.told-answer.result in
+    let new = c.told-answer.new.room in
+    let step : IsStep (get_or c.args.events.now c.loop-count.count none) c.loop-count.room u new =
+    subst (λ (o : Option Step). IsTold c.loop-count.room o u new × TellsNoEarlyEnd (u.told ≡ 3) u.number new) c.step_of.ensures
+    c.told-answer.ensures in
+    stops_at c.args.events.now c.args.answers.now c.args.room.now c.loop-count.count c.loop-count.answers c.loop-count.room none u new
+    (omega (arith, c.loop-count-test.true, c.loop-count.auto.count-end)) c.requires c.loop-count.invariant step c.if-answer-ne0.true
+
+pub loop-count-preserved : goal.loop-count-preserved
+loop-count-preserved c =
+    let none = event_of 0 0 0 0 0 in
+    let u = c.told-answer.result in
+    let new = c.told-answer.new.room in
+    let step : IsStep (get_or c.args.events.now c.loop-count.count none) c.loop-count.room u new =
+    subst (λ (o : Option Step). IsTold c.loop-count.room o u new × TellsNoEarlyEnd (u.told ≡ 3) u.number new) c.step_of.ensures
+    c.told-answer.ensures in
+    after_one c.args.events.now c.args.answers.now c.args.room.now c.loop-count.count c.loop-count.answers c.loop-count.room none u new
+    (omega (arith, c.loop-count-test.true, c.loop-count.auto.count-end)) c.requires c.loop-count.invariant step c.if-answer-ne0.false

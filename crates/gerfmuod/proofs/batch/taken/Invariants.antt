@@ -1,0 +1,6 @@
+use Rattle.gerfmuod.proofs.Several.{AfterSteps}
+use Rattle.gerfmuod.proofs.batch.taken.Given as goal
+
+-- the steps so far were taken, and their results are written
+abbrev pub invariant-loop-count : goal.invariant-loop-count
+invariant-loop-count l = AfterSteps l.events l.fn.answers l.fn.room l.count l.answers l.room
