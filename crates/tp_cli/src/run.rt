@@ -47,7 +47,7 @@ pub(crate) struct Plan {
 
 /// Runs the pool that a specification names, in the given number of generations, and writes their tables and totals or
 /// their one trace. Nothing is written before the run has ended. Meanwhile the screen shows its progress. If there is a
-/// file, the times of the tasks are written to it at last.
+/// file, no progress is shown, and the times of the tasks are written to it at last.
 pub(crate) fn run<O: Write, R: Threads + Wait + Sync + Clock + Files, W: Write + Send + Drop>(
     rt: &R,
     alloc: Global,
@@ -71,6 +71,8 @@ pub(crate) fn run<O: Write, R: Threads + Wait + Sync + Clock + Files, W: Write +
     };
     let bodies = u64::from(graph.tasks()).saturating_mul(u64::from(plan.generations));
     let profile = Profile::new(alloc, rt, file, bodies);
+    // a run is either counted or timed
+    let screen = if file.is_some() { None } else { screen };
     let text = match text_watched(rt, alloc, graph, plan, profile.log(), screen) {
         Ok(text) => text,
         Err(fault) => return Err(Fault::Run(fault)),
@@ -102,7 +104,8 @@ fn status_of_profile(written: io::Result<()>) -> Result<Status, Fault>
     }
 }
 
-/// Runs a pool of a graph, and returns what is printed of its generations. Meanwhile the screen shows its progress.
+/// Runs a pool of a graph, and returns what is printed of its generations. Meanwhile the screen, if there is one, shows
+/// its progress; without one, the tasks are timed if there is a log.
 fn text_watched<R: Threads + Wait + Sync + Clock, W: Write + Send + Drop>(
     rt: &R,
     alloc: Global,
@@ -131,7 +134,7 @@ fn text_watched<R: Threads + Wait + Sync + Clock, W: Write + Send + Drop>(
             ensures { MatchResult result
                 (λ text. IsTextOf plan.form graph plan.config.nodes plan.config.workers plan.generations text.items)
                 (IsWithoutText plan.form graph plan.config.nodes plan.config.workers plan.generations) }
-        { text_of_run(rt, alloc, graph, plan, log, Some(counts)) },
+        { text_of_run(rt, alloc, graph, plan, None, Some(counts)) },
     )
 }
 

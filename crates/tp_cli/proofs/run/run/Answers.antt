@@ -38,7 +38,8 @@ returns-in-Ok-write_text-clause-ran g c =
 
 pub returns-in-Ok-write_text-clause-why : goal.returns-in-Ok-write_text-clause-why
 returns-in-Ok-write_text-clause-why g c =
-    let made = (c.in-Ok-text_watched.text.items, (c.in-Ok.graph, c.in-Ok.ensures.only, c.in-Ok-text_watched.ensures)) in
+    let made : IsRunFault c.args.plan c.args.spec.now faults.Write =
+    (c.in-Ok-text_watched.text.items, (c.in-Ok.graph, c.in-Ok.ensures.only, c.in-Ok-text_watched.ensures)) in
     IfErr-weaker c.status_of_profile.result _ _ (λ fault is. subst (IsRunFault c.args.plan c.args.spec.now) (sym is) made)
     c.status_of_profile.ensures.why
 
