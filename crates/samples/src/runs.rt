@@ -35,16 +35,7 @@ pub(crate) fn heat<R: Threads + Wait + Sync + Clock>(
     ensures { IfOk result (λ rod. (rod.items ≡ rods.evolve steps cells.items)
         × HasRunInParts config.nodes config.workers heated block_heated cells.items block steps) }
 {
-    let rod = run_in_parts_watched(
-        rt,
-        alloc,
-        ThreePoints,
-        cells,
-        block,
-        steps,
-        config,
-        watch,
-    )?;
+    let rod = run_in_parts_watched(rt, alloc, ThreePoints, cells, block, steps, config, watch)?;
     Ok(rod)
 }
 

@@ -137,7 +137,7 @@ fn run_pool_timed<G: Graph, R: Threads + Wait + Sync + Clock>(
     progress: Option<&Progress>,
 ) -> Result<Outcome, tp_work::Fault>
     requires { IsWithinLimits config }
-    ensures outcome { IfOk result (IsOutcome config.nodes config.workers (G.meaning graph)) }
+    ensures { IfOk result (IsOutcome config.nodes config.workers (G.meaning graph)) }
 {
     let timed = Timed::new(graph, config.nodes, rt, log);
     run_pool_counted(rt, alloc, timed, config, progress)

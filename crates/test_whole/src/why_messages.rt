@@ -26,7 +26,12 @@ fn is_written<R: Threads + Wait + Sync + Clock + Files>(
 }
 
 /// Whether the specification names no pool for this reason.
-fn is_no_pool<R: Threads + Wait + Sync + Clock + Files>(rt: &R, alloc: Global, word: &str, reason: &str) -> bool {
+fn is_no_pool<R: Threads + Wait + Sync + Clock + Files>(
+    rt: &R,
+    alloc: Global,
+    word: &str,
+    reason: &str,
+) -> bool {
     match format!(in alloc; "refused 26 BadSpec\n{word}: {reason}\n") {
         Ok(message) => is_written(rt, alloc, &["tp", "run", word], b"", &message),
         Err(_) => false,

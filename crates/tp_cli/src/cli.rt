@@ -86,7 +86,13 @@ fn told<E: Diagnostics>(ended: Result<Status, Fault>, err: &mut E) -> Status
 /// Writes the requested output, or shows help or the version if the arguments ask for that, and returns what the reason
 /// of a refusal is about. If `keeps` is set, a script or a trace is kept for that reason. While a pool runs, the screen
 /// shows its progress.
-pub(crate) fn answer_words<'a, R: Threads + Wait + Sync + Clock + Files, I: Read, O: Write, W: Write + Send + Drop>(
+pub(crate) fn answer_words<
+    'a,
+    R: Threads + Wait + Sync + Clock + Files,
+    I: Read,
+    O: Write,
+    W: Write + Send + Drop,
+>(
     rt: &R,
     alloc: Global,
     words: &'a [&'a str],

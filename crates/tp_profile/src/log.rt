@@ -45,11 +45,7 @@ impl Body {
 impl Log {
     /// Returns a log for a run of this many bodies, whose time begins now. If there are more than 350,000, it keeps the
     /// newest of them.
-    pub(crate) fn new<C: Clock>(
-        alloc: Global,
-        clock: &C,
-        bodies: u64,
-    ) -> Result<Log, AllocError> {
+    pub(crate) fn new<C: Clock>(alloc: Global, clock: &C, bodies: u64) -> Result<Log, AllocError> {
         let mut entries = Vec::new(alloc);
         for _ in 0..bodies.min(MOST) {
             entries.push(Entry {
