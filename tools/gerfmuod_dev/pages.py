@@ -1,10 +1,12 @@
-"""Tries the trace events and the page that `samples draw run` writes, unproved.
+"""Tries the trace events and the page that `samples draw run` writes, and the times of runs, unproved.
 
 Has the program write 40 random runs as events. A JSON parser reads them: each task, message and wave of the trace has to
 be in them once, and they have to be those of a second writer (trace_events.py). If Chromium is installed
 (`tools/page-packages` prints the package), opens the page of a run of 100,000 events in it, zooms, moves, searches, and holds
 the pointer over a task, a message and a wave, in light and dark colours, and opens the pages of the short runs; none may
-report an error. The last line is `N passed, M failed`; the status is 1 if one failed.
+report an error. Then the programs run with `--profile FILE`: a JSON parser reads each file, which has to have each task of the
+run once, in time, and counters that rise to the numbers of the run (run_profiles.py). The last line is `N passed, M failed`; the
+status is 1 if one failed.
 """
 import collections
 import io
@@ -13,7 +15,7 @@ import random
 import re
 import tempfile
 
-from . import repository, running, tries
+from . import repository, run_profiles, running, tries
 from .bench import inputs
 from .browser import Browser, program
 from .limits.random_texts import random_steps, sound_trace
@@ -213,6 +215,7 @@ def run(options):
     texts = traces()
     outputs = written(texts)
     check_events(tally, texts, outputs)
+    run_profiles.check(tally)
     if not program():
         print("Chromium is missing (tools/page-packages prints the package): the page was not tried.")
     elif PAGE in outputs:

@@ -29,7 +29,7 @@ fn heat_command<'a>(alloc: Global) -> Result<Command<'a>, AllocError> {
         .after_help(HEAT_HELP)
         .arg(steps_argument(alloc, "How many steps the rod takes"))?
         .arg(size_argument(alloc, "BLOCK", "How many cells a block has, 1 or more"))?;
-    with_counts(alloc, command)?.arg(quiet_flag(alloc))
+    with_shown(alloc, command)
 }
 
 fn product_command<'a>(alloc: Global) -> Result<Command<'a>, AllocError> {
@@ -38,7 +38,7 @@ fn product_command<'a>(alloc: Global) -> Result<Command<'a>, AllocError> {
         .about("Computes the product of two matrices, in tiles, by a pool of threads")
         .after_help(PRODUCT_HELP)
         .arg(size_argument(alloc, "SIDE", help))?;
-    with_counts(alloc, command)?.arg(quiet_flag(alloc))
+    with_shown(alloc, command)
 }
 
 fn relax_command<'a>(alloc: Global) -> Result<Command<'a>, AllocError> {
@@ -48,7 +48,7 @@ fn relax_command<'a>(alloc: Global) -> Result<Command<'a>, AllocError> {
         .after_help(RELAX_HELP)
         .arg(steps_argument(alloc, "How many steps the grid takes"))?
         .arg(size_argument(alloc, "ROWS_A_BLOCK", help))?;
-    with_counts(alloc, command)?.arg(quiet_flag(alloc))
+    with_shown(alloc, command)
 }
 
 /// Returns the command line of `patterns`. Its arguments are not required with `--list`.
@@ -81,7 +81,14 @@ pub(crate) fn patterns_command<'a>(alloc: Global) -> Result<Command<'a>, AllocEr
         .arg(list)?
         .arg(radius)?
         .arg(seed)?;
-    with_counts(alloc, command)
+    with_counts(alloc, command)?.arg(profile_option(alloc))
+}
+
+/// Returns the command with the options of a run over what is read.
+fn with_shown<'a>(alloc: Global, command: Command<'a>) -> Result<Command<'a>, AllocError> {
+    with_counts(alloc, command)?
+        .arg(quiet_flag(alloc))?
+        .arg(profile_option(alloc))
 }
 
 fn steps_argument<'a>(alloc: Global, help: &'a str) -> Arg<'a> {
@@ -113,4 +120,11 @@ fn quiet_flag<'a>(alloc: Global) -> Arg<'a> {
         .long("quiet")
         .action(ArgAction::SetTrue)
         .help("Shows no prompt and no progress on a terminal")
+}
+
+fn profile_option<'a>(alloc: Global) -> Arg<'a> {
+    Arg::new(alloc, "profile")
+        .long("profile")
+        .value_name("FILE")
+        .help("Writes when each task ran to this file, as trace events for a viewer of timelines")
 }

@@ -23,6 +23,8 @@ pub(crate) enum Fault {
     Unreadable,
     #[error("the output cannot be written")]
     Unwritten,
+    #[error("the file of the profile cannot be written")]
+    NoProfile,
     #[error(transparent)]
     Input(#[from] InputFault),
     #[error("a number of the product leaves 64 bits")]
@@ -84,7 +86,7 @@ impl Fault {
     {
         match self {
             Fault::Arguments(_) | Fault::NotUtf8 | Fault::NoPattern => 1,
-            Fault::Unreadable | Fault::Unwritten => 1,
+            Fault::Unreadable | Fault::Unwritten | Fault::NoProfile => 1,
             Fault::Input(_) => 2,
             Fault::Overflow | Fault::LongRun | Fault::Refused(_) | Fault::Memory(_) => 3,
         }

@@ -21,8 +21,8 @@ An example:
 
 The exit status is
   0  if the rod was printed;
-  1  if the arguments are wrong, the input cannot be read, or the output cannot
-     be written;
+  1  if the arguments are wrong, the input cannot be read, or the output or the
+     FILE of --profile cannot be written;
   2  if a line is not a 64-bit integer, there is no line, or BLOCK is so small
      that one step takes more than the 1,048,576 events of a run: a block takes 1
      for each of its 1 to 3 inputs and 2 more, or 3 before the first step, and
@@ -42,8 +42,8 @@ An example:
 
 The exit status is
   0  if the product was printed;
-  1  if the arguments are wrong, the input cannot be read, or the output cannot
-     be written;
+  1  if the arguments are wrong, the input cannot be read, or the output or the
+     FILE of --profile cannot be written;
   2  if the input has another form, there are 32,768 rows or more, SIDE does not
      divide their number, or SIDE is so small that the product takes more than
      the 1,048,576 events of a run: with T tiles along a side, each of T * T * T
@@ -64,8 +64,8 @@ An example:
 
 The exit status is
   0  if the grid was printed;
-  1  if the arguments are wrong, the input cannot be read, or the output cannot
-     be written;
+  1  if the arguments are wrong, the input cannot be read, or the output or the
+     FILE of --profile cannot be written;
   2  if the input has another form or no line, a block has 4,294,967,296 cells or
      more, or ROWS_A_BLOCK is so small that one step takes more than the
      1,048,576 events of a run: a block takes 1 for each of its 1 to 3 inputs and
@@ -91,7 +91,8 @@ Examples:
 
 The exit status is
   0  if these lines or the list was printed;
-  1  if the arguments are wrong or the output cannot be written;
+  1  if the arguments are wrong, or the output or the FILE of --profile cannot be
+     written;
   2  if a task has more than 16 inputs, or the tasks take more than the 1,048,576
      events of a run: a task takes 1 for each input and 2 more, or 3 if it has no
      inputs;

@@ -12,6 +12,7 @@ mod request;
 mod runs;
 mod shell;
 mod tiles;
+mod watched;
 
 use crate::fault::{Fault, status_of};
 use crate::shell::answer;

@@ -4,18 +4,23 @@ ghost use Rattle.tp_work.specs.Outcomes.{IsWithinLimits};
 
 use crate::fault::Fault;
 use crate::request::PatternGrid;
-use pool_patterns::{FeedTable, Grid, Pattern, checksum, run_pattern};
+use crate::watched::{Watch, run_pool_watched};
+use pool_patterns::{
+    FeedTable, Grid, Pattern, PatternFault, PatternRun, Relation, checksum, last_row, run_pattern,
+};
 use std::alloc::Global;
+use std::rt::Clock;
 use std::sync::Wait;
 use std::thread::Threads;
 use tp_work::Config;
 
 /// Runs a grid, and returns the lines of its result.
-pub(crate) fn pattern_text<R: Threads + Wait + Sync>(
+pub(crate) fn pattern_text<R: Threads + Wait + Sync + Clock>(
     rt: &R,
     alloc: Global,
     asked: PatternGrid,
     config: Config,
+    watch: Watch,
 ) -> Result<String, Fault>
     requires { IsWithinLimits config }
 {
@@ -24,10 +29,32 @@ pub(crate) fn pattern_text<R: Threads + Wait + Sync>(
     };
     let table = FeedTable::new(alloc, pattern, asked.width, asked.steps)?;
     let grid = Grid::new(&table, asked.iterations);
-    let run = run_pattern(rt, alloc, &grid, config)?;
+    let run = match watch.log {
+        Some(_) => run_timed(rt, alloc, &grid, config, watch)?,
+        None => run_pattern(rt, alloc, &grid, config)?,
+    };
     let sum = checksum(&run.row);
     let (tasks, messages) = (run.outcome.tasks, run.outcome.messages);
     Ok(format!(in alloc; "checksum {sum}\ntasks {tasks}\nmessages {messages}\nended\n")?)
+}
+
+/// Runs a grid with its tasks timed.
+fn run_timed<P: Relation + Send + Sync, R: Threads + Wait + Sync + Clock>(
+    rt: &R,
+    alloc: Global,
+    grid: &Grid<P>,
+    config: Config,
+    watch: Watch,
+) -> Result<PatternRun, Fault>
+    requires { IsWithinLimits config }
+{
+    match run_pool_watched(rt, alloc, *grid, config, watch) {
+        Ok(outcome) => {
+            let row = last_row(alloc, grid, &outcome.results)?;
+            Ok(PatternRun { row, outcome })
+        }
+        Err(fault) => Err(Fault::from(PatternFault::Run(fault))),
+    }
 }
 
 impl PatternGrid<'_> {

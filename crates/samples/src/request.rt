@@ -19,6 +19,8 @@ pub(crate) struct Request<'a> {
     pub(crate) config: Config,
     /// Whether a terminal shows nothing but the result and faults.
     pub(crate) is_quiet: bool,
+    /// The file for the profile.
+    pub(crate) file: Option<&'a str>,
 }
 
 #[derive(Clone, Copy)]
@@ -79,6 +81,7 @@ fn request_of<'a>(work: Work<'a>, matches: &ArgMatches<'a>) -> Request<'a>
         work,
         config: config_of(matches),
         is_quiet: matches.get_flag("quiet"),
+        file: matches.get_str("profile"),
     }
 }
 

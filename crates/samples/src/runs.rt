@@ -11,44 +11,36 @@ ghost use Rattle.pool_stencil.specs.Heats as rods;
 ghost use Rattle.tp_work.specs.Outcomes.{IsWithinLimits};
 
 use crate::fault::{Fault, InputFault};
-use pool_blocks::run_in_parts_counted;
+use crate::watched::{Watch, run_in_parts_watched, run_pool_watched};
 use pool_matrix::{Product, matrix_of};
 use pool_stencil::{ThreePoints, row_blocks};
 use std::alloc::Global;
+use std::rt::Clock;
 use std::sync::Wait;
 use std::thread::Threads;
 use tp_base::Refusal;
-use tp_work::{Config, Progress, run_pool_counted};
+use tp_work::Config;
 
 /// Returns the rod after `steps` steps, computed in blocks of `block` cells.
-pub(crate) fn heat<R: Threads + Wait + Sync>(
+pub(crate) fn heat<R: Threads + Wait + Sync + Clock>(
     rt: &R,
     alloc: Global,
     cells: Vec<i64>,
     block: u32,
     steps: u64,
     config: Config,
-    progress: Option<&Progress>,
+    watch: Watch,
 ) -> Result<Vec<i64>, Fault>
     requires { IsWithinLimits config }
     ensures { IfOk result (λ rod. (rod.items ≡ rods.evolve steps cells.items)
         × HasRunInParts config.nodes config.workers heated block_heated cells.items block steps) }
 {
-    let rod = run_in_parts_counted(
-        rt,
-        alloc,
-        ThreePoints,
-        cells,
-        block,
-        steps,
-        config,
-        progress,
-    )?;
+    let rod = run_in_parts_watched(rt, alloc, ThreePoints, cells, block, steps, config, watch)?;
     Ok(rod)
 }
 
 /// Returns the grid after `steps` steps, computed in blocks of `rows` rows.
-pub(crate) fn relax<R: Threads + Wait + Sync>(
+pub(crate) fn relax<R: Threads + Wait + Sync + Clock>(
     rt: &R,
     alloc: Global,
     cells: Vec<i64>,
@@ -56,7 +48,7 @@ pub(crate) fn relax<R: Threads + Wait + Sync>(
     rows: u32,
     steps: u64,
     config: Config,
-    progress: Option<&Progress>,
+    watch: Watch,
 ) -> Result<Vec<i64>, Fault>
     requires { IsWithinLimits config }
     ensures { IfOk result (λ grid. (grid.items ≡ grids.evolve width steps cells.items)
@@ -65,7 +57,7 @@ pub(crate) fn relax<R: Threads + Wait + Sync>(
     let Some(blocks) = row_blocks(width, rows) else {
         return Err(Fault::Input(InputFault::LargeBlocks));
     };
-    let grid = run_in_parts_counted(
+    let grid = run_in_parts_watched(
         rt,
         alloc,
         blocks.points,
@@ -73,13 +65,13 @@ pub(crate) fn relax<R: Threads + Wait + Sync>(
         blocks.size,
         steps,
         config,
-        progress,
+        watch,
     )?;
     Ok(grid)
 }
 
 /// Returns the product of two matrices of `order` rows and columns, computed in tiles of `side`.
-pub(crate) fn product<R: Threads + Wait + Sync>(
+pub(crate) fn product<R: Threads + Wait + Sync + Clock>(
     rt: &R,
     alloc: Global,
     left: &[i64],
@@ -87,7 +79,7 @@ pub(crate) fn product<R: Threads + Wait + Sync>(
     order: u32,
     side: u32,
     config: Config,
-    progress: Option<&Progress>,
+    watch: Watch,
 ) -> Result<Vec<i64>, Fault>
     requires { IsWithinLimits config }
     ensures { IfOk result (λ made. (made.items ≡ product_of order left.now right.now)
@@ -96,7 +88,7 @@ pub(crate) fn product<R: Threads + Wait + Sync>(
     let Some(product) = Product::new(left, right, order, side) else {
         return Err(Fault::Refused(Refusal::BadSpec));
     };
-    let outcome = match run_pool_counted(rt, alloc, product, config, progress) {
+    let outcome = match run_pool_watched(rt, alloc, product, config, watch) {
         Ok(outcome) => outcome,
         Err(fault) => return Err(product_fault(fault.refusal)),
     };

@@ -10,16 +10,25 @@ use crate::patterns::{NAMES, pattern_text};
 use crate::request::{Request, Sample, Work, requested};
 use crate::runs;
 use crate::tiles::tiled_order;
+use crate::watched::Watch;
 use std::alloc::Global;
 use std::io::Write;
+use std::rt::{Clock, Files};
 use std::str;
 use std::sync::Wait;
 use std::thread::Threads;
+use tp_profile::{Log, Profile, Run};
 use tp_shell::{Source, show, write_text};
 use tp_work::{Config, Progress, Screen, watched};
 
-/// Writes what the arguments ask for, or help or the version. A screen shows what is read, and how far the run is.
-pub(crate) fn answer<R: Threads + Wait + Sync, I: Source, O: Write, W: Write + Send + Drop>(
+/// Writes what the arguments ask for, or help or the version. A screen shows what is read, and how far the run is. If
+/// there is a file for a profile, it is written at last.
+pub(crate) fn answer<
+    R: Threads + Wait + Sync + Clock + Files,
+    I: Source,
+    O: Write,
+    W: Write + Send + Drop,
+>(
     rt: &R,
     alloc: Global,
     arguments: &[&str],
@@ -35,17 +44,27 @@ pub(crate) fn answer<R: Threads + Wait + Sync, I: Source, O: Write, W: Write + S
         work,
         config,
         is_quiet,
+        file,
     } = request;
     match work {
         Work::Names => written(out, NAMES.as_bytes()),
         Work::Pattern(grid) => {
-            let text = pattern_text(rt, alloc, grid, config)?;
-            written(out, text.as_bytes())
+            let profile = Profile::new(alloc, rt, file, u64::MAX);
+            let watch = Watch {
+                progress: None,
+                log: profile.log(),
+            };
+            let text = pattern_text(rt, alloc, grid, config, watch)?;
+            written(out, text.as_bytes())?;
+            profiled(rt, alloc, &profile, config, true)
         }
         Work::Sample(sample) => {
-            let screen = if is_quiet { None } else { screen };
-            let text = text_of_input(rt, alloc, sample, config, input, screen)?;
-            written(out, &text)
+            let mut screen = if is_quiet { None } else { screen };
+            let bytes = bytes_of(alloc, sample, input, &mut screen)?;
+            let profile = Profile::new(alloc, rt, file, u64::MAX);
+            let text = text_of_input(rt, alloc, sample, config, &bytes, profile.log(), screen)?;
+            written(out, &text)?;
+            profiled(rt, alloc, &profile, config, sample.has_tasks())
         }
     }
 }
@@ -54,26 +73,56 @@ fn written<O: Write>(out: &mut O, text: &[u8]) -> Result<(), Fault> {
     write_text(out, text).map_err(|_| Fault::Unwritten)
 }
 
-/// Reads all input, and returns the text that a sample computes from it.
-fn text_of_input<R: Threads + Wait + Sync, I: Source, W: Write + Send + Drop>(
+/// Writes the profile of a run that has ended, if one is asked for.
+fn profiled<R: Clock + Files>(
+    rt: &R,
+    alloc: Global,
+    profile: &Profile,
+    config: Config,
+    has_tasks: bool,
+) -> Result<(), Fault> {
+    let run = Run {
+        nodes: config.nodes,
+        workers: config.workers,
+        has_tasks,
+    };
+    profile.write(rt, alloc, run).map_err(|_| Fault::NoProfile)
+}
+
+/// Reads all input, after a screen has shown what is read.
+fn bytes_of<I: Source, W: Write>(
+    alloc: Global,
+    sample: Sample,
+    input: &mut I,
+    screen: &mut Option<Screen<W>>,
+) -> Result<Vec<u8>, Fault> {
+    if let Some(screen) = screen {
+        screen.invite(sample.invitation());
+    }
+    Ok(input.read_all(alloc)?)
+}
+
+/// Returns the text that a sample computes from its input.
+fn text_of_input<R: Threads + Wait + Sync + Clock, W: Write + Send + Drop>(
     rt: &R,
     alloc: Global,
     sample: Sample,
     config: Config,
-    input: &mut I,
-    mut screen: Option<Screen<W>>,
+    bytes: &[u8],
+    log: Option<&Log>,
+    screen: Option<Screen<W>>,
 ) -> Result<Vec<u8>, Fault>
     requires { IsWithinLimits config }
 {
-    if let Some(screen) = &mut screen {
-        screen.invite(sample.invitation());
-    }
-    let bytes = input.read_all(alloc)?;
-    let Ok(text) = str::from_utf8(&bytes) else {
+    let Ok(text) = str::from_utf8(bytes) else {
         return Err(Fault::Unreadable);
     };
     let Some(screen) = screen else {
-        return sample.run(rt, alloc, config, text, None);
+        let watch = Watch {
+            progress: None,
+            log,
+        };
+        return sample.run(rt, alloc, config, text, watch);
     };
     let progress = Progress::new();
     let counts = &progress;
@@ -84,7 +133,13 @@ fn text_of_input<R: Threads + Wait + Sync, I: Source, W: Write + Send + Drop>(
         counts,
         move || -> Result<Vec<u8>, Fault>
             requires { IsSync R.row × IsWithinLimits config }
-        { sample.run(rt, alloc, config, text, Some(counts)) },
+        {
+            let watch = Watch {
+                progress: Some(counts),
+                log,
+            };
+            sample.run(rt, alloc, config, text, watch)
+        },
     )
 }
 
@@ -104,28 +159,33 @@ impl Sample {
         }
     }
 
+    /// Returns whether a profile has the numbers of its tasks. A stencil does not learn which block it computes.
+    fn has_tasks(self) -> bool {
+        matches!(self, Sample::Product { .. })
+    }
+
     /// Runs over the numbers of a text, and returns the result as text.
-    fn run<R: Threads + Wait + Sync>(
+    fn run<R: Threads + Wait + Sync + Clock>(
         self,
         rt: &R,
         alloc: Global,
         config: Config,
         text: &str,
-        progress: Option<&Progress>,
+        watch: Watch,
     ) -> Result<Vec<u8>, Fault>
         requires { IsWithinLimits config }
     {
         match self {
             Sample::Heat { steps, block } => {
                 let cells = numbers_of(alloc, text)?;
-                let rod = runs::heat(rt, alloc, cells, block, steps, config, progress)?;
+                let rod = runs::heat(rt, alloc, cells, block, steps, config, watch)?;
                 Ok(text_of(alloc, 1, &rod)?)
             }
             Sample::Product { side } => {
                 let matrices = matrices_of(alloc, text)?;
                 let order = tiled_order(matrices.order, side, config.nodes)?;
                 let (left, right) = (&matrices.left, &matrices.right);
-                let product = runs::product(rt, alloc, left, right, order, side, config, progress)?;
+                let product = runs::product(rt, alloc, left, right, order, side, config, watch)?;
                 Ok(text_of(alloc, matrices.order, &product)?)
             }
             Sample::Relax { steps, rows } => {
@@ -135,7 +195,7 @@ impl Sample {
                     return Err(Fault::Input(InputFault::LargeBlocks));
                 };
                 let cells = grid.numbers;
-                let made = runs::relax(rt, alloc, cells, columns, rows, steps, config, progress)?;
+                let made = runs::relax(rt, alloc, cells, columns, rows, steps, config, watch)?;
                 Ok(text_of(alloc, width, &made)?)
             }
         }

@@ -3,12 +3,13 @@
 use crate::hindered::{Failing, Stumbling, Unflushed};
 use std::alloc::Global;
 use std::io::{self, ErrorKind, Read, Write};
+use std::rt::{Clock, Files};
 use std::sync::Wait;
 use std::thread::Threads;
 use tp_cli::main_with;
 
 /// Whether a script from this reader gives exactly this error line, with status 1.
-fn reports<R: Threads + Wait + Sync, I: Read>(
+fn reports<R: Threads + Wait + Sync + Clock + Files, I: Read>(
     rt: &R,
     alloc: Global,
     reader: &mut I,
@@ -22,7 +23,7 @@ fn reports<R: Threads + Wait + Sync, I: Read>(
 }
 
 /// Whether the program reports, with status 1, that it could not write what these arguments and a script of one line give.
-fn reports_unwritten<R: Threads + Wait + Sync, W: Write>(
+fn reports_unwritten<R: Threads + Wait + Sync + Clock + Files, W: Write>(
     rt: &R,
     alloc: Global,
     words: &[&str],

@@ -9,6 +9,7 @@ use crate::calls::say;
 use crate::two_nodes::TREE;
 use std::alloc::Global;
 use std::io::{self, Write};
+use std::rt::{Clock, Files};
 use std::sync::Wait;
 use std::test::Fail;
 use std::thread::Threads;
@@ -167,7 +168,7 @@ fn answer_to_trace(alloc: Global) -> Written {
 }
 
 /// The status of the program on a script, and the numbers of bytes of its output and its error lines.
-fn status<R: Threads + Wait + Sync>(rt: &R, alloc: Global) -> (u8, usize, usize) {
+fn status<R: Threads + Wait + Sync + Clock + Files>(rt: &R, alloc: Global) -> (u8, usize, usize) {
     let mut reader = SCRIPT;
     let mut out = Counting { bytes: 0 };
     let mut err = Counting { bytes: 0 };

@@ -2,6 +2,7 @@
 
 use std::alloc::Global;
 use std::io::Sink;
+use std::rt::{Clock, Files};
 use std::sync::Wait;
 use std::thread::Threads;
 use tp_cli::{main_at_terminal, main_with};
@@ -19,7 +20,7 @@ struct Ending<'a> {
 }
 
 /// Whether the program ends so with these arguments, without a terminal and on one.
-fn ends_so<R: Threads + Wait + Sync>(
+fn ends_so<R: Threads + Wait + Sync + Clock + Files>(
     rt: &R,
     alloc: Global,
     words: &[&str],

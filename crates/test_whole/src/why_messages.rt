@@ -3,13 +3,14 @@
 
 use std::alloc::Global;
 use std::io::Sink;
+use std::rt::{Clock, Files};
 use std::sync::Wait;
 use std::thread::Threads;
 use tp_cli::main_at_terminal;
 use tp_work::Screen;
 
 /// Whether exactly this is written to standard error on a terminal.
-fn is_written<R: Threads + Wait + Sync>(
+fn is_written<R: Threads + Wait + Sync + Clock + Files>(
     rt: &R,
     alloc: Global,
     words: &[&str],
@@ -25,7 +26,12 @@ fn is_written<R: Threads + Wait + Sync>(
 }
 
 /// Whether the specification names no pool for this reason.
-fn is_no_pool<R: Threads + Wait + Sync>(rt: &R, alloc: Global, word: &str, reason: &str) -> bool {
+fn is_no_pool<R: Threads + Wait + Sync + Clock + Files>(
+    rt: &R,
+    alloc: Global,
+    word: &str,
+    reason: &str,
+) -> bool {
     match format!(in alloc; "refused 26 BadSpec\n{word}: {reason}\n") {
         Ok(message) => is_written(rt, alloc, &["tp", "run", word], b"", &message),
         Err(_) => false,
@@ -96,7 +102,7 @@ fn words_that_name_no_pool(rt: HostRuntime) {
 }
 
 /// Whether several specifications may not be registered: exactly this is written.
-fn are_no_pools<R: Threads + Wait + Sync>(
+fn are_no_pools<R: Threads + Wait + Sync + Clock + Files>(
     rt: &R,
     alloc: Global,
     words: [&str; 10],
@@ -187,7 +193,7 @@ fn words_that_may_not_be_registered(rt: HostRuntime) {
 }
 
 /// Whether exactly this is written, after the number of this line, for a text that is not of the grammar.
-fn is_wrong<R: Threads + Wait + Sync>(
+fn is_wrong<R: Threads + Wait + Sync + Clock + Files>(
     rt: &R,
     alloc: Global,
     subcommand: &str,
@@ -276,7 +282,7 @@ fn traces_that_are_not_of_the_grammar(rt: HostRuntime) {
 }
 
 /// Whether a word after a step is no number, which a message quotes.
-fn is_no_number<R: Threads + Wait + Sync>(
+fn is_no_number<R: Threads + Wait + Sync + Clock + Files>(
     rt: &R,
     alloc: Global,
     step: &[u8],
@@ -303,7 +309,7 @@ fn words_that_are_no_numbers(rt: HostRuntime) {
 }
 
 /// Whether the line of a step with five numbers is reported to have another count, in a script with this head.
-fn has_count<R: Threads + Wait + Sync>(
+fn has_count<R: Threads + Wait + Sync + Clock + Files>(
     rt: &R,
     alloc: Global,
     head: &str,

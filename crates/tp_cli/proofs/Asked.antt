@@ -8,6 +8,8 @@ use Rattle.clap.specs.declared.parser.matches.ArgMatches.{ArgMatches}
 use Rattle.clap.specs.declared.parser.matches.ArgMatches.TheViews.{out-SubCommand}
 use Rattle.clap.specs.declared.parser.matches.SubCommand.{SubCommand}
 use Rattle.tp_cli.specs.Command.{AsksForNothing, IsNeither, reading_word, tp_app}
+use Rattle.tp_cli.specs.Asked.{IsAskedBy, IsMadeBy}
+use Rattle.tp_cli.specs.declared.request.Request.{Request}
 use Rattle.tp_cli.specs.declared.text.TextKind.{TextKind}
 use Rattle.tp_cli.specs.declared.text.TextKind.TheVariants.{Script, Trace}
 
@@ -80,6 +82,17 @@ pub neither_asked : (app : App) (words : List Text) (m : ArgMatches) → app ≡
     → IsNeither (subcommand_rows_of m) → AsksForNothing words
 neither_asked app words m is has neither =
     subst IsNeither ((has (ap is_simple is)).1 ∙ ap (λ (a : App). subcommand_of a words) is) neither
+
+-- a request that what was found makes is what the arguments ask for
+pub request_asked : (app : App) (words : List Text) (m : ArgMatches) (request : Request) → app ≡ tp_app → HasMatchesOf app words m
+    → IsMadeBy (subcommand_rows_of m) request → IsAskedBy words request
+request_asked app words m request is has made =
+    subst (λ found. IsMadeBy found request) ((has (ap is_simple is)).1 ∙ ap (λ (a : App). subcommand_of a words) is) made
+
+-- a request that was found
+pub some_asked : (o : Option Request) (P : Type 0) (Q : Request → Type 0) (request : Request) → o ≡ Some request → MatchOption o P Q
+    → Q request
+some_asked o P Q request is met = subst (λ r. MatchOption r P Q) is met
 
 -- what follows for nothing, and for something
 pub asked_as : {X : Type 0} (o : Option X) (P P' : Type 0) (Q Q' : X → Type 0) → (P → P') → ((x : X) → Q x → Q' x) → MatchOption o P Q

@@ -1,7 +1,7 @@
 -- Requests, and the arguments that make them.
-use Rattle.std.specs.Prelude.{List, Option, codes, map}
+use Rattle.std.specs.Prelude.{List, Option, codes, map, option_map}
 use Rattle.clap.specs.Words.{Row, Text, subcommand_of}
-use Rattle.tp_cli.specs.Command.{IsAt, IsPoolsNaming, IsReading, IsRunIn, IsRunNaming, IsRunOver, tp_app}
+use Rattle.tp_cli.specs.Command.{IsAt, IsPoolsNaming, IsReading, IsRunIn, IsRunNaming, IsRunOver, IsRunWith, tp_app}
 use Rattle.tp_cli.specs.Runs.{IsPlan}
 use Rattle.tp_cli.specs.declared.request.Request.{Request}
 use Rattle.tp_cli.specs.declared.request.Request.TheVariants.{Answer, Run, Pools}
@@ -17,7 +17,7 @@ IsRunOf found spec plan =
 -- the subcommand that was found, with its matches, makes the request
 abbrev pub IsMadeBy : Option (Text × List Row) → Request → Type 0
 IsMadeBy found (Answer kind) = IsReading kind found
-IsMadeBy found (Run spec plan) = IsRunOf found spec.now plan
+IsMadeBy found (Run spec plan file) = IsRunOf found spec.now plan × IsRunWith (option_map (λ f. f.now) file) found
 IsMadeBy found (Pools specs config) =
     IsPoolsNaming (map (λ s. s.now) specs.items) found × IsWithinLimits config × IsAt (codes "pools") config.nodes config.workers found
 

@@ -14,6 +14,10 @@ use Rattle.tp_shell.specs.Command.{AreCountsIn, IsCount, count_rule, with_count_
 abbrev pub trace_rule : Rule
 trace_rule = record (new_rule (codes "trace")) { long = Some (codes "trace"); action = Some SetTrue }
 
+-- an option, which takes the name of a file
+abbrev pub profile_rule : Rule
+profile_rule = record (new_rule (codes "profile")) { long = Some (codes "profile"); value_names = 1 }
+
 -- the specification of a pool
 abbrev pub spec_rule : Rule
 spec_rule = record (new_rule (codes "SPEC")) { required = true }
@@ -29,7 +33,8 @@ abbrev pub with_generations_rule : App → App
 with_generations_rule a = with_rule a (count_rule (codes "generations") MAX_GENERATIONS)
 
 abbrev pub run_app : App
-run_app = with_rule (with_generations_rule (with_count_rules (with_rule (new_app (codes "run")) spec_rule))) trace_rule
+run_app =
+    with_rule (with_rule (with_generations_rule (with_count_rules (with_rule (new_app (codes "run")) spec_rule))) trace_rule) profile_rule
 
 -- specifications of pools, one or more
 abbrev pub specs_rule : Rule
@@ -80,6 +85,10 @@ IsFormOf rows form = (one_of (codes "trace") rows ≡ Some (codes "true") → fo
 -- it is `run`, printed in this form
 abbrev pub IsRunIn : Form → Option (Text × List Row) → Type 0
 IsRunIn form found = (rows : List Row) × (found ≡ Some (codes "run", rows)) × IsFormOf rows form
+
+-- it is `run`, with this file for the profile, or none
+abbrev pub IsRunWith : Option Text → Option (Text × List Row) → Type 0
+IsRunWith file found = (rows : List Row) × (found ≡ Some (codes "run", rows)) × (first_of (codes "profile") rows ≡ file)
 
 -- it is `pools`, with these arguments for SPEC
 abbrev pub IsPoolsNaming : List Text → Option (Text × List Row) → Type 0

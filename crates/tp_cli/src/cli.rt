@@ -21,6 +21,7 @@ use crate::text::TextKind;
 use clap::Error;
 use std::alloc::Global;
 use std::io::{Read, Sink, Write};
+use std::rt::{Clock, Files};
 use std::sync::Wait;
 use std::thread::Threads;
 use tp_shell::{Diagnostics, Status, WordsFault, complain, show};
@@ -34,7 +35,10 @@ use tp_work::Screen;
 ///
 /// A pool runs in one generation, or in the number that `--generations` gives, 1 to 9: it is reopened after each but
 /// the last. The first generation that is refused is the refusal of the run, and nothing is written of those before.
-pub fn main_with<R: Threads + Wait + Sync, I: Read, O: Write, E: Diagnostics>(
+///
+/// After the output of a run, the times of its tasks are written to the file that `--profile` names. No contract is
+/// about this file; if it cannot be written, the fault is that of a failed write.
+pub fn main_with<R: Threads + Wait + Sync + Clock + Files, I: Read, O: Write, E: Diagnostics>(
     rt: &R,
     alloc: Global,
     words: &[&str],
@@ -82,7 +86,13 @@ fn told<E: Diagnostics>(ended: Result<Status, Fault>, err: &mut E) -> Status
 /// Writes the requested output, or shows help or the version if the arguments ask for that, and returns what the reason
 /// of a refusal is about. If `keeps` is set, a script or a trace is kept for that reason. While a pool runs, the screen
 /// shows its progress.
-pub(crate) fn answer_words<'a, R: Threads + Wait + Sync, I: Read, O: Write, W: Write + Send + Drop>(
+pub(crate) fn answer_words<
+    'a,
+    R: Threads + Wait + Sync + Clock + Files,
+    I: Read,
+    O: Write,
+    W: Write + Send + Drop,
+>(
     rt: &R,
     alloc: Global,
     words: &'a [&'a str],
@@ -101,8 +111,8 @@ pub(crate) fn answer_words<'a, R: Threads + Wait + Sync, I: Read, O: Write, W: W
 {
     match requested(alloc, words) {
         Ok(Request::Answer(kind)) => answer_text(alloc, kind, keeps, reader, out),
-        Ok(Request::Run(spec, plan)) => (
-            run(rt, alloc, spec, plan, out, screen),
+        Ok(Request::Run(spec, plan, file)) => (
+            run(rt, alloc, spec, plan, file, out, screen),
             Subject::Word(spec),
         ),
         Ok(Request::Pools(specs, config)) => (

@@ -2,7 +2,7 @@
 ghost use Rattle.std.specs.Prelude.{◌≡◌, IfOk, codes, false};
 ghost use Rattle.clap.specs.Words.{app_of, rule_of};
 ghost use Rattle.clap.specs.declared.builder.command.Command.TheViews.{out-Command};
-ghost use Rattle.tp_cli.specs.Command.{audit_app, pools_app, run_app, sim_app, spec_rule, texts_app, tp_app, trace_rule};
+ghost use Rattle.tp_cli.specs.Command.{audit_app, pools_app, profile_rule, run_app, sim_app, spec_rule, texts_app, tp_app, trace_rule};
 ghost use Rattle.tp_shell.specs.Command.{count_rule};
 
 use clap::{Arg, ArgAction, Command};
@@ -62,7 +62,8 @@ fn run_command<'a>(alloc: Global) -> Result<Command<'a>, AllocError>
         .arg(spec_argument(alloc))?;
     with_counts(alloc, command)?
         .arg(generations_option(alloc))?
-        .arg(trace_flag(alloc))
+        .arg(trace_flag(alloc))?
+        .arg(profile_option(alloc))
 }
 
 fn spec_argument<'a>(alloc: Global) -> Arg<'a>
@@ -91,6 +92,16 @@ fn trace_flag<'a>(alloc: Global) -> Arg<'a>
         .long("trace")
         .action(ArgAction::SetTrue)
         .help("Prints only the trace of the run, which `tp audit` can check")
+}
+
+fn profile_option<'a>(alloc: Global) -> Arg<'a>
+    ensures rule { rule_of result ≡ profile_rule }
+    ensures local { result.global ≡ false }
+{
+    Arg::new(alloc, "profile")
+        .long("profile")
+        .value_name("FILE")
+        .help("Writes when each task ran to this file, as trace events for a viewer of timelines")
 }
 
 fn pools_command<'a>(alloc: Global) -> Result<Command<'a>, AllocError>
@@ -226,15 +237,19 @@ With --trace only the record of the run is printed: the events of all generation
 in order, as `tp audit --help` describes them. The trace depends on N and W, and
 may differ from run to run.
 
+With --profile FILE the times at which each task's body began and ended are
+measured. After the output they are written to FILE, in Chrome's trace event
+format. If the run is refused, FILE is not written.
+
 Examples:
   tp run product:4:2:0 --nodes 2 --workers 2
   tp run wavefront:8:8:0 --nodes 4 --workers 2 --trace | tp audit
   tp run reduce:4:0 --nodes 2 --generations 2
 
 The exit status is
-  0  if the run ended and its text was written;
-  1  if the arguments are wrong or the text cannot be written. A SPEC that names
-     no pool is `refused 26 BadSpec`;
+  0  if the run ended and its text, and FILE, were written;
+  1  if the arguments are wrong, the text cannot be written, or FILE cannot be
+     (`fault write`). A SPEC that names no pool is `refused 26 BadSpec`;
   3  if the run is refused or an allocation fails. With --trace a number of more
      than six digits is `refused 26 BadSpec`, too.
 It is never 2. `refused 16 HistoryFull` means that the pool takes more than

@@ -22,8 +22,8 @@ use tp_work::Config;
 pub(crate) enum Request<'a> {
     /// The reply to a script or a trace.
     Answer(TextKind),
-    /// A run of the pool that a specification names.
-    Run(&'a str, Plan),
+    /// A run of the pool that a specification names, and the file for its profile.
+    Run(&'a str, Plan, Option<&'a str>),
     /// Runs, all at once, of the pools that specifications name.
     Pools(Vec<&'a str>, Config),
 }
@@ -78,7 +78,8 @@ fn run_asked<'a>(arguments: &ArgMatches<'a>) -> Option<Request<'a>>
         (IsMadeBy (Some (codes "run", rows_of (found_of arguments.now)))) }
 {
     let spec = arguments.get_str("SPEC")?;
-    Some(Request::Run(spec, plan_of(arguments)))
+    let file = arguments.get_str("profile");
+    Some(Request::Run(spec, plan_of(arguments), file))
 }
 
 /// Returns the runs that the arguments of `pools` ask for.

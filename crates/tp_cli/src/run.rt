@@ -8,17 +8,19 @@ ghost use Rattle.tp_cli.specs.Runs.{IsWithoutText, NamesNoGraph, run_text, total
 ghost use Rattle.tp_graph.specs.Serial.{AreRight};
 ghost use Rattle.pool_samples.specs.Any.{any_graph};
 ghost use Rattle.tp_shell.specs.declared.status.Status.TheVariants.{Done};
-ghost use Rattle.tp_work.specs.Outcomes.{IsOutcome, IsWithinLimits};
+ghost use Rattle.tp_work.specs.Outcomes.{IsFault, IsOutcome, IsWithinLimits};
 
 use crate::fault::{Fault, RunFault};
 use crate::series::text_of_generations;
 use pool_samples::{AnyGraph, checked, print_table};
 use std::alloc::{AllocError, Global};
-use std::io::Write;
+use std::io::{self, Write};
+use std::rt::{Clock, Files};
 use std::sync::Wait;
 use std::thread::Threads;
 use tp_base::{Refusal, TaskId};
-use tp_graph::Value;
+use tp_graph::{Graph, Value};
+use tp_profile::{Log, Profile, Timed};
 use tp_shell::{Status, write_text};
 use tp_text::print_trace;
 use tp_work::{Config, Outcome, Progress, Screen, run_pool_counted, watched};
@@ -44,12 +46,14 @@ pub(crate) struct Plan {
 }
 
 /// Runs the pool that a specification names, in the given number of generations, and writes their tables and totals or
-/// their one trace. Nothing is written before the run has ended. Meanwhile the screen shows its progress.
-pub(crate) fn run<O: Write, R: Threads + Wait + Sync, W: Write + Send + Drop>(
+/// their one trace. Nothing is written before the run has ended. Meanwhile the screen shows its progress. If there is a
+/// file, no progress is shown, and the times of the tasks are written to it at last.
+pub(crate) fn run<O: Write, R: Threads + Wait + Sync + Clock + Files, W: Write + Send + Drop>(
     rt: &R,
     alloc: Global,
     spec: &str,
     plan: Plan,
+    file: Option<&str>,
     out: &mut O,
     screen: Option<Screen<W>>,
 ) -> Result<Status, Fault>
@@ -65,22 +69,49 @@ pub(crate) fn run<O: Write, R: Threads + Wait + Sync, W: Write + Send + Drop>(
         Ok(graph) => graph,
         Err(_) => return Err(Fault::NoPool),
     };
-    let text = match text_watched(rt, alloc, graph, plan, screen) {
+    let bodies = u64::from(graph.tasks()).saturating_mul(u64::from(plan.generations));
+    let profile = Profile::new(alloc, rt, file, bodies);
+    // a run is either counted or timed
+    let screen = if file.is_some() { None } else { screen };
+    let text = match text_watched(rt, alloc, graph, plan, profile.log(), screen) {
         Ok(text) => text,
         Err(fault) => return Err(Fault::Run(fault)),
     };
     match write_text(out, &text) {
-        Ok(()) => Ok(Status::Done),
+        Ok(()) => status_of_profile(profile.write(rt, alloc, profiled(plan.config))),
         Err(_) => Err(Fault::Write),
     }
 }
 
-/// Runs a pool of a graph, and returns what is printed of its generations. Meanwhile the screen shows its progress.
-fn text_watched<R: Threads + Wait + Sync, W: Write + Send + Drop>(
+/// Returns how a profile shows a run.
+fn profiled(config: Config) -> tp_profile::Run {
+    tp_profile::Run {
+        nodes: config.nodes,
+        workers: config.workers,
+        has_tasks: true,
+    }
+}
+
+/// Returns how the program ends after it has written its text, and then the profile or not.
+fn status_of_profile(written: io::Result<()>) -> Result<Status, Fault>
+    ensures done { IfOk result (λ status. status ≡ Done) }
+    ensures why { IfErr result (λ fault. fault ≡ Fault.Write) }
+{
+    if written.is_ok() {
+        Ok(Status::Done)
+    } else {
+        Err(Fault::Write)
+    }
+}
+
+/// Runs a pool of a graph, and returns what is printed of its generations. Meanwhile the screen, if there is one, shows
+/// its progress; without one, the tasks are timed if there is a log.
+fn text_watched<R: Threads + Wait + Sync + Clock, W: Write + Send + Drop>(
     rt: &R,
     alloc: Global,
     graph: AnyGraph,
     plan: Plan,
+    log: Option<&Log>,
     screen: Option<Screen<W>>,
 ) -> Result<Vec<u8>, RunFault>
     requires { IsPlan plan }
@@ -89,7 +120,7 @@ fn text_watched<R: Threads + Wait + Sync, W: Write + Send + Drop>(
         (IsWithoutText plan.form graph plan.config.nodes plan.config.workers plan.generations) }
 {
     let Some(screen) = screen else {
-        return text_of_run(rt, alloc, graph, plan, None);
+        return text_of_run(rt, alloc, graph, plan, log, None);
     };
     let progress = Progress::new();
     let counts = &progress;
@@ -103,17 +134,18 @@ fn text_watched<R: Threads + Wait + Sync, W: Write + Send + Drop>(
             ensures { MatchResult result
                 (λ text. IsTextOf plan.form graph plan.config.nodes plan.config.workers plan.generations text.items)
                 (IsWithoutText plan.form graph plan.config.nodes plan.config.workers plan.generations) }
-        { text_of_run(rt, alloc, graph, plan, Some(counts)) },
+        { text_of_run(rt, alloc, graph, plan, None, Some(counts)) },
     )
 }
 
-/// Runs a pool of a graph, and returns what is printed of its generations. The tasks are counted if there is a
-/// progress.
-fn text_of_run<R: Threads + Wait + Sync>(
+/// Runs a pool of a graph, and returns what is printed of its generations. The tasks are timed if there is a log, and
+/// counted if there is a progress.
+fn text_of_run<R: Threads + Wait + Sync + Clock>(
     rt: &R,
     alloc: Global,
     graph: AnyGraph,
     plan: Plan,
+    log: Option<&Log>,
     progress: Option<&Progress>,
 ) -> Result<Vec<u8>, RunFault>
     requires { IsPlan plan }
@@ -123,19 +155,20 @@ fn text_of_run<R: Threads + Wait + Sync>(
 {
     // a pool of one generation is never opened for a second one
     if plan.generations == 1 {
-        text_of_one(rt, alloc, graph, plan.config, plan.form, progress)
+        text_of_one(rt, alloc, graph, plan.config, plan.form, log, progress)
     } else {
-        text_of_generations(rt, alloc, graph, plan, progress)
+        text_of_generations(rt, alloc, graph, plan, log, progress)
     }
 }
 
 /// Runs a pool of a graph in one generation, and returns what is printed of it.
-fn text_of_one<R: Threads + Wait + Sync>(
+fn text_of_one<R: Threads + Wait + Sync + Clock>(
     rt: &R,
     alloc: Global,
     graph: AnyGraph,
     config: Config,
     form: Form,
+    log: Option<&Log>,
     progress: Option<&Progress>,
 ) -> Result<Vec<u8>, RunFault>
     requires { IsWithinLimits config }
@@ -143,7 +176,7 @@ fn text_of_one<R: Threads + Wait + Sync>(
         (λ text. IsTextOfOne form graph config.nodes config.workers text.items)
         (IsWithoutOne form graph config.nodes config.workers) }
 {
-    let outcome = match run_pool_counted(rt, alloc, graph, config, progress) {
+    let outcome = match outcome_of(rt, alloc, graph, config, log, progress) {
         Ok(outcome) => outcome,
         Err(fault) => return Err(RunFault::Pool(fault)),
     };
@@ -151,6 +184,42 @@ fn text_of_one<R: Threads + Wait + Sync>(
         Ok(text) => Ok(text),
         Err(refusal) => Err(RunFault::Text(refusal)),
     }
+}
+
+/// Runs a pool of a graph in one generation. The tasks are timed if there is a log, and counted if there is a progress.
+fn outcome_of<R: Threads + Wait + Sync + Clock>(
+    rt: &R,
+    alloc: Global,
+    graph: AnyGraph,
+    config: Config,
+    log: Option<&Log>,
+    progress: Option<&Progress>,
+) -> Result<Outcome, tp_work::Fault>
+    requires { IsWithinLimits config }
+    ensures outcome { IfOk result (IsOutcome config.nodes config.workers (any_graph graph)) }
+    ensures fault { IfErr result (IsFault config.nodes (any_graph graph)) }
+{
+    match log {
+        Some(log) => outcome_timed(rt, alloc, graph, config, log, progress),
+        None => run_pool_counted(rt, alloc, graph, config, progress),
+    }
+}
+
+/// Runs the pool with its tasks timed.
+fn outcome_timed<R: Threads + Wait + Sync + Clock>(
+    rt: &R,
+    alloc: Global,
+    graph: AnyGraph,
+    config: Config,
+    log: &Log,
+    progress: Option<&Progress>,
+) -> Result<Outcome, tp_work::Fault>
+    requires { IsWithinLimits config }
+    ensures outcome { IfOk result (IsOutcome config.nodes config.workers (any_graph graph)) }
+    ensures fault { IfErr result (IsFault config.nodes (any_graph graph)) }
+{
+    let timed = Timed::new(graph, config.nodes, rt, log);
+    run_pool_counted(rt, alloc, timed, config, progress)
 }
 
 /// Returns what is printed of an outcome.

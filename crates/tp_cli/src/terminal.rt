@@ -11,6 +11,7 @@ use crate::fault::Fault;
 use crate::reasons::{Subject, explain};
 use std::alloc::Global;
 use std::io::{Read, Write};
+use std::rt::{Clock, Files};
 use std::sync::Wait;
 use std::thread::Threads;
 use tp_shell::{Diagnostics, Status, complain};
@@ -23,7 +24,7 @@ use tp_work::Screen;
 /// is kept until the reply is written, so it needs twice its memory. While a pool runs, the screen, if there is one,
 /// shows its progress.
 pub fn main_at_terminal<
-    R: Threads + Wait + Sync,
+    R: Threads + Wait + Sync + Clock + Files,
     I: Read,
     O: Write,
     E: Diagnostics,

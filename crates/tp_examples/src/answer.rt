@@ -3,6 +3,7 @@
 use crate::rows::Shown;
 use std::alloc::Global;
 use std::io::{self, ErrorKind, Write};
+use std::rt::{Clock, Files};
 use std::sync::Wait;
 use std::thread::Threads;
 use tp_cli::main_with;
@@ -18,7 +19,7 @@ struct ProgramAnswer {
 }
 
 impl ProgramAnswer {
-    fn to<R: Threads + Wait + Sync>(
+    fn to<R: Threads + Wait + Sync + Clock + Files>(
         rt: &R,
         alloc: Global,
         words: &[&str],
@@ -41,7 +42,7 @@ fn text_of(bytes: Vec<u8>) -> io::Result<String> {
 }
 
 /// Prints under the name of a row what the program writes: its output, each error line after `! `, and the exit status.
-pub(crate) fn print_answer<R: Threads + Wait + Sync, W: Write>(
+pub(crate) fn print_answer<R: Threads + Wait + Sync + Clock + Files, W: Write>(
     rt: &R,
     alloc: Global,
     printer: &mut W,
@@ -58,7 +59,7 @@ pub(crate) fn print_answer<R: Threads + Wait + Sync, W: Write>(
 
 /// Judges the trace of a run, and prints under the name of its row the part of the judgement that does not depend on
 /// the order of the events: the numbers of tasks and messages, the last line, and the exit statuses of both.
-pub(crate) fn print_judgement<R: Threads + Wait + Sync, W: Write>(
+pub(crate) fn print_judgement<R: Threads + Wait + Sync + Clock + Files, W: Write>(
     rt: &R,
     alloc: Global,
     printer: &mut W,
@@ -78,7 +79,7 @@ pub(crate) fn print_judgement<R: Threads + Wait + Sync, W: Write>(
 }
 
 /// Judges each prefix of a run's trace that ends with a line of it, and prints the last line of each judgement.
-pub(crate) fn print_judgements_of_parts<R: Threads + Wait + Sync, W: Write>(
+pub(crate) fn print_judgements_of_parts<R: Threads + Wait + Sync + Clock + Files, W: Write>(
     rt: &R,
     alloc: Global,
     printer: &mut W,

@@ -11,8 +11,9 @@ returns-clause-app c =
     let one = c.in_ok-command.ensures.shape (search rules) ∙ ap₂ with_rule bare c.spec_argument.ensures.rule in
     let counted = c.in_ok-with_counts.ensures.app ∙ ap with_count_rules one in
     let several = c.in_ok-arg.ensures.shape (search rules) ∙ ap₂ with_rule counted c.generations_option.ensures.rule in
-    IfOk-weaker c.arg-3.result _ _ (λ command adds. adds.shape (search rules)
-    ∙ ap₂ with_rule several c.trace_flag.ensures.rule) c.arg-3.ensures
+    let traced = c.in_ok-arg-2.ensures.shape (search rules) ∙ ap₂ with_rule several c.trace_flag.ensures.rule in
+    IfOk-weaker c.arg-4.result _ _ (λ command adds. adds.shape (search rules)
+    ∙ ap₂ with_rule traced c.profile_option.ensures.rule) c.arg-4.ensures
 
 pub returns-clause-local : goal.returns-clause-local
 returns-clause-local c =
@@ -20,4 +21,5 @@ returns-clause-local c =
     let one = c.in_ok-command.ensures.globals ∙ ap₂ (λ a b. a || b) none c.spec_argument.ensures.local in
     let counted = c.in_ok-with_counts.ensures.local one in
     let several = c.in_ok-arg.ensures.globals ∙ ap₂ (λ a b. a || b) counted c.generations_option.ensures.local in
-    IfOk-weaker c.arg-3.result _ _ (λ command adds. adds.globals ∙ ap₂ (λ a b. a || b) several c.trace_flag.ensures.local) c.arg-3.ensures
+    let traced = c.in_ok-arg-2.ensures.globals ∙ ap₂ (λ a b. a || b) several c.trace_flag.ensures.local in
+    IfOk-weaker c.arg-4.result _ _ (λ command adds. adds.globals ∙ ap₂ (λ a b. a || b) traced c.profile_option.ensures.local) c.arg-4.ensures

@@ -2,7 +2,7 @@ use Rattle.std.proofs.Common.{inr, map, refl}
 use Rattle.clap.proofs.TakesLemmas.{passed_up}
 use Rattle.clap.specs.Words.{app_of}
 use Rattle.clap.specs.declared.error.kind.ErrorKind.TheVariants.{MissingSubcommand}
-use Rattle.tp_cli.proofs.Asked.{neither_asked}
+use Rattle.tp_cli.proofs.Asked.{neither_asked, request_asked, some_asked}
 use Rattle.tp_cli.specs.Command.{AsksForNothing, tp_app}
 use Rattle.tp_shell.proofs.Asked.{fails_as, none_asked}
 use Rattle.tp_cli.proofs.request.requested.Goals as goal
@@ -22,3 +22,8 @@ returns-clause-why c =
       neither_asked (app_of c.in_ok-command.command) _ c.in_ok-matches.matches c.in_ok-command.ensures c.in_ok-matches.ensures.ok.2
           (none_asked _ _ _ c.in-None.is c.in_ok-request.ensures),
     ))
+
+pub returns-in-Some-clause-asked : goal.returns-in-Some-clause-asked
+returns-in-Some-clause-asked c =
+    request_asked (app_of c.in_ok-command.command) _ c.in_ok-matches.matches c.in-Some.request c.in_ok-command.ensures
+    c.in_ok-matches.ensures.ok.2 (some_asked _ _ _ c.in-Some.request c.in-Some.is c.in_ok-request.ensures)

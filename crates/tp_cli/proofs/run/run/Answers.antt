@@ -1,7 +1,9 @@
-use Rattle.std.proofs.Common.{rules, ◌≡◌, Err, refl, subst, sym}
+use Rattle.std.proofs.Common.{rules, ◌≡◌, Err, IfErr, refl, subst, sym}
+use Rattle.std.proofs.lemmas.Result.{IfErr-weaker, IfOk-weaker}
 use Rattle.tp_base.specs.declared.refusal.Refusal.TheVariants.{BadSpec}
 use Rattle.tp_cli.proofs.Ending.{names_none}
-use Rattle.tp_cli.specs.Runs.{IsTextOf}
+use Rattle.tp_cli.specs.Runs.{IsRunFault, IsTextOf}
+use Rattle.tp_cli.specs.declared.fault.Fault.TheVariants as faults
 use Rattle.tp_cli.proofs.run.run.Goals as goal
 
 pub returns-in-Err-clause-why : goal.returns-in-Err-clause-why
@@ -30,7 +32,23 @@ returns-in-Ok-write_text-clause-ran g c =
     let plan = c.args.plan in
     let text = subst (IsTextOf plan.form c.in-Ok.graph plan.config.nodes plan.config.workers plan.generations)
     (sym c.deref.ensures.value) c.in-Ok-text_watched.ensures in
-    (refl, (c.deref.result.now, (c.in-Ok.graph, c.in-Ok.ensures.only, text), c.in-Ok-write_text.ensures))
+    IfOk-weaker c.status_of_profile.result _ _
+    (λ status is. (is, (c.deref.result.now, (c.in-Ok.graph, c.in-Ok.ensures.only, text), c.in-Ok-write_text.ensures)))
+    c.status_of_profile.ensures.done
+
+pub returns-in-Ok-write_text-clause-why : goal.returns-in-Ok-write_text-clause-why
+returns-in-Ok-write_text-clause-why g c =
+    let made : IsRunFault c.args.plan c.args.spec.now faults.Write =
+    (c.in-Ok-text_watched.text.items, (c.in-Ok.graph, c.in-Ok.ensures.only, c.in-Ok-text_watched.ensures)) in
+    IfErr-weaker c.status_of_profile.result _ _ (λ fault is. subst (IsRunFault c.args.plan c.args.spec.now) (sym is) made)
+    c.status_of_profile.ensures.why
 
 pub returns-in-Ok-write_text-clause-unnamed : goal.returns-in-Ok-write_text-clause-unnamed
-returns-in-Ok-write_text-clause-unnamed g c = (λ is. cc, λ none. absurd (none c.in-Ok.graph c.in-Ok.ensures.only))
+returns-in-Ok-write_text-clause-unnamed g c = (
+  λ is. let why = subst (λ r. IfErr r (λ fault. fault ≡ faults.Write)) is c.status_of_profile.ensures.why in cc,
+  λ none. absurd (none c.in-Ok.graph c.in-Ok.ensures.only),
+)
+
+pub returns-in-Ok-write_text-clause-unwritten : goal.returns-in-Ok-write_text-clause-unwritten
+returns-in-Ok-write_text-clause-unwritten g c =
+    IfErr-weaker c.status_of_profile.result _ _ (λ fault is other. absurd (other is)) c.status_of_profile.ensures.why
