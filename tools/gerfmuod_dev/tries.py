@@ -2,9 +2,10 @@
 
 They are runs of `rt try`; the output of a program is compared with the stored one. It proves nothing: `make gate` does.
 Prints a line for the tests of a crate, one for a program, one for its cases, whose exit statuses are compared and whose
-outputs are compared if they are stored, and one for the pictures of docs/figures that `samples draw` draws; if something
-failed, prints the output too. With --write, what the cases print is stored instead of compared. The last line is `N
-passed, M failed`, each test, program and case counted; the status is 1 if one failed.
+outputs are compared if they are stored, one for the pictures of docs/figures that `samples draw` draws, and one for the
+scripts and traces that `tp` reads cut off; if something failed, prints the output too. With --write, what the cases
+print is stored instead of compared. The last line is `N passed, M failed`, each test, program and case counted; the
+status is 1 if one failed.
 """
 import functools
 import hashlib
@@ -16,8 +17,9 @@ import tempfile
 from concurrent.futures import ThreadPoolExecutor
 from dataclasses import dataclass
 
-from . import repository
+from . import repository, version
 from .drawn import PICTURES, path_of
+from .limits import cuts
 from .repository import text_of
 
 # for each program a folder of cases, whose names begin with the expected status
@@ -28,6 +30,8 @@ OUTPUTS = "tools/data/outputs"
 SECONDS = "900"
 # an output of more bytes, such as a picture, is stored as its length and a digest
 MOST_STORED = 4_000
+# of the stored scripts and traces cut after each byte, one in this number is read
+CUTS = 23
 
 
 @dataclass(frozen=True)
@@ -104,6 +108,16 @@ def stored_outputs(path):
     return dict(re.findall(r"^== (\S+)\n(.*?)(?=^== |\Z)", text_of(path), re.M | re.S))
 
 
+def is_rejected(name, text):
+    """Whether a case printed another version than the library's, or a graph that graphviz, if it is installed, refuses."""
+    if name.endswith("-the-version"):
+        return text.split()[-1:] != [version.version()]
+    if not text.startswith("digraph") or not shutil.which("dot"):
+        return False
+    result = subprocess.run(["dot", "-Tsvg"], input=text, capture_output=True, text=True)
+    return result.returncode != 0 or result.stderr != ""
+
+
 def try_cases(crate, writes=False):
     """Runs the program on each of its cases, and compares the exit statuses, and the outputs if they are stored."""
     cases, path = f"{STATUSES}/{crate}", f"{OUTPUTS}/{crate}"
@@ -115,6 +129,7 @@ def try_cases(crate, writes=False):
             file.write("".join(f"== {name}\n{printed[name]}" for name in sorted(printed)))
     expected = stored_outputs(path) if os.path.exists(path) else printed
     differing = {name for name in names if statuses.get(name) != name[0] or name not in printed or printed[name] != expected.get(name)}
+    differing |= {name for name in names if is_rejected(name, printed.get(name, ""))}
     details = "".join(f"{name}: expected\n{expected.get(name)}but printed\n{printed.get(name)}" for name in sorted(differing))
     passed = len(names) - len(differing)
     line = f"{crate}: {passed} of {len(names)} cases ended{' and printed' if expected is not printed else ''} as expected"
@@ -135,6 +150,21 @@ def try_pictures(crate):
     return Outcome(f"{crate}: {passed} of {len(PICTURES)} pictures are as in docs/figures", passed, len(PICTURES) - passed, output)
 
 
+def try_cuts(crate):
+    """Has the program read stored scripts and traces that are cut off, and compares it with the second model."""
+    pieces = list(cuts.pieces())[::CUTS]
+    with tempfile.TemporaryDirectory() as cases:
+        for number, piece in enumerate(pieces):
+            for path, text in (("", piece.text), (".args", f"{piece.command}\n".encode()), (".stdout", piece.expected.out)):
+                with open(f"{cases}/{number}{path}", "wb") as file:
+                    file.write(text)
+        output, _ = rt_try(crate, "--seconds", SECONDS, "--cases", cases)
+    ends = dict(re.findall(r"^case=(\d+) (.*)$", output, re.M))
+    wanted = {str(number): f"status={piece.expected.status} " for number, piece in enumerate(pieces)}
+    passed = sum(status in f"{ends.get(name)} " and "output=expected" in ends[name] for name, status in wanted.items())
+    return Outcome(f"{crate}: {passed} of {len(pieces)} texts that are cut off", passed, len(pieces) - passed, output)
+
+
 def jobs_of(crates, writes):
     for crate in crates:
         if has_tests(crate):
@@ -145,6 +175,8 @@ def jobs_of(crates, writes):
             yield functools.partial(try_cases, crate, writes)
         if crate == "samples":
             yield functools.partial(try_pictures, crate)
+        if crate == "tp":
+            yield functools.partial(try_cuts, crate)
 
 
 def arguments(parser):

@@ -126,14 +126,6 @@ fn a_hundred_thousand_interruptions_change_nothing(rt: HostRuntime) {
     }
 }
 
-// After 67,108,864 reads without a byte.
-#[test]
-fn a_reader_that_is_always_interrupted_is_given_up(rt: HostRuntime) {
-    let (result, written) = Kind::Script.interrupt(rt.alloc(), b"nodes 1\n", u32::MAX);
-    assert_eq!(rt; result, Err(TextFault::Read));
-    assert_eq!(rt; written.len(), 0);
-}
-
 // `syntax line 1` and the end of its line. One text a test: each takes a quarter of the time that a test may take on two
 // slow processors.
 #[test]

@@ -81,18 +81,6 @@ fn found_of<G: Graph, A: Gate, R: Threads + Wait + Sync>(
     }
 }
 
-/// What is found of a grid of tasks.
-fn found_of_grid<R: Threads + Wait + Sync>(
-    rt: &R,
-    alloc: Global,
-    pattern: Pattern,
-    width: u32,
-    steps: u32,
-) -> Result<Option<Found>, Fail> {
-    let table = FeedTable::new(alloc, pattern, width, steps)?;
-    Ok(found_of(rt, alloc, Grid::new(&table, 0), &OpenGate))
-}
-
 // One entry overflows. In the opening, one task is inserted.
 #[test]
 fn a_body_that_fails_ends_the_series(rt: HostRuntime) -> Result<(), Fail> {
@@ -111,12 +99,17 @@ fn a_body_that_fails_ends_the_series(rt: HostRuntime) -> Result<(), Fail> {
     Ok(())
 }
 
-// The first generation has 31 events, and the reopening is one. In the second one four leaves are inserted, and the node
-// is ready; two leaves begin and are done, with a feed each: 11 more. The two others are pending, and a sum. A body is
+// A generation has 31 events, and a reopening is one. In the generation that is stopped, four leaves are inserted, and the
+// node is ready; two leaves begin and are done, with a feed each: 11 more. The two others are pending, and a sum. A body is
 // refused after its task began, and a turn before.
 #[test]
-fn a_gate_is_asked_in_the_second_generation(rt: HostRuntime) {
-    for (barred, last, events) in [(9, u64::MAX, 44), (u64::MAX, 9, 43)] {
+fn a_gate_is_asked_in_the_later_generations(rt: HostRuntime) {
+    for (barred, last, events) in [
+        (9, u64::MAX, 44),
+        (u64::MAX, 9, 43),
+        (16, u64::MAX, 76),
+        (u64::MAX, 16, 75),
+    ] {
         let wanted = Found {
             refusal: Refusal::Stalled(0),
             events,
@@ -142,41 +135,8 @@ fn a_store_that_is_full_ends_the_series(rt: HostRuntime) -> Result<(), Fail> {
         ended: false,
         fault: Some(Refusal::StoreFull),
     };
-    let found = found_of_grid(&rt, rt.alloc(), Pattern::Trivial, 65_537, 1)?;
-    assert_eq!(rt; found, Some(wanted));
-    Ok(())
-}
-
-// 75 tasks without inputs take three events each, and 968 rows 1,083 each: two for each task, and one for each of 933
-// inputs. With the opening and two waves that makes 1,048,576, so that there is no place for the reopening.
-#[test]
-fn a_reopening_may_find_the_history_full(rt: HostRuntime) -> Result<(), Fail> {
-    let wanted = Found {
-        refusal: Refusal::HistoryFull(1_048_576),
-        events: 1_048_576,
-        pending: 0,
-        done: 72_675,
-        ended: true,
-        fault: None,
-    };
-    let found = found_of_grid(&rt, rt.alloc(), Pattern::Nearest { radius: 6 }, 75, 969)?;
-    assert_eq!(rt; found, Some(wanted));
-    Ok(())
-}
-
-// A generation has 524,265 events: 54 tasks without inputs, and 608 rows of 862 events. After two of them, and two
-// reopenings, 44 of the 54 tasks find a place; the opening is pending, too.
-#[test]
-fn a_history_may_fill_in_the_third_round(rt: HostRuntime) -> Result<(), Fail> {
-    let wanted = Found {
-        refusal: Refusal::HistoryFull(1_048_576),
-        events: 1_048_576,
-        pending: 45,
-        done: 0,
-        ended: false,
-        fault: Some(Refusal::HistoryFull(1_048_576)),
-    };
-    let found = found_of_grid(&rt, rt.alloc(), Pattern::Nearest { radius: 7 }, 54, 609)?;
+    let table = FeedTable::new(rt.alloc(), Pattern::Trivial, 65_537, 1)?;
+    let found = found_of(&rt, rt.alloc(), Grid::new(&table, 0), &OpenGate);
     assert_eq!(rt; found, Some(wanted));
     Ok(())
 }
