@@ -2,10 +2,10 @@
 
 They are runs of `rt try`; the output of a program is compared with the stored one. It proves nothing: `make gate` does.
 Prints a line for the tests of a crate, one for a program, one for its cases, whose exit statuses are compared and whose
-outputs are compared if they are stored, one for the pictures of docs/figures that `samples draw` draws, and one for the
-scripts and traces that `tp` reads cut off; if something failed, prints the output too. With --write, what the cases
-print is stored instead of compared. The last line is `N passed, M failed`, each test, program and case counted; the
-status is 1 if one failed.
+outputs are compared if they are stored, and one for the pictures of docs/figures that `samples draw` draws; if something
+failed, prints the output too. Some cases of `tp` are stored scripts and traces that are cut off, whose outputs are those of
+a second model. With --write, what the other cases print is stored instead of compared. The last line is `N passed, M
+failed`, each test, program and case counted; the status is 1 if one failed.
 """
 import functools
 import hashlib
@@ -17,7 +17,7 @@ import tempfile
 from concurrent.futures import ThreadPoolExecutor
 from dataclasses import dataclass
 
-from . import repository, version
+from . import repository, running, version
 from .drawn import PICTURES, path_of
 from .limits import cuts
 from .repository import text_of
@@ -30,8 +30,8 @@ OUTPUTS = "tools/data/outputs"
 SECONDS = "900"
 # an output of more bytes, such as a picture, is stored as its length and a digest
 MOST_STORED = 4_000
-# of the stored scripts and traces cut after each byte, one in this number is read
-CUTS = 23
+# of the stored scripts and traces cut after each byte, one in this number is a case of tp
+CUTS = 251
 
 
 @dataclass(frozen=True)
@@ -118,21 +118,35 @@ def is_rejected(name, text):
     return result.returncode != 0 or result.stderr != ""
 
 
+def write_cuts(folder):
+    """Writes the cases of texts that are cut off; returns what each has to print by its name."""
+    outputs = {}
+    for number, piece in enumerate(list(cuts.pieces())[::CUTS]):
+        name = f"{piece.expected.status}-a-text-cut-off-{number}"
+        running.write(f"{folder}/{name}", piece.text)
+        running.write(f"{folder}/{name}.args", [piece.command])
+        outputs[name] = piece.expected.out.decode()
+    return outputs
+
+
 def try_cases(crate, writes=False):
     """Runs the program on each of its cases, and compares the exit statuses, and the outputs if they are stored."""
-    cases, path = f"{STATUSES}/{crate}", f"{OUTPUTS}/{crate}"
-    output, _ = rt_try(crate, "--seconds", SECONDS, "--cases", f"../../{cases}")
-    names = {name for name in os.listdir(cases) if not name.endswith(".args")}
+    path = f"{OUTPUTS}/{crate}"
+    with tempfile.TemporaryDirectory() as cases:
+        shutil.copytree(f"{STATUSES}/{crate}", cases, dirs_exist_ok=True)
+        of_cuts = write_cuts(cases) if crate == "tp" else {}
+        output, _ = rt_try(crate, "--seconds", SECONDS, "--cases", cases)
+        names = {name for name in os.listdir(cases) if not name.endswith(".args")}
     statuses, printed = dict(re.findall(r"^case=(\S+) .*?\bstatus=(\d+)", output, re.M)), outputs_in(output)
     if writes:
         with open(path, "w", encoding="utf-8") as file:
-            file.write("".join(f"== {name}\n{printed[name]}" for name in sorted(printed)))
-    expected = stored_outputs(path) if os.path.exists(path) else printed
+            file.write("".join(f"== {name}\n{printed[name]}" for name in sorted(printed.keys() - of_cuts.keys())))
+    expected = {**(stored_outputs(path) if os.path.exists(path) else printed), **of_cuts}
     differing = {name for name in names if statuses.get(name) != name[0] or name not in printed or printed[name] != expected.get(name)}
     differing |= {name for name in names if is_rejected(name, printed.get(name, ""))}
     details = "".join(f"{name}: expected\n{expected.get(name)}but printed\n{printed.get(name)}" for name in sorted(differing))
     passed = len(names) - len(differing)
-    line = f"{crate}: {passed} of {len(names)} cases ended{' and printed' if expected is not printed else ''} as expected"
+    line = f"{crate}: {passed} of {len(names)} cases ended{' and printed' if os.path.exists(path) else ''} as expected"
     return Outcome(line, passed, len(differing), output + details)
 
 
@@ -150,21 +164,6 @@ def try_pictures(crate):
     return Outcome(f"{crate}: {passed} of {len(PICTURES)} pictures are as in docs/figures", passed, len(PICTURES) - passed, output)
 
 
-def try_cuts(crate):
-    """Has the program read stored scripts and traces that are cut off, and compares it with the second model."""
-    pieces = list(cuts.pieces())[::CUTS]
-    with tempfile.TemporaryDirectory() as cases:
-        for number, piece in enumerate(pieces):
-            for path, text in (("", piece.text), (".args", f"{piece.command}\n".encode()), (".stdout", piece.expected.out)):
-                with open(f"{cases}/{number}{path}", "wb") as file:
-                    file.write(text)
-        output, _ = rt_try(crate, "--seconds", SECONDS, "--cases", cases)
-    ends = dict(re.findall(r"^case=(\d+) (.*)$", output, re.M))
-    wanted = {str(number): f"status={piece.expected.status} " for number, piece in enumerate(pieces)}
-    passed = sum(status in f"{ends.get(name)} " and "output=expected" in ends[name] for name, status in wanted.items())
-    return Outcome(f"{crate}: {passed} of {len(pieces)} texts that are cut off", passed, len(pieces) - passed, output)
-
-
 def jobs_of(crates, writes):
     for crate in crates:
         if has_tests(crate):
@@ -175,8 +174,6 @@ def jobs_of(crates, writes):
             yield functools.partial(try_cases, crate, writes)
         if crate == "samples":
             yield functools.partial(try_pictures, crate)
-        if crate == "tp":
-            yield functools.partial(try_cuts, crate)
 
 
 def arguments(parser):
