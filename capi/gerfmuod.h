@@ -15,12 +15,17 @@
  *   - one call on a core at a time: protect the calls with a mutex. Different cores may be used at the same time. A call that
  *     begins while another one runs that may change the core is refused as BUSY, if it sees the mark of the other one: always
  *     if it is made from inside of the other one, as by a malloc that reports to the core, but not always from another thread;
- *   - a text or a buffer has the length that is passed with it, and does not overlap the core. NULL is valid if the
- *     length is 0;
+ *   - a text or a buffer has the length that is passed with it, and does not overlap the core. The two of gerfmuod_audit do
+ *     not overlap each other. NULL is valid if the length is 0;
  *   - no call is made from a signal handler, or in the forked child of a process that has threads;
  *   - 16 KB of stack are free; the calls were measured to use 6 KB;
- *   - malloc, realloc and free belong to one allocator. The library calls nothing else, and starts no thread.
+ *   - malloc, realloc and free belong to one allocator. They return NULL or memory that is aligned for every type.
+ *     The library calls nothing else, and starts no thread.
  * Every other invalid argument is reported by a refusal or an outcome, and then nothing has changed.
+ *
+ * Out of memory: a call that returns GERFMUOD_REFUSED_NO_MEMORY or GERFMUOD_OUT_OF_MEMORY has changed nothing, and may be
+ * repeated; this is proved. Only tested is that an allocation failed then, that the repeated call succeeds with enough
+ * memory, and that gerfmuod_open allocates nothing.
  *
  * Units: lengths are in bytes. Nodes are numbered from 0, generations from 1, and the waves of each generation from 1.
  * The caller chooses the numbers of tasks, actions and messages, which may be any uint32_t. The tasks of all nodes share

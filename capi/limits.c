@@ -1,9 +1,10 @@
-/* limits.c: cores at their limits. A core that is full still detects termination, and the calls that take a const core do not
- * write to it: here its memory is read-only. */
+/* limits.c: cores at their limits. A core that is full still detects termination and has a trace, which is sound. The calls that
+ * take a const core do not write to it: here its memory is read-only. The others write to its first bytes alone. */
 #define _DEFAULT_SOURCE
 #include "gerfmuod.h"
 #include <stdio.h>
 #include <stdlib.h>
+#include <string.h>
 #include <sys/mman.h>
 
 #define CHECK(what)                                                                                                    \
@@ -28,6 +29,20 @@ static void fill(gerfmuod_core *core) {
     }
 }
 
+/* Writes the trace of a core that was settled after a number of steps, and judges it. */
+static void traced(const gerfmuod_core *core, uint32_t steps) {
+    char audit[256], wanted[32];
+    gerfmuod_written asked = gerfmuod_trace(core, NULL, 0);
+    CHECK(asked.outcome == GERFMUOD_NO_ROOM && asked.length <= 16 + 24 * (size_t)steps);
+    char *trace = malloc(asked.length);
+    CHECK(trace && gerfmuod_trace(core, trace, asked.length).outcome == GERFMUOD_WRITTEN);
+    gerfmuod_written judged = gerfmuod_audit(trace, asked.length, audit, sizeof audit);
+    int length = snprintf(wanted, sizeof wanted, "steps %u\n", steps);
+    CHECK(judged.outcome == GERFMUOD_WRITTEN && length > 0 && !memcmp(audit, wanted, (size_t)length));
+    CHECK(!memcmp(audit + judged.length - 8, "ended ", 6)); /* and the number of a wave */
+    free(trace);
+}
+
 /* Fills a core, if `has_wave` while a wave is under way, and settles it. */
 static void full(uint32_t nodes, bool has_wave) {
     const uint32_t limit = GERFMUOD_MAX_STEPS - GERFMUOD_SETTLE_STEPS * nodes;
@@ -43,6 +58,7 @@ static void full(uint32_t nodes, bool has_wave) {
     gerfmuod_settled settled = gerfmuod_settle(&core);
     CHECK(settled.refused == 0 && settled.steps > 0 && settled.steps <= GERFMUOD_SETTLE_STEPS * nodes);
     CHECK(gerfmuod_settle(&core).refused == GERFMUOD_REFUSED_ENDED && gerfmuod_length(&core) == limit + settled.steps);
+    traced(&core, limit + settled.steps);
     CHECK(gerfmuod_reopen(&core).refused == GERFMUOD_REFUSED_HISTORY_FULL && gerfmuod_restart(&core) == 0);
     CHECK(gerfmuod_length(&core) == 0 && gerfmuod_room(&core) == limit);
     gerfmuod_close(&core);
@@ -66,12 +82,26 @@ static void read_only(void) {
     munmap(core, size);
 }
 
+/* The library uses the first gerfmuod_core_size() bytes of a core. */
+static void sized(void) {
+    gerfmuod_core core;
+    const unsigned char *bytes = (const unsigned char *)&core;
+    size_t last = sizeof core;
+    memset(&core, 0xa5, sizeof core);
+    CHECK(gerfmuod_open(&core, 8) == 0 && gerfmuod_insert(&core, 7, 1, 0).refused == 0);
+    CHECK(gerfmuod_send(&core, 0, 7, 1, 1).refused == 0 && gerfmuod_action_open(&core, 7, 1).refused == 0);
+    while (last > 0 && bytes[last - 1] == 0xa5) last--;
+    CHECK(last == gerfmuod_core_size());
+    gerfmuod_close(&core);
+}
+
 int main(void) {
     full(1, false);
     full(1, true);
     full(7, false);
     full(8, true);
     read_only();
+    sized();
     puts("limits: as they should be");
     return 0;
 }

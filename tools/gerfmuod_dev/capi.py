@@ -73,6 +73,11 @@ PROGRAMS = [
         ["20000", "3"],
     ),
     Program(
+        "out_of_memory.c",
+        [*C11, *WRAPPED],
+        [Run([], 0, "as it should be"), *(Run([fault], 1, "check failed") for fault in ("takes", "changes", "lies"))],
+    ),
+    Program(
         "unlocked.c",
         [*C11, "-g", "-pthread", *THREAD],
         [
