@@ -3,9 +3,8 @@
 They are runs of `rt try`; the output of a program is compared with the stored one. It proves nothing: `make gate` does.
 Prints a line for the tests of a crate, one for a program, one for its cases, whose exit statuses are compared and whose
 outputs are compared if they are stored, and one for the pictures of docs/figures that `samples draw` draws; if something
-failed, prints the output too. Some cases of `tp` are stored scripts and traces that are cut off, whose outputs are those of
-a second model. With --write, what the other cases print is stored instead of compared. The last line is `N passed, M
-failed`, each test, program and case counted; the status is 1 if one failed.
+failed, prints the output too. With --write, what the cases print is stored instead of compared. The last line is `N
+passed, M failed`, each test, program and case counted; the status is 1 if one failed.
 """
 import functools
 import hashlib
@@ -17,9 +16,8 @@ import tempfile
 from concurrent.futures import ThreadPoolExecutor
 from dataclasses import dataclass
 
-from . import repository, running, version
+from . import repository, version
 from .drawn import PICTURES, path_of
-from .limits import cuts
 from .repository import text_of
 
 # for each program a folder of cases, whose names begin with the expected status
@@ -30,8 +28,6 @@ OUTPUTS = "tools/data/outputs"
 SECONDS = "900"
 # an output of more bytes, such as a picture, is stored as its length and a digest
 MOST_STORED = 4_000
-# of the stored scripts and traces cut after each byte, one in this number is a case of tp
-CUTS = 251
 
 
 @dataclass(frozen=True)
@@ -118,35 +114,21 @@ def is_rejected(name, text):
     return result.returncode != 0 or result.stderr != ""
 
 
-def write_cuts(folder):
-    """Writes the cases of texts that are cut off; returns what each has to print by its name."""
-    outputs = {}
-    for number, piece in enumerate(list(cuts.pieces())[::CUTS]):
-        name = f"{piece.expected.status}-a-text-cut-off-{number}"
-        running.write(f"{folder}/{name}", piece.text)
-        running.write(f"{folder}/{name}.args", [piece.command])
-        outputs[name] = piece.expected.out.decode()
-    return outputs
-
-
 def try_cases(crate, writes=False):
     """Runs the program on each of its cases, and compares the exit statuses, and the outputs if they are stored."""
-    path = f"{OUTPUTS}/{crate}"
-    with tempfile.TemporaryDirectory() as cases:
-        shutil.copytree(f"{STATUSES}/{crate}", cases, dirs_exist_ok=True)
-        of_cuts = write_cuts(cases) if crate == "tp" else {}
-        output, _ = rt_try(crate, "--seconds", SECONDS, "--cases", cases)
-        names = {name for name in os.listdir(cases) if not name.endswith(".args")}
+    cases, path = f"{STATUSES}/{crate}", f"{OUTPUTS}/{crate}"
+    output, _ = rt_try(crate, "--seconds", SECONDS, "--cases", f"../../{cases}")
+    names = {name for name in os.listdir(cases) if not name.endswith(".args")}
     statuses, printed = dict(re.findall(r"^case=(\S+) .*?\bstatus=(\d+)", output, re.M)), outputs_in(output)
     if writes:
         with open(path, "w", encoding="utf-8") as file:
-            file.write("".join(f"== {name}\n{printed[name]}" for name in sorted(printed.keys() - of_cuts.keys())))
-    expected = {**(stored_outputs(path) if os.path.exists(path) else printed), **of_cuts}
+            file.write("".join(f"== {name}\n{printed[name]}" for name in sorted(printed)))
+    expected = stored_outputs(path) if os.path.exists(path) else printed
     differing = {name for name in names if statuses.get(name) != name[0] or name not in printed or printed[name] != expected.get(name)}
     differing |= {name for name in names if is_rejected(name, printed.get(name, ""))}
     details = "".join(f"{name}: expected\n{expected.get(name)}but printed\n{printed.get(name)}" for name in sorted(differing))
     passed = len(names) - len(differing)
-    line = f"{crate}: {passed} of {len(names)} cases ended{' and printed' if os.path.exists(path) else ''} as expected"
+    line = f"{crate}: {passed} of {len(names)} cases ended{' and printed' if expected is not printed else ''} as expected"
     return Outcome(line, passed, len(differing), output + details)
 
 

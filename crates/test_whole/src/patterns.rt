@@ -120,33 +120,6 @@ fn who_feeds_whom_in_six_columns(rt: HostRuntime) -> Result<(), Fail> {
     Ok(())
 }
 
-// A longer period would be right, too, but a table would then take the time and memory of more rows.
-#[test]
-fn a_table_takes_the_rows_of_the_least_period(rt: HostRuntime) {
-    for (pattern, width, period) in [
-        (Pattern::Trivial, 6, 1),
-        (Pattern::NoComm, 6, 1),
-        (Pattern::Stencil, 6, 1),
-        (Pattern::StencilPeriodic, 6, 1),
-        (Pattern::Dom, 6, 1),
-        (Pattern::Tree, 6, 1),
-        (Pattern::AllToAll, 6, 1),
-        (Pattern::Nearest { radius: 2 }, 6, 1),
-        // the columns that are 1, 2, 4 and so on apart, one distance a row
-        (Pattern::Fft, 1, 1),
-        (Pattern::Fft, 3, 1),
-        (Pattern::Fft, 6, 2),
-        (Pattern::Fft, 8, 3),
-        (Pattern::Fft, 15, 3),
-        // moved by one column a row
-        (Pattern::Spread { seed: 0 }, 6, 6),
-        // all ten rows are drawn
-        (Pattern::RandomNearest { radius: 2, seed: 0 }, 6, 10),
-    ] {
-        assert_eq!(rt; pattern.period(width, 10), period, "{pattern:?}, {width}");
-    }
-}
-
 /// The number of each task of a graph, computed on one thread.
 pub(crate) fn numbers<G: Graph>(alloc: Global, graph: G) -> Result<Vec<i64>, Refusal> {
     let values = serial(alloc, graph)?;

@@ -1,6 +1,5 @@
 //! The sample pools on worker threads, in one run and in a series. The contents of an outcome are proved, including
-//! that they are the results of one thread; that there is an outcome is tested. A worker that has nothing to do gives
-//! up after some seconds, so that a pool in which something is left undone fails its test and does not hang.
+//! that they are the results of one thread; that there is an outcome is tested.
 
 ghost use Rattle.std.specs.Prelude.{◌≤◌};
 
@@ -21,9 +20,6 @@ const POOLS: [&str; 6] = [
     "reduce:4:0",
     "reduce:32:5",
 ];
-
-/// The limit of idle turns in a row: each is a sleep of up to 10 ms.
-const IDLE_TURNS: u32 = 2_000;
 
 /// Why one of the runs on 1, 2, 4 and 8 nodes with 1, 2, 4 and 8 workers each has no outcome, if one has none.
 fn fault_of<R: Threads + Wait + Sync>(rt: &R, alloc: Global, graph: AnyGraph) -> Option<Refusal> {
@@ -48,12 +44,7 @@ fn fault_at<R: Threads + Wait + Sync>(
     requires nodes { (1 ≤ nodes) × (nodes ≤ 8) }
     requires workers { (1 ≤ workers) × (workers ≤ 8) }
 {
-    let config = Config {
-        nodes,
-        workers,
-        idle_turns: IDLE_TURNS,
-    };
-    match run_pool(rt, alloc, graph, config, &OpenGate) {
+    match run_pool(rt, alloc, graph, Config::new(nodes, workers), &OpenGate) {
         Ok(_) => None,
         Err(fault) => Some(fault.refusal),
     }
@@ -73,12 +64,7 @@ fn rounds_of<R: Threads + Wait + Sync>(
     alloc: Global,
     graph: AnyGraph,
 ) -> Result<usize, Refusal> {
-    let config = Config {
-        nodes: 8,
-        workers: 8,
-        idle_turns: IDLE_TURNS,
-    };
-    match run_generations(rt, alloc, graph, config, &OpenGate, 9) {
+    match run_generations(rt, alloc, graph, Config::new(8, 8), &OpenGate, 9) {
         Ok(series) => Ok(series.rounds.len()),
         Err(fault) => Err(fault.refusal),
     }

@@ -81,6 +81,18 @@ fn found_of<G: Graph, A: Gate, R: Threads + Wait + Sync>(
     }
 }
 
+/// What is found of a grid of tasks.
+fn found_of_grid<R: Threads + Wait + Sync>(
+    rt: &R,
+    alloc: Global,
+    pattern: Pattern,
+    width: u32,
+    steps: u32,
+) -> Result<Option<Found>, Fail> {
+    let table = FeedTable::new(alloc, pattern, width, steps)?;
+    Ok(found_of(rt, alloc, Grid::new(&table, 0), &OpenGate))
+}
+
 // One entry overflows. In the opening, one task is inserted.
 #[test]
 fn a_body_that_fails_ends_the_series(rt: HostRuntime) -> Result<(), Fail> {
@@ -99,17 +111,12 @@ fn a_body_that_fails_ends_the_series(rt: HostRuntime) -> Result<(), Fail> {
     Ok(())
 }
 
-// A generation has 31 events, and a reopening is one. In the generation that is stopped, four leaves are inserted, and the
-// node is ready; two leaves begin and are done, with a feed each: 11 more. The two others are pending, and a sum. A body is
+// The first generation has 31 events, and the reopening is one. In the second one four leaves are inserted, and the node
+// is ready; two leaves begin and are done, with a feed each: 11 more. The two others are pending, and a sum. A body is
 // refused after its task began, and a turn before.
 #[test]
-fn a_gate_is_asked_in_the_later_generations(rt: HostRuntime) {
-    for (barred, last, events) in [
-        (9, u64::MAX, 44),
-        (u64::MAX, 9, 43),
-        (16, u64::MAX, 76),
-        (u64::MAX, 16, 75),
-    ] {
+fn a_gate_is_asked_in_the_second_generation(rt: HostRuntime) {
+    for (barred, last, events) in [(9, u64::MAX, 44), (u64::MAX, 9, 43)] {
         let wanted = Found {
             refusal: Refusal::Stalled(0),
             events,
@@ -135,8 +142,7 @@ fn a_store_that_is_full_ends_the_series(rt: HostRuntime) -> Result<(), Fail> {
         ended: false,
         fault: Some(Refusal::StoreFull),
     };
-    let table = FeedTable::new(rt.alloc(), Pattern::Trivial, 65_537, 1)?;
-    let found = found_of(&rt, rt.alloc(), Grid::new(&table, 0), &OpenGate);
+    let found = found_of_grid(&rt, rt.alloc(), Pattern::Trivial, 65_537, 1)?;
     assert_eq!(rt; found, Some(wanted));
     Ok(())
 }
