@@ -41,6 +41,9 @@
  * ThreadSanitizer: if this header is compiled with -fsanitize=thread, each call reports to it that it reads or writes the
  * core. So a missing lock is a data race, although the library itself is not compiled with it.
  *
+ * Debuggers: the library has names of functions, but no call frames and no line numbers. Break at a call to see who makes it:
+ * where a program stops further inside, as in malloc, a debugger shows a few functions of the library, and loses the stack.
+ *
  * Link with -lgerfmuod, or use pkg-config gerfmuod.
  */
 #ifndef GERFMUOD_H

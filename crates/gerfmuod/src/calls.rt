@@ -3,6 +3,7 @@ ghost use Rattle.std.specs.Prelude.{◌≡◌, ◌≢◌, Ok};
 ghost use Rattle.tp_base.specs.Refusals.{number_of};
 ghost use Rattle.tp_core.specs.Accepted.{no_numbers};
 ghost use Rattle.gerfmuod.specs.Asked.{counters, unsettled, IsSettled};
+ghost use Rattle.gerfmuod.specs.Batch.{IsStep};
 ghost use Rattle.gerfmuod.specs.Calls.{IsByCall, IsClosed, IsNumbersCall, IsRestartCall, IsSettleCall, IsStepCall, IsWholeCall};
 ghost use Rattle.gerfmuod.specs.Calls.{refused_step, IsRestarted};
 ghost use Rattle.gerfmuod.specs.Events.{event_of};
@@ -12,11 +13,13 @@ ghost use Rattle.gerfmuod.specs.Slot.{can_be, opened, opening, refusal_of};
 ghost use Rattle.gerfmuod.specs.Told.{is_ending_if, leaves_nothing, refusal_told, reply_told, told as result_of, IsTold};
 
 use crate::answer::{Answer, Counters, Settled, Whole};
-use crate::event::{Event, made_step, maker_of, step_of};
+use crate::event::{
+    Event, insert_step, maker_of, message_end_step, receive_step, send_step, step_of,
+};
 use crate::pool::CoreRoom;
 use crate::slot::CoreSlot;
 use std::alloc::Global;
-use tp_base::{MAX_NODES, Refusal, Step};
+use tp_base::{ActionId, MAX_NODES, NodeId, Refusal, Step, TaskId};
 use tp_core::{Maker, Reply};
 
 /// Returns whether a pool can have this number of nodes.
@@ -169,6 +172,31 @@ pub(crate) fn told(room: &mut CoreRoom, step: Option<Step>) -> Answer
     }
 }
 
+/// Takes the next step. Each kind of steps of tasks and messages has a copy of what follows: told the kind once, it
+/// does not build the step and match it again.
+#[inline(always)]
+fn taken(room: &mut CoreRoom, event: Event) -> Answer
+    ensures { IsStep event room.old result room.new }
+{
+    let Event {
+        kind,
+        first,
+        second,
+        third,
+        generation,
+    } = event;
+    match kind {
+        0 => told(room, insert_step(first, second, third)),
+        1 => told(room, Some(Step::Supply(TaskId(first)))),
+        2 => told(room, Some(Step::Begin(TaskId(first)))),
+        3 => told(room, Some(Step::Done(TaskId(first)))),
+        7 => told(room, send_step(first, second, third, generation)),
+        8 => told(room, receive_step(first, second, generation)),
+        9 => told(room, message_end_step(first, second, generation)),
+        _ => told(room, step_of(event)),
+    }
+}
+
 /// Takes the next step, given by the number of its kind and its arguments.
 #[inline(always)]
 pub(crate) fn answered(
@@ -191,7 +219,7 @@ pub(crate) fn answered(
         third,
         generation,
     };
-    let answer = told(&mut slot.room, step_of(event));
+    let answer = taken(&mut slot.room, event);
     slot.leave();
     answer
 }
@@ -213,13 +241,29 @@ fn told_by(room: &mut CoreRoom, maker: Option<Maker>, step: Option<Step>) -> Ans
     told(room, step)
 }
 
-/// Takes the next step if its maker may make it.
+/// Takes the next step if its maker may make it. Each kind has a copy of what follows, as in `taken`.
 #[inline(always)]
-fn event_by(room: &mut CoreRoom, maker_kind: u32, maker: u32, event: Event) -> Answer
+fn taken_by(room: &mut CoreRoom, maker_kind: u32, maker: u32, event: Event) -> Answer
     ensures { IsMade room.old (maker_asked maker_kind maker) (made_step event) result room.new
         × TellsNoEarlyEnd (result.told ≡ 3) result.number room.new }
 {
-    told_by(room, maker_of(maker_kind, maker), made_step(event))
+    let Event {
+        kind,
+        first,
+        second,
+        third,
+        generation,
+    } = event;
+    let by = maker_of(maker_kind, maker);
+    match kind {
+        0 => told_by(room, by, insert_step(first, second, third)),
+        1 => told_by(room, by, Some(Step::Supply(TaskId(first)))),
+        2 => told_by(room, by, Some(Step::Begin(TaskId(first)))),
+        3 => told_by(room, by, Some(Step::Done(TaskId(first)))),
+        4 => told_by(room, by, Some(Step::ActionOpen(NodeId(first), ActionId(second)))),
+        7 => told_by(room, by, send_step(first, second, third, generation)),
+        _ => told_by(room, by, None),
+    }
 }
 
 /// Takes the next step if its maker may make it, both given by numbers.
@@ -246,7 +290,7 @@ pub(crate) fn answered_by(
         third,
         generation,
     };
-    let answer = event_by(&mut slot.room, maker_kind, maker, event);
+    let answer = taken_by(&mut slot.room, maker_kind, maker, event);
     slot.leave();
     answer
 }

@@ -1,7 +1,8 @@
 //! The steps and their makers as C passes them: the number of a kind and the numbers of what it names.
-ghost use Rattle.std.specs.Prelude.{◌≡◌};
-ghost use Rattle.gerfmuod.specs.Events.{insert_asked, other_step, step_asked, task_step};
-ghost use Rattle.gerfmuod.specs.Makers.{made_step, maker_asked};
+ghost use Rattle.std.specs.Prelude.{◌≡◌, Some};
+ghost use Rattle.tp_base.specs.declared.Step.TheVariants.{Send, Recv, MessageEnd};
+ghost use Rattle.gerfmuod.specs.Events.{insert_asked, other_step, step_asked, task_step, age, message as as_message, node as as_node};
+ghost use Rattle.gerfmuod.specs.Makers.{maker_asked};
 
 use tp_base::{ActionId, Generation, Inputs, MAX_INPUTS, MessageId, NodeId, Step, TaskId};
 use tp_core::Maker;
@@ -64,14 +65,9 @@ fn other_step(event: Event) -> Option<Step>
         4 => Some(Step::ActionOpen(NodeId(first), ActionId(second))),
         5 => Some(Step::ActionClose(NodeId(first), ActionId(second))),
         6 => Some(Step::Ready(NodeId(first))),
-        7 => Some(Step::Send(
-            NodeId(first),
-            NodeId(second),
-            MessageId(third),
-            Generation(generation),
-        )),
-        8 => Some(Step::Recv(NodeId(first), MessageId(second), Generation(generation))),
-        9 => Some(Step::MessageEnd(NodeId(first), MessageId(second), Generation(generation))),
+        7 => send_step(first, second, third, generation),
+        8 => receive_step(first, second, generation),
+        9 => message_end_step(first, second, generation),
         10 => Some(Step::Start),
         11 => Some(Step::Down(NodeId(first))),
         12 => Some(Step::Give(NodeId(first))),
@@ -84,7 +80,7 @@ fn other_step(event: Event) -> Option<Step>
 
 /// Returns the step that inserts a task, or `None` for one of more than 16 inputs.
 #[inline(always)]
-fn insert_step(home: u32, task: u32, inputs: u32) -> Option<Step>
+pub(crate) fn insert_step(home: u32, task: u32, inputs: u32) -> Option<Step>
     ensures { result ≡ insert_asked home task inputs }
 {
     if inputs > u32::from(MAX_INPUTS) {
@@ -96,16 +92,41 @@ fn insert_step(home: u32, task: u32, inputs: u32) -> Option<Step>
     }
 }
 
-/// Returns the step if it is one that has a maker: a step of a task, opening an action or sending a message.
+/// Returns the step that sends a message.
 #[inline(always)]
-pub(crate) fn made_step(event: Event) -> Option<Step>
-    ensures { result ≡ made_step event }
+pub(crate) fn send_step(from: u32, to: u32, message: u32, generation: u32) -> Option<Step>
+    ensures { result ≡ Some (Send (as_node from) (as_node to) (as_message message) (age generation)) }
 {
-    if event.kind <= 4 || event.kind == 7 {
-        step_of(event)
-    } else {
-        None
-    }
+    Some(Step::Send(
+        NodeId(from),
+        NodeId(to),
+        MessageId(message),
+        Generation(generation),
+    ))
+}
+
+/// Returns the step that receives a message.
+#[inline(always)]
+pub(crate) fn receive_step(node: u32, message: u32, generation: u32) -> Option<Step>
+    ensures { result ≡ Some (Recv (as_node node) (as_message message) (age generation)) }
+{
+    Some(Step::Recv(
+        NodeId(node),
+        MessageId(message),
+        Generation(generation),
+    ))
+}
+
+/// Returns the step that ends the handling of a message.
+#[inline(always)]
+pub(crate) fn message_end_step(node: u32, message: u32, generation: u32) -> Option<Step>
+    ensures { result ≡ Some (MessageEnd (as_node node) (as_message message) (age generation)) }
+{
+    Some(Step::MessageEnd(
+        NodeId(node),
+        MessageId(message),
+        Generation(generation),
+    ))
 }
 
 /// Returns the maker of a kind, 0 to 4, and a number; or `None` if there is no such kind.
