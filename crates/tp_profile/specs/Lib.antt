@@ -1,0 +1,1 @@
+-- No definitions: the contracts of this crate use those of the crates below it.
