@@ -71,7 +71,11 @@ def renew(source, target):
     is_library = os.path.basename(target) == "rlib"
 
     def copy(old, new):
-        (os.link if is_library or old.endswith(".oantt") else shutil.copy2)(old, new)
+        try:
+            (os.link if is_library or old.endswith(".oantt") else shutil.copy2)(old, new)
+        except OSError:
+            # (on another file system there are no links)
+            shutil.copy2(old, new)
 
     shutil.rmtree(target, ignore_errors=True)
     shutil.copytree(source, target, copy_function=copy)
@@ -85,12 +89,13 @@ def pass_on(name, room, others):
             renew(source, target)
 
 
-def keep(crates, room):
-    """Copies what was proved of these crates to their own folders, where a check of this repository or of a pool of one's own finds it."""
+def keep(crates, source, target="."):
+    """Copies what was proved of these crates in one folder of crates to another one, by default to this repository, where a check of it or
+    of a pool of one's own finds it."""
     for name, part in itertools.product(crates, ("rlib", "incremental")):
-        source = f"{room}/crates/{name}/out/{part}"
-        if os.path.exists(source):
-            renew(source, f"crates/{name}/out/{part}")
+        proved = f"{source}/crates/{name}/out/{part}"
+        if os.path.exists(proved):
+            renew(proved, f"{target}/crates/{name}/out/{part}")
 
 
 def shares(free, ready, head, most):

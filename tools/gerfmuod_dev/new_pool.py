@@ -116,6 +116,7 @@ def create(folder, name, kind):
     for file in "HANDLES", ".gitignore":
         shutil.copy2(file, f"{folder}/{file}")
     subprocess.run(["rt", "fmt"], cwd=f"{folder}/crates/{name}", stdout=subprocess.DEVNULL, check=True)
+    keep(lower, ".", folder)
     return len(lower)
 
 
