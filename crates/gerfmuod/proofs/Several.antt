@@ -99,8 +99,7 @@ stops_at events room old k answers mid d u new below few a s refused =
       all = λ e. absurd (omega (arith, below, e));
       refused = λ e later left.
           let is : get_or events k d ≡ e =
-          next_event e (get_or events k d) later (drop (k + 1) events) (sym left ∙ drop_more events k d below) in
-          (
+          next_event e (get_or events k d) later (drop (k + 1) events) (sym left ∙ drop_more events k d below) in (
             u,
             subst (λ (x : Event). IsStep x new u new) is (subst (λ (x : Accepted). IsStep (get_or events k d) x u new) (sym same) s),
             refused,
@@ -130,6 +129,6 @@ taken_by_call events given room old new first count answers same before was is t
       if_open = λ e. (
         is,
         subst (λ (xs : List Event). IsBatch xs room old.core count answers new.core) same
-        (subst (λ (a : Accepted). IsBatch given room a count answers new.core) before taken),
+            (subst (λ (a : Accepted). IsBatch given room a count answers new.core) before taken),
       );
     }

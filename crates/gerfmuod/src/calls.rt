@@ -260,7 +260,11 @@ fn taken_by(room: &mut CoreRoom, maker_kind: u32, maker: u32, event: Event) -> A
         1 => told_by(room, by, Some(Step::Supply(TaskId(first)))),
         2 => told_by(room, by, Some(Step::Begin(TaskId(first)))),
         3 => told_by(room, by, Some(Step::Done(TaskId(first)))),
-        4 => told_by(room, by, Some(Step::ActionOpen(NodeId(first), ActionId(second)))),
+        4 => told_by(
+            room,
+            by,
+            Some(Step::ActionOpen(NodeId(first), ActionId(second))),
+        ),
         7 => told_by(room, by, send_step(first, second, third, generation)),
         _ => told_by(room, by, None),
     }

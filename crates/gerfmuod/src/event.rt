@@ -110,11 +110,7 @@ pub(crate) fn send_step(from: u32, to: u32, message: u32, generation: u32) -> Op
 pub(crate) fn receive_step(node: u32, message: u32, generation: u32) -> Option<Step>
     ensures { result ≡ Some (Recv (as_node node) (as_message message) (age generation)) }
 {
-    Some(Step::Recv(
-        NodeId(node),
-        MessageId(message),
-        Generation(generation),
-    ))
+    Some(Step::Recv(NodeId(node), MessageId(message), Generation(generation)))
 }
 
 /// Returns the step that ends the handling of a message.
@@ -122,11 +118,7 @@ pub(crate) fn receive_step(node: u32, message: u32, generation: u32) -> Option<S
 pub(crate) fn message_end_step(node: u32, message: u32, generation: u32) -> Option<Step>
     ensures { result ≡ Some (MessageEnd (as_node node) (as_message message) (age generation)) }
 {
-    Some(Step::MessageEnd(
-        NodeId(node),
-        MessageId(message),
-        Generation(generation),
-    ))
+    Some(Step::MessageEnd(NodeId(node), MessageId(message), Generation(generation)))
 }
 
 /// Returns the maker of a kind, 0 to 4, and a number; or `None` if there is no such kind.
