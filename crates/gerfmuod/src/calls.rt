@@ -1,7 +1,8 @@
 //! The calls on a core, as C gets their results.
-ghost use Rattle.std.specs.Prelude.{◌≡◌, ◌≢◌, Ok};
+ghost use Rattle.std.specs.Prelude.{◌≡◌, ◌≢◌, ◌&&◌, if◌then◌else◌};
 ghost use Rattle.tp_base.specs.Refusals.{number_of};
-ghost use Rattle.tp_core.specs.Accepted.{no_numbers};
+ghost use Rattle.tp_core.specs.Accepted.{no_numbers, world_of};
+ghost use Rattle.tp_core.specs.World.{is_quiet};
 ghost use Rattle.gerfmuod.specs.Asked.{counters, unsettled, IsSettled};
 ghost use Rattle.gerfmuod.specs.Batch.{IsStep};
 ghost use Rattle.gerfmuod.specs.Calls.{IsByCall, IsClosed, IsNumbersCall, IsRestartCall, IsSettleCall, IsStepCall, IsWholeCall};
@@ -10,7 +11,7 @@ ghost use Rattle.gerfmuod.specs.Events.{event_of};
 ghost use Rattle.gerfmuod.specs.Makers.{made_step, maker_asked, IsMade};
 ghost use Rattle.gerfmuod.specs.Pool.{TellsNoEarlyEnd};
 ghost use Rattle.gerfmuod.specs.Slot.{can_be, opened, opening, refusal_of};
-ghost use Rattle.gerfmuod.specs.Told.{is_ending_if, leaves_nothing, refusal_told, reply_told, told as result_of, IsTold};
+ghost use Rattle.gerfmuod.specs.Told.{is_ending_if, plain, refusal_told, reply_told, IsTold};
 
 use crate::answer::{Answer, Counters, Settled, Whole};
 use crate::event::{
@@ -120,6 +121,7 @@ pub(crate) fn not_taken(slot: &CoreSlot) -> Answer
 }
 
 /// Returns whether the step ends something.
+#[inline(always)]
 fn is_ending(step: Option<Step>) -> bool
     ensures { result ≡ is_ending_if step }
 {
@@ -132,23 +134,38 @@ fn is_ending(step: Option<Step>) -> bool
     }
 }
 
-/// Returns whether the step that was taken ended something, and nothing is left.
-fn leaves_nothing(room: &CoreRoom, step: Option<Step>) -> bool
-    ensures { result ≡ leaves_nothing step room.now }
+/// Returns whether a step that was taken ended something, and nothing is left.
+#[inline(always)]
+fn leaves_nothing(room: &CoreRoom, ends: bool) -> bool
+    ensures { result ≡ (ends && is_quiet (world_of room.now)) }
 {
-    room.core().quiet() && is_ending(step)
+    ends && room.core().quiet()
 }
 
 /// Returns the result of a step that was taken.
 #[cold]
 #[inline(never)]
-fn of_reply(room: &CoreRoom, step: Option<Step>, reply: Reply) -> Answer
-    ensures { result ≡ result_of step (Ok reply) room.now }
+fn of_reply(room: &CoreRoom, ends: bool, reply: Reply) -> Answer
+    ensures { result ≡ (if ends && is_quiet (world_of room.now) then plain 0 5 0 else reply_told reply) }
 {
-    if leaves_nothing(room, step) {
+    if leaves_nothing(room, ends) {
         QUIET
     } else {
         plain_reply(reply)
+    }
+}
+
+/// Returns the same result, field by field: so the results of calls that are rare do not keep all others in memory.
+#[inline(always)]
+pub(crate) fn by_fields(answer: Answer) -> Answer
+    ensures { result ≡ answer }
+{
+    Answer {
+        refused: answer.refused,
+        told: answer.told,
+        number: answer.number,
+        sent: answer.sent,
+        received: answer.received,
     }
 }
 
@@ -158,17 +175,18 @@ fn of_reply(room: &CoreRoom, step: Option<Step>, reply: Reply) -> Answer
 pub(crate) fn told(room: &mut CoreRoom, step: Option<Step>) -> Answer
     ensures { IsTold room.old step result room.new × TellsNoEarlyEnd (result.told ≡ 3) result.number room.new }
 {
+    let ends = is_ending(step);
     match room.take(step) {
         // the case of most steps
         Ok(Reply::Plain) => {
-            if room.core().quiet() {
-                of_reply(room, step, Reply::Plain)
+            if leaves_nothing(room, ends) {
+                QUIET
             } else {
                 PLAIN
             }
         }
-        Ok(reply) => of_reply(room, step, reply),
-        Err(refusal) => of_refusal(refusal),
+        Ok(reply) => by_fields(of_reply(room, ends, reply)),
+        Err(refusal) => by_fields(of_refusal(refusal)),
     }
 }
 
@@ -210,7 +228,7 @@ pub(crate) fn answered(
     ensures { IsStepCall (event_of kind first second third generation) slot.old result slot.new }
 {
     if !slot.enter() {
-        return not_taken(slot);
+        return by_fields(not_taken(slot));
     }
     let event = Event {
         kind,
@@ -281,7 +299,7 @@ pub(crate) fn answered_by(
     ensures { IsByCall maker_kind maker (event_of kind first second third generation) slot.old result slot.new }
 {
     if !slot.enter() {
-        return not_taken(slot);
+        return by_fields(not_taken(slot));
     }
     let event = Event {
         kind,
