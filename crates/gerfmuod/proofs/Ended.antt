@@ -102,18 +102,29 @@ told_as old new o reply u a never is = (
   subst (λ (x : Answer). TellsNoEarlyEnd (x.told ≡ 3) x.number new) (sym is) (told_over old new o (Ok reply) a never),
 )
 
-left_behind : (ends : Bool) (quiet : Bool) → IsFalse quiet → IsFalse (ends && quiet)
-left_behind true quiet e = e
-left_behind false quiet e = refl
+-- The same, if whether the step ended something was seen before.
+pub told_left : (old new : Accepted) (o : Option Step) (reply : Reply) (u : Answer) (ends : Bool) → AnswersTo old o (Ok reply) new
+    → InEach (IsNeverEarly new.nodes) new.steps → ends ≡ is_ending_if o
+    → u ≡ (if ends && is_quiet (world_of new) then plain 0 5 0 else reply_told reply)
+    → IsTold old o u new × TellsNoEarlyEnd (u.told ≡ 3) u.number new
+told_left old new o reply u ends a never e is =
+    told_as old new o reply u a never
+    (subst (λ (b : Bool). u ≡ (if b && is_quiet (world_of new) then plain 0 5 0 else reply_told reply)) e is)
 
--- A step after which something is left.
-pub told_plain : (old new : Accepted) (o : Option Step) (quiet : Bool) → AnswersTo old o (Ok Plain) new
-    → InEach (IsNeverEarly new.nodes) new.steps → IsTrue quiet ↔ IsQuiet (world_of new) → IsFalse quiet
+-- A step after which nothing is left, and one after which something is left.
+pub told_quiet : (old new : Accepted) (o : Option Step) (reply : Reply) (ends left : Bool) → AnswersTo old o (Ok reply) new
+    → InEach (IsNeverEarly new.nodes) new.steps → ends ≡ is_ending_if o → left ≡ (ends && is_quiet (world_of new)) → IsTrue left
+    → IsTold old o (plain 0 5 0) new × TellsNoEarlyEnd ((plain 0 5 0).told ≡ 3) (plain 0 5 0).number new
+told_quiet old new o reply ends left a never e is all =
+    let there : IsTrue (ends && is_quiet (world_of new)) = sym is ∙ all in
+    told_left old new o reply (plain 0 5 0) ends a never e (rw there refl)
+
+pub told_plain : (old new : Accepted) (o : Option Step) (ends left : Bool) → AnswersTo old o (Ok Plain) new
+    → InEach (IsNeverEarly new.nodes) new.steps → ends ≡ is_ending_if o → left ≡ (ends && is_quiet (world_of new)) → IsFalse left
     → IsTold old o (plain 0 0 0) new × TellsNoEarlyEnd ((plain 0 0 0).told ≡ 3) (plain 0 0 0).number new
-told_plain old new o quiet a never shown e =
-    let none : IsFalse (leaves_nothing o new) =
-    left_behind (is_ending_if o) (is_quiet (world_of new)) (same_quiet quiet (world_of new) shown ∙ e) in
-    told_as old new o Plain (plain 0 0 0) a never (rw none refl)
+told_plain old new o ends left a never e is some =
+    let none : IsFalse (ends && is_quiet (world_of new)) = sym is ∙ some in
+    told_left old new o Plain (plain 0 0 0) ends a never e (rw none refl)
 
 -- ---- the same for `settle`
 unsettled_tells : (r : Refusal) → (unsettled r).refused ≡ 0 → ⊥

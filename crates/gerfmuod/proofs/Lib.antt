@@ -2,7 +2,6 @@
 pub mod DagAnswers
 pub mod Ended
 pub mod Kept
-pub mod Made
 pub mod Recording
 pub mod Room
 pub mod Several

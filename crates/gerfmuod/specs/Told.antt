@@ -4,7 +4,7 @@ use Rattle.tp_base.specs.Refusals.{number_of}
 use Rattle.tp_base.specs.declared.Refusal.{Refusal}
 use Rattle.tp_base.specs.declared.Refusal.TheVariants.{HistoryFull, BadSpec}
 use Rattle.tp_base.specs.declared.Step.{Step}
-use Rattle.tp_base.specs.declared.Step.TheVariants.{Done, ActionClose, Ready, MessageEnd}
+use Rattle.tp_base.specs.declared.Step.TheVariants.{Done, ActionClose, Ready, MessageEnd, Give, Judge, Reopen}
 use Rattle.tp_core.specs.Accepted.{Accepted, Answers, world_of}
 use Rattle.tp_core.specs.World.{is_quiet}
 use Rattle.tp_core.specs.declared.Reply.{Reply}
@@ -44,6 +44,13 @@ is_ending_if (Some s) = is_ending s
 -- The step ended something, and nothing is left after it.
 abbrev pub leaves_nothing : Option Step → Accepted → Bool
 leaves_nothing o new = is_ending_if o && is_quiet (world_of new)
+
+-- If it is taken, the step shows nothing but that: all steps but a wave's end at node 0, its judgement and the reopening.
+abbrev pub has_plain_reply : Option Step → Bool
+has_plain_reply (Some (Give i)) = false
+has_plain_reply (Some Judge) = false
+has_plain_reply (Some Reopen) = false
+has_plain_reply _ = true
 
 -- the result of a step after which the core has accepted the new steps
 abbrev pub told : Option Step → Result Reply Refusal → Accepted → Answer

@@ -1,7 +1,11 @@
 //! The calls on a core, as C gets their results.
-ghost use Rattle.std.specs.Prelude.{◌≡◌, ◌≢◌, Ok};
+ghost use Rattle.std.specs.Prelude.{◌≡◌, ◌≢◌, ◌&&◌, IsTrue, None, OnSome, if◌then◌else◌, option_map};
 ghost use Rattle.tp_base.specs.Refusals.{number_of};
-ghost use Rattle.tp_core.specs.Accepted.{no_numbers};
+ghost use Rattle.tp_core.specs.Accepted.{no_numbers, world_of};
+ghost use Rattle.tp_core.specs.Generations.{InEach};
+ghost use Rattle.tp_core.specs.Makers.{is_maker};
+ghost use Rattle.tp_core.specs.NeverEarly.{IsNeverEarly};
+ghost use Rattle.tp_core.specs.World.{is_quiet};
 ghost use Rattle.gerfmuod.specs.Asked.{counters, unsettled, IsSettled};
 ghost use Rattle.gerfmuod.specs.Batch.{IsStep};
 ghost use Rattle.gerfmuod.specs.Calls.{IsByCall, IsClosed, IsNumbersCall, IsRestartCall, IsSettleCall, IsStepCall, IsWholeCall};
@@ -10,16 +14,16 @@ ghost use Rattle.gerfmuod.specs.Events.{event_of};
 ghost use Rattle.gerfmuod.specs.Makers.{made_step, maker_asked, IsMade};
 ghost use Rattle.gerfmuod.specs.Pool.{TellsNoEarlyEnd};
 ghost use Rattle.gerfmuod.specs.Slot.{can_be, opened, opening, refusal_of};
-ghost use Rattle.gerfmuod.specs.Told.{is_ending_if, leaves_nothing, refusal_told, reply_told, told as result_of, IsTold};
+ghost use Rattle.gerfmuod.specs.Told.{has_plain_reply, is_ending_if, plain, refusal_told, reply_told, IsTold};
 
 use crate::answer::{Answer, Counters, Settled, Whole};
 use crate::event::{
-    Event, insert_step, maker_of, message_end_step, receive_step, send_step, step_of,
+    Event, insert_step, message_end_step, open_step, receive_step, send_step, step_of,
 };
 use crate::pool::CoreRoom;
 use crate::slot::CoreSlot;
 use std::alloc::Global;
-use tp_base::{ActionId, MAX_NODES, NodeId, Refusal, Step, TaskId};
+use tp_base::{ActionId, MAX_NODES, MessageId, NodeId, Refusal, Step, TaskId};
 use tp_core::{Maker, Reply};
 
 /// Returns whether a pool can have this number of nodes.
@@ -93,6 +97,14 @@ fn plain_reply(reply: Reply) -> Answer
 
 #[cold]
 #[inline(never)]
+fn refusal_number(refusal: Refusal) -> u16
+    ensures { result ≡ number_of refusal }
+{
+    u16::from(refusal.number())
+}
+
+/// Returns the result of a refused step.
+#[inline(always)]
 fn of_refusal(refusal: Refusal) -> Answer
     ensures { result ≡ refusal_told refusal }
 {
@@ -101,15 +113,14 @@ fn of_refusal(refusal: Refusal) -> Answer
         _ => 0,
     };
     Answer {
-        refused: u16::from(refusal.number()),
+        refused: refusal_number(refusal),
         number,
         ..PLAIN
     }
 }
 
 /// Returns the result of a step on a core that is not open, or on which another call runs.
-#[cold]
-#[inline(never)]
+#[inline(always)]
 pub(crate) fn not_taken(slot: &CoreSlot) -> Answer
     ensures { result ≡ refused_step (refusal_of slot.now.use_is) }
 {
@@ -120,6 +131,7 @@ pub(crate) fn not_taken(slot: &CoreSlot) -> Answer
 }
 
 /// Returns whether the step ends something.
+#[inline(always)]
 fn is_ending(step: Option<Step>) -> bool
     ensures { result ≡ is_ending_if step }
 {
@@ -132,23 +144,38 @@ fn is_ending(step: Option<Step>) -> bool
     }
 }
 
-/// Returns whether the step that was taken ended something, and nothing is left.
-fn leaves_nothing(room: &CoreRoom, step: Option<Step>) -> bool
-    ensures { result ≡ leaves_nothing step room.now }
+/// Returns whether a step that was taken ended something, and nothing is left.
+#[inline(always)]
+fn leaves_nothing(room: &CoreRoom, ends: bool) -> bool
+    ensures { result ≡ (ends && is_quiet (world_of room.now)) }
 {
-    room.core().quiet() && is_ending(step)
+    ends && room.core().quiet()
 }
 
 /// Returns the result of a step that was taken.
 #[cold]
 #[inline(never)]
-fn of_reply(room: &CoreRoom, step: Option<Step>, reply: Reply) -> Answer
-    ensures { result ≡ result_of step (Ok reply) room.now }
+fn of_reply(room: &CoreRoom, ends: bool, reply: Reply) -> Answer
+    ensures { result ≡ (if ends && is_quiet (world_of room.now) then plain 0 5 0 else reply_told reply) }
 {
-    if leaves_nothing(room, step) {
+    if leaves_nothing(room, ends) {
         QUIET
     } else {
         plain_reply(reply)
+    }
+}
+
+/// Returns the same result, field by field: so the results of calls that are rare do not keep all others in memory.
+#[inline(always)]
+fn by_fields(answer: Answer) -> Answer
+    ensures { result ≡ answer }
+{
+    Answer {
+        refused: answer.refused,
+        told: answer.told,
+        number: answer.number,
+        sent: answer.sent,
+        received: answer.received,
     }
 }
 
@@ -158,18 +185,48 @@ fn of_reply(room: &CoreRoom, step: Option<Step>, reply: Reply) -> Answer
 pub(crate) fn told(room: &mut CoreRoom, step: Option<Step>) -> Answer
     ensures { IsTold room.old step result room.new × TellsNoEarlyEnd (result.told ≡ 3) result.number room.new }
 {
+    let ends = is_ending(step);
     match room.take(step) {
         // the case of most steps
         Ok(Reply::Plain) => {
-            if room.core().quiet() {
-                of_reply(room, step, Reply::Plain)
+            if leaves_nothing(room, ends) {
+                QUIET
             } else {
                 PLAIN
             }
         }
-        Ok(reply) => of_reply(room, step, reply),
+        Ok(reply) => by_fields(of_reply(room, ends, reply)),
         Err(refusal) => of_refusal(refusal),
     }
+}
+
+/// Takes the next step if there is one, as `told` does. All that such a step can show is that nothing is left.
+#[inline(always)]
+fn told_plainly(room: &mut CoreRoom, step: Option<Step>) -> Answer
+    requires { IsTrue (has_plain_reply step) }
+    ensures { IsTold room.old step result room.new × TellsNoEarlyEnd (result.told ≡ 3) result.number room.new }
+{
+    let ends = is_ending(step);
+    match room.take(step) {
+        Ok(reply) => {
+            let _ = reply;
+            if leaves_nothing(room, ends) {
+                QUIET
+            } else {
+                PLAIN
+            }
+        }
+        Err(refusal) => of_refusal(refusal),
+    }
+}
+
+/// Refuses a step that there is not.
+#[cold]
+#[inline(never)]
+fn no_step(room: &mut CoreRoom) -> Answer
+    ensures { IsTold room.old None result room.new × TellsNoEarlyEnd (result.told ≡ 3) result.number room.new }
+{
+    told(room, None)
 }
 
 /// Takes the next step. Each kind of steps of tasks and messages has a copy of what follows: told the kind once, it
@@ -186,13 +243,13 @@ fn taken(room: &mut CoreRoom, event: Event) -> Answer
         generation,
     } = event;
     match kind {
-        0 => told(room, insert_step(first, second, third)),
-        1 => told(room, Some(Step::Supply(TaskId(first)))),
-        2 => told(room, Some(Step::Begin(TaskId(first)))),
-        3 => told(room, Some(Step::Done(TaskId(first)))),
-        7 => told(room, send_step(first, second, third, generation)),
-        8 => told(room, receive_step(first, second, generation)),
-        9 => told(room, message_end_step(first, second, generation)),
+        0 => told_plainly(room, insert_step(first, second, third)),
+        1 => told_plainly(room, Some(Step::Supply(TaskId(first)))),
+        2 => told_plainly(room, Some(Step::Begin(TaskId(first)))),
+        3 => told_plainly(room, Some(Step::Done(TaskId(first)))),
+        7 => told_plainly(room, send_step(first, second, third, generation)),
+        8 => told_plainly(room, receive_step(first, second, generation)),
+        9 => told_plainly(room, message_end_step(first, second, generation)),
         _ => told(room, step_of(event)),
     }
 }
@@ -224,21 +281,41 @@ pub(crate) fn answered(
     answer
 }
 
+/// Returns whether the maker of a kind and a number may make the step; `None` if there is no such kind.
+#[inline(always)]
+fn is_made_by(room: &CoreRoom, kind: u32, number: u32, step: Step) -> Option<bool>
+    ensures is_made { result ≡ option_map (λ m. is_maker m step (world_of room.now)) (maker_asked kind number) }
+    ensures never_early { OnSome result (InEach (IsNeverEarly room.now.nodes) room.now.steps) }
+{
+    // (a copy of the test for each kind of maker, so that the kind is matched once)
+    match kind {
+        0 => Some(room.is_maker(Maker::Task(TaskId(number)), step)),
+        1 => Some(room.is_maker(Maker::Action(ActionId(number)), step)),
+        2 => Some(room.is_maker(Maker::Message(MessageId(number)), step)),
+        3 => Some(room.is_maker(Maker::Opening, step)),
+        4 => Some(room.is_maker(Maker::Thread(NodeId(number)), step)),
+        _ => None,
+    }
+}
+
 /// Takes the next step if its maker may make it.
 #[inline(always)]
-fn told_by(room: &mut CoreRoom, maker: Option<Maker>, step: Option<Step>) -> Answer
-    ensures { IsMade room.old maker step result room.new × TellsNoEarlyEnd (result.told ≡ 3) result.number room.new }
+fn told_by(room: &mut CoreRoom, maker_kind: u32, maker: u32, step: Option<Step>) -> Answer
+    requires { IsTrue (has_plain_reply step) }
+    ensures { IsMade room.old (maker_asked maker_kind maker) step result room.new
+        × TellsNoEarlyEnd (result.told ≡ 3) result.number room.new }
 {
-    let (Some(maker), Some(made)) = (maker, step) else {
-        return told(room, None);
+    let Some(made) = step else {
+        return by_fields(no_step(room));
     };
-    if !room.is_maker(maker, made) {
-        return Answer {
+    match is_made_by(room, maker_kind, maker, made) {
+        Some(true) => told_plainly(room, step),
+        Some(false) => Answer {
             refused: NO_MAKER,
             ..PLAIN
-        };
+        },
+        None => by_fields(no_step(room)),
     }
-    told(room, step)
 }
 
 /// Takes the next step if its maker may make it. Each kind has a copy of what follows, as in `taken`.
@@ -254,19 +331,15 @@ fn taken_by(room: &mut CoreRoom, maker_kind: u32, maker: u32, event: Event) -> A
         third,
         generation,
     } = event;
-    let by = maker_of(maker_kind, maker);
+    let by = maker_kind;
     match kind {
-        0 => told_by(room, by, insert_step(first, second, third)),
-        1 => told_by(room, by, Some(Step::Supply(TaskId(first)))),
-        2 => told_by(room, by, Some(Step::Begin(TaskId(first)))),
-        3 => told_by(room, by, Some(Step::Done(TaskId(first)))),
-        4 => told_by(
-            room,
-            by,
-            Some(Step::ActionOpen(NodeId(first), ActionId(second))),
-        ),
-        7 => told_by(room, by, send_step(first, second, third, generation)),
-        _ => told_by(room, by, None),
+        0 => told_by(room, by, maker, insert_step(first, second, third)),
+        1 => told_by(room, by, maker, Some(Step::Supply(TaskId(first)))),
+        2 => told_by(room, by, maker, Some(Step::Begin(TaskId(first)))),
+        3 => told_by(room, by, maker, Some(Step::Done(TaskId(first)))),
+        4 => told_by(room, by, maker, open_step(first, second)),
+        7 => told_by(room, by, maker, send_step(first, second, third, generation)),
+        _ => told_by(room, by, maker, None),
     }
 }
 

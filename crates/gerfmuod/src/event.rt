@@ -1,11 +1,11 @@
-//! The steps and their makers as C passes them: the number of a kind and the numbers of what it names.
-ghost use Rattle.std.specs.Prelude.{◌≡◌, Some};
-ghost use Rattle.tp_base.specs.declared.Step.TheVariants.{Send, Recv, MessageEnd};
-ghost use Rattle.gerfmuod.specs.Events.{insert_asked, other_step, step_asked, task_step, age, message as as_message, node as as_node};
-ghost use Rattle.gerfmuod.specs.Makers.{maker_asked};
+//! The steps as C passes them: the number of a kind and the numbers of what it names.
+ghost use Rattle.std.specs.Prelude.{◌≡◌, IsTrue, Some};
+ghost use Rattle.tp_base.specs.declared.Step.TheVariants.{ActionOpen, Send, Recv, MessageEnd};
+ghost use Rattle.gerfmuod.specs.Events.{insert_asked, other_step, step_asked, task_step, action as as_action, age, message as as_message};
+ghost use Rattle.gerfmuod.specs.Events.{node as as_node};
+ghost use Rattle.gerfmuod.specs.Told.{has_plain_reply};
 
 use tp_base::{ActionId, Generation, Inputs, MAX_INPUTS, MessageId, NodeId, Step, TaskId};
-use tp_core::Maker;
 
 /// A step as C passes it: the number of its kind, 0 to 15, and its arguments. Arguments that a kind does not have are
 /// ignored.
@@ -62,7 +62,7 @@ fn other_step(event: Event) -> Option<Step>
         generation,
     } = event;
     match kind {
-        4 => Some(Step::ActionOpen(NodeId(first), ActionId(second))),
+        4 => open_step(first, second),
         5 => Some(Step::ActionClose(NodeId(first), ActionId(second))),
         6 => Some(Step::Ready(NodeId(first))),
         7 => send_step(first, second, third, generation),
@@ -81,7 +81,8 @@ fn other_step(event: Event) -> Option<Step>
 /// Returns the step that inserts a task, or `None` for one of more than 16 inputs.
 #[inline(always)]
 pub(crate) fn insert_step(home: u32, task: u32, inputs: u32) -> Option<Step>
-    ensures { result ≡ insert_asked home task inputs }
+    ensures step { result ≡ insert_asked home task inputs }
+    ensures plain { IsTrue (has_plain_reply result) }
 {
     if inputs > u32::from(MAX_INPUTS) {
         return None;
@@ -90,6 +91,14 @@ pub(crate) fn insert_step(home: u32, task: u32, inputs: u32) -> Option<Step>
         Some(inputs) => Some(Step::Insert(NodeId(home), TaskId(task), inputs)),
         None => None,
     }
+}
+
+/// Returns the step that opens an action.
+#[inline(always)]
+pub(crate) fn open_step(node: u32, action: u32) -> Option<Step>
+    ensures { result ≡ Some (ActionOpen (as_node node) (as_action action)) }
+{
+    Some(Step::ActionOpen(NodeId(node), ActionId(action)))
 }
 
 /// Returns the step that sends a message.
@@ -119,19 +128,4 @@ pub(crate) fn message_end_step(node: u32, message: u32, generation: u32) -> Opti
     ensures { result ≡ Some (MessageEnd (as_node node) (as_message message) (age generation)) }
 {
     Some(Step::MessageEnd(NodeId(node), MessageId(message), Generation(generation)))
-}
-
-/// Returns the maker of a kind, 0 to 4, and a number; or `None` if there is no such kind.
-#[inline(always)]
-pub(crate) fn maker_of(kind: u32, number: u32) -> Option<Maker>
-    ensures { result ≡ maker_asked kind number }
-{
-    match kind {
-        0 => Some(Maker::Task(TaskId(number))),
-        1 => Some(Maker::Action(ActionId(number))),
-        2 => Some(Maker::Message(MessageId(number))),
-        3 => Some(Maker::Opening),
-        4 => Some(Maker::Thread(NodeId(number))),
-        _ => None,
-    }
 }

@@ -91,6 +91,8 @@ impl CoreSlot {
     }
 
     /// Returns the number of the refusal of a call on a core that is not open, or on which another call runs.
+    #[cold]
+    #[inline(never)]
     pub(crate) fn refusal(&self) -> u16
         ensures { result ≡ refusal_of self.now.use_is }
     {
