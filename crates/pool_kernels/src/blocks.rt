@@ -1,0 +1,119 @@
+//! Steps that pair numbers by binary digits of their positions, in blocks, as a kernel.
+ghost use Rattle.std.specs.Prelude.{◌≡◌, ◌<◌, ◌≤◌, ◌+◌, ◌*◌, ◌^◌, IfNone, IfSome, MatchResult, Some, length, ⊤};
+ghost use Rattle.tp_graph.specs.Values.{IsRefusal, fitting, then_some};
+ghost use Rattle.pool_kernels.specs.Pairs.{AreInBlocks, pair_rule, within};
+
+use crate::digits::{digit, without};
+use crate::kernel::Kernel;
+use crate::pairing::Pairing;
+use crate::values::{number_at, value_by};
+use std::alloc::{AllocError, Global};
+use tp_base::Refusal;
+use tp_graph::Value;
+
+/// Borrowed numbers in 2^outer blocks of 2^inner each, and a pairing. In row 0 of a [`Butterfly`](crate::Butterfly) a
+/// task applies all steps within a block; in a later row it pairs two blocks.
+pub struct PairedBlocks<'a, O: Pairing> {
+    pairing: O,
+    numbers: &'a [i64],
+    inner: u32,
+    outer: u32,
+    ghost right: { AreInBlocks (length numbers.now) inner outer },
+}
+
+impl<'a, O: Pairing> PairedBlocks<'a, O> {
+    /// Returns 2^outer blocks of 2^inner numbers. `None` if `inner` is 32 or more, `outer` is 20 or more, or there is
+    /// another number of numbers.
+    pub fn new(pairing: O, numbers: &'a [i64], inner: u32, outer: u32) -> Option<Self>
+        ensures made { IfSome result (λ blocks. (blocks.pairing ≡ pairing) × (blocks.numbers.now ≡ numbers.now)
+            × (blocks.inner ≡ inner) × (blocks.outer ≡ outer)) }
+        ensures refused { IfNone result (AreInBlocks (length numbers.now) inner outer → ⊥) }
+    {
+        if inner >= 32 || outer >= 20 || numbers.len() != 1 << (inner + outer) {
+            return None;
+        }
+        Some(PairedBlocks {
+            pairing,
+            numbers,
+            inner,
+            outer,
+        })
+    }
+
+    /// Returns the base-2 logarithm of the number of blocks.
+    pub(crate) fn outer(&self) -> u32
+        ensures same { result ≡ self.now.outer }
+        ensures few { result < 20 }
+    {
+        self.outer
+    }
+
+    /// Returns a block after this many steps within it.
+    fn stepped(&self, alloc: Global, column: u32, steps: u32) -> Result<Value, Refusal>
+        requires { (column < 2 ^ 20) × (steps ≤ self.now.inner) }
+        ensures { MatchResult result
+            (λ value. then_some (within (O.pair self.now.pairing) self.now.numbers.now (2 ^ self.now.inner) column steps) fitting
+            ≡ Some value)
+            (IsRefusal (then_some (within (O.pair self.now.pairing) self.now.numbers.now (2 ^ self.now.inner) column steps) fitting)) }
+    {
+        let size = 1usize << self.inner;
+        if steps == 0 {
+            let (numbers, start) = (self.numbers, column as usize * size);
+            return value_by(alloc, size, |e| Some(number_at(numbers, start + e)));
+        }
+        let before = self.stepped(alloc, column, steps - 1)?;
+        let (pairing, own, place) = (self.pairing, before.as_slice(), steps - 1);
+        value_by(alloc, size, |e| {
+            let low = without(place, e);
+            pairing.pair(
+                digit(place, e),
+                number_at(own, low),
+                number_at(own, low + (1 << place)),
+            )
+        })
+    }
+}
+
+impl<'a, O: Pairing> Clone for PairedBlocks<'a, O> {
+    ghost is_clone = { λ blocks copy. (copy.pairing ≡ blocks.pairing) × (copy.numbers.now ≡ blocks.numbers.now)
+        × (copy.inner ≡ blocks.inner) × (copy.outer ≡ blocks.outer) };
+
+    ghost is_infallible = { λ _. ⊤ };
+
+    fn clone(&self) -> Result<Self, AllocError> {
+        Ok(PairedBlocks {
+            pairing: self.pairing,
+            numbers: self.numbers,
+            inner: self.inner,
+            outer: self.outer,
+        })
+    }
+}
+
+impl<'a, O: Pairing> Copy for PairedBlocks<'a, O> {}
+
+impl<'a, O: Pairing> Kernel for PairedBlocks<'a, O> {
+    ghost rule = { λ b. pair_rule (O.pair b.pairing) b.numbers.now b.inner };
+
+    fn compute(
+        &self,
+        alloc: Global,
+        row: u32,
+        column: u32,
+        inputs: &[Value],
+    ) -> Result<Value, Refusal> {
+        match inputs {
+            [] => self.stepped(alloc, column, self.inner),
+            [low, high] => {
+                let (pairing, low, high) = (self.pairing, low.as_slice(), high.as_slice());
+                let digit = digit(row.saturating_sub(1), column as usize);
+                value_by(alloc, 1 << self.inner, |e|
+                    requires { digit < 2 }
+                {
+                    pairing.pair(digit, number_at(low, e), number_at(high, e))
+                })
+            }
+            _ => Err(Refusal::BodyFailed),
+        }
+    }
+}
