@@ -4,6 +4,5 @@ pub mod Rows
 pub mod Splits
 pub mod PairedRows
 pub mod Sound
-pub mod Marked
 pub mod Numbers
 pub mod Sums

@@ -1,6 +1,9 @@
 //! Steps that pair numbers by binary digits of their positions, in blocks, as a kernel.
 ghost use Rattle.std.specs.Prelude.{◌≡◌, ◌<◌, ◌≤◌, ◌+◌, ◌*◌, ◌^◌, IfNone, IfSome, MatchResult, Some, length, ⊤};
 ghost use Rattle.tp_graph.specs.Values.{IsRefusal, fitting, then_some};
+ghost use Rattle.pool_blocks.specs.Lists.{at};
+ghost use Rattle.pool_kernels.specs.Digits.{digit, without};
+ghost use Rattle.pool_kernels.specs.Numbers.{checked};
 ghost use Rattle.pool_kernels.specs.Pairs.{AreInBlocks, pair_rule, within};
 
 use crate::digits::{digit, without};
@@ -47,31 +50,44 @@ impl<'a, O: Pairing> PairedBlocks<'a, O> {
     {
         self.outer
     }
+}
 
-    /// Returns a block after this many steps within it.
-    fn stepped(&self, alloc: Global, column: u32, steps: u32) -> Result<Value, Refusal>
-        requires { (column < 2 ^ 20) × (steps ≤ self.now.inner) }
-        ensures { MatchResult result
-            (λ value. then_some (within (O.pair self.now.pairing) self.now.numbers.now (2 ^ self.now.inner) column steps) fitting
-            ≡ Some value)
-            (IsRefusal (then_some (within (O.pair self.now.pairing) self.now.numbers.now (2 ^ self.now.inner) column steps) fitting)) }
-    {
-        let size = 1usize << self.inner;
-        if steps == 0 {
-            let (numbers, start) = (self.numbers, column as usize * size);
-            return value_by(alloc, size, |e| Some(number_at(numbers, start + e)));
-        }
-        let before = self.stepped(alloc, column, steps - 1)?;
-        let (pairing, own, place) = (self.pairing, before.as_slice(), steps - 1);
-        value_by(alloc, size, |e| {
-            let low = without(place, e);
-            pairing.pair(
-                digit(place, e),
-                number_at(own, low),
-                number_at(own, low + (1 << place)),
-            )
-        })
+/// Returns a block of 2^inner numbers after this many steps within it.
+fn stepped<O: Pairing>(
+    alloc: Global,
+    pairing: &O,
+    numbers: &[i64],
+    inner: u32,
+    column: u32,
+    steps: u32,
+) -> Result<Value, Refusal>
+    requires { (inner < 32) × (column < 2 ^ 20) × (steps ≤ inner) }
+    ensures { MatchResult result
+        (λ value. then_some (within (O.pair pairing.now) numbers.now (2 ^ inner) column steps) fitting ≡ Some value)
+        (IsRefusal (then_some (within (O.pair pairing.now) numbers.now (2 ^ inner) column steps) fitting)) }
+{
+    let size = 1usize << inner;
+    if steps == 0 {
+        let start = column as usize * size;
+        return value_by(alloc, size, |e|
+            requires { start + e < 2 ^ 63 }
+            ensures { result ≡ checked (at numbers.entry.now (start + e)) }
+        {
+            Some(number_at(numbers, start + e))
+        });
     }
+    let place = steps - 1;
+    let before = stepped(alloc, pairing, numbers, inner, column, place)?;
+    let own = before.as_slice();
+    value_by(alloc, size, |e|
+        requires { (e < 2 ^ 32) × (place < 32) }
+        ensures { result ≡ checked (O.pair pairing.entry.now (digit place e) (at own.entry.now (without place e))
+            (at own.entry.now (without place e + 2 ^ place))) }
+    {
+        let low = without(place, e);
+        let high = low + (1 << place);
+        pairing.pair(digit(place, e), number_at(own, low), number_at(own, high))
+    })
 }
 
 impl<'a, O: Pairing> Clone for PairedBlocks<'a, O> {
@@ -92,7 +108,7 @@ impl<'a, O: Pairing> Clone for PairedBlocks<'a, O> {
 
 impl<'a, O: Pairing> Copy for PairedBlocks<'a, O> {}
 
-impl<'a, O: Pairing> Kernel for PairedBlocks<'a, O> {
+impl<'a, O: Pairing + Send + Sync> Kernel for PairedBlocks<'a, O> {
     ghost rule = { λ b. pair_rule (O.pair b.pairing) b.numbers.now b.inner };
 
     fn compute(
@@ -103,14 +119,18 @@ impl<'a, O: Pairing> Kernel for PairedBlocks<'a, O> {
         inputs: &[Value],
     ) -> Result<Value, Refusal> {
         match inputs {
-            [] => self.stepped(alloc, column, self.inner),
+            [] => {
+                let (pairing, numbers, inner) = (&self.pairing, self.numbers, self.inner);
+                stepped(alloc, pairing, numbers, inner, column, inner)
+            }
             [low, high] => {
-                let (pairing, low, high) = (self.pairing, low.as_slice(), high.as_slice());
-                let digit = digit(row.saturating_sub(1), column as usize);
+                let (pairing, low, high) = (&self.pairing, low.as_slice(), high.as_slice());
+                let bit = digit(row.saturating_sub(1), column as usize);
                 value_by(alloc, 1 << self.inner, |e|
-                    requires { digit < 2 }
+                    requires { bit < 2 }
+                    ensures { result ≡ checked (O.pair pairing.entry.now bit (at low.entry.now e) (at high.entry.now e)) }
                 {
-                    pairing.pair(digit, number_at(low, e), number_at(high, e))
+                    pairing.pair(bit, number_at(low, e), number_at(high, e))
                 })
             }
             _ => Err(Refusal::BodyFailed),

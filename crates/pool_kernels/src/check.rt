@@ -1,7 +1,7 @@
 //! Checks that the tasks and feeds of a graph are in order.
 ghost use Rattle.std.specs.Prelude.{◌≡◌, ◌<◌, ◌≤◌, ◌+◌, ◌*◌, ℕ, IfErr, OnOk};
 ghost use Rattle.tp_base.specs.declared.limits.TheConstants.{MAX_INPUTS, MAX_NODES};
-ghost use Rattle.pool_kernels.specs.Plans.{AreFed, AreRight, IsFirstFeed, IsFirstPlace, IsGraphFault, IsPlaced, IsReached, IsRight, IsSound};
+ghost use Rattle.pool_kernels.specs.Plans.{AreFed, AreRight, IsConnected, IsFirstFeed, IsFirstPlace, IsGraphFault, IsPlaced, IsReached, IsRight, IsSound};
 ghost use Rattle.pool_kernels.specs.Marks.{AreFew, AreMarks};
 
 use crate::graph_fault::GraphFault;
@@ -31,10 +31,13 @@ pub fn check_plan<P: Plan>(alloc: Global, plan: &P, nodes: u32) -> Result<(), Gr
     for task in 0..tasks {
         check_place(plan, nodes, TaskId(task))?;
     }
-    let mut taken = vec![in alloc; false; 16 * tasks as usize]?;
+    let mut marks = vec![in alloc; false; 16 * tasks as usize]?;
+    let taken = marks.as_mut_slice();
     for task in 0..tasks {
-        check_slots(plan, TaskId(task), &taken)?;
-        check_feeds(plan, TaskId(task), &mut taken)?;
+        match check_task(plan, TaskId(task), taken) {
+            Ok(()) => {}
+            Err(fault) => return Err(fault),
+        }
     }
     Ok(())
 }
@@ -57,6 +60,25 @@ fn check_place<P: Plan>(plan: &P, nodes: u32, task: TaskId) -> Result<(), GraphF
         return Err(GraphFault::Home(task));
     }
     Ok(())
+}
+
+/// Checks the slots and the feeds of a task, after the feeds of all lower tasks were marked.
+fn check_task<P: Plan>(plan: &P, task: TaskId, taken: &mut [bool]) -> Result<(), GraphFault>
+    requires known { task.0 < (P.plan plan.now).tasks }
+    requires few { AreFew (P.plan plan.now) }
+    requires marks { AreMarks (P.plan plan.now) task.0 0 taken.old }
+    ensures connected { OnOk result (IsConnected (P.plan plan.now) task.0) }
+    ensures marks { OnOk result (AreMarks (P.plan plan.now) (task.0 + 1) 0 taken.new) }
+    ensures refused { IfErr result (λ fault. (n : ℕ) → IsReached (P.plan plan.now) n task.0
+        → IsGraphFault (P.plan plan.now) n fault) }
+{
+    match check_slots(plan, task, taken) {
+        Ok(()) => match check_feeds(plan, task, taken) {
+            Ok(()) => Ok(()),
+            Err(fault) => Err(fault),
+        },
+        Err(fault) => Err(fault),
+    }
 }
 
 /// Checks that each slot of a task is marked, after the feeds of all lower tasks were.
@@ -87,7 +109,10 @@ fn check_feeds<P: Plan>(plan: &P, task: TaskId, taken: &mut [bool]) -> Result<()
         → AreFed (P.plan plan.now) task.0 ((P.plan plan.now).arity task.0) → IsGraphFault (P.plan plan.now) n fault) }
 {
     for turn in 0..plan.feeds(task) {
-        check_feed(plan, task, turn, taken)?;
+        match check_feed(plan, task, turn, taken) {
+            Ok(()) => {}
+            Err(fault) => return Err(fault),
+        }
     }
     Ok(())
 }

@@ -1,5 +1,5 @@
 //! A grid of tasks with a kernel, as a graph.
-ghost use Rattle.std.specs.Prelude.{◌≡◌, ◌/◌, ◌%◌, ℕ, List, ℤ, ⊤};
+ghost use Rattle.std.specs.Prelude.{◌≡◌, ◌≤◌, ◌<◌, ◌*◌, ◌^◌, ⊤};
 ghost use Rattle.pool_patterns.specs.GridLaws.{grid_lawful};
 ghost use Rattle.pool_kernels.specs.Kernels.{kernel_graph, rule_in};
 
@@ -38,11 +38,20 @@ impl<'a, P: Relation, K: Kernel> KernelGrid<'a, P, K> {
         }
     }
 
-    /// Returns the table.
-    pub(crate) fn table(&self) -> &'a FeedTable<P>
-        ensures { result.now ≡ self.now.table.now }
+    /// Returns the number of columns of a row.
+    pub(crate) fn width(&self) -> u32
+        ensures same { result ≡ self.now.table.now.width }
+        ensures few { result < 2 ^ 20 }
     {
-        self.table
+        self.table.width()
+    }
+
+    /// Returns the number of rows.
+    pub(crate) fn steps(&self) -> u32
+        ensures same { result ≡ self.now.table.now.steps }
+        ensures some { (1 ≤ result) × (result * self.now.table.now.width < 2 ^ 20) }
+    {
+        self.table.steps()
     }
 }
 

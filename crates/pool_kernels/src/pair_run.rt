@@ -17,7 +17,7 @@ use tp_work::Config;
 
 /// Returns the numbers after one step for each binary digit of their positions, computed by a pool of threads. Refused
 /// as [`run_kernel`] is: with `BodyFailed` of its pool if a number on the way does not fit `i64`.
-pub fn run_pairs<O: Pairing, R: Threads + Wait + Sync>(
+pub fn run_pairs<O: Pairing + Send + Sync, R: Threads + Wait + Sync>(
     rt: &R,
     alloc: Global,
     blocks: PairedBlocks<O>,

@@ -4,7 +4,7 @@ ghost use Rattle.pool_kernels.specs.Numbers.{checked};
 ghost use Rattle.pool_kernels.specs.Pairs.{Pair};
 
 /// A pairing: what the two numbers of a pair become in a step of a transform.
-pub trait Pairing: Copy + Send + Sync {
+pub trait Pairing: Copy {
     ghost pair: { Self → Pair };
 
     /// Returns what the first number of a pair becomes (`digit` 0), or the second (`digit` 1). `None` exactly if it does

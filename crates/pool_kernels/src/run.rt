@@ -45,7 +45,7 @@ pub fn run_grid<P: Relation + Send + Sync, K: Kernel, R: Threads + Wait + Sync>(
         (kernel_graph (P.relation grid.now.table.now.pattern grid.now.table.now.width) (K.rule grid.now.kernel)
         grid.now.table.now.width grid.now.table.now.steps)) }
 {
-    let (width, steps) = (grid.table().width(), grid.table().steps());
+    let (width, steps) = (grid.width(), grid.steps());
     match run_pool(rt, alloc, grid.copied(), config, &OpenGate) {
         Ok(outcome) => match joined(alloc, &outcome.results, (steps - 1) * width, width) {
             Ok(row) => Ok(GridRun { row, outcome }),

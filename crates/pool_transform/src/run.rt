@@ -25,5 +25,8 @@ pub fn transformed<R: Threads + Wait + Sync>(
     ensures refused { IfErr result (IsGridFault config.nodes config.workers butterfly
         (pair_rule summed blocks.entry.numbers.now blocks.entry.inner) (2 ^ blocks.entry.outer) (blocks.entry.outer + 1)) }
 {
-    run_pairs(rt, alloc, blocks, config)
+    match run_pairs(rt, alloc, blocks, config) {
+        Ok(made) => Ok(made),
+        Err(fault) => Err(fault),
+    }
 }

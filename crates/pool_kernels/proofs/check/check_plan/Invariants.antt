@@ -9,5 +9,5 @@ invariant-loop-task g l = (u : ℕ) → u < l.task → IsPlaced (g.P.Plan.plan l
 abbrev pub invariant-loop-task-2 : goal.invariant-loop-task-2
 invariant-loop-task-2 g l = record {
   connected : (u : ℕ) → u < l.task → IsConnected (g.P.Plan.plan l.plan) u;
-  marks : AreMarks (g.P.Plan.plan l.plan) l.task 0 l.taken.items;
+  marks : AreMarks (g.P.Plan.plan l.plan) l.task 0 l.taken;
 }
