@@ -1,5 +1,5 @@
 -- The blocks after each row of a butterfly, and the numbers after the last.
-use Rattle.std.proofs.Common.{◌≡◌, ◌<◌, ◌≤◌, ◌+◌, ◌-◌, ◌*◌, ◌^◌, ℕ, zero, suc, ℤ, pos, Bool, true, false, List, length, Option, Some, None}
+use Rattle.std.proofs.Common.{◌≡◌, ◌<◌, ◌≤◌, ◌+◌, ◌-◌, ◌*◌, ◌^◌, ℕ, zero, suc, ℤ, pos, Bool, true, false, List, [], ◌∷◌, length, get_or, Option, Some, None}
 use Rattle.std.proofs.Common.{if◌then◌else◌, ap, sym, ◌∙◌, arith}
 use Rattle.std.proofs.lemmas.Nat.{pow-add}
 use Rattle.tp_graph.proofs.Made.{some_same, then_some-is}
@@ -10,7 +10,7 @@ use Rattle.pool_kernels.proofs.Cells.{cell_first, cell_from_two, if_some}
 use Rattle.pool_kernels.proofs.Rows.{list_same, row_of_blocks}
 use Rattle.pool_kernels.proofs.Splits.{butterfly_two, digit_inner, digit_outer, high_below, without_inner, without_outer}
 use Rattle.pool_kernels.specs.Digits.{butterfly, digit, without}
-use Rattle.pool_kernels.specs.Kernels.{cell, row_at}
+use Rattle.pool_kernels.specs.Kernels.{cell, computed, row_at}
 use Rattle.pool_kernels.specs.Pairs.{Pair, after, pair_rule, paired, within}
 
 module _ (pair : Pair) (xs : List ℤ) (inner : ℕ) where
@@ -74,10 +74,43 @@ module _ (pair : Pair) (xs : List ℤ) (inner : ℕ) where
       ∙ ap (λ k. block k i) next
 
 -- the last row has all numbers after all steps
-pub last_row_paired : (pair : Pair) (xs : List ℤ) (inner outer : ℕ) (row : List ℤ) → length xs ≡ 2 ^ (inner + outer)
-    → row_at butterfly (pair_rule pair xs inner) (2 ^ outer) outer ≡ Some row → row ≡ paired pair (inner + outer) xs
-last_row_paired pair xs inner outer row whole e =
+pub last_row_paired : (pair : Pair) (xs : List ℤ) (inner outer w t : ℕ) (row : List ℤ) → length xs ≡ 2 ^ (inner + outer)
+    → w ≡ 2 ^ outer → t ≡ outer → row_at butterfly (pair_rule pair xs inner) w t ≡ Some row → row ≡ paired pair (inner + outer) xs
+last_row_paired pair xs inner outer w t row whole width last e =
     let all : 2 ^ outer * 2 ^ inner ≡ length xs = omega (arith, pow-add 2 inner outer, whole) in
     row_of_blocks butterfly (pair_rule pair xs inner) (2 ^ outer) outer (2 ^ inner) (after pair (at xs) (inner + outer)) row
-    (λ i value h p. rows pair xs inner outer outer i value (omega arith) h p) e
+    (λ i value h p. rows pair xs inner outer outer i value (omega arith) h p)
+    (ap (λ n. row_at butterfly (pair_rule pair xs inner) n outer) (sym width) ∙ ap (row_at butterfly (pair_rule pair xs inner) w) (sym last) ∙ e)
     ∙ ap (λ m. list_of m (after pair (at xs) (inner + outer))) all
+
+-- ---- what tasks compute, of a block after the steps within it and of two blocks
+pub within_first : (pair : Pair) (xs : List ℤ) (size inner i steps : ℕ) → size ≡ 2 ^ inner → steps ≡ 0
+    → then_some (within pair xs (2 ^ inner) i steps) fitting ≡ fitting (list_of size (λ e. at xs (i * size + e)))
+within_first pair xs size inner i steps is none =
+    ap (λ k. then_some (within pair xs (2 ^ inner) i k) fitting) none ∙ ap (λ n. fitting (list_of n (λ e. at xs (i * n + e)))) (sym is)
+
+pub within_next : (pair : Pair) (xs : List ℤ) (size inner i k steps : ℕ) (own : List ℤ) → size ≡ 2 ^ inner → steps ≡ suc k
+    → then_some (within pair xs (2 ^ inner) i k) fitting ≡ Some own
+    → then_some (within pair xs (2 ^ inner) i steps) fitting
+    ≡ fitting (list_of size (λ e. pair (digit k e) (at own (without k e)) (at own (without k e + 2 ^ k))))
+within_next pair xs size inner i k steps own is next e =
+    ap (λ n. then_some (within pair xs (2 ^ inner) i n) fitting) next
+    ∙ ap (λ o. then_some (then_some o (λ l. Some (list_of (2 ^ inner) (λ e. pair (digit k e) (at l (without k e)) (at l (without k e + 2 ^ k))))))
+    fitting) e
+    ∙ ap (λ n. fitting (list_of n (λ e. pair (digit k e) (at own (without k e)) (at own (without k e + 2 ^ k))))) (sym is)
+
+two_items : (xs : List (List ℤ)) (low high : List ℤ) → 2 ≤ length xs → length xs < 3 → low ≡ get_or xs 0 low → high ≡ get_or xs 1 high
+    → xs ≡ low ∷ high ∷ []
+two_items [] low high p q e f = absurd (omega arith)
+two_items (x ∷ []) low high p q e f = absurd (omega arith)
+two_items (x ∷ y ∷ []) low high p q e f = ap (λ a. a ∷ y ∷ []) (sym e) ∙ ap (λ b. low ∷ b ∷ []) (sym f)
+two_items (x ∷ y ∷ z ∷ rest) low high p q e f = absurd (omega arith)
+
+pub pair_of_two : (pair : Pair) (xs : List ℤ) (size inner t i bit : ℕ) (inputs : List (List ℤ)) (low high : List ℤ)
+    → 2 ≤ length inputs → length inputs < 3 → low ≡ get_or inputs 0 low → high ≡ get_or inputs 1 high
+    → size ≡ 2 ^ inner → bit ≡ digit (t - 1) i
+    → computed (pair_rule pair xs inner) t i inputs ≡ fitting (list_of size (λ e. pair bit (at low e) (at high e)))
+pair_of_two pair xs size inner t i bit inputs low high p q first second is own =
+    ap (computed (pair_rule pair xs inner) t i) (two_items inputs low high p q first second)
+    ∙ ap (λ n. fitting (list_of n (λ e. pair (digit (t - 1) i) (at low e) (at high e)))) (sym is)
+    ∙ ap (λ d. fitting (list_of size (λ e. pair d (at low e) (at high e)))) (sym own)

@@ -12,9 +12,10 @@ one_feed g p k q l t s law a b =
     let first = law.feeds_fill p k a.task a.turn in
     let second = law.feeds_fill q l b.task b.turn in
     let target : g.target p k ≡ g.target q l = a.target ∙ sym b.target in
-    let slot : g.slot p k ≡ g.slot q l = a.slot ∙ sym b.slot in
-    (sym first.source_is ∙ ap (λ u. g.source u (g.slot p k)) target ∙ ap (g.source (g.target q l)) slot ∙ second.source_is,
-    sym first.turn_is ∙ ap (λ u. g.turn u (g.slot p k)) target ∙ ap (g.turn (g.target q l)) slot ∙ second.turn_is)
+    let slot : g.slot p k ≡ g.slot q l = a.slot ∙ sym b.slot in (
+      sym first.source_is ∙ ap (λ u. g.source u (g.slot p k)) target ∙ ap (g.source (g.target q l)) slot ∙ second.source_is,
+      sym first.turn_is ∙ ap (λ u. g.turn u (g.slot p k)) target ∙ ap (g.turn (g.target q l)) slot ∙ second.turn_is,
+    )
 
 not_before : (p k q l : ℕ) → IsBefore p k q l → p ≡ q → k ≡ l → ⊥
 not_before p k q l before e f = ⊎_elim (λ (a : p < q). omega (arith, a, e)) (λ (a : (p ≡ q) × (k < l)). omega (arith, a.1, f)) before

@@ -6,7 +6,7 @@ ghost use Rattle.pool_kernels.specs.Digits.{digit, without};
 ghost use Rattle.pool_kernels.specs.Numbers.{checked};
 ghost use Rattle.pool_kernels.specs.Pairs.{AreInBlocks, pair_rule, within};
 
-use crate::digits::{digit, without};
+use crate::digits::{digit, two_to, without};
 use crate::kernel::Kernel;
 use crate::pairing::Pairing;
 use crate::values::{number_at, value_by};
@@ -66,28 +66,34 @@ fn stepped<O: Pairing>(
         (λ value. then_some (within (O.pair pairing.now) numbers.now (2 ^ inner) column steps) fitting ≡ Some value)
         (IsRefusal (then_some (within (O.pair pairing.now) numbers.now (2 ^ inner) column steps) fitting)) }
 {
-    let size = 1usize << inner;
+    let size = two_to(inner);
     if steps == 0 {
         let start = column as usize * size;
-        return value_by(alloc, size, |e|
-            requires { start + e < 2 ^ 63 }
-            ensures { result ≡ checked (at numbers.entry.now (start + e)) }
-        {
-            Some(number_at(numbers, start + e))
-        });
+        return value_by(
+            alloc,
+            size,
+            |e|
+                requires { start + e < 2 ^ 63 }
+                ensures { result ≡ checked (at numbers.entry.now (start + e)) }
+            { Some(number_at(numbers, start + e)) },
+        );
     }
     let place = steps - 1;
     let before = stepped(alloc, pairing, numbers, inner, column, place)?;
     let own = before.as_slice();
-    value_by(alloc, size, |e|
-        requires { (e < 2 ^ 32) × (place < 32) }
-        ensures { result ≡ checked (O.pair pairing.entry.now (digit place e) (at own.entry.now (without place e))
-            (at own.entry.now (without place e + 2 ^ place))) }
-    {
-        let low = without(place, e);
-        let high = low + (1 << place);
-        pairing.pair(digit(place, e), number_at(own, low), number_at(own, high))
-    })
+    value_by(
+        alloc,
+        size,
+        |e|
+            requires { (e < 2 ^ 32) × (place < 32) }
+            ensures { result ≡ checked (O.pair pairing.entry.now (digit place e) (at own.entry.now (without place e))
+                (at own.entry.now (without place e + 2 ^ place))) }
+        {
+            let low = without(place, e);
+            let high = low + two_to(place);
+            pairing.pair(digit(place, e), number_at(own, low), number_at(own, high))
+        },
+    )
 }
 
 impl<'a, O: Pairing> Clone for PairedBlocks<'a, O> {
@@ -126,12 +132,14 @@ impl<'a, O: Pairing + Send + Sync> Kernel for PairedBlocks<'a, O> {
             [low, high] => {
                 let (pairing, low, high) = (&self.pairing, low.as_slice(), high.as_slice());
                 let bit = digit(row.saturating_sub(1), column as usize);
-                value_by(alloc, 1 << self.inner, |e|
-                    requires { bit < 2 }
-                    ensures { result ≡ checked (O.pair pairing.entry.now bit (at low.entry.now e) (at high.entry.now e)) }
-                {
-                    pairing.pair(bit, number_at(low, e), number_at(high, e))
-                })
+                value_by(
+                    alloc,
+                    two_to(self.inner),
+                    |e|
+                        requires { bit < 2 }
+                        ensures { result ≡ checked (O.pair pairing.entry.now bit (at low.entry.now e) (at high.entry.now e)) }
+                    { pairing.pair(bit, number_at(low, e), number_at(high, e)) },
+                )
             }
             _ => Err(Refusal::BodyFailed),
         }

@@ -1,5 +1,5 @@
 //! Single binary digits of numbers.
-ghost use Rattle.std.specs.Prelude.{◌≡◌};
+ghost use Rattle.std.specs.Prelude.{◌≡◌, ◌<◌, ◌^◌};
 ghost use Rattle.pool_kernels.specs.Digits.{digit, without};
 
 /// Returns binary digit `place` of a number, counted from the lowest, which is digit 0.
@@ -20,4 +20,13 @@ pub fn without(place: u32, number: usize) -> usize
     } else {
         number - (1 << place)
     }
+}
+
+/// Returns a power of two.
+pub(crate) fn two_to(power: u32) -> usize
+    requires { power < 32 }
+    ensures same { result ≡ 2 ^ power }
+    ensures few { result < 2 ^ 32 }
+{
+    1 << power
 }

@@ -7,6 +7,7 @@ ghost use Rattle.tp_work.specs.Outcomes.{IsWithinLimits};
 
 use crate::blocks::PairedBlocks;
 use crate::butterfly::Butterfly;
+use crate::digits::two_to;
 use crate::fault::GridFault;
 use crate::pairing::Pairing;
 use crate::run::run_kernel;
@@ -31,7 +32,8 @@ pub fn run_pairs<O: Pairing + Send + Sync, R: Threads + Wait + Sync>(
         (2 ^ blocks.entry.outer) (blocks.entry.outer + 1)) }
 {
     let outer = blocks.outer();
-    match run_kernel(rt, alloc, Butterfly, blocks, 1 << outer, outer + 1, config) {
+    let width = two_to(outer) as u32;
+    match run_kernel(rt, alloc, Butterfly, blocks, width, outer + 1, config) {
         Ok(run) => Ok(run.row),
         Err(fault) => Err(fault),
     }
