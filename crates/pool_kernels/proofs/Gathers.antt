@@ -85,7 +85,8 @@ gather_two f v zero a b two = absurd (omega (arith, two.below))
 gather_two f v (suc n) a b two =
     ⊎_elim
     (λ (lower : b < n).
-    ap (with_last f v n) (not_true (f n) (λ t. absurd (omega (arith, two.only n (omega arith) t (λ e. absurd (omega (arith, e, lower, two.rise))), lower))))
+    ap (with_last f v n) (not_true (f n) (λ t.
+    absurd (omega (arith, two.only n (omega arith) t (λ e. absurd (omega (arith, e, lower, two.rise))), lower))))
     ∙ gather_two f v n a b (record {
       rise = two.rise;
       below = lower;

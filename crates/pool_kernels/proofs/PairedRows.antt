@@ -1,5 +1,6 @@
 -- The blocks after each row of a butterfly, and the numbers after the last.
-use Rattle.std.proofs.Common.{◌≡◌, ◌<◌, ◌≤◌, ◌+◌, ◌-◌, ◌*◌, ◌^◌, ℕ, zero, suc, ℤ, pos, Bool, true, false, List, [], ◌∷◌, length, get_or, Option, Some, None}
+use Rattle.std.proofs.Common.{◌≡◌, ◌<◌, ◌≤◌, ◌+◌, ◌-◌, ◌*◌, ◌^◌, ℕ, zero, suc, ℤ, pos, Bool, true, false, List, [], ◌∷◌, length, get_or}
+use Rattle.std.proofs.Common.{Option, Some, None}
 use Rattle.std.proofs.Common.{if◌then◌else◌, ap, sym, ◌∙◌, arith}
 use Rattle.std.proofs.lemmas.Nat.{pow-add}
 use Rattle.tp_graph.proofs.Made.{some_same, then_some-is}
@@ -80,7 +81,8 @@ last_row_paired pair xs inner outer w t row whole width last e =
     let all : 2 ^ outer * 2 ^ inner ≡ length xs = omega (arith, pow-add 2 inner outer, whole) in
     row_of_blocks butterfly (pair_rule pair xs inner) (2 ^ outer) outer (2 ^ inner) (after pair (at xs) (inner + outer)) row
     (λ i value h p. rows pair xs inner outer outer i value (omega arith) h p)
-    (ap (λ n. row_at butterfly (pair_rule pair xs inner) n outer) (sym width) ∙ ap (row_at butterfly (pair_rule pair xs inner) w) (sym last) ∙ e)
+    (ap (λ n. row_at butterfly (pair_rule pair xs inner) n outer) (sym width)
+    ∙ ap (row_at butterfly (pair_rule pair xs inner) w) (sym last) ∙ e)
     ∙ ap (λ m. list_of m (after pair (at xs) (inner + outer))) all
 
 -- ---- what tasks compute, of a block after the steps within it and of two blocks
@@ -95,8 +97,8 @@ pub within_next : (pair : Pair) (xs : List ℤ) (size inner i k steps : ℕ) (ow
     ≡ fitting (list_of size (λ e. pair (digit k e) (at own (without k e)) (at own (without k e + 2 ^ k))))
 within_next pair xs size inner i k steps own is next e =
     ap (λ n. then_some (within pair xs (2 ^ inner) i n) fitting) next
-    ∙ ap (λ o. then_some (then_some o (λ l. Some (list_of (2 ^ inner) (λ e. pair (digit k e) (at l (without k e)) (at l (without k e + 2 ^ k))))))
-    fitting) e
+    ∙ ap (λ o. then_some (then_some o (λ l.
+    Some (list_of (2 ^ inner) (λ e. pair (digit k e) (at l (without k e)) (at l (without k e + 2 ^ k)))))) fitting) e
     ∙ ap (λ n. fitting (list_of n (λ e. pair (digit k e) (at own (without k e)) (at own (without k e + 2 ^ k))))) (sym is)
 
 two_items : (xs : List (List ℤ)) (low high : List ℤ) → 2 ≤ length xs → length xs < 3 → low ≡ get_or xs 0 low → high ≡ get_or xs 1 high

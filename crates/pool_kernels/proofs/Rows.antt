@@ -1,5 +1,6 @@
 -- The values of tasks in a row as one list, and the last row of a grid.
-use Rattle.std.proofs.Common.{◌≡◌, ◌≢◌, ◌<◌, ◌≤◌, ◌+◌, ◌-◌, ◌*◌, ℕ, zero, suc, ℤ, List, [], ◌∷◌, ◌++◌, length, get_or, Option, Some, None, IsTrue}
+use Rattle.std.proofs.Common.{◌≡◌, ◌≢◌, ◌<◌, ◌≤◌, ◌+◌, ◌-◌, ◌*◌, ℕ, zero, suc, ℤ, List, [], ◌∷◌, ◌++◌, length, get_or}
+use Rattle.std.proofs.Common.{Option, Some, None, IsTrue}
 use Rattle.std.proofs.Common.{refl, ap, sym, ◌∙◌, ⊎_elim, append_assoc, arith}
 use Rattle.std.specs.List.{All, Contains}
 use Rattle.std.proofs.lemmas.Bool.{cases_lt}
@@ -30,7 +31,8 @@ row_append (x ∷ xs) ys = ap (λ l. x ++ l) (row_append xs ys) ∙ sym (append_
 abbrev joining : Option (List (List ℤ)) → Option (List ℤ)
 joining values = then_some values (λ all. Some (in_a_row all))
 
-one_more : (o : Option (List (List ℤ))) (all value : List ℤ) → joining o ≡ Some all → joining (and_then o (Some value)) ≡ Some (all ++ value)
+one_more : (o : Option (List (List ℤ))) (all value : List ℤ) → joining o ≡ Some all
+    → joining (and_then o (Some value)) ≡ Some (all ++ value)
 one_more None all value e = absurd (cc)
 one_more (Some values) all value e =
     let same : in_a_row values ≡ all = some_same e in

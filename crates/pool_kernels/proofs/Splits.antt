@@ -71,13 +71,15 @@ two_related k w i h =
     record {
       rise = omega (arith, pow_pos k);
       below = h;
-      first = eq-eqb (without k (without k i)) (without k i) (without_is k (without k i) (i / 2 ^ k / 2) 0 (i % 2 ^ k) (low_split k i) ∙ sym low);
+      first = eq-eqb (without k (without k i)) (without k i)
+          (without_is k (without k i) (i / 2 ^ k / 2) 0 (i % 2 ^ k) (low_split k i) ∙ sym low);
       second = eq-eqb (without k (without k i + 2 ^ k)) (without k i)
           (without_is k (without k i + 2 ^ k) (i / 2 ^ k / 2) 1 (i % 2 ^ k) (high_split k i) ∙ sym low);
       only = λ j q t other.
           let same : without k j ≡ without k i = eqb-true (without k j) (without k i) t in
           let all : j ≡ without k j + digit k j * 2 ^ k = whole k j in
-          let one : digit k j ≡ 1 = one_or (digit k j) (split k j).bit (λ z. other (all ∙ ap (λ d. without k j + d * 2 ^ k) z ∙ omega (arith, same))) in
+          let one : digit k j ≡ 1 = one_or (digit k j) (split k j).bit
+          (λ z. other (all ∙ ap (λ d. without k j + d * 2 ^ k) z ∙ omega (arith, same))) in
           all ∙ ap (λ d. without k j + d * 2 ^ k) one ∙ omega (arith, same);
     }
 
@@ -120,7 +122,8 @@ outer_split k n i e small =
     record {
       bit = s.bit;
       below = omega (arith, power, mul-add-lt (i % 2 ^ k) (2 ^ n) e (2 ^ k) s.below small);
-      whole = ap (λ m. m * 2 ^ n + e) s.whole ∙ omega arith ∙ ap (λ m. (i / 2 ^ k / 2 * 2 + digit k i) * m + (i % 2 ^ k * 2 ^ n + e)) (sym power);
+      whole = ap (λ m. m * 2 ^ n + e) s.whole ∙ omega arith
+          ∙ ap (λ m. (i / 2 ^ k / 2 * 2 + digit k i) * m + (i % 2 ^ k * 2 ^ n + e)) (sym power);
     }
 
 pub digit_inner : (k n i e : ℕ) → k < n → digit k (i * 2 ^ n + e) ≡ digit k e

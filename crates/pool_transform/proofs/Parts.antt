@@ -1,5 +1,6 @@
 -- The transform of parts of the numbers, and how that of a part comes from those of its halves.
-use Rattle.std.proofs.Common.{◌≡◌, ◌<◌, ◌+◌, ◌-◌, ◌*◌, ◌/◌, ◌%◌, ◌^◌, ℕ, zero, suc, ℤ, neg_ℤ, ◌+ℤ◌, List, length, bit_and, refl, ap, sym, ◌∙◌, arith}
+use Rattle.std.proofs.Common.{◌≡◌, ◌<◌, ◌+◌, ◌-◌, ◌*◌, ◌/◌, ◌%◌, ◌^◌, ℕ, zero, suc, ℤ, neg_ℤ, ◌+ℤ◌, List, length, bit_and}
+use Rattle.std.proofs.Common.{refl, ap, sym, ◌∙◌, arith}
 use Rattle.std.specs.Int.RustNames.{count_ones}
 use Rattle.std.proofs.Math.IntN.{+ℤ_idl}
 use Rattle.std.proofs.lemmas.Nat.{and_block, and_le_l, div-mul-add, mod-mul-add, mul-add-lt, ones_cat, pow-add}
@@ -52,15 +53,19 @@ halves x t q b r small below =
     ∙ ap (λ z. z +ℤ sum_to d (λ j. f (d + j)))
     (sum_same d f (λ j. turned (count_ones (bit_and r j)) (x (q * 2 * d + j))) (λ j h.
     let own : j ≡ 0 * d + j = omega arith in
+    let same : count_ones (bit_and (b * d + r) (0 * d + j)) ≡ count_ones (bit_and r j) =
+    ones t b 0 r j small (omega arith) below h ∙ omega arith in
     ap (λ k. turned (count_ones (bit_and (b * d + r) k)) (x (q * 2 ^ suc t + j))) own
-    ∙ ap (λ n. turned n (x (q * 2 ^ suc t + j))) (ones t b 0 r j small (omega arith) below h ∙ omega arith)
+    ∙ ap (λ n. turned n (x (q * 2 ^ suc t + j))) same
     ∙ ap (λ n. turned (count_ones (bit_and r j)) (x (n + j))) places))
     ∙ ap (λ z. part x t (q * 2) r +ℤ z)
     (sum_same d (λ j. f (d + j)) (λ j. turned b (turned (count_ones (bit_and r j)) (x ((q * 2 + 1) * d + j)))) (λ j h.
     let own : d + j ≡ 1 * d + j = omega arith in
+    let more : count_ones (bit_and (b * d + r) (1 * d + j)) ≡ b + count_ones (bit_and r j) =
+    ones t b 1 r j small (omega arith) below h ∙ omega arith in
     let place : q * 2 ^ suc t + (d + j) ≡ (q * 2 + 1) * d + j = omega (arith, places) in
     ap (λ k. turned (count_ones (bit_and (b * d + r) k)) (x (q * 2 ^ suc t + (d + j)))) own
-    ∙ ap (λ n. turned n (x (q * 2 ^ suc t + (d + j)))) (ones t b 1 r j small (omega arith) below h ∙ omega arith)
+    ∙ ap (λ n. turned n (x (q * 2 ^ suc t + (d + j)))) more
     ∙ turned_plus b (count_ones (bit_and r j)) (x (q * 2 ^ suc t + (d + j)))
     ∙ ap (λ n. turned b (turned (count_ones (bit_and r j)) (x n))) place)
     ∙ sum_turned b d (λ j. turned (count_ones (bit_and r j)) (x ((q * 2 + 1) * d + j))))
@@ -76,7 +81,9 @@ part_of x t p q r h e =
 
 pub part_zero : (x : ℕ → ℤ) (p : ℕ) → part_at x 0 p ≡ x p
 unfolding count_ones
-part_zero x p = part_of x 0 p p 0 (omega arith) (omega arith) ∙ +ℤ_idl (x (p * 1 + 0)) ∙ ap x (omega arith)
+part_zero x p =
+    let place : p ≡ p * 2 ^ 0 + 0 = omega arith in
+    part_of x 0 p p 0 (omega arith) place ∙ +ℤ_idl (x (p * 2 ^ 0 + 0)) ∙ ap x (sym place)
 
 pub part_next : (x : ℕ → ℤ) (t p : ℕ)
     → part_at x (suc t) p ≡ part_at x t (without t p) +ℤ turned (digit t p) (part_at x t (without t p + 2 ^ t))
@@ -89,7 +96,8 @@ part_next x t p =
     let double : 2 ^ suc t ≡ 2 ^ t + 2 ^ t = ap (λ k. 2 ^ k) next ∙ pow-add 2 t 1 ∙ omega arith in
     let low : without t p ≡ q * 2 * 2 ^ t + r = without_is t p q b r s in
     let within : b * 2 ^ t + r < 2 ^ suc t = omega (arith, double, mul-add-lt b (2 ^ t) r 2 s.bit s.below) in
-    part_of x (suc t) p q (b * 2 ^ t + r) within (s.whole ∙ omega arith ∙ ap (λ n. q * n + (b * 2 ^ t + r)) (sym double))
+    let place : p ≡ q * 2 ^ suc t + (b * 2 ^ t + r) = omega (arith, s.whole, ap (λ n. q * n) double) in
+    part_of x (suc t) p q (b * 2 ^ t + r) within place
     ∙ halves x t q b r s.bit s.below
     ∙ ap (λ z. z +ℤ turned b (part x t (q * 2 + 1) r)) (sym (part_of x t (without t p) (q * 2) r s.below low))
     ∙ ap (λ z. part_at x t (without t p) +ℤ turned b z)

@@ -1,5 +1,7 @@
 -- The columns of each row are sums of 1, 2, 4 and so on numbers up to the column's.
-use Rattle.std.proofs.Common.{◌≡◌, ◌≢◌, ◌<◌, ◌≤◌, ◌+◌, ◌-◌, ◌*◌, ◌^◌, ◌||◌, ℕ, zero, suc, ℤ, pos, ◌+ℤ◌, Bool, true, false, List, [], ◌∷◌, length, Option, Some}
+use Rattle.std.proofs.Common.{◌≡◌, ◌≢◌, ◌<◌, ◌≤◌, ◌+◌, ◌-◌, ◌*◌, ◌^◌, ◌||◌, ℕ, zero, suc, ℤ, pos, ◌+ℤ◌, Bool, true, false}
+use Rattle.std.proofs.Common.{List, [], ◌∷◌, length}
+use Rattle.std.proofs.Common.{Option, Some}
 use Rattle.std.proofs.Common.{refl, ap, sym, ◌∙◌, ⊎_elim, arith}
 use Rattle.std.specs.Prelude.{◌==◌}
 use Rattle.std.proofs.Math.IntN.{+ℤ_assoc, +ℤ_idl}
@@ -49,7 +51,8 @@ own_feeds t i = back t i i ∙ or_first (i == i) ((i + 2 ^ t) == i) (eq-eqb i i 
 
 only_own : (t i j : ℕ) → i < 2 ^ t → doubling (suc t) j i ≡ true → j ≡ i
 only_own t i j low e =
-    ⊎_elim (λ (same : j ≡ i). same) (λ (other : j ≢ i). absurd (omega (arith, low, other_is t j i (sym (back t j i) ∙ e) other))) (cases_eq j i)
+    ⊎_elim (λ (same : j ≡ i). same)
+    (λ (other : j ≢ i). absurd (omega (arith, low, other_is t j i (sym (back t j i) ∙ e) other))) (cases_eq j i)
 
 two_feed : (w t i : ℕ) → i < w → 2 ^ t ≤ i → AreTwo (λ j. doubling (suc t) j i) w (i - 2 ^ t) i
 two_feed w t i h high =

@@ -10,7 +10,8 @@ returns-then-steps-eq0 g t c =
     let a = c.args in
     let size = c.two_to-size.result in
     subst (λ (o : Option (List ℤ)). MatchResult c.value_by.result (λ value. o ≡ Some value) (IsRefusal o))
-    (sym (within_first (g.O.Pairing.pair a.pairing.now) a.numbers.now size a.inner a.column a.steps c.two_to-size.ensures.same c.if-steps-eq0.true))
+    (sym (within_first (g.O.Pairing.pair a.pairing.now) a.numbers.now size a.inner a.column a.steps c.two_to-size.ensures.same
+    c.if-steps-eq0.true))
     (c.value_by.ensures (λ e. at a.numbers.now (a.column * size + e)) (λ i made h returns. returns))
 
 pub returns : goal.returns

@@ -14,7 +14,8 @@ unreachable-requires g c =
     let s = c.steps-steps.result in
     let place : (s - 1) * w ≡ (t.steps - 1) * t.width =
     ap (λ n. (n - 1) * w) c.steps-steps.ensures.same ∙ ap (λ n. (t.steps - 1) * n) c.width-width.ensures.same in
-    let once = subst (λ (h : TaskGraph). HasEachOnce h.tasks c.in-Ok.outcome.results.items) c.copied.ensures c.in-Ok.ensures.outcome.each_once in
+    let once = subst (λ (h : TaskGraph). HasEachOnce h.tasks c.in-Ok.outcome.results.items) c.copied.ensures
+    c.in-Ok.ensures.outcome.each_once in
     ⊎_elim c.in_default.not-NoMemory
     (λ (p : (c.in-Err-joined.refusal ≡ Missing) × LacksTask ((s - 1) * w) w c.deref.result.now).
     run_whole (g.P.Relation.relation t.pattern t.width) (g.K.Kernel.rule c.args.grid.now.kernel) t.width t.steps ((s - 1) * w) w

@@ -6,7 +6,8 @@ pub returns-in_default : goal.returns-in_default
 returns-in_default g c =
     λ f by. inr (
       refl,
-      none_where c.args.count f c.loop-i.i (omega (arith, c.loop-i-test.true)) (by c.loop-i.i None (omega (arith, c.loop-i-test.true)) c.in_default.ensures),
+      none_where c.args.count f c.loop-i.i (omega (arith, c.loop-i-test.true))
+          (by c.loop-i.i None (omega (arith, c.loop-i-test.true)) c.in_default.ensures),
     )
 
 pub loop-i-preserved : goal.loop-i-preserved
