@@ -53,8 +53,10 @@
 #include <stddef.h>
 #include <stdint.h>
 
-/* A program may define these two before it includes this header: GERFMUOD_CHECKED as nothing, so that no compiler warns if
- * the result of a call is ignored; and GERFMUOD_INLINE, in one file, as nothing, to define the inline functions itself. */
+/* A program may define these before it includes this header: GERFMUOD_CHECKED as nothing, so that no compiler warns if the
+ * result of a call is ignored; GERFMUOD_INLINE, in one file, as nothing, to define the inline functions itself; and
+ * GERFMUOD_TRACED, for a program that needs the trace: then the functions for each kind of step, further below, refuse a step
+ * that a trace cannot have, as gerfmuod_step_traced does. */
 #ifndef GERFMUOD_CHECKED
 #if defined(__GNUC__)
 #define GERFMUOD_CHECKED __attribute__((warn_unused_result))
@@ -81,6 +83,8 @@ extern "C" {
 #define GERFMUOD_MAX_INPUTS 16u
 /* The generation of a pool that was not reopened. */
 #define GERFMUOD_FIRST_GENERATION 1u
+/* The largest number of a task, an action or a message in a trace. */
+#define GERFMUOD_MAX_TRACED 999999u
 
 /* The memory of a core: on the stack, in a struct, or on the heap. */
 typedef struct gerfmuod_core {
@@ -274,7 +278,7 @@ gerfmuod_pool gerfmuod_whole(const gerfmuod_core *core);
 GERFMUOD_CHECKED gerfmuod_settled gerfmuod_settle(gerfmuod_core *core);
 
 /* Writes the steps that were taken as a trace, which gerfmuod_audit and `tp audit` judge: 16 bytes, and at most 24 for
- * each step. If room_length is 0, returns the length only. NO_TEXT if a number of more than six digits was used, or if the
+ * each step. If room_length is 0, returns the length only. NO_TEXT if a number above GERFMUOD_MAX_TRACED was used, or if the
  * core is closed or busy. Since 0.1.0. */
 GERFMUOD_CHECKED gerfmuod_written gerfmuod_trace(const gerfmuod_core *core, char *room, size_t room_length);
 
@@ -300,100 +304,145 @@ gerfmuod_written gerfmuod_refusal_meaning(uint32_t refused, char *room, size_t r
 #endif
 #endif
 
+/* ---- Steps that a trace can have: for programs that want to know at once that a number has too many digits. */
+
+/* Whether a trace can have this step, given as gerfmuod_step takes it: the number of its task, action or message is at most
+ * GERFMUOD_MAX_TRACED. Since 0.1.0. */
+GERFMUOD_CHECKED GERFMUOD_INLINE bool gerfmuod_is_traceable(uint32_t kind, uint32_t first, uint32_t second,
+                                                            uint32_t third) {
+    uint32_t number = second;
+    if (kind == GERFMUOD_STEP_READY || kind > GERFMUOD_STEP_MESSAGE_END) number = 0;
+    else if (kind == GERFMUOD_STEP_SEND) number = third;
+    else if (kind == GERFMUOD_STEP_SUPPLY || kind == GERFMUOD_STEP_BEGIN || kind == GERFMUOD_STEP_DONE) number = first;
+    return number <= GERFMUOD_MAX_TRACED;
+}
+
+/* Why a step that a trace cannot have is not taken: BAD_SPEC. */
+GERFMUOD_INLINE gerfmuod_answer gerfmuod_not_traceable(void) {
+    gerfmuod_answer answer = {GERFMUOD_REFUSED_BAD_SPEC, GERFMUOD_TOLD_PLAIN, 0, 0, 0};
+    return answer;
+}
+
+/* As gerfmuod_step, but first of all BAD_SPEC if a trace cannot have the step. Since 0.1.0. */
+GERFMUOD_CHECKED GERFMUOD_INLINE gerfmuod_answer gerfmuod_step_traced(gerfmuod_core *core, uint32_t kind, uint32_t first,
+                                                                      uint32_t second, uint32_t third,
+                                                                      uint32_t generation) {
+    if (!gerfmuod_is_traceable(kind, first, second, third)) return gerfmuod_not_traceable();
+    return gerfmuod_step(core, kind, first, second, third, generation);
+}
+
+/* As gerfmuod_step_by, but first of all BAD_SPEC if a trace cannot have the step. Since 0.1.0. */
+GERFMUOD_CHECKED GERFMUOD_INLINE gerfmuod_answer gerfmuod_step_by_traced(gerfmuod_core *core, uint32_t maker_kind,
+                                                                         uint32_t maker, uint32_t kind, uint32_t first,
+                                                                         uint32_t second, uint32_t third,
+                                                                         uint32_t generation) {
+    if (!gerfmuod_is_traceable(kind, first, second, third)) return gerfmuod_not_traceable();
+    return gerfmuod_step_by(core, maker_kind, maker, kind, first, second, third, generation);
+}
+
+#ifdef GERFMUOD_TRACED
+#define GERFMUOD_TAKE gerfmuod_step_traced
+#define GERFMUOD_TAKE_BY gerfmuod_step_by_traced
+#else
+#define GERFMUOD_TAKE gerfmuod_step
+#define GERFMUOD_TAKE_BY gerfmuod_step_by
+#endif
+
 /* ---- One function for each kind of step, with the refusals of its checks, in order. They are inline functions over
- * gerfmuod_step, and the library has a symbol for each of them, for languages that do not read this header. */
+ * gerfmuod_step, and the library has a symbol for each of them, for languages that do not read this header: these take a step
+ * with any number. */
 
 /* Inserts a task at its home node, which must be active. It waits for 0 to 16 inputs, and is ready if there are none.
  * BAD_SPEC, NO_NODE, TASK_KNOWN, INACTIVE. Since 0.1.0. */
 GERFMUOD_CHECKED GERFMUOD_INLINE gerfmuod_answer gerfmuod_insert(gerfmuod_core *core, uint32_t node, uint32_t task,
                                                                  uint32_t inputs) {
-    return gerfmuod_step(core, GERFMUOD_STEP_INSERT, node, task, inputs, 0);
+    return GERFMUOD_TAKE(core, GERFMUOD_STEP_INSERT, node, task, inputs, 0);
 }
 
 /* A waiting task gets one input. NO_TASK, WRONG_LIFE. Since 0.1.0. */
 GERFMUOD_CHECKED GERFMUOD_INLINE gerfmuod_answer gerfmuod_supply(gerfmuod_core *core, uint32_t task) {
-    return gerfmuod_step(core, GERFMUOD_STEP_SUPPLY, task, 0, 0, 0);
+    return GERFMUOD_TAKE(core, GERFMUOD_STEP_SUPPLY, task, 0, 0, 0);
 }
 
 /* A ready task begins to run. NO_TASK, WRONG_LIFE. Since 0.1.0. */
 GERFMUOD_CHECKED GERFMUOD_INLINE gerfmuod_answer gerfmuod_begin(gerfmuod_core *core, uint32_t task) {
-    return gerfmuod_step(core, GERFMUOD_STEP_BEGIN, task, 0, 0, 0);
+    return GERFMUOD_TAKE(core, GERFMUOD_STEP_BEGIN, task, 0, 0, 0);
 }
 
 /* A running task is done: GERFMUOD_TOLD_QUIET if nothing is left. NO_TASK, WRONG_LIFE. Since 0.1.0. */
 GERFMUOD_CHECKED GERFMUOD_INLINE gerfmuod_answer gerfmuod_done(gerfmuod_core *core, uint32_t task) {
-    return gerfmuod_step(core, GERFMUOD_STEP_DONE, task, 0, 0, 0);
+    return GERFMUOD_TAKE(core, GERFMUOD_STEP_DONE, task, 0, 0, 0);
 }
 
 /* An action opens at an active node, which stays active until it closes. NO_NODE, ACTION_KNOWN, INACTIVE. Since 0.1.0. */
 GERFMUOD_CHECKED GERFMUOD_INLINE gerfmuod_answer gerfmuod_action_open(gerfmuod_core *core, uint32_t node,
                                                                       uint32_t action) {
-    return gerfmuod_step(core, GERFMUOD_STEP_ACTION_OPEN, node, action, 0, 0);
+    return GERFMUOD_TAKE(core, GERFMUOD_STEP_ACTION_OPEN, node, action, 0, 0);
 }
 
 /* An action closes: GERFMUOD_TOLD_QUIET if nothing is left. NO_NODE, NO_ACTION. Since 0.1.0. */
 GERFMUOD_CHECKED GERFMUOD_INLINE gerfmuod_answer gerfmuod_action_close(gerfmuod_core *core, uint32_t node,
                                                                        uint32_t action) {
-    return gerfmuod_step(core, GERFMUOD_STEP_ACTION_CLOSE, node, action, 0, 0);
+    return GERFMUOD_TAKE(core, GERFMUOD_STEP_ACTION_CLOSE, node, action, 0, 0);
 }
 
 /* The opening of a node closes: its first tasks are inserted. GERFMUOD_TOLD_QUIET if nothing is left. NO_NODE, NO_ACTION.
  * Since 0.1.0. */
 GERFMUOD_CHECKED GERFMUOD_INLINE gerfmuod_answer gerfmuod_ready(gerfmuod_core *core, uint32_t node) {
-    return gerfmuod_step(core, GERFMUOD_STEP_READY, node, 0, 0, 0);
+    return GERFMUOD_TAKE(core, GERFMUOD_STEP_READY, node, 0, 0, 0);
 }
 
 /* An active node sends a message to another node. A number is used once in a generation.
  * NO_NODE, STRANGER, SAME_NODE, MESSAGE_KNOWN, INACTIVE. Since 0.1.0. */
 GERFMUOD_CHECKED GERFMUOD_INLINE gerfmuod_answer gerfmuod_send(gerfmuod_core *core, uint32_t from, uint32_t to,
                                                                uint32_t message, uint32_t generation) {
-    return gerfmuod_step(core, GERFMUOD_STEP_SEND, from, to, message, generation);
+    return GERFMUOD_TAKE(core, GERFMUOD_STEP_SEND, from, to, message, generation);
 }
 
 /* A node receives a message, which opens an action there. NO_NODE, STRANGER, NO_MESSAGE. Since 0.1.0. */
 GERFMUOD_CHECKED GERFMUOD_INLINE gerfmuod_answer gerfmuod_receive(gerfmuod_core *core, uint32_t node, uint32_t message,
                                                                   uint32_t generation) {
-    return gerfmuod_step(core, GERFMUOD_STEP_RECEIVE, node, message, 0, generation);
+    return GERFMUOD_TAKE(core, GERFMUOD_STEP_RECEIVE, node, message, 0, generation);
 }
 
 /* A received message has had its effects, and its action closes: GERFMUOD_TOLD_QUIET if nothing is left.
  * NO_NODE, STRANGER, NO_ACTION. Since 0.1.0. */
 GERFMUOD_CHECKED GERFMUOD_INLINE gerfmuod_answer gerfmuod_message_end(gerfmuod_core *core, uint32_t node,
                                                                       uint32_t message, uint32_t generation) {
-    return gerfmuod_step(core, GERFMUOD_STEP_MESSAGE_END, node, message, 0, generation);
+    return GERFMUOD_TAKE(core, GERFMUOD_STEP_MESSAGE_END, node, message, 0, generation);
 }
 
 /* The next wave starts at node 0. The nodes form a tree: the parent of node i is node (i - 1) / 2. ENDED, WAVE_OPEN. Since
  * 0.1.0. */
 GERFMUOD_INLINE gerfmuod_answer gerfmuod_start(gerfmuod_core *core) {
-    return gerfmuod_step(core, GERFMUOD_STEP_START, 0, 0, 0, 0);
+    return GERFMUOD_TAKE(core, GERFMUOD_STEP_START, 0, 0, 0, 0);
 }
 
 /* A node other than 0 takes the token of the wave from its parent. NO_NODE, ENDED, NO_TOKEN. Since 0.1.0. */
 GERFMUOD_INLINE gerfmuod_answer gerfmuod_down(gerfmuod_core *core, uint32_t node) {
-    return gerfmuod_step(core, GERFMUOD_STEP_DOWN, node, 0, 0, 0);
+    return GERFMUOD_TAKE(core, GERFMUOD_STEP_DOWN, node, 0, 0, 0);
 }
 
 /* An idle node reports its counters, after its children did; at node 0 the wave ends, with GERFMUOD_TOLD_WAVE.
  * NO_NODE, ENDED, NO_TOKEN, NOT_IDLE. Since 0.1.0. */
 GERFMUOD_INLINE gerfmuod_answer gerfmuod_give(gerfmuod_core *core, uint32_t node) {
-    return gerfmuod_step(core, GERFMUOD_STEP_GIVE, node, 0, 0, 0);
+    return GERFMUOD_TAKE(core, GERFMUOD_STEP_GIVE, node, 0, 0, 0);
 }
 
 /* The parent of a node takes what the node reported. NO_NODE, ENDED, NO_TOKEN. Since 0.1.0. */
 GERFMUOD_INLINE gerfmuod_answer gerfmuod_up(gerfmuod_core *core, uint32_t node) {
-    return gerfmuod_step(core, GERFMUOD_STEP_UP, node, 0, 0, 0);
+    return GERFMUOD_TAKE(core, GERFMUOD_STEP_UP, node, 0, 0, 0);
 }
 
 /* Judges the wave that ended: GERFMUOD_TOLD_NOT or GERFMUOD_TOLD_ENDED. ENDED, WAVE_NOT_ENDED. Since 0.1.0. */
 GERFMUOD_INLINE gerfmuod_answer gerfmuod_judge(gerfmuod_core *core) {
-    return gerfmuod_step(core, GERFMUOD_STEP_JUDGE, 0, 0, 0, 0);
+    return GERFMUOD_TAKE(core, GERFMUOD_STEP_JUDGE, 0, 0, 0, 0);
 }
 
 /* Begins the next generation: GERFMUOD_TOLD_REOPENED. Everything is as in a new core, except the list of steps, which goes
  * on. WRONG_LIFE if termination was not detected. Since 0.1.0. */
 GERFMUOD_CHECKED GERFMUOD_INLINE gerfmuod_answer gerfmuod_reopen(gerfmuod_core *core) {
-    return gerfmuod_step(core, GERFMUOD_STEP_REOPEN, 0, 0, 0, 0);
+    return GERFMUOD_TAKE(core, GERFMUOD_STEP_REOPEN, 0, 0, 0, 0);
 }
 
 /* ---- The calls of steps with what makes them. The core alone asks only that a node is busy; these calls also refuse work
@@ -403,36 +452,36 @@ GERFMUOD_CHECKED GERFMUOD_INLINE gerfmuod_answer gerfmuod_reopen(gerfmuod_core *
 GERFMUOD_CHECKED GERFMUOD_INLINE gerfmuod_answer gerfmuod_insert_by(gerfmuod_core *core, uint32_t maker_kind,
                                                                     uint32_t maker, uint32_t node, uint32_t task,
                                                                     uint32_t inputs) {
-    return gerfmuod_step_by(core, maker_kind, maker, GERFMUOD_STEP_INSERT, node, task, inputs, 0);
+    return GERFMUOD_TAKE_BY(core, maker_kind, maker, GERFMUOD_STEP_INSERT, node, task, inputs, 0);
 }
 
 /* As gerfmuod_supply, made at the home node of the task. Since 0.1.0. */
 GERFMUOD_CHECKED GERFMUOD_INLINE gerfmuod_answer gerfmuod_supply_by(gerfmuod_core *core, uint32_t maker_kind,
                                                                     uint32_t maker, uint32_t task) {
-    return gerfmuod_step_by(core, maker_kind, maker, GERFMUOD_STEP_SUPPLY, task, 0, 0, 0);
+    return GERFMUOD_TAKE_BY(core, maker_kind, maker, GERFMUOD_STEP_SUPPLY, task, 0, 0, 0);
 }
 
 /* As gerfmuod_send, made at the sender. Since 0.1.0. */
 GERFMUOD_CHECKED GERFMUOD_INLINE gerfmuod_answer gerfmuod_send_by(gerfmuod_core *core, uint32_t maker_kind,
                                                                   uint32_t maker, uint32_t from, uint32_t to,
                                                                   uint32_t message, uint32_t generation) {
-    return gerfmuod_step_by(core, maker_kind, maker, GERFMUOD_STEP_SEND, from, to, message, generation);
+    return GERFMUOD_TAKE_BY(core, maker_kind, maker, GERFMUOD_STEP_SEND, from, to, message, generation);
 }
 
 /* As gerfmuod_action_open, made at the node. Since 0.1.0. */
 GERFMUOD_CHECKED GERFMUOD_INLINE gerfmuod_answer gerfmuod_open_by(gerfmuod_core *core, uint32_t maker_kind,
                                                                   uint32_t maker, uint32_t node, uint32_t action) {
-    return gerfmuod_step_by(core, maker_kind, maker, GERFMUOD_STEP_ACTION_OPEN, node, action, 0, 0);
+    return GERFMUOD_TAKE_BY(core, maker_kind, maker, GERFMUOD_STEP_ACTION_OPEN, node, action, 0, 0);
 }
 
 /* As gerfmuod_begin, by a thread of this node, which has to be the home node of the task. Since 0.1.0. */
 GERFMUOD_CHECKED GERFMUOD_INLINE gerfmuod_answer gerfmuod_begin_at(gerfmuod_core *core, uint32_t node, uint32_t task) {
-    return gerfmuod_step_by(core, GERFMUOD_BY_THREAD, node, GERFMUOD_STEP_BEGIN, task, 0, 0, 0);
+    return GERFMUOD_TAKE_BY(core, GERFMUOD_BY_THREAD, node, GERFMUOD_STEP_BEGIN, task, 0, 0, 0);
 }
 
 /* As gerfmuod_done, by a thread of this node, which has to be the home node of the task. Since 0.1.0. */
 GERFMUOD_CHECKED GERFMUOD_INLINE gerfmuod_answer gerfmuod_done_at(gerfmuod_core *core, uint32_t node, uint32_t task) {
-    return gerfmuod_step_by(core, GERFMUOD_BY_THREAD, node, GERFMUOD_STEP_DONE, task, 0, 0, 0);
+    return GERFMUOD_TAKE_BY(core, GERFMUOD_BY_THREAD, node, GERFMUOD_STEP_DONE, task, 0, 0, 0);
 }
 
 /* The number of steps that were taken, of all generations. Since 0.1.0. */

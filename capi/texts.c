@@ -1,4 +1,5 @@
 /* texts.c: tests of the texts of the library: the trace of a core, the audit of a trace, and the texts of refusals. */
+#define GERFMUOD_TRACED
 #include "gerfmuod.h"
 
 #include <stdio.h>
@@ -53,9 +54,51 @@ static void trace_and_audit(void) {
 static void no_trace(void) {
     gerfmuod_core core;
     CHECK(gerfmuod_open(&core, 2) == 0);
-    CHECK(gerfmuod_send(&core, 0, 1, 4000000000u, 1).refused == 0);
+    CHECK(gerfmuod_step(&core, GERFMUOD_STEP_SEND, 0, 1, 1000000, 1).refused == 0);
     gerfmuod_written none = gerfmuod_trace(&core, NULL, 0);
     CHECK(none.outcome == GERFMUOD_NO_TEXT && none.length == 0);
+    gerfmuod_close(&core);
+}
+
+/* A step of each kind, with this number for its task, action or message; then the same steps, with what makes them. */
+static gerfmuod_answer step_of_kind(gerfmuod_core *core, uint32_t kind, uint32_t number) {
+    switch (kind) {
+    case GERFMUOD_STEP_INSERT: return gerfmuod_insert(core, 0, number, 0);
+    case GERFMUOD_STEP_SUPPLY: return gerfmuod_supply(core, number);
+    case GERFMUOD_STEP_BEGIN: return gerfmuod_begin(core, number);
+    case GERFMUOD_STEP_DONE: return gerfmuod_done(core, number);
+    case GERFMUOD_STEP_ACTION_OPEN: return gerfmuod_action_open(core, 0, number);
+    case GERFMUOD_STEP_ACTION_CLOSE: return gerfmuod_action_close(core, 0, number);
+    case GERFMUOD_STEP_SEND: return gerfmuod_send(core, 0, 1, number, 1);
+    case GERFMUOD_STEP_RECEIVE: return gerfmuod_receive(core, 1, number, 1);
+    case GERFMUOD_STEP_MESSAGE_END: return gerfmuod_message_end(core, 1, number, 1);
+    case 100: return gerfmuod_insert_by(core, GERFMUOD_BY_OPENING, 0, 0, number, 1);
+    case 101: return gerfmuod_supply_by(core, GERFMUOD_BY_OPENING, 0, number);
+    case 102: return gerfmuod_begin_at(core, 0, number);
+    case 103: return gerfmuod_done_at(core, 0, number);
+    case 104: return gerfmuod_open_by(core, GERFMUOD_BY_OPENING, 0, 0, number);
+    default: return gerfmuod_send_by(core, GERFMUOD_BY_OPENING, 0, 0, 1, number, 1);
+    }
+}
+
+/* With GERFMUOD_TRACED a step with a number of seven digits is refused at once, and the trace is there at the end. */
+static void traced(void) {
+    const uint32_t kinds[] = {GERFMUOD_STEP_INSERT, GERFMUOD_STEP_BEGIN, GERFMUOD_STEP_DONE, GERFMUOD_STEP_ACTION_OPEN,
+                              GERFMUOD_STEP_ACTION_CLOSE, GERFMUOD_STEP_SEND, GERFMUOD_STEP_RECEIVE, GERFMUOD_STEP_MESSAGE_END};
+    const size_t many = sizeof kinds / sizeof *kinds;
+    gerfmuod_core core;
+    CHECK(gerfmuod_open(&core, 2) == 0);
+    for (uint32_t kind = 0; kind <= GERFMUOD_STEP_MESSAGE_END; kind++)
+        if (kind != GERFMUOD_STEP_READY) CHECK(step_of_kind(&core, kind, 1000000).refused == GERFMUOD_REFUSED_BAD_SPEC);
+    for (uint32_t kind = 100; kind <= 105; kind++)
+        CHECK(step_of_kind(&core, kind, 4000000000u).refused == GERFMUOD_REFUSED_BAD_SPEC);
+    CHECK(gerfmuod_length(&core) == 0);
+    for (size_t place = 0; place < many; place++) CHECK(step_of_kind(&core, kinds[place], 999999).refused == 0);
+    for (uint32_t kind = 100; kind <= 105; kind++) CHECK(step_of_kind(&core, kind, 999998).refused == 0);
+    CHECK(gerfmuod_length(&core) == many + 6);
+    CHECK(gerfmuod_is_traceable(GERFMUOD_STEP_START, 4000000000u, 4000000000u, 4000000000u));
+    CHECK(gerfmuod_is_traceable(GERFMUOD_STEP_READY, 1, 4000000000u, 4000000000u));
+    CHECK(gerfmuod_trace(&core, NULL, 0).outcome == GERFMUOD_NO_ROOM);
     gerfmuod_close(&core);
 }
 
@@ -105,6 +148,7 @@ static void refusals(void) {
 int main(void) {
     trace_and_audit();
     no_trace();
+    traced();
     judged();
     static_texts();
     refusals();
