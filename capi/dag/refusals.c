@@ -45,6 +45,8 @@ static void check_description(void) {
     for (int i = 0; i < 3; i++) {
         check("open with a wrong number of nodes", gerfmuod_dag_open(&dag, counts[i]), GERFMUOD_DAG_BAD_SPEC);
         check_not_open(&dag);
+        check("the same, not traced", gerfmuod_dag_open_untraced(&dag, counts[i]), GERFMUOD_DAG_BAD_SPEC);
+        check_not_open(&dag);
     }
     check("open", gerfmuod_dag_open(&dag, 2), GERFMUOD_DAG_OK);
     check("input without a task", gerfmuod_dag_input(&dag, 0).refused, GERFMUOD_DAG_NO_TASK);
@@ -262,6 +264,25 @@ static void check_growth_limits(void) {
     check("release", gerfmuod_dag_release(&dag, tasks - 1).refused, GERFMUOD_DAG_OK);
     check("all of them run", run_all(&dag, 2), tasks);
     check("to the end", gerfmuod_dag_next(&dag, 1).told, GERFMUOD_DAG_OVER);
+    gerfmuod_dag_close(&dag);
+}
+
+/* A pool that is not traced runs more tasks than a traced one has steps for, twice. */
+static void check_untraced_limits(void) {
+    gerfmuod_dag dag;
+    const uint32_t tasks = 1200000;
+    check("open", gerfmuod_dag_open_untraced(&dag, 2), GERFMUOD_DAG_OK);
+    for (uint32_t t = 0; t < tasks; t++) {
+        gerfmuod_dag_task(&dag, t % 64 == 0, 0);
+        if (t % 32 == 0 && t) gerfmuod_dag_input(&dag, t - 32);
+    }
+    check("a graph of 1,200,000 tasks", gerfmuod_dag_start(&dag).refused, GERFMUOD_DAG_OK);
+    check("all of them run", run_all(&dag, 2), tasks);
+    check("to the end", gerfmuod_dag_next(&dag, 1).told, GERFMUOD_DAG_OVER);
+    check("no step is kept", gerfmuod_dag_step(&dag, 0).kind, 255);
+    check("again", gerfmuod_dag_again(&dag).refused, GERFMUOD_DAG_OK);
+    check("all of them run again", run_all(&dag, 2), tasks);
+    check("no step is kept again", gerfmuod_dag_step(&dag, 0).kind, 255);
     gerfmuod_dag_close(&dag);
 }
 
@@ -626,7 +647,7 @@ int main(int argc, char **argv) {
     check_again();
     check_growth();
     check_size();
-    if (argc == 1) check_limits(), check_outside_limit(), check_growth_limits(), check_team_limits();
+    if (argc == 1) check_limits(), check_outside_limit(), check_growth_limits(), check_untraced_limits(), check_team_limits();
     check_team_description();
     check_team_run();
     check_team_again();

@@ -5,17 +5,16 @@ use Rattle.tp_base.specs.declared.Refusal.{Refusal}
 use Rattle.tp_base.specs.declared.Refusal.TheVariants as refusal
 use Rattle.tp_base.specs.Checks.{Check, first_refusal}
 use Rattle.tp_base.specs.Refusals.{number_of}
-use Rattle.tp_wave.specs.Steps.{count}
-use Rattle.tp_core.specs.NeverEarly.{is_begin_of}
 use Rattle.tp_dag.specs.Again.{IsAgain}
 use Rattle.tp_dag.specs.declared.Next.{Next}
 use Rattle.tp_dag.specs.declared.Next.TheVariants.{Run, Wait, Finished}
 use Rattle.tp_dag.specs.declared.entry.Stage.TheVariants as stage
-use Rattle.tp_dag.specs.State.{PoolState, AddsOnly, SameGraph, IsInputAdded, IsFinished, IsDispatched, IsCompleted, IsIdle, MayWait, AreDelivered, AreSent, dispatched, extends, is_delivery, is_sending, input_checks, next_checks, done_checks}
+use Rattle.tp_dag.specs.State.{PoolState, AddsOnly, SameGraph, IsInputAdded, IsFinished, IsDispatched, IsCompleted, IsIdle, MayWait, AreDelivered, AreSent, BeginsMore, dispatched, extends, input_checks, next_checks, done_checks}
+use Rattle.tp_dag.specs.Journal.{is_delivery, is_sending}
 use Rattle.gerfmuod.specs.declared.dag.answer.DagAnswer.{DagAnswer}
 use Rattle.gerfmuod.specs.declared.dag.slot.PoolSlot.TheInside.{Inside}
 use Rattle.gerfmuod.specs.DagSlot.{state_of}
-use Rattle.gerfmuod.specs.Dag.{SlotState, RefusesBy, IsInput, IsInputRefusal, IsNext, IsNextRefusal, IsDone, IsAgainCall, checks, next_answer, plain, refusal_answer}
+use Rattle.gerfmuod.specs.Dag.{SlotState, RefusesBy, IsInput, IsInputRefusal, IsNext, IsRefusalBy, IsDone, IsAgainCall, checks, next_answer, plain, refusal_answer}
 
 -- The number of a refusal is at least 1.
 pub some_number : (r : Refusal) → 1 ≤ number_of r
@@ -90,7 +89,7 @@ pub next_done : (p : Inside) (now : SlotState) (pool : PoolState) (node news : �
     → ((t : ℕ) → n ≡ Run t → IsDispatched node t p.pool pool) → ((w : ℕ) → n ≡ Finished w → IsFinished pool)
     → (Same Next (Ok n) (Ok Wait) → IsIdle node pool) → (Same Next (Ok n) (Ok Wait) → AddsOnly is_delivery p.pool pool) → SameGraph p.pool pool
     → AreDelivered node p.pool pool
-    → ((t : ℕ) → count (is_begin_of t) pool.steps ≡ count (is_begin_of t) p.pool.steps + dispatched (Ok n) t)
+    → BeginsMore (dispatched (Ok n)) p.pool pool
     → IsNext now node (next_answer n news) (state_of (record p { pool = pool }))
 next_done p now pool node news n same live check run finished wait waiting graph ways begun =
     subst (λ (a : SlotState). IsNext a node (next_answer n news) new) same (by_kind n check run finished wait waiting begun)
@@ -104,7 +103,7 @@ next_done p now pool node news n same live check run finished wait waiting graph
     by_kind : (m : Next) → IfSome (first_refusal (next_checks p.pool node)) (λ r. Same Next (Ok m) (Err r) × (pool ≡ p.pool))
         → ((t : ℕ) → m ≡ Run t → IsDispatched node t p.pool pool) → ((w : ℕ) → m ≡ Finished w → IsFinished pool)
         → (Same Next (Ok m) (Ok Wait) → IsIdle node pool) → (Same Next (Ok m) (Ok Wait) → AddsOnly is_delivery p.pool pool)
-        → ((t : ℕ) → count (is_begin_of t) pool.steps ≡ count (is_begin_of t) p.pool.steps + dispatched (Ok m) t)
+        → BeginsMore (dispatched (Ok m)) p.pool pool
         → IsNext (state_of p) node (next_answer m news) new
     by_kind (Run u) c r f w d b = record {
       checked = open_refuses (state_of p) new (next_checks p.pool node) (next_answer (Run u) news) here
@@ -145,8 +144,8 @@ next_done p now pool node news n same live check run finished wait waiting graph
 
 pub next_refused : (p : Inside) (now : SlotState) (pool : PoolState) (node : ℕ) (e : Refusal) → state_of p ≡ now → IsTrue now.is_open
     → IfSome (first_refusal (next_checks p.pool node)) (λ r. Same Next (Err e) (Err r) × (pool ≡ p.pool)) → AddsOnly is_delivery p.pool pool
-    → IsNextRefusal node p.pool e → SameGraph p.pool pool → AreDelivered node p.pool pool
-    → ((t : ℕ) → count (is_begin_of t) pool.steps ≡ count (is_begin_of t) p.pool.steps + dispatched (Err e) t)
+    → IsRefusalBy (next_checks p.pool node) p.pool e → SameGraph p.pool pool → AreDelivered node p.pool pool
+    → BeginsMore (dispatched (Err e)) p.pool pool
     → IsNext now node (refusal_answer e) (state_of (record p { pool = pool }))
 next_refused p now pool node e same live check err exact graph ways begun =
     subst (λ (a : SlotState). IsNext a node (refusal_answer e) (state_of (record p { pool = pool }))) same (record {
@@ -167,13 +166,14 @@ next_refused p now pool node e same live check err exact graph ways begun =
 -- ---- done
 pub done_done : (p : Inside) (now : SlotState) (pool : PoolState) (node task news : ℕ) → state_of p ≡ now → IsTrue now.is_open
     → IfSome (first_refusal (done_checks p.pool node task)) (λ r. Same ℕ (Ok news) (Err r) × (pool ≡ p.pool))
-    → IsCompleted task p.pool pool → AreSent task p.pool pool → ((t : ℕ) → count (is_begin_of t) pool.steps ≡ count (is_begin_of t) p.pool.steps)
+    → IsCompleted task p.pool pool → AreSent task p.pool pool → BeginsMore (λ t. 0) p.pool pool
     → IsDone now node task (plain 0 news) (state_of (record p { pool = pool }))
 done_done p now pool node task news same live check is ways begun =
     subst (λ (a : SlotState). IsDone a node task (plain 0 news) (state_of (record p { pool = pool }))) same (record {
       checked = open_refuses (state_of p) (state_of (record p { pool = pool })) (done_checks p.pool node task) (plain 0 news)
           (ap (λ (a : SlotState). a.is_open) same ∙ live)
           (passed {A = ℕ} (first_refusal (done_checks p.pool node task)) news (pool ≡ p.pool) _ check);
+      exact = λ live s. absurd (omega (arith, s));
       done = λ z. is;
       refused = λ s. absurd (omega (arith, s));
       ways = ways;
@@ -182,14 +182,16 @@ done_done p now pool node task news same live check is ways begun =
 
 pub done_refused : (p : Inside) (now : SlotState) (pool : PoolState) (node task : ℕ) (e : Refusal) → state_of p ≡ now → IsTrue now.is_open
     → IfSome (first_refusal (done_checks p.pool node task)) (λ r. Same ℕ (Err e) (Err r) × (pool ≡ p.pool))
-    → AddsOnly is_sending p.pool pool → AreSent task p.pool pool → ((t : ℕ) → count (is_begin_of t) pool.steps ≡ count (is_begin_of t) p.pool.steps)
+    → AddsOnly is_sending p.pool pool → IsRefusalBy (done_checks p.pool node task) p.pool e → AreSent task p.pool pool
+    → BeginsMore (λ t. 0) p.pool pool
     → IsDone now node task (refusal_answer e) (state_of (record p { pool = pool }))
-done_refused p now pool node task e same live check is ways begun =
+done_refused p now pool node task e same live check is exact ways begun =
     subst (λ (a : SlotState). IsDone a node task (refusal_answer e) (state_of (record p { pool = pool }))) same (record {
       checked = open_refuses (state_of p) (state_of (record p { pool = pool })) (done_checks p.pool node task) (refusal_answer e)
           (ap (λ (a : SlotState). a.is_open) same ∙ live)
           (failed ℕ (first_refusal (done_checks p.pool node task)) e (pool ≡ p.pool) (state_of (record p { pool = pool }) ≡ state_of p)
           (slot_same (state_of p) (state_of (record p { pool = pool })) refl) check);
+      exact = λ live s. (e, refl, exact);
       done = λ z. absurd (not_zero e (number_of e) refl z);
       refused = λ s. is;
       ways = ways;

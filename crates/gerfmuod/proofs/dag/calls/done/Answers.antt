@@ -16,5 +16,5 @@ returns c =
       | in-Err w ↦ subst (λ (a : DagAnswer). IsDone c.args.slot.now c.args.node c.args.task a (state_of (record c.slot.inside { pool = c.done.new.self })))
           (sym (w.result-is ∙ w.refused-in-Err.ensures))
           (done_refused c.slot.inside c.args.slot.now c.done.new.self c.args.node c.args.task w.in-Err.refusal c.slot.view_is
-          (opens _ _ c.is_open.ensures c.if-not-is_open.false) w.in-Err.ensures.checks w.in-Err.ensures.err w.in-Err.ensures.ways w.in-Err.ensures.begun)
+          (opens _ _ c.is_open.ensures c.if-not-is_open.false) w.in-Err.ensures.checks w.in-Err.ensures.err w.in-Err.ensures.refused w.in-Err.ensures.ways w.in-Err.ensures.begun)
     ]
