@@ -49,7 +49,7 @@ module _ (p q : Inside) (b : BoardState) (node class r t : ℕ) (held : Bool) (n
     (records : Records node (Insert (record { 0 = node }) (record { 0 = t }) n) p.journal q.journal) (kind : SameKind p.journal q.journal)
     (nodes : q.nodes ≡ p.nodes) (progress : q.progress ≡ extend p.progress) (same : held ≡ p.progress.started)
     (room : b ≡ record p.board { task_room = r }) (added : q.board ≡ with_task node class held b) where
-  step : Step
+  abbrev pub step : Step
   step = Insert (record { 0 = node }) (record { 0 = t }) n
 
   state : state_of q ≡ record (state_of p) {

@@ -276,7 +276,7 @@ finished_state p q t nodes progress h =
     rw (nodes, progress, h.becomes) (seen_stage p.nodes p.progress q.journal p.board t h.was stage.Done h.is)
 
 -- a task of the board, in the words of the pool, is at home at its node
-home_of_task : (p : Inside) (now : PoolState) (node t : ℕ) (x : Task) → state_of p ≡ now → IsHome node t now → slice_get p.board.tasks t ≡ Some x
+pub home_of_task : (p : Inside) (now : PoolState) (node t : ℕ) (x : Task) → state_of p ≡ now → IsHome node t now → slice_get p.board.tasks t ≡ Some x
     → x.node ≡ node
 home_of_task p now node t x same home is =
     (subst (λ (a : PoolState). IsHome node t a) (sym same) home) (entry_of x) (map_get entry_of p.board.tasks t x is)

@@ -15,10 +15,11 @@ returns-in-Err-clause-room c =
 
 pub invariant_of-self-2 : goal.invariant_of-self-2
 invariant_of-self-2 c =
+    let q = record c.self.inside { journal = c.receive.new.self; board = c.arrive-last.new.self; hints = c.push_woken.new.hints } in
     let h = arrives_surely c.self.inside c.args.self.now c.args.node c.args.input c.arrive-last.result c.arrive-last.new.self c.self.view_is
     c.known.ensures c.requires.coming c.arrive-last.ensures.ok c.arrive-last.ensures.exact in
-    kept_receive c.self.inside _ c.self.invariant
-    (receive_leads c.self.inside _ c.args.self.now c.args.node c.args.input c.self.view_is
+    kept_receive c.self.inside q c.self.invariant
+    (receive_leads c.self.inside q c.args.self.now c.args.node c.args.input c.self.view_is
     (subst (λ (a : PoolState). IsConsistent a) c.self.view_is (consistent c.self.inside.nodes c.self.inside.progress c.self.inside.journal
     c.self.inside.board c.known.ensures c.self.invariant.board)) c.requires.within c.requires.coming c.requires.afar
     c.in_default.ensures.ok c.receive.ensures.same.nodes h refl refl) c.receive.ensures.same
