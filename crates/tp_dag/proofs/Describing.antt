@@ -7,7 +7,7 @@ use Rattle.std.proofs.lemmas.List.{length-map}
 use Rattle.tp_base.specs.declared.Step.{Step}
 use Rattle.tp_base.specs.declared.Step.TheVariants.{Insert, Judge}
 use Rattle.tp_base.specs.declared.Inputs.{Inputs}
-use Rattle.tp_wave.specs.Sums.{is_ended, judgement}
+use Rattle.tp_wave.specs.Sums.{is_ended}
 use Rattle.tp_wave.specs.Control.{is_control}
 use Rattle.tp_core.specs.World.{IsActive}
 use Rattle.tp_core.specs.Run.{world}

@@ -1,5 +1,5 @@
 -- The lists of steps behind a pool: which step may be recorded after them, and how they go on with it.
-use Rattle.std.proofs.Common.{ℕ, ◌≡◌, ◌≢◌, ◌<◌, ◌+◌, List, [], ◌∷◌, ◌++◌, Bool, length, refl, ap, subst, ◌∙◌, sym, arith, IsTrue, IsFalse, inl, inr, Option, Some, None}
+use Rattle.std.proofs.Common.{ℕ, ◌≡◌, ◌≢◌, ◌<◌, List, [], ◌∷◌, ◌++◌, Bool, length, refl, ap, subst, ◌∙◌, sym, arith, IsTrue, IsFalse, inl, inr, Option, Some, None}
 use Rattle.std.specs.Prelude.{◌||◌, slice_get}
 use Rattle.std.specs.List.{list_all}
 use Rattle.std.specs.Option.{option_map}
@@ -63,8 +63,7 @@ pub may_send : {past : List Step} {a : PoolState} (from to k t : ℕ) (x : Entry
     → slice_get a.ways k ≡ Some way.Out → slice_get a.stages t ≡ Some stage.Running → slice_get a.tasks t ≡ Some x → x.node ≡ from
     → MayBeRecorded a.journal.recorded.nodes from past (sending from to k)
 may_send {past} {a} from to k t x b f l apart out runs is home =
-    may_be_recorded from (sending from to k) b refl refl
-    (
+    may_be_recorded from (sending from to k) b refl refl (
       f,
       l,
       apart,

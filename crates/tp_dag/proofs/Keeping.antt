@@ -1,5 +1,5 @@
 -- What the pool keeps through its calls, and what each call has done.
-use Rattle.std.proofs.Common.{ℕ, ◌≡◌, ◌≢◌, ◌<◌, ◌+◌, ◌-◌, ◌⊎◌, List, [], ◌∷◌, ◌++◌, Bool, map, refl, ap, subst, ◌∙◌, sym, arith, IsTrue, IsFalse, Option, Some, None, inl, inr, append_assoc}
+use Rattle.std.proofs.Common.{ℕ, ◌≡◌, ◌≢◌, ◌<◌, ◌⊎◌, List, [], ◌∷◌, ◌++◌, Bool, map, refl, ap, subst, ◌∙◌, sym, arith, IsTrue, IsFalse, Option, Some, None, inl, inr, append_assoc}
 use Rattle.std.specs.Prelude.{IfSome, IfNone, is_some, slice_get, slice_set}
 use Rattle.std.specs.List.{list_all}
 use Rattle.std.proofs.Math.ListN.{set}

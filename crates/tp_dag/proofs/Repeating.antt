@@ -1,5 +1,5 @@
 -- The beginning of the same graph once more.
-use Rattle.std.proofs.Common.{arith, ℕ, ◌+◌, ◌≤◌, ◌<◌, ◌≡◌, List, [], ◌∷◌, ◌++◌, map, Bool, true, false, length, refl, ap, subst, ◌∙◌, sym, IsTrue, IsFalse, Option, Some, None, inl, inr}
+use Rattle.std.proofs.Common.{arith, ℕ, ◌+◌, ◌<◌, ◌≡◌, List, [], ◌∷◌, ◌++◌, map, Bool, true, false, length, refl, ap, subst, ◌∙◌, sym, IsTrue, IsFalse, Some, None, inl, inr}
 use Rattle.std.specs.Prelude.{◌==◌, slice_get, is_some, if◌then◌else◌}
 use Rattle.std.specs.List.{find, list_all, list_any}
 use Rattle.std.specs.Option.{option_map}
@@ -10,7 +10,6 @@ use Rattle.tp_base.specs.declared.Inputs.{Inputs}
 use Rattle.tp_base.specs.declared.Step.{Step}
 use Rattle.tp_base.specs.declared.Step.TheVariants.{Insert, Ready}
 use Rattle.tp_wave.specs.Sums.{is_ended}
-use Rattle.tp_core.specs.declared.life.Life.{Life}
 use Rattle.tp_core.specs.declared.life.Life.TheVariants as life
 use Rattle.tp_core.specs.Pool.{after}
 use Rattle.tp_core.specs.Recording.{MayBeRecorded}
@@ -31,7 +30,7 @@ use Rattle.tp_dag.specs.Again.{IsAgain, IsBeginning, is_beginning}
 use Rattle.tp_dag.specs.Board.{BoardState, IsReset, described, not_passed_on}
 use Rattle.tp_dag.specs.Journal.{JournalState, IsBehindJournal, JournalLeads, Records, Adds, SameKind, is_readying, keeps}
 use Rattle.tp_dag.specs.Kept.{state_of, seen, entry_of, stage_of, outside_of, input_of, way_of, IsPool}
-use Rattle.tp_dag.specs.State.{PoolState, IsBehind, IsFinished, is_unsent, life_for}
+use Rattle.tp_dag.specs.State.{PoolState, IsBehind, IsFinished, life_for}
 use Rattle.tp_dag.proofs.Lists.{at_below, map_got}
 use Rattle.tp_dag.proofs.Counting.{same_or}
 use Rattle.tp_dag.proofs.Ended.{finished}

@@ -1,4 +1,4 @@
-use Rattle.std.proofs.Common.{ℕ, Option, subst, sym, arith, ◌<◌, ◌∙◌, None, ap, ◌≡◌}
+use Rattle.std.proofs.Common.{subst, sym, arith, ◌<◌, None}
 use Rattle.std.proofs.lemmas.Result.{err_from_is_err_and}
 use Rattle.std.proofs.Math.ListN.{set}
 use Rattle.tp_base.specs.declared.Step.{Step}

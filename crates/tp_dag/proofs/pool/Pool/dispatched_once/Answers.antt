@@ -1,6 +1,3 @@
-use Rattle.std.proofs.Common.{sym, subst}
-use Rattle.tp_core.specs.Recording.{IsSafe}
-use Rattle.tp_dag.specs.State.{PoolState, IsBehind}
 use Rattle.tp_dag.proofs.Ended.{begun_once, safe}
 use Rattle.tp_dag.proofs.pool.Pool.dispatched_once.Goals as goal
 

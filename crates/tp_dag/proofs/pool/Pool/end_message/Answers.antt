@@ -1,4 +1,4 @@
-use Rattle.std.proofs.Common.{◌<◌, ap, refl, subst, sym, arith}
+use Rattle.std.proofs.Common.{◌<◌, refl, subst, sym, arith}
 use Rattle.tp_dag.specs.State.{PoolState}
 use Rattle.tp_dag.specs.Journal.{is_delivery, is_ending}
 use Rattle.tp_dag.proofs.Facts.{ending_leaves}

@@ -1,8 +1,8 @@
-use Rattle.std.proofs.Common.{◌≡◌, ℕ, Result, Option, ap, subst, refl, sym, inr, ◌∙◌}
+use Rattle.std.proofs.Common.{◌≡◌, ℕ, Result, Option, ap, subst, refl, inr, ◌∙◌}
 use Rattle.std.specs.Prelude.{Ok, Err}
 use Rattle.std.proofs.lemmas.Result.{err_from_is_err_and}
 use Rattle.tp_base.specs.declared.Refusal.{Refusal}
-use Rattle.tp_dag.specs.State.{PoolState, IsDispatched, BeginsMore, dispatched}
+use Rattle.tp_dag.specs.State.{PoolState, IsDispatched, dispatched}
 use Rattle.tp_dag.specs.declared.pool.Next.{Next}
 use Rattle.tp_dag.specs.declared.pool.Next.TheVariants as next
 use Rattle.tp_dag.proofs.Ended.{none_begins, one_begins, end_dispatches_none}

@@ -1,5 +1,4 @@
-use Rattle.std.proofs.Common.{ap, refl}
-use Rattle.tp_dag.specs.State.{PoolState}
+use Rattle.std.proofs.Common.{refl}
 use Rattle.tp_dag.specs.Journal.{is_readying}
 use Rattle.tp_dag.proofs.Facts.{readying_leaves}
 use Rattle.tp_dag.proofs.Keeping.{adds_journal, adds_only, readying_judges_none, kept_later}

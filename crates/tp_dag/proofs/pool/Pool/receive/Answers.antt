@@ -1,4 +1,4 @@
-use Rattle.std.proofs.Common.{ap, refl, subst, sym}
+use Rattle.std.proofs.Common.{ap, refl, subst}
 use Rattle.tp_dag.specs.Board.{BoardState}
 use Rattle.tp_dag.specs.Kept.{IsConsistent}
 use Rattle.tp_dag.specs.State.{PoolState}

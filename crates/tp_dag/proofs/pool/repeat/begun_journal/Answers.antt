@@ -1,4 +1,4 @@
-use Rattle.std.proofs.Common.{List, length, ap, subst, sym, ◌∙◌, ◌≡◌, arith}
+use Rattle.std.proofs.Common.{List, length, ap, subst, sym, ◌∙◌, arith}
 use Rattle.std.specs.Prelude.{slice_get}
 use Rattle.tp_dag.specs.declared.entry.Task.{Task}
 use Rattle.tp_dag.specs.Again.{IsBeginning}
