@@ -361,6 +361,26 @@ static void check_team_limits(void) {
     gerfmuod_team_close(team);
 }
 
+/* A team without a trace has no limit of steps. */
+static void check_untraced_team(void) {
+    gerfmuod_team *team;
+    uint32_t ran = 0, refused = 0;
+    char room[8] = "none";
+    check("untraced team of 9 nodes", gerfmuod_team_open_untraced(&team, 9), GERFMUOD_DAG_BAD_SPEC);
+    check("is none", team == NULL, 1);
+    gerfmuod_team_open_untraced(&team, 1);
+    for (uint32_t t = 0; t < 400000; t++) refused |= gerfmuod_team_task(team, 0, 0, NULL, 0, NULL);
+    check("400,000 tasks", refused, GERFMUOD_DAG_OK);
+    check("run without a trace", gerfmuod_team_run(team, 4, count_body, &ran), GERFMUOD_DAG_OK);
+    check("each of them runs", ran, 400000);
+    check("and there is no trace", (uint32_t)gerfmuod_team_trace(team, room, sizeof room), 0);
+    check("but an empty text", room[0] == 0, 1);
+    check("once more", gerfmuod_team_again(team), GERFMUOD_DAG_OK);
+    check("they run", gerfmuod_team_run(team, 4, count_body, &ran), GERFMUOD_DAG_OK);
+    check("each of them", ran, 800000);
+    gerfmuod_team_close(team);
+}
+
 struct seen {
     gerfmuod_team *team;
     uint32_t ran, refused_inside;
@@ -647,7 +667,7 @@ int main(int argc, char **argv) {
     check_again();
     check_growth();
     check_size();
-    if (argc == 1) check_limits(), check_outside_limit(), check_growth_limits(), check_untraced_limits(), check_team_limits();
+    if (argc == 1) check_limits(), check_outside_limit(), check_growth_limits(), check_untraced_limits(), check_team_limits(), check_untraced_team();
     check_team_description();
     check_team_run();
     check_team_again();

@@ -78,6 +78,7 @@ def programs(is_full):
         Program("grain.c", C, [], [Run([shape, "5000", "10", "1", *ways], 0, "8x1 5000") for shape in SHAPES], small_grain),
         Program("outside.c", C, [], outside, [["30", "4", "2"]]),
         Program("spawn.c", C, [], spawn, [["20000", "4", "1", "4"]]),
+        Program("growth.c", C, [], [Run(["6000000", "500", "4"], 0, "6000000 tasks, each ran once")], [["3000", "0", "1", "4"]]),
         Program("fibonacci.cpp", CPP, [], [Run(["20", "4"], 0, "6765, 32837 tasks; a loop: 6765")], [["12", "3"]]),
         Program("failures.c", C, WRAPPED, [Run([], 0, ", 0 not as they should be")], []),
         Program("failures.c", [*C, *ADDRESS], WRAPPED, [Run([], 0, ", 0 not as they should be")], []),
