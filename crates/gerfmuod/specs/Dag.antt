@@ -46,7 +46,7 @@ pub record IsEmpty (n : ℕ) (keeps_steps : Bool) (a : PoolState) : Type 0 where
 
 -- a new pool; it is not open if a pool cannot have n nodes
 pub record IsOpened (n : ℕ) (keeps_steps : Bool) (a : SlotState) : Type 0 where
-  pub open : a.is_open ≡ can_be n
+  pub mark : a.is_open ≡ can_be n
   pub pool : IsEmpty (if can_be n then n else 1) keeps_steps a.pool
 
 abbrev pub opening : ℕ → ℕ

@@ -8,7 +8,8 @@ ghost use Rattle.gerfmuod.specs.Dag.{SlotState, IsOpening, IsTask, IsInput, IsSt
 
 use crate::dag::answer::{DagAnswer, DagStep};
 use crate::dag::calls::{
-    again, close, done, input, made, made_untraced, next, opening, outside, release, start, step, task,
+    again, close, done, input, made, made_untraced, next, opening, outside, release, start, step,
+    task,
 };
 use crate::dag::slot::PoolSlot;
 use std::alloc::Global;

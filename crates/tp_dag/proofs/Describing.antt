@@ -170,7 +170,8 @@ input_added p q b now source target r k f same journal nodes progress room befor
     })
 
 -- ---- what no list of steps depends on
-pub behind_progress : {past : List Step} {a : PoolState} (s e : Bool) → IsBehind past a → IsBehind past (record a { started = s; extended = e })
+pub behind_progress : {past : List Step} {a : PoolState} (s e : Bool) → IsBehind past a
+    → IsBehind past (record a { started = s; extended = e })
 behind_progress s e b = record {
   nodes = b.nodes;
   journal = b.journal;

@@ -18,7 +18,7 @@ use Rattle.tp_wave.specs.Sums.{judgement, is_ended}
 use Rattle.tp_core.specs.Accepted.{IsRefusedFor, no_numbers}
 use Rattle.tp_core.specs.Recording.{Recorded, Backs, MayBeRecorded, IsRecorded, HasSettled, record_checks, limit_checks, kept_checks, settling_checks}
 use Rattle.tp_core.specs.Run.{world, node_of, IsLawful}
-use Rattle.tp_core.specs.World.{World, openings, is_action, Opening, OfMessage, is_open, IsQuiet}
+use Rattle.tp_core.specs.World.{World, Action, openings, is_action, Opening, OfMessage, is_open, IsQuiet}
 use Rattle.tp_core.specs.Pool.{opened, closed}
 use Rattle.tp_core.specs.declared.numbers.NodeNumbers.{NodeNumbers}
 use Rattle.tp_core.proofs.Ending.{same_quiet}
@@ -109,7 +109,8 @@ limits_room x under (s) o k asks r h f = by_kept o 1 k asks r h f
 pub refused_with : (r : Result (Unit {0}) Refusal) (e : Refusal) (P : Refusal → Type 0) → r ≡ Err e → P e → IfErr r P
 refused_with r e P h x = rw h x
 
-pub at_place : (xs : List (Option ℕ)) (i k : ℕ) (d : Option ℕ) → i < length xs → slice_index_or xs i d ≡ Some k → slice_get xs i ≡ Some (Some k)
+pub at_place : (xs : List (Option ℕ)) (i k : ℕ) (d : Option ℕ) → i < length xs → slice_index_or xs i d ≡ Some k
+    → slice_get xs i ≡ Some (Some k)
 at_place [] i k d l e = absurd (omega (arith, l))
 at_place (x ∷ xs) zero k d l e = ap Some e
 at_place (x ∷ xs) (suc i) k d l e = at_place xs i k d (omega (arith, l)) e
@@ -120,7 +121,8 @@ pub refused_for_room : (a : JournalState) (node : ℕ) (s : Step) (r : Refusal)
     → IsRefusedFor (first_refusal (record_checks a.recorded node s)) (is_some a.recorded.steps) r)
     → IsRefusedForRoom node s a r
 refused_for_room a node s r why = λ past b may.
-    limits_room (slice_index_or a.recorded.numbers node no_numbers) a.recorded.under s a.recorded.steps (keeps a) (is_some a.recorded.steps) r (why past b.backs may) (λ h. h)
+    limits_room (slice_index_or a.recorded.numbers node no_numbers) a.recorded.under s a.recorded.steps (keeps a)
+    (is_some a.recorded.steps) r (why past b.backs may) (λ h. h)
 
 pub record_refused : (p : Inside) (now : JournalState) (node : ℕ) (s : Step) (r : Result (Unit {0}) Refusal) → journal_of p ≡ now
     → IfErr r (λ e. (past : List Step) → Backs past p.recorder → MayBeRecorded p.recorder.nodes node past s
@@ -299,11 +301,14 @@ settles a new w count all same = λ past b.
     }
 
 -- ---- a new journal
+abbrev opening : ℕ → Action
+opening n = record { node = n; kind = Opening }
+
 opens_first : (n i : ℕ) → i < n → IsTrue (list_any (is_action i Opening) (openings n))
 opens_first zero i l = absurd (omega (arith, l))
 opens_first (suc n) i l = elim (same_or i n) [
-  | inl e ↦ subst (λ (m : ℕ). IsTrue (is_action m Opening (record { node = n; kind = Opening }) || list_any (is_action m Opening) (openings n))) (sym e)
-      (or_left (is_action n Opening (record { node = n; kind = Opening })) _ (grind (arith, nat_tests)))
+  | inl e ↦ subst (λ (m : ℕ). IsTrue (is_action m Opening (opening n) || list_any (is_action m Opening) (openings n))) (sym e)
+      (or_left (is_action n Opening (opening n)) _ (grind (arith, nat_tests)))
   | inr o ↦ or_right _ _ (opens_first n i (omega (arith, l, o)))
 ]
 

@@ -161,7 +161,8 @@ pub begin_leads : (p q : Inside) (node t : ℕ) → on_board.IsReady node t p.bo
 begin_leads p q node t r records same h nodes progress =
     subst (λ (a : PoolState). Leads (Begins node t a) (state_of p) a) (sym (begun_state p q t nodes progress h)) (λ past b.
     let is : slice_get (map entry_of p.board.tasks) t ≡ Some (entry_of r.task) = map_get entry_of p.board.tasks t r.task r.is in
-    let fresh : slice_get (map stage_of p.board.tasks) t ≡ Some stage.Fresh = map_get stage_of p.board.tasks t r.task r.is ∙ ap Some r.fresh in
+    let fresh : slice_get (map stage_of p.board.tasks) t ≡ Some stage.Fresh =
+    map_get stage_of p.board.tasks t r.task r.is ∙ ap Some r.fresh in
     record {
       now = Begin (record { 0 = t }) ∷ past;
       behind = behind_begin t q.journal b fresh (records past b.journal (may_begin node t (entry_of r.task) b fresh is r.home)) same;
@@ -276,8 +277,8 @@ finished_state p q t nodes progress h =
     rw (nodes, progress, h.becomes) (seen_stage p.nodes p.progress q.journal p.board t h.was stage.Done h.is)
 
 -- a task of the board, in the words of the pool, is at home at its node
-pub home_of_task : (p : Inside) (now : PoolState) (node t : ℕ) (x : Task) → state_of p ≡ now → IsHome node t now → slice_get p.board.tasks t ≡ Some x
-    → x.node ≡ node
+pub home_of_task : (p : Inside) (now : PoolState) (node t : ℕ) (x : Task) → state_of p ≡ now → IsHome node t now
+    → slice_get p.board.tasks t ≡ Some x → x.node ≡ node
 home_of_task p now node t x same home is =
     (subst (λ (a : PoolState). IsHome node t a) (sym same) home) (entry_of x) (map_get entry_of p.board.tasks t x is)
 
@@ -287,7 +288,8 @@ pub complete_leads : (p q : Inside) (now : PoolState) (node t : ℕ) → state_o
 complete_leads p q now node t at home records same h nodes progress =
     subst (λ (a : PoolState). Leads (Ends t) (state_of p) a) (sym (finished_state p q t nodes progress h)) (λ past b.
     let is : slice_get (map entry_of p.board.tasks) t ≡ Some (entry_of h.was) = map_get entry_of p.board.tasks t h.was h.is in
-    let runs : slice_get (map stage_of p.board.tasks) t ≡ Some stage.Running = map_get stage_of p.board.tasks t h.was h.is ∙ ap Some h.running in
+    let runs : slice_get (map stage_of p.board.tasks) t ≡ Some stage.Running =
+    map_get stage_of p.board.tasks t h.was h.is ∙ ap Some h.running in
     record {
       now = Done (record { 0 = t }) ∷ past;
       behind = behind_done t q.journal b runs
@@ -589,7 +591,8 @@ module _ (p q : Inside) (now : PoolState) (node k : ℕ) (same : state_of p ≡ 
       → Leads (Adds is_delivery) (state_of p) (state_of q)
   receive_leads records kind h nodes progress =
       let here : IsComing node k (state_of p) = subst (λ (a : PoolState). IsComing node k a) (sym same) came in
-      subst (λ (a : PoolState). Leads (Adds is_delivery) (state_of p) a) (sym (arrived_state p q k h.0 nodes progress h.1)) (λ past b. record {
+      subst (λ (a : PoolState). Leads (Adds is_delivery) (state_of p) a) (sym (arrived_state p q k h.0 nodes progress h.1))
+      (λ past b. record {
         now = receipt node k ∷ past;
         behind = behind_receive node k q.journal b here.under_way
             (coming_there (state_of p) (receipt node k ∷ past) node k

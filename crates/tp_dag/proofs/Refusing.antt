@@ -106,8 +106,8 @@ send_refused p now node t k e r kept f same runs home at out h =
     let m = (f.counted e.target y.0 y.1).home in
     let to = (f.placed k e at).home y.0 y.1 in
     let b = kept.board in
-    h.1 kept.past kept.behind.journal (may_send node e.to k t (entry_of x.0) kept.behind (omega (arith, l, here, b)) (omega (arith, m, to, b))
-    h.0 (map_get way_of p.board.edges k e at ∙ ap Some out)
+    h.1 kept.past kept.behind.journal (may_send node e.to k t (entry_of x.0) kept.behind (omega (arith, l, here, b))
+    (omega (arith, m, to, b)) h.0 (map_get way_of p.board.edges k e at ∙ ap Some out)
     (subst (λ (a : PoolState). slice_get a.stages t ≡ Some stage.Running) (sym same) runs) is here)
 
 -- the judgement of a pool that is quiet and has not ended

@@ -89,7 +89,8 @@ inserts_more {tasks} {old} {new} count x k b ready is l none records same =
     at_home y h = let e : Some x ≡ Some y = sym is ∙ h in cc
 
 -- ---- opening actions end
-ready_tasks : (n : ℕ) (later past : List Step) → IsTrue (list_all is_readying later) → (world n (later ++ past)).tasks ≡ (world n past).tasks
+ready_tasks : (n : ℕ) (later past : List Step) → IsTrue (list_all is_readying later)
+    → (world n (later ++ past)).tasks ≡ (world n past).tasks
 ready_tasks n [] past h = refl
 ready_tasks n (Ready i ∷ later) past h = ready_tasks n later past h
 ready_tasks n (s ∷ later) past h = cc
@@ -218,8 +219,8 @@ kept_again p q k r g size kept nodes keeps_steps ended = record {
 }
 
 pub is_again : (p q : Inside) (now : PoolState) → IsPool p → state_of p ≡ now → IsReset p.board q.board
-    → IsBeginning p.board.tasks (length p.board.tasks) q.journal → q.journal.recorded.nodes ≡ p.board.nodes → keeps q.journal ≡ p.keeps_steps
-    → q.nodes ≡ p.nodes → q.progress ≡ record { started = true; extended = false } → IsAgain now (state_of q)
+    → IsBeginning p.board.tasks (length p.board.tasks) q.journal → q.journal.recorded.nodes ≡ p.board.nodes
+    → keeps q.journal ≡ p.keeps_steps → q.nodes ≡ p.nodes → q.progress ≡ record { started = true; extended = false } → IsAgain now (state_of q)
 is_again p q now k same r g size kept nodes progress =
     subst (λ (a : PoolState). IsAgain a (state_of q)) same (record {
       nodes = nodes;

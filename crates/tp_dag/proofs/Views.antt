@@ -39,7 +39,8 @@ made n s ts ss us ws os st =
           st;
     }
 
-same_state : (n : ℕ) (s : Progress) (st : JournalState) (ts ts' : List Entry) (ss ss' : List Stage) (us us' : List Input) (ws ws' : List Way)
+same_state : (n : ℕ) (s : Progress) (st : JournalState) (ts ts' : List Entry) (ss ss' : List Stage)
+    (us us' : List Input) (ws ws' : List Way)
     (os os' : List ℕ)
     → ts ≡ ts' → ss ≡ ss' → us ≡ us' → ws ≡ ws' → os ≡ os' → made n s ts ss us ws os st ≡ made n s ts' ss' us' ws' os' st
 same_state n s st ts ts' ss ss' us us' ws ws' os os' a b c d e =
@@ -140,7 +141,8 @@ consistent n s st b f same = record {
       (some_same e.0.way way.Out (sym (map_get way_of b.edges k e.0 e.1) ∙ out));
 }
 
-pub lacks_seen : (n : ℕ) (s : Progress) (st : JournalState) (b : BoardState) (t : ℕ) → on_board.LacksInput t b → LacksInput t (seen n s b st)
+pub lacks_seen : (n : ℕ) (s : Progress) (st : JournalState) (b : BoardState) (t : ℕ) → on_board.LacksInput t b
+    → LacksInput t (seen n s b st)
 lacks_seen n s st b t (inl h) = inl (
   h.0,
   record {
@@ -152,7 +154,8 @@ lacks_seen n s st b t (inl h) = inl (
 )
 lacks_seen n s st b t (inr h) = inr (h.0.outside, map_get outside_of b.tasks t h.0 h.1, h.2)
 
-pub lacks_board : (n : ℕ) (s : Progress) (st : JournalState) (b : BoardState) (t : ℕ) → LacksInput t (seen n s b st) → on_board.LacksInput t b
+pub lacks_board : (n : ℕ) (s : Progress) (st : JournalState) (b : BoardState) (t : ℕ) → LacksInput t (seen n s b st)
+    → on_board.LacksInput t b
 lacks_board n s st b t (inl h) =
     let m = h.1 in
     let e = map_got input_of b.edges h.0 m.input m.is in

@@ -65,6 +65,7 @@ abbrev pub state_of : Inside → PoolState
 state_of p = seen p.nodes p.progress p.board p.journal
 
 -- ---- the invariant
+
 -- There is a list of steps behind the pool, and the end was reported if it was judged.
 pub record IsPool (p : Inside) : Type 0 where
   pub board : p.board.nodes ≡ p.nodes

@@ -151,8 +151,8 @@ impl Journal {
     /// Runs the waves of a quiet pool until they judge that it has terminated. Returns the wave at whose end it had.
     pub fn settle(&mut self) -> Result<u32, Refusal>
         ensures ok { IfOk result (λ w. JournalLeads (IsJudged self.old.recorded.nodes w) self.old self.new) }
-        ensures room { IfErr result (λ r. (past : List Step) → IsBehindJournal past self.old → IsFalse (is_ended self.old.recorded.nodes past)
-            → IsQuiet (world self.old.recorded.nodes past) → IsTrue (is_of_room (keeps self.old) r)) }
+        ensures room { IfErr result (λ r. (past : List Step) → IsBehindJournal past self.old
+            → IsFalse (is_ended self.old.recorded.nodes past) → IsQuiet (world self.old.recorded.nodes past) → IsTrue (is_of_room (keeps self.old) r)) }
         ensures err { OnErr result (self.new ≡ self.old) }
         ensures same { SameKind self.old self.new }
     {

@@ -267,7 +267,8 @@ impl Pool {
         ensures wait { result ≡ Ok Next.Wait → IsIdle node self.new }
         ensures waiting { result ≡ Ok Next.Wait → AddsOnly is_delivery self.old self.new }
         ensures err { OnErr result (AddsOnly is_delivery self.old self.new) }
-        ensures refused { IfErr result (λ r. (first_refusal (next_checks self.old node) ≡ Some r) ⊎ IsTrue (is_of_room (keeps self.old.journal) r)) }
+        ensures refused { IfErr result (λ r. (first_refusal (next_checks self.old node) ≡ Some r)
+            ⊎ IsTrue (is_of_room (keeps self.old.journal) r)) }
         ensures graph { SameGraph self.old self.new }
         ensures ways { AreDelivered node self.old self.new }
         ensures begun { BeginsMore (dispatched result) self.old self.new }

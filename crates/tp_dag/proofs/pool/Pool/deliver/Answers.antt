@@ -26,4 +26,5 @@ returns-then-is_from-clause-adds c =
     ways_only is_delivery c.args.self.now c.arrive.new.self _ c.arrive.ensures.ways c.arrive.ensures.steps
 
 pub returns-clause-room : goal.returns-clause-room
-returns-clause-room c = room_after_if c.args.self.now c.receive.new.self c.end_message.result c.receive.ensures.adds c.end_message.ensures.room
+returns-clause-room c =
+    room_after_if c.args.self.now c.receive.new.self c.end_message.result c.receive.ensures.adds c.end_message.ensures.room

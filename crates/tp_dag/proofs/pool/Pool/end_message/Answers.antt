@@ -22,8 +22,8 @@ pub returns-clause-adds : goal.returns-clause-adds
 returns-clause-adds c =
     let q = record c.self.inside { journal = c.end_message.new.self } in
     adds_only c.self.inside q c.args.self.now is_delivery c.self.view_is refl refl refl c.end_message.ensures.same.keeps
-    (ends_deliver (adds_journal c.self.inside q is_ending ending_leaves c.end_message.ensures.adds c.end_message.ensures.same.nodes refl refl
-    refl))
+    (ends_deliver (adds_journal c.self.inside q is_ending ending_leaves c.end_message.ensures.adds c.end_message.ensures.same.nodes refl
+    refl refl))
 
 pub returns-clause-room : goal.returns-clause-room
 returns-clause-room c =

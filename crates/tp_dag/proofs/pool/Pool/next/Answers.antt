@@ -41,7 +41,8 @@ returns-in-None-clause-refused c =
 pub returns-in_err-receive_all-clause-begun : goal.returns-in_err-receive_all-clause-begun
 returns-in_err-receive_all-clause-begun c =
     let p = err_from_is_err_and c.from_residual.result c.from_residual.ensures.1 in
-    none_begins _ _ (dispatched c.from_residual.result) c.receive_all.ensures.adds.stages (λ t. refused_none c.from_residual.result p.0 t p.1)
+    none_begins _ _ (dispatched c.from_residual.result) c.receive_all.ensures.adds.stages
+    (λ t. refused_none c.from_residual.result p.0 t p.1)
 
 pub returns-in_err-task-clause-begun : goal.returns-in_err-task-clause-begun
 returns-in_err-task-clause-begun c =
