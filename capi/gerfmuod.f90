@@ -46,6 +46,13 @@ module gerfmuod
       integer(c_int32_t) :: refused
     end function
 
+    function gerfmuod_team_open_untraced(team, nodes) bind(c) result(refused)
+      import :: c_ptr, c_int32_t
+      type(c_ptr), intent(out) :: team
+      integer(c_int32_t), value :: nodes
+      integer(c_int32_t) :: refused
+    end function
+
     subroutine gerfmuod_team_close(team) bind(c)
       import :: c_ptr
       type(c_ptr), value :: team

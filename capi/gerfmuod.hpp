@@ -58,10 +58,11 @@ class Pool {
   public:
     using Body = std::function<void()>;
 
-    // Throws Refused: BadSpec if `nodes` is not 1 to 8, NoMemory.
-    explicit Pool(std::uint32_t nodes = 1) {
+    // If it is not traced, trace() is empty, a run takes less time and memory, and the limit of some 349,000 tasks is that of
+    // gerfmuod_team_open_untraced. Throws Refused: BadSpec if `nodes` is not 1 to 8, NoMemory.
+    explicit Pool(std::uint32_t nodes = 1, bool is_traced = true) {
         gerfmuod_team *opened;
-        std::uint32_t refused = gerfmuod_team_open(&opened, nodes);
+        std::uint32_t refused = (is_traced ? gerfmuod_team_open : gerfmuod_team_open_untraced)(&opened, nodes);
         team.reset(opened);
         if (refused) throw Refused(refused, GERFMUOD_DAG_NONE);
     }
@@ -142,7 +143,7 @@ class Pool {
     std::unique_ptr<gerfmuod_team, Close> team;
     mutable std::mutex lock; // of what follows; a body is read without it: its task was taken after it was written
     std::uint32_t count = 0;
-    std::array<std::unique_ptr<Body[]>, 16> blocks; // for more tasks than a pool can have
+    std::array<std::unique_ptr<Body[]>, 22> blocks; // for more tasks than a pool can have
     std::exception_ptr thrown;
 };
 

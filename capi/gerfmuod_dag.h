@@ -45,12 +45,17 @@ extern "C" {
 #define GERFMUOD_DAG_CLASSES 4u
 /* No task has this number. */
 #define GERFMUOD_DAG_NONE UINT32_MAX
-/* The most steps of a run: 3 for each task, 3 for each input that comes from another node, at most 10 for each node. */
+/* The most tasks, and the most inputs, of a graph. */
+#define GERFMUOD_DAG_MAX_TASKS 134217728u
+#define GERFMUOD_DAG_MAX_INPUTS 536870912u
+/* The most steps of a run of a traced pool: 3 for each task, 3 for each input that comes from another node, at most 10 for
+ * each node. In any pool the most messages that a node sends in a run, the most that it receives, and the most inputs from
+ * outside that a task awaits. */
 #define GERFMUOD_DAG_MAX_STEPS 1048576u
 
 /* Why a call was refused. A refused call changes nothing, except for NO_MEMORY as described at gerfmuod_dag_start,
- * gerfmuod_dag_next and gerfmuod_dag_done. The names and numbers are those of gerfmuod.h. Every call except gerfmuod_dag_open
- * is refused as NO_POOL if the pool is not open, before any other check. */
+ * gerfmuod_dag_next and gerfmuod_dag_done. The names and numbers are those of gerfmuod.h. Every call except those that open
+ * a pool is refused as NO_POOL if the pool is not open, before any other check. */
 enum gerfmuod_dag_refusal {
     GERFMUOD_DAG_OK = 0,            /* the call was not refused */
     GERFMUOD_DAG_NO_NODE = 1,       /* there is no such node, or the task is at another node */
@@ -58,7 +63,7 @@ enum gerfmuod_dag_refusal {
     GERFMUOD_DAG_WRONG_LIFE = 5,    /* the task, or the pool, is not in the state that the call needs */
     GERFMUOD_DAG_INACTIVE = 6,      /* the pool was started, and all tasks of this node are done */
     GERFMUOD_DAG_ENDED = 15,        /* the pool is over */
-    GERFMUOD_DAG_HISTORY_FULL = 16, /* a number would be above GERFMUOD_DAG_MAX_STEPS: of steps, or what the call says */
+    GERFMUOD_DAG_HISTORY_FULL = 16, /* a number would be above its limit: of steps, messages, or what the call says */
     GERFMUOD_DAG_NO_MEMORY = 17,    /* an allocation failed */
     GERFMUOD_DAG_NO_POOL = 24,      /* the pool is not open: it was closed, or its opening was refused */
     GERFMUOD_DAG_BAD_SPEC = 26      /* a pool cannot have that many nodes, or there is no such class */
@@ -81,7 +86,7 @@ typedef struct gerfmuod_dag {
 typedef struct gerfmuod_dag_answer {
     uint32_t refused; /* GERFMUOD_DAG_OK, or why the call was refused */
     uint32_t told;    /* an enum gerfmuod_dag_told */
-    uint32_t number;  /* a task or a wave; if the refusal is HISTORY_FULL, the number of steps */
+    uint32_t number;  /* a task or a wave; if the refusal is HISTORY_FULL, the limit */
     uint32_t news;    /* bit i is set if a thread that waits at node i should call again */
 } gerfmuod_dag_answer;
 
@@ -91,25 +96,32 @@ typedef struct gerfmuod_dag_taken {
     uint32_t first, second, third;
 } gerfmuod_dag_taken;
 
-/* Opens a pool with the nodes 0 to nodes - 1. It allocates nothing. Returns GERFMUOD_DAG_OK, or BAD_SPEC if `nodes` is not
- * 1 to 8: the pool is then not open. Do not open a pool that is open: what it allocated would be lost. */
+/* Opens a pool with the nodes 0 to nodes - 1, which keeps its steps for a trace. It allocates nothing. Returns
+ * GERFMUOD_DAG_OK, or BAD_SPEC if `nodes` is not 1 to 8: the pool is then not open. Do not open a pool that is open: what it
+ * allocated would be lost. */
 uint32_t gerfmuod_dag_open(gerfmuod_dag *dag, uint32_t nodes);
+
+/* The same, but the pool keeps no step: it is not traced. It allocates nothing for steps, and their number has no limit, so
+ * nothing below is refused for a lack of steps, and gerfmuod_dag_next and gerfmuod_dag_done are never refused as NO_MEMORY. All
+ * that is proved holds as for a traced pool. */
+uint32_t gerfmuod_dag_open_untraced(gerfmuod_dag *dag, uint32_t nodes);
 
 /* Describes one more task, at a node and of a class, with no input so far. `number` of the result is its number: the
  * number of tasks before it. After the start a new task is held, so that no thread can get it half described: it waits for one
  * input from outside. Its maker calls gerfmuod_dag_input for each task that it waits for, and then gerfmuod_dag_release. Other
  * calls may come between them, but gerfmuod_dag_input is about the newest task: no other task may be added before the last one.
- * Refused, for the first reason that applies: NO_NODE; BAD_SPEC (class); HISTORY_FULL if there are GERFMUOD_DAG_MAX_STEPS
- * tasks; ENDED if gerfmuod_dag_next has returned OVER; HISTORY_FULL if the pool was started and has fewer than 3 steps left;
- * NO_MEMORY; INACTIVE if the pool was started and all tasks of the node are done. A task that runs is not done: it can always
- * add tasks at its own node. A start that ran out of memory may have begun at a node, and counts as one there. */
+ * Refused, for the first reason that applies: NO_NODE; BAD_SPEC (class); HISTORY_FULL if there are GERFMUOD_DAG_MAX_TASKS
+ * tasks; ENDED if gerfmuod_dag_next has returned OVER; HISTORY_FULL if the pool is traced, was started and has fewer than 3
+ * steps left; INACTIVE if the pool was started and all tasks of the node are done; NO_MEMORY; HISTORY_FULL if the pool is
+ * traced and has no step left. A task that runs is not done: it can always add tasks at its own node. A start that ran out of
+ * memory may have begun at a node, and counts as one there. */
 gerfmuod_dag_answer gerfmuod_dag_task(gerfmuod_dag *dag, uint32_t node, uint32_t class_);
 
 /* The newest task waits for one more task, whose number is lower. An input may be given twice. If that task is done already,
  * there is nothing to wait for, and no input is added. Refused, for the first reason that applies: NO_TASK; HISTORY_FULL if
- * there are GERFMUOD_DAG_MAX_STEPS inputs; WRONG_LIFE if gerfmuod_dag_next returned the newest task, or if the pool was started
- * and the task waits for nothing, so that it may be returned at any time; HISTORY_FULL if the pool was started, has fewer than 3
- * steps left, and the input comes from another node; NO_MEMORY. */
+ * there are GERFMUOD_DAG_MAX_INPUTS inputs; WRONG_LIFE if gerfmuod_dag_next returned the newest task, or if the pool was
+ * started and the task waits for nothing, so that it may be returned at any time; HISTORY_FULL if the pool is traced, was started,
+ * has fewer than 3 steps left, and the input comes from another node; NO_MEMORY. */
 gerfmuod_dag_answer gerfmuod_dag_input(gerfmuod_dag *dag, uint32_t task);
 
 /* One more input from outside for a task, which is not returned before gerfmuod_dag_release was called once for each of them.
@@ -124,28 +136,30 @@ gerfmuod_dag_answer gerfmuod_dag_outside(gerfmuod_dag *dag, uint32_t task);
 gerfmuod_dag_answer gerfmuod_dag_release(gerfmuod_dag *dag, uint32_t task);
 
 /* All tasks are described: gerfmuod_dag_next may return them. Refused before any task runs, for the first reason that applies:
- * WRONG_LIFE if the pool was started before; HISTORY_FULL if the whole graph needs more steps than there are; NO_MEMORY,
- * after which gerfmuod_dag_start may be called again. */
+ * WRONG_LIFE if the pool was started before; if it is traced, HISTORY_FULL if the whole graph needs more steps than there
+ * are, and NO_MEMORY, after which gerfmuod_dag_start may be called again. */
 gerfmuod_dag_answer gerfmuod_dag_start(gerfmuod_dag *dag);
 
 /* What a thread of this node does next: GERFMUOD_DAG_RUN, WAIT or OVER. If it is RUN and the node has another ready task,
  * `news` has the bit of this node. Refused, for the first reason that applies: WRONG_LIFE if the pool was not started, NO_NODE;
- * NO_MEMORY, after which gerfmuod_dag_next may be called again: no task was returned, but messages may have been received. */
+ * HISTORY_FULL if the node has received GERFMUOD_DAG_MAX_STEPS messages; if the pool is traced, NO_MEMORY, after which
+ * gerfmuod_dag_next may be called again: no task was returned, but messages may have been received. */
 gerfmuod_dag_answer gerfmuod_dag_next(gerfmuod_dag *dag, uint32_t node);
 
 /* A task of this node was run. `news` has the bits of the other nodes to which it sent a message. Refused, for the first
  * reason that applies: NO_TASK, WRONG_LIFE if gerfmuod_dag_next did not return the task or it is done already, NO_NODE;
- * NO_MEMORY, after which gerfmuod_dag_done may be called again: some messages may have been sent, none is sent twice, and the
- * `news` of the call that succeeds has the nodes of all of them. */
+ * HISTORY_FULL if the node has sent GERFMUOD_DAG_MAX_STEPS messages; if the pool is traced, NO_MEMORY, after which
+ * gerfmuod_dag_done may be called again: some messages may have been sent, none is sent twice, and the `news` of the call that
+ * succeeds has the nodes of all of them. */
 gerfmuod_dag_answer gerfmuod_dag_done(gerfmuod_dag *dag, uint32_t node, uint32_t task);
 
 /* The same graph once more, after GERFMUOD_DAG_OVER: all tasks wait again for their inputs, and gerfmuod_dag_next may be
  * called at once. Inputs from outside have to be declared again, which a task without inputs cannot do: it may be returned at
  * any time. The steps are those of the new run. Refused, and nothing changes: WRONG_LIFE if gerfmuod_dag_next has not returned
- * OVER, or if a task or an input was added after the start; NO_MEMORY. */
+ * OVER, or if a task or an input was added after the start; NO_MEMORY if the pool is traced. */
 gerfmuod_dag_answer gerfmuod_dag_again(gerfmuod_dag *dag);
 
-/* The step with number k, from 0. Its kind is 255 if there is none, or if the pool is not open. */
+/* The step with number k, from 0. Its kind is 255 if there is none, or if the pool is not traced or not open. */
 gerfmuod_dag_taken gerfmuod_dag_step(const gerfmuod_dag *dag, uint32_t k);
 
 /* Frees what the pool allocated. The pool is then not open, and may be opened again. Refused: NO_POOL. */

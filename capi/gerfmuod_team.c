@@ -20,8 +20,8 @@
 /* The number of polls of a thread in one turn before it sleeps: 20 to 100 microseconds. */
 enum { SPINS = 2000, ALL_NODES = (1 << GERFMUOD_DAG_MAX_NODES) - 1 };
 
-/* Some GERFMUOD_STEP_* of gerfmuod.h, and the kind of a step that is not there. */
-enum { STEP_START = 10, STEP_JUDGE = 14, NO_STEP = 255 };
+/* Some GERFMUOD_STEP_* of gerfmuod.h. */
+enum { STEP_START = 10, STEP_JUDGE = 14 };
 
 struct gerfmuod_team {
     gerfmuod_dag dag;
@@ -35,7 +35,8 @@ struct gerfmuod_team {
     uint32_t executing;         /* tasks that were returned and are not done */
     uint32_t waiting, spinning; /* threads that wait, and those of them that spin */
     bool is_complete; /* the pool was started: a new task is held until it is released */
-    bool is_over, is_in_run;
+    bool is_traced, is_over, is_in_run;
+    uint32_t waves; /* of a run that is over */
     struct profile *profile; /* NULL unless the team records */
     char apart[64]; /* keeps the counters that spinning threads read off the cache lines above */
     uint32_t version[GERFMUOD_DAG_MAX_NODES]; /* incremented at news; read without the lock */
@@ -52,11 +53,11 @@ static uint32_t processors(void) {
     return online > 0 ? (uint32_t)online : 1;
 }
 
-uint32_t gerfmuod_team_open(gerfmuod_team **opened, uint32_t nodes) {
+static uint32_t open_team(gerfmuod_team **opened, uint32_t nodes, bool is_traced) {
     *opened = NULL;
     gerfmuod_team *team = calloc(1, sizeof *team);
     if (!team) return GERFMUOD_DAG_NO_MEMORY;
-    uint32_t refused = gerfmuod_dag_open(&team->dag, nodes);
+    uint32_t refused = is_traced ? gerfmuod_dag_open(&team->dag, nodes) : gerfmuod_dag_open_untraced(&team->dag, nodes);
     if (refused) {
         free(team);
         return refused;
@@ -69,9 +70,14 @@ uint32_t gerfmuod_team_open(gerfmuod_team **opened, uint32_t nodes) {
     team->nodes = nodes;
     team->processors = processors();
     team->at = GERFMUOD_DAG_NONE;
+    team->is_traced = is_traced;
     *opened = team;
     return GERFMUOD_DAG_OK;
 }
+
+uint32_t gerfmuod_team_open(gerfmuod_team **team, uint32_t nodes) { return open_team(team, nodes, true); }
+
+uint32_t gerfmuod_team_open_untraced(gerfmuod_team **team, uint32_t nodes) { return open_team(team, nodes, false); }
 
 void gerfmuod_team_close(gerfmuod_team *team) {
     if (!team) return;
@@ -326,6 +332,7 @@ static inline ALWAYS_INLINE gerfmuod_dag_answer take(gerfmuod_team *team, uint32
                 tell(team, ALL_NODES, true);
             }
             team->is_over = true;
+            team->waves = answer.number + 1; /* the last wave showed that the pool had ended with the one before */
             return answer;
         }
         if (team->fault) break;
@@ -497,12 +504,6 @@ static uint32_t check_recorded(gerfmuod_team *team) {
     return GERFMUOD_DAG_OK;
 }
 
-static uint32_t waves_of(const gerfmuod_team *team) {
-    uint32_t waves = 0, kind;
-    for (uint32_t k = 0; (kind = gerfmuod_dag_step(&team->dag, k).kind) != NO_STEP; k++) waves += kind == STEP_START;
-    return waves;
-}
-
 /* Writes a text about the run that was recorded: the events, or the summary. */
 static uint32_t write_recorded(gerfmuod_team *team, FILE *file, bool is_summary) {
     struct times times;
@@ -511,7 +512,7 @@ static uint32_t write_recorded(gerfmuod_team *team, FILE *file, bool is_summary)
     if (!refused && !profile_times(team->profile, &times)) refused = refuse(team, GERFMUOD_DAG_NO_MEMORY, GERFMUOD_DAG_NONE);
     if (!refused) {
         if (is_summary) profile_summarize(file, team->profile, &times);
-        else profile_write(file, team->profile, &times, waves_of(team));
+        else profile_write(file, team->profile, &times, team->is_over ? team->waves : 0);
         free(times.tasks);
         if (fflush(file) || ferror(file)) refused = refuse(team, GERFMUOD_TEAM_NOT_WRITTEN, GERFMUOD_DAG_NONE);
     }
@@ -600,10 +601,12 @@ size_t gerfmuod_team_trace(gerfmuod_team *team, char *room, size_t length) {
     uint32_t waves = 0;
     gerfmuod_dag_taken step;
     pthread_mutex_lock(&team->lock);
-    uint32_t last_wave = team->is_over ? waves_of(team) : 0;
-    append(&text, "trace 1\nnodes");
-    append_number(&text, team->nodes);
-    append(&text, "\n");
+    uint32_t last_wave = team->is_over ? team->waves : 0;
+    if (team->is_traced) {
+        append(&text, "trace 1\nnodes");
+        append_number(&text, team->nodes);
+        append(&text, "\n");
+    }
     for (uint32_t k = 0; (step = gerfmuod_dag_step(&team->dag, k)).kind <= STEP_JUDGE; k++) {
         waves += step.kind == STEP_START;
         append_step(&text, step, waves, last_wave);

@@ -45,8 +45,13 @@ enum gerfmuod_team_refusal {
 /* The body of all tasks: runs one of them. Returns 0 if the task is done; another value if it failed, and the team stops. */
 typedef int (*gerfmuod_team_body)(void *context, uint32_t task);
 
-/* Opens a team with an empty graph. Refused: BAD_SPEC if `nodes` is not 1 to 8; NO_MEMORY. *team is then NULL. */
+/* Opens a team with an empty graph, which keeps its steps for gerfmuod_team_trace: at most GERFMUOD_DAG_MAX_STEPS, which are
+ * about 349,000 tasks. Refused: BAD_SPEC if `nodes` is not 1 to 8; NO_MEMORY. *team is then NULL. */
 uint32_t gerfmuod_team_open(gerfmuod_team **team, uint32_t nodes);
+
+/* The same, but the team keeps no step: gerfmuod_team_trace returns an empty text, a run takes less time and memory, and there
+ * may be GERFMUOD_DAG_MAX_TASKS tasks. */
+uint32_t gerfmuod_team_open_untraced(gerfmuod_team **team, uint32_t nodes);
 
 /* Frees the team. No thread may be in a call on it. NULL is ignored. */
 void gerfmuod_team_close(gerfmuod_team *team);
@@ -74,7 +79,7 @@ typedef void (*gerfmuod_team_attach)(void *data, uint32_t task);
  * as all are there. Before it can run, attach(data, its number) is called, unless `attach` is NULL, and its number is written to
  * *number, unless that is NULL. Refused, and nothing changes: NO_TASK if an input is not the number of an earlier task; NO_NODE;
  * BAD_SPEC (class); ENDED if all tasks are done; HISTORY_FULL if `outside` is above GERFMUOD_DAG_MAX_STEPS; and in a run:
- * NO_THREAD if the node has no thread; HISTORY_FULL if fewer than 3 steps are left; NO_MEMORY; INACTIVE if all tasks of the node
+ * NO_THREAD if the node has no thread; HISTORY_FULL if the team is traced and fewer than 3 steps are left; NO_MEMORY; INACTIVE if all tasks of the node
  * are done, which is never so at the node of a body that runs. A body that is refused can do the work of the task itself.
  * Refused, and every later call is refused for the same reason: HISTORY_FULL or NO_MEMORY before the start, and in a run if it is
  * an input that is refused, since the task must not run without it. */
@@ -113,7 +118,7 @@ const char *gerfmuod_team_name(uint32_t refused);
 const char *gerfmuod_team_meaning(uint32_t refused);
 
 /* Writes the steps of the pool as a trace, which `tp audit` judges: at most `length` bytes with a zero byte at the end.
- * Returns the length of the whole text without that byte, as snprintf does. */
+ * Returns the length of the whole text without that byte, as snprintf does. The text is empty if the team is not traced. */
 size_t gerfmuod_team_trace(gerfmuod_team *team, char *room, size_t length);
 
 /* ---- what a run spent its time on */

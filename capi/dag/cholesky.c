@@ -96,7 +96,7 @@ static int body(void *context, uint32_t task) { return run(((const job *)context
 
 static void by_pool(uint32_t nodes, uint32_t threads) {
     graph g = graph_of(nodes);
-    gerfmuod_team *team = open_team(nodes);
+    gerfmuod_team *team = open_team(nodes, 0);
     need(gerfmuod_team_describe(team, g.tasks, g.nodes, g.classes, g.offsets, g.inputs), "describe");
     need(gerfmuod_team_run(team, nodes * threads, body, g.jobs), "run");
     close_team(team);

@@ -2,6 +2,7 @@
  *
  *   grain [--profile FILE] SHAPE TASKS ITERATIONS ROUNDS WAY..     shapes.h describes the SHAPEs; a WAY is
  *     NxT     a pool of N nodes with T threads each; task t is at node t modulo N
+ *     NxTt    the same, and the pool keeps its steps for a trace
  *     loop    the bodies in sequence
  *     omp:T   OpenMP's tasks with `depend`     (built with -fopenmp)
  *
@@ -19,11 +20,11 @@ static int body(void *context, uint32_t task) {
     return 0;
 }
 
-static void by_pool(uint32_t nodes, uint32_t threads) {
+static void by_pool(uint32_t nodes, uint32_t threads, int is_traced) {
     uint8_t *homes = malloc((size_t)task_count + 1);
     need(!homes, "malloc");
     for (uint32_t t = 0; t < task_count; t++) homes[t] = (uint8_t)(t % nodes);
-    gerfmuod_team *team = open_team(nodes);
+    gerfmuod_team *team = open_team(nodes, is_traced);
     need(gerfmuod_team_describe(team, task_count, homes, NULL, offsets, inputs), "describe");
     need(gerfmuod_team_run(team, nodes * threads, body, NULL), "run");
     close_team(team);
@@ -62,7 +63,9 @@ static void by_openmp(int threads) {
 
 static void go(const char *way) {
     unsigned nodes, threads;
-    if (sscanf(way, "%ux%u", &nodes, &threads) == 2) by_pool(nodes, threads);
+    char end;
+    int found = sscanf(way, "%ux%u%c", &nodes, &threads, &end);
+    if (found == 2 || (found == 3 && end == 't')) by_pool(nodes, threads, found == 3);
     else if (!strcmp(way, "loop"))
         for (uint32_t t = 0; t < task_count; t++) run_shape_task(t);
 #ifdef _OPENMP

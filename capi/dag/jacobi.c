@@ -47,7 +47,7 @@ static int body(void *context, uint32_t task) {
 static void by_pool(uint32_t nodes, uint32_t threads, int steps_of_graph) {
     gerfmuod_team *team;
     need(steps_of_graph <= 0 || steps % steps_of_graph, "K does not divide STEPS");
-    need(gerfmuod_team_open(&team, nodes), "open");
+    need(gerfmuod_team_open_untraced(&team, nodes), "open");
     for (int s = 0; s < steps_of_graph; s++)
         for (int i = 0; i < blocks; i++)
             for (int j = 0; j < blocks; j++) {

@@ -16,9 +16,9 @@ static inline void take_profile_option(int *argc, char ***argv) {
     *argc -= 2, *argv += 2;
 }
 
-static inline gerfmuod_team *open_team(uint32_t nodes) {
+static inline gerfmuod_team *open_team(uint32_t nodes, int is_traced) {
     gerfmuod_team *team;
-    need(gerfmuod_team_open(&team, nodes), "open");
+    need((is_traced ? gerfmuod_team_open : gerfmuod_team_open_untraced)(&team, nodes), "open");
     if (profile_path) need(gerfmuod_team_record(team, SLICES), "record");
     return team;
 }

@@ -55,7 +55,7 @@ static uint32_t describe(gerfmuod_team *team, size_t from, size_t end, uint32_t 
 
 static void by_pool(uint32_t nodes, uint32_t threads) {
     gerfmuod_team *team;
-    need(gerfmuod_team_open(&team, nodes), "open");
+    need(gerfmuod_team_open_untraced(&team, nodes), "open");
     describe(team, 0, length, nodes);
     need(gerfmuod_team_run(team, nodes * threads, body, NULL), "run");
     gerfmuod_team_close(team);

@@ -45,6 +45,8 @@ static void check_description(void) {
     for (int i = 0; i < 3; i++) {
         check("open with a wrong number of nodes", gerfmuod_dag_open(&dag, counts[i]), GERFMUOD_DAG_BAD_SPEC);
         check_not_open(&dag);
+        check("the same, not traced", gerfmuod_dag_open_untraced(&dag, counts[i]), GERFMUOD_DAG_BAD_SPEC);
+        check_not_open(&dag);
     }
     check("open", gerfmuod_dag_open(&dag, 2), GERFMUOD_DAG_OK);
     check("input without a task", gerfmuod_dag_input(&dag, 0).refused, GERFMUOD_DAG_NO_TASK);
@@ -265,6 +267,25 @@ static void check_growth_limits(void) {
     gerfmuod_dag_close(&dag);
 }
 
+/* A pool that is not traced runs more tasks than a traced one has steps for, twice. */
+static void check_untraced_limits(void) {
+    gerfmuod_dag dag;
+    const uint32_t tasks = 1200000;
+    check("open", gerfmuod_dag_open_untraced(&dag, 2), GERFMUOD_DAG_OK);
+    for (uint32_t t = 0; t < tasks; t++) {
+        gerfmuod_dag_task(&dag, t % 64 == 0, 0);
+        if (t % 32 == 0 && t) gerfmuod_dag_input(&dag, t - 32);
+    }
+    check("a graph of 1,200,000 tasks", gerfmuod_dag_start(&dag).refused, GERFMUOD_DAG_OK);
+    check("all of them run", run_all(&dag, 2), tasks);
+    check("to the end", gerfmuod_dag_next(&dag, 1).told, GERFMUOD_DAG_OVER);
+    check("no step is kept", gerfmuod_dag_step(&dag, 0).kind, 255);
+    check("again", gerfmuod_dag_again(&dag).refused, GERFMUOD_DAG_OK);
+    check("all of them run again", run_all(&dag, 2), tasks);
+    check("no step is kept again", gerfmuod_dag_step(&dag, 0).kind, 255);
+    gerfmuod_dag_close(&dag);
+}
+
 /* The library writes only to the memory of the pool. */
 static void check_size(void) {
     struct {
@@ -337,6 +358,26 @@ static void check_team_limits(void) {
     check("take too many steps", gerfmuod_team_run(team, 4, count_body, &ran), GERFMUOD_DAG_HISTORY_FULL);
     check("and again", gerfmuod_team_run(team, 1, count_body, &ran), GERFMUOD_DAG_HISTORY_FULL);
     check("none of them runs", ran, 0);
+    gerfmuod_team_close(team);
+}
+
+/* A team without a trace has no limit of steps. */
+static void check_untraced_team(void) {
+    gerfmuod_team *team;
+    uint32_t ran = 0, refused = 0;
+    char room[8] = "none";
+    check("untraced team of 9 nodes", gerfmuod_team_open_untraced(&team, 9), GERFMUOD_DAG_BAD_SPEC);
+    check("is none", team == NULL, 1);
+    gerfmuod_team_open_untraced(&team, 1);
+    for (uint32_t t = 0; t < 400000; t++) refused |= gerfmuod_team_task(team, 0, 0, NULL, 0, NULL);
+    check("400,000 tasks", refused, GERFMUOD_DAG_OK);
+    check("run without a trace", gerfmuod_team_run(team, 4, count_body, &ran), GERFMUOD_DAG_OK);
+    check("each of them runs", ran, 400000);
+    check("and there is no trace", (uint32_t)gerfmuod_team_trace(team, room, sizeof room), 0);
+    check("but an empty text", room[0] == 0, 1);
+    check("once more", gerfmuod_team_again(team), GERFMUOD_DAG_OK);
+    check("they run", gerfmuod_team_run(team, 4, count_body, &ran), GERFMUOD_DAG_OK);
+    check("each of them", ran, 800000);
     gerfmuod_team_close(team);
 }
 
@@ -626,7 +667,7 @@ int main(int argc, char **argv) {
     check_again();
     check_growth();
     check_size();
-    if (argc == 1) check_limits(), check_outside_limit(), check_growth_limits(), check_team_limits();
+    if (argc == 1) check_limits(), check_outside_limit(), check_growth_limits(), check_untraced_limits(), check_team_limits(), check_untraced_team();
     check_team_description();
     check_team_run();
     check_team_again();

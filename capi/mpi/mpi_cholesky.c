@@ -284,7 +284,7 @@ int main(int argc, char **argv) {
     openblas_set_num_threads(1);
 #endif
     allocate_all();
-    need(gerfmuod_team_open(&team, 1), "open");
+    need(gerfmuod_team_open_untraced(&team, 1), "open");
     describe();
     MPI_Barrier(MPI_COMM_WORLD);
     double from = MPI_Wtime();

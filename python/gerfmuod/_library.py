@@ -49,6 +49,7 @@ def _declare(library: ctypes.CDLL) -> ctypes.CDLL:
     numbers = ctypes.POINTER(u32)
     types = {
         "gerfmuod_team_open": (u32, [ctypes.POINTER(ctypes.c_void_p), u32]),
+        "gerfmuod_team_open_untraced": (u32, [ctypes.POINTER(ctypes.c_void_p), u32]),
         "gerfmuod_team_close": (None, [team]),
         "gerfmuod_team_spawn": (u32, [team, u32, u32, numbers, size, u32, team, team, numbers]),
         "gerfmuod_team_outside": (u32, [team, u32]),

@@ -60,6 +60,8 @@ class Pool:
 
     Args:
         nodes: the number of groups of tasks, 1 to 8. One is right in most cases.
+        traced: whether the pool keeps its steps for :meth:`trace`. Then it can have some 349,000
+            tasks; without, 134,217,728, and a run takes less time and memory.
 
     Raises:
         Refused: ``BadSpec`` if ``nodes`` is not 1 to 8; ``NoMemory``.
@@ -69,9 +71,10 @@ class Pool:
     :meth:`release`.
     """
 
-    def __init__(self, nodes: int = 1) -> None:
+    def __init__(self, nodes: int = 1, *, traced: bool = True) -> None:
         team = ctypes.c_void_p()
-        refused = library.gerfmuod_team_open(ctypes.byref(team), _number(nodes))
+        open_team = library.gerfmuod_team_open if traced else library.gerfmuod_team_open_untraced
+        refused = open_team(ctypes.byref(team), _number(nodes))
         if refused:
             raise Refused(refused)
         self._team: Optional[ctypes.c_void_p] = team
@@ -210,7 +213,7 @@ class Pool:
             job.forget()
 
     def trace(self) -> str:
-        """Returns the steps of the pool as a trace, which ``tp audit`` judges.
+        """Returns the steps of the pool as a trace, which ``tp audit`` judges; empty without ``traced``.
 
         Raises:
             ValueError: the pool is closed.

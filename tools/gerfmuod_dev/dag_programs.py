@@ -65,6 +65,7 @@ def programs(is_full):
     spawn = [Run(["1500000", "4", "1", "4", "8"], 0, sorted_by), Run(["2500000", "2", "1", "4"], 0, "349522 tasks")]
     small_grain = [[shape, "200", "1", "1", "3x1"] for shape in SHAPES]
     ways = ["loop", "1x1", "1x4", "2x2", "8x1"]
+    grains = [*ways[:-1], "2x2t", "8x1"]
     # a graph of so many steps of Jacobi, run again and again
     repeated = ["1x4:1", "2x2:2", "4x1:5"]
     return [
@@ -75,9 +76,10 @@ def programs(is_full):
         Program("jacobi.c", C, [], [Run(["128", "16", "20", "1", *repeated, *ways], 0, "8x1 1280")], [["32", "16", "3", "1", "2x2", "2x2:1"]]),
         Program("cholesky.c", C, ["-lm"], [Run(["256", "32", "1", *ways, "whole:1"], 0, "8x1 120")], [["64", "16", "1", "2x2"]]),
         Program("recursion.c", C, [], [Run(["100000", "500", "1", *ways], 0, "8x1 511")], [["2000", "100", "1", "2x2"]]),
-        Program("grain.c", C, [], [Run([shape, "5000", "10", "1", *ways], 0, "8x1 5000") for shape in SHAPES], small_grain),
+        Program("grain.c", C, [], [Run([shape, "5000", "10", "1", *grains], 0, "8x1 5000") for shape in SHAPES], small_grain),
         Program("outside.c", C, [], outside, [["30", "4", "2"]]),
         Program("spawn.c", C, [], spawn, [["20000", "4", "1", "4"]]),
+        Program("growth.c", C, [], [Run(["6000000", "500", "4"], 0, "6000000 tasks, each ran once")], [["3000", "0", "1", "4"]]),
         Program("fibonacci.cpp", CPP, [], [Run(["20", "4"], 0, "6765, 32837 tasks; a loop: 6765")], [["12", "3"]]),
         Program("failures.c", C, WRAPPED, [Run([], 0, ", 0 not as they should be")], []),
         Program("failures.c", [*C, *ADDRESS], WRAPPED, [Run([], 0, ", 0 not as they should be")], []),

@@ -1,21 +1,23 @@
--- The results of `next` and `done` on a pool of task graphs meet their contracts.
-use Rattle.std.proofs.Common.{ℕ, ◌≡◌, ◌≢◌, ◌≤◌, ◌+◌, length, Bool, true, false, List, [], ◌∷◌, refl, arith, ap, sym, subst, ◌∙◌, Some, None, Option, Result, IsTrue, IsFalse}
+-- The results of the calls on a pool of task graphs meet their contracts.
+use Rattle.std.proofs.Common.{ℕ, ◌≡◌, ◌≢◌, ◌≤◌, ◌+◌, length, Bool, true, false, List, [], ◌∷◌, refl, arith, ap, sym, subst, ◌∙◌, Some, None, Option, Result, IsTrue, IsFalse, inl}
+use Rattle.std.proofs.lemmas.Bool.{both_ways}
 use Rattle.std.specs.Prelude.{Ok, Err, IfSome, not, slice_get, if◌then◌else◌}
 use Rattle.tp_base.specs.declared.Refusal.{Refusal}
 use Rattle.tp_base.specs.declared.Refusal.TheVariants as refusal
 use Rattle.tp_base.specs.Checks.{Check, first_refusal}
 use Rattle.tp_base.specs.Refusals.{number_of}
-use Rattle.tp_wave.specs.Steps.{count}
-use Rattle.tp_core.specs.NeverEarly.{is_begin_of}
 use Rattle.tp_dag.specs.Again.{IsAgain}
 use Rattle.tp_dag.specs.declared.Next.{Next}
 use Rattle.tp_dag.specs.declared.Next.TheVariants.{Run, Wait, Finished}
 use Rattle.tp_dag.specs.declared.entry.Stage.TheVariants as stage
-use Rattle.tp_dag.specs.State.{PoolState, AddsOnly, SameGraph, IsInputAdded, IsFinished, IsDispatched, IsCompleted, IsIdle, MayWait, AreDelivered, AreSent, dispatched, extends, is_delivery, is_sending, input_checks, next_checks, done_checks}
+use Rattle.tp_dag.specs.State.{PoolState, AddsOnly, SameGraph, IsTaskAdded, IsInputAdded, IsFinished, IsDispatched, IsCompleted, IsIdle, MayWait, AreDelivered, AreSent, BeginsMore, dispatched, extends, task_checks, input_checks, next_checks, done_checks}
+use Rattle.tp_dag.specs.Journal.{is_delivery, is_sending}
+use Rattle.tp_dag.proofs.Ended.{none_begins}
+use Rattle.tp_dag.proofs.Steps.{same_graph, adds_none}
 use Rattle.gerfmuod.specs.declared.dag.answer.DagAnswer.{DagAnswer}
 use Rattle.gerfmuod.specs.declared.dag.slot.PoolSlot.TheInside.{Inside}
 use Rattle.gerfmuod.specs.DagSlot.{state_of}
-use Rattle.gerfmuod.specs.Dag.{SlotState, RefusesBy, IsInput, IsInputRefusal, IsNext, IsNextRefusal, IsDone, IsAgainCall, checks, next_answer, plain, refusal_answer}
+use Rattle.gerfmuod.specs.Dag.{SlotState, RefusesBy, IsTask, IsInput, IsInputRefusal, IsNext, IsRefusalBy, IsDone, IsAgainCall, checks, next_answer, plain, refusal_answer}
 
 -- The number of a refusal is at least 1.
 pub some_number : (r : Refusal) → 1 ≤ number_of r
@@ -64,6 +66,13 @@ open_refuses : (old new : SlotState) (more : List Check) (a : DagAnswer) → IsT
 open_refuses old new more a live h =
     subst (λ (b : Bool). IfSome (first_refusal ((not b, refusal.NoPool) ∷ more)) (λ r. (a.refused ≡ number_of r) × (new ≡ old))) (sym live) h
 
+-- A pool that is not open does not.
+shut_refuses : (old : SlotState) (more : List Check) → IsFalse old.is_open
+    → RefusesBy (checks old more) old (refusal_answer refusal.NoPool) old
+shut_refuses old more shut =
+    subst (λ (b : Bool). IfSome (first_refusal ((not b, refusal.NoPool) ∷ more))
+    (λ r. (number_of refusal.NoPool ≡ number_of r) × (old ≡ old))) (sym shut) (refl, refl)
+
 abbrev Same : (A : Type 0) → Result A Refusal → Result A Refusal → Type 0
 Same A x y = x ≡ y
 
@@ -84,13 +93,61 @@ failed : (A : Type 0) (o : Option Refusal) (e : Refusal) (S T : Type 0) → (S �
 failed A None e S T f h = tt
 failed A (Some r) e S T f h = (ap number_of (same_err A e r h.0), f h.1)
 
+-- The same, of a call that changes nothing if it is refused.
+none_refused : {A : Type 0} (o : Option Refusal) (x : A) (Q : Refusal → Type 0) → IfSome o (λ r. Same A (Ok x) (Err r)) → IfSome o Q
+none_refused None x Q h = tt
+none_refused (Some r) x Q h = absurd (never_ok x r h)
+
+by_check : (A : Type 0) {T : Type 0} (o : Option Refusal) (e : Refusal) → T → IfSome o (λ r. Same A (Err e) (Err r))
+    → IfSome o (λ r. (number_of e ≡ number_of r) × T)
+by_check A None e t h = tt
+by_check A (Some r) e t h = (ap number_of (same_err A e r h), t)
+
+-- ---- task
+pub task_done : (p : Inside) (now : SlotState) (pool : PoolState) (node class number : ℕ) → state_of p ≡ now → IsTrue now.is_open
+    → IfSome (first_refusal (task_checks p.pool node class)) (λ r. Same ℕ (Ok number) (Err r)) → IsTaskAdded node class number p.pool pool
+    → IsTask now node class (plain number 0) (state_of (record p { pool = pool }))
+task_done p now pool node class number same live check is =
+    subst (λ (a : SlotState). IsTask a node class (plain number 0) (state_of (record p { pool = pool }))) same (record {
+      checked = open_refuses (state_of p) (state_of (record p { pool = pool })) (task_checks p.pool node class) (plain number 0)
+          (ap (λ (a : SlotState). a.is_open) same ∙ live)
+          (none_refused {A = ℕ} (first_refusal (task_checks p.pool node class)) number _ check);
+      added = λ z. is;
+      refused = λ s. absurd (omega (arith, s));
+    })
+
+pub task_refused : (p : Inside) (now : SlotState) (pool : PoolState) (node class : ℕ) (e : Refusal) → state_of p ≡ now → IsTrue now.is_open
+    → IfSome (first_refusal (task_checks p.pool node class)) (λ r. Same ℕ (Err e) (Err r)) → pool ≡ p.pool
+    → IsTask now node class (refusal_answer e) (state_of (record p { pool = pool }))
+task_refused p now pool node class e same live check is =
+    let still : state_of (record p { pool = pool }) ≡ state_of p = slot_same (state_of p) (state_of (record p { pool = pool })) refl is in
+    subst (λ (a : SlotState). IsTask a node class (refusal_answer e) (state_of (record p { pool = pool }))) same (record {
+      checked = open_refuses (state_of p) (state_of (record p { pool = pool })) (task_checks p.pool node class) (refusal_answer e)
+          (ap (λ (a : SlotState). a.is_open) same ∙ live) (by_check ℕ (first_refusal (task_checks p.pool node class)) e still check);
+      added = λ z. absurd (not_zero e (number_of e) refl z);
+      refused = λ s. still;
+    })
+
 -- ---- next
+pub next_shut : (now : SlotState) (node : ℕ) → IsFalse now.is_open → IsNext now node (refusal_answer refusal.NoPool) now
+next_shut now node shut = record {
+  checked = shut_refuses now (next_checks now.pool node) shut;
+  exact = λ live z. absurd (both_ways now.is_open shut live);
+  run = λ z. absurd (omega (arith, z));
+  finished = λ z. absurd (omega (arith, z));
+  wait = λ z. absurd (omega (arith, z));
+  refused = λ z. adds_none is_delivery now.pool;
+  graph = same_graph now.pool;
+  ways = λ k. inl refl;
+  begun = none_begins now.pool now.pool (λ t. 0) refl (λ t. refl);
+}
+
 pub next_done : (p : Inside) (now : SlotState) (pool : PoolState) (node news : ℕ) (n : Next) → state_of p ≡ now → IsTrue now.is_open
     → IfSome (first_refusal (next_checks p.pool node)) (λ r. Same Next (Ok n) (Err r) × (pool ≡ p.pool))
     → ((t : ℕ) → n ≡ Run t → IsDispatched node t p.pool pool) → ((w : ℕ) → n ≡ Finished w → IsFinished pool)
     → (Same Next (Ok n) (Ok Wait) → IsIdle node pool) → (Same Next (Ok n) (Ok Wait) → AddsOnly is_delivery p.pool pool) → SameGraph p.pool pool
     → AreDelivered node p.pool pool
-    → ((t : ℕ) → count (is_begin_of t) pool.steps ≡ count (is_begin_of t) p.pool.steps + dispatched (Ok n) t)
+    → BeginsMore (dispatched (Ok n)) p.pool pool
     → IsNext now node (next_answer n news) (state_of (record p { pool = pool }))
 next_done p now pool node news n same live check run finished wait waiting graph ways begun =
     subst (λ (a : SlotState). IsNext a node (next_answer n news) new) same (by_kind n check run finished wait waiting begun)
@@ -104,7 +161,7 @@ next_done p now pool node news n same live check run finished wait waiting graph
     by_kind : (m : Next) → IfSome (first_refusal (next_checks p.pool node)) (λ r. Same Next (Ok m) (Err r) × (pool ≡ p.pool))
         → ((t : ℕ) → m ≡ Run t → IsDispatched node t p.pool pool) → ((w : ℕ) → m ≡ Finished w → IsFinished pool)
         → (Same Next (Ok m) (Ok Wait) → IsIdle node pool) → (Same Next (Ok m) (Ok Wait) → AddsOnly is_delivery p.pool pool)
-        → ((t : ℕ) → count (is_begin_of t) pool.steps ≡ count (is_begin_of t) p.pool.steps + dispatched (Ok m) t)
+        → BeginsMore (dispatched (Ok m)) p.pool pool
         → IsNext (state_of p) node (next_answer m news) new
     by_kind (Run u) c r f w d b = record {
       checked = open_refuses (state_of p) new (next_checks p.pool node) (next_answer (Run u) news) here
@@ -145,8 +202,8 @@ next_done p now pool node news n same live check run finished wait waiting graph
 
 pub next_refused : (p : Inside) (now : SlotState) (pool : PoolState) (node : ℕ) (e : Refusal) → state_of p ≡ now → IsTrue now.is_open
     → IfSome (first_refusal (next_checks p.pool node)) (λ r. Same Next (Err e) (Err r) × (pool ≡ p.pool)) → AddsOnly is_delivery p.pool pool
-    → IsNextRefusal node p.pool e → SameGraph p.pool pool → AreDelivered node p.pool pool
-    → ((t : ℕ) → count (is_begin_of t) pool.steps ≡ count (is_begin_of t) p.pool.steps + dispatched (Err e) t)
+    → IsRefusalBy (next_checks p.pool node) p.pool e → SameGraph p.pool pool → AreDelivered node p.pool pool
+    → BeginsMore (dispatched (Err e)) p.pool pool
     → IsNext now node (refusal_answer e) (state_of (record p { pool = pool }))
 next_refused p now pool node e same live check err exact graph ways begun =
     subst (λ (a : SlotState). IsNext a node (refusal_answer e) (state_of (record p { pool = pool }))) same (record {
@@ -165,15 +222,26 @@ next_refused p now pool node e same live check err exact graph ways begun =
     })
 
 -- ---- done
+pub done_shut : (now : SlotState) (node task : ℕ) → IsFalse now.is_open → IsDone now node task (refusal_answer refusal.NoPool) now
+done_shut now node task shut = record {
+  checked = shut_refuses now (done_checks now.pool node task) shut;
+  exact = λ live z. absurd (both_ways now.is_open shut live);
+  done = λ z. absurd (not_zero refusal.NoPool (number_of refusal.NoPool) refl z);
+  refused = λ z. adds_none is_sending now.pool;
+  ways = λ k. inl refl;
+  begun = none_begins now.pool now.pool (λ t. 0) refl (λ t. refl);
+}
+
 pub done_done : (p : Inside) (now : SlotState) (pool : PoolState) (node task news : ℕ) → state_of p ≡ now → IsTrue now.is_open
     → IfSome (first_refusal (done_checks p.pool node task)) (λ r. Same ℕ (Ok news) (Err r) × (pool ≡ p.pool))
-    → IsCompleted task p.pool pool → AreSent task p.pool pool → ((t : ℕ) → count (is_begin_of t) pool.steps ≡ count (is_begin_of t) p.pool.steps)
+    → IsCompleted task p.pool pool → AreSent task p.pool pool → BeginsMore (λ t. 0) p.pool pool
     → IsDone now node task (plain 0 news) (state_of (record p { pool = pool }))
 done_done p now pool node task news same live check is ways begun =
     subst (λ (a : SlotState). IsDone a node task (plain 0 news) (state_of (record p { pool = pool }))) same (record {
       checked = open_refuses (state_of p) (state_of (record p { pool = pool })) (done_checks p.pool node task) (plain 0 news)
           (ap (λ (a : SlotState). a.is_open) same ∙ live)
           (passed {A = ℕ} (first_refusal (done_checks p.pool node task)) news (pool ≡ p.pool) _ check);
+      exact = λ live s. absurd (omega (arith, s));
       done = λ z. is;
       refused = λ s. absurd (omega (arith, s));
       ways = ways;
@@ -182,14 +250,16 @@ done_done p now pool node task news same live check is ways begun =
 
 pub done_refused : (p : Inside) (now : SlotState) (pool : PoolState) (node task : ℕ) (e : Refusal) → state_of p ≡ now → IsTrue now.is_open
     → IfSome (first_refusal (done_checks p.pool node task)) (λ r. Same ℕ (Err e) (Err r) × (pool ≡ p.pool))
-    → AddsOnly is_sending p.pool pool → AreSent task p.pool pool → ((t : ℕ) → count (is_begin_of t) pool.steps ≡ count (is_begin_of t) p.pool.steps)
+    → AddsOnly is_sending p.pool pool → IsRefusalBy (done_checks p.pool node task) p.pool e → AreSent task p.pool pool
+    → BeginsMore (λ t. 0) p.pool pool
     → IsDone now node task (refusal_answer e) (state_of (record p { pool = pool }))
-done_refused p now pool node task e same live check is ways begun =
+done_refused p now pool node task e same live check is exact ways begun =
     subst (λ (a : SlotState). IsDone a node task (refusal_answer e) (state_of (record p { pool = pool }))) same (record {
       checked = open_refuses (state_of p) (state_of (record p { pool = pool })) (done_checks p.pool node task) (refusal_answer e)
           (ap (λ (a : SlotState). a.is_open) same ∙ live)
           (failed ℕ (first_refusal (done_checks p.pool node task)) e (pool ≡ p.pool) (state_of (record p { pool = pool }) ≡ state_of p)
           (slot_same (state_of p) (state_of (record p { pool = pool })) refl) check);
+      exact = λ live s. (e, refl, exact);
       done = λ z. absurd (not_zero e (number_of e) refl z);
       refused = λ s. is;
       ways = ways;
@@ -206,17 +276,13 @@ pub input_done : (p : Inside) (now : SlotState) (pool : PoolState) (source : ℕ
 input_done p now pool source same live check added done waits =
     subst (λ (a : SlotState). IsInput a source (plain 0 0) (state_of (record p { pool = pool }))) same (record {
       checked = open_refuses (state_of p) (state_of (record p { pool = pool })) (input_checks p.pool source) (plain 0 0)
-          (ap (λ (a : SlotState). a.is_open) same ∙ live) (none_refused (first_refusal (input_checks p.pool source)) _ check);
+          (ap (λ (a : SlotState). a.is_open) same ∙ live) (none_refused {A = Unit {0}} (first_refusal (input_checks p.pool source)) tt _ check);
       added = λ z. added;
       done = λ z. done;
       waits = λ z. waits;
       refused = λ s. absurd (omega (arith, s));
       exact = λ live s. absurd (omega (arith, s));
     })
-  where
-    none_refused : (o : Option Refusal) (Q : Refusal → Type 0) → IfSome o (λ r. Same (Unit {0}) (Ok tt) (Err r)) → IfSome o Q
-    none_refused None Q h = tt
-    none_refused (Some r) Q h = absurd (never_ok tt r h)
 
 pub input_refused : (p : Inside) (now : SlotState) (pool : PoolState) (source : ℕ) (e : Refusal) → state_of p ≡ now → IsTrue now.is_open
     → IfSome (first_refusal (input_checks p.pool source)) (λ r. Same (Unit {0}) (Err e) (Err r)) → pool ≡ p.pool → IsInputRefusal source p.pool e
@@ -225,17 +291,13 @@ input_refused p now pool source e same live check is exact =
     let still : state_of (record p { pool = pool }) ≡ state_of p = slot_same (state_of p) (state_of (record p { pool = pool })) refl is in
     subst (λ (a : SlotState). IsInput a source (refusal_answer e) (state_of (record p { pool = pool }))) same (record {
       checked = open_refuses (state_of p) (state_of (record p { pool = pool })) (input_checks p.pool source) (refusal_answer e)
-          (ap (λ (a : SlotState). a.is_open) same ∙ live) (by_check (first_refusal (input_checks p.pool source)) still check);
+          (ap (λ (a : SlotState). a.is_open) same ∙ live) (by_check (Unit {0}) (first_refusal (input_checks p.pool source)) e still check);
       added = λ z. absurd (not_zero e (number_of e) refl z);
       done = λ z. absurd (not_zero e (number_of e) refl z);
       waits = λ z. absurd (not_zero e (number_of e) refl z);
       refused = λ s. still;
       exact = λ live s. (e, refl, exact);
     })
-  where
-    by_check : {T : Type 0} (o : Option Refusal) → T → IfSome o (λ r. Same (Unit {0}) (Err e) (Err r)) → IfSome o (λ r. (number_of e ≡ number_of r) × T)
-    by_check None t h = tt
-    by_check (Some r) t h = (ap number_of (same_err (Unit {0}) e r h), t)
 
 -- ---- again
 pub again_done : (p : Inside) (now : SlotState) (pool : PoolState) → state_of p ≡ now → IsTrue now.is_open → IsFinished p.pool

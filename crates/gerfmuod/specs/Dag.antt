@@ -1,6 +1,6 @@
 -- The results and effects of the calls on a pool of task graphs.
 use Rattle.std.specs.Prelude.{ℕ, ◌+◌, ◌≡◌, ◌≢◌, ◌≤◌, ◌==◌, ◌&&◌, ◌⊎◌, Bool, false, not, nat_le, length, List, [], ◌∷◌, if◌then◌else◌, IsTrue, IsFalse, IfSome}
-use Rattle.std.specs.Prelude.{Option, Some, None, slice_get, reverse}
+use Rattle.std.specs.Prelude.{Option, Some, None, slice_get}
 use Rattle.tp_base.specs.declared.Step.{Step}
 use Rattle.tp_base.specs.declared.Step.TheVariants.{Insert, Supply, Begin, Done, ActionOpen, ActionClose, Ready, Send, Recv, MessageEnd}
 use Rattle.tp_base.specs.declared.Step.TheVariants.{Start, Down, Give, Up, Judge, Reopen}
@@ -9,10 +9,9 @@ use Rattle.tp_base.specs.declared.limits.TheConstants.{MAX_STEPS}
 use Rattle.tp_base.specs.declared.Refusal.TheVariants.{WrongLife, HistoryFull, NoMemory, NoPool, BadSpec}
 use Rattle.tp_base.specs.Checks.{Check, first_refusal}
 use Rattle.tp_base.specs.Refusals.{number_of}
-use Rattle.tp_wave.specs.Steps.{count}
-use Rattle.tp_core.specs.NeverEarly.{is_begin_of}
 use Rattle.tp_dag.specs.State.{PoolState, AddsOnly, SameGraph, IsTaskAdded, IsInputAdded, IsStarted, IsOutsideAdded, IsReleased, IsDispatched, IsFinished, IsCompleted}
-use Rattle.tp_dag.specs.State.{IsIdle, MayWait, AreDelivered, AreSent, extends, is_readying, is_delivery, is_sending, is_of_room}
+use Rattle.tp_dag.specs.State.{IsBehind, BeginsMore, IsIdle, MayWait, AreDelivered, AreSent, extends}
+use Rattle.tp_dag.specs.Journal.{is_readying, is_delivery, is_sending, is_of_room, keeps, kept_step}
 use Rattle.tp_dag.specs.Again.{IsAgain}
 use Rattle.tp_dag.specs.State.{task_checks, input_checks, start_checks, outside_checks, release_checks, next_checks, done_checks}
 use Rattle.tp_dag.specs.declared.entry.Stage.TheVariants as stage
@@ -29,18 +28,39 @@ pub record SlotState : Type 0 where
 abbrev pub can_be : ℕ → Bool
 can_be n = nat_le 1 n && nat_le n 8
 
-abbrev pub empty : ℕ → PoolState
-empty n = record { nodes = n; started = false; extended = false; tasks = []; stages = []; inputs = []; ways = []; outside = []; steps = [] }
+-- A pool of n nodes without a task: the list without a step is behind it, which is kept if steps are.
+pub record IsEmpty (n : ℕ) (keeps_steps : Bool) (a : PoolState) : Type 0 where
+  pub graph : a ≡ record {
+    nodes = n;
+    started = false;
+    extended = false;
+    tasks = [];
+    stages = [];
+    inputs = [];
+    ways = [];
+    outside = [];
+    journal = a.journal;
+  }
+  pub behind : IsBehind [] a
+  pub kept : a.journal.recorded.steps ≡ (if keeps_steps then Some [] else None)
 
 -- a new pool; it is not open if a pool cannot have n nodes
-abbrev pub opened : ℕ → SlotState
-opened n = record { is_open = can_be n; pool = empty (if can_be n then n else 1) }
+pub record IsOpened (n : ℕ) (keeps_steps : Bool) (a : SlotState) : Type 0 where
+  pub mark : a.is_open ≡ can_be n
+  pub pool : IsEmpty (if can_be n then n else 1) keeps_steps a.pool
 
 abbrev pub opening : ℕ → ℕ
 opening n = if can_be n then 0 else number_of BadSpec
 
-abbrev pub closed : SlotState
-closed = record { is_open = false; pool = empty 1 }
+-- the result of opening a pool
+pub record IsOpening (n : ℕ) (keeps_steps : Bool) (returned : ℕ) (new : SlotState) : Type 0 where
+  pub code : returned ≡ opening n
+  pub opened : IsOpened n keeps_steps new
+
+-- a pool that was closed
+pub record IsShut (a : SlotState) : Type 0 where
+  pub not_open : IsFalse a.is_open
+  pub pool : IsEmpty 1 false a.pool
 
 -- The first check is that the pool is open.
 abbrev pub checks : SlotState → List Check → List Check
@@ -73,12 +93,12 @@ pub record IsTask (old : SlotState) (node class : ℕ) (a : DagAnswer) (new : Sl
   pub added : a.refused ≡ 0 → IsTaskAdded node class a.number old.pool new.pool
   pub refused : 1 ≤ a.refused → new ≡ old
 
--- Why the newest task does not get this input: by the first check that holds; or since it may not get one more; or a started pool has no
--- steps left for it; or for lack of memory.
+-- Why the newest task does not get this input: by the first check that holds; or since it may not get one more; or a started pool that
+-- keeps its steps has none left for it; or for lack of memory.
 abbrev pub IsInputRefusal : ℕ → PoolState → Refusal → Type 0
 IsInputRefusal source a r =
     (first_refusal (input_checks a source) ≡ Some r) ⊎ ((r ≡ WrongLife) × ((t : ℕ) → t + 1 ≡ length a.tasks → MayWait t a → ⊥))
-    ⊎ ((r ≡ HistoryFull MAX_STEPS) × IsTrue a.started)
+    ⊎ ((r ≡ HistoryFull MAX_STEPS) × IsTrue a.started × IsTrue (keeps a.journal))
     ⊎ (r ≡ NoMemory)
 
 -- `input`: nothing is added if the source is done.
@@ -110,27 +130,28 @@ pub record IsRelease (old : SlotState) (task : ℕ) (a : DagAnswer) (new : SlotS
 abbrev pub dispatched_by : DagAnswer → ℕ → ℕ
 dispatched_by a t = if a.told == 1 then (if a.number == t then 1 else 0) else 0
 
--- An open pool refuses `next` by the first check that holds, or for lack of memory or of room for steps.
-abbrev pub IsNextRefusal : ℕ → PoolState → Refusal → Type 0
-IsNextRefusal node a r = (first_refusal (next_checks a node) ≡ Some r) ⊎ IsTrue (is_of_room r)
+-- An open pool refuses `next` and `done` by the first check that holds, or for lack of room for steps, or of memory if it keeps them.
+abbrev pub IsRefusalBy : List Check → PoolState → Refusal → Type 0
+IsRefusalBy tests a r = (first_refusal tests ≡ Some r) ⊎ IsTrue (is_of_room (keeps a.journal) r)
 
 pub record IsNext (old : SlotState) (node : ℕ) (a : DagAnswer) (new : SlotState) : Type 0 where
   pub checked : RefusesBy (checks old (next_checks old.pool node)) old a new
-  pub exact : IsTrue old.is_open → 1 ≤ a.refused → (r : Refusal) × (a.refused ≡ number_of r) × IsNextRefusal node old.pool r
+  pub exact : IsTrue old.is_open → 1 ≤ a.refused → (r : Refusal) × (a.refused ≡ number_of r) × IsRefusalBy (next_checks old.pool node) old.pool r
   pub run : a.told ≡ 1 → IsDispatched node a.number old.pool new.pool
   pub finished : a.told ≡ 3 → IsFinished new.pool
   pub wait : a.told ≡ 2 → IsIdle node new.pool × AddsOnly is_delivery old.pool new.pool
   pub refused : 1 ≤ a.refused → AddsOnly is_delivery old.pool new.pool
   pub graph : SameGraph old.pool new.pool
   pub ways : AreDelivered node old.pool new.pool
-  pub begun : (t : ℕ) → count (is_begin_of t) new.pool.steps ≡ count (is_begin_of t) old.pool.steps + dispatched_by a t
+  pub begun : BeginsMore (dispatched_by a) old.pool new.pool
 
 pub record IsDone (old : SlotState) (node task : ℕ) (a : DagAnswer) (new : SlotState) : Type 0 where
   pub checked : RefusesBy (checks old (done_checks old.pool node task)) old a new
+  pub exact : IsTrue old.is_open → 1 ≤ a.refused → (r : Refusal) × (a.refused ≡ number_of r) × IsRefusalBy (done_checks old.pool node task) old.pool r
   pub done : a.refused ≡ 0 → IsCompleted task old.pool new.pool
   pub refused : 1 ≤ a.refused → AddsOnly is_sending old.pool new.pool
   pub ways : AreSent task old.pool new.pool
-  pub begun : (t : ℕ) → count (is_begin_of t) new.pool.steps ≡ count (is_begin_of t) old.pool.steps
+  pub begun : BeginsMore (λ t. 0) old.pool new.pool
 
 pub record IsAgainCall (old : SlotState) (a : DagAnswer) (new : SlotState) : Type 0 where
   pub checked : RefusesBy (checks old []) old a new
@@ -159,9 +180,9 @@ step_answer (Some Reopen) = record { kind = 15; first = 0; second = 0; third = 0
 step_answer None = record { kind = 255; first = 0; second = 0; third = 0 }
 
 pub record IsStep (old : SlotState) (k : ℕ) (a : DagStep) (new : SlotState) : Type 0 where
-  pub step : a ≡ (if old.is_open then step_answer (slice_get (reverse old.pool.steps) k) else step_answer None)
+  pub step : a ≡ (if old.is_open then step_answer (kept_step old.pool.journal.recorded.steps k) else step_answer None)
   pub same : new ≡ old
 
 pub record IsClosed (old : SlotState) (a : DagAnswer) (new : SlotState) : Type 0 where
   pub checked : RefusesBy (checks old []) old a new
-  pub closed : a.refused ≡ 0 → new ≡ closed
+  pub closed : a.refused ≡ 0 → IsShut new

@@ -1,14 +1,15 @@
 //! Task graphs whose bodies the caller runs, for programs in C: a pool in the caller's memory. The header
 //! `capi/gerfmuod_dag.h` states what a caller must ensure.
-ghost use Rattle.std.specs.Prelude.{◌≡◌};
+ghost use Rattle.std.specs.Prelude.{true, false};
 ghost use Rattle.std.specs.Borrow.{full_share, sem};
 ghost use Rattle.std.specs.Ptr.{lies_at, room_at};
 ghost use Rattle.gerfmuod.specs.contracts.dag.slot.PoolSlot.{the_row as slot_row};
-ghost use Rattle.gerfmuod.specs.Dag.{SlotState, opened, opening, IsTask, IsInput, IsStart, IsOutside, IsRelease, IsNext, IsDone, IsAgainCall, IsStep, IsClosed};
+ghost use Rattle.gerfmuod.specs.Dag.{SlotState, IsOpening, IsTask, IsInput, IsStart, IsOutside, IsRelease, IsNext, IsDone, IsAgainCall, IsStep, IsClosed};
 
 use crate::dag::answer::{DagAnswer, DagStep};
 use crate::dag::calls::{
-    again, close, done, input, made, next, opening, outside, release, start, step, task,
+    again, close, done, input, made, made_untraced, next, opening, outside, release, start, step,
+    task,
 };
 use crate::dag::slot::PoolSlot;
 use std::alloc::Global;
@@ -17,14 +18,26 @@ mod answer;
 mod calls;
 mod slot;
 
-/// Opens a pool of the nodes 0 to `nodes` - 1 in the memory at `pool`. It allocates nothing. Returns 0, or 26,
-/// `BadSpec`, if `nodes` is not 1 to 8: then the pool is not open.
+/// Opens a pool of the nodes 0 to `nodes` - 1 in the memory at `pool`, which keeps its steps. It allocates nothing.
+/// Returns 0, or 26, `BadSpec`, if `nodes` is not 1 to 8: then the pool is not open.
 #[unsafe(no_mangle)]
 pub unsafe extern "C" fn gerfmuod_dag_open(alloc: Global, pool: *mut u8, nodes: u32) -> u32
     requires* { sem 𝓛 (room_at slot_row pool) }
-    ensures* { sem 𝓛 (lies_at slot_row full_share pool (opened nodes)) ∗ ⌜ result ≡ opening nodes ⌝ }
+    ensures* { ∃ₛ (λ (new : SlotState). sem 𝓛 (lies_at slot_row full_share pool new) ∗ ⌜ IsOpening nodes true result new ⌝) }
 {
     let made = made(alloc, nodes);
+    (pool as *mut PoolSlot).write(made);
+    opening(nodes)
+}
+
+/// Opens a pool of the nodes 0 to `nodes` - 1 in the memory at `pool`, which keeps no step: it allocates nothing for
+/// steps, and their number has no limit. Returns what `gerfmuod_dag_open` returns.
+#[unsafe(no_mangle)]
+pub unsafe extern "C" fn gerfmuod_dag_open_untraced(alloc: Global, pool: *mut u8, nodes: u32) -> u32
+    requires* { sem 𝓛 (room_at slot_row pool) }
+    ensures* { ∃ₛ (λ (new : SlotState). sem 𝓛 (lies_at slot_row full_share pool new) ∗ ⌜ IsOpening nodes false result new ⌝) }
+{
+    let made = made_untraced(alloc, nodes);
     (pool as *mut PoolSlot).write(made);
     opening(nodes)
 }

@@ -1,6 +1,6 @@
 //! The pool of tasks that a caller runs, call by call: an input that is sent, one from outside, tasks that a running task adds.
 
-use tp_base::{MAX_STEPS, Refusal};
+use tp_base::{MAX_STEPS, NodeId, Refusal, Step, TaskId};
 use tp_dag::{Next, Pool};
 
 /// A call of `Pool`.
@@ -90,7 +90,7 @@ fn a_task_waits_for_a_message_and_for_the_outside(rt: HostRuntime) {
         (Call::Next(0), FINISHED),
         (Call::Next(1), FINISHED),
     ];
-    let mut pool = Pool::new(rt.alloc(), 2);
+    let mut pool = Pool::new(rt.alloc(), 2, true);
     assert_eq!(rt; first_wrong(&mut pool, rows.as_slice()), None);
 }
 
@@ -126,7 +126,7 @@ fn a_running_task_adds_tasks(rt: HostRuntime) {
         (Call::Task(0, 0), Err(Refusal::Ended)),
         (Call::Again, Err(Refusal::WrongLife)),
     ];
-    let mut pool = Pool::new(rt.alloc(), 2);
+    let mut pool = Pool::new(rt.alloc(), 2, false);
     assert_eq!(rt; first_wrong(&mut pool, rows.as_slice()), None);
 }
 
@@ -148,7 +148,51 @@ fn steps_are_counted_ahead(rt: HostRuntime) {
         (Call::Input(349_516), Ok(0)),
         (Call::Task(0, 0), full),
     ];
-    let mut pool = Pool::new(rt.alloc(), 2);
+    let mut pool = Pool::new(rt.alloc(), 2, true);
     add_tasks(&mut pool, 349_516);
     assert_eq!(rt; first_wrong(&mut pool, rows.as_slice()), None);
+}
+
+#[test]
+fn steps_that_are_not_kept_are_not_counted_ahead(rt: HostRuntime) {
+    let rows = [
+        (Call::Task(1, 0), Ok(349_523)),
+        (Call::Start, Ok(0)),
+        (Call::Task(1, 0), Ok(349_524)),
+        (Call::Input(0), Ok(0)),
+    ];
+    let mut pool = Pool::new(rt.alloc(), 2, false);
+    add_tasks(&mut pool, 349_523);
+    assert_eq!(rt; first_wrong(&mut pool, rows.as_slice()), None);
+    assert_eq!(rt; pool.step(0), None);
+}
+
+#[test]
+fn a_graph_runs_again(rt: HostRuntime) {
+    let rows = [
+        (Call::Task(0, 0), Ok(0)),
+        (Call::Task(1, 0), Ok(1)),
+        (Call::Input(0), Ok(0)),
+        (Call::Start, Ok(0)),
+        (Call::Again, Err(Refusal::WrongLife)),
+        (Call::Next(0), Ok(0)),
+        (Call::Done(0, 0), Ok(2)),
+        (Call::Next(1), Ok(1)),
+        (Call::Done(1, 1), Ok(0)),
+        (Call::Next(0), FINISHED),
+        (Call::Again, Ok(0)),
+        (Call::Next(1), WAIT),
+        (Call::Next(0), Ok(0)),
+        (Call::Done(0, 0), Ok(2)),
+        (Call::Next(1), Ok(1)),
+        (Call::Done(1, 1), Ok(0)),
+        (Call::Next(1), FINISHED),
+    ];
+    let mut kept = Pool::new(rt.alloc(), 2, true);
+    assert_eq!(rt; first_wrong(&mut kept, rows.as_slice()), None);
+    assert_eq!(rt; kept.step(3), Some(Step::Ready(NodeId(1))));
+    assert_eq!(rt; kept.step(4), Some(Step::Begin(TaskId(0))));
+    let mut unkept = Pool::new(rt.alloc(), 2, false);
+    assert_eq!(rt; first_wrong(&mut unkept, rows.as_slice()), None);
+    assert_eq!(rt; unkept.step(3), None);
 }

@@ -5,6 +5,7 @@ use Rattle.std.proofs.Math.ListN.{set}
 use Rattle.std.proofs.lemmas.Bool.Decides.{nat_tests}
 use Rattle.std.proofs.lemmas.List.{length_push}
 use Rattle.tp_base.specs.declared.limits.TheConstants.{MAX_STEPS}
+use Rattle.tp_dag.specs.declared.limits.TheConstants.{MAX_TASKS, MAX_INPUTS}
 use Rattle.tp_dag.specs.declared.entry.Task.{Task}
 use Rattle.tp_dag.specs.declared.entry.Edge.{Edge}
 use Rattle.tp_dag.specs.declared.entry.Stage.{Stage}
@@ -127,7 +128,7 @@ facts_both {a} k t e w x y f at is home same ok missing unsent c = record {
 fresh_lacks : (s : Stage) {P : Type 0} → IsTrue (is_fresh s) → is_fresh s ≡ false → P
 fresh_lacks s h g = cc
 
-pub facts_push_task : {a : BoardState} (y : Task) → BoardFacts a → length a.tasks < MAX_STEPS → y.node < a.nodes → y.outside ≤ MAX_STEPS
+pub facts_push_task : {a : BoardState} (y : Task) → BoardFacts a → length a.tasks < MAX_TASKS → y.node < a.nodes → y.outside ≤ MAX_STEPS
     → y.missing ≡ y.outside → y.unsent ≡ 0 → IsTrue (is_fresh y.stage) → BoardFacts (record a { tasks = a.tasks ++ y ∷ [] })
 facts_push_task {a} y f few home outside missing unsent fresh = record {
   few_nodes = f.few_nodes;
@@ -199,7 +200,7 @@ out_unsent_here : (source target : ℕ) (task : Task) → one (is_unsent source 
 out_unsent_here source target task = grind (arith, nat_tests)
 
 -- an edge that is not passed on is added: its target lacks one input more, its source has one output more to pass on
-module _ {a : BoardState} (source target : ℕ) (task from : Task) (f : BoardFacts a) (few : length a.edges < MAX_STEPS)
+module _ {a : BoardState} (source target : ℕ) (task from : Task) (f : BoardFacts a) (few : length a.edges < MAX_INPUTS)
     (newest : target + 1 ≡ length a.tasks) (before : source < target) (is : slice_get a.tasks target ≡ Some task)
     (of : slice_get a.tasks source ≡ Some from) (fresh : IsTrue (is_fresh task.stage)) (not_done : IsTrue (may_be way.Out from.stage)) where
   apart : source ≢ target

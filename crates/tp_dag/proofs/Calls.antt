@@ -5,6 +5,7 @@ use Rattle.std.specs.List.{slice_index_or}
 use Rattle.std.proofs.Math.ListN.{set}
 use Rattle.std.proofs.lemmas.Bool.Decides.{nat_tests}
 use Rattle.tp_base.specs.declared.limits.TheConstants.{MAX_NODES, MAX_STEPS}
+use Rattle.tp_dag.specs.declared.limits.TheConstants.{MAX_TASKS}
 use Rattle.tp_dag.specs.declared.entry.Task.{Task}
 use Rattle.tp_dag.specs.declared.entry.Edge.{Edge}
 use Rattle.tp_dag.specs.declared.entry.Stage.{Stage}
@@ -302,7 +303,7 @@ held_few : (held : Bool) → (if held then 1 else 0) ≤ MAX_STEPS
 held_few true = omega arith
 held_few false = omega arith
 
-pub added_task_facts : {a : BoardState} (node class : ℕ) (held : Bool) → BoardFacts a → length a.tasks < MAX_STEPS → node < a.nodes
+pub added_task_facts : {a : BoardState} (node class : ℕ) (held : Bool) → BoardFacts a → length a.tasks < MAX_TASKS → node < a.nodes
     → BoardFacts (record a { tasks = a.tasks ++ new_task node class held ∷ [] })
 added_task_facts node class held f few home = facts_push_task (new_task node class held) f few home (held_few held) refl refl refl
 

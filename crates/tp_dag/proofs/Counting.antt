@@ -5,7 +5,7 @@ use Rattle.std.specs.List.{slice_index_or}
 use Rattle.std.proofs.Math.ListN.{set}
 use Rattle.std.proofs.lemmas.Bool.Decides.{nat_tests}
 use Rattle.std.proofs.lemmas.List.{get_or-set_same, get_or-set_other}
-use Rattle.tp_base.specs.declared.limits.TheConstants.{MAX_NODES, MAX_STEPS}
+use Rattle.tp_base.specs.declared.limits.TheConstants.{MAX_NODES}
 use Rattle.tp_dag.specs.Counts.{count_where, AreCounts}
 
 abbrev pub one : Bool → ℕ
@@ -107,8 +107,8 @@ pub counts_some : {A : Type 0} {test : ℕ → A → Bool} {xs : List A} {ns : L
 counts_some {test = test} {xs = xs} k h x c is l o =
     let r = c.right h 0 l in let s = count_some (test h) xs k x is o in omega (arith, r, s)
 
-pub counts_few : {A : Type 0} {test : ℕ → A → Bool} {xs : List A} {ns : List ℕ} (h : ℕ) → AreCounts test xs ns → h < MAX_NODES
-    → length xs ≤ MAX_STEPS → slice_index_or ns h 0 ≤ MAX_STEPS
+pub counts_few : {A : Type 0} {test : ℕ → A → Bool} {xs : List A} {ns : List ℕ} {m : ℕ} (h : ℕ) → AreCounts test xs ns → h < MAX_NODES
+    → length xs ≤ m → slice_index_or ns h 0 ≤ m
 counts_few {test = test} {xs = xs} h c l few =
     let r = c.right h 0 l in let s = count_few (test h) xs in omega (arith, r, s, few)
 

@@ -1,5 +1,5 @@
 -- How inputs go on, over several calls.
-use Rattle.std.proofs.Common.{arith, ◌<◌, ℕ, ◌≡◌, ◌≢◌, List, Bool, IsTrue, Option, Some, refl, ap, subst, sym, ◌∙◌, inl, inr}
+use Rattle.std.proofs.Common.{arith, ◌<◌, ℕ, ◌≡◌, ◌≢◌, List, [], Bool, IsTrue, Option, Some, refl, ap, subst, sym, ◌∙◌, inl, inr}
 use Rattle.std.specs.Prelude.{slice_get}
 use Rattle.std.proofs.Math.ListN.{set}
 use Rattle.tp_base.specs.declared.Step.{Step}
@@ -9,7 +9,8 @@ use Rattle.tp_dag.specs.declared.entry.Stage.{Stage}
 use Rattle.tp_dag.specs.declared.entry.Stage.TheVariants as stage
 use Rattle.tp_dag.specs.declared.entry.Way.{Way}
 use Rattle.tp_dag.specs.declared.entry.Way.TheVariants as way
-use Rattle.tp_dag.specs.State.{PoolState, SameGraph, AddsOnly, IsComing, IsOutput, IsIdle, HasNoneReady, AreDelivered, AreSent, IsCompleted, is_delivery}
+use Rattle.tp_dag.specs.Journal.{Adds, keeps, is_delivery}
+use Rattle.tp_dag.specs.State.{PoolState, SameGraph, AddsOnly, Leads, SameSteps, IsComing, IsOutput, IsIdle, HasNoneReady, AreDelivered, AreSent, IsCompleted}
 use Rattle.tp_dag.specs.Kept.{IsHome, IsMarked}
 use Rattle.tp_dag.specs.Counts.{count_where, is_out, is_under_way}
 use Rattle.tp_dag.proofs.Lists.{set_here, set_there}
@@ -45,25 +46,23 @@ ways_graph a b e = record {
   tasks = ap (λ (x : PoolState). x.tasks) e;
   inputs = ap (λ (x : PoolState). x.inputs) e;
   outside = ap (λ (x : PoolState). x.outside) e;
+  keeps = ap (λ (x : PoolState). keeps x.journal) e;
 }
 
--- steps were added, then ways changed
-pub adds_ways : {test : Step → Bool} (a b c : PoolState) (ws : List Way) → AddsOnly test a b → c ≡ record b { ways = ws }
-    → AddsOnly test a c
-adds_ways {test} a b c ws x e = subst (λ (z : PoolState). AddsOnly test a z) (sym e) (record {
-  graph = record {
-    nodes = x.graph.nodes;
-    started = x.graph.started;
-    extended = x.graph.extended;
-    tasks = x.graph.tasks;
-    inputs = x.graph.inputs;
-    outside = x.graph.outside;
-  };
-  stages = x.stages;
-  later = x.later;
-  steps = x.steps;
-  only = x.only;
-})
+-- ---- the same steps
+pub same_then : {R : List Step → List Step → Type 0} {a b c : PoolState} → Leads R a b → SameSteps b c → Leads R a c
+same_then x y = λ past h. let one = x past h in record { now = one.now; behind = y one.now one.behind; related = one.related }
+
+pub same_leads : (test : Step → Bool) (a b : PoolState) → SameSteps a b → Leads (Adds test) a b
+same_leads test a b x = λ past h. record { now = past; behind = x past h; related = record { later = []; steps = refl; only = refl } }
+
+-- only ways changed, and no step was recorded
+pub ways_only : (test : Step → Bool) (a b : PoolState) (ws : List Way) → b ≡ record a { ways = ws } → SameSteps a b → AddsOnly test a b
+ways_only test a b ws e steps = record {
+  graph = ways_graph a b (e ∙ ap (λ (vs : List Way). record a { ways = vs }) (sym (ap (λ (x : PoolState). x.ways) e)));
+  stages = ap (λ (x : PoolState). x.stages) e;
+  steps = same_leads test a b steps;
+}
 
 -- ---- inputs that are received
 pub delivered_same : (node : ℕ) (a b : PoolState) → b.ways ≡ a.ways → AreDelivered node a b
@@ -138,30 +137,36 @@ sent_trans t a b c inputs x y = λ k.
 
 -- ---- inputs that are received at once
 pub marked_none : (t : ℕ) (a : PoolState) → IsMarked t a a
-marked_none t a = record { only = refl; ways = λ k. inl refl }
+marked_none t a = record { only = refl; steps = λ xs b. b; ways = λ k. inl refl }
 
 pub marked_same : (t : ℕ) (a b : PoolState) → b ≡ a → IsMarked t a b
 marked_same t a b e = subst (λ (x : PoolState). IsMarked t a x) (sym e) (marked_none t a)
 
 pub marked_one : (t k node : ℕ) (a b : PoolState) → IsOutput t k a → IsComing node k a → b ≡ record a { ways = set a.ways k way.Received }
-    → IsMarked t a b
-marked_one t k node a b o c e = subst (λ (x : PoolState). IsMarked t a x) (sym e) (record {
-  only = refl;
+    → SameSteps a b → IsMarked t a b
+marked_one t k node a b o c e steps = record {
+  only = e ∙ ap (λ (ws : List Way). record a { ways = ws }) (sym ways);
+  steps = steps;
   ways = λ j.
+      let at : slice_get b.ways j ≡ slice_get (set a.ways k way.Received) j = ap (λ (ws : List Way). slice_get ws j) ways in
       elim (same_or j k) [
         | inl same ↦ inr (
           subst (λ (m : ℕ). IsOutput t m a) (sym same) o,
-          ap (λ (m : ℕ). slice_get (set a.ways k way.Received) m) same ∙ set_here a.ways k way.UnderWay way.Received c.under_way,
+          at ∙ (ap (λ (m : ℕ). slice_get (set a.ways k way.Received) m) same ∙ set_here a.ways k way.UnderWay way.Received c.under_way),
         )
-        | inr apart ↦ inl (set_there a.ways k j way.Received apart)
+        | inr apart ↦ inl (at ∙ set_there a.ways k j way.Received apart)
       ];
-})
+}
+  where
+    ways : b.ways ≡ set a.ways k way.Received
+    ways = ap (λ (x : PoolState). x.ways) e
 
 again : (a : PoolState) (ws vs : List Way) → record (record a { ways = ws }) { ways = vs } ≡ record a { ways = vs }
 again a ws vs = refl
 
 pub marked_trans : (t : ℕ) (a b c : PoolState) → IsMarked t a b → IsMarked t b c → IsMarked t a c
 marked_trans t a b c x y = record {
+  steps = λ xs h. y.steps xs (x.steps xs h);
   only = y.only ∙ ap (λ (z : PoolState). record z { ways = c.ways }) x.only;
   ways = λ k.
       elim (y.ways k) [
@@ -181,9 +186,7 @@ completed_marked t a b c h x =
       graph = same_trans h.graph g;
       running = h.running;
       stages = ap (λ (z : PoolState). z.stages) x.only ∙ h.stages;
-      sent = h.sent;
-      only = h.only;
-      steps = ap (λ (z : PoolState). z.steps) x.only ∙ h.steps;
+      steps = same_then h.steps x.steps;
       passed = λ k o out.
           elim (x.ways k) [
             | inl same ↦ h.passed k o (sym same ∙ out)

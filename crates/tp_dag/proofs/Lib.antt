@@ -10,11 +10,13 @@ pub mod Results
 pub mod Finding
 pub mod Steps
 pub mod Worlds
+pub mod Journals
 pub mod Facts
 pub mod Ended
 pub mod Views
 pub mod Going
 pub mod Keeping
+pub mod Describing
 pub mod Refusing
 pub mod Resetting
 pub mod Repeating

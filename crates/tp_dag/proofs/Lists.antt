@@ -1,5 +1,5 @@
 -- Lists in which one place is written, or one thing is added, and what a function makes of them.
-use Rattle.std.proofs.Common.{arith, ◌<◌, ◌≢◌, ◌⊎◌, ℕ, zero, suc, ◌≡◌, List, [], ◌∷◌, ◌++◌, length, map, Some, refl, ap, sym, ◌∙◌, inl, inr}
+use Rattle.std.proofs.Common.{arith, ◌<◌, ◌≤◌, ◌≢◌, ◌⊎◌, ℕ, zero, suc, ◌≡◌, List, [], ◌∷◌, ◌++◌, length, map, Some, None, refl, ap, sym, ◌∙◌, inl, inr}
 use Rattle.std.specs.Prelude.{slice_get}
 use Rattle.std.specs.List.{slice_index_or}
 use Rattle.std.proofs.Math.ListN.{set}
@@ -47,6 +47,22 @@ last_cases [] zero x y e = inr (refl, cc)
 last_cases [] (suc k) x y e = inl e
 last_cases (z ∷ xs) zero x y e = inl e
 last_cases (z ∷ xs) (suc k) x y e = elim (last_cases xs k x y e) [ inl h ↦ inl h | inr h ↦ inr (ap suc h.0, h.1) ]
+
+-- the place that is added, and the others
+pub get_push : {A : Type 0} (xs : List A) (k : ℕ) (y : A)
+    → ((k ≢ length xs) × (slice_get (xs ++ y ∷ []) k ≡ slice_get xs k)) ⊎ ((k ≡ length xs) × (slice_get (xs ++ y ∷ []) k ≡ Some y))
+get_push [] zero y = inr (refl, refl)
+get_push [] (suc k) y = inl (λ e. omega (arith, e), refl)
+get_push (z ∷ xs) zero y = inl (λ e. omega (arith, e), refl)
+get_push (z ∷ xs) (suc k) y = elim (get_push xs k y) [
+  | inl h ↦ inl (λ e. h.0 (omega (arith, e)), h.1)
+  | inr h ↦ inr (ap suc h.0, h.1)
+]
+
+pub past_end : {A : Type 0} (xs : List A) (k : ℕ) → length xs ≤ k → slice_get xs k ≡ None
+past_end [] k l = refl
+past_end (x ∷ xs) zero l = absurd (omega (arith, l))
+past_end (x ∷ xs) (suc k) l = past_end xs k (omega (arith, l))
 
 pub at_below : {A : Type 0} (xs : List A) (k : ℕ) → k < length xs → (x : A) × (slice_get xs k ≡ Some x)
 at_below [] k l = absurd (omega (arith, l))

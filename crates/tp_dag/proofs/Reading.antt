@@ -1,10 +1,11 @@
 -- What the counts of a board tell of its edges, and how many there may be.
-use Rattle.std.proofs.Common.{arith, ◌*◌, ◌<◌, ◌≤◌, ◌⊎◌, ℕ, ◌≡◌, ◌≢◌, List, IsTrue, IsFalse, Some, refl, subst, sym, inl, inr}
+use Rattle.std.proofs.Common.{arith, ◌+◌, ◌<◌, ◌≤◌, ◌⊎◌, ℕ, ◌≡◌, ◌≢◌, List, IsTrue, IsFalse, Some, refl, subst, sym, inl, inr}
 use Rattle.std.specs.Prelude.{slice_get, ◌==◌, ◌&&◌, not}
 use Rattle.std.specs.List.{slice_index_or}
 use Rattle.std.proofs.lemmas.Bool.{and_parts}
 use Rattle.std.proofs.lemmas.Bool.Decides.{nat_tests}
 use Rattle.tp_base.specs.declared.limits.TheConstants.{MAX_NODES, MAX_STEPS}
+use Rattle.tp_dag.specs.declared.limits.TheConstants.{MAX_INPUTS}
 use Rattle.tp_dag.specs.declared.entry.Task.{Task}
 use Rattle.tp_dag.specs.declared.entry.Edge.{Edge}
 use Rattle.tp_dag.specs.declared.entry.Stage.TheVariants as stage
@@ -23,12 +24,12 @@ to_few {a} k e f at =
     let p = f.placed k e at in let x = at_below a.tasks e.target p.within in
     let h = home_few e.target x.0 f x.1 in let same = p.home x.0 x.1 in omega (arith, h, same)
 
-pub missing_few : {a : BoardState} (t : ℕ) (x : Task) → BoardFacts a → slice_get a.tasks t ≡ Some x → x.missing ≤ 2 * MAX_STEPS
+pub missing_few : {a : BoardState} (t : ℕ) (x : Task) → BoardFacts a → slice_get a.tasks t ≡ Some x → x.missing ≤ MAX_INPUTS + MAX_STEPS
 missing_few {a} t x f is =
     let c = f.counted t x is in let m = c.missing in let o = c.few in let n = count_few (is_missing t) a.edges in let l = f.few_edges in
     omega (arith, m, o, n, l)
 
-pub unsent_few : {a : BoardState} (t : ℕ) (x : Task) → BoardFacts a → slice_get a.tasks t ≡ Some x → x.unsent ≤ MAX_STEPS
+pub unsent_few : {a : BoardState} (t : ℕ) (x : Task) → BoardFacts a → slice_get a.tasks t ≡ Some x → x.unsent ≤ MAX_INPUTS
 unsent_few {a} t x f is =
     let m = (f.counted t x is).unsent in let n = count_few (is_unsent t) a.edges in let l = f.few_edges in omega (arith, m, n, l)
 

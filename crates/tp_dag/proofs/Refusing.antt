@@ -1,147 +1,124 @@
 -- What the refusals of a pool mean: for which check, for lack of room, or because a task may be dispatched.
-use Rattle.std.proofs.Common.{ℕ, ◌≡◌, ◌≢◌, ◌<◌, ◌≤◌, ◌*◌, ◌↔◌, List, [], ◌∷◌, Bool, true, false, length, refl, ap, subst, ◌∙◌, sym, arith, IsTrue, IsFalse, Result, Option, Some, None}
-use Rattle.std.specs.Prelude.{◌==◌, ◌&&◌, not, Err, IfSome, is_some, slice_get, nat_le}
+use Rattle.std.proofs.Common.{ℕ, ◌≡◌, ◌≢◌, ◌<◌, ◌≤◌, ◌⊎◌, List, Bool, true, false, refl, ap, subst, ◌∙◌, ◌↔◌, sym, arith, IsTrue, IsFalse, Result, Option, Some, None, inr}
+use Rattle.std.specs.Prelude.{◌==◌, ◌&&◌, Ok, Err, IfErr, IfSome, is_some, slice_get, nat_le}
 use Rattle.std.proofs.lemmas.Bool.Decides.{nat_tests}
 use Rattle.tp_base.specs.declared.limits.TheConstants.{MAX_STEPS}
 use Rattle.tp_base.specs.declared.Refusal.{Refusal}
 use Rattle.tp_base.specs.declared.Refusal.TheVariants as refusal
 use Rattle.tp_base.specs.declared.Step.{Step}
-use Rattle.tp_base.specs.declared.Step.TheVariants.{Begin, Recv, MessageEnd}
+use Rattle.tp_base.specs.declared.Step.TheVariants.{Begin, Done}
 use Rattle.tp_base.specs.Checks.{first_refusal}
-use Rattle.tp_wave.specs.Steps.{any, is_reopen}
 use Rattle.tp_wave.specs.Sums.{is_ended}
-use Rattle.tp_wave.specs.Generations.{generation}
-use Rattle.tp_wave.specs.ControlChecks.{is_outside}
-use Rattle.tp_core.specs.World.{IsQuiet, is_quiet, is_open, is_under_way, OfMessage}
-use Rattle.tp_core.specs.Run.{world, IsLawful}
-use Rattle.tp_core.specs.Generations.{MayCome, world_after}
-use Rattle.tp_core.specs.Settled.{settle_checks, ends_before}
-use Rattle.tp_core.specs.Accepted as core
-use Rattle.tp_core.specs.Accepted.{Accepted, IsRefusedFor, asks_memory, room_check, world_of}
-use Rattle.tp_core.proofs.Exact.{refused_for_room}
-use Rattle.tp_core.proofs.Ending.{same_quiet}
+use Rattle.tp_core.specs.World.{IsQuiet}
+use Rattle.tp_core.specs.Run.{world}
+use Rattle.tp_dag.specs.declared.entry.Edge.{Edge}
 use Rattle.tp_dag.specs.declared.entry.Entry.{Entry}
 use Rattle.tp_dag.specs.declared.entry.Stage.TheVariants as stage
 use Rattle.tp_dag.specs.declared.entry.Task.{Task}
+use Rattle.tp_dag.specs.declared.entry.Way.TheVariants as way
 use Rattle.tp_dag.specs.declared.pool.Pool.TheInside.{Inside}
 use Rattle.tp_dag.specs.Board as on_board
 use Rattle.tp_dag.specs.Counts.{BoardFacts}
-use Rattle.tp_dag.specs.State.{PoolState, LacksInput, HasNoneReady, MayWait, IsComing, outside_checks, release_checks, is_of_room}
-use Rattle.tp_dag.specs.Kept.{state_of, entry_of, stage_of, outside_of, Facts, IsPool, IsConsistent, IsFromAfar}
-use Rattle.tp_dag.proofs.Lists.{at_below, map_get}
+use Rattle.tp_dag.specs.Journal.{IsBehindJournal, IsRefusedForRoom, keeps, is_of_room, receipt}
+use Rattle.tp_dag.specs.State.{PoolState, AddsOnly, LacksInput, HasNoneReady, MayWait, IsComing, outside_checks, release_checks}
+use Rattle.tp_dag.specs.Kept.{state_of, entry_of, stage_of, outside_of, way_of, IsPool, IsConsistent, IsHome, IsFromAfar, sending}
+use Rattle.tp_dag.proofs.Lists.{at_below, map_get, map_got}
 use Rattle.tp_dag.proofs.Finding.{ready_lacks_none}
+use Rattle.tp_dag.proofs.Facts.{may_begin, may_complete, may_send}
+use Rattle.tp_dag.proofs.Keeping.{receipt_may, home_of_task}
 use Rattle.tp_dag.proofs.Reading.{lacks_input}
-use Rattle.tp_dag.proofs.Steps.{one_generation}
 use Rattle.tp_dag.proofs.Views.{some_same, lacks_seen, lacks_board, consistent}
-use Rattle.tp_dag.proofs.Worlds.{first_generation, of_none}
 
--- ---- a step that may come is refused for lack of room alone
-by_room : (full : Bool) (n : ℕ) (asks : Bool) (r : Refusal) → IsRefusedFor (first_refusal ((full, refusal.HistoryFull n) ∷ [])) asks r
-    → IsTrue (is_of_room r)
-by_room true n asks r h = rw h refl
-by_room false n asks r h = rw h.0 refl
+-- ---- a step that may be recorded is refused for lack of room alone
+pub room_now : (p : Inside) (now : PoolState) (r : Refusal) → state_of p ≡ now → IsTrue (is_of_room (keeps p.journal) r)
+    → IsTrue (is_of_room (keeps now.journal) r)
+room_now p now r same h = subst (λ (a : PoolState). IsTrue (is_of_room (keeps a.journal) r)) same h
 
-pub room_only : (a : Accepted) (s : Step) (r : Refusal) → MayCome a.nodes a.steps s → IsRefusedFor (core.refusal a s) (asks_memory a s) r
-    → IsTrue (is_of_room r)
-room_only a s r may h =
-    by_room (nat_le MAX_STEPS (length a.steps)) (length a.steps) (asks_memory a s) r
-    (subst (λ (o : Option Refusal). IsRefusedFor o (asks_memory a s) r) (refused_for_room a s may) h)
+-- the same, of a state that keeps steps as another one does
+pub room_of : (a b : PoolState) (r : Refusal) → keeps b.journal ≡ keeps a.journal → IsTrue (is_of_room (keeps b.journal) r)
+    → IsTrue (is_of_room (keeps a.journal) r)
+room_of a b r same h = subst (λ (k : Bool). IsTrue (is_of_room k r)) same h
 
--- the end of a message that is not open is refused for that, else for lack of room
-by_end : (a b c d : Bool) (n : ℕ) (asks : Bool) (r : Refusal) → a ≡ false → b ≡ false
-    → IsRefusedFor (first_refusal ((a, refusal.NoNode) ∷ (b, refusal.Stranger) ∷ (c, refusal.NoAction) ∷ (d, refusal.HistoryFull n) ∷ []))
-    asks r
-    → r ≢ refusal.NoAction → IsTrue (is_of_room r)
-by_end true b c d n asks r e f h o = cc
-by_end false true c d n asks r e f h o = cc
-by_end false false true d n asks r e f h o = absurd (o h)
-by_end false false false true n asks r e f h o = rw h refl
-by_end false false false false n asks r e f h o = rw h.0 refl
+pub room_after : {test : Step → Bool} (a b : PoolState) (r : Refusal) → AddsOnly test a b → IsTrue (is_of_room (keeps b.journal) r)
+    → IsTrue (is_of_room (keeps a.journal) r)
+room_after a b r x h = room_of a b r x.graph.keeps h
 
-abbrev pub ending : ℕ → ℕ → Step
-ending node k = MessageEnd (record { 0 = node }) (record { 0 = k }) (record { 0 = 1 })
+pub room_after_if : {A : Type 0} {test : Step → Bool} (a b : PoolState) (r : Result A Refusal) → AddsOnly test a b
+    → IfErr r (λ e. IsTrue (is_of_room (keeps b.journal) e)) → IfErr r (λ e. IsTrue (is_of_room (keeps a.journal) e))
+room_after_if a b (Ok u) x h = tt
+room_after_if a b (Err e) x h = room_after a b e x h
 
-pub end_refused : (a : Accepted) (node k : ℕ) (r : Refusal) → node < a.nodes → IsFalse (any is_reopen a.steps)
-    → IsRefusedFor (core.refusal a (ending node k)) (asks_memory a (ending node k)) r → r ≢ refusal.NoAction → IsTrue (is_of_room r)
-end_refused a node k r within first h o =
-    by_end (is_outside a.nodes node) (not (1 == generation a.steps)) (not (is_open node (OfMessage k) (world_after a.nodes a.steps)))
-    (nat_le MAX_STEPS (length a.steps)) (length a.steps) (asks_memory a (ending node k)) r
-    (grind (arith, nat_tests, within)) (let g = first_generation a.steps first in grind (arith, nat_tests, g)) h o
+-- a call that passes on a refusal
+pub room_passed : {A : Type 0} {test : Step → Bool} (a b : PoolState) (r : Result A Refusal) (e f : Refusal) → r ≡ Err e → e ≡ f
+    → AddsOnly test a b → IsTrue (is_of_room (keeps b.journal) f) → IfErr r (λ g. IsTrue (is_of_room (keeps a.journal) g))
+room_passed a b r e f is same x h = rw (is, same) (room_after a b f x h)
 
--- the judgement of a pool that is quiet and has not ended
-by_settle : (a b c : Bool) (n : ℕ) (asks : Bool) (r : Refusal) → a ≡ false → b ≡ true
-    → IsRefusedFor (first_refusal ((a, refusal.Ended) ∷ (not b, refusal.NotIdle) ∷ (c, refusal.HistoryFull n) ∷ [])) asks r
-    → IsTrue (is_of_room r)
-by_settle true b c n asks r e f h = cc
-by_settle false false c n asks r e f h = cc
-by_settle false true true n asks r e f h = rw h refl
-by_settle false true false n asks r e f h = rw h.0 refl
+pub refused_or : {A : Type 0} (r : Result A Refusal) (P : Refusal → Type 0) (a b : PoolState) → keeps b.journal ≡ keeps a.journal
+    → IfErr r (λ e. IsTrue (is_of_room (keeps b.journal) e)) → IfErr r (λ e. P e ⊎ IsTrue (is_of_room (keeps a.journal) e))
+refused_or (Ok u) P a b same h = tt
+refused_or (Err e) P a b same h = inr (room_of a b e same h)
 
-pub settle_refused : (p : Inside) (b : Bool) (r : Refusal) → IsPool p → is_some p.ended_with ≡ false
-    → (IsTrue b ↔ IsQuiet (world_of p.core))
-    → IsTrue b → IsRefusedFor (first_refusal (settle_checks p.core)) (ends_before (length p.core.steps) (9 * p.core.nodes)) r
-    → IsTrue (is_of_room r)
-settle_refused p b r k none quiet is h =
-    by_settle _ (is_quiet (world_of p.core)) _ (length p.core.steps) _ r
-    (ap (λ (xs : List Step). is_ended p.core.nodes xs) (one_generation p.core.steps k.facts.by_steps.first)
-    ∙ of_none p.ended_with (IsFalse (is_ended p.core.nodes p.core.steps)) k.not_ended none)
-    (same_quiet b (world_of p.core) quiet ∙ is) h
+pub room_if : {A : Type 0} (p : Inside) (now : PoolState) (r : Result A Refusal) → IsPool p → state_of p ≡ now
+    → IfErr r (λ e. (past : List Step) → IsBehindJournal past p.journal → IsTrue (is_of_room (keeps p.journal) e))
+    → IfErr r (λ e. IsTrue (is_of_room (keeps now.journal) e))
+room_if p now (Ok u) k same h = tt
+room_if p now (Err e) k same h = room_now p now e same (h k.past k.behind.journal)
 
--- ---- steps that may come
-pub may_begin_now : {a : PoolState} (t : ℕ) → Facts a → slice_get a.stages t ≡ Some stage.Fresh
-    → MayCome a.nodes a.steps (Begin (record { 0 = t }))
-may_begin_now {a} t f fresh = record {
-  reopens = λ h. cc;
-  goes_on = λ h. (
-    subst (λ (xs : List Step). IsLawful a.nodes xs (Begin (record { 0 = t }))) (sym (one_generation a.steps f.by_steps.first))
-        (f.by_steps.lives t stage.Fresh fresh),
-    tt,
-  );
-}
-
-pub may_receive_now : {a : PoolState} (node k : ℕ) → Facts a → IsConsistent a → node < a.nodes → IsComing node k a → IsFromAfar node k a
-    → MayCome a.nodes a.steps (Recv (record { 0 = node }) (record { 0 = k }) (record { 0 = 1 }))
-may_receive_now {a} node k f c within came afar =
-    let p = c.placed k came.input came.is in
-    let before = p.0 in
-    let inside = p.1 in
-    let x = at_below a.tasks came.input.source (omega (arith, before, inside)) in
-    let apart : x.0.node ≢ came.target.node = λ e. afar came.input x.0 came.is x.1 (e ∙ came.home) in
-    let flies : IsTrue (is_under_way k node (world a.nodes a.steps)) =
-    subst (λ (n : ℕ). IsTrue (is_under_way k n (world a.nodes a.steps))) came.home
-    (f.under_way k came.input x.0 came.target came.under_way came.is x.1 came.at apart) in
-    record {
-      reopens = λ h. cc;
-      goes_on = λ h. (
-        subst (λ (xs : List Step). IsLawful a.nodes xs (Recv (record { 0 = node }) (record { 0 = k }) (record { 0 = 1 })))
-            (sym (one_generation a.steps f.by_steps.first)) (within, flies),
-        sym (first_generation a.steps f.by_steps.first),
-      );
-    }
-
--- ---- what a pool's steps are refused for
 pub begin_refused : (p : Inside) (node t : ℕ) (r : Refusal) → IsPool p → on_board.IsReady node t p.board
-    → IsRefusedFor (core.refusal p.core (Begin (record { 0 = t }))) (asks_memory p.core (Begin (record { 0 = t }))) r
-    → IsTrue (is_of_room r)
+    → IsRefusedForRoom node (Begin (record { 0 = t })) p.journal r → IsTrue (is_of_room (keeps p.journal) r)
 begin_refused p node t r k ready h =
-    room_only p.core (Begin (record { 0 = t })) r
-    (may_begin_now t k.facts (map_get stage_of p.board.tasks t ready.task ready.is ∙ ap Some ready.fresh)) h
+    h k.past k.behind.journal (may_begin node t (entry_of ready.task) k.behind
+    (map_get stage_of p.board.tasks t ready.task ready.is ∙ ap Some ready.fresh) (map_get entry_of p.board.tasks t ready.task ready.is)
+    ready.home)
 
 pub receive_refused : (p : Inside) (now : PoolState) (node k : ℕ) (r : Refusal) → IsPool p → state_of p ≡ now → BoardFacts p.board
-    → node < now.nodes → IsComing node k now → IsFromAfar node k now
-    → IsRefusedFor (core.refusal p.core (Recv (record { 0 = node }) (record { 0 = k }) (record { 0 = 1 })))
-    (asks_memory p.core (Recv (record { 0 = node }) (record { 0 = k }) (record { 0 = 1 }))) r → IsTrue (is_of_room r)
+    → node < now.nodes → IsComing node k now → IsFromAfar node k now → IsRefusedForRoom node (receipt node k) p.journal r
+    → IsTrue (is_of_room (keeps p.journal) r)
 receive_refused p now node k r kept same f within came afar h =
-    room_only p.core (Recv (record { 0 = node }) (record { 0 = k }) (record { 0 = 1 })) r
-    (may_receive_now node k kept.facts (consistent p.core.nodes p.progress p.core.steps p.board f (kept.board ∙ sym kept.nodes))
-    (subst (λ (a : PoolState). node < a.nodes) (sym same) within) (subst (λ (a : PoolState). IsComing node k a) (sym same) came)
-    (subst (λ (a : PoolState). IsFromAfar node k a) (sym same) afar)) h
+    h kept.past kept.behind.journal (receipt_may p p now node k same
+    (subst (λ (a : PoolState). IsConsistent a) same (consistent p.nodes p.progress p.journal p.board f kept.board)) within came afar
+    kept.past kept.behind)
 
-pub end_refused_now : (p : Inside) (now : PoolState) (node k : ℕ) (r : Refusal) → IsPool p → state_of p ≡ now → node < now.nodes
-    → IsRefusedFor (core.refusal p.core (ending node k)) (asks_memory p.core (ending node k)) r → r ≢ refusal.NoAction
-    → IsTrue (is_of_room r)
-end_refused_now p now node k r kept same within h o =
-    end_refused p.core node k r (subst (λ (a : PoolState). node < a.nodes) (sym same) within) kept.facts.by_steps.first h o
+-- a running task of a board, from what the pool says of it
+running_task : (p : Inside) (now : PoolState) (t : ℕ) → state_of p ≡ now → slice_get now.stages t ≡ Some stage.Running
+    → (x : Task) × (slice_get p.board.tasks t ≡ Some x) × (x.stage ≡ stage.Running)
+running_task p now t same runs =
+    map_got stage_of p.board.tasks t stage.Running (subst (λ (a : PoolState). slice_get a.stages t ≡ Some stage.Running) (sym same) runs)
+
+pub complete_refused : (p : Inside) (now : PoolState) (node t : ℕ) (r : Refusal) → IsPool p → state_of p ≡ now
+    → slice_get now.stages t ≡ Some stage.Running → IsHome node t now → IsRefusedForRoom node (Done (record { 0 = t })) p.journal r
+    → IsTrue (is_of_room (keeps p.journal) r)
+complete_refused p now node t r k same runs home h =
+    let x = running_task p now t same runs in
+    h k.past k.behind.journal (may_complete node t (entry_of x.0) k.behind
+    (subst (λ (a : PoolState). slice_get a.stages t ≡ Some stage.Running) (sym same) runs)
+    (map_get entry_of p.board.tasks t x.0 x.1) (home_of_task p now node t x.0 same home x.1))
+
+pub send_refused : (p : Inside) (now : PoolState) (node t k : ℕ) (e : Edge) (r : Refusal) → IsPool p → BoardFacts p.board → state_of p ≡ now
+    → slice_get now.stages t ≡ Some stage.Running → IsHome node t now → slice_get p.board.edges k ≡ Some e → e.way ≡ way.Out
+    → (node ≢ e.to) × IsRefusedForRoom node (sending node e.to k) p.journal r → IsTrue (is_of_room (keeps p.journal) r)
+send_refused p now node t k e r kept f same runs home at out h =
+    let x = running_task p now t same runs in
+    let is = map_get entry_of p.board.tasks t x.0 x.1 in
+    let here = home_of_task p now node t x.0 same home x.1 in
+    let y = at_below p.board.tasks e.target (f.placed k e at).within in
+    let l = (f.counted t x.0 x.1).home in
+    let m = (f.counted e.target y.0 y.1).home in
+    let to = (f.placed k e at).home y.0 y.1 in
+    let b = kept.board in
+    h.1 kept.past kept.behind.journal (may_send node e.to k t (entry_of x.0) kept.behind (omega (arith, l, here, b))
+    (omega (arith, m, to, b)) h.0 (map_get way_of p.board.edges k e at ∙ ap Some out)
+    (subst (λ (a : PoolState). slice_get a.stages t ≡ Some stage.Running) (sym same) runs) is here)
+
+-- the judgement of a pool that is quiet and has not ended
+pub settle_refused : (p : Inside) (b : Bool) (r : Refusal) → IsPool p → is_some p.ended_with ≡ false
+    → ((past : List Step) → IsBehindJournal past p.journal → (IsTrue b ↔ IsQuiet (world p.journal.recorded.nodes past))) → IsTrue b
+    → ((past : List Step) → IsBehindJournal past p.journal → IsFalse (is_ended p.journal.recorded.nodes past)
+    → IsQuiet (world p.journal.recorded.nodes past) → IsTrue (is_of_room (keeps p.journal) r))
+    → IsTrue (is_of_room (keeps p.journal) r)
+settle_refused p b r k none quiet is h =
+    h k.past k.behind.journal (ap (λ (n : ℕ). is_ended n k.past) k.behind.nodes ∙ (sym k.ended ∙ none))
+    ((quiet k.past k.behind.journal).0 is)
 
 -- ---- what the checks say
 abbrev Refused : Refusal → Result (Unit {0}) Refusal → Type 0
@@ -218,7 +195,7 @@ pub lacks_none : (p : Inside) (now : PoolState) (node t : ℕ) → state_of p �
     → LacksInput t now → ⊥
 lacks_none p now node t same f r h =
     ready_lacks_none node t f r
-    (lacks_board p.core.nodes p.progress p.core.steps p.board t (subst (λ (a : PoolState). LacksInput t a) (sym same) h))
+    (lacks_board p.nodes p.progress p.journal p.board t (subst (λ (a : PoolState). LacksInput t a) (sym same) h))
 
 -- a task that is ready, in the words of the pool
 pub some_ready : (p : Inside) (now : PoolState) (node t : ℕ) → state_of p ≡ now → BoardFacts p.board → on_board.IsReady node t p.board
@@ -234,7 +211,7 @@ pub may_wait_yes : (p : Inside) (now : PoolState) (t : ℕ) (x : Task) → state
 may_wait_yes p now t x same f is fresh closed =
     subst (λ (a : PoolState). MayWait t a) same (record {
       fresh = map_get stage_of p.board.tasks t x is ∙ ap Some fresh;
-      lacking = λ s. lacks_seen p.core.nodes p.progress p.core.steps p.board t
+      lacking = λ s. lacks_seen p.nodes p.progress p.journal p.board t
           (lacks_input t x f is (not_zero p.progress.started x.missing closed s));
     })
 

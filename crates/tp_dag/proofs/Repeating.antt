@@ -1,28 +1,25 @@
 -- The beginning of the same graph once more.
-use Rattle.std.proofs.Common.{arith, ℕ, ◌+◌, ◌≤◌, ◌≡◌, List, [], ◌∷◌, map, Bool, true, false, length, refl, ap, subst, ◌∙◌, sym, IsTrue, IsFalse, Option, Some, None, Result, inl, inr}
-use Rattle.std.specs.Prelude.{slice_get, ◌||◌, IfSome, is_some, OnOk, OnErr, Ok, Err}
+use Rattle.std.proofs.Common.{arith, ℕ, ◌+◌, ◌<◌, ◌≡◌, List, [], ◌∷◌, ◌++◌, map, Bool, true, false, length, refl, ap, subst, ◌∙◌, sym, IsTrue, IsFalse, Some, None, inl, inr}
+use Rattle.std.specs.Prelude.{◌==◌, slice_get, is_some, if◌then◌else◌}
+use Rattle.std.specs.List.{find, list_all, list_any}
+use Rattle.std.specs.Option.{option_map}
 use Rattle.std.proofs.lemmas.List.{length-map}
-use Rattle.std.proofs.lemmas.Bool.Decides.{nat_tests}
-use Rattle.tp_base.specs.declared.limits.TheConstants.{MAX_NODES}
-use Rattle.tp_base.specs.declared.Refusal.{Refusal}
+use Rattle.std.proofs.lemmas.Option.{slice_get_within, slice_get_past}
+use Rattle.std.proofs.lemmas.Bool.{cases_lt}
+use Rattle.tp_base.specs.declared.Inputs.{Inputs}
 use Rattle.tp_base.specs.declared.Step.{Step}
 use Rattle.tp_base.specs.declared.Step.TheVariants.{Insert, Ready}
-use Rattle.std.specs.List.{list_all}
-use Rattle.tp_wave.specs.Steps.{any}
-use Rattle.tp_base.specs.declared.Inputs.{Inputs}
-use Rattle.tp_base.specs.declared.NodeId.{NodeId}
 use Rattle.tp_wave.specs.Sums.{is_ended}
 use Rattle.tp_core.specs.declared.life.Life.TheVariants as life
-use Rattle.tp_core.specs.World.{World, life_of}
 use Rattle.tp_core.specs.Pool.{after}
+use Rattle.tp_core.specs.Recording.{MayBeRecorded}
 use Rattle.tp_core.specs.Run.{world}
-use Rattle.tp_core.specs.Accepted.{Accepted, with_step}
-use Rattle.std.proofs.lemmas.Option.{slice_get_within}
-use Rattle.tp_core.specs.Generations.{AreRuns, MayCome}
-use Rattle.tp_core.specs.NeverEarly.{is_insert_of}
+use Rattle.tp_core.specs.World as of_core
+use Rattle.tp_core.specs.World.{World, Opening, life_of, home_of, is_known_message}
 use Rattle.tp_dag.specs.declared.entry.Edge.{Edge}
 use Rattle.tp_dag.specs.declared.entry.Entry.{Entry}
 use Rattle.tp_dag.specs.declared.entry.Input.{Input}
+use Rattle.tp_dag.specs.declared.entry.Progress.{Progress}
 use Rattle.tp_dag.specs.declared.entry.Stage.{Stage}
 use Rattle.tp_dag.specs.declared.entry.Stage.TheVariants as stage
 use Rattle.tp_dag.specs.declared.entry.Task.{Task}
@@ -31,84 +28,128 @@ use Rattle.tp_dag.specs.declared.entry.Way.TheVariants as way
 use Rattle.tp_dag.specs.declared.pool.Pool.TheInside.{Inside}
 use Rattle.tp_dag.specs.Again.{IsAgain, IsBeginning, is_beginning}
 use Rattle.tp_dag.specs.Board.{BoardState, IsReset, described, not_passed_on}
-use Rattle.tp_dag.specs.Kept.{state_of, seen, entry_of, stage_of, outside_of, input_of, way_of, IsPool, life_for}
-use Rattle.tp_dag.specs.State.{PoolState, IsFinished}
-use Rattle.tp_dag.proofs.Lists.{map_got}
+use Rattle.tp_dag.specs.Journal.{JournalState, IsBehindJournal, JournalLeads, Records, Adds, SameKind, is_readying, keeps}
+use Rattle.tp_dag.specs.Kept.{state_of, seen, entry_of, stage_of, outside_of, input_of, way_of, IsPool}
+use Rattle.tp_dag.specs.State.{PoolState, IsBehind, IsFinished, life_for}
+use Rattle.tp_dag.proofs.Lists.{at_below, map_got}
 use Rattle.tp_dag.proofs.Counting.{same_or}
-use Rattle.tp_dag.proofs.Steps.{or_right}
-use Rattle.tp_dag.proofs.Facts.{Leaves}
-use Rattle.tp_dag.proofs.Worlds.{inserted_here, inserted_there, if_none}
+use Rattle.tp_dag.proofs.Ended.{finished}
+use Rattle.tp_dag.proofs.Journals.{may_record}
+use Rattle.tp_dag.proofs.Worlds.{active_open, home_here, home_there, inserted_here, inserted_there}
 
-or_left : (a b : Bool) → IsTrue a → IsTrue (a || b)
-or_left true b h = refl
-or_left false b h = cc
+-- ---- tasks are inserted
+abbrev pub inserts : ℕ → ℕ → Inputs → Step
+inserts node t k = Insert (record { 0 = node }) (record { 0 = t }) k
 
--- ---- steps of the beginning
-pub begins_none : (core : Accepted) → core.steps ≡ [] → IsBeginning core.nodes 0 core
-begins_none core none =
-    subst (λ (past : List Step). IsBeginning core.nodes 0 (record { nodes = core.nodes; steps = past })) (sym none) (record {
-      nodes_are = refl;
-      runs = tt;
-      first = refl;
-      known = λ t l. absurd (omega (arith, l));
-      ready = λ t l. absurd (omega (arith, l));
-      only = refl;
-    })
-
-pub begins_more : {nodes count : ℕ} {core : Accepted} (s : Step) → IsBeginning nodes count core → MayCome core.nodes core.steps s
-    → Leaves s → IsTrue (is_beginning s) → IsBeginning nodes count (with_step core s)
-begins_more {nodes} {count} {core} s b may leaves is = record {
-  nodes_are = b.nodes_are;
-  runs = (subst (λ (n : ℕ). MayCome n core.steps s) b.nodes_are may, b.runs);
-  first = rw leaves.goes_on b.first;
-  known = λ t l. or_right (is_insert_of t s) (any (is_insert_of t) core.steps) (b.known t l);
-  ready = λ t l. leaves.lives t (world nodes core.steps) ∙ b.ready t l;
-  only = rw is b.only;
+pub begins_none : (tasks : List Task) (a : JournalState) → IsBehindJournal [] a → IsBeginning tasks 0 a
+begins_none tasks a empty = record {
+  steps = [];
+  behind = empty;
+  lives = λ t l. absurd (omega (arith, l));
+  no_others = λ t l. refl;
+  homes = λ t x l h. absurd (omega (arith, l));
+  only = refl;
 }
 
-pub inserts_more : {nodes : ℕ} {core : Accepted} (count : ℕ) (i : NodeId) (k : Inputs) → IsBeginning nodes count core
-    → MayCome core.nodes core.steps (Insert i (record { 0 = count }) k) → k.count ≡ 0
-    → IsBeginning nodes (count + 1) (with_step core (Insert i (record { 0 = count }) k))
-inserts_more {nodes} {core} count i k b may none =
-    let s : Step = Insert i (record { 0 = count }) k in
-    let w : World = world nodes core.steps in
-    let of : IsTrue (is_insert_of count s) = grind (arith, nat_tests) in record {
-      nodes_are = b.nodes_are;
-      runs = (subst (λ (n : ℕ). MayCome n core.steps s) b.nodes_are may, b.runs);
-      first = b.first;
-      known = λ t l. elim (same_or t count) [
-        | inl e ↦ subst (λ (j : ℕ). IsTrue (is_insert_of j s || any (is_insert_of j) core.steps)) (sym e)
-            (or_left (is_insert_of count s) (any (is_insert_of count) core.steps) of)
-        | inr o ↦ or_right (is_insert_of t s) (any (is_insert_of t) core.steps) (b.known t (omega (arith, l, o)))
-      ];
-      ready = λ t l. elim (same_or t count) [
-        | inl e ↦ subst (λ (j : ℕ). life_of j (after s w) ≡ Some life.Ready) (sym e) (inserted_here count i.0 k.count w none)
-        | inr o ↦ inserted_there count t i.0 k.count w o ∙ b.ready t (omega (arith, l, o))
-      ];
+-- each node's opening action is open, so a task may be inserted there
+may_insert : {tasks : List Task} {a : JournalState} (count node : ℕ) (k : Inputs) (b : IsBeginning tasks count a) → a.ready_nodes ≡ 0
+    → node < a.recorded.nodes → MayBeRecorded a.recorded.nodes node b.steps (inserts node count k)
+may_insert {tasks} {a} count node k b ready l =
+    let w : World = world a.recorded.nodes b.steps in
+    may_record node (inserts node count k) b.behind.backs refl refl
+    (l, b.no_others count (omega arith), active_open node Opening w (b.behind.openings node (omega (arith, ready)) l)) tt refl
+
+pub inserts_more : {tasks : List Task} {old new : JournalState} (count : ℕ) (x : Task) (k : Inputs) → IsBeginning tasks count old
+    → old.ready_nodes ≡ 0 → slice_get tasks count ≡ Some x → x.node < old.recorded.nodes → k.count ≡ 0
+    → Records x.node (inserts x.node count k) old new → new.recorded.nodes ≡ old.recorded.nodes
+    → IsBeginning tasks (count + 1) new
+inserts_more {tasks} {old} {new} count x k b ready is l none records same =
+    let s : Step = inserts x.node count k in
+    let w : World = world old.recorded.nodes b.steps in
+    record {
+      steps = s ∷ b.steps;
+      behind = records b.steps b.behind (may_insert count x.node k b ready l);
+      lives = λ t m. subst (λ (n : ℕ). life_of t (world n (s ∷ b.steps)) ≡ Some life.Ready) (sym same)
+          (elim (same_or t count) [
+            | inl e ↦ subst (λ (j : ℕ). life_of j (after s w) ≡ Some life.Ready) (sym e) (inserted_here count x.node k.count w none)
+            | inr o ↦ inserted_there count t x.node k.count w o ∙ b.lives t (omega (arith, m, o))
+          ]);
+      no_others = λ t m. subst (λ (n : ℕ). life_of t (world n (s ∷ b.steps)) ≡ None) (sym same)
+          (inserted_there count t x.node k.count w (λ e. omega (arith, m, e)) ∙ b.no_others t (omega (arith, m)));
+      homes = λ t y m h. subst (λ (n : ℕ). home_of t (world n (s ∷ b.steps)) ≡ y.node) (sym same)
+          (elim (same_or t count) [
+            | inl e ↦ subst (λ (j : ℕ). home_of j (after s w) ≡ y.node) (sym e)
+                (home_here count x.node k.count w ∙ at_home y (ap (λ (j : ℕ). slice_get tasks j) (sym e) ∙ h))
+            | inr o ↦ home_there count t x.node k.count w o ∙ b.homes t y (omega (arith, m, o)) h
+          ]);
       only = b.only;
     }
+  where
+    at_home : (y : Task) → slice_get tasks count ≡ Some y → x.node ≡ y.node
+    at_home y h = let e : Some x ≡ Some y = sym is ∙ h in cc
 
-pub readies : {nodes : ℕ} {start old new : Accepted} (s : Step) (r : Result (Unit {0}) Refusal)
-    → ((count : ℕ) → IsBeginning nodes count start → IsBeginning nodes count old)
-    → Leaves s → IsTrue (is_beginning s) → OnOk r (MayCome old.nodes old.steps s × (new ≡ with_step old s)) → OnErr r (new ≡ old)
-    → (count : ℕ) → IsBeginning nodes count start → IsBeginning nodes count new
-readies {nodes} s (Ok u) keeps leaves is ok err count b =
-    subst (λ (c : Accepted). IsBeginning nodes count c) (sym ok.1) (begins_more s (keeps count b) ok.0 leaves is)
-readies {nodes} s (Err e) keeps leaves is ok err count b = subst (λ (c : Accepted). IsBeginning nodes count c) (sym err) (keeps count b)
+-- ---- opening actions end
+ready_tasks : (n : ℕ) (later past : List Step) → IsTrue (list_all is_readying later)
+    → (world n (later ++ past)).tasks ≡ (world n past).tasks
+ready_tasks n [] past h = refl
+ready_tasks n (Ready i ∷ later) past h = ready_tasks n later past h
+ready_tasks n (s ∷ later) past h = cc
 
--- a beginning has no judgement
+ready_begins : (later past : List Step) → IsTrue (list_all is_readying later) → IsTrue (list_all is_beginning past)
+    → IsTrue (list_all is_beginning (later ++ past))
+ready_begins [] past h all = all
+ready_begins (Ready i ∷ later) past h all = ready_begins later past h all
+ready_begins (s ∷ later) past h all = cc
+
+same_life : (t : ℕ) (v w : World) → v.tasks ≡ w.tasks → life_of t v ≡ life_of t w
+same_life t v w e = ap (λ (xs : List of_core.Task). option_map (λ x. x.life) (find (λ x. x.number == t) xs)) e
+
+begun_on : {tasks : List Task} {count : ℕ} {old new : JournalState} (b : IsBeginning tasks count old) (later : List Step)
+    → IsTrue (list_all is_readying later) → IsBehindJournal (later ++ b.steps) new → new.recorded.nodes ≡ old.recorded.nodes
+    → IsBeginning tasks count new
+begun_on {tasks} {count} {old} {new} b later only behind same =
+    let w : World = world old.recorded.nodes b.steps in
+    let v : World = world new.recorded.nodes (later ++ b.steps) in
+    let e : v.tasks ≡ w.tasks =
+    ap (λ (n : ℕ). (world n (later ++ b.steps)).tasks) same ∙ ready_tasks old.recorded.nodes later b.steps only in
+    record {
+      steps = later ++ b.steps;
+      behind = behind;
+      lives = λ t l. same_life t v w e ∙ b.lives t l;
+      no_others = λ t l. same_life t v w e ∙ b.no_others t l;
+      homes = λ t x l h. same_home t v w e ∙ b.homes t x l h;
+      only = ready_begins later b.steps only b.only;
+    }
+  where
+    same_home : (t : ℕ) (v w : World) → v.tasks ≡ w.tasks → home_of t v ≡ home_of t w
+    same_home t v w e = ap (λ (xs : List of_core.Task). home_of t (record w { tasks = xs })) e
+
+pub begun : {tasks : List Task} {count : ℕ} {mid new : JournalState} → IsBeginning tasks count mid
+    → JournalLeads (Adds is_readying) mid new → SameKind mid new → IsBeginning tasks count new
+begun {tasks} {count} {mid} {new} b leads same =
+    let on = leads b.steps b.behind in
+    begun_on b on.related.later on.related.only
+    (subst (λ (xs : List Step). IsBehindJournal xs new) on.related.steps on.behind) same.nodes
+
+-- a new journal keeps steps if this was asked
+pub kept_by : (asked : Bool) (a : JournalState) → a.recorded.steps ≡ (if asked then Some [] else None) → keeps a ≡ asked
+kept_by true a e = ap is_some e
+kept_by false a e = ap is_some e
+
+-- ---- what a beginning lacks
+-- a judgement
 begun_not_ended : (n : ℕ) (steps : List Step) → IsTrue (list_all is_beginning steps) → IsFalse (is_ended n steps)
 begun_not_ended n [] h = refl
 begun_not_ended n (Insert i t k ∷ past) h = begun_not_ended n past h
 begun_not_ended n (Ready i ∷ past) h = begun_not_ended n past h
 begun_not_ended n (s ∷ past) h = cc
 
-pub begun : (n m len : ℕ) (start mid core : Accepted) → start ≡ record { nodes = n; steps = [] } → IsBeginning start.nodes m mid → m ≡ len
-    → ((count : ℕ) → IsBeginning mid.nodes count mid → IsBeginning mid.nodes count core) → IsBeginning n len core
-begun n m len start mid core new b long keeps =
-    let here : IsBeginning mid.nodes m mid = subst (λ (j : ℕ). IsBeginning j m mid) (sym b.nodes_are) b in
-    subst (λ (j : ℕ). IsBeginning n j core) long
-    (subst (λ (j : ℕ). IsBeginning j m core) (b.nodes_are ∙ ap (λ (c : Accepted). c.nodes) new) (keeps m here))
+-- a message
+none_sent : (n : ℕ) (steps : List Step) → IsTrue (list_all is_beginning steps) → (world n steps).numbers ≡ []
+none_sent n [] h = refl
+none_sent n (Insert i t k ∷ past) h = none_sent n past h
+none_sent n (Ready i ∷ past) h = none_sent n past h
+none_sent n (s ∷ past) h = cc
 
 -- ---- the board
 abbrev made : ℕ × ℕ → Entry
@@ -137,51 +178,69 @@ all_out {b} {c} r k w h =
     let g = map_got not_passed_on b.edges k e.0 (ap (λ (xs : List Edge). slice_get xs k) (sym r.edges) ∙ e.1) in
     sym e.2 ∙ sym (ap (λ (d : Edge). d.way) g.2)
 
+-- ---- the beginning is behind the pool
+module _ {b c : BoardState} (r : IsReset b c) (journal : JournalState) (g : IsBeginning b.tasks (length b.tasks) journal) where
+  lives : (t : ℕ) → life_of t (world journal.recorded.nodes g.steps) ≡ option_map life_for (slice_get (map stage_of c.tasks) t)
+  lives t =
+      let m = length-map c.tasks stage_of in let n = reset_long r in
+      elim (cases_lt t (length b.tasks)) [
+        | inl l ↦ (let s = at_below (map stage_of c.tasks) t (omega (arith, l, m, n)) in
+            g.lives t l ∙ (ap (λ (v : Stage). Some (life_for v)) (sym (all_fresh r t s.0 s.1)) ∙ ap (option_map life_for) (sym s.1)))
+        | inr l ↦ g.no_others t (omega (arith, l))
+            ∙ ap (option_map life_for) (sym (slice_get_past (map stage_of c.tasks) t (omega (arith, l, m, n))))
+      ]
+
+  homes : (t : ℕ) (x : Entry) → slice_get (map entry_of c.tasks) t ≡ Some x → home_of t (world journal.recorded.nodes g.steps) ≡ x.node
+  homes t x h =
+      let y = map_got entry_of b.tasks t x (ap (λ (xs : List Entry). slice_get xs t) (sym (entries c.tasks b.tasks r.tasks)) ∙ h) in
+      g.homes t y.0 (slice_get_within b.tasks t y.0 y.1) y.1 ∙ ap (λ (e : Entry). e.node) y.2
+
+  pub begun_behind : (n : ℕ) (progress : Progress) → journal.recorded.nodes ≡ n → IsBehind g.steps (seen n progress c journal)
+  begun_behind n progress same = record {
+    nodes = same;
+    journal = g.behind;
+    lives = λ t. subst (λ (m : ℕ). life_of t (world m g.steps) ≡ option_map life_for (slice_get (map stage_of c.tasks) t)) same (lives t);
+    homes = λ t x h. subst (λ (m : ℕ). home_of t (world m g.steps) ≡ x.node) same (homes t x h);
+    received = λ k i x h at is. let e = all_out r k way.Received h in cc;
+    under_way = λ k i x y h at from to o. let e = all_out r k way.UnderWay h in cc;
+    unsent = λ k h. ap (λ (ms : List ℕ). list_any (λ m. m == k) ms) (none_sent n g.steps g.only);
+  }
+
 -- ---- the pool
-pub kept_again : (p q : Inside) → IsPool p → IsReset p.board q.board → IsBeginning p.nodes (length p.board.tasks) q.core → q.nodes ≡ p.nodes
+pub kept_again : (p q : Inside) → IsPool p → IsReset p.board q.board → IsBeginning p.board.tasks (length p.board.tasks) q.journal
+    → q.journal.recorded.nodes ≡ p.board.nodes → keeps q.journal ≡ p.keeps_steps → q.nodes ≡ p.nodes → q.keeps_steps ≡ p.keeps_steps
     → q.ended_with ≡ None → IsPool q
-kept_again p q k r b nodes ended = record {
-  nodes = b.nodes_are ∙ sym nodes;
+kept_again p q k r g size kept nodes keeps_steps ended = record {
   board = r.nodes ∙ (k.board ∙ sym nodes);
-  facts = record {
-    by_steps = record {
-      some_node = subst (λ (n : ℕ). 1 ≤ n) (k.nodes ∙ sym b.nodes_are) k.facts.by_steps.some_node;
-      few_nodes = subst (λ (n : ℕ). n ≤ MAX_NODES) (k.nodes ∙ sym b.nodes_are) k.facts.by_steps.few_nodes;
-      runs = subst (λ (n : ℕ). AreRuns n q.core.steps) (sym b.nodes_are) b.runs;
-      first = b.first;
-      known = λ t l. b.known t (let m = length-map q.board.tasks entry_of in let n = reset_long r in omega (arith, l, m, n));
-      done = λ t h. let e = all_fresh r t stage.Done h in cc;
-      lives = λ t g h.
-          let e = all_fresh r t g h in
-          let l = slice_get_within (map stage_of q.board.tasks) t g h in
-          let m = length-map q.board.tasks stage_of in
-          let n = reset_long r in
-          subst (λ (v : Stage). life_of t (world q.core.nodes q.core.steps) ≡ Some (life_for v)) (sym e)
-          (subst (λ (v : ℕ). life_of t (world v q.core.steps) ≡ Some life.Ready) (sym b.nodes_are) (b.ready t (omega (arith, l, m, n))));
-    };
-    arrived = λ n i x h at is. let e = all_out r n way.Received h in cc;
-    under_way = λ n i x y h at from to o. let e = all_out r n way.UnderWay h in cc;
-  };
-  ended_with = subst (λ (o : Option ℕ). IfSome o (λ w. IsFinished (state_of q))) (sym ended) tt;
-  not_ended = if_none q.ended_with _ (begun_not_ended q.core.nodes q.core.steps b.only);
+  keeps = keeps_steps ∙ sym kept;
+  past = g.steps;
+  behind = begun_behind r q.journal g q.nodes q.progress (size ∙ (k.board ∙ sym nodes));
+  ended = ap is_some ended ∙ sym (begun_not_ended q.nodes g.steps g.only);
 }
 
-pub is_again : (p : Inside) (core : Accepted) (board : BoardState) (now : PoolState) → IsPool p → state_of p ≡ now → IsReset p.board board
-    → IsBeginning p.nodes (length p.board.tasks) core → IsAgain now
-    (seen core.nodes (record { started = true; extended = false }) board core.steps)
-is_again p core board now k same r b =
-    subst (λ (a : PoolState). IsAgain a (seen core.nodes (record { started = true; extended = false }) board core.steps)) same (record {
-      nodes = b.nodes_are ∙ sym k.nodes;
-      started = refl;
-      extended = refl;
-      tasks = entries board.tasks p.board.tasks r.tasks;
+pub is_again : (p q : Inside) (now : PoolState) → IsPool p → state_of p ≡ now → IsReset p.board q.board
+    → IsBeginning p.board.tasks (length p.board.tasks) q.journal → q.journal.recorded.nodes ≡ p.board.nodes
+    → keeps q.journal ≡ p.keeps_steps → q.nodes ≡ p.nodes → q.progress ≡ record { started = true; extended = false } → IsAgain now (state_of q)
+is_again p q now k same r g size kept nodes progress =
+    subst (λ (a : PoolState). IsAgain a (state_of q)) same (record {
+      nodes = nodes;
+      started = ap (λ (x : Progress). x.started) progress;
+      extended = ap (λ (x : Progress). x.extended) progress;
+      tasks = entries q.board.tasks p.board.tasks r.tasks;
       inputs = ap (map input_of) r.edges ∙ inputs_same p.board.edges;
       stages = all_fresh r;
       ways = all_out r;
-      outside = λ t n h. let x = map_got outside_of board.tasks t n h in sym x.2 ∙ r.outside t x.0 x.1;
-      steps = b.only;
+      outside = λ t n h. let x = map_got outside_of q.board.tasks t n h in sym x.2 ∙ r.outside t x.0 x.1;
+      keeps = kept ∙ k.keeps;
+      begun = record {
+        steps = g.steps;
+        behind = begun_behind r q.journal g q.nodes q.progress (size ∙ (k.board ∙ sym nodes));
+        only = g.only;
+      };
     })
 
-pub ended_before : (o : Option ℕ) (P : Type 0) → IfSome o (λ w. P) → is_some o ≡ true → P
-ended_before None P h e = cc
-ended_before (Some w) P h e = h
+-- If the journal reports the end, the pool is over.
+pub ended_before : (p : Inside) (r : Bool)
+    → ((steps : List Step) → IsBehindJournal steps p.journal → r ≡ is_ended p.journal.recorded.nodes steps) → IsTrue r
+    → IsFinished (state_of p)
+ended_before p r told h = finished r (length-map p.board.tasks stage_of ∙ sym (length-map p.board.tasks entry_of)) told h

@@ -6,7 +6,8 @@ use Rattle.std.proofs.Math.ListN.{set}
 use Rattle.std.proofs.lemmas.Bool.Decides.{nat_tests}
 use Rattle.std.proofs.lemmas.List.{length-map, length-take, take_more, get_or-replicate, length-replicate}
 use Rattle.std.proofs.lemmas.Option.{slice_get-get_or, slice_get_within}
-use Rattle.tp_base.specs.declared.limits.TheConstants.{MAX_NODES, MAX_STEPS}
+use Rattle.tp_base.specs.declared.limits.TheConstants.{MAX_NODES}
+use Rattle.tp_dag.specs.declared.limits.TheConstants.{MAX_TASKS}
 use Rattle.tp_dag.specs.declared.entry.Task.{Task}
 use Rattle.tp_dag.specs.declared.entry.Edge.{Edge}
 use Rattle.tp_dag.specs.declared.entry.Stage.{Stage}
@@ -188,8 +189,8 @@ counted_more {rs} xs k x d c l is home =
     (λ n o. one_else x.node n (may_begin x) (λ e. o (sym e)))
     (let i = one_if (is_ready x.node x) in omega (arith, i)))
 
-pub count_fits : {rs : List ℕ} (xs : List Task) (k h : ℕ) → AreCounts is_ready (take k xs) rs → h < MAX_NODES → length xs ≤ MAX_STEPS
-    → slice_index_or rs h 0 ≤ MAX_STEPS
+pub count_fits : {rs : List ℕ} (xs : List Task) (k h : ℕ) → AreCounts is_ready (take k xs) rs → h < MAX_NODES → length xs ≤ MAX_TASKS
+    → slice_index_or rs h 0 ≤ MAX_TASKS
 count_fits xs k h c l few = counts_few h c l (let t = length-take k xs in omega (arith, t, few))
 
 -- ---- what the passes find

@@ -3,7 +3,6 @@ use Rattle.std.proofs.Common.{arith, ◌+◌, ◌<◌, ℕ, ◌≡◌, ◌≢◌
 use Rattle.std.specs.Prelude.{slice_get, if◌then◌else◌}
 use Rattle.std.proofs.Math.ListN.{set}
 use Rattle.std.proofs.lemmas.List.{length-map}
-use Rattle.tp_base.specs.declared.Step.{Step}
 use Rattle.tp_dag.specs.declared.entry.Edge.{Edge}
 use Rattle.tp_dag.specs.declared.entry.Entry.{Entry}
 use Rattle.tp_dag.specs.declared.entry.Input.{Input}
@@ -16,6 +15,7 @@ use Rattle.tp_dag.specs.declared.entry.Way.TheVariants as way
 use Rattle.tp_dag.specs.Board as on_board
 use Rattle.tp_dag.specs.Board.{BoardState, with_task, with_edge}
 use Rattle.tp_dag.specs.Counts.{BoardFacts, may_be}
+use Rattle.tp_dag.specs.Journal.{JournalState}
 use Rattle.tp_dag.specs.State.{PoolState, LacksInput, HasNoneReady, IsComing, IsOutput}
 use Rattle.tp_dag.specs.Kept.{IsConsistent, AllPassed, entry_of, stage_of, outside_of, input_of, way_of, seen}
 use Rattle.tp_dag.proofs.Lists.{at_below, set_there, map_get, map_got, map_write, map_same, map_push}
@@ -24,7 +24,7 @@ pub some_same : {A : Type 0} (x y : A) → Some x ≡ Some y → x ≡ y
 some_same x y e = cc
 
 -- ---- equal parts
-abbrev made : ℕ → Progress → List Entry → List Stage → List Input → List Way → List ℕ → List Step → PoolState
+abbrev made : ℕ → Progress → List Entry → List Stage → List Input → List Way → List ℕ → JournalState → PoolState
 made n s ts ss us ws os st =
     record {
       nodes = n;
@@ -35,11 +35,12 @@ made n s ts ss us ws os st =
       inputs = us;
       ways = ws;
       outside = os;
-      steps =
+      journal =
           st;
     }
 
-same_state : (n : ℕ) (s : Progress) (st : List Step) (ts ts' : List Entry) (ss ss' : List Stage) (us us' : List Input) (ws ws' : List Way)
+same_state : (n : ℕ) (s : Progress) (st : JournalState) (ts ts' : List Entry) (ss ss' : List Stage)
+    (us us' : List Input) (ws ws' : List Way)
     (os os' : List ℕ)
     → ts ≡ ts' → ss ≡ ss' → us ≡ us' → ws ≡ ws' → os ≡ os' → made n s ts ss us ws os st ≡ made n s ts' ss' us' ws' os' st
 same_state n s st ts ts' ss ss' us us' ws ws' os os' a b c d e =
@@ -50,7 +51,7 @@ same_state n s st ts ts' ss ss' us us' ws ws' os os' a b c d e =
 
 -- ---- after a call of the board
 -- a task goes on to another stage
-pub seen_stage : (n : ℕ) (s : Progress) (st : List Step) (b : BoardState) (t : ℕ) (x : Task) (g : Stage) → slice_get b.tasks t ≡ Some x
+pub seen_stage : (n : ℕ) (s : Progress) (st : JournalState) (b : BoardState) (t : ℕ) (x : Task) (g : Stage) → slice_get b.tasks t ≡ Some x
     → seen n s (record b { tasks = set b.tasks t (record x { stage = g }) }) st
     ≡ record (seen n s b st) { stages = set (map stage_of b.tasks) t g }
 seen_stage n s st b t x g is =
@@ -58,7 +59,7 @@ seen_stage n s st b t x g is =
     (map_write stage_of b.tasks t (record x { stage = g })) refl refl (map_same outside_of b.tasks t x (record x { stage = g }) is refl)
 
 -- a task waits for another number of inputs from outside
-pub seen_outside : (n : ℕ) (s : Progress) (st : List Step) (b : BoardState) (t m o : ℕ) (x : Task) → slice_get b.tasks t ≡ Some x
+pub seen_outside : (n : ℕ) (s : Progress) (st : JournalState) (b : BoardState) (t m o : ℕ) (x : Task) → slice_get b.tasks t ≡ Some x
     → seen n s (record b { tasks = set b.tasks t (record x { missing = m; outside = o }) }) st
     ≡ record (seen n s b st) { outside = set (map outside_of b.tasks) t o }
 seen_outside n s st b t m o x is =
@@ -67,7 +68,7 @@ seen_outside n s st b t m o x is =
     (map_write outside_of b.tasks t (record x { missing = m; outside = o }))
 
 -- an edge goes on; a count of a task is another
-pub seen_way : (n : ℕ) (s : Progress) (st : List Step) (b : BoardState) (t k : ℕ) (x y : Task) (e : Edge) (w : Way)
+pub seen_way : (n : ℕ) (s : Progress) (st : JournalState) (b : BoardState) (t k : ℕ) (x y : Task) (e : Edge) (w : Way)
     → slice_get b.tasks t ≡ Some x
     → entry_of y ≡ entry_of x → y.stage ≡ x.stage → y.outside ≡ x.outside → slice_get b.edges k ≡ Some e
     → seen n s (record b { tasks = set b.tasks t y; edges = set b.edges k (record e { way = w }) }) st
@@ -77,7 +78,7 @@ seen_way n s st b t k x y e w is one two three at =
     (map_same input_of b.edges k e (record e { way = w }) at refl) (map_write way_of b.edges k (record e { way = w }))
     (map_same outside_of b.tasks t x y is three)
 
-pub seen_task : (n : ℕ) (s : Progress) (st : List Step) (b : BoardState) (node class : ℕ) (held : Bool)
+pub seen_task : (n : ℕ) (s : Progress) (st : JournalState) (b : BoardState) (node class : ℕ) (held : Bool)
     → seen n s (with_task node class held b) st ≡ record (seen n s b st) {
       tasks = map entry_of b.tasks ++ record { node = node; class = class } ∷ [];
       stages = map stage_of b.tasks ++ stage.Fresh ∷ [];
@@ -92,7 +93,7 @@ twice : {A B : Type 0} (f : A → B) (xs : List A) (i k : ℕ) (x y u v : A) →
 twice f xs i k x y u v is at apart one two =
     map_same f (set xs i y) k u v (set_there xs i k y apart ∙ at) two ∙ map_same f xs i x y is one
 
-pub seen_edge : (n : ℕ) (s : Progress) (st : List Step) (b : BoardState) (source target : ℕ) (x u : Task)
+pub seen_edge : (n : ℕ) (s : Progress) (st : JournalState) (b : BoardState) (source target : ℕ) (x u : Task)
     → slice_get b.tasks target ≡ Some x
     → slice_get b.tasks source ≡ Some u → source < target
     → seen n s (with_edge source target x u b) st ≡ record (seen n s b st) {
@@ -115,7 +116,7 @@ not_out way.Out stage.Done h d o = cc
 not_out way.UnderWay g h d o = cc
 not_out way.Received g h d o = cc
 
-pub consistent : (n : ℕ) (s : Progress) (st : List Step) (b : BoardState) → BoardFacts b → b.nodes ≡ n → IsConsistent (seen n s b st)
+pub consistent : (n : ℕ) (s : Progress) (st : JournalState) (b : BoardState) → BoardFacts b → b.nodes ≡ n → IsConsistent (seen n s b st)
 consistent n s st b f same = record {
   stages = length-map b.tasks stage_of ∙ sym (length-map b.tasks entry_of);
   outside = length-map b.tasks outside_of ∙ sym (length-map b.tasks entry_of);
@@ -140,7 +141,8 @@ consistent n s st b f same = record {
       (some_same e.0.way way.Out (sym (map_get way_of b.edges k e.0 e.1) ∙ out));
 }
 
-pub lacks_seen : (n : ℕ) (s : Progress) (st : List Step) (b : BoardState) (t : ℕ) → on_board.LacksInput t b → LacksInput t (seen n s b st)
+pub lacks_seen : (n : ℕ) (s : Progress) (st : JournalState) (b : BoardState) (t : ℕ) → on_board.LacksInput t b
+    → LacksInput t (seen n s b st)
 lacks_seen n s st b t (inl h) = inl (
   h.0,
   record {
@@ -152,7 +154,8 @@ lacks_seen n s st b t (inl h) = inl (
 )
 lacks_seen n s st b t (inr h) = inr (h.0.outside, map_get outside_of b.tasks t h.0 h.1, h.2)
 
-pub lacks_board : (n : ℕ) (s : Progress) (st : List Step) (b : BoardState) (t : ℕ) → LacksInput t (seen n s b st) → on_board.LacksInput t b
+pub lacks_board : (n : ℕ) (s : Progress) (st : JournalState) (b : BoardState) (t : ℕ) → LacksInput t (seen n s b st)
+    → on_board.LacksInput t b
 lacks_board n s st b t (inl h) =
     let m = h.1 in
     let e = map_got input_of b.edges h.0 m.input m.is in
@@ -168,14 +171,14 @@ lacks_board n s st b t (inr h) =
     let some = h.2 in
     let same : x.0.outside ≡ h.0 = x.2 in inr (x.0, x.1, omega (arith, some, same))
 
-pub none_ready_seen : (n : ℕ) (s : Progress) (st : List Step) (b : BoardState) (node : ℕ) → on_board.HasNoneReady node b
+pub none_ready_seen : (n : ℕ) (s : Progress) (st : JournalState) (b : BoardState) (node : ℕ) → on_board.HasNoneReady node b
     → HasNoneReady node (seen n s b st)
 none_ready_seen n s st b node h = λ t x is home fresh.
     let y = map_got entry_of b.tasks t x is in
     lacks_seen n s st b t (h t y.0 y.1 (ap (λ (z : Entry). z.node) y.2 ∙ home)
     (some_same y.0.stage stage.Fresh (sym (map_get stage_of b.tasks t y.0 y.1) ∙ fresh)))
 
-pub coming_seen : (n : ℕ) (s : Progress) (st : List Step) (b : BoardState) (node k : ℕ) → BoardFacts b → on_board.IsComing node k b
+pub coming_seen : (n : ℕ) (s : Progress) (st : JournalState) (b : BoardState) (node k : ℕ) → BoardFacts b → on_board.IsComing node k b
     → IsComing node k (seen n s b st)
 coming_seen n s st b node k f c =
     let m = c.may in
@@ -191,7 +194,7 @@ coming_seen n s st b node k f c =
       home = sym (p.home x.0 x.1) ∙ c.to;
     }
 
-pub coming_board : (n : ℕ) (s : Progress) (st : List Step) (b : BoardState) (node k : ℕ) → BoardFacts b → IsComing node k (seen n s b st)
+pub coming_board : (n : ℕ) (s : Progress) (st : JournalState) (b : BoardState) (node k : ℕ) → BoardFacts b → IsComing node k (seen n s b st)
     → on_board.IsComing node k b
 coming_board n s st b node k f c =
     let e = map_got input_of b.edges k c.input c.is in
@@ -210,14 +213,14 @@ coming_board n s st b node k f c =
       to = (f.placed k e.0 e.1).home y.0 (ap (λ (m : ℕ). slice_get b.tasks m) target ∙ y.1) ∙ (ap (λ (z : Entry). z.node) y.2 ∙ c.home);
     }
 
-pub unsent_seen : (n : ℕ) (s : Progress) (st : List Step) (b : BoardState) (t k : ℕ) → on_board.IsUnsent t k b
+pub unsent_seen : (n : ℕ) (s : Progress) (st : JournalState) (b : BoardState) (t k : ℕ) → on_board.IsUnsent t k b
     → IsOutput t k (seen n s b st) × (slice_get (seen n s b st).ways k ≡ Some way.Out)
 unsent_seen n s st b t k u = (
   record { input = input_of u.edge; is = map_get input_of b.edges k u.edge u.is; source = u.source },
   map_get way_of b.edges k u.edge u.is ∙ ap Some u.out,
 )
 
-pub passed_seen : (n : ℕ) (s : Progress) (st : List Step) (b : BoardState) (t : ℕ) → ((k : ℕ) → on_board.IsUnsent t k b → ⊥)
+pub passed_seen : (n : ℕ) (s : Progress) (st : JournalState) (b : BoardState) (t : ℕ) → ((k : ℕ) → on_board.IsUnsent t k b → ⊥)
     → AllPassed t (seen n s b st)
 passed_seen n s st b t none = λ k o out.
     let e = map_got input_of b.edges k o.input o.is in

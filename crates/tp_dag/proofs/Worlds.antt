@@ -1,23 +1,23 @@
--- How the lives of tasks and the messages in flight go on with the steps of the core, in one generation.
-use Rattle.std.proofs.Common.{ℕ, ◌≡◌, ◌≢◌, List, [], ◌∷◌, ◌++◌, Bool, false, Option, None, Some, refl, subst, ◌∙◌, arith, IsTrue, IsFalse}
-use Rattle.std.specs.Prelude.{◌==◌, not, if◌then◌else◌, is_some, IfSome, IfNone}
+-- How lives, homes, messages and actions go on with the steps of a pool, in one generation.
+use Rattle.std.proofs.Common.{ℕ, ◌≡◌, ◌≢◌, ◌≤◌, List, [], ◌∷◌, ◌++◌, Bool, true, false, Option, Some, refl, subst, sym, ◌∙◌, arith, IsTrue, IsFalse}
+use Rattle.std.specs.Prelude.{◌==◌, ◌&&◌, if◌then◌else◌, unwrap_or}
 use Rattle.std.specs.List.{find, list_any, list_all}
 use Rattle.std.specs.Option.{option_map}
-use Rattle.std.proofs.lemmas.Bool.{and_parts}
+use Rattle.std.proofs.lemmas.Bool.{and_parts, both_ways}
 use Rattle.std.proofs.lemmas.Bool.Decides.{nat_tests}
 use Rattle.tp_base.specs.declared.Step.{Step}
-use Rattle.tp_base.specs.declared.Step.TheVariants.{Insert, Supply, Begin, Done, ActionOpen, ActionClose, Ready, Send, Recv, MessageEnd}
+use Rattle.tp_base.specs.declared.Step.TheVariants.{Insert, Begin, Done, Send}
 use Rattle.tp_base.specs.declared.Step.TheVariants.{Start, Down, Give, Up, Judge}
 use Rattle.tp_wave.specs.Steps.{any, count, is_reopen}
 use Rattle.tp_wave.specs.Control.{is_control}
-use Rattle.tp_wave.specs.Generations.{generation}
+use Rattle.tp_wave.specs.Generations.{generation, IsOfGeneration}
 use Rattle.tp_core.specs.declared.life.Life.{Life}
 use Rattle.tp_core.specs.declared.life.Life.TheVariants as life
-use Rattle.tp_core.specs.World.{World, Task, Action, Message, life_of, is_done, is_message, is_under_way, IsQuiet}
-use Rattle.tp_core.specs.Pool.{MayTake, after, with_life, without, lacking}
+use Rattle.tp_core.specs.World.{World, Task, Action, Message, Kind, Opening, Named, OfMessage, life_of, home_of, is_done, is_message, is_under_way, is_known_message, is_unfinished_at, is_action, is_open, is_at, same_kind, how_many, IsActive}
+use Rattle.tp_core.specs.Pool.{after, with_life, without, lacking, opened, closed}
 use Rattle.tp_core.specs.Run.{world, IsLawful}
 use Rattle.tp_core.specs.Generations.{MayCome}
-use Rattle.tp_core.proofs.Quiet.{nothing_pending_when_quiet}
+use Rattle.tp_dag.specs.Journal.{is_plain}
 use Rattle.tp_dag.proofs.Steps.{one_generation}
 
 -- ---- lives
@@ -44,7 +44,105 @@ pub inserted_there : (t u home k : ℕ) (w : World) → u ≢ t
     → life_of u (record w { tasks = record { number = t; home = home; life = lacking k } ∷ w.tasks }) ≡ life_of u w
 inserted_there t u home k w o = grind (arith, nat_tests, o)
 
+-- ---- homes
+abbrev home_in : ℕ → List Task → ℕ
+home_in t xs = unwrap_or (option_map (λ x. x.home) (find (λ x. x.number == t) xs)) 0
+
+home_with : (t u : ℕ) (f : Life → Life) (xs : List Task) → home_in t (with_life u f xs) ≡ home_in t xs
+home_with t u f [] = refl
+home_with t u f (x ∷ xs) = grind (arith, nat_tests, home_with t u f xs)
+
+pub home_on : (t u : ℕ) (f : Life → Life) (w : World) → home_of t (record w { tasks = with_life u f w.tasks }) ≡ home_of t w
+home_on t u f w = home_with t u f w.tasks
+
+pub home_here : (t home k : ℕ) (w : World)
+    → home_of t (record w { tasks = record { number = t; home = home; life = lacking k } ∷ w.tasks }) ≡ home
+home_here t home k w = grind (arith, nat_tests)
+
+pub home_there : (t u home k : ℕ) (w : World) → u ≢ t
+    → home_of u (record w { tasks = record { number = t; home = home; life = lacking k } ∷ w.tasks }) ≡ home_of u w
+home_there t u home k w o = grind (arith, nat_tests, o)
+
+-- ---- what makes a node active
+some_here : {A : Type 0} (p q : A → Bool) (xs : List A) → ((x : A) → IsTrue (p x) → IsTrue (q x)) → IsTrue (list_any p xs)
+    → 1 ≤ how_many q xs
+some_here p q [] f h = cc
+some_here p q (x ∷ xs) f h = grind (arith, nat_tests, some_here p q xs f, f x, h)
+
+pub active_open : (i : ℕ) (kind : Kind) (w : World) → IsTrue (is_open i kind w) → IsActive i w
+active_open i kind w h =
+    let s = some_here (is_action i kind) (is_at i) w.actions (λ x a. (and_parts (x.node == i) (same_kind x.kind kind) a).0) h in
+    omega (arith, s)
+
+unfinished_in : (t i : ℕ) (l : Life) (xs : List Task) → life_in t xs ≡ Some l → IsFalse (is_done l) → home_in t xs ≡ i
+    → 1 ≤ how_many (is_unfinished_at i) xs
+unfinished_in t i l [] h d e = cc
+unfinished_in t i l (x ∷ xs) h d e = grind (arith, nat_tests, unfinished_in t i l xs, h, d, e)
+
+pub active_task : (t i : ℕ) (l : Life) (w : World) → life_of t w ≡ Some l → IsFalse (is_done l) → home_of t w ≡ i → IsActive i w
+active_task t i l w h d e = let s = unfinished_in t i l w.tasks h d e in omega (arith, s)
+
+-- ---- actions
+-- an action that is not closed stays open
+open_without : (p q : Action → Bool) (xs : List Action) → ((x : Action) → IsTrue (p x) → IsFalse (q x)) → IsTrue (list_any p xs)
+    → IsTrue (list_any p (without q xs))
+open_without p q [] apart h = h
+open_without p q (x ∷ xs) apart h = grind (arith, nat_tests, open_without p q xs apart, apart x, h)
+
+other_node : (i j : ℕ) (k m : Kind) (x : Action) → i ≢ j → IsTrue (is_action i k x) → IsFalse (is_action j m x)
+other_node i j k m x o h =
+    let at = (and_parts (x.node == i) (same_kind x.kind k) h).0 in grind (arith, nat_tests, o, at)
+
+opening_kind : (k : Kind) (m : ℕ) → IsTrue (same_kind k (OfMessage m)) → IsFalse (same_kind k Opening)
+opening_kind Opening m h = cc
+opening_kind (Named a) m h = refl
+opening_kind (OfMessage a) m h = refl
+
+message_kind : (k : Kind) (m : ℕ) → IsTrue (same_kind k Opening) → IsFalse (same_kind k (OfMessage m))
+message_kind Opening m h = refl
+message_kind (Named a) m h = refl
+message_kind (OfMessage a) m h = cc
+
+and_false : (a b : Bool) → IsFalse b → IsFalse (a && b)
+and_false true b h = h
+and_false false b h = refl
+
+pub opening_stays : (i j : ℕ) (w : World) → i ≢ j → IsTrue (is_open i Opening w)
+    → IsTrue (is_open i Opening (record w { actions = closed j Opening w.actions }))
+opening_stays i j w o h = open_without (is_action i Opening) (is_action j Opening) w.actions
+    (λ x a. other_node i j Opening Opening x o a) h
+
+pub opening_by_message : (i j m : ℕ) (w : World) → IsTrue (is_open i Opening w)
+    → IsTrue (is_open i Opening (record w { actions = closed j (OfMessage m) w.actions }))
+opening_by_message i j m w h = open_without (is_action i Opening) (is_action j (OfMessage m)) w.actions
+    (λ x a. and_false (x.node == j) _ (message_kind x.kind m (and_parts (x.node == i) (same_kind x.kind Opening) a).1)) h
+
+pub message_by_opening : (i j m : ℕ) (w : World) → IsTrue (is_open i (OfMessage m) w)
+    → IsTrue (is_open i (OfMessage m) (record w { actions = closed j Opening w.actions }))
+message_by_opening i j m w h = open_without (is_action i (OfMessage m)) (is_action j Opening) w.actions
+    (λ x a. and_false (x.node == j) _ (opening_kind x.kind m (and_parts (x.node == i) (same_kind x.kind (OfMessage m)) a).1)) h
+
+pub message_stays : (i j m k : ℕ) (w : World) → i ≢ j → IsTrue (is_open i (OfMessage m) w)
+    → IsTrue (is_open i (OfMessage m) (record w { actions = closed j (OfMessage k) w.actions }))
+message_stays i j m k w o h = open_without (is_action i (OfMessage m)) (is_action j (OfMessage k)) w.actions
+    (λ x a. other_node i j (OfMessage m) (OfMessage k) x o a) h
+
+pub opens_now : (i m : ℕ) (xs : List Action) → IsTrue (list_any (is_action i (OfMessage m)) (opened i (OfMessage m) xs))
+opens_now i m xs = grind (arith, nat_tests)
+
+-- a step that opens and ends no action
+pub plain_opens : (s : Step) (i : ℕ) (kind : Kind) (w : World) → IsTrue (is_plain s) → is_open i kind (after s w) ≡ is_open i kind w
+plain_opens (Insert j t k) i kind w h = refl
+plain_opens (Begin t) i kind w h = refl
+plain_opens (Done t) i kind w h = refl
+plain_opens (Send j k m g) i kind w h = refl
+plain_opens (s) i kind w h = cc
+
 -- ---- messages
+pub unknown_now : (m k : ℕ) (w : World) (ms : List Message) → m ≢ k → IsFalse (is_known_message m w)
+    → IsFalse (is_known_message m (record w { messages = ms; numbers = k ∷ w.numbers }))
+unknown_now m k w ms o h = grind (arith, nat_tests, o, h)
+
 -- another message stays in flight
 flies_without : (m j k i : ℕ) (xs : List Message) → m ≢ k → IsTrue (list_any (is_message m j) xs)
     → IsTrue (list_any (is_message m j) (without (is_message k i) xs))
@@ -59,39 +157,24 @@ pub flies_now : (m i j : ℕ) (w : World) (ns : List ℕ)
     → IsTrue (is_under_way m j (record w { messages = record { number = m; from = i; to = j } ∷ w.messages; numbers = ns }))
 flies_now m i j w ns = grind (arith, nat_tests)
 
--- ---- a quiet world takes no step of the pool
-done_in : (t : ℕ) (l : Life) (xs : List Task) → IsFalse (list_any (λ x. not (is_done x.life)) xs) → life_in t xs ≡ Some l
-    → IsTrue (is_done l)
-done_in t l [] q h = cc
-done_in t l (x ∷ xs) q h = grind (arith, nat_tests, done_in t l xs, q, h)
-
-any_none : {A : Type 0} (test : A → Bool) (xs : List A) → xs ≡ [] → IsTrue (list_any test xs) → ⊥
-any_none test xs e h = cc
-
-pub quiet_takes_none : (n : ℕ) (w : World) (s : Step) → IsQuiet w → MayTake n w s → ⊥
-quiet_takes_none n w (Insert i t k) q h = let p = nothing_pending_when_quiet i.0 w q in let a = h.2 in omega (arith, p, a)
-quiet_takes_none n w (Supply t) q h = let d = done_in t.0 (life.Waiting h.0) w.tasks q.0 h.1 in cc
-quiet_takes_none n w (Begin t) q h = let d = done_in t.0 life.Ready w.tasks q.0 h in cc
-quiet_takes_none n w (Done t) q h = let d = done_in t.0 life.Running w.tasks q.0 h in cc
-quiet_takes_none n w (ActionOpen i a) q h = let p = nothing_pending_when_quiet i.0 w q in let b = h.2 in omega (arith, p, b)
-quiet_takes_none n w (ActionClose i a) q h = any_none _ w.actions q.1 h.1
-quiet_takes_none n w (Ready i) q h = any_none _ w.actions q.1 h.1
-quiet_takes_none n w (Send i j m g) q h = let p = nothing_pending_when_quiet i.0 w q in let a = h.4 in omega (arith, p, a)
-quiet_takes_none n w (Recv j m g) q h = any_none _ w.messages q.2 h.1
-quiet_takes_none n w (MessageEnd j m g) q h = any_none _ w.actions q.1 h.1
-quiet_takes_none n w (s) q h = h
-
 -- ---- steps of one generation
-pub lawful_now : {n : ℕ} {steps : List Step} (s : Step) → IsFalse (any is_reopen steps) → IsFalse (is_reopen s) → MayCome n steps s
-    → IsLawful n steps s
-lawful_now {n} {steps} s first on may = subst (λ (xs : List Step). IsLawful n xs s) (one_generation steps first) (may.goes_on on).0
-
 none_counted : (steps : List Step) → IsFalse (any is_reopen steps) → count is_reopen steps ≡ 0
 none_counted [] f = refl
 none_counted (s ∷ past) f = grind (arith, nat_tests, none_counted past, f)
 
 pub first_generation : (steps : List Step) → IsFalse (any is_reopen steps) → generation steps ≡ 1
 first_generation steps f = let n = none_counted steps f in omega (arith, n)
+
+-- a step that is lawful in the first generation may come next
+pub may_come : {n : ℕ} {past : List Step} (s : Step) → IsFalse (any is_reopen past) → IsFalse (is_reopen s) → IsLawful n past s
+    → IsOfGeneration 1 s → MayCome n past s
+may_come {n} {past} s first on lawful named = record {
+  reopens = λ h. absurd (both_ways (is_reopen s) on h);
+  goes_on = λ h. (
+    subst (λ (xs : List Step). IsLawful n xs s) (sym (one_generation past first)) lawful,
+    subst (λ (g : ℕ). IsOfGeneration g s) (sym (first_generation past first)) named,
+  );
+}
 
 -- a control step leaves the world as it is
 pub control_stays : (s : Step) (w : World) → IsTrue (is_control s) → after s w ≡ w
@@ -107,16 +190,3 @@ controls_stay n [] past c = refl
 controls_stay n (s ∷ later) past c =
     let p : IsTrue (is_control s) × IsTrue (list_all is_control later) = and_parts (is_control s) (list_all is_control later) c in
     control_stays s (world n (later ++ past)) p.0 ∙ controls_stay n later past p.1
-
--- ---- what a number says that may be missing
-pub none_or : (o : Option ℕ) (P : Type 0) → IfSome o (λ w. P) → (P → ⊥) → is_some o ≡ false
-none_or None P h f = refl
-none_or (Some w) P h f = absurd (f h)
-
-pub of_none : (o : Option ℕ) (P : Type 0) → IfNone o P → is_some o ≡ false → P
-of_none None P h e = h
-of_none (Some w) P h e = cc
-
-pub if_none : (o : Option ℕ) (P : Type 0) → P → IfNone o P
-if_none None P h = h
-if_none (Some w) P h = tt

@@ -2,6 +2,7 @@
 use Rattle.std.specs.Prelude.{ℕ, ◌+◌, ◌≡◌, ◌<◌, ◌≤◌, ◌==◌, ◌&&◌, List, [], ◌∷◌, Bool, true, false, not, length, slice_get, Option, Some, None, IsTrue, if◌then◌else◌, vec_capacity}
 use Rattle.std.specs.List.{slice_index_or}
 use Rattle.tp_base.specs.declared.limits.TheConstants.{MAX_NODES, MAX_STEPS}
+use Rattle.tp_dag.specs.declared.limits.TheConstants.{MAX_TASKS, MAX_INPUTS}
 use Rattle.tp_dag.specs.declared.entry.Task.{Task}
 use Rattle.tp_dag.specs.declared.entry.Edge.{Edge}
 use Rattle.tp_dag.specs.declared.entry.Stage.{Stage}
@@ -81,8 +82,8 @@ pub record IsCounted (nodes : ℕ) (edges : List Edge) (t : ℕ) (x : Task) : Ty
 
 pub record BoardFacts (a : BoardState) : Type 0 where
   pub few_nodes : a.nodes ≤ MAX_NODES
-  pub few_tasks : length a.tasks ≤ MAX_STEPS
-  pub few_edges : length a.edges ≤ MAX_STEPS
+  pub few_tasks : length a.tasks ≤ MAX_TASKS
+  pub few_edges : length a.edges ≤ MAX_INPUTS
   pub placed : (k : ℕ) (e : Edge) → slice_get a.edges k ≡ Some e → IsPlaced a.tasks e
   pub counted : (t : ℕ) (x : Task) → slice_get a.tasks t ≡ Some x → IsCounted a.nodes a.edges t x
   pub goes : (k : ℕ) (e : Edge) (x : Task) → slice_get a.edges k ≡ Some e → slice_get a.tasks e.source ≡ Some x → IsTrue (may_be e.way x.stage)

@@ -1,17 +1,8 @@
--- The invariant of a pool.
-use Rattle.std.specs.Prelude.{ℕ, ◌≡◌, ◌≢◌, ◌<◌, ◌≤◌, ◌⊎◌, ◌||◌, List, length, map, slice_get, IsTrue, IsFalse, Some, IfSome, IfNone}
-use Rattle.tp_base.specs.declared.limits.TheConstants.{MAX_NODES}
+-- What is true of each pool, and its invariant.
+use Rattle.std.specs.Prelude.{ℕ, ◌≡◌, ◌≢◌, ◌<◌, ◌⊎◌, ◌||◌, List, length, map, slice_get, is_some, Some}
 use Rattle.tp_base.specs.declared.Step.{Step}
 use Rattle.tp_base.specs.declared.Step.TheVariants.{Send}
-use Rattle.tp_wave.specs.Steps.{any, is_reopen}
 use Rattle.tp_wave.specs.Sums.{is_ended}
-use Rattle.tp_core.specs.declared.life.Life.{Life}
-use Rattle.tp_core.specs.declared.life.Life.TheVariants as life
-use Rattle.tp_core.specs.World.{life_of, is_under_way}
-use Rattle.tp_core.specs.Run.{world}
-use Rattle.tp_core.specs.Accepted.{Accepted, with_step}
-use Rattle.tp_core.specs.Generations.{AreRuns, MayCome}
-use Rattle.tp_core.specs.NeverEarly.{is_insert_of}
 use Rattle.tp_dag.specs.declared.entry.Edge.{Edge}
 use Rattle.tp_dag.specs.declared.entry.Entry.{Entry}
 use Rattle.tp_dag.specs.declared.entry.Input.{Input}
@@ -23,7 +14,8 @@ use Rattle.tp_dag.specs.declared.entry.Way.{Way}
 use Rattle.tp_dag.specs.declared.entry.Way.TheVariants as way
 use Rattle.tp_dag.specs.declared.pool.Pool.TheInside.{Inside}
 use Rattle.tp_dag.specs.Board.{BoardState}
-use Rattle.tp_dag.specs.State.{PoolState, WasDone, IsReceived, IsFinished, IsOutput}
+use Rattle.tp_dag.specs.Journal.{JournalState, Records, keeps}
+use Rattle.tp_dag.specs.State.{PoolState, IsBehind, SameSteps, IsOutput}
 
 -- ---- what is true of each pool, in the words of its callers
 -- Each task is at a node of the pool. Each input is from a task to a later one, and was passed on if its source is done.
@@ -52,8 +44,8 @@ input_of e = record { source = e.source; target = e.target }
 abbrev pub way_of : Edge → Way
 way_of e = e.way
 
-abbrev pub seen : ℕ → Progress → BoardState → List Step → PoolState
-seen nodes progress board steps = record {
+abbrev pub seen : ℕ → Progress → BoardState → JournalState → PoolState
+seen nodes progress board journal = record {
   nodes = nodes;
   started = progress.started;
   extended = progress.extended;
@@ -62,7 +54,7 @@ seen nodes progress board steps = record {
   inputs = map input_of board.edges;
   ways = map way_of board.edges;
   outside = map outside_of board.tasks;
-  steps = steps;
+  journal = journal;
 }
 
 -- the progress of a pool after one more task or input
@@ -70,48 +62,17 @@ abbrev pub extend : Progress → Progress
 extend p = record p { extended = p.extended || p.started }
 
 abbrev pub state_of : Inside → PoolState
-state_of p = seen p.core.nodes p.progress p.board p.core.steps
+state_of p = seen p.nodes p.progress p.board p.journal
 
 -- ---- the invariant
--- the life that the core gives a task at this stage
-abbrev pub life_for : Stage → Life
-life_for stage.Fresh = life.Ready
-life_for stage.Running = life.Running
-life_for stage.Done = life.Done
 
--- The steps are a run of one generation, in which each task was inserted and is as far as its stage says, and each that is kept as done
--- was done.
-pub record StepFacts (nodes : ℕ) (tasks : List Entry) (stages : List Stage) (steps : List Step) : Type 0 where
-  pub some_node : 1 ≤ nodes
-  pub few_nodes : nodes ≤ MAX_NODES
-  pub runs : AreRuns nodes steps
-  pub first : IsFalse (any is_reopen steps)
-  pub known : (t : ℕ) → t < length tasks → IsTrue (any (is_insert_of t) steps)
-  pub done : (t : ℕ) → slice_get stages t ≡ Some stage.Done → WasDone t steps
-  pub lives : (t : ℕ) (g : Stage) → slice_get stages t ≡ Some g → life_of t (world nodes steps) ≡ Some (life_for g)
-
--- An input that is kept as received is there.
-abbrev pub AreReceived : List Entry → List Input → List Way → List Step → Type 0
-AreReceived tasks inputs ways steps = (k : ℕ) (i : Input) (x : Entry) → slice_get ways k ≡ Some way.Received → slice_get inputs k ≡ Some i
-    → slice_get tasks i.target ≡ Some x → IsReceived x.node k i tasks steps
-
--- An input between two nodes that is kept as under way is a message in flight to the home of its task.
-abbrev pub AreUnderWay : ℕ → List Entry → List Input → List Way → List Step → Type 0
-AreUnderWay nodes tasks inputs ways steps = (k : ℕ) (i : Input) (x y : Entry) → slice_get ways k ≡ Some way.UnderWay
-    → slice_get inputs k ≡ Some i → slice_get tasks i.source ≡ Some x → slice_get tasks i.target ≡ Some y → x.node ≢ y.node
-    → IsTrue (is_under_way k y.node (world nodes steps))
-
-pub record Facts (a : PoolState) : Type 0 where
-  pub by_steps : StepFacts a.nodes a.tasks a.stages a.steps
-  pub arrived : AreReceived a.tasks a.inputs a.ways a.steps
-  pub under_way : AreUnderWay a.nodes a.tasks a.inputs a.ways a.steps
-
+-- There is a list of steps behind the pool, and the end was reported if it was judged.
 pub record IsPool (p : Inside) : Type 0 where
-  pub nodes : p.core.nodes ≡ p.nodes
   pub board : p.board.nodes ≡ p.nodes
-  pub facts : Facts (state_of p)
-  pub ended_with : IfSome p.ended_with (λ w. IsFinished (state_of p))
-  pub not_ended : IfNone p.ended_with (IsFalse (is_ended p.core.nodes p.core.steps))
+  pub keeps : p.keeps_steps ≡ keeps p.journal
+  pub past : List Step
+  pub behind : IsBehind past (state_of p)
+  pub ended : is_some p.ended_with ≡ is_ended p.nodes past
 
 -- The source of input k is at home at this node.
 abbrev pub IsFrom : ℕ → ℕ → PoolState → Type 0
@@ -128,6 +89,7 @@ AllPassed t a = (k : ℕ) → IsOutput t k a → slice_get a.ways k ≢ Some way
 -- Some inputs that come from task t were received; all else is as before.
 pub record IsMarked (t : ℕ) (old new : PoolState) : Type 0 where
   pub only : new ≡ record old { ways = new.ways }
+  pub steps : SameSteps old new
   pub ways : (k : ℕ) → (slice_get new.ways k ≡ slice_get old.ways k) ⊎ (IsOutput t k old × (slice_get new.ways k ≡ Some way.Received))
 
 -- The source of input k is at home at another node.
@@ -139,6 +101,5 @@ abbrev pub sending : ℕ → ℕ → ℕ → Step
 sending from to k = Send (record { 0 = from }) (record { 0 = to }) (record { 0 = k }) (record { 0 = 1 })
 
 -- An input at one node is not sent; another one is sent.
-abbrev pub SendsOne : ℕ → ℕ → ℕ → Accepted → Accepted → Type 0
-SendsOne from to k old new =
-    ((from ≡ to) × (new ≡ old)) ⊎ (MayCome old.nodes old.steps (sending from to k) × (new ≡ with_step old (sending from to k)))
+abbrev pub SendsOne : ℕ → ℕ → ℕ → JournalState → JournalState → Type 0
+SendsOne from to k old new = ((from ≡ to) × (new ≡ old)) ⊎ ((from ≢ to) × Records from (sending from to k) old new)

@@ -3,6 +3,7 @@
 ghost use Rattle.std.specs.Prelude.{◌≡◌, ◌<◌, ◌≤◌, ◌+◌, ◌-◌, ◌^◌, ℕ, [], length, IsTrue, IsFalse, IfSome, IfNone, OnOk, slice_get, slice_set, Some, if◌then◌else◌};
 ghost use Rattle.std.specs.List.{slice_index_or};
 ghost use Rattle.tp_base.specs.declared.limits.TheConstants.{MAX_NODES, MAX_STEPS};
+ghost use Rattle.tp_dag.specs.declared.limits.TheConstants.{MAX_INPUTS, MAX_TASKS};
 ghost use Rattle.tp_dag.specs.declared.entry.Task.{Task};
 ghost use Rattle.tp_dag.specs.declared.entry.Stage.TheVariants as stage;
 ghost use Rattle.tp_dag.specs.Board.{LacksInput, IsReady, HasNoneReady, IsComing, HasNoneComing, MayArrive, MayLeave, IsUnderWayTo, IsUnsent, with_task};
@@ -107,6 +108,14 @@ impl Board {
         let _ = &self.tasks;
     }
 
+    /// How many nodes there are.
+    #[inline]
+    pub fn nodes(&self) -> u32
+        ensures { result ≡ self.now.nodes }
+    {
+        self.nodes
+    }
+
     /// How many tasks there are.
     #[inline]
     pub fn task_count(&self) -> usize
@@ -174,7 +183,7 @@ impl Board {
     /// Adds a task, and returns its number. If the task is held, it waits for one input from outside.
     pub fn add_task(&mut self, node: u32, class: u32, is_held: bool) -> u32
         requires home { node < self.old.nodes }
-        requires few { length self.old.tasks < MAX_STEPS }
+        requires few { length self.old.tasks < MAX_TASKS }
         requires room { length self.old.tasks < self.old.task_room }
         ensures number { result ≡ length self.old.tasks }
         ensures added { self.new ≡ with_task node class is_held self.old }
@@ -197,7 +206,7 @@ impl Board {
     pub fn add_edge(&mut self, source: u32, target: u32)
         requires newest { target + 1 ≡ length self.old.tasks }
         requires before { source < target }
-        requires few { length self.old.edges < MAX_STEPS }
+        requires few { length self.old.edges < MAX_INPUTS }
         requires room { length self.old.edges < self.old.edge_room }
         requires fresh { (x : Task) → slice_get self.old.tasks target ≡ Some x → x.stage ≡ stage.Fresh }
         requires not_done { (x : Task) → slice_get self.old.tasks source ≡ Some x → x.stage ≡ stage.Done → ⊥ }

@@ -31,8 +31,6 @@ pub(crate) struct Hints {
     newest_ready: [u32; 32],
     // the newest message under way to each node
     newest_message: [u32; 8],
-    // the message that each node received and has not ended
-    open_message: [u32; 8],
     tasks: Vec<OfTask>,
     inputs: Vec<OfInput>,
 }
@@ -65,7 +63,6 @@ impl Hints {
         Hints {
             newest_ready: [NONE; 32],
             newest_message: [NONE; 8],
-            open_message: [NONE; 8],
             tasks: Vec::new(alloc),
             inputs: Vec::new(alloc),
         }
@@ -175,20 +172,5 @@ impl Hints {
     pub(crate) fn forget(&mut self) {
         self.newest_ready = [NONE; 32];
         self.newest_message = [NONE; 8];
-        self.open_message = [NONE; 8];
-    }
-
-    /// The message that a node received and has not ended.
-    #[inline]
-    pub(crate) fn open_message(&self, node: u32) -> Option<u32> {
-        known(number_at(&self.open_message, node))
-    }
-
-    pub(crate) fn open(&mut self, node: u32, input: u32) {
-        set_number(&mut self.open_message, node, input);
-    }
-
-    pub(crate) fn close(&mut self, node: u32) {
-        set_number(&mut self.open_message, node, NONE);
     }
 }

@@ -7,11 +7,14 @@ mod board;
 mod choice;
 mod entry;
 mod hints;
+mod journal;
 mod laws;
+mod limits;
 mod pool;
 mod reset;
 mod scans;
 
 pub use entry::{Entry, Input, Stage, Way};
 pub use laws::{never_dispatched_twice, never_silent};
+pub use limits::{MAX_INPUTS, MAX_TASKS};
 pub use pool::{Next, Pool};

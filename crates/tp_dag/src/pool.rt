@@ -1,18 +1,19 @@
 //! The pool: the calls that describe a graph, dispatch its tasks and take their completions. Bodies and values are the caller's.
-ghost use Rattle.std.specs.Prelude.{◌≡◌, ◌≢◌, ◌≤◌, ◌<◌, ◌+◌, ◌⊎◌, ℕ, [], ◌∷◌, ◌++◌, length, IfOk, IfErr, IfSome, IfNone, OnOk, OnErr, IsTrue, IsFalse, slice_get, slice_set, reverse, true, false, Ok, Err, Some, None};
+ghost use Rattle.std.specs.Prelude.{◌≡◌, ◌≢◌, ◌≤◌, ◌<◌, ◌+◌, ◌⊎◌, ℕ, List, [], ◌∷◌, ◌++◌, length, IfOk, IfErr, IfSome, IfNone, OnOk, OnErr, IsTrue, IsFalse, slice_get, slice_set, true, false, Ok, Err, Some, None, if◌then◌else◌};
 ghost use Rattle.tp_base.specs.declared.limits.TheConstants.{MAX_NODES, MAX_STEPS};
+ghost use Rattle.tp_base.specs.declared.Step.{Step};
 ghost use Rattle.tp_base.specs.Checks.{first_refusal};
 ghost use Rattle.tp_wave.specs.Steps.{count};
 ghost use Rattle.tp_core.specs.NeverEarly.{is_begin_of};
-ghost use Rattle.tp_core.specs.Generations.{AreRuns, MayCome};
-ghost use Rattle.tp_core.specs.Accepted.{IsRefusedFor, asks_memory, refusal, with_step};
+ghost use Rattle.tp_core.specs.Recording.{IsSafe};
 ghost use Rattle.tp_dag.specs.declared.entry.Stage.TheVariants as stage;
 ghost use Rattle.tp_dag.specs.declared.entry.Way.TheVariants as way;
 ghost use Rattle.tp_dag.specs.State.{AddsOnly, IsStarted, IsOutsideAdded, IsReleased, IsDispatched, IsFinished, IsCompleted, SameGraph};
 ghost use Rattle.tp_dag.specs.State.{IsIdle, IsComing, IsOutput, LacksInput, HasNoneReady, AreDelivered, AreSent};
 ghost use Rattle.tp_dag.specs.State.{start_checks, outside_checks, release_checks, next_checks, done_checks, dispatched};
-ghost use Rattle.tp_dag.specs.State.{is_delivery, is_sending, is_readying, is_of_room};
-ghost use Rattle.tp_dag.specs.Kept.{IsConsistent, IsFrom, IsFromAfar, IsHome, AllPassed, IsMarked, SendsOne};
+ghost use Rattle.tp_dag.specs.State.{IsBehind, IsBacked, SameSteps, BeginsMore};
+ghost use Rattle.tp_dag.specs.Journal.{IsRefusedForRoom, SameKind, keeps, kept_step, is_delivery, is_sending, is_readying, is_of_room};
+ghost use Rattle.tp_dag.specs.Kept.{IsConsistent, IsFrom, IsFromAfar, IsHome, AllPassed, IsMarked, SendsOne, sending};
 
 use crate::board::Board;
 use crate::choice::{
@@ -21,10 +22,11 @@ use crate::choice::{
 };
 use crate::entry::{Progress, Stage, Way};
 use crate::hints::Hints;
+use crate::journal::Journal;
+use crate::limits::MAX_INPUTS;
 use std::alloc::Global;
 use std::marker::Model;
 use tp_base::{Generation, MAX_STEPS, MessageId, NodeId, Refusal, Step, TaskId};
-use tp_core::Core;
 
 mod adding;
 mod repeat;
@@ -40,11 +42,13 @@ pub enum Next {
     Finished(u32),
 }
 
-/// A pool of tasks that the caller runs. Contracts see the graph as it was described, how far each task and each input is, and the steps
-/// so far.
+/// A pool of tasks that the caller runs. Contracts see the graph as it was described, how far each task and each input is, and the journal
+/// of its steps. What they say of steps, they say of each list of steps that is behind the pool. There is one, and if steps are kept, it is
+/// the kept list.
 #[derive(Drop)]
 pub struct Pool {
-    core: Core,
+    journal: Journal,
+    keeps_steps: bool,
     nodes: u32,
     progress: Progress,
     // how many steps are left for tasks and inputs that are added after the start
@@ -68,36 +72,32 @@ impl Model for Pool {
     ghost invariant = { IsPool };
 }
 
-/// Takes a step of one generation. Inlined, as `Core::step` is: each caller knows the kind of its step.
-#[inline(always)]
-fn take_step(core: &mut Core, step: Step) -> Result<(), Refusal>
-    ensures ok { OnOk result (MayCome core.old.nodes core.old.steps step × (core.new ≡ with_step core.old step)) }
-    ensures err { OnErr result (core.new ≡ core.old) }
-    ensures exact { IfErr result (λ r. IsRefusedFor (refusal core.old step) (asks_memory core.old step) r) }
-{
-    core.step(step)?;
-    Ok(())
-}
-
 /// Sends an input as a message, if it is one of another node.
-fn send_message(core: &mut Core, from: u32, to: u32, input: u32) -> Result<(), Refusal>
-    ensures ok { OnOk result (SendsOne from to input core.old core.new) }
-    ensures err { OnErr result (core.new ≡ core.old) }
+fn send_message(journal: &mut Journal, from: u32, to: u32, input: u32) -> Result<(), Refusal>
+    ensures ok { OnOk result (SendsOne from to input journal.old journal.new) }
+    ensures room { IfErr result (λ r. (from ≢ to) × IsRefusedForRoom from (sending from to input) journal.old r) }
+    ensures err { OnErr result (journal.new ≡ journal.old) }
+    ensures same { SameKind journal.old journal.new }
 {
     if from == to {
         return Ok(());
     }
-    take_step(
-        core,
+    journal.record(
+        from,
         Step::Send(NodeId(from), NodeId(to), MessageId(input), Generation(1)),
     )
 }
 
 impl Pool {
     /// A pool of the nodes 0 to `nodes` - 1, without a task. It takes no memory.
-    pub fn new(alloc: Global, nodes: u32) -> Pool
+    ///
+    /// If it keeps its steps, there may be 1,048,576 of them. If it does not, it allocates nothing for them and their number has no limit,
+    /// but a node may send 1,048,576 messages and receive as many, which is the bound of the four counters.
+    pub fn new(alloc: Global, nodes: u32, keeps_steps: bool) -> Pool
         requires { (1 ≤ nodes) × (nodes ≤ MAX_NODES) }
-        ensures { result ≡ record {
+        ensures empty { IsBehind [] result }
+        ensures kept { result.journal.recorded.steps ≡ (if keeps_steps then Some [] else None) }
+        ensures graph { result ≡ record {
           nodes = nodes;
           started = false;
           extended = false;
@@ -106,11 +106,12 @@ impl Pool {
           inputs = [];
           ways = [];
           outside = [];
-          steps = [];
+          journal = result.journal;
         } }
     {
         Pool {
-            core: Core::new(alloc, nodes),
+            journal: Journal::new(alloc, nodes, keeps_steps),
+            keeps_steps,
             nodes,
             progress: Progress {
                 started: false,
@@ -182,9 +183,9 @@ impl Pool {
 
     /// The graph is described: tasks may be dispatched.
     ///
-    /// Refused, and the graph is as before: `WrongLife` if the pool was started; `HistoryFull` if the graph would need more than
-    /// 1,048,576 steps, which are 3 a task, 3 an input from another node and 10 a node; `NoMemory`, after which `start` may be
-    /// called again. Steps that are left are for tasks and inputs that are added later.
+    /// Refused, and the graph is as before: `WrongLife` if the pool was started. If steps are kept, also `HistoryFull` if the graph would
+    /// need more than 1,048,576 steps, which are 3 a task, 3 an input from another node and 10 a node; and `NoMemory`, after which `start`
+    /// may be called again. Steps that are left are for tasks and inputs that are added later.
     pub fn start(&mut self) -> Result<(), Refusal>
         ensures checks { IfSome (first_refusal (start_checks self.old)) (λ r. (result ≡ Err r) × (self.new ≡ self.old)) }
         ensures ok { OnOk result (IsStarted self.old self.new) }
@@ -194,13 +195,11 @@ impl Pool {
         if self.progress.started {
             return Err(Refusal::WrongLife);
         }
-        let needed = self.steps_needed();
-        let left = (MAX_STEPS as usize).saturating_sub(self.core.steps().len());
-        if needed > left {
+        let Some(spare_steps) = self.spare_steps_at_start() else {
             return Err(Refusal::HistoryFull(MAX_STEPS));
-        }
+        };
         self.ready_all()?;
-        self.set_started(left - needed);
+        self.set_started(spare_steps);
         self.push_ready_tasks();
         Ok(())
     }
@@ -210,14 +209,17 @@ impl Pool {
         ensures adds { AddsOnly is_readying self.old self.new }
         ensures ways { self.new.ways ≡ self.old.ways }
     {
-        for node in 0..self.nodes {
-            match self.ready(node) {
-                Ok(()) => {}
-                Err(Refusal::NoAction) => {}
-                Err(refusal) => return Err(refusal),
-            }
+        self.journal.ready_all()
+    }
+
+    // how many steps are left for tasks and inputs that are added later; none if the graph would need too many
+    fn spare_steps_at_start(&self) -> Option<usize> {
+        if !self.keeps_steps {
+            return Some(0);
         }
-        Ok(())
+        let taken = self.board.task_count();
+        let needed = self.steps_needed().saturating_add(taken);
+        (MAX_STEPS as usize).checked_sub(needed)
     }
 
     fn set_started(&mut self, spare_steps: usize)
@@ -241,13 +243,6 @@ impl Pool {
         steps_needed
     }
 
-    fn ready(&mut self, node: u32) -> Result<(), Refusal>
-        ensures adds { AddsOnly is_readying self.old self.new }
-        ensures ways { self.new.ways ≡ self.old.ways }
-    {
-        take_step(&mut self.core, Step::Ready(NodeId(node)))
-    }
-
     fn push_ready_tasks(&mut self)
         ensures { self.new ≡ self.old }
     {
@@ -262,8 +257,9 @@ impl Pool {
     /// What a thread of a node is to do next: it receives the messages that are under way to the node, and dispatches a task of the node
     /// whose inputs are all there.
     ///
-    /// Refused: `WrongLife` if the pool was not started, and `NoNode`, and nothing changes; else only for lack of room, by `NoMemory` or by
-    /// `HistoryFull` if there are 1,048,576 steps, and the graph is as before: `next` may be called again.
+    /// Refused: `WrongLife` if the pool was not started, and `NoNode`, and nothing changes; else only for lack of room, and the graph is as
+    /// before: `HistoryFull` if there are 1,048,576 kept steps, or the node has received 1,048,576 messages; `NoMemory` if steps are kept,
+    /// after which `next` may be called again.
     pub fn next(&mut self, node: u32) -> Result<Next, Refusal>
         ensures checks { IfSome (first_refusal (next_checks self.old node)) (λ r. (result ≡ Err r) × (self.new ≡ self.old)) }
         ensures run { IfOk result (λ next. (t : ℕ) → next ≡ Next.Run t → IsDispatched node t self.old self.new) }
@@ -271,10 +267,11 @@ impl Pool {
         ensures wait { result ≡ Ok Next.Wait → IsIdle node self.new }
         ensures waiting { result ≡ Ok Next.Wait → AddsOnly is_delivery self.old self.new }
         ensures err { OnErr result (AddsOnly is_delivery self.old self.new) }
-        ensures refused { IfErr result (λ r. (first_refusal (next_checks self.old node) ≡ Some r) ⊎ IsTrue (is_of_room r)) }
+        ensures refused { IfErr result (λ r. (first_refusal (next_checks self.old node) ≡ Some r)
+            ⊎ IsTrue (is_of_room (keeps self.old.journal) r)) }
         ensures graph { SameGraph self.old self.new }
         ensures ways { AreDelivered node self.old self.new }
-        ensures begun { (t : ℕ) → count (is_begin_of t) self.new.steps ≡ count (is_begin_of t) self.old.steps + dispatched result t }
+        ensures begun { BeginsMore (dispatched result) self.old self.new }
     {
         if let Some(refusal) = self.next_refusal(node) {
             return Err(refusal);
@@ -300,24 +297,26 @@ impl Pool {
         None
     }
 
-    /// The step that was taken as number `k`, the oldest being 0.
+    /// The step that was recorded as number `k`, the oldest being 0, if steps are kept.
     pub fn step(&self, k: u32) -> Option<Step>
-        ensures { result ≡ slice_get (reverse self.now.steps) k }
+        ensures { result ≡ kept_step self.now.journal.recorded.steps k }
     {
-        self.core.steps().get(k as usize).copied()
+        self.journal.step(k)
     }
 
-    /// Each task was dispatched at most once, whatever was called.
+    /// By each list of steps behind the pool: it is a lawful run of which the four counters were never early, and each task was dispatched
+    /// at most once, whatever was called.
     pub fn dispatched_once(&self)
-        ensures runs { AreRuns self.now.nodes self.now.steps }
-        ensures once { (t : ℕ) → count (is_begin_of t) self.now.steps ≤ 1 }
+        ensures runs { (steps : List Step) → IsBehind steps self.now → IsSafe self.now.nodes steps }
+        ensures once { (steps : List Step) → IsBehind steps self.now → (t : ℕ) → count (is_begin_of t) steps ≤ 1 }
     {
         let _ = &self.board;
     }
 
-    /// What is true of the graph and of its tasks and inputs at any time.
+    /// What is true of the graph and of its tasks and inputs at any time. There is a list of steps behind the pool.
     pub fn known(&self)
-        ensures { IsConsistent self.now }
+        ensures graph { IsConsistent self.now }
+        ensures backed { IsBacked self.now }
     {
         self.board.known();
     }
@@ -338,17 +337,21 @@ impl Pool {
         ensures wait { result ≡ Ok Next.Wait → self.new ≡ self.old }
         ensures err { OnErr result (self.new ≡ self.old) }
         ensures graph { SameGraph self.old self.new }
+        ensures stages { self.new.stages ≡ self.old.stages }
         ensures ways { self.new.ways ≡ self.old.ways }
-        ensures room { IfErr result (λ r. IsTrue (is_of_room r)) }
-        ensures begun { (t : ℕ) → count (is_begin_of t) self.new.steps ≡ count (is_begin_of t) self.old.steps }
+        ensures room { IfErr result (λ r. IsTrue (is_of_room (keeps self.old.journal) r)) }
     {
         if let Some(wave) = self.ended_with {
+            let over = self.journal.is_over();
+            prove!(over);
             return Ok(Next::Finished(wave));
         }
-        if !self.core.quiet() {
+        if !self.journal.is_quiet() {
             return Ok(Next::Wait);
         }
-        let (wave, _) = self.core.settle()?;
+        let wave = self.journal.settle()?;
+        let over = self.journal.is_over();
+        prove!(over);
         self.ended_with = Some(wave);
         Ok(Next::Finished(wave))
     }
@@ -358,14 +361,14 @@ impl Pool {
         ensures ok { IfOk result (λ found. (t : ℕ) → found ≡ Some t → IsDispatched node t self.old self.new) }
         ensures none { result ≡ Ok None → (self.new ≡ self.old) × HasNoneReady node self.new }
         ensures err { OnErr result (self.new ≡ self.old) }
-        ensures room { IfErr result (λ r. IsTrue (is_of_room r)) }
+        ensures room { IfErr result (λ r. IsTrue (is_of_room (keeps self.old.journal) r)) }
         ensures ways { self.new.ways ≡ self.old.ways }
     {
         self.board.known();
         let Some(task) = find_ready(&self.board, &mut self.hints, node) else {
             return Ok(None);
         };
-        if let Err(refusal) = take_step(&mut self.core, Step::Begin(TaskId(task))) {
+        if let Err(refusal) = self.journal.record(node, Step::Begin(TaskId(task))) {
             push_ready(&self.board, &mut self.hints, task);
             return Err(refusal);
         }
@@ -380,24 +383,12 @@ impl Pool {
         ensures adds { AddsOnly is_delivery self.old self.new }
         ensures ways { AreDelivered node self.old self.new }
         ensures ok { OnOk result ((k : ℕ) → IsComing node k self.new → ⊥) }
-        ensures room { IfErr result (λ r. IsTrue (is_of_room r)) }
+        ensures room { IfErr result (λ r. IsTrue (is_of_room (keeps self.old.journal) r)) }
     {
-        self.end_open_message(node)?;
+        // an earlier call may have found no memory for the end of a message
+        self.end_message(node)?;
         while let Some(input) = self.find_message(node) {
             self.deliver(node, input)?;
-        }
-        Ok(())
-    }
-
-    // ends a message for which an earlier call found no memory
-    fn end_open_message(&mut self, node: u32) -> Result<(), Refusal>
-        requires { node < self.old.nodes }
-        ensures adds { AddsOnly is_delivery self.old self.new }
-        ensures ways { self.new.ways ≡ self.old.ways }
-        ensures room { IfErr result (λ r. IsTrue (is_of_room r)) }
-    {
-        if let Some(input) = self.hints.open_message(node) {
-            self.end_message(node, input)?;
         }
         Ok(())
     }
@@ -419,14 +410,14 @@ impl Pool {
         ensures adds { AddsOnly is_delivery self.old self.new }
         ensures ways { AreDelivered node self.old self.new }
         ensures ok { OnOk result (self.new.ways ≡ slice_set self.old.ways input way.Received) }
-        ensures room { IfErr result (λ r. IsTrue (is_of_room r)) }
+        ensures room { IfErr result (λ r. IsTrue (is_of_room (keeps self.old.journal) r)) }
     {
         if self.is_from(node, input) {
             self.arrive(node, input);
             return Ok(());
         }
         self.receive(node, input)?;
-        self.end_message(node, input)
+        self.end_message(node)
     }
 
     // receives an input from another node, as a message
@@ -437,40 +428,26 @@ impl Pool {
         ensures adds { AddsOnly is_delivery self.old self.new }
         ensures ok { OnOk result (self.new.ways ≡ slice_set self.old.ways input way.Received) }
         ensures err { OnErr result (self.new ≡ self.old) }
-        ensures room { IfErr result (λ r. IsTrue (is_of_room r)) }
+        ensures room { IfErr result (λ r. IsTrue (is_of_room (keeps self.old.journal) r)) }
     {
         self.board.known();
-        if let Err(refusal) = take_step(
-            &mut self.core,
-            Step::Recv(NodeId(node), MessageId(input), Generation(1)),
-        ) {
+        if let Err(refusal) = self.journal.receive(node, input) {
             self.hints.push_message(node, input);
             return Err(refusal);
         }
-        self.hints.open(node, input);
         let last = self.board.arrive(input);
         push_woken(&self.board, &mut self.hints, input, last);
         Ok(())
     }
 
-    // ends a message, if it is open
-    fn end_message(&mut self, node: u32, input: u32) -> Result<(), Refusal>
+    // ends the message that a node received, if one is open
+    fn end_message(&mut self, node: u32) -> Result<(), Refusal>
         requires { node < self.old.nodes }
         ensures adds { AddsOnly is_delivery self.old self.new }
         ensures ways { self.new.ways ≡ self.old.ways }
-        ensures room { IfErr result (λ r. IsTrue (is_of_room r)) }
+        ensures room { IfErr result (λ r. IsTrue (is_of_room (keeps self.old.journal) r)) }
     {
-        if let Err(refusal) = take_step(
-            &mut self.core,
-            Step::MessageEnd(NodeId(node), MessageId(input), Generation(1)),
-        ) {
-            match refusal {
-                Refusal::NoAction => {}
-                _ => return Err(refusal),
-            }
-        }
-        self.hints.close(node);
-        Ok(())
+        self.journal.end_message(node)
     }
 
     // marks an input of a task at this node as received, if it is from a task at this node
@@ -478,7 +455,8 @@ impl Pool {
     fn arrive(&mut self, node: u32, input: u32)
         requires coming { IsComing node input self.old }
         requires there { IsFrom node input self.old }
-        ensures { self.new ≡ record self.old { ways = slice_set self.old.ways input way.Received } }
+        ensures ways { self.new ≡ record self.old { ways = slice_set self.old.ways input way.Received } }
+        ensures steps { SameSteps self.old self.new }
     {
         self.board.known();
         let last = self.board.arrive(input);
@@ -503,19 +481,22 @@ impl Pool {
     /// a thread may find something new, as bits.
     ///
     /// Refused, and nothing changes: `NoTask`; `WrongLife` if the task was not dispatched, or is done; `NoNode` if its home is another
-    /// node. `NoMemory` if a message found no memory: some were sent, the task is still running, and `done` may be called again.
+    /// node. Else only for lack of room; some messages were sent, and the task is still running: `HistoryFull` if there are 1,048,576 kept
+    /// steps, or the node has sent 1,048,576 messages; `NoMemory` if steps are kept, after which `done` may be called again.
     pub fn done(&mut self, node: u32, task: u32) -> Result<u32, Refusal>
         ensures checks { IfSome (first_refusal (done_checks self.old node task)) (λ r. (result ≡ Err r) × (self.new ≡ self.old)) }
         ensures ok { OnOk result (IsCompleted task self.old self.new) }
         ensures err { OnErr result (AddsOnly is_sending self.old self.new) }
+        ensures refused { IfErr result (λ r. (first_refusal (done_checks self.old node task) ≡ Some r)
+            ⊎ IsTrue (is_of_room (keeps self.old.journal) r)) }
         ensures ways { AreSent task self.old self.new }
-        ensures begun { (t : ℕ) → count (is_begin_of t) self.new.steps ≡ count (is_begin_of t) self.old.steps }
+        ensures begun { BeginsMore (λ t. 0) self.old self.new }
     {
         if let Some(refusal) = self.done_refusal(node, task) {
             return Err(refusal);
         }
         self.send_all(node, task)?;
-        self.complete(task)?;
+        self.complete(node, task)?;
         Ok(self.pass_on(node, task))
     }
 
@@ -545,6 +526,7 @@ impl Pool {
         ensures adds { AddsOnly is_sending self.old self.new }
         ensures ways { AreSent task self.old self.new }
         ensures ok { OnOk result (AllPassed task self.new) }
+        ensures room { IfErr result (λ r. IsTrue (is_of_room (keeps self.old.journal) r)) }
     {
         self.send_hinted(node, task)?;
         while let Some(input) = self.find_unsent(task) {
@@ -559,9 +541,10 @@ impl Pool {
         requires home { IsHome node task self.old }
         ensures adds { AddsOnly is_sending self.old self.new }
         ensures ways { AreSent task self.old self.new }
+        ensures room { IfErr result (λ r. IsTrue (is_of_room (keeps self.old.journal) r)) }
     {
         let mut next = self.hints.first_output(task);
-        for _turn in 0..MAX_STEPS {
+        for _turn in 0..MAX_INPUTS {
             let Some(input) = next else {
                 return Ok(());
             };
@@ -591,25 +574,29 @@ impl Pool {
         ensures ways { AreSent task self.old self.new }
         ensures ok { OnOk result (IsOutput task input self.old → slice_get self.old.ways input ≡ Some way.Out
             → self.new.ways ≡ slice_set self.old.ways input way.UnderWay) }
+        ensures room { IfErr result (λ r. IsTrue (is_of_room (keeps self.old.journal) r)) }
     {
         self.board.known();
         let Some(edge) = output_of(&self.board, task, input, Way::Out) else {
             return Ok(());
         };
-        send_message(&mut self.core, node, edge.to, input)?;
+        send_message(&mut self.journal, node, edge.to, input)?;
         let left = self.board.leave(input);
         prove!(left);
         Ok(())
     }
 
-    fn complete(&mut self, task: u32) -> Result<(), Refusal>
+    // completes a running task whose outputs were passed on
+    fn complete(&mut self, node: u32, task: u32) -> Result<(), Refusal>
         requires running { slice_get self.old.stages task ≡ Some stage.Running }
+        requires home { IsHome node task self.old }
         requires passed { AllPassed task self.old }
         ensures ok { OnOk result (IsCompleted task self.old self.new) }
         ensures ways { self.new.ways ≡ self.old.ways }
         ensures err { OnErr result (self.new ≡ self.old) }
+        ensures room { IfErr result (λ r. IsTrue (is_of_room (keeps self.old.journal) r)) }
     {
-        take_step(&mut self.core, Step::Done(TaskId(task)))?;
+        self.journal.record(node, Step::Done(TaskId(task)))?;
         let finished = self.board.finish(task);
         prove!(finished);
         Ok(())
@@ -623,7 +610,7 @@ impl Pool {
     {
         let mut news = 0u32;
         let mut next = self.hints.first_output(task);
-        for _turn in 0..MAX_STEPS {
+        for _turn in 0..MAX_INPUTS {
             let Some(input) = next else {
                 return news;
             };

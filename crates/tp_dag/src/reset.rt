@@ -1,6 +1,7 @@
 //! The passes of `Board::reset` over all tasks and edges.
 ghost use Rattle.std.specs.Prelude.{◌≡◌, ◌<◌, ◌≤◌, ◌+◌, ℕ, map, length, slice_get, slice_set, Some, OnOk};
-ghost use Rattle.tp_base.specs.declared.limits.TheConstants.{MAX_NODES, MAX_STEPS};
+ghost use Rattle.tp_base.specs.declared.limits.TheConstants.{MAX_NODES};
+ghost use Rattle.tp_dag.specs.declared.limits.TheConstants.{MAX_INPUTS, MAX_TASKS};
 ghost use Rattle.tp_dag.specs.declared.entry.Task.{Task};
 ghost use Rattle.tp_dag.specs.declared.entry.Edge.{Edge};
 ghost use Rattle.tp_dag.specs.Board.{not_passed_on};
@@ -43,7 +44,7 @@ pub fn reset_edges(edges: &mut [Edge])
 /// Counts the edges at their targets and sources.
 pub fn count_edges(tasks: &mut [Task], edges: &[Edge])
     requires placed { (k : ℕ) (e : Edge) → slice_get edges.now k ≡ Some e → (e.source < length tasks.old) × (e.target < length tasks.old) }
-    requires few { length edges.now ≤ MAX_STEPS }
+    requires few { length edges.now ≤ MAX_INPUTS }
     requires none { (t : ℕ) (x : Task) → slice_get tasks.old t ≡ Some x → (x.missing ≡ 0) × (x.unsent ≡ 0) }
     ensures { AreRecounted edges.now edges.now tasks.old tasks.new }
 {
@@ -57,7 +58,7 @@ pub fn count_edges(tasks: &mut [Task], edges: &[Edge])
 #[inline]
 fn count_input(tasks: &mut [Task], task: u32)
     requires place { task < length tasks.old }
-    requires few { (x : Task) → slice_get tasks.old task ≡ Some x → x.missing ≤ MAX_STEPS }
+    requires few { (x : Task) → slice_get tasks.old task ≡ Some x → x.missing ≤ MAX_INPUTS }
     ensures { (x : Task) → slice_get tasks.old task ≡ Some x → tasks.new ≡ slice_set tasks.old task (record x { missing = x.missing + 1 }) }
 {
     let was = tasks[task as usize];
@@ -70,7 +71,7 @@ fn count_input(tasks: &mut [Task], task: u32)
 #[inline]
 fn count_output(tasks: &mut [Task], task: u32)
     requires place { task < length tasks.old }
-    requires few { (x : Task) → slice_get tasks.old task ≡ Some x → x.unsent ≤ MAX_STEPS }
+    requires few { (x : Task) → slice_get tasks.old task ≡ Some x → x.unsent ≤ MAX_INPUTS }
     ensures { (x : Task) → slice_get tasks.old task ≡ Some x → tasks.new ≡ slice_set tasks.old task (record x { unsent = x.unsent + 1 }) }
 {
     let was = tasks[task as usize];
@@ -83,7 +84,7 @@ fn count_output(tasks: &mut [Task], task: u32)
 /// How many tasks of each node are ready.
 pub fn count_ready(tasks: &[Task]) -> [u32; 8]
     requires homes { (t : ℕ) (x : Task) → slice_get tasks.now t ≡ Some x → x.node < MAX_NODES }
-    requires few { length tasks.now ≤ MAX_STEPS }
+    requires few { length tasks.now ≤ MAX_TASKS }
     ensures { AreCounts is_ready tasks.now result }
 {
     let mut ready = [0; 8];

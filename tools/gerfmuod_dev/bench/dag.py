@@ -58,6 +58,7 @@ class Way:
 
 
 POOL = [Way("pool", "1x1"), Way("pool", "1x4", 1, WORKERS), Way("pool", "2x2", 2, 2)]
+TRACED = Way("pool with a trace", "1x1t")
 LOOP, OPENMP = Way("one after the other", "loop"), Way("OpenMP tasks", f"omp:{WORKERS}", 1, WORKERS)
 OPENMP_ALONE = Way("OpenMP tasks", "omp:1")
 
@@ -218,14 +219,15 @@ def instructions_by_way(bench, programs, shape):
     if not bench.counts or bench.load or not shutil.which("valgrind"):
         return {}
     size = size_of(shape, COUNTED_TASKS, 0)
-    processes = [*(Process(programs.own("grain"), size, [way]) for way in (POOL[0], OPENMP_ALONE)), on_tbb(programs, size, 1)]
+    processes = [Process(programs.own("grain"), size, [way]) for way in (POOL[0], TRACED, OPENMP_ALONE)]
+    processes.append(on_tbb(programs, size, 1))
     found = {process.ways[0]: instructions(process) for process in processes if process.program}
     return {way: count and count * EMPTY_TASKS // COUNTED_TASKS for way, count in found.items()}
 
 
 def empty(bench, programs):
     """Measures the overhead of a task: graphs with empty bodies."""
-    ways = [*POOL, OPENMP_ALONE, OPENMP]
+    ways = [*POOL, TRACED, OPENMP_ALONE, OPENMP]
     for shape in ["wave", "three"] if bench.is_quick else SHAPES:
         case = f"{shape}, empty bodies"
         if bench.only in f"dag {case}":

@@ -1,6 +1,6 @@
 //! The calls on a pool of task graphs, as C gets their results.
-ghost use Rattle.std.specs.Prelude.{◌≡◌, ◌≤◌, Option, Result, ℕ};
-ghost use Rattle.gerfmuod.specs.Dag.{can_be, opened, opening, IsTask, IsInput, IsStart, IsOutside, IsRelease, IsNext, IsDone, IsAgainCall, IsStep, IsClosed};
+ghost use Rattle.std.specs.Prelude.{◌≡◌, ◌≤◌, Option, Result, ℕ, true, false};
+ghost use Rattle.gerfmuod.specs.Dag.{can_be, IsOpened, opening, IsTask, IsInput, IsStart, IsOutside, IsRelease, IsNext, IsDone, IsAgainCall, IsStep, IsClosed};
 ghost use Rattle.gerfmuod.specs.Dag.{limit_of, plain, refusal_answer, next_answer, step_answer};
 
 use super::answer::{DagAnswer, DagStep};
@@ -23,12 +23,24 @@ fn can_be(nodes: u32) -> bool
 }
 
 pub(crate) fn made(alloc: Global, nodes: u32) -> PoolSlot
-    ensures { result ≡ opened nodes }
+    ensures { IsOpened nodes true result }
+{
+    slot(alloc, nodes, true)
+}
+
+pub(crate) fn made_untraced(alloc: Global, nodes: u32) -> PoolSlot
+    ensures { IsOpened nodes false result }
+{
+    slot(alloc, nodes, false)
+}
+
+fn slot(alloc: Global, nodes: u32, keeps_steps: bool) -> PoolSlot
+    ensures { IsOpened nodes keeps_steps result }
 {
     if can_be(nodes) {
-        PoolSlot::new(alloc, nodes, true)
+        PoolSlot::new(alloc, nodes, true, keeps_steps)
     } else {
-        PoolSlot::new(alloc, 1, false)
+        PoolSlot::new(alloc, 1, false, keeps_steps)
     }
 }
 

@@ -1,7 +1,7 @@
 //! The content of a `gerfmuod_dag`: a pool, and a mark that says whether it is open.
-ghost use Rattle.std.specs.Prelude.{◌≡◌, ◌≤◌, Bool};
+ghost use Rattle.std.specs.Prelude.{◌≡◌, ◌≤◌, Bool, false};
 ghost use Rattle.tp_base.specs.declared.limits.TheConstants.{MAX_NODES};
-ghost use Rattle.gerfmuod.specs.Dag.{closed, empty};
+ghost use Rattle.gerfmuod.specs.Dag.{IsEmpty, IsShut};
 
 use std::alloc::Global;
 use std::marker::Model;
@@ -39,14 +39,15 @@ impl Model for PoolSlot {
 
 impl PoolSlot {
     /// Returns a pool of the nodes 0 to `nodes` - 1, which is open or not. It allocates nothing.
-    pub(crate) fn new(alloc: Global, nodes: u32, is_open: bool) -> PoolSlot
+    pub(crate) fn new(alloc: Global, nodes: u32, is_open: bool, keeps_steps: bool) -> PoolSlot
         requires { (1 ≤ nodes) × (nodes ≤ MAX_NODES) }
-        ensures { result ≡ record { is_open = is_open; pool = empty nodes } }
+        ensures mark { result.is_open ≡ is_open }
+        ensures pool { IsEmpty nodes keeps_steps result.pool }
     {
         can_be_sent::<PoolSlot>();
         PoolSlot {
             mark: if is_open { MARK } else { 0 },
-            pool: Pool::new(alloc, nodes),
+            pool: Pool::new(alloc, nodes, keeps_steps),
             alloc,
         }
     }
@@ -59,9 +60,9 @@ impl PoolSlot {
 
     /// Drops the pool, and marks it as not open.
     pub(crate) fn close(&mut self)
-        ensures { self.new ≡ closed }
+        ensures { IsShut self.new }
     {
         self.mark = 0;
-        self.pool = Pool::new(self.alloc, 1);
+        self.pool = Pool::new(self.alloc, 1, false);
     }
 }

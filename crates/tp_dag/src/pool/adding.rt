@@ -2,13 +2,16 @@
 ghost use Rattle.std.specs.Prelude.{◌≡◌, ◌≢◌, ◌<◌, ◌≤◌, ◌+◌, ◌⊎◌, ℕ, length, IfOk, IfErr, IfSome, IfNone, OnOk, OnErr, IsTrue, IsFalse, slice_get, Err, Some};
 ghost use Rattle.tp_base.specs.declared.limits.TheConstants.{MAX_STEPS};
 ghost use Rattle.tp_base.specs.Checks.{first_refusal};
+ghost use Rattle.tp_dag.specs.declared.limits.TheConstants.{MAX_INPUTS};
 ghost use Rattle.tp_dag.specs.declared.entry.Stage.TheVariants as stage;
 ghost use Rattle.tp_dag.specs.State.{IsTaskAdded, IsInputAdded, MayWait, extends, task_checks, input_checks};
+ghost use Rattle.tp_dag.specs.Journal.{keeps};
 ghost use Rattle.tp_dag.specs.Kept.{extend};
 
 use crate::choice::{STEPS_EACH, may_begin, steps_of_input};
 use crate::entry::{Progress, Stage};
-use crate::pool::{Pool, take_step};
+use crate::limits::{MAX_INPUTS, MAX_TASKS};
+use crate::pool::Pool;
 use tp_base::{Inputs, MAX_STEPS, NodeId, Refusal, Step, TaskId};
 
 /// The progress of a pool after one more task or input.
@@ -30,10 +33,10 @@ impl Pool {
     /// one critical section. But `input` is about the newest task: if several threads add tasks, each holds a lock of its own making from
     /// `task` to its last `input`.
     ///
-    /// Refused, and nothing changes: `NoNode`; `BadSpec` if the class is above 3; `HistoryFull` if there are 1,048,576 tasks or steps, or
-    /// if the pool was started and has fewer than 3 steps left; `Ended` if `next` has returned `Finished`; `NoMemory`; `Inactive` if
-    /// nothing is pending at the node: `start` has begun there (also one that was refused memory later), and each task of the node is
-    /// done. A running task is pending at its own node.
+    /// Refused, and nothing changes: `NoNode`; `BadSpec` if the class is above 3; `HistoryFull` if there are 134,217,728 tasks; `Ended` if
+    /// `next` has returned `Finished`; `HistoryFull` if steps are kept, the pool was started and it has fewer than 3 steps left; `Inactive`
+    /// if nothing is pending at the node: `start` has begun there (also one that was refused memory later), and each task of the node is
+    /// done; `NoMemory`; `HistoryFull` if 1,048,576 steps are kept. A running task is pending at its own node.
     pub fn task(&mut self, node: u32, class: u32) -> Result<u32, Refusal>
         ensures checks { IfSome (first_refusal (task_checks self.old node class)) (λ r. result ≡ Err r) }
         ensures ok { IfOk result (λ t. IsTaskAdded node class t self.old self.new) }
@@ -52,14 +55,17 @@ impl Pool {
             return Err(Refusal::HistoryFull(MAX_STEPS));
         }
         let number = self.board.task_count();
-        if node >= self.nodes || number >= MAX_STEPS as usize {
+        if node >= self.nodes || number >= MAX_TASKS as usize {
             return Err(Refusal::NoNode);
         }
         self.board.known();
+        if !self.journal.is_active(node) {
+            return Err(Refusal::Inactive);
+        }
         self.board.reserve_task()?;
         self.hints.add_task()?;
-        take_step(
-            &mut self.core,
+        self.journal.record(
+            node,
             Step::Insert(NodeId(node), TaskId(number as u32), inputs),
         )?;
         self.spare_steps = self.spare_steps.saturating_sub(STEPS_EACH);
@@ -77,8 +83,8 @@ impl Pool {
         if class > 3 {
             return Some(Refusal::BadSpec);
         }
-        if self.board.task_count() >= MAX_STEPS as usize {
-            return Some(Refusal::HistoryFull(MAX_STEPS));
+        if self.board.task_count() >= MAX_TASKS as usize {
+            return Some(Refusal::HistoryFull(MAX_TASKS));
         }
         None
     }
@@ -87,9 +93,9 @@ impl Pool {
     /// input is not recorded.
     ///
     /// Refused, and nothing changes: `NoTask` if there is no newest task or `source` is not below its number; `HistoryFull` if there are
-    /// 1,048,576 inputs; `WrongLife` if the newest task was dispatched, or if the pool was started and the task lacks nothing, since it
-    /// may be dispatched at any time; `HistoryFull` if the pool was started, has fewer than 3 steps left, and the input is from another
-    /// node; `NoMemory`.
+    /// 536,870,912 inputs; `WrongLife` if the newest task was dispatched, or if the pool was started and the task lacks nothing, since it
+    /// may be dispatched at any time; `HistoryFull` if steps are kept, the pool was started and has fewer than 3 steps left, and the input
+    /// is from another node; `NoMemory`.
     pub fn input(&mut self, source: u32) -> Result<(), Refusal>
         ensures checks { IfSome (first_refusal (input_checks self.old source)) (λ r. result ≡ Err r) }
         ensures ok { OnOk result (slice_get self.old.stages source ≢ Some stage.Done → IsInputAdded source self.old self.new) }
@@ -98,7 +104,7 @@ impl Pool {
         ensures err { OnErr result (self.new ≡ self.old) }
         ensures exact { IfErr result (λ r. (first_refusal (input_checks self.old source) ≡ Some r)
             ⊎ ((r ≡ Refusal.WrongLife) × ((t : ℕ) → t + 1 ≡ length self.old.tasks → MayWait t self.old → ⊥))
-            ⊎ ((r ≡ Refusal.HistoryFull MAX_STEPS) × IsTrue self.old.started) ⊎ (r ≡ Refusal.NoMemory)) }
+            ⊎ ((r ≡ Refusal.HistoryFull MAX_STEPS) × IsTrue self.old.started × IsTrue (keeps self.old.journal)) ⊎ (r ≡ Refusal.NoMemory)) }
     {
         if let Some(refusal) = self.input_refusal(source) {
             return Err(refusal);
@@ -118,13 +124,13 @@ impl Pool {
     fn input_refusal(&self, source: u32) -> Option<Refusal>
         ensures refusal { result ≡ first_refusal (input_checks self.now source) }
         ensures before { IfNone result (source + 1 < length self.now.tasks) }
-        ensures few { IfNone result (length self.now.inputs < MAX_STEPS) }
+        ensures few { IfNone result (length self.now.inputs < MAX_INPUTS) }
     {
         if source as usize + 1 >= self.board.task_count() {
             return Some(Refusal::NoTask);
         }
-        if self.board.edge_count() >= MAX_STEPS as usize {
-            return Some(Refusal::HistoryFull(MAX_STEPS));
+        if self.board.edge_count() >= MAX_INPUTS as usize {
+            return Some(Refusal::HistoryFull(MAX_INPUTS));
         }
         None
     }
@@ -175,12 +181,13 @@ impl Pool {
     fn add_input(&mut self, source: u32, target: u32) -> Result<(), Refusal>
         requires newest { target + 1 ≡ length self.old.tasks }
         requires before { source < target }
-        requires few { length self.old.inputs < MAX_STEPS }
+        requires few { length self.old.inputs < MAX_INPUTS }
         requires fresh { slice_get self.old.stages target ≡ Some stage.Fresh }
         requires not_done { slice_get self.old.stages source ≢ Some stage.Done }
         ensures ok { OnOk result (IsInputAdded source self.old self.new) }
         ensures err { OnErr result (self.new ≡ self.old) }
-        ensures exact { IfErr result (λ r. ((r ≡ Refusal.HistoryFull MAX_STEPS) × IsTrue self.old.started) ⊎ (r ≡ Refusal.NoMemory)) }
+        ensures exact { IfErr result (λ r. ((r ≡ Refusal.HistoryFull MAX_STEPS) × IsTrue self.old.started × IsTrue (keeps self.old.journal))
+            ⊎ (r ≡ Refusal.NoMemory)) }
     {
         let steps = steps_of_input(&self.board, source, target);
         if !self.has_spare(steps) {
@@ -199,8 +206,9 @@ impl Pool {
 
     // whether there are steps for one more task or input; before the start, `start` counts them
     fn has_spare(&self, steps: usize) -> bool
-        ensures { IsFalse result → IsTrue self.now.started }
+        ensures started { IsFalse result → IsTrue self.now.started }
+        ensures kept { IsFalse result → IsTrue (keeps self.now.journal) }
     {
-        !self.progress.started || steps <= self.spare_steps
+        !self.progress.started || !self.keeps_steps || steps <= self.spare_steps
     }
 }

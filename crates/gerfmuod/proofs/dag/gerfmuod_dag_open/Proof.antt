@@ -1,8 +1,8 @@
 -- The proof of `gerfmuod_dag_open`: it moves a new pool into the memory.
-use Rattle.std.proofs.Common.{◌≡◌, [], ◌∷◌, ◌++◌, ℕ, refl, w32}
+use Rattle.std.proofs.Common.{◌≡◌, [], ◌∷◌, ◌++◌, ℕ, true, refl, w32}
 use Rattle.std.proofs.raw_atomic.Walks.{proved}
 use base.Fraction.{full_share}
-use base.Logic.{id⊢}
+use base.Logic.{sep, ex, id⊢}
 use base.Fml.{ftrue, froom}
 use mir.Syntax.{Ty}
 use mir.Val.{vint}
@@ -10,7 +10,7 @@ use prog.Wp.{WpFn}
 use contract.Monad.{fact}
 use contract.Running.{tables}
 use types.Kit.{‵, raw, ◌⊛◌, some, later, prop, ◌$◌, ◌∵◌, !, qed, done, move, keep, drop, use1, use2, split, join, fsplit, pick, await}
-use types.Kit.{regoal, rewrite, suffices, frame, group}
+use types.Kit.{regoal, suffices, group}
 use types.Run.{enter, of_opd, init, stop, no_more, and_then, assigns, returns}
 use types.ByLocal.{alloc_all, pass_all, free_all, look_at, get, through, sets, lands_as}
 use denote.Builtin.{u32}
@@ -25,7 +25,7 @@ use denote.Steps.{nothing, owned, peeks, heard}
 use denote.Triple.Call.{calls_at}
 use denote.Triple.Clauses.{lasts}
 use denote.Triple.Spec.{triple_of}
-use denote.Triple.Walked.{Stays, walk_of, says, stay_dropped, Goes-dropped, ends_at}
+use denote.Triple.Walked.{Stays, walk_of, stay_dropped, Goes-dropped, ends_at}
 use denote.Triple.Table.{framed}
 use borrow.Table.OneValue.{part_in}
 use Rattle.std.specs.contracts.alloc.Global.{the_row as Z}
@@ -33,7 +33,8 @@ use Rattle.std.proofs.alloc.Global.TheLaws as heap
 use Rattle.gerfmuod.specs.Dag.{SlotState}
 use Rattle.gerfmuod.specs.contracts.dag.slot.PoolSlot.{the_row as R}
 use Rattle.gerfmuod.proofs.dag.slot.PoolSlot.TheLaws.{the_row_laws}
-use Rattle.gerfmuod.specs.Dag.{opened, opening}
+use Rattle.gerfmuod.specs.Dag.{IsOpened, IsOpening, opening}
+use Rattle.gerfmuod.proofs.Walks.{lies_so}
 use Rattle.gerfmuod.specs.contracts.dag.gerfmuod_dag_open as f
 use Rattle.gerfmuod.proofs.dag.gerfmuod_dag_open.Statement.{statement}
 use Rattle.gerfmuod.proofs.dag.gerfmuod_dag_open.Code as code
@@ -75,16 +76,15 @@ gerfmuod_dag_open_spec 𝓤 𝓛 𝓜 𝓡 wired =
     calls_at ! (framed 𝓤 𝓛.H 𝓜 𝓣) G (g-thm.met 𝓤 𝓛 𝓜 𝓡 (code.calls-gerfmuod::dag::calls::made 𝓡.env wired)) z
     (and_then ! (get ! refl) (and_then ! (get ! refl) (no_more !))) (λ v.
     use1 𝓛 (later (some (λ (r : SlotState). (‵ ftrue ⊛ ‵ (R.own_val r (v ∷ []))) ⊛
-    some (λ (ws : Unit {0} × (Unit {0} × Unit {0})). ‵ (lasts g.ended z.0.0 z.0.3 ws) ⊛ raw (fact 𝓤 (r ≡ opened k)))))) (id⊢ 𝓤 _) $
+    some (λ (ws : Unit {0} × (Unit {0} × Unit {0})). ‵ (lasts g.ended z.0.0 z.0.3 ws) ⊛ raw (fact 𝓤 (IsOpened k true r)))))) (id⊢ 𝓤 _) $
     await ! tt $ pick ! (λ r. split ! $ split ! $ drop ! $ move ! (1 ∷ []) $ pick ! (λ ws. split ! $ drop ! $ heard ! _ (λ is.
-    rewrite ! 0 (λ (x : SlotState). ‵ (R.own_val x (v ∷ []))) is refl $
-    peeks ! R (Is R) (shows 𝓛 R) (opened k) (v ∷ []) (λ good. let typed = ((the_row_laws.lawful 𝓛).typed (opened k) (v ∷ []) good).0 in
+    peeks ! R (Is R) (shows 𝓛 R) r (v ∷ []) (λ good. let typed = ((the_row_laws.lawful 𝓛).typed r (v ∷ []) good).0 in
     lands_as ! refl refl typed $
     -- [the value of the pool; the memory; the locals]
     sets ! (of_opd ! (get ! refl)) refl (tt, tt) $
     sets ! (of_opd ! (get ! refl)) refl typed $
     assigns ! (of_opd ! (get ! refl)) (through ! refl (stop !)) (init ! 1 refl typed) $
-    move ! (1 ∷ 0 ∷ []) $ use2 𝓛 (‵ (lies_at R full_share (block_ptr b o) (opened k))) (part_in 𝓛 R refl full_share (opened k) b o v) $
+    move ! (1 ∷ 0 ∷ []) $ use2 𝓛 (‵ (lies_at R full_share (block_ptr b o) r)) (part_in 𝓛 R refl full_share r b o v) $
     let H = triple_of 𝓛 h.signature (h.spec 𝓛 𝓜.mem 𝓡.returns) in
     let x : H.Ghost = ((tt, tt, tt, (k, tt), (vint w32 k ∷ [], tt)), tt) in
     nothing ! $ owned ! u32 (Is u32) (uint_Makes 𝓛 w32) k _ (refl, fk) $ join ! $
@@ -94,9 +94,13 @@ gerfmuod_dag_open_spec 𝓤 𝓛 𝓜 𝓡 wired =
     use1 𝓛 (later (some (λ (q : ℕ). (‵ ftrue ⊛ ‵ (u32.own_val q (u ∷ []))) ⊛
     some (λ (ws : Unit {0} × Unit {0}). ‵ (lasts h.ended x.0.0 x.0.3 ws) ⊛ raw (fact 𝓤 (q ≡ opening k)))))) (id⊢ 𝓤 _) $
     await ! tt $ pick ! (λ q. split ! $ split ! $ drop ! $ move ! (1 ∷ []) $ pick ! (λ ws'. split ! $ drop ! $ heard ! _ (λ can.
+    -- [the code; the pool; the locals]
+    move ! (1 ∷ []) $
+    use1 𝓛 (raw (ex 𝓤 (λ (new : SlotState). sep 𝓤 (types.Logic.sem 𝓛 (lies_at R full_share (block_ptr b o) new)) (fact 𝓤 (IsOpening k true q new)))))
+    (lies_so 𝓛 R (block_ptr b o) (IsOpening k true q) r (record { code = can; opened = is })) $
+    move ! (1 ∷ []) $
     peeks ! u32 (Is u32) (shows 𝓛 u32) q (u ∷ []) (λ truth.
     lands_as ! refl refl ((uint_Lawful 𝓛 w32).typed q _ truth).0 $
     returns ! (look_at ! 0 refl) $ free_all ! refl $ keep ! (0 ∷ 1 ∷ []) $
     suffices ! _ (ends_at 𝓛 f.ended stayed c (y (block_ptr b o)) u q (tt, (tt, (tt, tt))) (tt, (tt, (tt, tt)))) $
-    nothing ! $ nothing ! $ join ! $ nothing ! $ join ! $ nothing ! $ join ! $ nothing ! $ group ! 3 $ frame ! $ says ! can $
-    done !)))))))))))))
+    nothing ! $ nothing ! $ join ! $ nothing ! $ join ! $ nothing ! $ join ! $ nothing ! $ group ! 3 $ done !)))))))))))))

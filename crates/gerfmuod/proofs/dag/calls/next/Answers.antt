@@ -2,8 +2,13 @@ use Rattle.std.proofs.Common.{subst, sym, ◌∙◌, true, false, IsTrue, ◌≡
 use Rattle.gerfmuod.specs.declared.dag.answer.DagAnswer.{DagAnswer}
 use Rattle.gerfmuod.specs.Dag.{SlotState, IsNext}
 use Rattle.gerfmuod.specs.DagSlot.{state_of}
-use Rattle.gerfmuod.proofs.DagAnswers.{next_done, next_refused, opens}
+use Rattle.gerfmuod.proofs.DagAnswers.{next_done, next_refused, next_shut, opens}
 use Rattle.gerfmuod.proofs.dag.calls.next.Goals as goal
+
+pub returns-then-not-is_open : goal.returns-then-not-is_open
+returns-then-not-is_open c =
+    subst (λ (a : DagAnswer). IsNext c.args.slot.now c.args.node a c.args.slot.now) (sym c.refused.ensures)
+    (next_shut c.args.slot.now c.args.node (sym c.is_open.ensures ∙ c.if-not-is_open.true))
 
 pub returns-in-Ok : goal.returns-in-Ok
 returns-in-Ok c =

@@ -1,6 +1,6 @@
 use Rattle.std.proofs.Common.{◌≡◌, ◌+◌, ◌<◌, Some, length, arith, refl, sym, ap, subst}
 use Rattle.std.specs.Prelude.{slice_get}
-use Rattle.tp_base.specs.declared.limits.TheConstants.{MAX_STEPS}
+use Rattle.tp_dag.specs.declared.limits.TheConstants.{MAX_INPUTS}
 use Rattle.tp_dag.specs.declared.entry.Task.{Task}
 use Rattle.tp_dag.specs.declared.entry.Stage.TheVariants as stage
 use Rattle.tp_dag.specs.Board.{BoardState}
@@ -48,7 +48,7 @@ invariant_of-self c =
     let x : Task = c.index-task.result.now in
     let y : Task = c.index-from.result.now in
     let newest = subst (λ (a : BoardState). c.args.target + 1 ≡ length a.tasks) (sym c.self.view_is) c.requires.newest in
-    let few = subst (λ (a : BoardState). length a.edges < MAX_STEPS) (sym c.self.view_is) c.requires.few in
+    let few = subst (λ (a : BoardState). length a.edges < MAX_INPUTS) (sym c.self.view_is) c.requires.few in
     let fresh = subst (λ (a : BoardState). (z : Task) → slice_get a.tasks c.args.target ≡ Some z → z.stage ≡ stage.Fresh)
     (sym c.self.view_is) c.requires.fresh in
     let waits = subst (λ (a : BoardState). (z : Task) → slice_get a.tasks c.args.source ≡ Some z → z.stage ≡ stage.Done → ⊥)

@@ -1,6 +1,6 @@
 use Rattle.std.proofs.Common.{ℕ, ◌≡◌, ◌<◌, List, [], ◌∷◌, ◌++◌, Bool, length, arith, refl, sym, ap, subst, ◌∙◌}
 use Rattle.std.specs.Prelude.{if◌then◌else◌}
-use Rattle.tp_base.specs.declared.limits.TheConstants.{MAX_STEPS}
+use Rattle.tp_dag.specs.declared.limits.TheConstants.{MAX_TASKS}
 use Rattle.tp_dag.specs.declared.entry.Task.{Task}
 use Rattle.tp_dag.specs.declared.entry.Stage.TheVariants as stage
 use Rattle.tp_dag.specs.Board.{BoardState, new_task}
@@ -25,7 +25,7 @@ pub invariant_of-self : goal.invariant_of-self
 invariant_of-self c =
     let f = c.self.invariant.facts in let n = f.few_nodes in
     let home = subst (λ (a : BoardState). c.args.node < a.nodes) (sym c.self.view_is) c.requires.home in
-    let few = subst (λ (a : BoardState). length a.tasks < MAX_STEPS) (sym c.self.view_is) c.requires.few in
+    let few = subst (λ (a : BoardState). length a.tasks < MAX_TASKS) (sym c.self.view_is) c.requires.few in
     let items = added_items c.self.inside.tasks.items _ c.args.node c.args.class c.one_if-awaited.result c.args.is_held
     c.push_reserved.ensures.items c.one_if-awaited.ensures in
     record {

@@ -1,7 +1,9 @@
 use Rattle.std.proofs.Common.{ap, arith, ◌∙◌}
+use Rattle.tp_dag.specs.Journal.{is_delivery}
 use Rattle.tp_dag.specs.State.{PoolState}
 use Rattle.tp_dag.proofs.Steps.{adds_trans}
-use Rattle.tp_dag.proofs.Going.{delivered_one, delivered_same}
+use Rattle.tp_dag.proofs.Going.{delivered_one, delivered_same, ways_only}
+use Rattle.tp_dag.proofs.Refusing.{room_after_if}
 use Rattle.tp_dag.proofs.pool.Pool.deliver.Goals as goal
 
 pub returns-in_err-receive-clause-ways : goal.returns-in_err-receive-clause-ways
@@ -18,3 +20,11 @@ pub returns-clause-ways : goal.returns-clause-ways
 returns-clause-ways c =
     delivered_one c.args.node c.args.input c.args.self.now c.end_message.new.self c.requires.coming
     (c.end_message.ensures.ways ∙ c.in_ok-receive.ensures.ok)
+
+pub returns-then-is_from-clause-adds : goal.returns-then-is_from-clause-adds
+returns-then-is_from-clause-adds c =
+    ways_only is_delivery c.args.self.now c.arrive.new.self _ c.arrive.ensures.ways c.arrive.ensures.steps
+
+pub returns-clause-room : goal.returns-clause-room
+returns-clause-room c =
+    room_after_if c.args.self.now c.receive.new.self c.end_message.result c.receive.ensures.adds c.end_message.ensures.room

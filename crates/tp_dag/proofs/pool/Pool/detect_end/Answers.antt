@@ -1,30 +1,35 @@
-use Rattle.std.proofs.Common.{◌≡◌, false, refl, arith, Some, IsTrue}
+use Rattle.std.proofs.Common.{◌≡◌, false, refl, arith, subst, Some, IsTrue}
 use Rattle.std.specs.Prelude.{is_some}
 use Rattle.std.proofs.lemmas.Bool.Decides.{nat_tests}
 use Rattle.std.proofs.lemmas.Result.{err_from_is_err_and}
-use Rattle.tp_dag.proofs.Keeping.{kept_end, end_begins_none}
-use Rattle.tp_dag.proofs.Refusing.{settle_refused}
+use Rattle.tp_dag.specs.State.{PoolState, IsFinished}
+use Rattle.tp_dag.proofs.Describing.{kept_end, end_leads}
+use Rattle.tp_dag.proofs.Refusing.{settle_refused, room_now}
+use Rattle.tp_dag.proofs.Repeating.{ended_before}
 use Rattle.tp_dag.proofs.pool.Pool.detect_end.Goals as goal
+
+pub returns-in-Some-clause-finished : goal.returns-in-Some-clause-finished
+returns-in-Some-clause-finished c = λ w e.
+    subst (λ (a : PoolState). IsFinished a) c.self.view_is
+    (ended_before c.self.inside c.is_over-over.result c.is_over-over.ensures c.if-prove.false)
 
 pub returns-in_err-wave-clause-room : goal.returns-in_err-wave-clause-room
 returns-in_err-wave-clause-room c =
     let p = err_from_is_err_and c.from_residual.result c.from_residual.ensures.1 in
     let none : is_some c.self.inside.ended_with ≡ false = grind (arith, c.in_default.is) in
-    let quiet : IsTrue c.quiet.result = grind (arith, nat_tests, c.if-not-quiet.false) in
+    let quiet : IsTrue c.is_quiet.result = grind (arith, nat_tests, c.if-not-is_quiet.false) in
     rw (p.1, p.2)
-    (settle_refused c.self.inside c.quiet.result _ c.self.invariant none c.quiet.ensures quiet c.in_err-wave.ensures.answers.0)
+    (room_now c.self.inside c.args.self.now _ c.self.view_is
+    (settle_refused c.self.inside c.is_quiet.result _ c.self.invariant none c.is_quiet.ensures quiet c.in_err-wave.ensures.room))
 
 pub invariant_of-self-2 : goal.invariant_of-self-2
 invariant_of-self-2 c =
-    kept_end c.self.inside _ c.settle.new.self _ _ c.self.invariant c.in_ok-wave.ensures.answers.1 c.in_ok-wave.ensures.never_early refl
-    refl refl refl refl
+    let q = record c.self.inside { journal = c.settle.new.self; ended_with = Some c.in_ok-wave.wave } in
+    kept_end c.self.inside q c.in_ok-wave.wave c.self.invariant
+    (end_leads c.self.inside q c.in_ok-wave.wave c.in_ok-wave.ensures.ok c.settle.ensures.same.nodes refl refl refl)
+    c.settle.ensures.same refl refl refl refl
 
 pub returns-clause-finished : goal.returns-clause-finished
 returns-clause-finished c = λ w e.
-    (kept_end c.self.inside (record c.self.inside { core = c.settle.new.self; ended_with = Some c.in_ok-wave.wave }) c.settle.new.self _ _
-    c.self.invariant
-    c.in_ok-wave.ensures.answers.1 c.in_ok-wave.ensures.never_early refl refl refl refl refl).ended_with
-
-pub returns-clause-begun : goal.returns-clause-begun
-returns-clause-begun c = λ t.
-    end_begins_none c.self.inside c.args.self.now c.settle.new.self _ _ t c.self.view_is c.in_ok-wave.ensures.answers.1
+    ended_before (record c.self.inside { journal = c.settle.new.self; ended_with = Some c.in_ok-wave.wave })
+    c.is_over-over-2.result c.is_over-over-2.ensures c.if-prove-2.false

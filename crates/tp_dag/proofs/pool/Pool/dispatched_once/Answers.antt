@@ -1,9 +1,8 @@
-use Rattle.std.proofs.Common.{◌≤◌, subst}
-use Rattle.tp_wave.specs.Steps.{count}
-use Rattle.tp_core.specs.NeverEarly.{is_begin_of}
-use Rattle.tp_dag.specs.State.{PoolState}
-use Rattle.tp_dag.proofs.Keeping.{begun_once}
+use Rattle.tp_dag.proofs.Ended.{begun_once, safe}
 use Rattle.tp_dag.proofs.pool.Pool.dispatched_once.Goals as goal
 
+pub returns-clause-runs : goal.returns-clause-runs
+returns-clause-runs c = λ steps b. safe b
+
 pub returns-clause-once : goal.returns-clause-once
-returns-clause-once c = λ t. subst (λ (a : PoolState). count (is_begin_of t) a.steps ≤ 1) c.self.view_is (begun_once t c.self.invariant.facts)
+returns-clause-once c = λ steps b t. begun_once t b

@@ -1,26 +1,30 @@
-use Rattle.std.proofs.Common.{ap, refl}
-use Rattle.tp_dag.specs.State.{PoolState, is_delivery}
-use Rattle.tp_dag.proofs.Facts.{end_leaves}
-use Rattle.tp_dag.proofs.Keeping.{kept_step, adds_step}
-use Rattle.tp_dag.proofs.Refusing.{end_refused_now}
+use Rattle.std.proofs.Common.{◌<◌, refl, subst, sym, arith}
+use Rattle.tp_dag.specs.State.{PoolState}
+use Rattle.tp_dag.specs.Journal.{is_delivery, is_ending}
+use Rattle.tp_dag.proofs.Facts.{ending_leaves}
+use Rattle.tp_dag.proofs.Keeping.{adds_journal, adds_only, ending_judges_none, ends_deliver, kept_later}
+use Rattle.tp_dag.proofs.Refusing.{room_if}
 use Rattle.tp_dag.proofs.pool.Pool.end_message.Goals as goal
 
-pub invariant_of-self-2 : goal.invariant_of-self-2
-invariant_of-self-2 c =
-    kept_step c.self.inside _ c.take_step.new.core _ c.take_step.result c.self.invariant (end_leaves c.args.node c.args.input 1) (λ l. l)
-    c.take_step.ensures.ok c.take_step.ensures.err refl refl refl refl refl
+pub end_message-requires : goal.end_message-requires
+end_message-requires c =
+    let within = subst (λ (a : PoolState). c.args.node < a.nodes) (sym c.self.view_is) c.requires in
+    let same = c.self.invariant.behind.nodes in omega (arith, within, same)
 
-pub returns-in_default-refusal : goal.returns-in_default-refusal
-returns-in_default-refusal c = record {
-  adds = adds_step c.self.inside c.args.self.now c.take_step.new.core _ c.take_step.result is_delivery c.self.view_is refl
-      c.take_step.ensures.ok
-      c.take_step.ensures.err;
-  ways = ap (λ (a : PoolState). a.ways) c.self.view_is;
-  room = end_refused_now c.self.inside c.args.self.now c.args.node c.args.input c.in-Err.refusal c.self.invariant c.self.view_is c.requires
-      c.in-Err.ensures.exact c.in_default-refusal.not-NoAction;
-}
+pub invariant_of-self : goal.invariant_of-self
+invariant_of-self c =
+    kept_later c.self.inside _ is_ending ending_judges_none c.self.invariant
+    (record { nodes = refl; board = refl; keeps = c.end_message.ensures.same.keeps; flag = refl; ended = refl })
+    (adds_journal c.self.inside (record c.self.inside { journal = c.end_message.new.self }) is_ending ending_leaves
+    c.end_message.ensures.adds c.end_message.ensures.same.nodes refl refl refl)
 
 pub returns-clause-adds : goal.returns-clause-adds
 returns-clause-adds c =
-    adds_step c.self.inside c.args.self.now c.take_step.new.core _ c.take_step.result is_delivery c.self.view_is refl
-    c.take_step.ensures.ok c.take_step.ensures.err
+    let q = record c.self.inside { journal = c.end_message.new.self } in
+    adds_only c.self.inside q c.args.self.now is_delivery c.self.view_is refl refl refl c.end_message.ensures.same.keeps
+    (ends_deliver (adds_journal c.self.inside q is_ending ending_leaves c.end_message.ensures.adds c.end_message.ensures.same.nodes refl
+    refl refl))
+
+pub returns-clause-room : goal.returns-clause-room
+returns-clause-room c =
+    room_if c.self.inside c.args.self.now c.end_message.result c.self.invariant c.self.view_is c.end_message.ensures.room

@@ -7,7 +7,7 @@ use Rattle.tp_dag.proofs.pool.Pool.has_ready.Goals as goal
 pub returns-clause-no : goal.returns-clause-no
 returns-clause-no c = λ h.
     subst (λ (a : PoolState). HasNoneReady c.args.node a) c.self.view_is
-    (none_ready_seen c.self.inside.core.nodes c.self.inside.progress c.self.inside.core.steps c.self.inside.board c.args.node
+    (none_ready_seen c.self.inside.nodes c.self.inside.progress c.self.inside.journal c.self.inside.board c.args.node
     (c.has_ready.ensures.no h))
 
 pub returns-clause-yes : goal.returns-clause-yes

@@ -1,7 +1,7 @@
 use Rattle.std.proofs.Common.{refl, sym, subst, ◌∙◌, inl, inr, IsTrue}
 use Rattle.tp_dag.specs.State.{PoolState}
 use Rattle.tp_dag.proofs.Reading.{lacks_input}
-use Rattle.tp_dag.proofs.Keeping.{kept_outside, outside_added}
+use Rattle.tp_dag.proofs.Describing.{kept_outside, outside_added}
 use Rattle.tp_dag.proofs.Refusing.{full_now, passes_now, refused_by, not_refused, both_true, not_zero, ready_if, lacks_none}
 use Rattle.tp_dag.proofs.pool.Pool.outside.Goals as goal
 
@@ -34,7 +34,7 @@ returns-then-may_begin-clause-exact c =
 
 pub invariant_of-self : goal.invariant_of-self
 invariant_of-self c =
-    kept_outside c.self.inside _ c.args.task c.self.invariant (c.add_outside-added.ensures.ok c.if-prove.false) refl refl refl refl
+    kept_outside c.self.inside _ c.args.task c.self.invariant (c.add_outside-added.ensures.ok c.if-prove.false) refl refl refl refl refl
 
 pub returns-clause-checks : goal.returns-clause-checks
 returns-clause-checks c =
@@ -45,6 +45,6 @@ returns-clause-checks c =
 pub returns-clause-ok : goal.returns-clause-ok
 returns-clause-ok c =
     outside_added c.self.inside (record c.self.inside { board = c.add_outside-added.new.self }) c.args.self.now c.args.task c.self.view_is
-    (c.add_outside-added.ensures.ok c.if-prove.false) refl refl
+    (c.add_outside-added.ensures.ok c.if-prove.false) refl refl refl
     (λ s. lacks_input c.args.task c.in-Some.found c.known.ensures (sym c.task.ensures ∙ c.in-Some.is)
     (not_zero c.self.inside.progress.started c.in-Some.found.missing (sym c.may_begin.ensures ∙ c.if-may_begin.false) s))

@@ -23,4 +23,4 @@ returns c =
     (output_coming c.self.inside c.args.self.now c.args.node c.args.task c.args.input c.in-Some.edge c.self.view_is c.known.ensures some.0
     some.1 some.2
     c.if-edge-node.false c.requires.done)
-    c.arrive.ensures
+    c.arrive.ensures.ways c.arrive.ensures.steps

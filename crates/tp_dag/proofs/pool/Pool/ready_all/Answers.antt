@@ -1,9 +1,18 @@
-use Rattle.std.proofs.Common.{◌∙◌}
-use Rattle.tp_dag.proofs.Steps.{adds_trans}
+use Rattle.std.proofs.Common.{refl}
+use Rattle.tp_dag.specs.Journal.{is_readying}
+use Rattle.tp_dag.proofs.Facts.{readying_leaves}
+use Rattle.tp_dag.proofs.Keeping.{adds_journal, adds_only, readying_judges_none, kept_later}
 use Rattle.tp_dag.proofs.pool.Pool.ready_all.Goals as goal
 
-pub returns-in-Err : goal.returns-in-Err
-returns-in-Err c = record { adds = adds_trans c.loop-node.invariant.0 c.ready.ensures.adds; ways = c.ready.ensures.ways ∙ c.loop-node.invariant.1 }
+pub invariant_of-self : goal.invariant_of-self
+invariant_of-self c =
+    kept_later c.self.inside _ is_readying readying_judges_none c.self.invariant
+    (record { nodes = refl; board = refl; keeps = c.ready_all.ensures.same.keeps; flag = refl; ended = refl })
+    (adds_journal c.self.inside (record c.self.inside { journal = c.ready_all.new.self }) is_readying readying_leaves
+    c.ready_all.ensures.adds c.ready_all.ensures.same.nodes refl refl refl)
 
-pub loop-node-preserved : goal.loop-node-preserved
-loop-node-preserved c = (adds_trans c.loop-node.invariant.0 c.ready.ensures.adds, c.ready.ensures.ways ∙ c.loop-node.invariant.1)
+pub returns-clause-adds : goal.returns-clause-adds
+returns-clause-adds c =
+    let q = record c.self.inside { journal = c.ready_all.new.self } in
+    adds_only c.self.inside q c.args.self.now is_readying c.self.view_is refl refl refl c.ready_all.ensures.same.keeps
+    (adds_journal c.self.inside q is_readying readying_leaves c.ready_all.ensures.adds c.ready_all.ensures.same.nodes refl refl refl)

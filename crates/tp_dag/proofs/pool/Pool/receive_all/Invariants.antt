@@ -1,5 +1,6 @@
 use Rattle.tp_dag.specs.Counts.{count_where, is_under_way}
-use Rattle.tp_dag.specs.State.{AddsOnly, AreDelivered, is_delivery}
+use Rattle.tp_dag.specs.Journal.{is_delivery}
+use Rattle.tp_dag.specs.State.{AddsOnly, AreDelivered}
 use Rattle.tp_dag.proofs.pool.Pool.receive_all.Given as goal
 
 abbrev pub invariant-loop-input : goal.invariant-loop-input

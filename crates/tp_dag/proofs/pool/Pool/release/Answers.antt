@@ -1,11 +1,11 @@
 use Rattle.std.proofs.Common.{refl, sym, ◌∙◌}
-use Rattle.tp_dag.proofs.Keeping.{kept_release, is_released}
+use Rattle.tp_dag.proofs.Describing.{kept_release, is_released}
 use Rattle.tp_dag.proofs.Refusing.{releases_now, refuses_now, not_refused}
 use Rattle.tp_dag.proofs.pool.Pool.release.Goals as goal
 
 pub invariant_of-self-2 : goal.invariant_of-self-2
 invariant_of-self-2 c = kept_release c.self.inside _ c.args.task c.in-Some-release.last c.self.invariant c.in-Some-release.ensures.ok refl
-    refl refl refl
+    refl refl refl refl
 
 pub returns-in_default-release-clause-exact : goal.returns-in_default-release-clause-exact
 returns-in_default-release-clause-exact c =
@@ -22,4 +22,4 @@ pub returns-clause-ok : goal.returns-clause-ok
 returns-clause-ok c =
     is_released c.self.inside (record c.self.inside { board = c.release.new.self; hints = c.push_released.new.hints }) c.args.self.now
     c.args.task
-    c.in-Some-release.last c.self.view_is c.in-Some-release.ensures.ok refl refl
+    c.in-Some-release.last c.self.view_is c.in-Some-release.ensures.ok refl refl refl

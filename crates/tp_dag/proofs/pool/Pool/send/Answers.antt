@@ -1,6 +1,8 @@
 use Rattle.std.proofs.Common.{refl}
+use Rattle.std.proofs.lemmas.Result.{err_from_is_err_and}
 use Rattle.tp_dag.specs.declared.entry.Way.TheVariants as way
 use Rattle.tp_dag.proofs.Keeping.{output_edge, leaves_surely, home_board, kept_send, adds_send, sent_ways, left_ways}
+use Rattle.tp_dag.proofs.Refusing.{send_refused, room_now}
 use Rattle.tp_dag.proofs.pool.Pool.send.Goals as goal
 
 pub returns-in_default-clause-ok : goal.returns-in_default-clause-ok
@@ -18,25 +20,35 @@ prove-unreachable-requires c =
 pub invariant_of-self-2 : goal.invariant_of-self-2
 invariant_of-self-2 c =
     let some = c.in-Some.ensures.some in
-    kept_send c.self.inside _ c.send_message.new.core c.args.node c.args.input c.in-Some.edge c.self.invariant c.known.ensures
+    kept_send c.self.inside _ c.args.node c.args.input c.in-Some.edge c.self.invariant c.known.ensures
     (home_board c.self.inside c.args.self.now c.args.node c.args.task c.in-Some.edge.source c.self.view_is some.1 c.requires.home) some.0
-    c.in_ok-send_message.ensures.ok refl (c.leave-left.ensures.ok c.if-prove.false) refl refl refl
+    c.in_ok-send_message.ensures.ok c.send_message.ensures.same (c.leave-left.ensures.ok c.if-prove.false) refl refl refl refl
 
 pub returns-clause-adds : goal.returns-clause-adds
 returns-clause-adds c =
-    adds_send c.self.inside (record c.self.inside { core = c.send_message.new.core; board = c.leave-left.new.self }) c.args.self.now
-    c.args.node c.in-Some.edge.to
-    c.args.input c.self.view_is c.in_ok-send_message.ensures.ok (c.leave-left.ensures.ok c.if-prove.false) refl
+    let some = c.in-Some.ensures.some in
+    adds_send c.self.inside (record c.self.inside { journal = c.send_message.new.journal; board = c.leave-left.new.self }) c.args.self.now
+    c.args.node c.args.input c.in-Some.edge c.self.view_is c.self.invariant c.known.ensures
+    (home_board c.self.inside c.args.self.now c.args.node c.args.task c.in-Some.edge.source c.self.view_is some.1 c.requires.home) some.0
+    c.in_ok-send_message.ensures.ok c.send_message.ensures.same (c.leave-left.ensures.ok c.if-prove.false) refl refl
 
 pub returns-clause-ways : goal.returns-clause-ways
 returns-clause-ways c =
     let some = c.in-Some.ensures.some in
-    sent_ways c.self.inside (record c.self.inside { core = c.send_message.new.core; board = c.leave-left.new.self }) c.args.self.now
+    sent_ways c.self.inside (record c.self.inside { journal = c.send_message.new.journal; board = c.leave-left.new.self }) c.args.self.now
     c.args.task c.args.input
-    c.in-Some.edge c.self.view_is some.0 some.1 some.2 (c.leave-left.ensures.ok c.if-prove.false) refl
+    c.in-Some.edge c.self.view_is some.0 some.1 some.2 (c.leave-left.ensures.ok c.if-prove.false) refl refl
 
 pub returns-clause-ok : goal.returns-clause-ok
 returns-clause-ok c = λ o at.
-    left_ways c.self.inside (record c.self.inside { core = c.send_message.new.core; board = c.leave-left.new.self }) c.args.self.now
+    left_ways c.self.inside (record c.self.inside { journal = c.send_message.new.journal; board = c.leave-left.new.self }) c.args.self.now
     c.args.input
-    c.self.view_is (c.leave-left.ensures.ok c.if-prove.false) refl
+    c.self.view_is (c.leave-left.ensures.ok c.if-prove.false) refl refl
+
+pub returns-in_err-send_message-clause-room : goal.returns-in_err-send_message-clause-room
+returns-in_err-send_message-clause-room c =
+    let some = c.in-Some.ensures.some in
+    let p = err_from_is_err_and c.from_residual.result c.from_residual.ensures.1 in
+    rw (p.1, p.2) (room_now c.self.inside c.args.self.now _ c.self.view_is
+    (send_refused c.self.inside c.args.self.now c.args.node c.args.task c.args.input c.in-Some.edge _ c.self.invariant c.known.ensures
+    c.self.view_is c.requires.running c.requires.home some.0 some.2 c.in_err-send_message.ensures.room))

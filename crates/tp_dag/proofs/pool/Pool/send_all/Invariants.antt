@@ -1,5 +1,6 @@
 use Rattle.tp_dag.specs.Counts.{count_where, is_out}
-use Rattle.tp_dag.specs.State.{AddsOnly, AreSent, is_sending}
+use Rattle.tp_dag.specs.Journal.{is_sending}
+use Rattle.tp_dag.specs.State.{AddsOnly, AreSent}
 use Rattle.tp_dag.proofs.pool.Pool.send_all.Given as goal
 
 abbrev pub invariant-loop-input : goal.invariant-loop-input

@@ -1,3 +1,5 @@
+use Rattle.std.proofs.lemmas.Result.{err_from_is_err_and}
+use Rattle.tp_dag.proofs.Refusing.{room_passed}
 use Rattle.tp_dag.proofs.Steps.{adds_trans}
 use Rattle.tp_dag.proofs.Going.{home_after, sent_trans}
 use Rattle.tp_dag.proofs.pool.Pool.send_hinted.Goals as goal
@@ -15,3 +17,8 @@ loop-turn-preserved c = (
   sent_trans c.args.task c.args.self.now c.loop-turn.self c.send.new.self c.loop-turn.invariant.0.graph.inputs c.loop-turn.invariant.1
       c.send.ensures.ways,
 )
+
+pub returns-in_err-send-clause-room : goal.returns-in_err-send-clause-room
+returns-in_err-send-clause-room c =
+    let p = err_from_is_err_and c.from_residual.result c.from_residual.ensures.1 in
+    room_passed c.args.self.now c.loop-turn.self _ p.0 _ p.1 p.2 c.loop-turn.invariant.0 c.in_err-send.ensures.room

@@ -1,4 +1,5 @@
-use Rattle.tp_dag.specs.State.{AddsOnly, AreSent, is_sending}
+use Rattle.tp_dag.specs.Journal.{is_sending}
+use Rattle.tp_dag.specs.State.{AddsOnly, AreSent}
 use Rattle.tp_dag.proofs.pool.Pool.send_hinted.Given as goal
 
 abbrev pub invariant-loop-turn : goal.invariant-loop-turn

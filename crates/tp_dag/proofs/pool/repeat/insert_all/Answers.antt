@@ -1,19 +1,28 @@
-use Rattle.std.proofs.Common.{◌+◌, sym, subst}
+use Rattle.std.proofs.Common.{◌∙◌, refl, arith}
 use Rattle.std.specs.List.{slice_index_or}
-use Rattle.tp_core.specs.Accepted.{Accepted}
+use Rattle.std.proofs.lemmas.Option.{slice_get-get_or}
 use Rattle.tp_dag.specs.declared.entry.Task.{Task}
 use Rattle.tp_dag.specs.declared.entry.Stage.TheVariants as stage
-use Rattle.tp_dag.specs.Again.{IsBeginning}
-use Rattle.tp_dag.proofs.Repeating.{inserts_more}
+use Rattle.tp_dag.proofs.Repeating.{begins_none, inserts_more}
 use Rattle.tp_dag.proofs.pool.repeat.insert_all.Goals as goal
 
 abbrev none : Task
 none = record { node = 0; class = 0; stage = stage.Fresh; missing = 0; unsent = 0; outside = 0 }
 
+pub loop-t-init : goal.loop-t-init
+loop-t-init c = (begins_none c.args.tasks.now c.args.journal.now c.requires.empty, c.requires.ready, record { nodes = refl; keeps = refl })
+
 pub loop-t-preserved : goal.loop-t-preserved
 loop-t-preserved c =
-    let ok = c.in_ok-take_step.ensures.ok in
-    subst (λ (k : Accepted). IsBeginning c.args.core.now.nodes (c.loop-t.t + 1) k) (sym ok.1)
-    (inserts_more c.loop-t.t (record { 0 = (slice_index_or c.args.tasks.now c.loop-t.t none).node }) c.in-Some.inputs c.loop-t.invariant
-    ok.0
-    c.in-Some.ensures.value)
+    let x : Task = slice_index_or c.args.tasks.now c.loop-t.t none in
+    let at = slice_get-get_or c.args.tasks.now c.loop-t.t none c.loop-t-test.true in
+    let b = c.loop-t.invariant.0 in
+    let ready = c.loop-t.invariant.1 in
+    let same = c.loop-t.invariant.2 in
+    let next = c.in_ok-record.ensures in
+    let home = c.requires.homes c.loop-t.t x at in
+    let n = same.nodes in (
+      inserts_more c.loop-t.t x c.in-Some.inputs b ready at (omega (arith, home, n)) c.in-Some.ensures.value next.ok next.same.nodes,
+      next.ready ∙ ready,
+      record { nodes = next.same.nodes ∙ same.nodes; keeps = next.same.keeps ∙ same.keeps },
+    )

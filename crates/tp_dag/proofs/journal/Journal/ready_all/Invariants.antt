@@ -1,0 +1,5 @@
+use Rattle.tp_dag.specs.Journal.{JournalLeads, Adds, SameKind, is_readying}
+use Rattle.tp_dag.proofs.journal.Journal.ready_all.Given as goal
+
+abbrev pub invariant-loop-node : goal.invariant-loop-node
+invariant-loop-node l = JournalLeads (Adds is_readying) l.fn.self l.self × SameKind l.fn.self l.self

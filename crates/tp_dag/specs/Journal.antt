@@ -1,0 +1,111 @@
+-- What contracts see of a pool's journal, the lists of steps behind it, and what its calls do.
+use Rattle.std.specs.Prelude.{ℕ, ◌≡◌, ◌≤◌, ◌<◌, List, ◌∷◌, ◌++◌, Bool, true, false, slice_get, IsTrue}
+use Rattle.std.specs.Prelude.{Option, Some, None, is_some, reverse}
+use Rattle.std.specs.List.{list_all}
+use Rattle.tp_base.specs.declared.Refusal.{Refusal}
+use Rattle.tp_base.specs.declared.Refusal.TheVariants as refusal
+use Rattle.tp_base.specs.declared.Step.{Step}
+use Rattle.tp_base.specs.declared.Step.TheVariants.{Insert, Begin, Done, Ready, Send, Recv, MessageEnd, Judge}
+use Rattle.tp_wave.specs.Control.{is_control}
+use Rattle.tp_wave.specs.Sums.{judgement}
+use Rattle.tp_core.specs.Recording.{Recorded, Backs, MayBeRecorded}
+use Rattle.tp_core.specs.Run.{world}
+use Rattle.tp_core.specs.World.{Opening, OfMessage, is_open}
+
+-- What the recorder counted; how many nodes, the lowest first, have ended their opening action; and of each node the message that it
+-- received and has not ended.
+pub record JournalState : Type 0 where
+  pub recorded : Recorded
+  pub ready_nodes : ℕ
+  pub receiving : List (Option ℕ)
+
+-- The journal keeps the list of steps.
+abbrev pub keeps : JournalState → Bool
+keeps a = is_some a.recorded.steps
+
+-- The list of steps, newest first, is behind the journal: it is a run with the counters of the recorder, and if steps are kept, it is the
+-- kept list. After it, the opening actions of the nodes that are not ready are open, and so is each message that a node has not ended.
+pub record IsBehindJournal (steps : List Step) (a : JournalState) : Type 0 where
+  pub backs : Backs steps a.recorded
+  pub openings : (i : ℕ) → a.ready_nodes ≤ i → i < a.recorded.nodes → IsTrue (is_open i Opening (world a.recorded.nodes steps))
+  pub open_messages : (i k : ℕ) → slice_get a.receiving i ≡ Some (Some k) → IsTrue (is_open i (OfMessage k) (world a.recorded.nodes steps))
+
+-- ---- what calls do
+-- the k-th of the kept steps, the oldest being 0
+abbrev pub kept_step : Option (List Step) → ℕ → Option Step
+kept_step None k = None
+kept_step (Some steps) k = slice_get (reverse steps) k
+
+-- the step with which a node receives a message
+abbrev pub receipt : ℕ → ℕ → Step
+receipt node k = Recv (record { 0 = node }) (record { 0 = k }) (record { 0 = 1 })
+
+-- whether a refusal is for lack of room: of room for steps, or of memory, which only a journal that keeps steps allocates
+abbrev pub is_of_room : Bool → Refusal → Bool
+is_of_room keeps refusal.NoMemory = keeps
+is_of_room keeps (refusal.HistoryFull n) = true
+is_of_room keeps _ = false
+
+-- The number of nodes is as before, and steps are kept if they were.
+pub record SameKind (old new : JournalState) : Type 0 where
+  pub nodes : new.recorded.nodes ≡ old.recorded.nodes
+  pub keeps : keeps new ≡ keeps old
+
+-- a step that opens and ends no action
+abbrev pub is_plain : Step → Bool
+is_plain (Insert i t k) = true
+is_plain (Begin t) = true
+is_plain (Done t) = true
+is_plain (Send i j m g) = true
+is_plain _ = false
+
+-- For each list behind the old journal after which the step may be recorded: with this step it is behind the new one.
+abbrev pub Records : ℕ → Step → JournalState → JournalState → Type 0
+Records node s old new = (past : List Step) → IsBehindJournal past old → MayBeRecorded old.recorded.nodes node past s
+    → IsBehindJournal (s ∷ past) new
+
+-- A step that may be recorded after some list behind the journal is refused only for lack of room.
+abbrev pub IsRefusedForRoom : ℕ → Step → JournalState → Refusal → Type 0
+IsRefusedForRoom node s a r = (past : List Step) → IsBehindJournal past a → MayBeRecorded a.recorded.nodes node past s
+    → IsTrue (is_of_room (keeps a) r)
+
+-- Steps that pass the test were added.
+pub record Adds (test : Step → Bool) (past now : List Step) : Type 0 where
+  pub later : List Step
+  pub steps : now ≡ later ++ past
+  pub only : IsTrue (list_all test later)
+
+-- The waves ran, and the last step judged that the pool had terminated when wave w ended.
+pub record IsJudged (n w : ℕ) (past now : List Step) : Type 0 where
+  pub taken : List Step
+  pub steps : now ≡ Judge ∷ taken ++ past
+  pub control : IsTrue (list_all is_control taken)
+  pub judged : judgement n (taken ++ past) ≡ Some w
+
+-- There is a list behind the journal that is related to the past steps.
+pub record JournalGoesOn (R : List Step → List Step → Type 0) (past : List Step) (new : JournalState) : Type 0 where
+  pub now : List Step
+  pub behind : IsBehindJournal now new
+  pub related : R past now
+
+-- For each list behind the old journal there is a list behind the new one that is related to it.
+abbrev pub JournalLeads : (List Step → List Step → Type 0) → JournalState → JournalState → Type 0
+JournalLeads R old new = (past : List Step) → IsBehindJournal past old → JournalGoesOn R past new
+
+abbrev pub is_delivery : Step → Bool
+is_delivery (Recv j m g) = true
+is_delivery (MessageEnd j m g) = true
+is_delivery _ = false
+
+-- a step that ends a message
+abbrev pub is_ending : Step → Bool
+is_ending (MessageEnd j m g) = true
+is_ending _ = false
+
+abbrev pub is_sending : Step → Bool
+is_sending (Send i j m g) = true
+is_sending _ = false
+
+abbrev pub is_readying : Step → Bool
+is_readying (Ready i) = true
+is_readying _ = false
