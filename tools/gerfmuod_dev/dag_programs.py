@@ -14,7 +14,7 @@ import sys
 import tempfile
 from dataclasses import dataclass
 
-from . import library, profiles, repository, shared_object, summary, timeline
+from . import browser, library, profiles, repository, shared_object, summary, timeline, viewer
 from .c_programs import ADDRESS, THREAD, VALGRIND, WARNINGS, Run, check_sources, has_sanitizer, judge, start, succeeds
 from .profiles import Profile
 from .running import Tally, short, write
@@ -204,7 +204,8 @@ def are_near(numbers, others):
 
 
 def check_texts(tally, build, folder):
-    """Runs Cholesky with times: `tools/dev summary` has to have the numbers of the library's own summary, and so has the timeline."""
+    """Runs Cholesky with times. `tools/dev summary` and the timeline have to have the numbers of the library's own summary, and
+    Chromium's DevTools, if it is installed, the slices."""
     path, file = build.compile(CHOLESKY, tally), f"{folder}/cholesky.json"
     result = path and start([path, "--profile", file, "256", "32", "1", "1x4"])
     if not result or result.status:
@@ -213,8 +214,12 @@ def check_texts(tally, build, folder):
     own, text = result.out.decode().partition("runtime\n")[2].splitlines(), repository.text_of(file)
     rows = summary.summary(text)[1:]
     tally.judge(are_near(numbers_of(own), numbers_of(rows)), f"the summary of the library: {own}, of tools/dev summary: {rows}")
-    title, critical = re.search(r"<text [^>]*bold[^>]*>([^<]*)", timeline.picture(text, 8))[1], Profile(text).about["critical_path_us"] / 1000
+    title = re.search(r"<text [^>]*bold[^>]*>([^<]*)", timeline.picture(text, 8))[1]
+    critical = Profile(text).about["critical_path_us"] / 1000
     tally.judge(title.endswith(f"the critical path: {critical:.1f} ms"), f"the timeline: {title}; the file: {critical} ms")
+    if browser.program():
+        with browser.Browser() as chromium:
+            viewer.check(tally, chromium, {"cholesky --profile": text})
 
 
 def run_profiles(tally, build, is_full):

@@ -43,7 +43,8 @@ PICTURES = {
 # the picture of Cholesky, the order of its matrix and of its tiles, and the numbers of threads and of runs
 CHOLESKY, ORDER, TILE, THREADS, RUNS = "docs/figures/cholesky.svg", 2048, 256, 4, 9
 # the page, its trace, its size, and where the pointer is on it
-PAGE, TRACE, SIZE, PLACE = "docs/figures/a-page.png", "tools/data/statuses/samples/0-draw-a-run-of-some-hundred-events", (1000, 500), (420, 310)
+PAGE, SIZE, PLACE = "docs/figures/a-page.png", (1000, 500), (420, 310)
+TRACE = "tools/data/statuses/samples/0-draw-a-run-of-some-hundred-events"
 
 
 def path_of(name):

@@ -167,8 +167,10 @@ def spoiled(text):
         if value is None:
             del event[key]
         yield json.dumps({**content, "traceEvents": [*events[: first[phase]], event, *events[first[phase] + 1 :]]})
+    overlapping = events[first["X"]]
+    overlapping = {**overlapping, "ts": overlapping["ts"] + overlapping["dur"] / 2}
     yield json.dumps({**content, "traceEvents": [*events, events[first["s"]]]})
-    yield json.dumps({**content, "traceEvents": [*events, {**events[first["X"]], "ts": events[first["X"]]["ts"] + events[first["X"]]["dur"] / 2}]})
+    yield json.dumps({**content, "traceEvents": [*events, overlapping]})
     yield json.dumps({**content, "displayTimeUnit": "s"})
     yield text.replace('"ts":', '"ts":NaN,"was":', 1)
     yield text.replace('"ph":', '"ph":"X","ph":', 1)

@@ -111,7 +111,9 @@ def faults(text, case):
 
 def check(tally, folder, output):
     """Checks what the runs have written to a folder, after those of `samples`, whose output is given; returns the texts by case."""
+    # (what rt says of a case; what the case printed may be long)
     outputs = {"samples": output, "tp": output_of_tp(folder)}
+    outputs = {program: "\n".join(re.findall(r"^case=.*", text, re.M)) for program, text in outputs.items()}
     texts = {name: repository.text_of(f"{folder}/{name}") for name in sorted(os.listdir(folder))}
     for name, case in CASES.items():
         found = faults(texts[name], case) if name in texts else ["no file"]

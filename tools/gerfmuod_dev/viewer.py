@@ -55,4 +55,4 @@ def check(tally, browser, texts):
         expected, shown = in_nanoseconds(slices_in(text)), in_nanoseconds(found)
         differing = [*(expected - shown), *(shown - expected)]
         tally.judge(not differing, f"{name}: {len(differing)} slices differ in DevTools, such as {differing[:2]}")
-    print(f"the events of {len(texts)} runs: read by the panel Performance of Chromium's DevTools", flush=True)
+    print(f"the events of {len(texts)} run{'s' * (len(texts) != 1)}: read by the panel Performance of Chromium's DevTools", flush=True)
