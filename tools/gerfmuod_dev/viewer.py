@@ -24,9 +24,12 @@ READ = """(async text => {
 
 
 def open_viewer(browser):
-    browser.call("Page.navigate", url=f"{DEVTOOLS}/devtools_app.html")
+    """Opens the DevTools as a page; returns whether this Chromium allows that."""
+    if "errorText" in browser.call("Page.navigate", url=f"{DEVTOOLS}/devtools_app.html"):
+        return False
     while browser.receive().get("method") != "Page.loadEventFired":
         pass
+    return True
 
 
 def slices_in(text):
@@ -46,9 +49,9 @@ def in_nanoseconds(slices):
 
 def check(tally, browser, texts):
     """Counts whether the viewer has each slice of each of these texts once, under the names of the file."""
-    open_viewer(browser)
+    is_open = open_viewer(browser)
     for name, text in texts.items():
-        found = browser.value(f"{READ}({json.dumps(text)})")
+        found = browser.value(f"{READ}({json.dumps(text)})") if is_open else None
         if found is None:
             print("This Chromium's DevTools have no such modules: no trace events were read there.")
             return
