@@ -8,6 +8,7 @@ import bisect
 import collections
 import json
 import math
+import re
 
 TOP_LEVEL = {"traceEvents": list, "displayTimeUnit": str, "otherData": dict}
 # for each phase what an event has to have, and what it may have
@@ -19,6 +20,8 @@ FIELDS = {
     "f": ("name cat pid tid ts id bp", "args"),
     "M": ("name pid args", "cat tid ts"),
 }
+# a number as a text
+HEXADECIMAL = re.compile(r"0x[0-9a-f]{1,16}")
 # for each kind of metadata the field of its arguments
 METADATA = {"process_name": "name", "thread_name": "name", "process_sort_index": "sort_index", "thread_sort_index": "sort_index"}
 
@@ -41,9 +44,13 @@ VALID = {
     "dur": is_time,
     "s": lambda value: value in ("g", "p", "t"),
     "bp": lambda value: value == "e",
-    "id": lambda value: is_whole(value) or isinstance(value, str) and value,
+    "id": lambda value: is_number_of_flow(value) or isinstance(value, str) and value,
     "args": lambda value: isinstance(value, dict),
 }
+
+
+def is_number_of_flow(value):
+    return isinstance(value, str) and HEXADECIMAL.fullmatch(value) or is_whole(value)
 
 
 def once(pairs):
@@ -105,12 +112,14 @@ class Track:
         return any(at < end or begin == at for begin, end, first in reversed(self.slices[:last]) if begin < at or first < place)
 
 
-def flow_faults(flows, tracks, has_one_clock):
+def flow_faults(flows, tracks, has_one_clock, has_numbers):
     """Yields what is wrong with the ends of flows, which are given with their places in the file."""
     ends = collections.defaultdict(lambda: {"s": [], "f": []})
     for place, event in flows:
         at = nanoseconds(event["ts"])
         ends[event["cat"], event["name"], event["id"]][event["ph"]].append(at)
+        if has_numbers and not is_number_of_flow(event["id"]):
+            yield f"the id of a flow is no number: {event}"
         if not tracks[event["pid"], event["tid"]].has(at, place):
             yield f"an end of a flow that is in no slice: {event}"
     for flow, found in ends.items():
@@ -120,9 +129,12 @@ def flow_faults(flows, tracks, has_one_clock):
             yield f"flow {flow} ends before it begins: {found}"
 
 
-def faults(text, has_one_clock=True):
-    """Returns what is wrong with a text, as lines; none if it is as the format has it. If the times come from several clocks,
-    flows may end before they begin."""
+def faults(text, has_one_clock=True, has_numbers=True):
+    """Returns what is wrong with a text, as lines; none if it is as the format has it.
+
+    If the times come from several clocks, flows may end before they begin. The format allows any text as the id of a flow,
+    but some importers only take numbers, so other texts are a fault unless they are expected.
+    """
     try:
         content = json.loads(text, object_pairs_hook=once, parse_constant=no_number)
     except ValueError as error:
@@ -134,10 +146,10 @@ def faults(text, has_one_clock=True):
         found.append(f"the unit of time is {content['displayTimeUnit']}")
     events = content["traceEvents"]
     found += [fault for event in events for fault in field_faults(event)]
-    return found or placing_faults(events, has_one_clock)
+    return found or placing_faults(events, has_one_clock, has_numbers)
 
 
-def placing_faults(events, has_one_clock):
+def placing_faults(events, has_one_clock, has_numbers):
     """Returns what is wrong with where events whose fields are valid are shown."""
     tracks, flows, names = collections.defaultdict(Track), [], collections.Counter()
     for place, event in enumerate(events):
@@ -150,7 +162,7 @@ def placing_faults(events, has_one_clock):
             flows.append((place, event))
     found = [fault for track in tracks.values() for fault in track.faults()]
     found += [f"{name} comes {count} times" for name, count in names.items() if count > 1]
-    return [*found, *flow_faults(flows, tracks, has_one_clock)]
+    return [*found, *flow_faults(flows, tracks, has_one_clock, has_numbers)]
 
 
 def spoiled(text):
@@ -159,6 +171,7 @@ def spoiled(text):
     events = content["traceEvents"]
     first = {phase: next(place for place, event in enumerate(events) if event["ph"] == phase) for phase in "Xsfi"}
     for phase, key, value in (
+        ("s", "id", []), ("f", "id", ""),
         *((phase, key, None) for phase in "Xsfi" for key in FIELDS[phase][0].split()),
         ("X", "ts", "1"), ("X", "dur", -1), ("X", "dur", True), ("X", "unknown", 1), ("i", "s", "x"), ("f", "bp", "x"), ("s", "id", "lost"),
         ("s", "ts", 1e9), ("f", "tid", 99), ("X", "ph", "Y"), ("X", "args", [1]), ("i", "pid", -1), ("i", "pid", "1"), ("f", "ts", 0),
