@@ -16,7 +16,8 @@
 # make bench    measures the cost of a step that a program in C reports to the library, and compares all programs with others
 #               that do the same; the quick form takes some minutes (FULL=1: all cases, stored as the numbers of
 #               docs/PERFORMANCE.md; see bench/README.md)
-# make docs     draws the pictures of docs/figures again: runs by bin/samples, the crates and a wave by tools/pictures.py
+# make docs     draws the pictures of docs/figures again: runs by bin/samples, a page by Chromium, Cholesky by the library of
+#               make lib (without these two, their pictures stay), the crates and a wave by tools/pictures.py
 # make install  installs the proved programs and the library, with the manual, the completion for bash, the documents, and
 #               packages for pkg-config and CMake. It takes DESTDIR, PREFIX (/usr/local), EXEC_PREFIX, BINDIR, LIBDIR,
 #               INCLUDEDIR, DATADIR, MANDIR, DOCDIR and PYTHONDIR (defaults: `tools/dev install --help`), also in small

@@ -96,6 +96,9 @@ static void write_slice(FILE *file, int rank, int track, const rank_event *event
     fprintf(file, ",\"dur\":%" PRIu64 ".%03u", took / 1000, (unsigned)(took % 1000));
 }
 
+/* Returns the number of an arrow, which is unique below 65,536 processes and 2^32 messages from one to another. */
+static uint64_t id_of(uint64_t from, uint64_t to, uint64_t number) { return from << 48 | to << 32 | (number & UINT32_MAX); }
+
 /* Writes an event, whose time is moved by `shift`. */
 static void write_rank_event(FILE *file, int rank, const rank_event *event, int64_t shift) {
     int64_t moved = (int64_t)event->begin + shift;
@@ -117,7 +120,8 @@ static void write_rank_event(FILE *file, int rank, const rank_event *event, int6
         break;
     default:
         write_event(file, event->kind == SENT_WORK ? "s" : "f", rank, 1, at);
-        fprintf(file, ",\"cat\":\"message\",\"name\":\"work\",\"bp\":\"e\",\"id\":\"%u-%u-%" PRIu64 "\"}", from, to, event->number);
+        fprintf(file, ",\"cat\":\"message\",\"name\":\"work\",\"bp\":\"e\"");
+        fprintf(file, ",\"id\":\"0x%" PRIx64 "\"}", id_of(from, to, event->number));
     }
 }
 

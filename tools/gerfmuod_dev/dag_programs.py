@@ -14,8 +14,9 @@ import sys
 import tempfile
 from dataclasses import dataclass
 
-from . import library, profiles, repository, shared_object
+from . import browser, library, profiles, repository, shared_object, summary, timeline, viewer
 from .c_programs import ADDRESS, THREAD, VALGRIND, WARNINGS, Run, check_sources, has_sanitizer, judge, start, succeeds
+from .profiles import Profile
 from .running import Tally, short, write
 
 C = ["gcc", "-std=c11", *WARNINGS, "-O2", "-g"]
@@ -52,6 +53,10 @@ class Program:
     @property
     def sanitizer(self):
         return [option for option in self.compiler if option in (*ADDRESS, *THREAD)]
+
+
+CHOLESKY = Program("cholesky.c", C, ["-lm"], [], [])
+CHOLESKY_OVER_BLAS = Program("cholesky.c", [*C, "-DHAVE_BLAS"], ["-lopenblas", "-lm"], [], [])
 
 
 def programs(is_full):
@@ -191,6 +196,36 @@ def check_profiles(tally, folder):
     return len(texts)
 
 
+def numbers_of(rows):
+    return [[float(number) for number in re.findall(r"[\d.]+", row)] for row in rows]
+
+
+def are_near(numbers, others):
+    """Whether these lists of numbers are the same, but for the last digit of a share."""
+    return [*map(len, numbers)] == [*map(len, others)] and all(abs(a - b) < 0.11 for row in zip(numbers, others) for a, b in zip(*row))
+
+
+def check_texts(tally, build, folder):
+    """Runs Cholesky with times. `tools/dev summary` and the timeline have to have the numbers of the library's own summary, and
+    Chromium's DevTools, if it is installed, the slices."""
+    path, file = build.compile(CHOLESKY, tally), f"{folder}/cholesky.json"
+    result = path and start([path, "--profile", file, "256", "32", "1", "1x4"])
+    if not result or result.status:
+        tally.fails(f"cholesky --profile: {short(result.out, 2000) if result else 'did not end'}")
+        return
+    text = repository.text_of(file)
+    rows = summary.summary(text)[1:]
+    # (what follows the summary is the time of the run as the program prints it)
+    own = result.out.decode().partition("runtime\n")[2].splitlines()[: len(rows)]
+    tally.judge(are_near(numbers_of(own), numbers_of(rows)), f"the summary of the library: {own}, of tools/dev summary: {rows}")
+    title = re.search(r"<text [^>]*bold[^>]*>([^<]*)", timeline.picture(text, 8))[1]
+    critical = Profile(text).about["critical_path_us"] / 1000
+    tally.judge(title.endswith(f"the critical path: {critical:.1f} ms"), f"the timeline: {title}; the file: {critical} ms")
+    if browser.program():
+        with browser.Browser() as chromium:
+            viewer.check(tally, chromium, {"cholesky --profile": text})
+
+
 def run_profiles(tally, build, is_full):
     """Runs programs that record times, and checks what they write: random graphs, also with ThreadSanitizer, and two examples."""
     rounds = str(LONG_PROFILED if is_full else PROFILED)
@@ -198,11 +233,11 @@ def run_profiles(tally, build, is_full):
     own = [
         (Program("storm.c", C, [], [], []), [rounds, "1", folder], f"{rounds} rounds"),
         (Program("grain.c", C, [], [], []), ["--profile", f"{folder}/grain.json", "three", "5000", "10", "1", "2x2"], "critical path"),
-        (Program("cholesky.c", C, ["-lm"], [], []), ["--profile", f"{folder}/cholesky.json", "256", "32", "1", "1x4"], "critical path"),
     ]
     if has_sanitizer(THREAD, build.folder):
         own.append((Program("storm.c", [*C, *THREAD], [], [], []), [rounds, "2", folder], f"{rounds} rounds"))
-    count = 0
+    check_texts(tally, build, folder)
+    count = check_profiles(tally, folder)
     for program, arguments, output in own:
         path = build.compile(program, tally)
         if path:
@@ -214,9 +249,8 @@ def run_profiles(tally, build, is_full):
 
 def run_blas(tally, build):
     """Runs Cholesky over OpenBLAS, if that is installed."""
-    program = Program("cholesky.c", [*C, "-DHAVE_BLAS"], ["-lopenblas", "-lm"], [], [])
     path = f"{build.folder}/blas"
-    if not succeeds(build.command(program, path)):
+    if not succeeds(build.command(CHOLESKY_OVER_BLAS, path)):
         print("OpenBLAS is not installed: cholesky.c ran with plain kernels alone")
         return
     environment = {**os.environ, "OPENBLAS_NUM_THREADS": "1"}

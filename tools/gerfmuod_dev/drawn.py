@@ -1,14 +1,18 @@
-"""Draws the pictures of runs in docs/figures, from stored traces, with bin/samples, and the page of one with Chromium.
+"""Draws the pictures of runs in docs/figures: of stored traces, with bin/samples, of a page, and of a run of Cholesky.
 
-`tools/dev try samples` compares the pictures with what the program draws unproved. Prints a line for each. The status is
-1 if one could not be drawn; without Chromium (`tools/page-packages` prints the package) the page is left as it is.
+`tools/dev try samples` compares the pictures of traces with what the program draws unproved. The page is a screenshot of
+Chromium (`tools/page-packages` prints the package). Cholesky (capi/dag/cholesky.c) runs with lib/libgerfmuod.a, over OpenBLAS
+if that is installed; of a few runs, the fastest is drawn. Prints a line for each picture. The status is 1 if one could not be
+drawn; without Chromium, or without a library that was built from these sources, its picture is left as it is.
 """
+import os
 import subprocess
 import tempfile
 from dataclasses import dataclass
 
-from . import repository
+from . import dag_programs, library, repository, running, timeline
 from .browser import Browser, program
+from .profiles import Profile
 from .repository import text_of
 
 EXAMPLES = "crates/tp_examples/data"
@@ -36,8 +40,11 @@ PICTURES = {
 }
 
 
+# the picture of Cholesky, the order of its matrix and of its tiles, and the numbers of threads and of runs
+CHOLESKY, ORDER, TILE, THREADS, RUNS = "docs/figures/cholesky.svg", 2048, 256, 4, 9
 # the page, its trace, its size, and where the pointer is on it
-PAGE, TRACE, SIZE, PLACE = "docs/figures/a-page.png", "tools/data/statuses/samples/0-draw-a-run-of-some-hundred-events", (1000, 500), (420, 310)
+PAGE, SIZE, PLACE = "docs/figures/a-page.png", (1000, 500), (420, 310)
+TRACE = "tools/data/statuses/samples/0-draw-a-run-of-some-hundred-events"
 
 
 def path_of(name):
@@ -58,12 +65,43 @@ def draw_page(samples):
     return not browser.errors
 
 
+def events_of_cholesky(library_folder, folder):
+    """Runs Cholesky some times; returns the events of the fastest run, or an empty text if it cannot be compiled or fails."""
+    build, path, file, texts = dag_programs.Build(library_folder, folder), f"{folder}/cholesky", f"{folder}/cholesky.json", []
+    if not any(dag_programs.succeeds(build.command(way, path)) for way in (dag_programs.CHOLESKY_OVER_BLAS, dag_programs.CHOLESKY)):
+        return ""
+    for _ in range(RUNS):
+        command = [path, "--profile", file, str(ORDER), str(TILE), "1", f"1x{THREADS}"]
+        if running.run(command, env={**os.environ, "OPENBLAS_NUM_THREADS": "1"}).status:
+            return ""
+        texts.append(text_of(file))
+    return min(texts, key=lambda text: Profile(text).about["elapsed_us"])
+
+
+def draw_cholesky(library_folder):
+    """Draws a run of Cholesky; returns whether that worked."""
+    with tempfile.TemporaryDirectory() as folder:
+        text = events_of_cholesky(library_folder, folder)
+    if text:
+        running.write(CHOLESKY, timeline.picture(text, ORDER // TILE))
+    return bool(text)
+
+
+def draw_optional(path, missing, draw):
+    """Draws a picture for which something may be missing; returns whether it was drawn or left as it is, and prints that."""
+    is_well = bool(missing) or draw()
+    print(f"{path}: {f'left as it is: {missing}' if missing else 'drawn' if is_well else 'failed'}")
+    return is_well
+
+
 def arguments(parser):
     parser.add_argument("samples", nargs="?", default="bin/samples", metavar="SAMPLES", help="the built program")
+    parser.add_argument("--library", metavar="FOLDER", help="use libgerfmuod.a of this folder, whatever it was built from")
 
 
 def run(options):
     repository.go_to_top()
+    running.require(options.samples)
     is_well = True
     for name, picture in PICTURES.items():
         command, trace = [options.samples, "draw", *picture.arguments], text_of(picture.trace)
@@ -74,10 +112,8 @@ def run(options):
         else:
             is_well = False
         print(f"{path_of(name)}: {'drawn' if process.returncode == picture.status else f'status {process.returncode}'}")
-    if program():
-        is_drawn = draw_page(options.samples)
-        is_well = is_well and is_drawn
-        print(f"{PAGE}: {'drawn' if is_drawn else 'failed'}")
-    else:
-        print(f"{PAGE}: Chromium is missing")
+    no_browser = "" if program() else "Chromium is missing (tools/page-packages prints the package)"
+    is_well &= draw_optional(PAGE, no_browser, lambda: draw_page(options.samples))
+    no_library = "" if options.library else library.reason_not_built()
+    is_well &= draw_optional(CHOLESKY, no_library and f"{no_library} (make lib builds it)", lambda: draw_cholesky(options.library or "lib"))
     return 0 if is_well else 1

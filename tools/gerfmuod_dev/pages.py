@@ -1,12 +1,13 @@
 """Tries the trace events and the page that `samples draw run` writes, and the times of runs, unproved.
 
-Has the program write 40 random runs as events. A JSON parser reads them: each task, message and wave of the trace has to
-be in them once, and they have to be those of a second writer (trace_events.py). If Chromium is installed
-(`tools/page-packages` prints the package), opens the page of a run of 100,000 events in it, zooms, moves, searches, and holds
-the pointer over a task, a message and a wave, in light and dark colours, and opens the pages of the short runs; none may
-report an error. Then the programs run with `--profile FILE`: a JSON parser reads each file, which has to have each task of the
-run once, in time, and counters that rise to the numbers of the run (run_profiles.py). The last line is `N passed, M failed`; the
-status is 1 if one failed.
+Has the program write 40 random runs as events. Each file has to be as the Trace Event Format says (event_format.py); each
+task, message and wave of the trace has to be in it once, and its events have to be those of a second writer
+(trace_events.py). Then the programs run with `--profile FILE`: each file has to have each task of the run once, in time, and
+counters that rise to the numbers of the run (run_profiles.py), and `tools/dev summary` has to find them. If Chromium is
+installed (`tools/page-packages` prints the package), opens the page of a run of 100,000 events in it, zooms, moves, searches,
+and holds the pointer over a task, a message and a wave, in light and dark colours, and opens the pages of the short runs;
+none may report an error. A viewer of Chromium's DevTools has to find the slices of all files (viewer.py). The last line is
+`N passed, M failed`; the status is 1 if one failed.
 """
 import collections
 import io
@@ -15,7 +16,7 @@ import random
 import re
 import tempfile
 
-from . import repository, run_profiles, running, tries
+from . import event_format, repository, run_profiles, running, tries, viewer
 from .bench import inputs
 from .browser import Browser, program
 from .limits.random_texts import random_steps, sound_trace
@@ -23,6 +24,8 @@ from .trace_events import events_of
 
 RUNS = 40
 PAGE, EMPTY = "page", "trace 1\nnodes 1\n"
+# a run with events of all kinds, of which faulty ones are made
+SPOILED = "busy-00"
 DATA = re.compile(r'(<script type="application/json" id="events">\n).*?(</script>)', re.S)
 LINES = 100_000
 
@@ -39,18 +42,23 @@ def traces():
     return found
 
 
-def written(texts):
-    """Returns what the program writes of each trace as events, and of one of them as a page."""
+def written(texts, folder):
+    """Runs the program: it writes each trace as events, and one as a page, and the times of runs into a folder.
+
+    Returns what it printed of each trace, and all that rt printed.
+    """
     with tempfile.TemporaryDirectory() as cases:
         forms = {**dict.fromkeys(texts, "events"), PAGE: "html"}
         for name, form in forms.items():
             running.write(f"{cases}/{name}", texts.get(name, EMPTY))
             running.write(f"{cases}/{name}.args", ["draw", "run", "--format", form])
+        run_profiles.write_cases("samples", cases, folder)
         output, _ = tries.rt_try("samples", "--seconds", tries.SECONDS, "--cases", cases)
     found = dict(re.findall(r"^== (\S+)\n(.*?)^case=\1 run=ended status=0", output, re.M | re.S))
+    found = {name: text for name, text in found.items() if name in forms}
     if len(found) != len(forms):
         print(output)
-    return found
+    return found, output
 
 
 def things_of(trace):
@@ -87,7 +95,12 @@ def check_events(tally, texts, outputs):
         expected = events_of(trace)
         is_same = found.get("otherData") == expected["otherData"] and sorted(map(str, events)) == sorted(map(str, expected["traceEvents"]))
         tally.judge(is_same, f"{name}: the second writer has other events for this trace: {trace}")
+        # (the id of a message is a text: its generation and its number)
+        faults = event_format.faults(outputs.get(name, ""), has_numbers=False)
+        tally.judge(not faults, f"{name}: not in the Trace Event Format: {faults[:3]}")
         total.update(category for _, category, _, _ in things)
+    for number, text in enumerate(event_format.spoiled(outputs[SPOILED]) if SPOILED in outputs else ()):
+        tally.judge(event_format.faults(text, has_numbers=False), f"fault {number} of trace events was not found")
     print(f"{len(texts)} runs as events: {total['task']} tasks, {total['message']} ends of messages, {total['wave']} waves", flush=True)
 
 
@@ -213,13 +226,17 @@ def run(options):
     repository.go_to_top()
     tally = running.Tally()
     texts = traces()
-    outputs = written(texts)
-    check_events(tally, texts, outputs)
-    run_profiles.check(tally)
+    with tempfile.TemporaryDirectory() as folder:
+        outputs, output = written(texts, folder)
+        check_events(tally, texts, outputs)
+        profiles = run_profiles.check(tally, folder, output)
     if not program():
         print("Chromium is missing (tools/page-packages prints the package): the page was not tried.")
     elif PAGE in outputs:
-        check_page(tally, outputs[PAGE], texts.values())
+        page = outputs.pop(PAGE)
+        check_page(tally, page, texts.values())
+        with Browser() as browser:
+            viewer.check(tally, browser, {**outputs, **profiles})
     else:
         tally.fails("the program wrote no page")
     return tally.end()

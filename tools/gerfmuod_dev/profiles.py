@@ -4,10 +4,8 @@ import json
 import re
 from dataclasses import dataclass
 
-
-def nanoseconds(microseconds):
-    """Returns a time of a file, which has three decimals, as a whole number."""
-    return round(microseconds * 1000)
+from . import event_format
+from .event_format import nanoseconds
 
 
 @dataclass(frozen=True)
@@ -128,7 +126,7 @@ def faults(text, trace=""):
     except (ValueError, KeyError) as error:
         return [f"not trace events: {error!r}"]
     checks = (order_faults, worker_faults, message_faults, wave_faults, task_faults)
-    found = [fault for check in checks for fault in check(profile)]
+    found = [*event_format.faults(text), *(fault for check in checks for fault in check(profile))]
     return [*found, *trace_faults(profile, trace)] if trace else found
 
 
@@ -161,7 +159,8 @@ def process_faults(text, processes):
         numbers = [[event["args"]["wave"] for event in own] for own in waves]
         known = sorted(event["pid"] for event in events if event["ph"] == "i")
         sent, received = (sorted(event["id"] for event in events if event["ph"] == phase) for phase in "sf")
-        found = list(wave_sum_faults(waves[0]))
+        # (an offset of a clock is not exact)
+        found = [*event_format.faults(text, has_one_clock=False), *wave_sum_faults(waves[0])]
     except (ValueError, KeyError, IndexError) as error:
         return [f"not trace events: {error!r}"]
     if any(own != list(range(1, len(waves[0]) + 1)) for own in numbers):

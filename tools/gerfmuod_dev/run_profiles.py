@@ -2,11 +2,12 @@
 import collections
 import json
 import os
+import re
 import tempfile
 from dataclasses import dataclass
 
-from . import running, tries
-from .profiles import nanoseconds
+from . import event_format, repository, running, summary, tries
+from .event_format import nanoseconds
 
 COUNTS = ["--nodes", "3", "--workers", "2"]
 
@@ -40,20 +41,20 @@ UNWRITTEN = {
 }
 
 
-def written(program):
-    """Runs the cases of a program; returns the text of each file by the name of its case, and what rt printed."""
-    with tempfile.TemporaryDirectory() as cases, tempfile.TemporaryDirectory() as folder:
-        for name, case in {**CASES, **UNWRITTEN}.items():
-            if case.program == program:
-                running.write(f"{cases}/{name}", case.text.splitlines())
-                path = NOWHERE if name in UNWRITTEN else f"{folder}/{name}"
-                running.write(f"{cases}/{name}.args", [*case.arguments, "--profile", path])
-        output, _ = tries.rt_try(program, "--seconds", tries.SECONDS, "--cases", cases)
-        texts = {}
-        for name in os.listdir(folder):
-            with open(f"{folder}/{name}", encoding="utf-8") as file:
-                texts[name] = file.read()
-    return texts, output
+def write_cases(program, cases, folder):
+    """Writes the cases of a program, which write their files into a folder under their names."""
+    for name, case in {**CASES, **UNWRITTEN}.items():
+        if case.program == program:
+            running.write(f"{cases}/{name}", case.text.splitlines())
+            path = NOWHERE if name in UNWRITTEN else f"{folder}/{name}"
+            running.write(f"{cases}/{name}.args", [*case.arguments, "--profile", path])
+
+
+def output_of_tp(folder):
+    """Runs the cases of `tp`; returns what rt printed."""
+    with tempfile.TemporaryDirectory() as cases:
+        write_cases("tp", cases, folder)
+        return tries.rt_try("tp", "--seconds", tries.SECONDS, "--cases", cases)[0]
 
 
 def track_faults(slices):
@@ -79,13 +80,22 @@ def counter_faults(slices, counts):
         yield f"the counters end at {done}, the bodies are {bodies}"
 
 
+def summary_faults(text, case):
+    """Yields what is wrong with the summary of a file: its tasks, and the shares of bodies and of the rest, which are 100% together."""
+    _, *rows, _ = summary.summary(text)
+    found = [[float(number) for number in re.findall(r"[\d.]+", row)[-3:]] for row in rows]
+    if sum(tasks for tasks, _, _ in found) != case.tasks * case.times or any(abs(one + other - 100) > 0.11 for _, one, other in found):
+        yield f"the summary has {rows}"
+
+
 def faults(text, case):
     """Returns what is wrong with a file, as lines; none if all is well."""
     try:
         content = json.loads(text)
         about, events = content["otherData"], content["traceEvents"]
         slices = [event for event in events if event["ph"] == "X"]
-        found = [*track_faults(slices), *counter_faults(slices, [event for event in events if event["ph"] == "C"])]
+        counts = [event for event in events if event["ph"] == "C"]
+        found = [*event_format.faults(text), *track_faults(slices), *counter_faults(slices, counts), *summary_faults(text, case)]
     except (ValueError, KeyError) as error:
         return [f"not trace events: {error!r}"]
     if (about["bodies"], about["lost_bodies"], len(slices)) != (case.tasks * case.times, 0, case.tasks * case.times):
@@ -99,14 +109,17 @@ def faults(text, case):
     return found
 
 
-def check(tally):
-    for program in ("tp", "samples"):
-        texts, output = written(program)
-        for name, case in CASES.items():
-            if case.program == program:
-                found = faults(texts[name], case) if name in texts else ["no file"]
-                tally.judge(not found, f"--profile of {name}: {found[:3]}\n{output}")
-        for name, case in UNWRITTEN.items():
-            if case.program == program:
-                tally.judge(f"case={name} run=ended status=1" in output, f"{name}: no status 1 for {NOWHERE}\n{output}")
+def check(tally, folder, output):
+    """Checks what the runs have written to a folder, after those of `samples`, whose output is given; returns the texts by case."""
+    # (what rt says of a case; what the case printed may be long)
+    outputs = {"samples": output, "tp": output_of_tp(folder)}
+    outputs = {program: "\n".join(re.findall(r"^case=.*", text, re.M)) for program, text in outputs.items()}
+    texts = {name: repository.text_of(f"{folder}/{name}") for name in sorted(os.listdir(folder))}
+    for name, case in CASES.items():
+        found = faults(texts[name], case) if name in texts else ["no file"]
+        tally.judge(not found, f"--profile of {name}: {found[:3]}\n{outputs[case.program]}")
+    for name, case in UNWRITTEN.items():
+        output = outputs[case.program]
+        tally.judge(f"case={name} run=ended status=1" in output, f"{name}: no status 1 for {NOWHERE}\n{output}")
     print(f"{len(CASES)} runs with times", flush=True)
+    return texts

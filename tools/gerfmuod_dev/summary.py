@@ -1,0 +1,96 @@
+"""Prints the summary of a file of trace events: for what share of its time each thread ran bodies, waited, and did the rest.
+
+The file is one of a team of C (its rows are threads; the rest is the runtime), of `tp run --profile` and `samples` (nodes, of
+the time of all their workers; the rest is waiting and the runtime), of uts_mpi.c or of `samples draw run` (tracks; what is
+counted are the kinds of their slices). The last line has the time of the run, and the length of the critical path if the
+file has it. The status is 1 if the file is not in the Trace Event Format.
+"""
+import collections
+import json
+import sys
+from dataclasses import dataclass
+
+from . import event_format
+
+LABELS = {"task": "bodies", "wait": "waiting"}
+
+
+@dataclass(frozen=True)
+class Row:
+    """A thread, a node or a track: its number of tasks, and the microseconds of each kind and in all."""
+
+    name: str
+    tasks: int
+    parts: dict
+    time: float
+
+    def line(self, width, kinds):
+        parts = [self.parts.get(kind, 0.0) for kind in kinds]
+        shares = (part / self.time if self.time else 0.0 for part in (*parts, self.time - sum(parts)))
+        return f"{self.name:{width}} {self.tasks:8}" + "".join(f" {share:>9.1%}" for share in shares)
+
+
+def kind_of(event):
+    kind = event.get("cat") or event["name"].split()[0]
+    return LABELS.get(kind, kind)
+
+
+def rows_of_workers(workers):
+    """Returns the rows of a team's threads, whose sums also have the slices that were lost."""
+    for worker in workers:
+        parts = {"bodies": worker["bodies_us"], "waiting": worker["waiting_us"]}
+        yield Row(f"thread {worker['thread']}", worker["tasks"], parts, sum(parts.values()) + worker["runtime_us"])
+
+
+def rows_of_slices(about, events, elapsed):
+    """Returns the rows of the nodes if the file says how many workers there are, else of the tracks."""
+    names = {(event["name"], event["pid"], event.get("tid", 0)): event["args"].get("name") for event in events if event["ph"] == "M"}
+    processes = {pid: name for (kind, pid, _), name in names.items() if kind == "process_name"}
+    is_by_node, time = "workers" in about, elapsed
+    if is_by_node:
+        time *= about["workers"] * about["nodes"] / max(1, len(processes))
+        keys = {(pid, 0): name for pid, name in processes.items()}
+    else:
+        keys = {(pid, tid): f"{processes.get(pid, pid)}, {name}" for (kind, pid, tid), name in names.items() if kind == "thread_name"}
+    parts, tasks = collections.defaultdict(collections.Counter), collections.Counter()
+    for event in events:
+        if event["ph"] == "X":
+            key, kind = (event["pid"], 0 if is_by_node else event["tid"]), kind_of(event)
+            parts[key][kind] += event["dur"]
+            tasks[key] += kind == "bodies"
+    return [Row(keys.get(key, "without a name"), tasks[key], parts[key], time) for key in sorted({*keys, *parts})]
+
+
+def summary(text):
+    """Returns the lines of the summary of a text in the Trace Event Format."""
+    content = json.loads(text)
+    about, events = content.get("otherData", {}), content["traceEvents"]
+    elapsed = about.get("elapsed_us", max((event["ts"] + event["dur"] for event in events if event["ph"] == "X"), default=0))
+    is_team = isinstance(about.get("workers"), list)
+    rows = list(rows_of_workers(about["workers"]) if is_team else rows_of_slices(about, events, elapsed))
+    kinds = list(dict.fromkeys(kind for row in rows for kind in row.parts))
+    width = max((len(row.name) for row in rows), default=0)
+    heads = [*kinds, "runtime" if is_team else "rest"]
+    lines = [f"{'':{width}} {'tasks':>8}" + "".join(f" {head:>9}" for head in heads), *(row.line(width, kinds) for row in rows)]
+    has_times = not about.get("clock", "").startswith("none")
+    critical = f", of which the critical path takes {about['critical_path_us'] / 1000:.3f} ms" if "critical_path_us" in about else ""
+    lines.append(f"{elapsed / 1000:.3f} ms{critical}" if has_times else f"{elapsed:.0f} events, without times")
+    lost = sum(about.get(f"lost_{things}", 0) for things in ("slices", "bodies", "events"))
+    return [*lines, *([f"{lost} slices or events are not in the file"] if lost else [])]
+
+
+def arguments(parser):
+    parser.add_argument("file", metavar="FILE", help="a file of trace events")
+
+
+def run(options):
+    try:
+        with open(options.file, encoding="utf-8") as file:
+            text = file.read()
+        found = event_format.faults(text, has_one_clock=False, has_numbers=False)
+        if found:
+            sys.exit(f"{options.file}: {found[0]}")
+        print("\n".join(summary(text)))
+    except (OSError, UnicodeError, LookupError, TypeError) as error:
+        sys.exit(f"{options.file}: {error!r}")
+    return 0
