@@ -2,8 +2,9 @@
 
 FOLDER gets the crate NAME, a program with a graph in it that runs this graph by threads and prints the results, and the
 crates of this repository that NAME is built on, without their mutants, with what `make` proved of them. With `--like chain` NAME is a copy of the crate
-chain, a chain of tasks that add; with `--like rod` it is a copy of the rod of pool_stencil, cells in blocks, with the
-program of tools/data/rod_run. A NAME is lowercase letters, digits and _, and no crate of this repository or of the
+chain, a chain of tasks that add; with `--like prefix` of the crate prefix, rows of tasks by a relation and a kernel,
+with a program that reads numbers; with `--like rod` of the rod of pool_stencil, cells in blocks, with the program of
+tools/data/rod_run. A NAME is lowercase letters, digits and _, and no crate of this repository or of the
 toolchain has it. docs/RUNNING-A-POOL.md describes the next steps.
 
 Prints what to type next. The status is 1 if nothing was created, because the folder is not empty or the name is not free.
@@ -20,6 +21,7 @@ from .repository import text_of
 # for each kind: the crate that it copies, and the crate's parts that it takes (all if there is no list)
 KINDS = {
     "chain": ("chain", None),
+    "prefix": ("prefix", None),
     "rod": ("pool_stencil", [
         "src/heat.rt", "src/rod_mix.rt", "src/rod_result.rt", "specs/Heats.antt", "specs/HeatLaws.antt",
         "proofs/Sweeps.antt", "proofs/RodCuts.antt", "proofs/heat", "proofs/rod_mix",
