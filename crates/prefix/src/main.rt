@@ -8,10 +8,14 @@ mod relation;
 mod sums;
 
 use crate::sums::{PrefixFault, prefix_sums};
-use clap::Command;
+use clap::error::ErrorKind;
+use clap::{Command, Error};
 use pool_kernels::GridFault;
+use std::env::Env;
 use std::io;
 use std::process::ExitCode;
+use std::sync::Wait;
+use std::thread::Threads;
 use tp_shell::{arguments, config_of, with_counts, words_of};
 
 fn main(rt: HostRuntime) -> ExitCode {
@@ -22,7 +26,9 @@ fn main(rt: HostRuntime) -> ExitCode {
 }
 
 /// Reads, computes and prints. Returns the exit status, or why reading or writing failed.
-fn run(rt: &HostRuntime) -> io::Result<u8> {
+fn run<R: Threads + Wait + Sync + Env + Input + Print + Eprint + AllocGlobal>(
+    rt: &R,
+) -> io::Result<u8> {
     let alloc = rt.alloc();
     let Ok(arguments) = arguments(rt) else {
         eprintln!(rt; "the arguments cannot be read")?;
@@ -32,10 +38,7 @@ fn run(rt: &HostRuntime) -> io::Result<u8> {
     let command = with_counts(alloc, Command::new(alloc, "prefix"))?;
     let config = match command.try_get_matches_from(&words) {
         Ok(matches) => config_of(&matches),
-        Err(error) => {
-            eprint!(rt; "{error}")?;
-            return Ok(2);
-        }
+        Err(error) => return show(rt, &error),
     };
     let Some(numbers) = numbers_of(rt)? else {
         eprintln!(rt; "a line is no whole number of 64 bits")?;
@@ -56,6 +59,20 @@ fn run(rt: &HostRuntime) -> io::Result<u8> {
         }
     }
     Ok(1)
+}
+
+/// Prints help if the arguments ask for it, and else what is wrong with them. Returns the exit status.
+fn show(rt: &(impl Print + Eprint), error: &Error) -> io::Result<u8> {
+    match error.kind() {
+        ErrorKind::DisplayHelp => {
+            print!(rt; "{error}")?;
+            Ok(0)
+        }
+        _ => {
+            eprint!(rt; "{error}")?;
+            Ok(2)
+        }
+    }
 }
 
 /// Returns the numbers of standard input, one a line, or `None` if a line is no number.

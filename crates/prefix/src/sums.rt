@@ -37,7 +37,15 @@ pub(crate) fn prefix_sums<R: Threads + Wait + Sync>(
         return Err(PrefixFault::TooMany);
     }
     let width = numbers.len() as u32;
-    match run_kernel(rt, alloc, Doubling, Prefix { numbers }, width, rows_for(width), config) {
+    match run_kernel(
+        rt,
+        alloc,
+        Doubling,
+        Prefix { numbers },
+        width,
+        rows_for(width),
+        config,
+    ) {
         Ok(run) => Ok(run.row),
         Err(fault) => Err(PrefixFault::Grid(fault)),
     }
