@@ -1,5 +1,5 @@
 -- Each task of a grid has the value of its cell.
-use Rattle.std.proofs.Common.{◌≡◌, ◌<◌, ◌≤◌, ◌+◌, ◌*◌, ◌/◌, ◌%◌, ℕ, zero, suc, ℤ, List, [], ◌∷◌, Bool, true, false, Option, Some, None}
+use Rattle.std.proofs.Common.{◌≡◌, ◌<◌, ◌≤◌, ◌+◌, ◌*◌, ◌%◌, ℕ, zero, suc, ℤ, List, [], ◌∷◌, Bool, true, false, Option, Some, None}
 use Rattle.std.proofs.Common.{if◌then◌else◌, ap, sym, ◌∙◌, arith}
 use Rattle.std.proofs.lemmas.Nat.{div-mul-add, mod-mul-add, mul-add-lt}
 use Rattle.tp_graph.proofs.Made.{then_some-is}
@@ -7,7 +7,7 @@ use Rattle.tp_graph.proofs.Valued.{gather-same, value-is}
 use Rattle.tp_graph.specs.Graphs.{IsLawful, TaskGraph}
 use Rattle.tp_graph.specs.Values.{all_fit, fitting, gather, then_some, value_of}
 use Rattle.pool_patterns.specs.GridLaws.{grid_lawful}
-use Rattle.pool_patterns.specs.Grids.{IsNarrow, Relation, grid_graph, input, inputs, source}
+use Rattle.pool_patterns.specs.Grids.{IsNarrow, Relation, grid_graph, inputs, source}
 use Rattle.pool_patterns.specs.Ranks.{nth, nth_is, rank}
 use Rattle.pool_kernels.proofs.Gathers.{AreTwo, from_one, from_two, gather-nth, gather_one, gather_two}
 use Rattle.pool_kernels.specs.Kernels.{CellLaw, Rule, cell, computed, kernel_graph, rule_in}

@@ -1,11 +1,10 @@
 -- The values of tasks in a row as one list, and the last row of a grid.
 use Rattle.std.proofs.Common.{◌≡◌, ◌≢◌, ◌<◌, ◌≤◌, ◌+◌, ◌-◌, ◌*◌, ℕ, zero, suc, ℤ, List, [], ◌∷◌, ◌++◌, length, get_or}
-use Rattle.std.proofs.Common.{Option, Some, None, IsTrue}
+use Rattle.std.proofs.Common.{Option, Some, None}
 use Rattle.std.proofs.Common.{refl, ap, sym, ◌∙◌, ⊎_elim, append_assoc, arith}
 use Rattle.std.specs.List.{All, Contains}
 use Rattle.std.proofs.lemmas.Bool.{cases_lt}
 use Rattle.std.proofs.lemmas.List.{append-nil}
-use Rattle.tp_base.specs.declared.TaskId.{TaskId}
 use Rattle.tp_graph.proofs.Left.{results_kept}
 use Rattle.tp_graph.proofs.Made.{gathered, some_same, then_some-is}
 use Rattle.tp_graph.proofs.Valued.{gather-same}

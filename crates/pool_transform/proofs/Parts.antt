@@ -1,10 +1,10 @@
 -- The transform of parts of the numbers, and how that of a part comes from those of its halves.
-use Rattle.std.proofs.Common.{◌≡◌, ◌<◌, ◌+◌, ◌-◌, ◌*◌, ◌/◌, ◌%◌, ◌^◌, ℕ, zero, suc, ℤ, neg_ℤ, ◌+ℤ◌, List, length, bit_and}
+use Rattle.std.proofs.Common.{◌≡◌, ◌<◌, ◌+◌, ◌*◌, ◌/◌, ◌%◌, ◌^◌, ℕ, zero, suc, ℤ, neg_ℤ, ◌+ℤ◌, List, length, bit_and}
 use Rattle.std.proofs.Common.{refl, ap, sym, ◌∙◌, arith}
 use Rattle.std.specs.Int.RustNames.{count_ones}
 use Rattle.std.proofs.Math.IntN.{+ℤ_idl}
 use Rattle.std.proofs.lemmas.Nat.{and_block, and_le_l, div-mul-add, mod-mul-add, mul-add-lt, ones_cat, pow-add}
-use Rattle.pool_blocks.specs.Lists.{at, list_of}
+use Rattle.pool_blocks.specs.Lists.{at}
 use Rattle.pool_kernels.proofs.Rows.{list_same}
 use Rattle.pool_kernels.proofs.Splits.{split, without_is}
 use Rattle.pool_kernels.proofs.Sums.{sum_neg, sum_same, sum_split}

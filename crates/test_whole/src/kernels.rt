@@ -43,17 +43,17 @@ struct Gap;
 
 impl Plan for Gap {
     ghost plan = { λ _. record {
-        tasks = 2;
-        arity = λ t. if t == 1 then 2 else 0;
-        class = λ t. 0;
-        feeds = λ t. if t == 0 then 1 else 0;
-        target = λ t k. 1;
-        slot = λ t k. 0;
-        source = λ t s. 0;
-        turn = λ t s. 0;
-        home = λ t m. 0;
-        rule = λ t inputs. None;
-        keeps = λ t. true;
+      tasks = 2;
+      arity = λ t. if t == 1 then 2 else 0;
+      class = λ t. 0;
+      feeds = λ t. if t == 0 then 1 else 0;
+      target = λ t k. 1;
+      slot = λ t k. 0;
+      source = λ t s. 0;
+      turn = λ t s. 0;
+      home = λ t m. 0;
+      rule = λ t inputs. None;
+      keeps = λ t. true;
     } };
 
     fn tasks(&self) -> u32 {

@@ -27,6 +27,8 @@ mod lent;
 #[cfg(test)]
 mod own;
 #[cfg(test)]
+mod own_values;
+#[cfg(test)]
 mod patterns;
 #[cfg(test)]
 mod pools;
