@@ -1,10 +1,11 @@
 """Creates a folder with a pool of your own, which runs before anything in it is proved.
 
 FOLDER gets the crate NAME, a program with a graph in it that runs this graph by threads and prints the results, and the
-crates of this repository that NAME is built on, without their mutants, with what `make` proved of them. With `--like chain` NAME is a copy of the crate
-chain, a chain of tasks that add; with `--like rod` it is a copy of the rod of pool_stencil, cells in blocks, with the
-program of tools/data/rod_run. A NAME is lowercase letters, digits and _, and no crate of this repository or of the
-toolchain has it. docs/RUNNING-A-POOL.md describes the next steps.
+crates of this repository that NAME is built on, without their mutants, with what `make` proved of them. With
+`--like chain` NAME is a copy of the crate chain, a chain of tasks that add; with `--like prefix` of the crate prefix,
+rows of tasks by a relation and a kernel, with a program that reads numbers; with `--like rod` of the rod of
+pool_stencil, cells in blocks, with the program of tools/data/rod_run. A NAME is lowercase letters, digits and _, and no
+crate of this repository or of the toolchain has it. docs/RUNNING-A-POOL.md describes the next steps.
 
 Prints what to type next. The status is 1 if nothing was created, because the folder is not empty or the name is not free.
 """
@@ -20,6 +21,7 @@ from .repository import text_of
 # for each kind: the crate that it copies, and the crate's parts that it takes (all if there is no list)
 KINDS = {
     "chain": ("chain", None),
+    "prefix": ("prefix", None),
     "rod": ("pool_stencil", [
         "src/heat.rt", "src/rod_mix.rt", "src/rod_result.rt", "specs/Heats.antt", "specs/HeatLaws.antt",
         "proofs/Sweeps.antt", "proofs/RodCuts.antt", "proofs/heat", "proofs/rod_mix",
@@ -27,8 +29,11 @@ KINDS = {
 }
 # what a copy of a part gets besides: the program and the lists of its modules
 PROGRAM = {"rod": "tools/data/rod_run"}
-# the line of crates.txt, if it is not the copied crate's
-BELOW = {"rod": " may_wait=2: tp_base tp_graph pool_blocks tp_work"}
+# the line of crates.txt, if it is not the copied crate's (a graph of one's own can be checked by pool_kernels)
+BELOW = {
+    "chain": " may_wait=2: tp_base tp_graph tp_work pool_blocks pool_patterns pool_kernels",
+    "rod": " may_wait=2: tp_base tp_graph pool_blocks tp_work",
+}
 KEYWORDS = set(
     "abstract as async await become box break const continue crate do dyn else ensures enum extern false final fn for"
     " ghost if impl in let loop macro match mod move mut override priv pub ref requires return self static struct super"

@@ -21,9 +21,13 @@ mod grids;
 #[cfg(test)]
 mod hindered;
 #[cfg(test)]
+mod kernels;
+#[cfg(test)]
 mod lent;
 #[cfg(test)]
 mod own;
+#[cfg(test)]
+mod own_values;
 #[cfg(test)]
 mod patterns;
 #[cfg(test)]

@@ -1,0 +1,117 @@
+-- What is gathered of the numbers below another.
+use Rattle.std.proofs.Common.{◌≡◌, ◌≢◌, ◌<◌, ◌≤◌, ℕ, zero, suc, Bool, true, false, List, [], ◌∷◌, ◌++◌, Option, Some, None, if◌then◌else◌}
+use Rattle.std.proofs.Common.{eqb, refl, ap, sym, ◌∙◌, ⊎_elim, arith}
+use Rattle.std.proofs.lemmas.Bool.{cases_eq, cases_lt, eq-eqb, ne_eqb}
+use Rattle.tp_graph.proofs.Valued.{gather-same}
+use Rattle.tp_graph.specs.Values.{gather, then_some}
+use Rattle.pool_patterns.specs.Ranks.{rank, nth}
+use Rattle.pool_kernels.specs.Kernels.{gather_where}
+
+-- one more at the end
+abbrev pub and_then : {A : Type 0} → Option (List A) → Option A → Option (List A)
+and_then xs x = then_some xs (λ before. then_some x (λ last. Some (before ++ last ∷ [])))
+
+more_step : {A : Type 0} (o : Option A) (p : Option (List A)) (q : Option A)
+    → then_some o (λ first. then_some (and_then p q) (λ rest. Some (first ∷ rest)))
+    ≡ and_then (then_some o (λ first. then_some p (λ rest. Some (first ∷ rest)))) q
+more_step None p q = refl
+more_step (Some a) None q = refl
+more_step (Some a) (Some b) None = refl
+more_step (Some a) (Some b) (Some c) = refl
+
+pub gather-more : {A : Type 0} (n : ℕ) (f : ℕ → Option A) → gather (suc n) f ≡ and_then (gather n f) (f n)
+gather-more zero f = refl
+gather-more (suc n) f =
+    ap (λ o. then_some (f 0) (λ first. then_some o (λ rest. Some (first ∷ rest)))) (gather-more n (λ s. f (suc s)))
+    ∙ more_step (f 0) (gather n (λ s. f (suc s))) (f (suc n))
+
+-- the numbers below n that have f, by their ranks
+nth_step : {A : Type 0} (f : ℕ → Bool) (v : ℕ → Option A) (n : ℕ) (b : Bool)
+    → gather (rank f n) (λ s. v (nth f n s)) ≡ gather_where f v n
+    → gather (if b then suc (rank f n) else rank f n) (λ s. v (if b then (if eqb s (rank f n) then n else nth f n s) else nth f n s))
+    ≡ (if b then and_then (gather_where f v n) (v n) else gather_where f v n)
+nth_step f v n true before =
+    let m : ℕ = rank f n in
+    gather-more m (λ s. v (if eqb s m then n else nth f n s))
+    ∙ ap (λ o. and_then o (v (if eqb m m then n else nth f n m)))
+    (gather-same m (λ s. v (if eqb s m then n else nth f n s)) (λ s. v (nth f n s))
+    (λ s h. ap (λ b. v (if b then n else nth f n s)) (ne_eqb s m (λ e. absurd (omega (arith, e, h))))) ∙ before)
+    ∙ ap (λ b. and_then (gather_where f v n) (v (if b then n else nth f n m))) (eq-eqb m m refl)
+nth_step f v n false before = before
+
+pub gather-nth : {A : Type 0} (f : ℕ → Bool) (v : ℕ → Option A) (n : ℕ) → gather (rank f n) (λ s. v (nth f n s)) ≡ gather_where f v n
+gather-nth f v zero = refl
+gather-nth f v (suc n) = nth_step f v n (f n) (gather-nth f v n)
+
+-- ---- where none, one or two numbers have f
+abbrev with_last : {A : Type 0} → (ℕ → Bool) → (ℕ → Option A) → ℕ → Bool → Option (List A)
+with_last f v n b = if b then and_then (gather_where f v n) (v n) else gather_where f v n
+
+not_true : (b : Bool) → (b ≡ true → ⊥) → b ≡ false
+not_true true h = absurd (h refl)
+not_true false h = refl
+
+pub gather_none : {A : Type 0} (f : ℕ → Bool) (v : ℕ → Option A) (n : ℕ) → ((j : ℕ) → j < n → f j ≡ true → ⊥) → gather_where f v n ≡ Some []
+gather_none f v zero h = refl
+gather_none f v (suc n) h =
+    ap (with_last f v n) (not_true (f n) (h n (omega arith))) ∙ gather_none f v n (λ j q. h j (omega (arith, q)))
+
+pub gather_one : {A : Type 0} (f : ℕ → Bool) (v : ℕ → Option A) (n a : ℕ) → a < n → f a ≡ true
+    → ((j : ℕ) → j < n → f j ≡ true → j ≡ a) → gather_where f v n ≡ then_some (v a) (λ x. Some (x ∷ []))
+gather_one f v zero a h e only = absurd (omega arith)
+gather_one f v (suc n) a h e only =
+    ⊎_elim
+    (λ (lower : a < n).
+    ap (with_last f v n) (not_true (f n) (λ t. absurd (omega (arith, only n (omega arith) t, lower))))
+    ∙ gather_one f v n a lower e (λ j q. only j (omega (arith, q))))
+    (λ (last : n ≤ a).
+    let same : a ≡ n = omega arith in
+    ap (with_last f v n) (ap f (sym same) ∙ e)
+    ∙ ap (λ o. and_then o (v n)) (gather_none f v n (λ j q t. absurd (omega (arith, only j (omega (arith, q)) t, q, last))))
+    ∙ ap (λ k. then_some (v k) (λ x. Some (x ∷ []))) (sym same))
+    (cases_lt a n)
+
+-- the two in rising order
+pub record AreTwo (f : ℕ → Bool) (n a b : ℕ) : Type 0 where
+  pub rise : a < b
+  pub below : b < n
+  pub first : f a ≡ true
+  pub second : f b ≡ true
+  pub only : (j : ℕ) → j < n → f j ≡ true → (j ≢ a) → j ≡ b
+
+pub gather_two : {A : Type 0} (f : ℕ → Bool) (v : ℕ → Option A) (n a b : ℕ) → AreTwo f n a b
+    → gather_where f v n ≡ and_then (then_some (v a) (λ x. Some (x ∷ []))) (v b)
+gather_two f v zero a b two = absurd (omega (arith, two.below))
+gather_two f v (suc n) a b two =
+    ⊎_elim
+    (λ (lower : b < n).
+    ap (with_last f v n) (not_true (f n) (λ t.
+    absurd (omega (arith, two.only n (omega arith) t (λ e. absurd (omega (arith, e, lower, two.rise))), lower))))
+    ∙ gather_two f v n a b (record {
+      rise = two.rise;
+      below = lower;
+      first = two.first;
+      second = two.second;
+      only = λ j q. two.only j (omega (arith, q));
+    }))
+    (λ (last : n ≤ b).
+    let same : b ≡ n = omega (arith, two.below, last) in
+    ap (with_last f v n) (ap f (sym same) ∙ two.second)
+    ∙ ap (λ o. and_then o (v n))
+    (gather_one f v n a (omega (arith, two.rise, same)) two.first (λ j q t.
+    ⊎_elim (λ (e : j ≡ a). e) (λ (e : j ≢ a). absurd (omega (arith, two.only j (omega (arith, q)) t e, same, q))) (cases_eq j a)))
+    ∙ ap (λ k. and_then (then_some (v a) (λ x. Some (x ∷ []))) (v k)) (sym same))
+    (cases_lt b n)
+
+-- what there is if something is computed from one, or two, that are gathered
+pub from_one : {A B : Type 0} (o : Option A) (k : List A → Option B) (y : B)
+    → then_some (then_some o (λ x. Some (x ∷ []))) k ≡ Some y → (a : A) × (o ≡ Some a) × (k (a ∷ []) ≡ Some y)
+from_one None k y e = absurd (cc)
+from_one (Some a) k y e = (a, refl, e)
+
+pub from_two : {A B : Type 0} (o p : Option A) (k : List A → Option B) (y : B)
+    → then_some (and_then (then_some o (λ x. Some (x ∷ []))) p) k ≡ Some y
+    → (a : A) × (b : A) × (o ≡ Some a) × (p ≡ Some b) × (k (a ∷ b ∷ []) ≡ Some y)
+from_two None p k y e = absurd (cc)
+from_two (Some a) None k y e = absurd (cc)
+from_two (Some a) (Some b) k y e = (a, b, refl, refl, e)

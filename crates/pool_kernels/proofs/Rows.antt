@@ -1,0 +1,133 @@
+-- The values of tasks in a row as one list, and the last row of a grid.
+use Rattle.std.proofs.Common.{◌≡◌, ◌≢◌, ◌<◌, ◌≤◌, ◌+◌, ◌-◌, ◌*◌, ℕ, zero, suc, ℤ, List, [], ◌∷◌, ◌++◌, length, get_or}
+use Rattle.std.proofs.Common.{Option, Some, None}
+use Rattle.std.proofs.Common.{refl, ap, sym, ◌∙◌, ⊎_elim, append_assoc, arith}
+use Rattle.std.specs.List.{All, Contains}
+use Rattle.std.proofs.lemmas.Bool.{cases_lt}
+use Rattle.std.proofs.lemmas.List.{append-nil}
+use Rattle.tp_graph.proofs.Left.{results_kept}
+use Rattle.tp_graph.proofs.Made.{gathered, some_same, then_some-is}
+use Rattle.tp_graph.proofs.Valued.{gather-same}
+use Rattle.tp_graph.specs.Found.{HasEachOnce}
+use Rattle.tp_graph.specs.Graphs.{TaskGraph}
+use Rattle.tp_graph.specs.Left.{AreKept, AreResults}
+use Rattle.tp_graph.specs.Serial.{Results}
+use Rattle.tp_graph.specs.Values.{gather, then_some, value_of}
+use Rattle.pool_blocks.specs.Lists.{list_of}
+use Rattle.pool_patterns.proofs.Found.{has_one}
+use Rattle.pool_patterns.proofs.LastRow.{last_kept}
+use Rattle.pool_patterns.specs.Grids.{IsNarrow, Relation, grid_graph}
+use Rattle.pool_kernels.proofs.Cells.{cell_is}
+use Rattle.pool_kernels.proofs.Gathers.{and_then, gather-more}
+use Rattle.pool_kernels.specs.Joined.{KeepsFrom, LacksTask, numbers_from}
+use Rattle.pool_kernels.specs.Kernels.{Rule, cell, in_a_row, kernel_graph, row_at, rule_in}
+
+-- ---- the values of tasks in a row
+row_append : (xs ys : List (List ℤ)) → in_a_row (xs ++ ys) ≡ in_a_row xs ++ in_a_row ys
+row_append [] ys = refl
+row_append (x ∷ xs) ys = ap (λ l. x ++ l) (row_append xs ys) ∙ sym (append_assoc x (in_a_row xs) (in_a_row ys))
+
+abbrev joining : Option (List (List ℤ)) → Option (List ℤ)
+joining values = then_some values (λ all. Some (in_a_row all))
+
+one_more : (o : Option (List (List ℤ))) (all value : List ℤ) → joining o ≡ Some all
+    → joining (and_then o (Some value)) ≡ Some (all ++ value)
+one_more None all value e = absurd (cc)
+one_more (Some values) all value e =
+    let same : in_a_row values ≡ all = some_same e in
+    ap Some (row_append values (value ∷ []) ∙ ap (λ l. l ++ (value ++ [])) same ∙ ap (λ l. all ++ l) (append-nil value))
+
+-- the next task's numbers
+pub joined_more : (g : TaskGraph) (first i : ℕ) (all value : List ℤ) → value_of g (first + i) ≡ Some value
+    → numbers_from g first i ≡ Some all → numbers_from g first (i + 1) ≡ Some (all ++ value)
+joined_more g first i all value is before =
+    let next : i + 1 ≡ suc i = omega arith in
+    ap (numbers_from g first) next
+    ∙ ap joining (gather-more i (λ k. value_of g (first + k)) ∙ ap (and_then (gather i (λ k. value_of g (first + k)))) is)
+    ∙ one_more (gather i (λ k. value_of g (first + k))) all value before
+
+-- one more task has a result
+pub more_there : (first i : ℕ) (results : Results) (value : List ℤ) → Contains results (record { 0 = first + i }, value)
+    → ((place : ℕ) → place < i → All (λ r. r.0.0 ≢ first + place) results → ⊥)
+    → (place : ℕ) → place < i + 1 → All (λ r. r.0.0 ≢ first + place) results → ⊥
+more_there first i results value found before place h none =
+    ⊎_elim
+    (λ (earlier : place < i). before place earlier none)
+    (λ (now : i ≤ place).
+    let same : first + i ≡ first + place = omega (arith, now, h) in
+    none found.0 (record { 0 = first + i }, value) found.1 (ap (λ r. r.0.0) found.2 ∙ same))
+    (cases_lt place i)
+
+-- results with one of each task lack none
+pub none_lacks : (tasks first count : ℕ) (results : Results) → HasEachOnce tasks results → first + count ≤ tasks
+    → LacksTask first count results → ⊥
+none_lacks tasks first count results once inside lack =
+    has_one tasks (first + lack.place) results once (omega (arith, lack.within, inside)) lack.none
+
+-- ---- the last row of a grid
+pub last_row : (r : Relation) (rule : Rule) (w steps : ℕ) → IsNarrow r w steps → 1 ≤ steps
+    → numbers_from (kernel_graph r rule w steps) ((steps - 1) * w) w ≡ row_at r rule w (steps - 1)
+last_row r rule w steps narrow some =
+    ap joining (gather-same w (λ i. value_of (kernel_graph r rule w steps) ((steps - 1) * w + i)) (cell r rule w (steps - 1))
+    (λ i h. cell_is r rule w steps narrow (steps - 1) i (omega (arith, some)) h))
+
+-- the row of a run, from the numbers of its last tasks
+pub run_row : (r : Relation) (rule : Rule) (w steps first count : ℕ) (results : Results) (row : List ℤ) → IsNarrow r w steps → 1 ≤ steps
+    → first ≡ (steps - 1) * w → count ≡ w → AreResults (kernel_graph r rule w steps) results
+    → ((g : TaskGraph) → AreKept g results → KeepsFrom g first count → numbers_from g first count ≡ Some row)
+    → row_at r rule w (steps - 1) ≡ Some row
+run_row r rule w steps first count results row narrow some place whole right made =
+    let g : TaskGraph = kernel_graph r rule w steps in
+    sym (last_row r rule w steps narrow some)
+    ∙ ap (λ m. numbers_from g m w) (sym place) ∙ ap (numbers_from g first) (sym whole)
+    ∙ made g (results_kept g results right) (λ i h. last_kept r w steps (rule_in rule w) (first + i) i (ap (λ m. m + i) place))
+
+-- each of the last tasks has a result
+pub run_whole : (r : Relation) (rule : Rule) (w steps first count : ℕ) (results : Results) → 1 ≤ steps
+    → first ≡ (steps - 1) * w → count ≡ w → HasEachOnce (kernel_graph r rule w steps).tasks results → LacksTask first count results → ⊥
+unfolding grid_graph
+run_whole r rule w steps first count results some place whole once lack =
+    let next : steps - 1 + 1 ≡ steps = omega (arith, some) in
+    let last : (steps - 1 + 1) * w ≡ steps * w = ap (λ m. m * w) next in
+    none_lacks (steps * w) first count results once (omega (arith, place, whole, last)) lack
+
+-- ---- a row of blocks of one size
+pub list_same : (n : ℕ) (f g : ℕ → ℤ) → ((e : ℕ) → e < n → f e ≡ g e) → list_of n f ≡ list_of n g
+list_same zero f g h = refl
+list_same (suc n) f g h =
+    ap (λ x. x ∷ list_of n (λ e. f (suc e))) (h 0 (omega arith))
+    ∙ ap (λ l. g 0 ∷ l) (list_same n (λ e. f (suc e)) (λ e. g (suc e)) (λ e q. h (suc e) (omega (arith, q))))
+
+list_plus : (m n : ℕ) (f : ℕ → ℤ) → list_of m f ++ list_of n (λ e. f (m + e)) ≡ list_of (m + n) f
+list_plus zero n f =
+    let same : 0 + n ≡ n = omega arith in
+    list_same n (λ e. f (0 + e)) f (λ e q. let here : 0 + e ≡ e = omega arith in ap f here) ∙ ap (λ k. list_of k f) (sym same)
+list_plus (suc m) n f =
+    let same : suc m + n ≡ suc (m + n) = omega arith in
+    ap (λ l. f 0 ∷ l) (ap (λ l. list_of m (λ e. f (suc e)) ++ l) (list_same n (λ e. f (suc m + e)) (λ e. f (suc (m + e)))
+    (λ e q. let here : suc m + e ≡ suc (m + e) = omega arith in ap f here)) ∙ list_plus m n (λ e. f (suc e)))
+    ∙ ap (λ k. list_of k f) (sym same)
+
+concat_blocks : (values : List (List ℤ)) (size : ℕ) (f : ℕ → ℤ)
+    → ((i : ℕ) → i < length values → get_or values i [] ≡ list_of size (λ e. f (i * size + e)))
+    → in_a_row values ≡ list_of (length values * size) f
+concat_blocks [] size f h = let none : 0 * size ≡ 0 = omega arith in ap (λ k. list_of k f) (sym none)
+concat_blocks (x ∷ xs) size f h =
+    let all : size + length xs * size ≡ suc (length xs) * size = omega arith in
+    ap (λ l. l ++ in_a_row xs) (h 0 (omega arith) ∙ list_same size (λ e. f (0 * size + e)) f
+    (λ e q. let here : 0 * size + e ≡ e = omega arith in ap f here))
+    ∙ ap (λ l. list_of size f ++ l) (concat_blocks xs size (λ e. f (size + e)) (λ i q. h (suc i) (omega (arith, q))
+    ∙ list_same size (λ e. f (suc i * size + e)) (λ e. f (size + (i * size + e)))
+    (λ e p. let here : suc i * size + e ≡ size + (i * size + e) = omega arith in ap f here)))
+    ∙ list_plus size (length xs * size) f ∙ ap (λ k. list_of k f) all
+
+-- If each column of a row that has a value has one block of a list, the row is the list.
+pub row_of_blocks : (r : Relation) (rule : Rule) (w t size : ℕ) (f : ℕ → ℤ) (row : List ℤ)
+    → ((i : ℕ) (value : List ℤ) → i < w → cell r rule w t i ≡ Some value → value ≡ list_of size (λ e. f (i * size + e)))
+    → row_at r rule w t ≡ Some row → row ≡ list_of (w * size) f
+row_of_blocks r rule w t size f row each e =
+    let made = then_some-is (gather w (cell r rule w t)) (λ values. Some (in_a_row values)) row e in
+    let all = gathered w (cell r rule w t) made.0 [] made.1 in
+    sym (some_same made.2)
+    ∙ concat_blocks made.0 size f (λ i h. each i (get_or made.0 i []) (omega (arith, h, all.0)) (all.1 i (omega (arith, h, all.0))))
+    ∙ ap (λ n. list_of (n * size) f) all.0

@@ -1,0 +1,10 @@
+pub mod Kernels
+pub mod Joined
+pub mod Numbers
+pub mod Sums
+pub mod Doubles
+pub mod Digits
+pub mod Pairs
+pub mod GridFaults
+pub mod Plans
+pub mod Marks

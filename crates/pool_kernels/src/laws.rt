@@ -1,0 +1,17 @@
+//! What the tasks of a grid compute, and what a check of a graph means, as laws: calls whose postconditions are theorems.
+ghost use Rattle.pool_kernels.specs.Kernels.{CellLaw};
+ghost use Rattle.pool_kernels.specs.Plans.{LawfulIsSound, SoundIsLawful};
+
+/// States that the value of each task of a grid is what its kernel computes from the values of the columns that feed it.
+#[tactic(auto, using(crate::proofs::Cells::cell_value))]
+pub fn cells_are_values()
+    ensures { CellLaw }
+{}
+
+/// States that a lawful graph is in order at 1 to 8 nodes. If a graph is in order at each of them, there are ways back
+/// from its slots with which it is lawful.
+#[tactic(auto, using(crate::proofs::Sound::lawful_sound, crate::proofs::Sound::sound_lawful))]
+pub fn sound_graphs_are_lawful()
+    ensures sound { LawfulIsSound }
+    ensures lawful { SoundIsLawful }
+{}

@@ -1,0 +1,91 @@
+//! Running a kernel on threads.
+ghost use Rattle.std.specs.Prelude.{◌≡◌, ◌-◌, IfOk, IfErr, OnOk, Some};
+ghost use Rattle.pool_patterns.specs.Faults.{HasNoFault};
+ghost use Rattle.pool_patterns.specs.RunFaults.{IsPatternFault};
+ghost use Rattle.pool_kernels.specs.GridFaults.{IsGridFault};
+ghost use Rattle.pool_kernels.specs.Kernels.{kernel_graph, row_at};
+ghost use Rattle.tp_work.specs.Outcomes.{IsOutcome, IsWithinLimits};
+
+use crate::fault::GridFault;
+use crate::grid::KernelGrid;
+use crate::joining::joined;
+use crate::kernel::Kernel;
+use pool_patterns::{FeedTable, PatternFault, Relation};
+use std::alloc::Global;
+use std::sync::Wait;
+use std::thread::Threads;
+use tp_base::Refusal;
+use tp_work::{Config, OpenGate, Outcome, run_pool};
+
+/// The result of a run of a kernel.
+#[derive(Drop)]
+pub struct GridRun {
+    /// The numbers of the last row, column after column.
+    pub row: Vec<i64>,
+    /// The outcome of the pool: the values of the last row, the numbers of tasks and messages, and the events.
+    pub outcome: Outcome,
+}
+
+/// Returns the last row of a grid and the outcome, computed by a pool of threads. Refused with `Run` and the fault of
+/// [`run_pool`] if the pool was refused, and with `Unmade` and its outcome if the allocation of the row failed.
+pub fn run_grid<P: Relation + Send + Sync, K: Kernel, R: Threads + Wait + Sync>(
+    rt: &R,
+    alloc: Global,
+    grid: &KernelGrid<P, K>,
+    config: Config,
+) -> Result<GridRun, PatternFault>
+    requires { IsWithinLimits config }
+    ensures row { IfOk result (λ run.
+        row_at (P.relation grid.now.table.now.pattern grid.now.table.now.width) (K.rule grid.now.kernel) grid.now.table.now.width
+        (grid.now.table.now.steps - 1) ≡ Some run.row.items) }
+    ensures outcome { IfOk result (λ run. IsOutcome config.nodes config.workers
+        (kernel_graph (P.relation grid.now.table.now.pattern grid.now.table.now.width) (K.rule grid.now.kernel)
+        grid.now.table.now.width grid.now.table.now.steps) run.outcome) }
+    ensures refused { IfErr result (IsPatternFault config.nodes config.workers
+        (kernel_graph (P.relation grid.now.table.now.pattern grid.now.table.now.width) (K.rule grid.now.kernel)
+        grid.now.table.now.width grid.now.table.now.steps)) }
+{
+    let (width, steps) = (grid.width(), grid.steps());
+    match run_pool(rt, alloc, grid.copied(), config, &OpenGate) {
+        Ok(outcome) => match joined(alloc, &outcome.results, (steps - 1) * width, width) {
+            Ok(row) => Ok(GridRun { row, outcome }),
+            Err(refusal) => match refusal {
+                Refusal::NoMemory => Err(PatternFault::Unmade(outcome)),
+                // In a pool that ended each task has a result, so none is missing.
+                _ => unreachable!(),
+            },
+        },
+        Err(fault) => Err(PatternFault::Run(fault)),
+    }
+}
+
+/// Returns the last row of the grid of `steps` rows of `width` columns over a relation, in which each task computes the
+/// kernel, and the outcome of its pool. Refused with `Table` if there is no table of the grid ([`FeedTable::new`]), and
+/// else with `Run`, as [`run_grid`] is refused.
+pub fn run_kernel<P: Relation + Send + Sync, K: Kernel, R: Threads + Wait + Sync>(
+    rt: &R,
+    alloc: Global,
+    pattern: P,
+    kernel: K,
+    width: u32,
+    steps: u32,
+    config: Config,
+) -> Result<GridRun, GridFault>
+    requires { IsWithinLimits config }
+    ensures row { IfOk result (λ run.
+        row_at (P.relation pattern width) (K.rule kernel) width (steps - 1) ≡ Some run.row.items) }
+    ensures outcome { IfOk result (λ run. IsOutcome config.nodes config.workers
+        (kernel_graph (P.relation pattern width) (K.rule kernel) width steps) run.outcome) }
+    ensures no_fault { OnOk result (HasNoFault (P.relation pattern width) width steps) }
+    ensures refused { IfErr result
+        (IsGridFault config.nodes config.workers (P.relation pattern width) (K.rule kernel) width steps) }
+{
+    let table = match FeedTable::new(alloc, pattern, width, steps) {
+        Ok(table) => table,
+        Err(fault) => return Err(GridFault::Table(fault)),
+    };
+    match run_grid(rt, alloc, &KernelGrid::new(&table, kernel), config) {
+        Ok(run) => Ok(run),
+        Err(fault) => Err(GridFault::Run(fault)),
+    }
+}

@@ -1,0 +1,32 @@
+//! Running the transform on threads.
+ghost use Rattle.std.specs.Prelude.{◌≡◌, ◌+◌, ◌^◌, IfErr, IfOk};
+ghost use Rattle.pool_kernels.specs.Digits.{butterfly};
+ghost use Rattle.pool_kernels.specs.GridFaults.{IsGridFault};
+ghost use Rattle.pool_kernels.specs.Pairs.{pair_rule};
+ghost use Rattle.pool_transform.specs.Transforms.{summed, transform};
+ghost use Rattle.tp_work.specs.Outcomes.{IsWithinLimits};
+
+use crate::sums::SumOrDifference;
+use pool_kernels::{GridFault, PairedBlocks, run_pairs};
+use std::alloc::Global;
+use std::sync::Wait;
+use std::thread::Threads;
+use tp_work::Config;
+
+/// Returns the transform of the numbers, computed by a pool of threads. Refused as [`run_pairs`] is.
+pub fn transformed<R: Threads + Wait + Sync>(
+    rt: &R,
+    alloc: Global,
+    blocks: PairedBlocks<SumOrDifference>,
+    config: Config,
+) -> Result<Vec<i64>, GridFault>
+    requires { IsWithinLimits config }
+    ensures made { IfOk result (λ made. made.items ≡ transform blocks.entry.numbers.now) }
+    ensures refused { IfErr result (IsGridFault config.nodes config.workers butterfly
+        (pair_rule summed blocks.entry.numbers.now blocks.entry.inner) (2 ^ blocks.entry.outer) (blocks.entry.outer + 1)) }
+{
+    match run_pairs(rt, alloc, blocks, config) {
+        Ok(made) => Ok(made),
+        Err(fault) => Err(fault),
+    }
+}
