@@ -1,7 +1,7 @@
 -- The results of the calls on a pool of task graphs meet their contracts.
-use Rattle.std.proofs.Common.{ℕ, ◌≡◌, ◌≢◌, ◌≤◌, ◌+◌, length, Bool, true, false, List, [], ◌∷◌, refl, arith, ap, sym, subst, ◌∙◌, Some, None, Option, Result, IsTrue, IsFalse, inl}
+use Rattle.std.proofs.Common.{ℕ, ◌≡◌, ◌≢◌, ◌≤◌, ◌+◌, length, Bool, List, [], ◌∷◌, refl, arith, ap, sym, subst, ◌∙◌, Some, None, Option, Result, IsTrue, IsFalse, inl}
 use Rattle.std.proofs.lemmas.Bool.{both_ways}
-use Rattle.std.specs.Prelude.{Ok, Err, IfSome, not, slice_get, if◌then◌else◌}
+use Rattle.std.specs.Prelude.{Ok, Err, IfSome, not, slice_get}
 use Rattle.tp_base.specs.declared.Refusal.{Refusal}
 use Rattle.tp_base.specs.declared.Refusal.TheVariants as refusal
 use Rattle.tp_base.specs.Checks.{Check, first_refusal}
@@ -276,7 +276,8 @@ pub input_done : (p : Inside) (now : SlotState) (pool : PoolState) (source : ℕ
 input_done p now pool source same live check added done waits =
     subst (λ (a : SlotState). IsInput a source (plain 0 0) (state_of (record p { pool = pool }))) same (record {
       checked = open_refuses (state_of p) (state_of (record p { pool = pool })) (input_checks p.pool source) (plain 0 0)
-          (ap (λ (a : SlotState). a.is_open) same ∙ live) (none_refused {A = Unit {0}} (first_refusal (input_checks p.pool source)) tt _ check);
+          (ap (λ (a : SlotState). a.is_open) same ∙ live)
+          (none_refused {A = Unit {0}} (first_refusal (input_checks p.pool source)) tt _ check);
       added = λ z. added;
       done = λ z. done;
       waits = λ z. waits;

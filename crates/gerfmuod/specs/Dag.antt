@@ -136,7 +136,8 @@ IsRefusalBy tests a r = (first_refusal tests ≡ Some r) ⊎ IsTrue (is_of_room 
 
 pub record IsNext (old : SlotState) (node : ℕ) (a : DagAnswer) (new : SlotState) : Type 0 where
   pub checked : RefusesBy (checks old (next_checks old.pool node)) old a new
-  pub exact : IsTrue old.is_open → 1 ≤ a.refused → (r : Refusal) × (a.refused ≡ number_of r) × IsRefusalBy (next_checks old.pool node) old.pool r
+  pub exact : IsTrue old.is_open → 1 ≤ a.refused → (r : Refusal) × (a.refused ≡ number_of r)
+      × IsRefusalBy (next_checks old.pool node) old.pool r
   pub run : a.told ≡ 1 → IsDispatched node a.number old.pool new.pool
   pub finished : a.told ≡ 3 → IsFinished new.pool
   pub wait : a.told ≡ 2 → IsIdle node new.pool × AddsOnly is_delivery old.pool new.pool
@@ -147,7 +148,8 @@ pub record IsNext (old : SlotState) (node : ℕ) (a : DagAnswer) (new : SlotStat
 
 pub record IsDone (old : SlotState) (node task : ℕ) (a : DagAnswer) (new : SlotState) : Type 0 where
   pub checked : RefusesBy (checks old (done_checks old.pool node task)) old a new
-  pub exact : IsTrue old.is_open → 1 ≤ a.refused → (r : Refusal) × (a.refused ≡ number_of r) × IsRefusalBy (done_checks old.pool node task) old.pool r
+  pub exact : IsTrue old.is_open → 1 ≤ a.refused → (r : Refusal) × (a.refused ≡ number_of r)
+      × IsRefusalBy (done_checks old.pool node task) old.pool r
   pub done : a.refused ≡ 0 → IsCompleted task old.pool new.pool
   pub refused : 1 ≤ a.refused → AddsOnly is_sending old.pool new.pool
   pub ways : AreSent task old.pool new.pool

@@ -96,7 +96,8 @@ gerfmuod_dag_open_spec 𝓤 𝓛 𝓜 𝓡 wired =
     await ! tt $ pick ! (λ q. split ! $ split ! $ drop ! $ move ! (1 ∷ []) $ pick ! (λ ws'. split ! $ drop ! $ heard ! _ (λ can.
     -- [the code; the pool; the locals]
     move ! (1 ∷ []) $
-    use1 𝓛 (raw (ex 𝓤 (λ (new : SlotState). sep 𝓤 (types.Logic.sem 𝓛 (lies_at R full_share (block_ptr b o) new)) (fact 𝓤 (IsOpening k true q new)))))
+    use1 𝓛 (raw (ex 𝓤 (λ (new : SlotState). sep 𝓤 (types.Logic.sem 𝓛 (lies_at R full_share (block_ptr b o) new))
+    (fact 𝓤 (IsOpening k true q new)))))
     (lies_so 𝓛 R (block_ptr b o) (IsOpening k true q) r (record { code = can; opened = is })) $
     move ! (1 ∷ []) $
     peeks ! u32 (Is u32) (shows 𝓛 u32) q (u ∷ []) (λ truth.

@@ -1,6 +1,6 @@
 use Rattle.std.proofs.Common.{subst, sym, ◌∙◌}
 use Rattle.gerfmuod.specs.declared.dag.answer.DagAnswer.{DagAnswer}
-use Rattle.gerfmuod.specs.Dag.{SlotState, IsAgainCall}
+use Rattle.gerfmuod.specs.Dag.{IsAgainCall}
 use Rattle.gerfmuod.specs.DagSlot.{state_of}
 use Rattle.gerfmuod.proofs.DagAnswers.{again_done, again_refused, opens}
 use Rattle.gerfmuod.proofs.dag.calls.again.Goals.{in-Ok, in-Err}

@@ -1,6 +1,6 @@
 use Rattle.std.proofs.Common.{subst, sym, ◌∙◌}
 use Rattle.gerfmuod.specs.declared.dag.answer.DagAnswer.{DagAnswer}
-use Rattle.gerfmuod.specs.Dag.{SlotState, IsDone}
+use Rattle.gerfmuod.specs.Dag.{IsDone}
 use Rattle.gerfmuod.specs.DagSlot.{state_of}
 use Rattle.gerfmuod.proofs.DagAnswers.{done_done, done_refused, done_shut, opens}
 use Rattle.gerfmuod.proofs.dag.calls.done.Goals.{in-Ok, in-Err}

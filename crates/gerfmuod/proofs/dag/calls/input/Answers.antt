@@ -1,6 +1,6 @@
 use Rattle.std.proofs.Common.{subst, sym, ◌∙◌}
 use Rattle.gerfmuod.specs.declared.dag.answer.DagAnswer.{DagAnswer}
-use Rattle.gerfmuod.specs.Dag.{SlotState, IsInput}
+use Rattle.gerfmuod.specs.Dag.{IsInput}
 use Rattle.gerfmuod.specs.DagSlot.{state_of}
 use Rattle.gerfmuod.proofs.DagAnswers.{input_done, input_refused, opens}
 use Rattle.gerfmuod.proofs.dag.calls.input.Goals.{in-Ok, in-Err}

@@ -1,6 +1,6 @@
-use Rattle.std.proofs.Common.{subst, sym, ◌∙◌, true, false, IsTrue, ◌≡◌, Bool, refl}
+use Rattle.std.proofs.Common.{subst, sym, ◌∙◌}
 use Rattle.gerfmuod.specs.declared.dag.answer.DagAnswer.{DagAnswer}
-use Rattle.gerfmuod.specs.Dag.{SlotState, IsNext}
+use Rattle.gerfmuod.specs.Dag.{IsNext}
 use Rattle.gerfmuod.specs.DagSlot.{state_of}
 use Rattle.gerfmuod.proofs.DagAnswers.{next_done, next_refused, next_shut, opens}
 use Rattle.gerfmuod.proofs.dag.calls.next.Goals as goal
