@@ -1,7 +1,7 @@
 """Draws the pictures of runs in docs/figures: of stored traces, with bin/samples, of a page, and of a run of Cholesky.
 
 `tools/dev try samples` compares the pictures of traces with what the program draws unproved. The page is a screenshot of
-Chromium (`tools/page-packages` prints the package). Cholesky (capi/dag/cholesky.c) runs with lib/libgerfmuod.a, over OpenBLAS
+Chromium (`tools/page-packages` prints the packages). Cholesky (capi/dag/cholesky.c) runs with lib/libgerfmuod.a, over OpenBLAS
 if that is installed; of a few runs, the fastest is drawn. Prints a line for each picture. The status is 1 if one could not be
 drawn; without Chromium, or without a library that was built from these sources, its picture is left as it is.
 """
@@ -112,7 +112,7 @@ def run(options):
         else:
             is_well = False
         print(f"{path_of(name)}: {'drawn' if process.returncode == picture.status else f'status {process.returncode}'}")
-    no_browser = "" if program() else "Chromium is missing (tools/page-packages prints the package)"
+    no_browser = "" if program() else "Chromium is missing (tools/page-packages prints the packages)"
     is_well &= draw_optional(PAGE, no_browser, lambda: draw_page(options.samples))
     no_library = "" if options.library else library.reason_not_built()
     is_well &= draw_optional(CHOLESKY, no_library and f"{no_library} (make lib builds it)", lambda: draw_cholesky(options.library or "lib"))

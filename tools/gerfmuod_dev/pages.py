@@ -4,7 +4,7 @@ Has the program write 40 random runs as events. Each file has to be as the Trace
 task, message and wave of the trace has to be in it once, and its events have to be those of a second writer
 (trace_events.py). Then the programs run with `--profile FILE`: each file has to have each task of the run once, in time, and
 counters that rise to the numbers of the run (run_profiles.py), and `tools/dev summary` has to find them. If Chromium is
-installed (`tools/page-packages` prints the package), opens the page of a run of 100,000 events in it, zooms, moves, searches,
+installed (`tools/page-packages` prints the packages), opens the page of a run of 100,000 events in it, zooms, moves, searches,
 and holds the pointer over a task, a message and a wave, in light and dark colours, and opens the pages of the short runs;
 none may report an error. A viewer of Chromium's DevTools has to find the slices of all files (viewer.py). The last line is
 `N passed, M failed`; the status is 1 if one failed.
@@ -231,7 +231,7 @@ def run(options):
         check_events(tally, texts, outputs)
         profiles = run_profiles.check(tally, folder, output)
     if not program():
-        print("Chromium is missing (tools/page-packages prints the package): the page was not tried.")
+        print("Chromium is missing (tools/page-packages prints the packages): the page was not tried.")
     elif PAGE in outputs:
         page = outputs.pop(PAGE)
         check_page(tally, page, texts.values())
