@@ -1,4 +1,4 @@
-use Rattle.std.proofs.Common.{◌≡◌, ◌<◌, ◌+◌, ◌-◌, ◌*◌, ◌^◌, ℤ, List, Option, MatchResult, Some, suc, ap, sym, ◌∙◌, subst, arith}
+use Rattle.std.proofs.Common.{◌≡◌, ◌+◌, ◌-◌, ◌*◌, ◌^◌, ℤ, List, Option, MatchResult, Some, suc, ap, sym, ◌∙◌, subst, arith}
 use Rattle.tp_graph.specs.Values.{IsRefusal}
 use Rattle.pool_blocks.specs.Lists.{at}
 use Rattle.pool_kernels.specs.Digits.{digit, without}

@@ -1,4 +1,4 @@
-use Rattle.std.proofs.Common.{◌≡◌, ◌<◌, ◌+◌, ◌++◌, Some, refl, ap, sym, ◌∙◌, subst, inr, arith}
+use Rattle.std.proofs.Common.{◌+◌, ◌++◌, Some, refl, ap, sym, ◌∙◌, subst, inr, arith}
 use Rattle.tp_graph.specs.Found.{ArePlaces}
 use Rattle.pool_kernels.proofs.Rows.{joined_more, more_there}
 use Rattle.pool_kernels.proofs.joining.joined.Goals as goal

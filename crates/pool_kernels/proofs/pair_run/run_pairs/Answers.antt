@@ -1,4 +1,4 @@
-use Rattle.std.proofs.Common.{◌≡◌, ◌+◌, ◌-◌, ◌^◌, ap, ◌∙◌, arith}
+use Rattle.std.proofs.Common.{◌+◌, ◌-◌, ◌^◌, ap, ◌∙◌, arith}
 use Rattle.pool_kernels.proofs.PairedRows.{last_row_paired}
 use Rattle.pool_kernels.proofs.pair_run.run_pairs.Goals as goal
 

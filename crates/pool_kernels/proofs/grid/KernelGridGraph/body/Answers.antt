@@ -1,5 +1,4 @@
-use Rattle.std.proofs.Common.{◌≤◌, ◌<◌, ◌*◌, ◌/◌, ◌%◌, length, arith}
-use Rattle.std.proofs.lemmas.Nat.{div_below}
+use Rattle.std.proofs.Common.{arith}
 use Rattle.pool_kernels.proofs.Cells.{kernel_lawful}
 use Rattle.pool_kernels.proofs.grid.KernelGridGraph.body.Goals as goal
 
