@@ -1,1 +1,1 @@
-pub mod Sums
+pub mod RowSums

@@ -3,6 +3,9 @@
 //! the input are at fault, and 3 if reading or writing fails.
 #![tactic(auto)]
 
+ghost use Rattle.std.specs.Prelude.{IfOk};
+ghost use Rattle.tp_work.specs.Outcomes.{IsWithinLimits};
+
 mod kernel;
 mod relation;
 mod sums;
@@ -17,6 +20,7 @@ use std::process::ExitCode;
 use std::sync::Wait;
 use std::thread::Threads;
 use tp_shell::{arguments, config_of, with_counts, words_of};
+use tp_work::Config;
 
 fn main(rt: HostRuntime) -> ExitCode {
     match run(&rt) {
@@ -29,36 +33,26 @@ fn main(rt: HostRuntime) -> ExitCode {
 fn run<R: Threads + Wait + Sync + Env + Input + Print + Eprint + AllocGlobal>(
     rt: &R,
 ) -> io::Result<u8> {
-    let alloc = rt.alloc();
+    match config_asked(rt)? {
+        Ok(config) => sum_up(rt, config),
+        Err(status) => Ok(status),
+    }
+}
+
+/// Returns the numbers of nodes and workers, or the exit status if the arguments ask for help or are at fault.
+fn config_asked<R: Env + Print + Eprint + AllocGlobal>(rt: &R) -> io::Result<Result<Config, u8>>
+    ensures { IfOk result (λ asked. IfOk asked IsWithinLimits) }
+{
     let Ok(arguments) = arguments(rt) else {
         eprintln!(rt; "the arguments cannot be read")?;
-        return Ok(2);
+        return Ok(Err(2));
     };
-    let words = words_of(alloc, &arguments)?;
-    let command = with_counts(alloc, Command::new(alloc, "prefix"))?;
-    let config = match command.try_get_matches_from(&words) {
-        Ok(matches) => config_of(&matches),
-        Err(error) => return show(rt, &error),
-    };
-    let Some(numbers) = numbers_of(rt)? else {
-        eprintln!(rt; "a line is no whole number of 64 bits")?;
-        return Ok(2);
-    };
-    match prefix_sums(rt, alloc, &numbers, config) {
-        Ok(sums) => {
-            for sum in &sums {
-                println!(rt; "{sum}")?;
-            }
-            return Ok(0);
-        }
-        Err(PrefixFault::TooMany) => eprintln!(rt; "there are 1,048,576 numbers or more")?,
-        Err(PrefixFault::Grid(GridFault::Table(fault))) => eprintln!(rt; "no grid: {fault:?}")?,
-        Err(PrefixFault::Grid(GridFault::Run(fault))) => {
-            let refusal = fault.refusal();
-            eprintln!(rt; "refused {} {}", refusal.number(), refusal.name())?;
-        }
+    let words = words_of(rt.alloc(), &arguments)?;
+    let command = with_counts(rt.alloc(), Command::new(rt.alloc(), "prefix"))?;
+    match command.try_get_matches_from(&words) {
+        Ok(matches) => Ok(Ok(config_of(&matches))),
+        Err(error) => Ok(Err(show(rt, &error)?)),
     }
-    Ok(1)
 }
 
 /// Prints help if the arguments ask for it, and else what is wrong with them. Returns the exit status.
@@ -75,6 +69,23 @@ fn show(rt: &(impl Print + Eprint), error: &Error) -> io::Result<u8> {
     }
 }
 
+/// Reads the numbers, and prints their sums, or why there are none. Returns the exit status.
+fn sum_up<R: Threads + Wait + Sync + Input + Print + Eprint + AllocGlobal>(
+    rt: &R,
+    config: Config,
+) -> io::Result<u8>
+    requires { IsWithinLimits config }
+{
+    let Some(numbers) = numbers_of(rt)? else {
+        eprintln!(rt; "a line is no whole number of 64 bits")?;
+        return Ok(2);
+    };
+    match prefix_sums(rt, rt.alloc(), &numbers, config) {
+        Ok(sums) => print_all(rt, &sums),
+        Err(fault) => complain(rt, &fault),
+    }
+}
+
 /// Returns the numbers of standard input, one a line, or `None` if a line is no number.
 fn numbers_of(rt: &(impl Input + AllocGlobal)) -> io::Result<Option<Vec<i64>>> {
     let mut numbers = Vec::new(rt.alloc());
@@ -85,4 +96,25 @@ fn numbers_of(rt: &(impl Input + AllocGlobal)) -> io::Result<Option<Vec<i64>>> {
         }
     }
     Ok(Some(numbers))
+}
+
+/// Prints numbers, one a line. Returns the exit status.
+fn print_all(rt: &impl Print, numbers: &[i64]) -> io::Result<u8> {
+    for number in numbers {
+        println!(rt; "{number}")?;
+    }
+    Ok(0)
+}
+
+/// Prints why there are no sums. Returns the exit status.
+fn complain(rt: &impl Eprint, fault: &PrefixFault) -> io::Result<u8> {
+    match fault {
+        PrefixFault::TooMany => eprintln!(rt; "there are 1,048,576 numbers or more")?,
+        PrefixFault::Grid(GridFault::Table(fault)) => eprintln!(rt; "no grid: {fault:?}")?,
+        PrefixFault::Grid(GridFault::Run(fault)) => {
+            let refusal = fault.refusal();
+            eprintln!(rt; "refused {} {}", refusal.number(), refusal.name())?;
+        }
+    }
+    Ok(1)
 }

@@ -7,7 +7,7 @@ use pool_patterns::Relation;
 #[derive(Clone, Copy)]
 pub(crate) struct Doubling;
 
-#[tactic(auto, using(crate::proofs::Sums::too_far))]
+#[tactic(auto, using(crate::proofs::RowSums::too_far))]
 impl Relation for Doubling {
     ghost relation = { λ _ _. doubling };
 

@@ -1,4 +1,4 @@
-use Rattle.prefix.proofs.Sums.{sums_are}
+use Rattle.prefix.proofs.RowSums.{sums_are}
 use Rattle.prefix.proofs.sums.prefix_sums.Goals as goal
 
 pub returns-in-Ok-clause-sums : goal.returns-in-Ok-clause-sums
