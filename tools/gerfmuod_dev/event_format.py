@@ -112,13 +112,13 @@ class Track:
         return any(at < end or begin == at for begin, end, first in reversed(self.slices[:last]) if begin < at or first < place)
 
 
-def flow_faults(flows, tracks, has_one_clock, has_numbers):
+def flow_faults(flows, tracks, has_one_clock):
     """Yields what is wrong with the ends of flows, which are given with their places in the file."""
     ends = collections.defaultdict(lambda: {"s": [], "f": []})
     for place, event in flows:
         at = nanoseconds(event["ts"])
         ends[event["cat"], event["name"], event["id"]][event["ph"]].append(at)
-        if has_numbers and not is_number_of_flow(event["id"]):
+        if not is_number_of_flow(event["id"]):
             yield f"the id of a flow is no number: {event}"
         if not tracks[event["pid"], event["tid"]].has(at, place):
             yield f"an end of a flow that is in no slice: {event}"
@@ -129,11 +129,11 @@ def flow_faults(flows, tracks, has_one_clock, has_numbers):
             yield f"flow {flow} ends before it begins: {found}"
 
 
-def faults(text, has_one_clock=True, has_numbers=True):
+def faults(text, has_one_clock=True):
     """Returns what is wrong with a text, as lines; none if it is as the format has it.
 
     If the times come from several clocks, flows may end before they begin. The format allows any text as the id of a flow,
-    but some importers only take numbers, so other texts are a fault unless they are expected.
+    but some importers only take numbers, so other texts are a fault.
     """
     try:
         content = json.loads(text, object_pairs_hook=once, parse_constant=no_number)
@@ -146,10 +146,10 @@ def faults(text, has_one_clock=True, has_numbers=True):
         found.append(f"the unit of time is {content['displayTimeUnit']}")
     events = content["traceEvents"]
     found += [fault for event in events for fault in field_faults(event)]
-    return found or placing_faults(events, has_one_clock, has_numbers)
+    return found or placing_faults(events, has_one_clock)
 
 
-def placing_faults(events, has_one_clock, has_numbers):
+def placing_faults(events, has_one_clock):
     """Returns what is wrong with where events whose fields are valid are shown."""
     tracks, flows, names = collections.defaultdict(Track), [], collections.Counter()
     for place, event in enumerate(events):
@@ -162,7 +162,7 @@ def placing_faults(events, has_one_clock, has_numbers):
             flows.append((place, event))
     found = [fault for track in tracks.values() for fault in track.faults()]
     found += [f"{name} comes {count} times" for name, count in names.items() if count > 1]
-    return [*found, *flow_faults(flows, tracks, has_one_clock, has_numbers)]
+    return [*found, *flow_faults(flows, tracks, has_one_clock)]
 
 
 def spoiled(text):

@@ -95,12 +95,11 @@ def check_events(tally, texts, outputs):
         expected = events_of(trace)
         is_same = found.get("otherData") == expected["otherData"] and sorted(map(str, events)) == sorted(map(str, expected["traceEvents"]))
         tally.judge(is_same, f"{name}: the second writer has other events for this trace: {trace}")
-        # (the id of a message is a text: its generation and its number)
-        faults = event_format.faults(outputs.get(name, ""), has_numbers=False)
+        faults = event_format.faults(outputs.get(name, ""))
         tally.judge(not faults, f"{name}: not in the Trace Event Format: {faults[:3]}")
         total.update(category for _, category, _, _ in things)
     for number, text in enumerate(event_format.spoiled(outputs[SPOILED]) if SPOILED in outputs else ()):
-        tally.judge(event_format.faults(text, has_numbers=False), f"fault {number} of trace events was not found")
+        tally.judge(event_format.faults(text), f"fault {number} of trace events was not found")
     print(f"{len(texts)} runs as events: {total['task']} tasks, {total['message']} ends of messages, {total['wave']} waves", flush=True)
 
 

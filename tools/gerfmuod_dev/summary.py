@@ -87,7 +87,7 @@ def run(options):
     try:
         with open(options.file, encoding="utf-8") as file:
             text = file.read()
-        found = event_format.faults(text, has_one_clock=False, has_numbers=False)
+        found = event_format.faults(text, has_one_clock=False)
         if found:
             sys.exit(f"{options.file}: {found[0]}")
         print("\n".join(summary(text)))

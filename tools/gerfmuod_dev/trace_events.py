@@ -61,12 +61,12 @@ class Writer:
     def send(self, node, to, message, *_):
         self.sent[node] += 1
         self.add("X", node, "send", message, dur=1)
-        self.add("s", node, "message", message, id=f"{self.generation}.{message}", args={"to": to})
+        self.add("s", node, "message", message, id=self.generation * 1_000_000 + message, args={"to": to})
 
     def recv(self, node, message, *_):
         self.received[node] += 1
         self.add("X", node, "recv", message, dur=1)
-        self.add("f", node, "message", message, id=f"{self.generation}.{message}", bp="e")
+        self.add("f", node, "message", message, id=self.generation * 1_000_000 + message, bp="e")
         self.count(node, 1)
 
     def give(self, node):

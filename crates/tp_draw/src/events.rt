@@ -198,11 +198,9 @@ fn push_flow(
     };
     let slice = step_head("X", node, event, step, message.0);
     let flow = step_head(kind, node, event, "message", message.0);
-    write!(
-        out,
-        r#"{slice},"dur":1}}{flow},"id":"{}.{}""#,
-        generation.0, message.0
-    )?;
+    // (importers take numbers; a message of a trace has at most six digits)
+    let id = u64::from(generation.0) * 1_000_000 + u64::from(message.0);
+    write!(out, r#"{slice},"dur":1}}{flow},"id":{id}"#)?;
     match to {
         Some(to) => write!(out, r#","args":{{"to":{}}}}}"#, to.0),
         None => out.push_str(r#","bp":"e"}"#),
