@@ -293,6 +293,9 @@ class Exceptions(unittest.TestCase):
             self.assertRaises(Refused, pool.run, 1)
 
     def test_an_interrupt_stops_the_pool(self):
+        # (a shell lets its background processes ignore interrupts)
+        before = signal.signal(signal.SIGINT, signal.default_int_handler)
+        self.addCleanup(signal.signal, signal.SIGINT, before)
         pool, ran = Pool(), []
         first = pool.task(signal.raise_signal, signal.SIGINT)
         pool.task(ran.append, first)
@@ -301,6 +304,21 @@ class Exceptions(unittest.TestCase):
 
 
 class Traces(unittest.TestCase):
+    def test_a_pool_without_a_trace_runs_as_one_with_it(self):
+        for traced in (True, False):
+            with Pool(2, traced=traced) as pool:
+                numbers = [pool.task(int, place, node=place % 2) for place in range(20)]
+                total = pool.task(lambda *all_of_them: sum(all_of_them), *numbers)
+                for _ in range(2):
+                    pool.run(2)
+                    self.assertEqual(total.result, 190)
+                    self.assertEqual(pool.trace().startswith("trace 1\nnodes 2\n"), traced)
+                    self.assertEqual(bool(pool.trace()), traced)
+                    pool.again()
+
+    def test_a_pool_without_a_trace_has_1_to_8_nodes(self):
+        self.assertRaises(Refused, Pool, 9, traced=False)
+
     def test_a_trace_has_each_task_and_message(self):
         pool = Pool(2)
         a = pool.task(int)
