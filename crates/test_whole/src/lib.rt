@@ -39,6 +39,8 @@ mod readers;
 #[cfg(test)]
 mod refused_runs;
 #[cfg(test)]
+mod series_faults;
+#[cfg(test)]
 mod several;
 #[cfg(test)]
 mod terminal;
