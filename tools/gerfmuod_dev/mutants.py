@@ -221,11 +221,24 @@ def groups_in(crate, names):
     return together.groups_of(filter(None, places))
 
 
+def check(crate, room):
+    """Checks a crate in a copy, which keeps what it proved there."""
+    streams = {"stdin": subprocess.DEVNULL, "stdout": subprocess.DEVNULL, "stderr": subprocess.DEVNULL}
+    subprocess.run(["rt", "check", "--jobs=1"], cwd=f"{room}/crates/{crate.name}", check=True, **streams)
+
+
+def check_taken_over(crates, places, copies):
+    """Checks those crates whose library was taken over from another checkout of this machine: no copy has what a check of them keeps."""
+    left = [crate for crate in crates if not any(os.path.exists(places[crate.name, room]) for room in copies)]
+    in_copies(copies, [functools.partial(check, crate) for crate in left])
+
+
 def try_all(crates, top, copies):
     """Tries the mutants of crates that are proved in these copies, the longest crate first; returns whether each was killed. Those of
     different functions are tried in one check, and then those that survived it each in a check of its own."""
     proved, verdicts = {crate.name: f"{top}/kept/{crate.name}" for crate in crates}, {crate.name: Verdicts(crate) for crate in crates}
     places = {(crate.name, room): f"{room}/crates/{crate.name}/out/incremental" for crate in crates for room in copies}
+    check_taken_over(crates, places, copies)
     for name, place in proved.items():
         found = [places[name, room] for room in copies if os.path.exists(places[name, room])]
         renew(max(found, key=os.path.getmtime), place)
