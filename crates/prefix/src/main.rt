@@ -1,6 +1,6 @@
 //! Reads whole numbers from standard input, one a line, and prints their prefix sums, computed by a pool of threads.
-//! The options `--nodes` and `--workers` take 1 to 8. The status is 1 if there are no sums, 2 if the arguments or
-//! the input are at fault, and 3 if reading or writing fails.
+//! The options `--nodes` and `--workers` take 1 to 8. The status is 1 if there are no sums, 2 if the arguments or the
+//! input are at fault, and 3 if reading or writing fails, or memory runs out there.
 #![tactic(auto)]
 
 ghost use Rattle.std.specs.Prelude.{IfOk};
