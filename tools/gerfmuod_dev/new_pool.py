@@ -29,11 +29,8 @@ KINDS = {
 }
 # what a copy of a part gets besides: the program and the lists of its modules
 PROGRAM = {"rod": "tools/data/rod_run"}
-# the line of crates.txt, if it is not the copied crate's (a graph of one's own can be checked by pool_kernels)
-BELOW = {
-    "chain": " may_wait=2: tp_base tp_graph tp_work pool_blocks pool_patterns pool_kernels",
-    "rod": " may_wait=2: tp_base tp_graph pool_blocks tp_work",
-}
+# the line of crates.txt, if it is not the copied crate's
+BELOW = {"rod": " may_wait=2: tp_base tp_graph pool_blocks tp_work"}
 KEYWORDS = set(
     "abstract as async await become box break const continue crate do dyn else ensures enum extern false final fn for"
     " ghost if impl in let loop macro match mod move mut override priv pub ref requires return self static struct super"

@@ -1,4 +1,5 @@
-//! Runs a chain of four tasks at two nodes with two threads each, and prints each task with its value.
+//! Runs a chain of four tasks at two nodes with two threads each, and prints each task with its value. Before that it
+//! checks that the tasks and feeds are in order, for a graph of your own whose laws are not proved yet.
 #![tactic(auto)]
 
 ghost use Rattle.std.specs.Prelude.{IfErr, IfOk};
@@ -10,6 +11,7 @@ ghost use Rattle.tp_work.specs.Outcomes.{IsFault, IsWithinLimits};
 mod graph;
 
 use crate::graph::Chain;
+use pool_kernels::check_graph;
 use std::alloc::Global;
 use std::io;
 use std::sync::Wait;
@@ -19,7 +21,11 @@ use tp_graph::{Value, in_order};
 use tp_work::{Config, Fault, OpenGate, run_pool};
 
 fn main(rt: HostRuntime) -> io::Result<()> {
-    match run_chain(&rt, rt.alloc(), 4, Config::new(2, 2)) {
+    let (length, config) = (4, Config::new(2, 2));
+    if let Err(fault) = check_graph(rt.alloc(), &Chain { length }, config.nodes) {
+        return println!(rt; "not in order: {fault:?}");
+    }
+    match run_chain(&rt, rt.alloc(), length, config) {
         Ok(results) => {
             for (task, value) in &results {
                 if let Ok(number) = value.lone() {
