@@ -1,7 +1,7 @@
 //! Reserving memory, so that later steps do not have to allocate.
-ghost use Rattle.std.specs.Prelude.{◌≡◌, ◌≤◌, ◌<◌, ◌+◌, IfErr, IfOk, OnErr, length, max, vec_capacity};
+ghost use Rattle.std.specs.Prelude.{◌≡◌, ◌≤◌, ◌<◌, ◌+◌, ℕ, IfErr, IfOk, OnErr, OnOk, length, max, vec_capacity};
 ghost use Rattle.tp_base.specs.declared.limits.TheConstants.{MAX_STEPS};
-ghost use Rattle.tp_core.specs.Kept.{GrowsFrugally, end_reserved};
+ghost use Rattle.tp_core.specs.Kept.{GrowsFrugally, HasPieces, end_reserved};
 
 use super::{Core, PIECE};
 use std::alloc::AllocError;
@@ -34,7 +34,10 @@ fn reserve_room(steps: &mut Vec<Step>, more: usize) -> Result<u32, AllocError>
     requires full { length steps.old.items ≤ MAX_STEPS }
     requires few { more < 4294967296 }
     ensures items { steps.new.items ≡ steps.old.items }
-    ensures room { IfOk result (λ end. (end ≡ end_reserved (length steps.old.items) more) × (end ≤ vec_capacity steps.new)) }
+    ensures end { IfOk result (λ end. end ≡ end_reserved (length steps.old.items) more) }
+    ensures room { IfOk result (λ end. end ≤ vec_capacity steps.new) }
+    // The list has the pieces of all these steps.
+    ensures pieces { OnOk result ((k : ℕ) → k ≤ length steps.old.items + more → k ≤ MAX_STEPS → HasPieces k (vec_capacity steps.new)) }
     ensures frugal { IfOk result (λ end. GrowsFrugally (length steps.old.items) (max (vec_capacity steps.old) end) (vec_capacity steps.new)) }
     ensures kept { OnErr result (vec_capacity steps.new ≡ vec_capacity steps.old) }
 {

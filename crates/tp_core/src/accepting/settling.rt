@@ -1,5 +1,5 @@
 //! Settling: taking control steps until termination is detected.
-ghost use Rattle.std.specs.Prelude.{◌≡◌, ◌≤◌, ◌<◌, ◌+◌, ◌*◌, OnOk, IfErr, length, reverse, vec_len, vec_capacity};
+ghost use Rattle.std.specs.Prelude.{◌≡◌, ◌≢◌, ◌≤◌, ◌<◌, ◌+◌, ◌*◌, Err, OnOk, IfErr, length, reverse, vec_len, vec_capacity};
 ghost use Rattle.tp_base.specs.declared.limits.TheConstants.{MAX_STEPS};
 ghost use Rattle.tp_base.specs.Checks.{first_refusal};
 ghost use Rattle.tp_wave.specs.Wave.{nodes_of};
@@ -63,7 +63,7 @@ fn make_rooms(steps: &mut Vec<Step>, more: usize) -> Result<(), Refusal>
     ensures kept { HasPieces (length steps.old.items) (vec_capacity steps.new) }
     ensures frugal { GrowsFrugally (length steps.old.items) (vec_capacity steps.old) (vec_capacity steps.new) }
     // In pieces for which there is room, memory does not run out.
-    ensures ample { IfErr result (λ r. r ≡ Refusal.NoMemory → vec_capacity steps.old < length steps.old.items + more + PIECE) }
+    ensures ample { HasPieces (length steps.old.items + more) (vec_capacity steps.old) → result ≢ Err Refusal.NoMemory }
     ensures err { IfErr result
         (IsRefusedFor (first_refusal (rooms_check (length steps.old.items) more)) (ends_before (length steps.old.items) more)) }
 {
