@@ -9,11 +9,11 @@ use tp_base::{MAX_STEPS, Refusal, Step};
 
 impl Core {
     /// Reserves memory for `steps` more steps, for tasks with numbers below `tasks`, and for messages with numbers below
-    /// `messages`. It takes no step. At most 1,048,576 steps in all are reserved, and numbers below 1,048,576.
+    /// `messages`. It takes no step. Steps beyond 1,048,576 in all, and numbers from 1,048,576 on, are ignored.
     ///
-    /// `step` and `settle` then allocate nothing, and so are not refused with `NoMemory`, while the list of steps is
-    /// shorter than this, tasks and messages have such numbers, and no action is opened by name. `reopen` keeps the room
-    /// for steps. It drops the places of tasks and messages, so these have to be reserved again.
+    /// Until that many more steps are taken, `step` and `settle` allocate nothing, so they are not refused with
+    /// `NoMemory`, except at a task or a message with a higher number, or at an action that is opened by name. A
+    /// reopening keeps the room for steps, and drops the places of tasks and messages: reserve these again after it.
     ///
     /// Refused with `NoMemory` if an allocation fails. What was reserved until then stays reserved.
     pub fn reserve(&mut self, steps: u32, tasks: u32, messages: u32) -> Result<(), Refusal>
