@@ -58,6 +58,7 @@ struct Parts {
 #[derive(Clone, Copy)]
 enum Call {
     TableInsert(u32),
+    TableReserve(u32),
     HistoryReserve(u32),
     LinkPut(u32),
     StoreInsert(u32),
@@ -67,6 +68,9 @@ enum Call {
     CoreSettle,
     /// Settles the core, which fills a piece of the list of its steps.
     CoreToEnd,
+    CoreReserve(u32, u32),
+    /// Takes steps that fit into the memory that the core reserved.
+    CoreWithin,
     BuilderMake(usize),
     BuilderPush(i64),
     BuilderExtend(&'static [i64]),
@@ -122,6 +126,7 @@ impl Parts {
     fn answer(&mut self, alloc: Global, call: Call) -> Result<u32, Refusal> {
         match call {
             Call::TableInsert(number) => done(self.table.insert(number, number)),
+            Call::TableReserve(count) => done(self.table.reserve(count)),
             Call::HistoryReserve(room) => reserve(&mut self.history, room),
             Call::LinkPut(number) => put(&mut self.link, number),
             Call::StoreInsert(task) => self.store.insert(TaskId(task), 1).map(|()| 0),
@@ -137,6 +142,10 @@ impl Parts {
             Call::CoreRun(step) => run_one(alloc, &mut self.core, step),
             Call::CoreSettle => self.core.settle().map(|(wave, _)| wave),
             Call::CoreToEnd => to_end(&mut self.core),
+            Call::CoreReserve(steps, numbers) => {
+                self.core.reserve(steps, numbers, numbers).map(|()| 0)
+            }
+            Call::CoreWithin => within(&mut self.core),
             Call::BuilderMake(count) => {
                 self.builder = ValueBuilder::with_capacity(alloc, count)?;
                 DONE
@@ -278,6 +287,43 @@ fn to_end(core: &mut Core) -> Result<u32, Refusal> {
     DONE
 }
 
+/// Takes the six steps of a task at node 0 and of a message to node 1, both with this number, in the third generation.
+fn take_both(core: &mut Core, number: u32, inputs: Inputs) -> Result<(), Refusal> {
+    let (task, message, third) = (TaskId(number), MessageId(number), Generation(3));
+    let steps = [
+        Step::Insert(NodeId(0), task, inputs),
+        Step::Begin(task),
+        Step::Done(task),
+        Step::Send(NodeId(0), NodeId(1), message, third),
+        Step::Recv(NodeId(1), message, third),
+        Step::MessageEnd(NodeId(1), message, third),
+    ];
+    for step in steps {
+        core.step(step)?;
+    }
+    Ok(())
+}
+
+/// Takes the steps of 200 tasks and 200 messages, which are in four pages each, and settles: 1,202 steps and those of two
+/// waves. The core has reserved memory for them, so it is `Missing` if they need more.
+fn within(core: &mut Core) -> Result<u32, Refusal> {
+    let none = Inputs::new(0).ok_or(Refusal::BadSpec)?;
+    for number in 0..200 {
+        if take_both(core, number, none) == Err(Refusal::NoMemory) {
+            return Err(Refusal::Missing);
+        }
+    }
+    for step in [Step::Ready(NodeId(0)), Step::Ready(NodeId(1))] {
+        if core.step(step) == Err(Refusal::NoMemory) {
+            return Err(Refusal::Missing);
+        }
+    }
+    match core.settle() {
+        Err(Refusal::NoMemory) => Err(Refusal::Missing),
+        settled => settled.map(|(wave, _)| wave),
+    }
+}
+
 fn run_one(alloc: Global, core: &mut Core, step: Step) -> Result<u32, Refusal> {
     let answers = core.run(alloc, &[step])?;
     match answers.first() {
@@ -354,7 +400,7 @@ fn first_wrong<R: Eprint>(
 #[test]
 fn memory_that_is_refused_changes_nothing(rt: HostRuntime) -> Result<(), Fail> {
     let one = Inputs::new(1).ok_or("one input")?;
-    let rows: [Row; 35] = [
+    let rows: [Row; 38] = [
         ("Table::insert of a near number", Call::TableInsert(7), DONE),
         ("Table::insert into its page", Call::TableInsert(8), DONE),
         (
@@ -367,6 +413,7 @@ fn memory_that_is_refused_changes_nothing(rt: HostRuntime) -> Result<(), Fail> {
             Call::TableInsert(4_000_000_000),
             DONE,
         ),
+        ("Table::reserve", Call::TableReserve(300), DONE),
         ("History::reserve", Call::HistoryReserve(1), DONE),
         (
             "History::reserve of pieces",
@@ -446,6 +493,12 @@ fn memory_that_is_refused_changes_nothing(rt: HostRuntime) -> Result<(), Fail> {
             "Core::step of reopen with a piece",
             Call::CoreStep(Step::Reopen),
             Ok(3),
+        ),
+        ("Core::reserve", Call::CoreReserve(1_220, 200), DONE),
+        (
+            "Core::step and Core::settle within reserved memory",
+            Call::CoreWithin,
+            Ok(1),
         ),
         ("ValueBuilder::push", Call::BuilderPush(8), DONE),
         // the new room has no number yet

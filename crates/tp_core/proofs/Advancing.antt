@@ -4,7 +4,7 @@ use Rattle.tp_core.proofs.Words.{ap, sym, arith, IsTrue, IsFalse, IsOk, Ok, Err,
 use Rattle.tp_core.proofs.Words.{if◌then◌else◌, Refusal, Step, Start, Down, Give, Up, Judge, MAX_STEPS, MAX_NODES, Sums, Inside}
 use Rattle.tp_core.proofs.Words.{NodeNumbers, World, Wave, Follows, Reply, WaveSums, Plain, HasWaves, Advances, over_of, judged}
 use Rattle.tp_core.proofs.Words.{judgement, is_ended, is_send_of, is_recv_at, is_control, present, under_way_after, after}
-use Rattle.tp_core.proofs.Words.{accepted, IsKept, HasPieces, IsFrugal, IsTold, IsLawful, MayCome, refusal_of, reply_to}
+use Rattle.tp_core.proofs.Words.{accepted, IsKept, HasPieces, GrowsFrugally, IsTold, IsLawful, MayCome, refusal_of, reply_to}
 use Rattle.tp_core.proofs.Bounds.{count_bound}
 use Rattle.tp_core.proofs.Exact.{exact}
 use Rattle.tp_core.proofs.Generations.{length-present, no_reopening}
@@ -58,14 +58,14 @@ waves_of agree = record {
 
 pub agree_control : {c : Inside} {mid : List Step} {room : ℕ} (s : Step) (steps : Vec Step Global) (wave : Wave) → IsTrue (is_control s)
     → IsKept c → refusal_of c.nodes (accepted c).steps s ≡ None → length c.steps.items < MAX_STEPS
-    → HasPieces (length c.steps.items + 1) room → IsFrugal (length c.steps.items) room
+    → HasPieces (length c.steps.items + 1) room → GrowsFrugally (length c.steps.items) (vec_capacity c.steps) room
     → mid ≡ c.steps.items → steps.items ≡ mid ++ s ∷ [] → vec_capacity steps ≡ room
     → Follows c.nodes (s ∷ present (accepted c).steps) wave → IsKept (record c { steps = steps; wave = wave })
-agree_control {c} s steps wave control agree none room pieces frugal stay pushed capacity follows =
+agree_control {c} s steps wave control agree none room pieces grows stay pushed capacity follows =
     let comes = exact c.nodes (accepted c).steps s none in
     let on = no_reopening s control in
     let left : NodeNumbers = record { pending = c.left; sent = 0; received = 0 } in
-    agree_after s agree comes on room pieces frugal refl refl stay pushed capacity
+    agree_after s agree comes on room pieces grows refl refl refl stay pushed capacity
     (numbers_stay s agree.numbers (comes.goes_on on).0 (λ x. moved_stays s x control))
     (sym (ap (λ (x : NodeNumbers). x.pending) (moved_stays s left control))) (sym (under_stays s c.under control))
     (rw (world_stays s _ control) agree.tasks) (rw (world_stays s _ control) agree.actions) (rw (world_stays s _ control) agree.messages)

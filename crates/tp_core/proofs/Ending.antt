@@ -5,9 +5,9 @@ use Rattle.tp_core.proofs.Words.{nat_tests, length-reverse, Vec, vec_capacity, l
 use Rattle.tp_core.proofs.Words.{Judge, MAX_STEPS, first_refusal, waves, is_ended, is_control, nodes_of, Follows, Wave, Inside}
 use Rattle.tp_core.proofs.Words.{NodeNumbers, World, IsQuiet, is_quiet, present, generation, world, IsLawful, IsLawfulRun, AreRuns}
 use Rattle.tp_core.proofs.Words.{Accepted, IsRefusedFor, world_of, accepted, Agree, IsKept, HasActions, HasMessages, HasNumbers, HasPieces}
-use Rattle.tp_core.proofs.Words.{HasPlaces, HasTasks, IsFrugal, all_left, settle_checks, rooms_check, ends_before, IsSettled, AreTaken}
+use Rattle.tp_core.proofs.Words.{HasPlaces, HasTasks, GrowsFrugally, all_left, settle_checks, rooms_check, ends_before, IsSettled, AreTaken}
 use Rattle.tp_core.proofs.Words.{MaySettle}
-use Rattle.tp_core.proofs.Keeping.{numbers_stay}
+use Rattle.tp_core.proofs.Keeping.{frugal_next, numbers_stay, reserved_next}
 use Rattle.tp_core.proofs.Places.{control_places}
 use Rattle.tp_core.proofs.Quiet.{none_from_length}
 use Rattle.tp_core.proofs.Settling.{judged_soon}
@@ -106,8 +106,8 @@ generation_stays (s ∷ later) old c =
 pub agree_settled : {c : Inside} {w count : ℕ} (steps : Vec Step Global) (wave : Wave) → IsKept c
     → AreTaken c.nodes (accepted c).steps (reverse steps.items) wave w count
     → length (accepted c).steps + 9 * c.nodes ≤ MAX_STEPS → HasPieces (length (accepted c).steps + 9 * c.nodes) (vec_capacity steps)
-    → IsFrugal (length (accepted c).steps) (vec_capacity steps) → IsKept (record c { steps = steps; wave = wave })
-agree_settled {c} steps wave agree t room pieces frugal =
+    → GrowsFrugally (length c.steps.items) (vec_capacity c.steps) (vec_capacity steps) → IsKept (record c { steps = steps; wave = wave })
+agree_settled {c} steps wave agree t room pieces grows =
     let later : List Step = Judge ∷ t.taken in
     let all : List Step = (accepted c).steps in
     let old : List Step = present (accepted c).steps in
@@ -126,7 +126,9 @@ agree_settled {c} steps wave agree t room pieces frugal =
       within = omega (arith, size, few, room);
       pieces = fewer_pieces (length steps.items) (length all + 9 * c.nodes) (vec_capacity steps)
           (omega (arith, few, size, length-reverse steps.items, ap length t.steps)) pieces;
-      frugal = omega (arith, frugal, size, length-reverse steps.items, ap length t.steps);
+      reserved = reserved_next c.reserved (vec_capacity c.steps) (vec_capacity steps) agree.reserved grows.0;
+      frugal = frugal_next (length c.steps.items) (length steps.items) c.reserved (vec_capacity c.steps) (vec_capacity steps)
+          (omega (arith, size, length-reverse c.steps.items, length-reverse steps.items, ap length t.steps)) agree.frugal grows;
       numbers = subst (λ (xs : List Step). HasNumbers c.numbers (record { nodes = c.nodes; steps = xs })) (sym now)
           (same_numbers c.nodes c.numbers later old t.control t.run agree.numbers);
       left = subst (λ (w : World). c.left ≡ all_left w) (sym still) agree.left;

@@ -7,7 +7,7 @@ use Rattle.tp_core.proofs.Words.{is_recv_at, pending_after, under_way_after, is_
 use Rattle.tp_core.proofs.Words.{World, Task, Opening, Named, OfMessage, is_action, is_message, is_done, how_many, with_life, supplied}
 use Rattle.tp_core.proofs.Words.{after, is_reopen, present, generation, world, node_of, IsLawful, IsLawfulRun, MayCome, Accepted, with_step}
 use Rattle.tp_core.proofs.Words.{numbers_in, now_of, accepted, Agree, IsKept, HasTasks, HasActions, HasMessages, HasNumbers, HasPieces}
-use Rattle.tp_core.proofs.Words.{HasPlaces, IsFrugal, all_left}
+use Rattle.tp_core.proofs.Words.{HasPlaces, GrowsFrugally, IsFrugal, all_left}
 use Rattle.tp_core.proofs.Counting.{life_in, one_if, node_inside, open_at-openings, pending_step, not_done-lacking, length-without}
 use Rattle.tp_core.proofs.Written.{written}
 use Rattle.tp_core.proofs.Generations.{present-goes_on}
@@ -143,13 +143,18 @@ accepted_next c d s nodes pushed = rw (nodes, pushed, reverse-append c.steps.ite
 pub generation-goes_on : (s : Step) (past : List Step) → IsFalse (is_reopen s) → generation (s ∷ past) ≡ generation past
 generation-goes_on s past on = rw on
 
--- the bound on the capacity, after one more step
-pub frugal_next : (count room : ℕ) → IsFrugal count room → IsFrugal (count + 1) room
-frugal_next count room h = omega (arith, h)
+-- the bounds on the room, after more steps
+pub reserved_next : (reserved old room : ℕ) → reserved ≤ old → old ≤ room → reserved ≤ room
+reserved_next reserved old room h more = omega (arith, h, more)
+
+pub frugal_next : (count now reserved old room : ℕ) → count ≤ now → IsFrugal count reserved old → GrowsFrugally count old room
+    → IsFrugal now reserved room
+frugal_next count now reserved old room l h grows = omega (arith, l, h, grows.1)
 
 pub agree_after : {c d : Inside} {mid : List Step} {room : ℕ} (s : Step) → IsKept c → MayCome c.nodes (accepted c).steps s
     → IsFalse (is_reopen s) → length c.steps.items < MAX_STEPS
-    → HasPieces (length c.steps.items + 1) room → IsFrugal (length c.steps.items) room → d.nodes ≡ c.nodes → d.generation ≡ c.generation
+    → HasPieces (length c.steps.items + 1) room → GrowsFrugally (length c.steps.items) (vec_capacity c.steps) room → d.reserved ≡ c.reserved
+    → d.nodes ≡ c.nodes → d.generation ≡ c.generation
     → mid ≡ c.steps.items → d.steps.items ≡ mid ++ s ∷ [] → vec_capacity d.steps ≡ room
     → HasNumbers d.numbers (with_step (now_of (accepted c)) s)
     → d.left ≡ pending_after s c.left → d.under ≡ under_way_after s c.under
@@ -160,8 +165,8 @@ pub agree_after : {c d : Inside} {mid : List Step} {room : ℕ} (s : Step) → I
     → HasPlaces (s ∷ present (accepted c).steps) d.tasks d.named d.messages
     → Follows c.nodes (s ∷ present (accepted c).steps) d.wave
     → IsKept d
-agree_after {c} {d} {mid} s agree comes on room pieces frugal nodes same_generation stay pushed capacity numbers left under tasks actions
-    messages places follows =
+agree_after {c} {d} {mid} s agree comes on room pieces grows same_reserved nodes same_generation stay pushed capacity numbers left under
+    tasks actions messages places follows =
     let lawful : IsLawful c.nodes (present (accepted c).steps) s = (comes.goes_on on).0 in
     let now : present (s ∷ (accepted c).steps) ≡ s ∷ present (accepted c).steps = present-goes_on s (accepted c).steps on in
     subst (λ a. Agree a d) (sym (accepted_next c d s nodes (rw stay at pushed))) record {
@@ -172,7 +177,10 @@ agree_after {c} {d} {mid} s agree comes on room pieces frugal nodes same_generat
       generation_is = same_generation ∙ agree.generation_is ∙ sym (generation-goes_on s (accepted c).steps on);
       within = rw (length-reverse c.steps.items) (omega arith);
       pieces = rw (capacity, pushed, stay, length-append c.steps.items (s ∷ [])) pieces;
-      frugal = rw (capacity, pushed, stay, length-append c.steps.items (s ∷ [])) (frugal_next (length c.steps.items) _ frugal);
+      reserved = rw (capacity, same_reserved) (reserved_next c.reserved (vec_capacity c.steps) _ agree.reserved grows.0);
+      frugal = rw (capacity, same_reserved, pushed, stay, length-append c.steps.items (s ∷ []))
+          (frugal_next (length c.steps.items) (length c.steps.items + 1) c.reserved (vec_capacity c.steps) _ (omega arith) agree.frugal
+          grows);
       numbers = subst (λ (xs : List Step). HasNumbers d.numbers (record { nodes = c.nodes; steps = xs })) (sym now) numbers;
       left = subst (λ (xs : List Step). d.left ≡ all_left (world c.nodes xs)) (sym now) (left
           ∙ rw agree.left (sym (left_step c.nodes (present (accepted c).steps) s lawful)));
@@ -189,7 +197,8 @@ agree_after {c} {d} {mid} s agree comes on room pieces frugal nodes same_generat
 -- the invariant after a step of the pool
 pub agree_next : {c d : Inside} {mid : List Step} {room : ℕ} (s : Step) → IsKept c → MayCome c.nodes (accepted c).steps s
     → IsFalse (is_reopen s) → length c.steps.items < MAX_STEPS
-    → HasPieces (length c.steps.items + 1) room → IsFrugal (length c.steps.items) room → is_control s ≡ false → d.nodes ≡ c.nodes
+    → HasPieces (length c.steps.items + 1) room → GrowsFrugally (length c.steps.items) (vec_capacity c.steps) room → d.reserved ≡ c.reserved
+    → is_control s ≡ false → d.nodes ≡ c.nodes
     → d.generation ≡ c.generation → d.wave ≡ c.wave → mid ≡ c.steps.items → d.steps.items ≡ mid ++ s ∷ [] → vec_capacity d.steps ≡ room
     → HasNumbers d.numbers (with_step (now_of (accepted c)) s)
     → d.left ≡ pending_after s c.left → d.under ≡ under_way_after s c.under
@@ -199,8 +208,8 @@ pub agree_next : {c d : Inside} {mid : List Step} {room : ℕ} (s : Step) → Is
     (after s (world c.nodes (present (accepted c).steps))).numbers
     → HasPlaces (s ∷ present (accepted c).steps) d.tasks d.named d.messages
     → IsKept d
-agree_next {c} {d} s agree comes on room pieces frugal pool nodes same_generation wave stay pushed capacity numbers left under tasks
-    actions messages places =
-    agree_after s agree comes on room pieces frugal nodes same_generation stay pushed capacity numbers left under tasks actions messages
-    places
+agree_next {c} {d} s agree comes on room pieces grows same_reserved pool nodes same_generation wave stay pushed capacity numbers left
+    under tasks actions messages places =
+    agree_after s agree comes on room pieces grows same_reserved nodes same_generation stay pushed capacity numbers left under tasks
+    actions messages places
     (rw wave (pool_step c.nodes (present (accepted c).steps) s c.wave pool agree.wave))

@@ -2,7 +2,7 @@
 use Rattle.tp_core.proofs.Words.{ℕ, ◌≡◌, ◌<◌, ◌≤◌, List, [], ◌∷◌, Bool, true, false, Option, Some, None, refl, ap}
 use Rattle.tp_core.proofs.Words.{sym, subst, ◌∙◌, arith, IsTrue, IsFalse, nat_tests, nat_lt, ◌||◌, set, length-set}
 use Rattle.tp_core.proofs.Words.{option_map, slice_index_or, if◌then◌else◌, Step, Insert, Supply, Begin, Done, ActionOpen, ActionClose}
-use Rattle.tp_core.proofs.Words.{Ready, Send, Recv, MessageEnd, MAX_STEPS, MAX_NODES, Refusal, first_refusal, is_control, is_reopen, any}
+use Rattle.tp_core.proofs.Words.{Ready, Send, Recv, MessageEnd, MAX_MESSAGES, MAX_NODES, Refusal, first_refusal, is_control, is_reopen, any}
 use Rattle.tp_core.proofs.Words.{History, Needs, pending_at, under_way, under_way_after, steps_of, present, NodeNumbers}
 use Rattle.tp_core.proofs.Words.{history, IsLawful, IsLawfulRun, IsRefusedFor, opened_below, numbers_in, pool_step}
 use Rattle.tp_core.proofs.Words.{Wave, Follows}
@@ -106,22 +106,22 @@ backs_next {a} {h} {node} {s} {v} {under} {steps} b m is under_is kept =
     }
 
 -- ---- no node sends or receives too many messages
-sent_few : (s : Step) (x : NodeNumbers) (under : ℕ) → x.sent ≤ MAX_STEPS → first_refusal (limit_checks x under s) ≡ None
-    → sent_after s x.sent ≤ MAX_STEPS
+sent_few : (s : Step) (x : NodeNumbers) (under : ℕ) → x.sent ≤ MAX_MESSAGES → first_refusal (limit_checks x under s) ≡ None
+    → sent_after s x.sent ≤ MAX_MESSAGES
 sent_few (Send i j m g) x under h none = grind (arith, nat_tests, none)
 sent_few (s) x under h none = h
 
-received_few : (s : Step) (x : NodeNumbers) (under : ℕ) → x.received ≤ MAX_STEPS → first_refusal (limit_checks x under s) ≡ None
-    → received_after s x.received ≤ MAX_STEPS
+received_few : (s : Step) (x : NodeNumbers) (under : ℕ) → x.received ≤ MAX_MESSAGES → first_refusal (limit_checks x under s) ≡ None
+    → received_after s x.received ≤ MAX_MESSAGES
 received_few (Recv j m g) x under h none = grind (arith, nat_tests, none)
 received_few (s) x under h none = h
 
-sent_either : (b : Bool) (x y : NodeNumbers) → x.sent ≤ MAX_STEPS → y.sent ≤ MAX_STEPS → (if b then x else y).sent ≤ MAX_STEPS
+sent_either : (b : Bool) (x y : NodeNumbers) → x.sent ≤ MAX_MESSAGES → y.sent ≤ MAX_MESSAGES → (if b then x else y).sent ≤ MAX_MESSAGES
 sent_either true x y h k = h
 sent_either false x y h k = k
 
-received_either : (b : Bool) (x y : NodeNumbers) → x.received ≤ MAX_STEPS → y.received ≤ MAX_STEPS
-    → (if b then x else y).received ≤ MAX_STEPS
+received_either : (b : Bool) (x y : NodeNumbers) → x.received ≤ MAX_MESSAGES → y.received ≤ MAX_MESSAGES
+    → (if b then x else y).received ≤ MAX_MESSAGES
 received_either true x y h k = h
 received_either false x y h k = k
 
@@ -131,15 +131,15 @@ pub few_next : {numbers : List NodeNumbers} {v : NodeNumbers} (under node : ℕ)
 few_next {numbers} {v} under node s few low is none =
     let x : NodeNumbers = slice_index_or numbers node zeros in
     let size = few.size in
-    let sent : v.sent ≤ MAX_STEPS = subst (λ (y : NodeNumbers). y.sent ≤ MAX_STEPS) (sym is)
+    let sent : v.sent ≤ MAX_MESSAGES = subst (λ (y : NodeNumbers). y.sent ≤ MAX_MESSAGES) (sym is)
     (sent_few s x under (few.sent node zeros low) none) in
-    let received : v.received ≤ MAX_STEPS =
-    subst (λ (y : NodeNumbers). y.received ≤ MAX_STEPS) (sym is) (received_few s x under (few.received node zeros low) none) in
+    let received : v.received ≤ MAX_MESSAGES =
+    subst (λ (y : NodeNumbers). y.received ≤ MAX_MESSAGES) (sym is) (received_few s x under (few.received node zeros low) none) in
     record {
       size = length-set numbers node v ∙ few.size;
-      sent = λ i d l. subst (λ (y : NodeNumbers). y.sent ≤ MAX_STEPS) (sym (written numbers node i v d (omega (arith, low, size))))
+      sent = λ i d l. subst (λ (y : NodeNumbers). y.sent ≤ MAX_MESSAGES) (sym (written numbers node i v d (omega (arith, low, size))))
           (sent_either _ v (slice_index_or numbers i d) sent (few.sent i d l));
-      received = λ i d l. subst (λ (y : NodeNumbers). y.received ≤ MAX_STEPS)
+      received = λ i d l. subst (λ (y : NodeNumbers). y.received ≤ MAX_MESSAGES)
           (sym (written numbers node i v d (omega (arith, low, size))))
           (received_either _ v (slice_index_or numbers i d) received (few.received i d l));
     }

@@ -4,11 +4,11 @@ use Rattle.tp_core.proofs.Words.{arith, zero-le, subst, nat_tests, ◌&&◌, vec
 use Rattle.tp_core.proofs.Words.{list_any, MAX_NODES, MAX_STEPS, Step, Reopen, MayCome, length-reverse, length-append}
 use Rattle.tp_core.proofs.Words.{Follows, Inside, NodeSet, Posted, Table, lookup, has, Kind, Opening, Named, OfMessage}
 use Rattle.tp_core.proofs.Words.{is_action, how_many, openings, IsQuiet, Accepted, world_of, numbers_in, accepted, Agree, IsKept}
-use Rattle.tp_core.proofs.Words.{HasActions, HasPieces, IsFrugal, AreOpened, opened_below, is_kept_open}
+use Rattle.tp_core.proofs.Words.{HasActions, HasPieces, GrowsFrugally, AreOpened, opened_below, is_kept_open}
 use Rattle.tp_core.proofs.Counting.{open_at-openings}
 use Rattle.tp_core.proofs.Quiet.{none_from_length}
 use Rattle.tp_core.proofs.Places.{no_places}
-use Rattle.tp_core.proofs.Keeping.{accepted_next, frugal_next}
+use Rattle.tp_core.proofs.Keeping.{accepted_next, frugal_next, reserved_next}
 use Rattle.tp_core.proofs.Bounds.{length-openings}
 
 -- ---- a new core
@@ -31,11 +31,12 @@ first_actions n opening named messages opened no_name no_message = record { are_
 first_numbers : (i n : ℕ) → opened_below n i ≡ numbers_in i (record { nodes = n; steps = [] })
 first_numbers i n = ap (λ p. record { pending = p; sent = 0; received = 0 }) (grind (arith, open_at-openings i n))
 
-pub first_kept : {c : Inside} → 0 < c.nodes → c.nodes ≤ MAX_NODES → c.steps.items ≡ [] → vec_capacity c.steps ≡ 0 → c.generation ≡ 1
+pub first_kept : {c : Inside} → 0 < c.nodes → c.nodes ≤ MAX_NODES → c.steps.items ≡ [] → vec_capacity c.steps ≡ 0 → c.reserved ≡ 0
+    → c.generation ≡ 1
     → AreOpened c.nodes c.numbers c.opening → c.left ≡ c.nodes → c.under ≡ 0
     → ((k : ℕ) → lookup c.named k ≡ None) → ((k : ℕ) → lookup c.tasks k ≡ None) → ((k : ℕ) → lookup c.messages k ≡ None)
     → Follows c.nodes [] c.wave → IsKept c
-first_kept {c} some few empty none first opened left under no_name no_task no_message follows =
+first_kept {c} some few empty none none_reserved first opened left under no_name no_task no_message follows =
     let nothing : accepted c ≡ record { nodes = c.nodes; steps = [] } = rw empty refl in
     subst (λ (a : Accepted). Agree a c) (sym nothing) (record {
       some_node = some;
@@ -45,6 +46,7 @@ first_kept {c} some few empty none first opened left under no_name no_task no_me
       generation_is = first;
       within = zero-le;
       pieces = subst (λ (xs : List Step). HasPieces (length xs) (vec_capacity c.steps)) (sym empty) zero-le;
+      reserved = omega (arith, none_reserved);
       frugal = omega (arith, none);
       numbers = record { size = opened.size; each = λ i d h. opened.each i d h ∙ first_numbers i c.nodes };
       left = left ∙ sym (length-openings c.nodes) ∙ omega arith;
@@ -59,13 +61,14 @@ first_kept {c} some few empty none first opened left under no_name no_task no_me
 -- after a reopening: everything is as in a new core, except that the list of steps and the generation go on
 pub reopened_kept : {c d : Inside} {mid : List Step} {room : ℕ} → IsKept c → MayCome c.nodes (accepted c).steps Reopen
     → length c.steps.items < MAX_STEPS
-    → HasPieces (length c.steps.items + 1) room → IsFrugal (length c.steps.items) room → d.nodes ≡ c.nodes
+    → HasPieces (length c.steps.items + 1) room → GrowsFrugally (length c.steps.items) (vec_capacity c.steps) room → d.reserved ≡ c.reserved
+    → d.nodes ≡ c.nodes
     → d.generation ≡ c.generation + 1 → mid ≡ c.steps.items → d.steps.items ≡ mid ++ Reopen ∷ [] → vec_capacity d.steps ≡ room
     → AreOpened c.nodes d.numbers d.opening → d.left ≡ c.nodes → d.under ≡ 0
     → ((k : ℕ) → lookup d.named k ≡ None) → ((k : ℕ) → lookup d.tasks k ≡ None) → ((k : ℕ) → lookup d.messages k ≡ None)
     → Follows c.nodes [] d.wave → IsKept d
-reopened_kept {c} {d} {mid} agree comes room pieces frugal nodes next stay pushed capacity opened left under no_name no_task no_message
-    follows =
+reopened_kept {c} {d} {mid} agree comes room pieces grows same_reserved nodes next stay pushed capacity opened left under no_name
+    no_task no_message follows =
     subst (λ (a : Accepted). Agree a d) (sym (accepted_next c d Reopen nodes (rw stay at pushed))) record {
       some_node = agree.some_node;
       few_nodes = agree.few_nodes;
@@ -74,7 +77,10 @@ reopened_kept {c} {d} {mid} agree comes room pieces frugal nodes next stay pushe
       generation_is = next ∙ ap (λ k. k + 1) agree.generation_is;
       within = rw (length-reverse c.steps.items) (omega arith);
       pieces = rw (capacity, pushed, stay, length-append c.steps.items (Reopen ∷ [])) pieces;
-      frugal = rw (capacity, pushed, stay, length-append c.steps.items (Reopen ∷ [])) (frugal_next (length c.steps.items) _ frugal);
+      reserved = rw (capacity, same_reserved) (reserved_next c.reserved (vec_capacity c.steps) _ agree.reserved grows.0);
+      frugal = rw (capacity, same_reserved, pushed, stay, length-append c.steps.items (Reopen ∷ []))
+          (frugal_next (length c.steps.items) (length c.steps.items + 1) c.reserved (vec_capacity c.steps) _ (omega arith) agree.frugal
+          grows);
       numbers = record { size = opened.size; each = λ i e h. opened.each i e h ∙ first_numbers i c.nodes };
       left = left ∙ sym (length-openings c.nodes) ∙ omega arith;
       under = under;

@@ -23,7 +23,7 @@ pub use Rattle.tp_base.specs.declared.Step.TheVariants.{Insert, Supply, Begin, D
 pub use Rattle.tp_base.specs.declared.Step.TheVariants.{Start, Down, Give, Up, Judge, Reopen}
 pub use Rattle.tp_base.specs.declared.Sums.{Sums}
 pub use Rattle.tp_base.specs.declared.Table.{Table}
-pub use Rattle.tp_base.specs.declared.limits.TheConstants.{MAX_STEPS, MAX_NODES}
+pub use Rattle.tp_base.specs.declared.limits.TheConstants.{MAX_MESSAGES, MAX_STEPS, MAX_NODES}
 pub use Rattle.tp_wave.specs.Control.{is_control, IsControlStep, IsDue, in_wave, has_ended, IsEndedWave}
 pub use Rattle.tp_wave.specs.ControlChecks.{control_refusal, control_checks}
 pub use Rattle.tp_wave.specs.Cut.{DoTwoTell}
@@ -46,7 +46,8 @@ pub use Rattle.tp_core.specs.Accepted.{IsRefusedFor, asks_memory, world_of, numb
 pub use Rattle.tp_core.specs.Accepted.{is_message_beside, is_task_beside, begins_piece, keeps_more, reply_to, judged}
 pub use Rattle.tp_core.specs.Generations.{MayCome, AreRuns, world_after, history_after, InEach}
 pub use Rattle.tp_core.specs.Kept.{accepted, IsKept, all_left, is_kept_open, HasNumbers, Agree, HasActions, HasMessages, HasPieces}
-pub use Rattle.tp_core.specs.Kept.{HasPlaces, HasTasks, IsFrugal, held, AreOpened, opened_below, has_in, is_posted, is_under_way_stage}
+pub use Rattle.tp_core.specs.Kept.{HasPlaces, HasTasks, GrowsFrugally, IsFrugal, held, AreOpened, opened_below, has_in, is_posted}
+pub use Rattle.tp_core.specs.Kept.{is_under_way_stage}
 pub use Rattle.tp_core.specs.Laws.{RunsAreCounted, QuietIsSeen, GenerationsAreRuns, NeverEarlyInEach, inserts, begins, IsOnce, HasSets}
 pub use Rattle.tp_core.specs.Laws.{JudgedSoon, TwoNumbersTell}
 pub use Rattle.tp_core.specs.NeverEarly.{is_insert_of, HasRunOnce, IsOverFrom, IsNeverEarly, is_begin_of, is_done_of}

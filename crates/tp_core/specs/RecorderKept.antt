@@ -2,7 +2,7 @@
 use Rattle.std.specs.Prelude.{ℕ, ◌+◌, ◌≡◌, ◌<◌, ◌≤◌, ◌⊎◌, List, [], Bool, true, false, nat_lt, length, reverse, if◌then◌else◌}
 use Rattle.std.specs.Prelude.{Option, Some, None}
 use Rattle.std.specs.List.{slice_index_or}
-use Rattle.tp_base.specs.declared.limits.TheConstants.{MAX_STEPS, MAX_NODES}
+use Rattle.tp_base.specs.declared.limits.TheConstants.{MAX_MESSAGES, MAX_STEPS, MAX_NODES}
 use Rattle.tp_base.specs.declared.Step.{Step}
 use Rattle.tp_base.specs.declared.Step.TheVariants.{Insert, Supply, Begin, Done, ActionOpen, ActionClose, Ready, Send, Recv, MessageEnd}
 use Rattle.tp_wave.specs.Machine.{pending_after}
@@ -21,11 +21,11 @@ kept_steps keeps items = if keeps then Some (reverse items) else None
 abbrev pub recorded : Inside → Recorded
 recorded c = record { nodes = c.nodes; numbers = c.numbers; under = c.under; wave = c.wave; steps = kept_steps c.keeps c.steps.items }
 
--- Each node has sent and received at most MAX_STEPS messages.
+-- Each node has sent and received at most MAX_MESSAGES messages.
 pub record AreFew (numbers : List NodeNumbers) : Type 0 where
   pub size : length numbers ≡ MAX_NODES
-  pub sent : (i : ℕ) (d : NodeNumbers) → i < MAX_NODES → (slice_index_or numbers i d).sent ≤ MAX_STEPS
-  pub received : (i : ℕ) (d : NodeNumbers) → i < MAX_NODES → (slice_index_or numbers i d).received ≤ MAX_STEPS
+  pub sent : (i : ℕ) (d : NodeNumbers) → i < MAX_NODES → (slice_index_or numbers i d).sent ≤ MAX_MESSAGES
+  pub received : (i : ℕ) (d : NodeNumbers) → i < MAX_NODES → (slice_index_or numbers i d).received ≤ MAX_MESSAGES
 
 -- No wave was started.
 pub record IsFresh (n : ℕ) (w : Wave) : Type 0 where

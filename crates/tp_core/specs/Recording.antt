@@ -3,7 +3,7 @@ use Rattle.std.specs.Prelude.{ℕ, ◌*◌, ◌==◌, ◌||◌, ◌≡◌, ◌�
 use Rattle.std.specs.Prelude.{Option, Some, None, IfSome}
 use Rattle.std.specs.List.{slice_index_or}
 use Rattle.tp_base.specs.Checks.{Check}
-use Rattle.tp_base.specs.declared.limits.TheConstants.{MAX_STEPS, MAX_NODES}
+use Rattle.tp_base.specs.declared.limits.TheConstants.{MAX_MESSAGES, MAX_NODES}
 use Rattle.tp_base.specs.declared.Refusal.TheVariants.{Ended, NotIdle, HistoryFull}
 use Rattle.tp_base.specs.declared.Step.{Step}
 use Rattle.tp_base.specs.declared.Step.TheVariants.{Insert, ActionOpen, Send, Recv}
@@ -59,8 +59,8 @@ IsRecorded node s old new = (h : List Step) → Backs h old → MayBeRecorded ol
 abbrev pub limit_checks : NodeNumbers → ℕ → Step → List Check
 limit_checks x under (Insert i t k) = (x.pending == MOST, HistoryFull MOST) ∷ []
 limit_checks x under (ActionOpen i a) = (x.pending == MOST, HistoryFull MOST) ∷ []
-limit_checks x under (Send i j m g) = (nat_le MAX_STEPS x.sent, HistoryFull MAX_STEPS) ∷ (under == MOST, HistoryFull MOST) ∷ []
-limit_checks x under (Recv j m g) = (nat_le MAX_STEPS x.received, HistoryFull MAX_STEPS) ∷ (x.pending == MOST, HistoryFull MOST) ∷ []
+limit_checks x under (Send i j m g) = (nat_le MAX_MESSAGES x.sent, HistoryFull MAX_MESSAGES) ∷ (under == MOST, HistoryFull MOST) ∷ []
+limit_checks x under (Recv j m g) = (nat_le MAX_MESSAGES x.received, HistoryFull MAX_MESSAGES) ∷ (x.pending == MOST, HistoryFull MOST) ∷ []
 limit_checks x under _ = []
 
 -- There is no room for `more` steps, if they are kept.

@@ -83,8 +83,8 @@ impl Recorder {
     /// refused step changes nothing.
     ///
     /// A step that may come next is refused only with `HistoryFull`, with the limit, if the node has sent or received
-    /// 1,048,576 messages and does so again, or if a number that the step raises is 4,294,967,295; `HistoryFull`, with
-    /// the number of kept steps, if this is 1,048,576; `NoMemory` if steps are kept and an allocation fails. Other
+    /// 536,870,911 messages and does so again, or if a number that the step raises is 4,294,967,295; `HistoryFull`,
+    /// with the number of kept steps, if this is 1,048,576; `NoMemory` if steps are kept and an allocation fails. Other
     /// refusals say that the step is not one of a pool, or that no lawful step has these counters: `NoNode`,
     /// `Inactive`, `NoMessage`, `BadSpec`.
     pub fn record(&mut self, node: NodeId, step: Step) -> Result<(), Refusal>

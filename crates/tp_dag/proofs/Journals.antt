@@ -10,7 +10,7 @@ use Rattle.tp_base.specs.declared.Refusal.TheVariants as refusal
 use Rattle.tp_base.specs.declared.Step.{Step}
 use Rattle.tp_base.specs.declared.Step.TheVariants.{Insert, ActionOpen, Ready, Send, Recv, MessageEnd, Judge}
 use Rattle.tp_base.specs.Checks.{Check, first_refusal}
-use Rattle.tp_base.specs.declared.limits.TheConstants.{MAX_STEPS}
+use Rattle.tp_base.specs.declared.limits.TheConstants.{MAX_MESSAGES}
 use Rattle.tp_wave.specs.Steps.{is_reopen}
 use Rattle.tp_wave.specs.Control.{is_control}
 use Rattle.tp_wave.specs.Generations.{IsOfGeneration}
@@ -99,10 +99,10 @@ limits_room x under (Insert i t n) o k asks r h f =
 limits_room x under (ActionOpen i a) o k asks r h f =
     one_check (x.pending == most) most (kept_checks o 1) (by_kept o 1) k asks r h f
 limits_room x under (Send i j m g) o k asks r h f =
-    one_check (nat_le MAX_STEPS x.sent) MAX_STEPS ((under == most, refusal.HistoryFull most) ∷ kept_checks o 1)
+    one_check (nat_le MAX_MESSAGES x.sent) MAX_MESSAGES ((under == most, refusal.HistoryFull most) ∷ kept_checks o 1)
     (one_check (under == most) most (kept_checks o 1) (by_kept o 1)) k asks r h f
 limits_room x under (Recv j m g) o k asks r h f =
-    one_check (nat_le MAX_STEPS x.received) MAX_STEPS ((x.pending == most, refusal.HistoryFull most) ∷ kept_checks o 1)
+    one_check (nat_le MAX_MESSAGES x.received) MAX_MESSAGES ((x.pending == most, refusal.HistoryFull most) ∷ kept_checks o 1)
     (one_check (x.pending == most) most (kept_checks o 1) (by_kept o 1)) k asks r h f
 limits_room x under (s) o k asks r h f = by_kept o 1 k asks r h f
 

@@ -1,6 +1,6 @@
 //! The state of the control waves.
 ghost use Rattle.std.specs.Prelude.{◌≤◌, ◌*◌, count_by};
-ghost use Rattle.tp_base.specs.declared.limits.TheConstants.{MAX_NODES, MAX_STEPS};
+ghost use Rattle.tp_base.specs.declared.limits.TheConstants.{MAX_NODES, MAX_MESSAGES};
 
 use tp_base::{MAX_NODES, Sums};
 
@@ -32,6 +32,6 @@ pub struct Wave {
     newest: Sums,
     last: Sums,
     ghost few: { (1 ≤ nodes) × (nodes ≤ MAX_NODES) },
-    // Each node that gave added at most `MAX_STEPS` to each sum.
-    ghost small: { (newest.sent ≤ MAX_STEPS * count_by (λ g. g) given) × (newest.received ≤ MAX_STEPS * count_by (λ g. g) given) },
+    // Each node that gave added at most `MAX_MESSAGES` to each sum.
+    ghost small: { (newest.sent ≤ MAX_MESSAGES * count_by (λ g. g) given) × (newest.received ≤ MAX_MESSAGES * count_by (λ g. g) given) },
 }

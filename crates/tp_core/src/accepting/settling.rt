@@ -1,10 +1,10 @@
 //! Settling: taking control steps until termination is detected.
-ghost use Rattle.std.specs.Prelude.{◌≡◌, ◌≤◌, ◌<◌, ◌+◌, ◌*◌, OnOk, IfErr, length, reverse, vec_len, vec_capacity};
+ghost use Rattle.std.specs.Prelude.{◌≡◌, ◌≢◌, ◌≤◌, ◌<◌, ◌+◌, ◌*◌, Err, OnOk, IfErr, length, reverse, vec_len, vec_capacity};
 ghost use Rattle.tp_base.specs.declared.limits.TheConstants.{MAX_STEPS};
 ghost use Rattle.tp_base.specs.Checks.{first_refusal};
 ghost use Rattle.tp_wave.specs.Wave.{nodes_of};
 ghost use Rattle.tp_core.specs.Accepted.{IsRefusedFor};
-ghost use Rattle.tp_core.specs.Kept.{HasPieces, IsFrugal};
+ghost use Rattle.tp_core.specs.Kept.{GrowsFrugally, HasPieces};
 ghost use Rattle.tp_core.specs.Settled.{ends_before, rooms_check};
 ghost use Rattle.tp_core.specs.ToTheEnd.{AreTaken, IsTaken, MaySettle};
 
@@ -57,12 +57,13 @@ fn make_rooms(steps: &mut Vec<Step>, more: usize) -> Result<(), Refusal>
     requires full { length steps.old.items ≤ MAX_STEPS }
     requires few { more ≤ PIECE }
     requires pieces { HasPieces (length steps.old.items) (vec_capacity steps.old) }
-    requires frugal { IsFrugal (length steps.old.items) (vec_capacity steps.old) }
     ensures items { steps.new.items ≡ steps.old.items }
     ensures room { OnOk result (length steps.old.items + more ≤ MAX_STEPS) }
     ensures pieces { OnOk result (HasPieces (length steps.old.items + more) (vec_capacity steps.new)) }
     ensures kept { HasPieces (length steps.old.items) (vec_capacity steps.new) }
-    ensures frugal { IsFrugal (length steps.old.items) (vec_capacity steps.new) }
+    ensures frugal { GrowsFrugally (length steps.old.items) (vec_capacity steps.old) (vec_capacity steps.new) }
+    // In pieces for which there is room, memory does not run out.
+    ensures ample { HasPieces (length steps.old.items + more) (vec_capacity steps.old) → result ≢ Err Refusal.NoMemory }
     ensures err { IfErr result
         (IsRefusedFor (first_refusal (rooms_check (length steps.old.items) more)) (ends_before (length steps.old.items) more)) }
 {

@@ -7,7 +7,7 @@ ghost use Rattle.tp_core.specs.RecorderKept.{has_needed, numbers_after};
 
 use super::MOST;
 use crate::numbers::NodeNumbers;
-use tp_base::{MAX_STEPS, Refusal, Step};
+use tp_base::{MAX_MESSAGES, Refusal, Step};
 
 /// Returns the counters of the step's node and the number of messages in flight after the step, from those before it.
 ///
@@ -47,8 +47,8 @@ pub(super) fn counted(
             if own.pending == 0 {
                 return Err(Refusal::Inactive);
             }
-            if own.sent >= MAX_STEPS {
-                return Err(Refusal::HistoryFull(MAX_STEPS));
+            if own.sent >= MAX_MESSAGES {
+                return Err(Refusal::HistoryFull(MAX_MESSAGES));
             }
             if under == MOST {
                 return Err(Refusal::HistoryFull(MOST));
@@ -60,8 +60,8 @@ pub(super) fn counted(
             if under == 0 {
                 return Err(Refusal::NoMessage);
             }
-            if own.received >= MAX_STEPS {
-                return Err(Refusal::HistoryFull(MAX_STEPS));
+            if own.received >= MAX_MESSAGES {
+                return Err(Refusal::HistoryFull(MAX_MESSAGES));
             }
             if own.pending == MOST {
                 return Err(Refusal::HistoryFull(MOST));

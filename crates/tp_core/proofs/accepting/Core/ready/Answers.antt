@@ -23,7 +23,7 @@ invariant_of-self-2 c =
     let agree = c.self.invariant in
     let at = (goal.at.invariant_of-self-2 c).After-make_room in
     agree_next (Ready c.args.node) agree (comes at) refl (c.in_ok-make_room.ensures.ok).0 c.in_ok-make_room.ensures.pieces
-    c.make_room.ensures.frugal refl refl refl refl c.make_room.ensures.items c.push_reserved.ensures.items
+    c.make_room.ensures.frugal refl refl refl refl refl c.make_room.ensures.items c.push_reserved.ensures.items
     c.push_reserved.ensures.capacity
     (numbers_written (Ready c.args.node) agree.numbers (lawful at) c.args.node.0 _ (may at).inside refl refl) refl refl agree.tasks
     (opening_closed agree.actions _ c.args.node.0 (may at).once (may at).there c.without-self-inside.ensures)

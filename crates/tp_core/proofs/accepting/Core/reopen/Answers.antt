@@ -21,7 +21,7 @@ overflow_add-self c =
 pub invariant_of-self-2 : goal.invariant_of-self-2
 invariant_of-self-2 c =
     reopened_kept c.self.invariant (comes (goal.at.invariant_of-self-2 c).After-make_room) (c.in_ok-make_room.ensures.ok).0
-    c.in_ok-make_room.ensures.pieces c.make_room.ensures.frugal refl refl
+    c.in_ok-make_room.ensures.pieces c.make_room.ensures.frugal refl refl refl
     c.make_room.ensures.items c.push_reserved.ensures.items c.push_reserved.ensures.capacity c.opened.ensures refl refl c.clear.ensures
     c.clear-2.ensures c.clear-3.ensures c.new-self-inside.ensures.follows
 

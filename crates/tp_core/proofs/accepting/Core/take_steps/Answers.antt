@@ -49,7 +49,7 @@ invariant_of-self-2 c =
     agree_settled c.take_to_end.new.steps c.take_to_end.new.wave c.self.invariant (taken (goal.at.invariant_of-self-2 c).After-take_to_end)
     (rw (length-reverse c.self.inside.steps.items) c.in_ok-make_rooms.ensures.room)
     (rw (length-reverse c.self.inside.steps.items, c.take_to_end.ensures.capacity) c.in_ok-make_rooms.ensures.pieces)
-    (rw (length-reverse c.self.inside.steps.items, c.take_to_end.ensures.capacity) c.make_rooms.ensures.frugal)
+    (rw c.take_to_end.ensures.capacity c.make_rooms.ensures.frugal)
 
 pub returns : goal.returns
 returns c =

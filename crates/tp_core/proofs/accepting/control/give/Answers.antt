@@ -3,10 +3,10 @@ use Rattle.tp_core.proofs.Lemmas.{few_received, few_sent, give_refused}
 use Rattle.tp_core.proofs.accepting.control.give.Goals as goal
 
 pub give-requires-clause-sent : goal.give-requires-clause-sent
-give-requires-clause-sent c = few_sent c.args.node.0 c.requires.waves.2 (omega arith)
+give-requires-clause-sent c = let few = few_sent c.args.node.0 c.requires.waves.2 (omega arith) in omega (arith, few)
 
 pub give-requires-clause-received : goal.give-requires-clause-received
-give-requires-clause-received c = few_received c.args.node.0 c.requires.waves.2 (omega arith)
+give-requires-clause-received c = let few = few_received c.args.node.0 c.requires.waves.2 (omega arith) in omega (arith, few)
 
 pub returns-in_err-sums : goal.returns-in_err-sums
 returns-in_err-sums c n steps h =
