@@ -49,8 +49,7 @@ extern "C" {
 #define GERFMUOD_DAG_MAX_TASKS 134217728u
 #define GERFMUOD_DAG_MAX_INPUTS 536870912u
 /* The most steps of a run of a traced pool: 3 for each task, 3 for each input that comes from another node, at most 10 for
- * each node. In any pool the most messages that a node sends in a run, the most that it receives, and the most inputs from
- * outside that a task awaits. */
+ * each node. In any pool the most inputs from outside that a task awaits. */
 #define GERFMUOD_DAG_MAX_STEPS 1048576u
 
 /* Why a call was refused. A refused call changes nothing, except for NO_MEMORY as described at gerfmuod_dag_start,
@@ -142,15 +141,16 @@ gerfmuod_dag_answer gerfmuod_dag_start(gerfmuod_dag *dag);
 
 /* What a thread of this node does next: GERFMUOD_DAG_RUN, WAIT or OVER. If it is RUN and the node has another ready task,
  * `news` has the bit of this node. Refused, for the first reason that applies: WRONG_LIFE if the pool was not started, NO_NODE;
- * HISTORY_FULL if the node has received GERFMUOD_DAG_MAX_STEPS messages; if the pool is traced, NO_MEMORY, after which
- * gerfmuod_dag_next may be called again: no task was returned, but messages may have been received. */
+ * HISTORY_FULL if the pool is traced and has no step left, or if it is not traced and the node has received 536,870,911 messages
+ * in this run; if the pool is traced, NO_MEMORY, after which gerfmuod_dag_next may be called again: no task was returned, but
+ * messages may have been received. */
 gerfmuod_dag_answer gerfmuod_dag_next(gerfmuod_dag *dag, uint32_t node);
 
 /* A task of this node was run. `news` has the bits of the other nodes to which it sent a message. Refused, for the first
  * reason that applies: NO_TASK, WRONG_LIFE if gerfmuod_dag_next did not return the task or it is done already, NO_NODE;
- * HISTORY_FULL if the node has sent GERFMUOD_DAG_MAX_STEPS messages; if the pool is traced, NO_MEMORY, after which
- * gerfmuod_dag_done may be called again: some messages may have been sent, none is sent twice, and the `news` of the call that
- * succeeds has the nodes of all of them. */
+ * HISTORY_FULL if the pool is traced and has no step left, or if it is not traced and the node has sent 536,870,911 messages in
+ * this run; if the pool is traced, NO_MEMORY, after which gerfmuod_dag_done may be called again: some messages may have been
+ * sent, none is sent twice, and the `news` of the call that succeeds has the nodes of all of them. */
 gerfmuod_dag_answer gerfmuod_dag_done(gerfmuod_dag *dag, uint32_t node, uint32_t task);
 
 /* The same graph once more, after GERFMUOD_DAG_OVER: all tasks wait again for their inputs, and gerfmuod_dag_next may be

@@ -13,7 +13,8 @@ one true = 1
 one false = 0
 
 pub count_next : {A : Type 0} (test : A → Bool) (x : A) (xs : List A) → count_where test (x ∷ xs) ≡ count_where test xs + one (test x)
-count_next test x xs = elim (test x) as (λ b. cond b (count_where test xs + 1) (count_where test xs) ≡ count_where test xs + one b) [ true ↦ refl | false ↦ omega arith ]
+count_next test x xs = elim (test x) as (λ b. cond b (count_where test xs + 1) (count_where test xs) ≡ count_where test xs + one b)
+    [ true ↦ refl | false ↦ omega arith ]
 
 one_few : (b : Bool) → one b ≤ 1
 one_few true = omega arith

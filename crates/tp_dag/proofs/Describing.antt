@@ -1,5 +1,5 @@
 -- What the calls that describe a graph, and the judgement of the end, keep and have done.
-use Rattle.std.proofs.Common.{ℕ, ◌≡◌, ◌<◌, ◌+◌, ◌-◌, List, [], ◌∷◌, ◌++◌, Bool, true, length, map, refl, ap, subst, ◌∙◌, sym, arith, IsTrue, Some, None}
+use Rattle.std.proofs.Common.{ℕ, ◌≡◌, ◌≤◌, ◌<◌, ◌+◌, ◌-◌, List, [], ◌∷◌, ◌++◌, Bool, true, length, map, refl, ap, subst, ◌∙◌, sym, arith, IsTrue, Some, None}
 use Rattle.std.specs.Prelude.{if◌then◌else◌, is_some, slice_get}
 use Rattle.std.specs.List.{list_all}
 use Rattle.std.proofs.Math.ListN.{set}
@@ -19,9 +19,10 @@ use Rattle.tp_dag.specs.declared.pool.Pool.TheInside.{Inside}
 use Rattle.tp_dag.specs.Board as on_board
 use Rattle.tp_dag.specs.Board.{BoardState, HasEdge, HasOutside, HasReleased, with_task}
 use Rattle.tp_dag.specs.Counts.{BoardFacts}
-use Rattle.tp_dag.specs.Journal.{JournalState, IsBehindJournal, JournalLeads, Records, IsJudged, SameKind, keeps}
-use Rattle.tp_dag.specs.State.{PoolState, IsBehind, Leads, SameSteps, IsInputAdded, IsTaskAdded, extends, IsOutsideAdded, IsReleased}
+use Rattle.tp_dag.specs.Journal.{JournalState, IsBehindJournal, JournalLeads, Records, IsJudged, SameKind, keeps, is_readying}
+use Rattle.tp_dag.specs.State.{PoolState, IsBehind, Leads, SameSteps, AddsOnly, IsInputAdded, IsTaskAdded, IsStarted, extends, IsOutsideAdded, IsReleased}
 use Rattle.tp_dag.specs.Kept.{state_of, seen, entry_of, stage_of, outside_of, input_of, way_of, extend, IsPool, IsConsistent}
+use Rattle.tp_dag.proofs.Actions.{are_ready}
 use Rattle.tp_dag.proofs.Lists.{map_get, past_end}
 use Rattle.tp_dag.proofs.Facts.{control_leaves, may_insert, behind_later, behind_task, behind_input}
 use Rattle.tp_dag.proofs.Views.{seen_outside, seen_task, seen_edge, consistent, lacks_seen}
@@ -191,6 +192,25 @@ behind_outside o b = record {
   received = b.received;
   under_way = b.under_way;
   unsent = b.unsent;
+}
+
+-- the pool is started
+pub is_started : (a b : PoolState) → AddsOnly is_readying a b → b.nodes ≤ b.journal.ready_nodes → IsStarted a (record b { started = true })
+is_started a b x all = record {
+  started = refl;
+  ready = are_ready (record b { started = true }) all;
+  graph = record {
+    nodes = x.graph.nodes;
+    started = refl;
+    extended = x.graph.extended;
+    tasks = x.graph.tasks;
+    inputs = x.graph.inputs;
+    outside = x.graph.outside;
+    keeps = x.graph.keeps;
+  };
+  stages = x.stages;
+  steps = λ past h.
+      let g = x.steps past h in record { now = g.now; behind = behind_progress true b.extended g.behind; related = g.related };
 }
 
 -- the progress is another

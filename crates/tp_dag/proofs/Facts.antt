@@ -60,7 +60,8 @@ may_complete node t x b runs is home =
     may_be_recorded node (Done (record { 0 = t })) b refl refl (life_at t stage.Running b runs) tt (sym (home_at node t x b is home))
 
 pub may_send : {past : List Step} {a : PoolState} (from to k t : ℕ) (x : Entry) → IsBehind past a → from < a.nodes → to < a.nodes
-    → from ≢ to → slice_get a.ways k ≡ Some way.Out → slice_get a.stages t ≡ Some stage.Running → slice_get a.tasks t ≡ Some x → x.node ≡ from
+    → from ≢ to → slice_get a.ways k ≡ Some way.Out → slice_get a.stages t ≡ Some stage.Running → slice_get a.tasks t ≡ Some x → x.node
+    ≡ from
     → MayBeRecorded a.journal.recorded.nodes from past (sending from to k)
 may_send {past} {a} from to k t x b f l apart out runs is home =
     may_be_recorded from (sending from to k) b refl refl (

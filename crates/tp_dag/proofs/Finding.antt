@@ -86,7 +86,8 @@ arrives_test {a} node k c =
 
 unsent_test : {a : BoardState} (t k : ℕ) → (u : IsUnsent t k a) → IsTrue (is_unsent t u.edge)
 unsent_test t k u =
-    both_true (u.edge.source == t) (is_out u.edge.way) (subst (λ (n : ℕ). IsTrue (u.edge.source == n)) u.source (same_true u.edge.source)) (ap is_out u.out)
+    both_true (u.edge.source == t) (is_out u.edge.way) (subst (λ (n : ℕ). IsTrue (u.edge.source == n)) u.source (same_true u.edge.source))
+    (ap is_out u.out)
 
 never : (b : Bool) → IsTrue b → IsFalse b → ⊥
 never b t f = cc
@@ -129,7 +130,8 @@ found_ready p now node t xs same are l can =
     subst (λ (a : BoardState). IsReady node t a) same
     (ready_from_test node t x.0 (subst (λ (ys : List Task). slice_get ys t ≡ Some x.0) are x.1) (can x.0 x.1))
 
-pub found_no_ready : (p : Inside) (now : BoardState) (node : ℕ) (xs : List Task) → board_of p ≡ now → xs ≡ p.tasks.items → BoardFacts (board_of p)
+pub found_no_ready : (p : Inside) (now : BoardState) (node : ℕ) (xs : List Task) → board_of p ≡ now → xs ≡ p.tasks.items
+    → BoardFacts (board_of p)
     → ((t : ℕ) (x : Task) → slice_get xs t ≡ Some x → IsFalse (is_ready node x)) → HasNoneReady node now
 found_no_ready p now node xs same are f none =
     subst (λ (a : BoardState). HasNoneReady node a) same

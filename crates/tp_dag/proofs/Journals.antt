@@ -1,9 +1,9 @@
 -- How the lists of steps behind a journal go on with its calls.
-use Rattle.std.proofs.Common.{ℕ, zero, suc, ◌≡◌, ◌<◌, ◌+◌, List, [], ◌∷◌, ◌++◌, Bool, true, false, Option, Some, None, Result, length, refl, ap, subst, sym, ◌∙◌, arith, IsTrue, IsFalse, inl, inr}
+use Rattle.std.proofs.Common.{ℕ, zero, suc, ◌≡◌, ◌<◌, ◌+◌, List, [], ◌∷◌, ◌++◌, Bool, true, false, Option, Some, None, Result, length, refl, ap, subst, sym, ◌∙◌, arith, IsTrue, IsFalse}
 use Rattle.std.specs.Prelude.{◌||◌, ◌==◌, nat_le, Ok, Err, OnOk, OnErr, IfErr, is_some, slice_get, not}
 use Rattle.std.specs.List.{list_any, slice_index_or}
 use Rattle.std.specs.Option.{option_map}
-use Rattle.std.proofs.lemmas.Bool.Decides.{nat_tests}
+use Rattle.std.proofs.lemmas.Bool.{both_ways}
 use Rattle.std.proofs.Math.ListN.{set}
 use Rattle.tp_base.specs.declared.Refusal.{Refusal}
 use Rattle.tp_base.specs.declared.Refusal.TheVariants as refusal
@@ -18,25 +18,15 @@ use Rattle.tp_wave.specs.Sums.{judgement, is_ended}
 use Rattle.tp_core.specs.Accepted.{IsRefusedFor, no_numbers}
 use Rattle.tp_core.specs.Recording.{Recorded, Backs, MayBeRecorded, IsRecorded, HasSettled, record_checks, limit_checks, kept_checks, settling_checks}
 use Rattle.tp_core.specs.Run.{world, node_of, IsLawful}
-use Rattle.tp_core.specs.World.{World, Action, openings, is_action, Opening, OfMessage, is_open, IsQuiet}
-use Rattle.tp_core.specs.Pool.{opened, closed}
+use Rattle.tp_core.specs.World.{World, is_open, IsQuiet}
 use Rattle.tp_core.specs.declared.numbers.NodeNumbers.{NodeNumbers}
 use Rattle.tp_core.proofs.Ending.{same_quiet}
 use Rattle.tp_dag.specs.declared.journal.Journal.TheInside.{Inside}
 use Rattle.tp_dag.specs.JournalKept.{journal_of}
-use Rattle.tp_dag.specs.Journal.{JournalState, IsBehindJournal, JournalLeads, Records, IsRefusedForRoom, Adds, IsJudged, keeps, receipt, is_of_room, is_plain, is_readying, is_ending}
-use Rattle.tp_dag.proofs.Counting.{same_or}
-use Rattle.tp_dag.proofs.Lists.{set_apart}
+use Rattle.tp_dag.specs.Journal.{JournalState, IsBehindJournal, JournalLeads, Records, IsRefusedForRoom, Adds, IsJudged, keeps, receipt, is_of_room, is_plain, is_readying, is_ending, has_open, is_receiving, LacksRoomForSteps}
 use Rattle.tp_dag.proofs.Steps.{one_generation, adds_more}
-use Rattle.tp_dag.proofs.Worlds.{may_come, plain_opens, opening_stays, opening_by_message, message_by_opening, message_stays, opens_now, controls_stay}
-
-or_left : (a b : Bool) → IsTrue a → IsTrue (a || b)
-or_left true b h = refl
-or_left false b h = cc
-
-or_right : (a b : Bool) → IsTrue b → IsTrue (a || b)
-or_right true b h = refl
-or_right false b h = h
+use Rattle.tp_dag.proofs.Worlds.{may_come, plain_opens, controls_stay}
+use Rattle.tp_dag.proofs.Actions.{opening_open, message_open, same_open, ready_closes, received_open, end_closes, first_open}
 
 -- ---- a step that is lawful may be recorded
 pub may_record : {past : List Step} {a : Recorded} (node : ℕ) (s : Step) → Backs past a → IsFalse (is_control s || is_reopen s)
@@ -63,12 +53,9 @@ pub records_plain : (a : JournalState) (new : Recorded) (node : ℕ) (s : Step) 
     → new.nodes ≡ a.recorded.nodes → Records node s a (record a { recorded = new })
 records_plain a new node s plain is same = λ past b may. record {
   backs = is past b.backs may;
-  openings = λ i from l.
-      subst (λ (n : ℕ). IsTrue (is_open i Opening (world n (s ∷ past)))) (sym same)
-      (plain_opens s i Opening (world a.recorded.nodes past) plain ∙ b.openings i from (omega (arith, l, same)));
-  open_messages = λ i k at.
-      subst (λ (n : ℕ). IsTrue (is_open i (OfMessage k) (world n (s ∷ past)))) (sym same)
-      (plain_opens s i (OfMessage k) (world a.recorded.nodes past) plain ∙ b.open_messages i k at);
+  actions = λ i kind.
+      subst (λ (n : ℕ). is_open i kind (world n (s ∷ past)) ≡ has_open (record a { recorded = new }) i kind) (sym same)
+      (plain_opens s i kind (world a.recorded.nodes past) plain ∙ (b.actions i kind ∙ same_open a new i kind same));
 }
 
 -- ---- a refusal for room
@@ -109,11 +96,10 @@ limits_room x under (s) o k asks r h f = by_kept o 1 k asks r h f
 pub refused_with : (r : Result (Unit {0}) Refusal) (e : Refusal) (P : Refusal → Type 0) → r ≡ Err e → P e → IfErr r P
 refused_with r e P h x = rw h x
 
-pub at_place : (xs : List (Option ℕ)) (i k : ℕ) (d : Option ℕ) → i < length xs → slice_index_or xs i d ≡ Some k
-    → slice_get xs i ≡ Some (Some k)
-at_place [] i k d l e = absurd (omega (arith, l))
-at_place (x ∷ xs) zero k d l e = ap Some e
-at_place (x ∷ xs) (suc i) k d l e = at_place xs i k d (omega (arith, l)) e
+pub at_place : (xs : List (Option ℕ)) (i : ℕ) (o d : Option ℕ) → i < length xs → slice_index_or xs i d ≡ o → slice_get xs i ≡ Some o
+at_place [] i o d l e = absurd (omega (arith, l))
+at_place (x ∷ xs) zero o d l e = ap Some e
+at_place (x ∷ xs) (suc i) o d l e = at_place xs i o d (omega (arith, l)) e
 
 -- what the recorder says of a refused step, in the words of the journal
 pub refused_for_room : (a : JournalState) (node : ℕ) (s : Step) (r : Refusal)
@@ -131,6 +117,12 @@ pub record_refused : (p : Inside) (now : JournalState) (node : ℕ) (s : Step) (
 record_refused p now node s (Ok u) same h = tt
 record_refused p now node s (Err e) same h =
     subst (λ (a : JournalState). IsRefusedForRoom node s a e) same (refused_for_room (journal_of p) node s e h)
+
+-- a step that raises no counter
+by_steps : (o : Option (List Step)) (r : Refusal) → IsRefusedFor (first_refusal (kept_checks o 1)) (is_some o) r
+    → LacksRoomForSteps (is_some o) r
+by_steps None r h = absurd (both_ways false refl h.1)
+by_steps (Some xs) r h = (refl, one_check _ _ [] none_left true true r h (λ k. k))
 
 by_settling : (ended quiet : Bool) (o : Option (List Step)) (more : ℕ) (k : Bool) (r : Refusal) → ended ≡ false → quiet ≡ true
     → IsRefusedFor (first_refusal ((ended, refusal.Ended) ∷ (not quiet, refusal.NotIdle) ∷ kept_checks o more)) (is_some o) r
@@ -155,20 +147,22 @@ ready_step node = Ready (record { 0 = node })
 pub may_ready : {past : List Step} {a : JournalState} → IsBehindJournal past a → a.ready_nodes < a.recorded.nodes
     → MayBeRecorded a.recorded.nodes a.ready_nodes past (ready_step a.ready_nodes)
 may_ready {past} {a} b l =
-    may_record a.ready_nodes (ready_step a.ready_nodes) b.backs refl refl (l, b.openings a.ready_nodes (omega arith) l) tt refl
+    may_record a.ready_nodes (ready_step a.ready_nodes) b.backs refl refl (l, opening_open a.ready_nodes b (omega arith) l) tt refl
+
+pub ready_refused : (a : JournalState) (r : Refusal) → a.ready_nodes < a.recorded.nodes
+    → ((past : List Step) → Backs past a.recorded → MayBeRecorded a.recorded.nodes a.ready_nodes past (ready_step a.ready_nodes)
+    → IsRefusedFor (first_refusal (record_checks a.recorded a.ready_nodes (ready_step a.ready_nodes))) (is_some a.recorded.steps) r)
+    → (past : List Step) → IsBehindJournal past a → LacksRoomForSteps (keeps a) r
+ready_refused a r l why past b = by_steps a.recorded.steps r (why past b.backs (may_ready b l))
 
 readied : {past : List Step} {a : JournalState} (new : Recorded) → IsBehindJournal past a → a.ready_nodes < a.recorded.nodes
     → IsRecorded a.ready_nodes (ready_step a.ready_nodes) a.recorded new → new.nodes ≡ a.recorded.nodes
     → IsBehindJournal (ready_step a.ready_nodes ∷ past) (record a { recorded = new; ready_nodes = a.ready_nodes + 1 })
 readied {past} {a} new b l is same = record {
   backs = is past b.backs (may_ready b l);
-  openings = λ i from within.
-      subst (λ (n : ℕ). IsTrue (is_open i Opening (world n (ready_step a.ready_nodes ∷ past)))) (sym same)
-      (opening_stays i a.ready_nodes (world a.recorded.nodes past) (λ e. omega (arith, e, from))
-      (b.openings i (omega (arith, from)) (omega (arith, within, same))));
-  open_messages = λ i k at.
-      subst (λ (n : ℕ). IsTrue (is_open i (OfMessage k) (world n (ready_step a.ready_nodes ∷ past)))) (sym same)
-      (message_by_opening i a.ready_nodes k (world a.recorded.nodes past) (b.open_messages i k at));
+  actions = λ i kind.
+      subst (λ (n : ℕ). is_open i kind (world n (ready_step a.ready_nodes ∷ past))
+      ≡ has_open (record a { recorded = new; ready_nodes = a.ready_nodes + 1 }) i kind) (sym same) (ready_closes new b l same i kind);
 }
 
 pub readies_one : (a : JournalState) (new : Recorded) → a.ready_nodes < a.recorded.nodes
@@ -193,31 +187,23 @@ leads_on x y = λ past b.
     let one = x past b in
     let two = y one.now one.behind in record { now = two.now; behind = two.behind; related = adds_more one.related two.related }
 
--- ---- a node receives a message
-received_now : (node k : ℕ) (rs : List (Option ℕ)) (i m : ℕ) (w : World)
-    → ((j l : ℕ) → slice_get rs j ≡ Some (Some l) → IsTrue (is_open j (OfMessage l) w))
-    → slice_get (set rs node (Some k)) i ≡ Some (Some m)
-    → IsTrue (is_open i (OfMessage m) (record w { actions = opened node (OfMessage k) w.actions }))
-received_now node k rs i m w old at =
-    elim (set_apart rs node i (Some m) (Some k) at) [
-      | inl h ↦ or_right _ _ (old i m h.0)
-      | inr h ↦ (let same : m ≡ k = (let e = h.1 in cc) in
-          subst (λ (l : ℕ). IsTrue (is_open i (OfMessage l) (record w { actions = opened node (OfMessage k) w.actions }))) (sym same)
-          (subst (λ (j : ℕ). IsTrue (is_open j (OfMessage k) (record w { actions = opened node (OfMessage k) w.actions }))) (sym h.0)
-          (opens_now node k w.actions)))
-    ]
+-- a refusal of a later call
+pub lacks_later : {test : Step → Bool} (a b : JournalState) (r : Refusal) → JournalLeads (Adds test) a b → keeps b ≡ keeps a
+    → ((past : List Step) → IsBehindJournal past b → LacksRoomForSteps (keeps b) r) → (past : List Step) → IsBehindJournal past a
+    → LacksRoomForSteps (keeps a) r
+lacks_later a b r leads same h past x =
+    subst (λ (k : Bool). LacksRoomForSteps k r) same (h (leads past x).now (leads past x).behind)
 
-pub records_receipt : (a : JournalState) (new : Recorded) (node k : ℕ) → IsRecorded node (receipt node k) a.recorded new
-    → new.nodes ≡ a.recorded.nodes
+-- ---- a node receives a message
+pub records_receipt : (a : JournalState) (new : Recorded) (node k : ℕ) → slice_get a.receiving node ≡ Some None
+    → IsRecorded node (receipt node k) a.recorded new → new.nodes ≡ a.recorded.nodes
     → Records node (receipt node k) a (record a { recorded = new; receiving = set a.receiving node (Some k) })
-records_receipt a new node k is same = λ past b may. record {
+records_receipt a new node k none is same = λ past b may. record {
   backs = is past b.backs may;
-  openings = λ i from l.
-      subst (λ (n : ℕ). IsTrue (is_open i Opening (world n (receipt node k ∷ past)))) (sym same)
-      (or_right _ _ (b.openings i from (omega (arith, l, same))));
-  open_messages = λ i m at.
-      subst (λ (n : ℕ). IsTrue (is_open i (OfMessage m) (world n (receipt node k ∷ past)))) (sym same)
-      (received_now node k a.receiving i m (world a.recorded.nodes past) b.open_messages at);
+  actions = λ i kind.
+      subst (λ (n : ℕ). is_open i kind (world n (receipt node k ∷ past))
+      ≡ has_open (record a { recorded = new; receiving = set a.receiving node (Some k) }) i kind) (sym same)
+      (received_open a new node k i kind _ none same (b.actions i kind));
 }
 
 -- ---- a node ends a message
@@ -226,29 +212,17 @@ end_step node k = MessageEnd (record { 0 = node }) (record { 0 = k }) (record { 
 
 pub may_end : {past : List Step} {a : JournalState} (node k : ℕ) → IsBehindJournal past a → node < a.recorded.nodes
     → slice_get a.receiving node ≡ Some (Some k) → MayBeRecorded a.recorded.nodes node past (end_step node k)
-may_end node k b l at = may_record node (end_step node k) b.backs refl refl (l, b.open_messages node k at) refl refl
-
-ended_now : (node k : ℕ) (rs : List (Option ℕ)) (i m : ℕ) (w : World)
-    → ((j l : ℕ) → slice_get rs j ≡ Some (Some l) → IsTrue (is_open j (OfMessage l) w))
-    → slice_get (set rs node None) i ≡ Some (Some m)
-    → IsTrue (is_open i (OfMessage m) (record w { actions = closed node (OfMessage k) w.actions }))
-ended_now node k rs i m w old at =
-    elim (set_apart rs node i (Some m) None at) [
-      | inl h ↦ message_stays i node m k w h.1 (old i m h.0)
-      | inr h ↦ (let e = h.1 in cc)
-    ]
+may_end node k b l at = may_record node (end_step node k) b.backs refl refl (l, message_open node k b at) refl refl
 
 ended : {past : List Step} {a : JournalState} (new : Recorded) (node k : ℕ) → IsBehindJournal past a → node < a.recorded.nodes
     → slice_get a.receiving node ≡ Some (Some k) → IsRecorded node (end_step node k) a.recorded new → new.nodes ≡ a.recorded.nodes
     → IsBehindJournal (end_step node k ∷ past) (record a { recorded = new; receiving = set a.receiving node None })
 ended {past} {a} new node k b l at is same = record {
   backs = is past b.backs (may_end node k b l at);
-  openings = λ i from within.
-      subst (λ (n : ℕ). IsTrue (is_open i Opening (world n (end_step node k ∷ past)))) (sym same)
-      (opening_by_message i node k (world a.recorded.nodes past) (b.openings i from (omega (arith, within, same))));
-  open_messages = λ i m h.
-      subst (λ (n : ℕ). IsTrue (is_open i (OfMessage m) (world n (end_step node k ∷ past)))) (sym same)
-      (ended_now node k a.receiving i m (world a.recorded.nodes past) b.open_messages h);
+  actions = λ i kind.
+      subst (λ (n : ℕ). is_open i kind (world n (end_step node k ∷ past))
+      ≡ has_open (record a { recorded = new; receiving = set a.receiving node None }) i kind) (sym same)
+      (end_closes new node k b at same i kind);
 }
 
 pub ends_one : (a : JournalState) (new : Recorded) (node k : ℕ) → node < a.recorded.nodes → slice_get a.receiving node ≡ Some (Some k)
@@ -276,12 +250,9 @@ settled {past} {a} new w count b s same =
     let stays : world a.recorded.nodes (later ++ past) ≡ world a.recorded.nodes past =
     controls_stay a.recorded.nodes later past (s.settled.control) in record {
       backs = subst (λ (xs : List Step). Backs xs new) s.settled.steps s.backs;
-      openings = λ i from l.
-          subst (λ (n : ℕ). IsTrue (is_open i Opening (world n (later ++ past)))) (sym same)
-          (subst (λ (v : World). IsTrue (is_open i Opening v)) (sym stays) (b.openings i from (omega (arith, l, same))));
-      open_messages = λ i k at.
-          subst (λ (n : ℕ). IsTrue (is_open i (OfMessage k) (world n (later ++ past)))) (sym same)
-          (subst (λ (v : World). IsTrue (is_open i (OfMessage k) v)) (sym stays) (b.open_messages i k at));
+      actions = λ i kind.
+          subst (λ (n : ℕ). is_open i kind (world n (later ++ past)) ≡ has_open (record a { recorded = new }) i kind) (sym same)
+          (ap (λ (v : World). is_open i kind v) stays ∙ (b.actions i kind ∙ same_open a new i kind same));
     }
 
 pub settles : (a : JournalState) (new : Recorded) (w count : ℕ)
@@ -301,30 +272,15 @@ settles a new w count all same = λ past b.
     }
 
 -- ---- a new journal
-abbrev opening : ℕ → Action
-opening n = record { node = n; kind = Opening }
+pub behind_first : (a : JournalState) → Backs [] a.recorded → a.ready_nodes ≡ 0
+    → ((i k : ℕ) → is_receiving k (slice_get a.receiving i) ≡ false) → IsBehindJournal [] a
+behind_first a b ready none = record { backs = b; actions = first_open a ready none }
 
-opens_first : (n i : ℕ) → i < n → IsTrue (list_any (is_action i Opening) (openings n))
-opens_first zero i l = absurd (omega (arith, l))
-opens_first (suc n) i l = elim (same_or i n) [
-  | inl e ↦ subst (λ (m : ℕ). IsTrue (is_action m Opening (opening n) || list_any (is_action m Opening) (openings n))) (sym e)
-      (or_left (is_action n Opening (opening n)) _ (grind (arith, nat_tests)))
-  | inr o ↦ or_right _ _ (opens_first n i (omega (arith, l, o)))
-]
+none_in : (xs : List (Option ℕ)) → IsFalse (list_any is_some xs) → (i k : ℕ) → is_receiving k (slice_get xs i) ≡ false
+none_in [] h i k = refl
+none_in (None ∷ xs) h zero k = refl
+none_in (None ∷ xs) h (suc i) k = none_in xs h i k
+none_in (Some x ∷ xs) h i k = cc
 
-pub behind_first : (a : JournalState) → Backs [] a.recorded → ((i k : ℕ) → slice_get a.receiving i ≡ Some (Some k) → ⊥)
-    → IsBehindJournal [] a
-behind_first a b none = record {
-  backs = b;
-  openings = λ i from l. opens_first a.recorded.nodes i l;
-  open_messages = λ i k at. absurd (none i k at);
-}
-
-none_in : (xs : List (Option ℕ)) → IsFalse (list_any is_some xs) → (i k : ℕ) → slice_get xs i ≡ Some (Some k) → ⊥
-none_in [] h i k at = cc
-none_in (None ∷ xs) h zero k at = cc
-none_in (None ∷ xs) h (suc i) k at = none_in xs h i k at
-none_in (Some x ∷ xs) h i k at = cc
-
-pub none_open : (i k : ℕ) → slice_get (None ∷ None ∷ None ∷ None ∷ None ∷ None ∷ None ∷ None ∷ []) i ≡ Some (Some k) → ⊥
-none_open i k at = none_in (None ∷ None ∷ None ∷ None ∷ None ∷ None ∷ None ∷ None ∷ []) refl i k at
+pub none_open : (i k : ℕ) → is_receiving k (slice_get (None ∷ None ∷ None ∷ None ∷ None ∷ None ∷ None ∷ None ∷ []) i) ≡ false
+none_open i k = none_in (None ∷ None ∷ None ∷ None ∷ None ∷ None ∷ None ∷ None ∷ []) refl i k

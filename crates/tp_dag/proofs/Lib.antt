@@ -10,6 +10,7 @@ pub mod Results
 pub mod Finding
 pub mod Steps
 pub mod Worlds
+pub mod Actions
 pub mod Journals
 pub mod Facts
 pub mod Ended

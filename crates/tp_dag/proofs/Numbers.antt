@@ -50,7 +50,8 @@ some_ready t h x c is l home b = counts_some t h x c is l
     (ap (λ (n : ℕ). one ((x.node == n) && may_begin x)) home ∙ (one_here x.node (may_begin x) ∙ ap one b))
 
 -- an edge is written, and the number of its node
-pub coming_set : {edges : List Edge} {cs : List ℕ} (k m : ℕ) (e : Edge) (w : Way) → AreCounts is_coming edges cs → slice_get edges k ≡ Some e
+pub coming_set : {edges : List Edge} {cs : List ℕ} (k m : ℕ) (e : Edge) (w : Way) → AreCounts is_coming edges cs → slice_get edges k
+    ≡ Some e
     → e.to < MAX_NODES → m + one (is_under_way e.way) ≡ slice_index_or cs e.to 0 + one (is_under_way w)
     → AreCounts is_coming (set edges k (moved e w)) (set cs e.to m)
 coming_set k m e w c at l g = counts_set k e.to m e (moved e w) c at l

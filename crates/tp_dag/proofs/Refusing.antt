@@ -1,15 +1,18 @@
 -- What the refusals of a pool mean: for which check, for lack of room, or because a task may be dispatched.
-use Rattle.std.proofs.Common.{ℕ, ◌≡◌, ◌≢◌, ◌<◌, ◌≤◌, ◌⊎◌, List, Bool, true, false, refl, ap, subst, ◌∙◌, ◌↔◌, sym, arith, IsTrue, IsFalse, Result, Option, Some, None, inr}
+use Rattle.std.proofs.Common.{ℕ, ◌≡◌, ◌≢◌, ◌<◌, ◌≤◌, ◌⊎◌, List, Bool, true, false, length, map, refl, ap, subst, ◌∙◌, ◌↔◌, sym, arith, IsTrue, IsFalse, Result, Option, Some, None, inr}
 use Rattle.std.specs.Prelude.{◌==◌, ◌&&◌, Ok, Err, IfErr, IfSome, is_some, slice_get, nat_le}
+use Rattle.std.proofs.lemmas.Bool.{both_ways}
 use Rattle.std.proofs.lemmas.Bool.Decides.{nat_tests}
+use Rattle.std.proofs.lemmas.List.{length-map}
 use Rattle.tp_base.specs.declared.limits.TheConstants.{MAX_STEPS}
 use Rattle.tp_base.specs.declared.Refusal.{Refusal}
 use Rattle.tp_base.specs.declared.Refusal.TheVariants as refusal
 use Rattle.tp_base.specs.declared.Step.{Step}
-use Rattle.tp_base.specs.declared.Step.TheVariants.{Begin, Done}
+use Rattle.tp_base.specs.declared.Step.TheVariants.{Insert, Begin, Done}
+use Rattle.tp_base.specs.declared.Inputs.{Inputs}
 use Rattle.tp_base.specs.Checks.{first_refusal}
 use Rattle.tp_wave.specs.Sums.{is_ended}
-use Rattle.tp_core.specs.World.{IsQuiet}
+use Rattle.tp_core.specs.World.{IsActive, IsQuiet}
 use Rattle.tp_core.specs.Run.{world}
 use Rattle.tp_dag.specs.declared.entry.Edge.{Edge}
 use Rattle.tp_dag.specs.declared.entry.Entry.{Entry}
@@ -19,12 +22,12 @@ use Rattle.tp_dag.specs.declared.entry.Way.TheVariants as way
 use Rattle.tp_dag.specs.declared.pool.Pool.TheInside.{Inside}
 use Rattle.tp_dag.specs.Board as on_board
 use Rattle.tp_dag.specs.Counts.{BoardFacts}
-use Rattle.tp_dag.specs.Journal.{IsBehindJournal, IsRefusedForRoom, keeps, is_of_room, receipt}
-use Rattle.tp_dag.specs.State.{PoolState, AddsOnly, LacksInput, HasNoneReady, MayWait, IsComing, outside_checks, release_checks}
+use Rattle.tp_dag.specs.Journal.{IsBehindJournal, IsRefusedForRoom, LacksRoomForSteps, keeps, is_of_room, receipt}
+use Rattle.tp_dag.specs.State.{PoolState, IsFinished, AddsOnly, LacksInput, HasNoneReady, MayWait, IsComing, outside_checks, release_checks}
 use Rattle.tp_dag.specs.Kept.{state_of, entry_of, stage_of, outside_of, way_of, IsPool, IsConsistent, IsHome, IsFromAfar, sending}
-use Rattle.tp_dag.proofs.Lists.{at_below, map_get, map_got}
+use Rattle.tp_dag.proofs.Lists.{at_below, map_get, map_got, past_end}
 use Rattle.tp_dag.proofs.Finding.{ready_lacks_none}
-use Rattle.tp_dag.proofs.Facts.{may_begin, may_complete, may_send}
+use Rattle.tp_dag.proofs.Facts.{may_begin, may_complete, may_insert, may_send}
 use Rattle.tp_dag.proofs.Keeping.{receipt_may, home_of_task}
 use Rattle.tp_dag.proofs.Reading.{lacks_input}
 use Rattle.tp_dag.proofs.Views.{some_same, lacks_seen, lacks_board, consistent}
@@ -63,6 +66,29 @@ pub room_if : {A : Type 0} (p : Inside) (now : PoolState) (r : Result A Refusal)
     → IfErr r (λ e. IsTrue (is_of_room (keeps now.journal) e))
 room_if p now (Ok u) k same h = tt
 room_if p now (Err e) k same h = room_now p now e same (h k.past k.behind.journal)
+
+pub lacks_if : {A : Type 0} (p : Inside) (now : PoolState) (r : Result A Refusal) → IsPool p → state_of p ≡ now
+    → IfErr r (λ e. (past : List Step) → IsBehindJournal past p.journal → LacksRoomForSteps (keeps p.journal) e)
+    → IfErr r (LacksRoomForSteps (keeps now.journal))
+lacks_if p now (Ok u) k same h = tt
+lacks_if p now (Err e) k same h =
+    subst (λ (a : PoolState). LacksRoomForSteps (keeps a.journal) e) same (h k.past k.behind.journal)
+
+-- with more memory it is refused for lack of room too
+pub room_or_memory : (k : Bool) (r : Refusal) → IsTrue (is_of_room k r) → IsTrue (is_of_room true r)
+room_or_memory true r h = h
+room_or_memory false (refusal.HistoryFull n) h = refl
+room_or_memory false (r) h = cc
+
+pub insert_refused : (p : Inside) (node t : ℕ) (i : Inputs) (r : Refusal) → IsPool p → node < p.nodes → t ≡ length p.board.tasks
+    → ((past : List Step) → IsBehindJournal past p.journal → IsActive node (world p.journal.recorded.nodes past))
+    → IsRefusedForRoom node (Insert (record { 0 = node }) (record { 0 = t }) i) p.journal r → IsTrue (is_of_room true r)
+insert_refused p node t i r k within number active h =
+    let unknown : slice_get (map stage_of p.board.tasks) t ≡ None =
+    past_end (map stage_of p.board.tasks) t (let l = length-map p.board.tasks stage_of in omega (arith, l, number)) in
+    room_or_memory (keeps p.journal) r
+    (h k.past k.behind.journal (may_insert node t i k.behind within unknown
+    (subst (λ (n : ℕ). IsActive node (world n k.past)) k.behind.nodes (active k.past k.behind.journal))))
 
 pub begin_refused : (p : Inside) (node t : ℕ) (r : Refusal) → IsPool p → on_board.IsReady node t p.board
     → IsRefusedForRoom node (Begin (record { 0 = t })) p.journal r → IsTrue (is_of_room (keeps p.journal) r)
@@ -119,6 +145,13 @@ pub settle_refused : (p : Inside) (b : Bool) (r : Refusal) → IsPool p → is_s
 settle_refused p b r k none quiet is h =
     h k.past k.behind.journal (ap (λ (n : ℕ). is_ended n k.past) k.behind.nodes ∙ (sym k.ended ∙ none))
     ((quiet k.past k.behind.journal).0 is)
+
+-- the journal does not report the end, and the pool is not over
+pub not_over : (p : Inside) (now : PoolState) (r : Bool) → IsPool p → state_of p ≡ now
+    → ((past : List Step) → IsBehindJournal past p.journal → r ≡ is_ended p.journal.recorded.nodes past) → IsFalse r → IsFinished now → ⊥
+not_over p now r k same told off over =
+    let here : IsFinished (state_of p) = subst (λ (a : PoolState). IsFinished a) (sym same) over in
+    both_ways r off (told k.past k.behind.journal ∙ (ap (λ (n : ℕ). is_ended n k.past) k.behind.nodes ∙ (here k.past k.behind).judged))
 
 -- ---- what the checks say
 abbrev Refused : Refusal → Result (Unit {0}) Refusal → Type 0

@@ -1,5 +1,5 @@
 -- The beginning of the same graph once more.
-use Rattle.std.proofs.Common.{arith, ℕ, ◌+◌, ◌<◌, ◌≡◌, List, [], ◌∷◌, ◌++◌, map, Bool, true, false, length, refl, ap, subst, ◌∙◌, sym, IsTrue, IsFalse, Some, None, inl, inr}
+use Rattle.std.proofs.Common.{arith, ℕ, ◌+◌, ◌<◌, ◌≤◌, ◌≡◌, List, [], ◌∷◌, ◌++◌, map, Bool, true, false, length, refl, ap, subst, ◌∙◌, sym, IsTrue, IsFalse, Some, None, inl, inr}
 use Rattle.std.specs.Prelude.{◌==◌, slice_get, is_some, if◌then◌else◌}
 use Rattle.std.specs.List.{find, list_all, list_any}
 use Rattle.std.specs.Option.{option_map}
@@ -7,6 +7,7 @@ use Rattle.std.proofs.lemmas.List.{length-map}
 use Rattle.std.proofs.lemmas.Option.{slice_get_within, slice_get_past}
 use Rattle.std.proofs.lemmas.Bool.{cases_lt}
 use Rattle.tp_base.specs.declared.Inputs.{Inputs}
+use Rattle.tp_base.specs.declared.Refusal.{Refusal}
 use Rattle.tp_base.specs.declared.Step.{Step}
 use Rattle.tp_base.specs.declared.Step.TheVariants.{Insert, Ready}
 use Rattle.tp_wave.specs.Sums.{is_ended}
@@ -28,12 +29,13 @@ use Rattle.tp_dag.specs.declared.entry.Way.TheVariants as way
 use Rattle.tp_dag.specs.declared.pool.Pool.TheInside.{Inside}
 use Rattle.tp_dag.specs.Again.{IsAgain, IsBeginning, is_beginning}
 use Rattle.tp_dag.specs.Board.{BoardState, IsReset, described, not_passed_on}
-use Rattle.tp_dag.specs.Journal.{JournalState, IsBehindJournal, JournalLeads, Records, Adds, SameKind, is_readying, keeps}
+use Rattle.tp_dag.specs.Journal.{JournalState, IsBehindJournal, JournalLeads, Records, Adds, SameKind, IsRefusedForRoom, is_of_room, is_readying, keeps}
 use Rattle.tp_dag.specs.Kept.{state_of, seen, entry_of, stage_of, outside_of, input_of, way_of, IsPool}
 use Rattle.tp_dag.specs.State.{PoolState, IsBehind, IsFinished, life_for}
 use Rattle.tp_dag.proofs.Lists.{at_below, map_got}
 use Rattle.tp_dag.proofs.Counting.{same_or}
 use Rattle.tp_dag.proofs.Ended.{finished}
+use Rattle.tp_dag.proofs.Actions.{opening_open, are_ready}
 use Rattle.tp_dag.proofs.Journals.{may_record}
 use Rattle.tp_dag.proofs.Worlds.{active_open, home_here, home_there, inserted_here, inserted_there}
 
@@ -57,7 +59,12 @@ may_insert : {tasks : List Task} {a : JournalState} (count node : ℕ) (k : Inpu
 may_insert {tasks} {a} count node k b ready l =
     let w : World = world a.recorded.nodes b.steps in
     may_record node (inserts node count k) b.behind.backs refl refl
-    (l, b.no_others count (omega arith), active_open node Opening w (b.behind.openings node (omega (arith, ready)) l)) tt refl
+    (l, b.no_others count (omega arith), active_open node Opening w (opening_open node b.behind (omega (arith, ready)) l)) tt refl
+
+-- an insertion is refused for lack of room alone
+pub insert_refused : {tasks : List Task} {a : JournalState} (count node : ℕ) (k : Inputs) (r : Refusal) (b : IsBeginning tasks count a)
+    → a.ready_nodes ≡ 0 → node < a.recorded.nodes → IsRefusedForRoom node (inserts node count k) a r → IsTrue (is_of_room (keeps a) r)
+insert_refused count node k r b ready l h = h b.steps b.behind (may_insert count node k b ready l)
 
 pub inserts_more : {tasks : List Task} {old new : JournalState} (count : ℕ) (x : Task) (k : Inputs) → IsBeginning tasks count old
     → old.ready_nodes ≡ 0 → slice_get tasks count ≡ Some x → x.node < old.recorded.nodes → k.count ≡ 0
@@ -220,8 +227,9 @@ kept_again p q k r g size kept nodes keeps_steps ended = record {
 
 pub is_again : (p q : Inside) (now : PoolState) → IsPool p → state_of p ≡ now → IsReset p.board q.board
     → IsBeginning p.board.tasks (length p.board.tasks) q.journal → q.journal.recorded.nodes ≡ p.board.nodes
-    → keeps q.journal ≡ p.keeps_steps → q.nodes ≡ p.nodes → q.progress ≡ record { started = true; extended = false } → IsAgain now (state_of q)
-is_again p q now k same r g size kept nodes progress =
+    → q.journal.recorded.nodes ≤ q.journal.ready_nodes → keeps q.journal ≡ p.keeps_steps → q.nodes ≡ p.nodes
+    → q.progress ≡ record { started = true; extended = false } → IsAgain now (state_of q)
+is_again p q now k same r g size all kept nodes progress =
     subst (λ (a : PoolState). IsAgain a (state_of q)) same (record {
       nodes = nodes;
       started = ap (λ (x : Progress). x.started) progress;
@@ -232,6 +240,7 @@ is_again p q now k same r g size kept nodes progress =
       ways = all_out r;
       outside = λ t n h. let x = map_got outside_of q.board.tasks t n h in sym x.2 ∙ r.outside t x.0 x.1;
       keeps = kept ∙ k.keeps;
+      ready = are_ready (state_of q) (let b = k.board in omega (arith, size, all, nodes, b));
       begun = record {
         steps = g.steps;
         behind = begun_behind r q.journal g q.nodes q.progress (size ∙ (k.board ∙ sym nodes));

@@ -74,7 +74,8 @@ written_more {write = write} {old = old} {now = now} k d w l = record {
   long = length-set now k (write (slice_index_or now k d)) ∙ w.long;
   written = λ u x m h. elim (same_or u k) [
     | inl e ↦ subst (λ (j : ℕ). slice_get (set now k (write (slice_index_or now k d))) j ≡ Some (write x)) (sym e)
-        (get_here now k (write (slice_index_or now k d)) long ∙ ap (λ y. Some (write y)) (sym (same x (ap (λ (j : ℕ). slice_get old j) (sym e) ∙ h))))
+        (get_here now k (write (slice_index_or now k d)) long ∙ ap (λ y. Some (write y))
+        (sym (same x (ap (λ (j : ℕ). slice_get old j) (sym e) ∙ h))))
     | inr o ↦ get_apart now k u (write (slice_index_or now k d)) o ∙ w.written u x (omega (arith, m, o)) h
   ];
   left = λ u x m h. get_apart now k u (write (slice_index_or now k d)) (λ e. omega (arith, m, e)) ∙ w.left u x (omega (arith, m)) h;
@@ -86,7 +87,8 @@ written_more {write = write} {old = old} {now = now} k d w l = record {
     same : (x : _) → slice_get old k ≡ Some x → x ≡ slice_index_or now k d
     same x h = some_same x (slice_index_or now k d) (sym (w.left k x (omega arith) h) ∙ slice_get-get_or now k d long)
 
-pub written_all : {A : Type 0} {write : A → A} {old now : List A} (n : ℕ) → AreWritten write n old now → length old ≤ n → now ≡ map write old
+pub written_all : {A : Type 0} {write : A → A} {old now : List A} (n : ℕ) → AreWritten write n old now → length old ≤ n → now
+    ≡ map write old
 written_all {write = write} {old = old} {now = now} n w l =
     map_is write now old w.long (λ k x h. w.written k x (let m = slice_get_within old k x h in omega (arith, m, l)) h)
 
@@ -194,7 +196,8 @@ pub count_fits : {rs : List ℕ} (xs : List Task) (k h : ℕ) → AreCounts is_r
 count_fits xs k h c l few = counts_few h c l (let t = length-take k xs in omega (arith, t, few))
 
 -- ---- what the passes find
-pub reset_placed : {a : BoardState} (es : List Edge) (old : List Task) → BoardFacts a → es ≡ map not_passed_on a.edges → old ≡ map uncounted a.tasks
+pub reset_placed : {a : BoardState} (es : List Edge) (old : List Task) → BoardFacts a → es ≡ map not_passed_on a.edges → old
+    ≡ map uncounted a.tasks
     → (k : ℕ) (e : Edge) → slice_get es k ≡ Some e → (e.source < length old) × (e.target < length old)
 reset_placed {a} es old f edges tasks k e h =
     let g = map_from not_passed_on a.edges k e (ap (λ (xs : List Edge). slice_get xs k) (sym edges) ∙ h) in
@@ -227,7 +230,8 @@ module _ {a : BoardState} (ts : List Task) (es : List Edge) (f : BoardFacts a) (
   same_long = r.long ∙ length-map a.tasks uncounted
 
   -- what a task and an edge were
-  task_was : (t : ℕ) (x : Task) → slice_get ts t ≡ Some x → (y : Task) × (slice_get a.tasks t ≡ Some y) × (x ≡ recounted es es t (uncounted y))
+  task_was : (t : ℕ) (x : Task) → slice_get ts t ≡ Some x
+      → (y : Task) × (slice_get a.tasks t ≡ Some y) × (x ≡ recounted es es t (uncounted y))
   task_was t x h =
       let m = slice_get_within ts t x h in let l = same_long in
       let y = at_below a.tasks t (omega (arith, m, l)) in
@@ -259,7 +263,8 @@ module _ {a : BoardState} (ts : List Task) (es : List Edge) (f : BoardFacts a) (
   reset_facts = record {
     few_nodes = f.few_nodes;
     few_tasks = (let l = same_long in let n = f.few_tasks in omega (arith, l, n));
-    few_edges = (let l = ap (λ (xs : List Edge). length xs) edges ∙ length-map a.edges not_passed_on in let n = f.few_edges in omega (arith, l, n));
+    few_edges = (let l = ap (λ (xs : List Edge). length xs) edges ∙ length-map a.edges not_passed_on in let n = f.few_edges in omega
+        (arith, l, n));
     placed = λ k e h.
         let g = edge_was k e h in let p = f.placed k g.0 g.1 in
         subst (λ (d : Edge). IsPlaced ts d) (sym g.2) (record {

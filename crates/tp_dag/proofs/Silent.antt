@@ -26,8 +26,10 @@ within (z ∷ zs) [] k x e l = absurd (omega (arith, l))
 within (z ∷ zs) (y ∷ ys) zero x e l = (y, refl)
 within (z ∷ zs) (y ∷ ys) (suc k) x e l = within zs ys k x e (omega (arith, l))
 
-module _ (a : PoolState) (c : IsConsistent a) (idle : (node : ℕ) → node < a.nodes → IsIdle node a) (none : NoneRuns a) (awaited : NoneAwaited a) where
-  -- A task that was not dispatched lacks no input: its source is earlier, so it is done and the input was passed on, and it is not under way.
+module _ (a : PoolState) (c : IsConsistent a) (idle : (node : ℕ) → node < a.nodes → IsIdle node a) (none : NoneRuns a)
+    (awaited : NoneAwaited a) where
+  -- A task that was not dispatched lacks no input: its source is earlier, so it is done and the input was passed on, and it is not under
+  -- way.
   lacks_none : (t k : ℕ) → ((u : ℕ) → u < t → slice_get a.stages u ≡ Some stage.Done) → IsMissing t k a → ⊥
   lacks_none t k before m =
       let i : Input = m.input in
@@ -56,7 +58,8 @@ module _ (a : PoolState) (c : IsConsistent a) (idle : (node : ℕ) → node < a.
   by_stage t x is before stage.Done e = e
   by_stage t x is before stage.Running e = absurd (none t e)
   by_stage t x is before stage.Fresh e =
-      elim ((idle x.node (c.homes t x is)).lacks t x is refl e) [ inl m ↦ absurd (lacks_none t m.0 before m.1) | inr w ↦ absurd (awaited t w) ]
+      elim ((idle x.node (c.homes t x is)).lacks t x is refl e)
+      [ inl m ↦ absurd (lacks_none t m.0 before m.1) | inr w ↦ absurd (awaited t w) ]
 
   below : (n t : ℕ) → t < n → t < length a.tasks → slice_get a.stages t ≡ Some stage.Done
   below zero t l inside = absurd (omega (arith, l))

@@ -1,6 +1,6 @@
 -- How lives, homes, messages and actions go on with the steps of a pool, in one generation.
-use Rattle.std.proofs.Common.{ℕ, ◌≡◌, ◌≢◌, ◌≤◌, List, [], ◌∷◌, ◌++◌, Bool, true, false, Option, Some, refl, subst, sym, ◌∙◌, arith, IsTrue, IsFalse}
-use Rattle.std.specs.Prelude.{◌==◌, ◌&&◌, if◌then◌else◌, unwrap_or}
+use Rattle.std.proofs.Common.{ℕ, ◌≡◌, ◌≢◌, ◌≤◌, List, [], ◌∷◌, ◌++◌, Bool, Option, Some, refl, subst, sym, ◌∙◌, arith, IsTrue, IsFalse}
+use Rattle.std.specs.Prelude.{◌==◌, if◌then◌else◌, unwrap_or}
 use Rattle.std.specs.List.{find, list_any, list_all}
 use Rattle.std.specs.Option.{option_map}
 use Rattle.std.proofs.lemmas.Bool.{and_parts, both_ways}
@@ -13,8 +13,8 @@ use Rattle.tp_wave.specs.Control.{is_control}
 use Rattle.tp_wave.specs.Generations.{generation, IsOfGeneration}
 use Rattle.tp_core.specs.declared.life.Life.{Life}
 use Rattle.tp_core.specs.declared.life.Life.TheVariants as life
-use Rattle.tp_core.specs.World.{World, Task, Action, Message, Kind, Opening, Named, OfMessage, life_of, home_of, is_done, is_message, is_under_way, is_known_message, is_unfinished_at, is_action, is_open, is_at, same_kind, how_many, IsActive}
-use Rattle.tp_core.specs.Pool.{after, with_life, without, lacking, opened, closed}
+use Rattle.tp_core.specs.World.{World, Task, Action, Message, Kind, life_of, home_of, is_done, is_message, is_under_way, is_known_message, is_unfinished_at, is_action, is_open, is_at, same_kind, how_many, IsActive}
+use Rattle.tp_core.specs.Pool.{after, with_life, without, lacking}
 use Rattle.tp_core.specs.Run.{world, IsLawful}
 use Rattle.tp_core.specs.Generations.{MayCome}
 use Rattle.tp_dag.specs.Journal.{is_plain}
@@ -83,53 +83,6 @@ pub active_task : (t i : ℕ) (l : Life) (w : World) → life_of t w ≡ Some l 
 active_task t i l w h d e = let s = unfinished_in t i l w.tasks h d e in omega (arith, s)
 
 -- ---- actions
--- an action that is not closed stays open
-open_without : (p q : Action → Bool) (xs : List Action) → ((x : Action) → IsTrue (p x) → IsFalse (q x)) → IsTrue (list_any p xs)
-    → IsTrue (list_any p (without q xs))
-open_without p q [] apart h = h
-open_without p q (x ∷ xs) apart h = grind (arith, nat_tests, open_without p q xs apart, apart x, h)
-
-other_node : (i j : ℕ) (k m : Kind) (x : Action) → i ≢ j → IsTrue (is_action i k x) → IsFalse (is_action j m x)
-other_node i j k m x o h =
-    let at = (and_parts (x.node == i) (same_kind x.kind k) h).0 in grind (arith, nat_tests, o, at)
-
-opening_kind : (k : Kind) (m : ℕ) → IsTrue (same_kind k (OfMessage m)) → IsFalse (same_kind k Opening)
-opening_kind Opening m h = cc
-opening_kind (Named a) m h = refl
-opening_kind (OfMessage a) m h = refl
-
-message_kind : (k : Kind) (m : ℕ) → IsTrue (same_kind k Opening) → IsFalse (same_kind k (OfMessage m))
-message_kind Opening m h = refl
-message_kind (Named a) m h = refl
-message_kind (OfMessage a) m h = cc
-
-and_false : (a b : Bool) → IsFalse b → IsFalse (a && b)
-and_false true b h = h
-and_false false b h = refl
-
-pub opening_stays : (i j : ℕ) (w : World) → i ≢ j → IsTrue (is_open i Opening w)
-    → IsTrue (is_open i Opening (record w { actions = closed j Opening w.actions }))
-opening_stays i j w o h = open_without (is_action i Opening) (is_action j Opening) w.actions
-    (λ x a. other_node i j Opening Opening x o a) h
-
-pub opening_by_message : (i j m : ℕ) (w : World) → IsTrue (is_open i Opening w)
-    → IsTrue (is_open i Opening (record w { actions = closed j (OfMessage m) w.actions }))
-opening_by_message i j m w h = open_without (is_action i Opening) (is_action j (OfMessage m)) w.actions
-    (λ x a. and_false (x.node == j) _ (message_kind x.kind m (and_parts (x.node == i) (same_kind x.kind Opening) a).1)) h
-
-pub message_by_opening : (i j m : ℕ) (w : World) → IsTrue (is_open i (OfMessage m) w)
-    → IsTrue (is_open i (OfMessage m) (record w { actions = closed j Opening w.actions }))
-message_by_opening i j m w h = open_without (is_action i (OfMessage m)) (is_action j Opening) w.actions
-    (λ x a. and_false (x.node == j) _ (opening_kind x.kind m (and_parts (x.node == i) (same_kind x.kind (OfMessage m)) a).1)) h
-
-pub message_stays : (i j m k : ℕ) (w : World) → i ≢ j → IsTrue (is_open i (OfMessage m) w)
-    → IsTrue (is_open i (OfMessage m) (record w { actions = closed j (OfMessage k) w.actions }))
-message_stays i j m k w o h = open_without (is_action i (OfMessage m)) (is_action j (OfMessage k)) w.actions
-    (λ x a. other_node i j (OfMessage m) (OfMessage k) x o a) h
-
-pub opens_now : (i m : ℕ) (xs : List Action) → IsTrue (list_any (is_action i (OfMessage m)) (opened i (OfMessage m) xs))
-opens_now i m xs = grind (arith, nat_tests)
-
 -- a step that opens and ends no action
 pub plain_opens : (s : Step) (i : ℕ) (kind : Kind) (w : World) → IsTrue (is_plain s) → is_open i kind (after s w) ≡ is_open i kind w
 plain_opens (Insert j t k) i kind w h = refl

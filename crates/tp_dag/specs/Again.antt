@@ -12,7 +12,7 @@ use Rattle.tp_dag.specs.declared.entry.Task.{Task}
 use Rattle.tp_dag.specs.declared.entry.Way.{Way}
 use Rattle.tp_dag.specs.declared.entry.Way.TheVariants as way
 use Rattle.tp_dag.specs.Journal.{JournalState, IsBehindJournal, keeps}
-use Rattle.tp_dag.specs.State.{PoolState, IsBehind}
+use Rattle.tp_dag.specs.State.{PoolState, IsBehind, AreReady}
 
 -- a step that inserts a task, or ends the opening action of a node
 abbrev pub is_beginning : Step → Bool
@@ -36,7 +36,7 @@ pub record HasBegun (a : PoolState) : Type 0 where
   pub only : IsTrue (list_all is_beginning steps)
 
 -- `again`: the graph is as it was described, and as if it was started just now: no task was dispatched, none waits for an input from
--- outside, no input was passed on, and the steps are those of the new beginning alone.
+-- outside, no input was passed on, no opening action is open, and the steps are those of the new beginning alone.
 pub record IsAgain (old new : PoolState) : Type 0 where
   pub nodes : new.nodes ≡ old.nodes
   pub started : IsTrue new.started
@@ -47,4 +47,5 @@ pub record IsAgain (old new : PoolState) : Type 0 where
   pub ways : (k : ℕ) (w : Way) → slice_get new.ways k ≡ Some w → w ≡ way.Out
   pub outside : (t n : ℕ) → slice_get new.outside t ≡ Some n → n ≡ 0
   pub keeps : keeps new.journal ≡ keeps old.journal
+  pub ready : AreReady new
   pub begun : HasBegun new

@@ -86,7 +86,8 @@ pub record BoardFacts (a : BoardState) : Type 0 where
   pub few_edges : length a.edges ≤ MAX_INPUTS
   pub placed : (k : ℕ) (e : Edge) → slice_get a.edges k ≡ Some e → IsPlaced a.tasks e
   pub counted : (t : ℕ) (x : Task) → slice_get a.tasks t ≡ Some x → IsCounted a.nodes a.edges t x
-  pub goes : (k : ℕ) (e : Edge) (x : Task) → slice_get a.edges k ≡ Some e → slice_get a.tasks e.source ≡ Some x → IsTrue (may_be e.way x.stage)
+  pub goes : (k : ℕ) (e : Edge) (x : Task) → slice_get a.edges k ≡ Some e → slice_get a.tasks e.source ≡ Some x
+      → IsTrue (may_be e.way x.stage)
 
 -- The list of numbers has, at each node, how many of the others pass the test of that node.
 pub record AreCounts {A : Type 0} (test : ℕ → A → Bool) (xs : List A) (ns : List ℕ) : Type 0 where

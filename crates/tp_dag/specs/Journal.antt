@@ -1,5 +1,5 @@
 -- What contracts see of a pool's journal, the lists of steps behind it, and what its calls do.
-use Rattle.std.specs.Prelude.{ℕ, ◌≡◌, ◌≤◌, ◌<◌, List, ◌∷◌, ◌++◌, Bool, true, false, slice_get, IsTrue}
+use Rattle.std.specs.Prelude.{ℕ, ◌≡◌, ◌==◌, ◌&&◌, nat_le, nat_lt, List, ◌∷◌, ◌++◌, Bool, true, false, slice_get, IsTrue}
 use Rattle.std.specs.Prelude.{Option, Some, None, is_some, reverse}
 use Rattle.std.specs.List.{list_all}
 use Rattle.tp_base.specs.declared.Refusal.{Refusal}
@@ -10,7 +10,7 @@ use Rattle.tp_wave.specs.Control.{is_control}
 use Rattle.tp_wave.specs.Sums.{judgement}
 use Rattle.tp_core.specs.Recording.{Recorded, Backs, MayBeRecorded}
 use Rattle.tp_core.specs.Run.{world}
-use Rattle.tp_core.specs.World.{Opening, OfMessage, is_open}
+use Rattle.tp_core.specs.World.{Kind, Opening, Named, OfMessage, is_open}
 
 -- What the recorder counted; how many nodes, the lowest first, have ended their opening action; and of each node the message that it
 -- received and has not ended.
@@ -23,12 +23,23 @@ pub record JournalState : Type 0 where
 abbrev pub keeps : JournalState → Bool
 keeps a = is_some a.recorded.steps
 
+-- Message k is the one that a node received and has not ended.
+abbrev pub is_receiving : ℕ → Option (Option ℕ) → Bool
+is_receiving k (Some (Some m)) = m == k
+is_receiving k _ = false
+
+-- Whether an action of node i is open by the journal: the opening action of a node that is not ready, or the message that the node has not
+-- ended.
+abbrev pub has_open : JournalState → ℕ → Kind → Bool
+has_open a i Opening = nat_le a.ready_nodes i && nat_lt i a.recorded.nodes
+has_open a i (Named name) = false
+has_open a i (OfMessage k) = is_receiving k (slice_get a.receiving i)
+
 -- The list of steps, newest first, is behind the journal: it is a run with the counters of the recorder, and if steps are kept, it is the
--- kept list. After it, the opening actions of the nodes that are not ready are open, and so is each message that a node has not ended.
+-- kept list. After it, exactly the actions are open that the journal has open.
 pub record IsBehindJournal (steps : List Step) (a : JournalState) : Type 0 where
   pub backs : Backs steps a.recorded
-  pub openings : (i : ℕ) → a.ready_nodes ≤ i → i < a.recorded.nodes → IsTrue (is_open i Opening (world a.recorded.nodes steps))
-  pub open_messages : (i k : ℕ) → slice_get a.receiving i ≡ Some (Some k) → IsTrue (is_open i (OfMessage k) (world a.recorded.nodes steps))
+  pub actions : (i : ℕ) (kind : Kind) → is_open i kind (world a.recorded.nodes steps) ≡ has_open a i kind
 
 -- ---- what calls do
 -- the k-th of the kept steps, the oldest being 0
@@ -45,6 +56,10 @@ abbrev pub is_of_room : Bool → Refusal → Bool
 is_of_room keeps refusal.NoMemory = keeps
 is_of_room keeps (refusal.HistoryFull n) = true
 is_of_room keeps _ = false
+
+-- Steps are kept, and there is no room for more of them, or no memory.
+abbrev pub LacksRoomForSteps : Bool → Refusal → Type 0
+LacksRoomForSteps keeps r = IsTrue keeps × IsTrue (is_of_room keeps r)
 
 -- The number of nodes is as before, and steps are kept if they were.
 pub record SameKind (old new : JournalState) : Type 0 where

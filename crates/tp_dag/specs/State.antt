@@ -13,7 +13,7 @@ use Rattle.tp_wave.specs.Steps.{any, count}
 use Rattle.tp_wave.specs.Sums.{is_ended}
 use Rattle.tp_core.specs.declared.life.Life.{Life}
 use Rattle.tp_core.specs.declared.life.Life.TheVariants as life
-use Rattle.tp_core.specs.World.{IsQuiet, life_of, home_of, is_under_way, is_known_message}
+use Rattle.tp_core.specs.World.{Opening, OfMessage, IsActive, IsQuiet, life_of, home_of, is_open, is_under_way, is_known_message}
 use Rattle.tp_core.specs.Run.{world}
 use Rattle.tp_core.specs.NeverEarly.{is_begin_of, is_done_of, HasRunOnce}
 use Rattle.tp_dag.specs.declared.entry.Entry.{Entry}
@@ -115,6 +115,23 @@ SameSteps old new = (steps : List Step) → IsBehind steps old → IsBehind step
 abbrev pub BeginsMore : (ℕ → ℕ) → PoolState → PoolState → Type 0
 BeginsMore more old new = (past now : List Step) → IsBehind past old → IsBehind now new
     → (t : ℕ) → count (is_begin_of t) now ≡ count (is_begin_of t) past + more t
+
+-- ---- what every list of steps behind the pool shows
+-- No node's opening action is open.
+abbrev pub AreReady : PoolState → Type 0
+AreReady a = (steps : List Step) → IsBehind steps a → (node : ℕ) → IsFalse (is_open node Opening (world a.nodes steps))
+
+-- Each message that the node received has ended.
+abbrev pub HasEndedMessages : ℕ → PoolState → Type 0
+HasEndedMessages node a = (steps : List Step) → IsBehind steps a → (k : ℕ) → IsFalse (is_open node (OfMessage k) (world a.nodes steps))
+
+-- Something is left: a task is not done, an action is open, or a message is in flight.
+abbrev pub IsNotQuiet : PoolState → Type 0
+IsNotQuiet a = (steps : List Step) → IsBehind steps a → IsQuiet (world a.nodes steps) → ⊥
+
+-- Nothing is pending at the node.
+abbrev pub IsInactive : ℕ → PoolState → Type 0
+IsInactive node a = (steps : List Step) → IsBehind steps a → IsActive node (world a.nodes steps) → ⊥
 
 -- ---- what a node has to do
 -- Input k is one of task t, and was not received.
@@ -271,9 +288,10 @@ pub record IsInputAdded (source : ℕ) (old new : PoolState) : Type 0 where
   pub journal : new.journal ≡ old.journal
   pub steps : SameSteps old new
 
--- `start`: the nodes' opening actions ended.
+-- `start`: the nodes' opening actions that were open ended, and none is open.
 pub record IsStarted (old new : PoolState) : Type 0 where
   pub started : IsTrue new.started
+  pub ready : AreReady new
   pub graph : SameGraph old (record new { started = old.started })
   pub stages : new.stages ≡ old.stages
   pub steps : Leads (Adds is_readying) old new

@@ -235,7 +235,8 @@ impl Board {
     pub fn add_outside(&mut self, task: u32) -> bool
         ensures ok { IsTrue result → HasOutside task self.old self.new }
         ensures no { IsFalse result → self.new ≡ self.old }
-        ensures exact { IsFalse result → (x : Task) → slice_get self.old.tasks task ≡ Some x → x.stage ≡ stage.Fresh → MAX_STEPS ≤ x.outside }
+        ensures exact { IsFalse result → (x : Task) → slice_get self.old.tasks task ≡ Some x
+            → x.stage ≡ stage.Fresh → MAX_STEPS ≤ x.outside }
     {
         let Some(&was) = self.tasks.get(task as usize) else {
             return false;
@@ -282,7 +283,8 @@ impl Board {
     pub fn begin(&mut self, task: u32) -> bool
         ensures ok { IsTrue result → HasBegun task self.old self.new }
         ensures no { IsFalse result → self.new ≡ self.old }
-        ensures exact { IsFalse result → (x : Task) → slice_get self.old.tasks task ≡ Some x → x.stage ≡ stage.Fresh → LacksInput task self.old }
+        ensures exact { IsFalse result → (x : Task) → slice_get self.old.tasks task ≡ Some x
+            → x.stage ≡ stage.Fresh → LacksInput task self.old }
     {
         let Some(&was) = self.tasks.get(task as usize) else {
             return false;
@@ -369,7 +371,8 @@ impl Board {
     pub fn finish(&mut self, task: u32) -> bool
         ensures ok { IsTrue result → HasFinished task self.old self.new }
         ensures no { IsFalse result → self.new ≡ self.old }
-        ensures exact { IsFalse result → (x : Task) → slice_get self.old.tasks task ≡ Some x → x.stage ≡ stage.Running → (k : ℕ) × IsUnsent task k self.old }
+        ensures exact { IsFalse result → (x : Task) → slice_get self.old.tasks task ≡ Some x
+            → x.stage ≡ stage.Running → (k : ℕ) × IsUnsent task k self.old }
     {
         let Some(&was) = self.tasks.get(task as usize) else {
             return false;

@@ -1,11 +1,11 @@
 //! The journal of a pool: the recorder that counts its steps, and the actions that are open. It knows no graph.
-ghost use Rattle.std.specs.Prelude.{◌≡◌, ◌≤◌, ◌<◌, ◌↔◌, List, [], Some, None, IfOk, IfErr, OnOk, OnErr, IsTrue, IsFalse, if◌then◌else◌};
+ghost use Rattle.std.specs.Prelude.{◌≡◌, ◌≤◌, ◌<◌, ◌↔◌, ℕ, List, [], slice_get, Some, None, IfOk, IfErr, OnOk, OnErr, IsTrue, IsFalse, if◌then◌else◌};
 ghost use Rattle.tp_base.specs.declared.limits.TheConstants.{MAX_NODES};
 ghost use Rattle.tp_base.specs.declared.Step.{Step};
 ghost use Rattle.tp_wave.specs.Sums.{is_ended};
 ghost use Rattle.tp_core.specs.Run.{world};
 ghost use Rattle.tp_core.specs.World.{IsActive, IsQuiet};
-ghost use Rattle.tp_dag.specs.Journal.{IsBehindJournal, SameKind, Records, IsRefusedForRoom, JournalLeads, Adds, IsJudged, keeps};
+ghost use Rattle.tp_dag.specs.Journal.{IsBehindJournal, SameKind, Records, IsRefusedForRoom, JournalLeads, Adds, IsJudged, keeps, LacksRoomForSteps};
 ghost use Rattle.tp_dag.specs.Journal.{is_plain, is_of_room, is_readying, is_ending, receipt, kept_step};
 
 use std::alloc::Global;
@@ -60,6 +60,7 @@ impl Journal {
         ensures err { OnErr result (self.new ≡ self.old) }
         ensures same { SameKind self.old self.new }
         ensures ready { self.new.ready_nodes ≡ self.old.ready_nodes }
+        ensures receiving { self.new.receiving ≡ self.old.receiving }
     {
         self.recorder.record(NodeId(node), step)
     }
@@ -67,6 +68,8 @@ impl Journal {
     /// Ends the opening action of each node that has not ended it.
     pub fn ready_all(&mut self) -> Result<(), Refusal>
         ensures adds { JournalLeads (Adds is_readying) self.old self.new }
+        ensures ready { OnOk result (self.new.recorded.nodes ≤ self.new.ready_nodes) }
+        ensures room { IfErr result (λ r. (past : List Step) → IsBehindJournal past self.old → LacksRoomForSteps (keeps self.old) r) }
         ensures same { SameKind self.old self.new }
     {
         for _node in 0..self.recorder.nodes() {
@@ -75,9 +78,11 @@ impl Journal {
         Ok(())
     }
 
-    // ends the opening action of the next node
+    // ends the opening action of the next node, if there is one
     fn ready_next(&mut self) -> Result<(), Refusal>
         ensures adds { JournalLeads (Adds is_readying) self.old self.new }
+        ensures ready { OnOk result ((k : ℕ) → k ≤ self.old.ready_nodes → k < self.old.recorded.nodes → k < self.new.ready_nodes) }
+        ensures room { IfErr result (λ r. (past : List Step) → IsBehindJournal past self.old → LacksRoomForSteps (keeps self.old) r) }
         ensures same { SameKind self.old self.new }
     {
         let node = self.ready_nodes;
@@ -92,7 +97,8 @@ impl Journal {
 
     /// Records that a node received a message, which is open until `end_message`.
     pub fn receive(&mut self, node: u32, message: u32) -> Result<(), Refusal>
-        requires { node < MAX_NODES }
+        requires within { node < MAX_NODES }
+        requires ended { slice_get self.old.receiving node ≡ Some None }
         ensures ok { OnOk result (Records node (receipt node message) self.old self.new) }
         ensures room { IfErr result (IsRefusedForRoom node (receipt node message) self.old) }
         ensures err { OnErr result (self.new ≡ self.old) }
@@ -110,6 +116,7 @@ impl Journal {
     pub fn end_message(&mut self, node: u32) -> Result<(), Refusal>
         requires { node < self.old.recorded.nodes }
         ensures adds { JournalLeads (Adds is_ending) self.old self.new }
+        ensures ended { OnOk result (slice_get self.new.receiving node ≡ Some None) }
         ensures room { IfErr result (λ r. (past : List Step) → IsBehindJournal past self.old → IsTrue (is_of_room (keeps self.old) r)) }
         ensures err { OnErr result (self.new ≡ self.old) }
         ensures same { SameKind self.old self.new }
@@ -129,7 +136,8 @@ impl Journal {
     #[inline]
     pub fn is_active(&self, node: u32) -> bool
         requires { node < MAX_NODES }
-        ensures { IsTrue result → (past : List Step) → IsBehindJournal past self.now → IsActive node (world self.now.recorded.nodes past) }
+        ensures { (past : List Step) → IsBehindJournal past self.now
+            → (IsTrue result ↔ IsActive node (world self.now.recorded.nodes past)) }
     {
         self.recorder.numbers().nodes[node as usize].pending > 0
     }
@@ -152,9 +160,11 @@ impl Journal {
     pub fn settle(&mut self) -> Result<u32, Refusal>
         ensures ok { IfOk result (λ w. JournalLeads (IsJudged self.old.recorded.nodes w) self.old self.new) }
         ensures room { IfErr result (λ r. (past : List Step) → IsBehindJournal past self.old
-            → IsFalse (is_ended self.old.recorded.nodes past) → IsQuiet (world self.old.recorded.nodes past) → IsTrue (is_of_room (keeps self.old) r)) }
+            → IsFalse (is_ended self.old.recorded.nodes past) → IsQuiet (world self.old.recorded.nodes past)
+            → IsTrue (is_of_room (keeps self.old) r)) }
         ensures err { OnErr result (self.new ≡ self.old) }
         ensures same { SameKind self.old self.new }
+        ensures receiving { self.new.receiving ≡ self.old.receiving }
     {
         let (wave, _) = self.recorder.settle()?;
         Ok(wave)

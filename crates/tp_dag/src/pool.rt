@@ -11,8 +11,8 @@ ghost use Rattle.tp_dag.specs.declared.entry.Way.TheVariants as way;
 ghost use Rattle.tp_dag.specs.State.{AddsOnly, IsStarted, IsOutsideAdded, IsReleased, IsDispatched, IsFinished, IsCompleted, SameGraph};
 ghost use Rattle.tp_dag.specs.State.{IsIdle, IsComing, IsOutput, LacksInput, HasNoneReady, AreDelivered, AreSent};
 ghost use Rattle.tp_dag.specs.State.{start_checks, outside_checks, release_checks, next_checks, done_checks, dispatched};
-ghost use Rattle.tp_dag.specs.State.{IsBehind, IsBacked, SameSteps, BeginsMore};
-ghost use Rattle.tp_dag.specs.Journal.{IsRefusedForRoom, SameKind, keeps, kept_step, is_delivery, is_sending, is_readying, is_of_room};
+ghost use Rattle.tp_dag.specs.State.{IsBehind, IsBacked, SameSteps, BeginsMore, HasEndedMessages, IsNotQuiet};
+ghost use Rattle.tp_dag.specs.Journal.{IsRefusedForRoom, LacksRoomForSteps, SameKind, keeps, kept_step, is_delivery, is_sending, is_readying, is_of_room};
 ghost use Rattle.tp_dag.specs.Kept.{IsConsistent, IsFrom, IsFromAfar, IsHome, AllPassed, IsMarked, SendsOne, sending};
 
 use crate::board::Board;
@@ -91,8 +91,8 @@ fn send_message(journal: &mut Journal, from: u32, to: u32, input: u32) -> Result
 impl Pool {
     /// A pool of the nodes 0 to `nodes` - 1, without a task. It takes no memory.
     ///
-    /// If it keeps its steps, there may be 1,048,576 of them. If it does not, it allocates nothing for them and their number has no limit,
-    /// but a node may send 1,048,576 messages and receive as many, which is the bound of the four counters.
+    /// If it keeps its steps, there may be 1,048,576 of them, which is the limit of such a pool. If it does not, it allocates nothing for
+    /// them and their number has no limit, but a node may send 536,870,911 messages and receive as many, the limit of the four counters.
     pub fn new(alloc: Global, nodes: u32, keeps_steps: bool) -> Pool
         requires { (1 ≤ nodes) × (nodes ≤ MAX_NODES) }
         ensures empty { IsBehind [] result }
@@ -191,6 +191,8 @@ impl Pool {
         ensures ok { OnOk result (IsStarted self.old self.new) }
         ensures err { OnErr result (AddsOnly is_readying self.old self.new) }
         ensures ways { self.new.ways ≡ self.old.ways }
+        ensures exact { IfErr result (λ r. (first_refusal (start_checks self.old) ≡ Some r)
+            ⊎ LacksRoomForSteps (keeps self.old.journal) r) }
     {
         if self.progress.started {
             return Err(Refusal::WrongLife);
@@ -207,13 +209,17 @@ impl Pool {
     // ends the opening action of each node where it is open
     fn ready_all(&mut self) -> Result<(), Refusal>
         ensures adds { AddsOnly is_readying self.old self.new }
+        ensures ready { OnOk result (self.new.nodes ≤ self.new.journal.ready_nodes) }
+        ensures room { IfErr result (LacksRoomForSteps (keeps self.old.journal)) }
         ensures ways { self.new.ways ≡ self.old.ways }
     {
         self.journal.ready_all()
     }
 
     // how many steps are left for tasks and inputs that are added later; none if the graph would need too many
-    fn spare_steps_at_start(&self) -> Option<usize> {
+    fn spare_steps_at_start(&self) -> Option<usize>
+        ensures kept { IfNone result (IsTrue (keeps self.now.journal)) }
+    {
         if !self.keeps_steps {
             return Some(0);
         }
@@ -258,14 +264,16 @@ impl Pool {
     /// whose inputs are all there.
     ///
     /// Refused: `WrongLife` if the pool was not started, and `NoNode`, and nothing changes; else only for lack of room, and the graph is as
-    /// before: `HistoryFull` if there are 1,048,576 kept steps, or the node has received 1,048,576 messages; `NoMemory` if steps are kept,
-    /// after which `next` may be called again.
+    /// before: `HistoryFull` if 1,048,576 steps are kept, or, in a pool that keeps none, if the node has received 536,870,911 messages;
+    /// `NoMemory` if steps are kept, after which `next` may be called again.
     pub fn next(&mut self, node: u32) -> Result<Next, Refusal>
         ensures checks { IfSome (first_refusal (next_checks self.old node)) (λ r. (result ≡ Err r) × (self.new ≡ self.old)) }
         ensures run { IfOk result (λ next. (t : ℕ) → next ≡ Next.Run t → IsDispatched node t self.old self.new) }
         ensures finished { IfOk result (λ next. (w : ℕ) → next ≡ Next.Finished w → IsFinished self.new) }
         ensures wait { result ≡ Ok Next.Wait → IsIdle node self.new }
         ensures waiting { result ≡ Ok Next.Wait → AddsOnly is_delivery self.old self.new }
+        ensures left { result ≡ Ok Next.Wait → IsNotQuiet self.new }
+        ensures ended { OnOk result (HasEndedMessages node self.new) }
         ensures err { OnErr result (AddsOnly is_delivery self.old self.new) }
         ensures refused { IfErr result (λ r. (first_refusal (next_checks self.old node) ≡ Some r)
             ⊎ IsTrue (is_of_room (keeps self.old.journal) r)) }
@@ -330,15 +338,25 @@ impl Pool {
         self.board.has_ready(node)
     }
 
+    // whether it was judged that the pool has terminated
+    fn is_over(&self) -> bool
+        ensures yes { IsTrue result → IsFinished self.now }
+        ensures no { IsFalse result → IsFinished self.now → ⊥ }
+    {
+        self.journal.is_over()
+    }
+
     // runs the waves if nothing is left
     fn detect_end(&mut self) -> Result<Next, Refusal>
         ensures finished { IfOk result (λ next. (w : ℕ) → next ≡ Next.Finished w → IsFinished self.new) }
         ensures none { IfOk result (λ next. (t : ℕ) → next ≡ Next.Run t → ⊥) }
         ensures wait { result ≡ Ok Next.Wait → self.new ≡ self.old }
+        ensures left { result ≡ Ok Next.Wait → IsNotQuiet self.new }
         ensures err { OnErr result (self.new ≡ self.old) }
         ensures graph { SameGraph self.old self.new }
         ensures stages { self.new.stages ≡ self.old.stages }
         ensures ways { self.new.ways ≡ self.old.ways }
+        ensures receiving { self.new.journal.receiving ≡ self.old.journal.receiving }
         ensures room { IfErr result (λ r. IsTrue (is_of_room (keeps self.old.journal) r)) }
     {
         if let Some(wave) = self.ended_with {
@@ -363,6 +381,7 @@ impl Pool {
         ensures err { OnErr result (self.new ≡ self.old) }
         ensures room { IfErr result (λ r. IsTrue (is_of_room (keeps self.old.journal) r)) }
         ensures ways { self.new.ways ≡ self.old.ways }
+        ensures receiving { self.new.journal.receiving ≡ self.old.journal.receiving }
     {
         self.board.known();
         let Some(task) = find_ready(&self.board, &mut self.hints, node) else {
@@ -383,6 +402,7 @@ impl Pool {
         ensures adds { AddsOnly is_delivery self.old self.new }
         ensures ways { AreDelivered node self.old self.new }
         ensures ok { OnOk result ((k : ℕ) → IsComing node k self.new → ⊥) }
+        ensures ended { OnOk result (slice_get self.new.journal.receiving node ≡ Some None) }
         ensures room { IfErr result (λ r. IsTrue (is_of_room (keeps self.old.journal) r)) }
     {
         // an earlier call may have found no memory for the end of a message
@@ -407,9 +427,11 @@ impl Pool {
     fn deliver(&mut self, node: u32, input: u32) -> Result<(), Refusal>
         requires coming { IsComing node input self.old }
         requires within { node < self.old.nodes }
+        requires ended { slice_get self.old.journal.receiving node ≡ Some None }
         ensures adds { AddsOnly is_delivery self.old self.new }
         ensures ways { AreDelivered node self.old self.new }
         ensures ok { OnOk result (self.new.ways ≡ slice_set self.old.ways input way.Received) }
+        ensures ended { OnOk result (slice_get self.new.journal.receiving node ≡ Some None) }
         ensures room { IfErr result (λ r. IsTrue (is_of_room (keeps self.old.journal) r)) }
     {
         if self.is_from(node, input) {
@@ -425,6 +447,7 @@ impl Pool {
         requires coming { IsComing node input self.old }
         requires afar { IsFromAfar node input self.old }
         requires within { node < self.old.nodes }
+        requires ended { slice_get self.old.journal.receiving node ≡ Some None }
         ensures adds { AddsOnly is_delivery self.old self.new }
         ensures ok { OnOk result (self.new.ways ≡ slice_set self.old.ways input way.Received) }
         ensures err { OnErr result (self.new ≡ self.old) }
@@ -445,6 +468,7 @@ impl Pool {
         requires { node < self.old.nodes }
         ensures adds { AddsOnly is_delivery self.old self.new }
         ensures ways { self.new.ways ≡ self.old.ways }
+        ensures ended { OnOk result (slice_get self.new.journal.receiving node ≡ Some None) }
         ensures room { IfErr result (λ r. IsTrue (is_of_room (keeps self.old.journal) r)) }
     {
         self.journal.end_message(node)
@@ -481,8 +505,9 @@ impl Pool {
     /// a thread may find something new, as bits.
     ///
     /// Refused, and nothing changes: `NoTask`; `WrongLife` if the task was not dispatched, or is done; `NoNode` if its home is another
-    /// node. Else only for lack of room; some messages were sent, and the task is still running: `HistoryFull` if there are 1,048,576 kept
-    /// steps, or the node has sent 1,048,576 messages; `NoMemory` if steps are kept, after which `done` may be called again.
+    /// node. Else only for lack of room; some messages were sent, and the task is still running: `HistoryFull` if 1,048,576 steps are
+    /// kept, or, in a pool that keeps none, if the node has sent 536,870,911 messages; `NoMemory` if steps are kept, after which `done` may
+    /// be called again.
     pub fn done(&mut self, node: u32, task: u32) -> Result<u32, Refusal>
         ensures checks { IfSome (first_refusal (done_checks self.old node task)) (λ r. (result ≡ Err r) × (self.new ≡ self.old)) }
         ensures ok { OnOk result (IsCompleted task self.old self.new) }

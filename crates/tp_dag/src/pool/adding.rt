@@ -1,11 +1,11 @@
 //! The calls that add tasks and inputs, before the start and after it.
-ghost use Rattle.std.specs.Prelude.{◌≡◌, ◌≢◌, ◌<◌, ◌≤◌, ◌+◌, ◌⊎◌, ℕ, length, IfOk, IfErr, IfSome, IfNone, OnOk, OnErr, IsTrue, IsFalse, slice_get, Err, Some};
+ghost use Rattle.std.specs.Prelude.{◌≡◌, ◌≢◌, ◌<◌, ◌≤◌, ◌+◌, ◌⊎◌, ℕ, length, IfOk, IfErr, IfSome, IfNone, OnOk, OnErr, IsTrue, IsFalse, slice_get, true, Err, Some};
 ghost use Rattle.tp_base.specs.declared.limits.TheConstants.{MAX_STEPS};
 ghost use Rattle.tp_base.specs.Checks.{first_refusal};
-ghost use Rattle.tp_dag.specs.declared.limits.TheConstants.{MAX_INPUTS};
+ghost use Rattle.tp_dag.specs.declared.limits.TheConstants.{MAX_INPUTS, MAX_TASKS};
 ghost use Rattle.tp_dag.specs.declared.entry.Stage.TheVariants as stage;
-ghost use Rattle.tp_dag.specs.State.{IsTaskAdded, IsInputAdded, MayWait, extends, task_checks, input_checks};
-ghost use Rattle.tp_dag.specs.Journal.{keeps};
+ghost use Rattle.tp_dag.specs.State.{IsTaskAdded, IsInputAdded, IsFinished, IsInactive, MayWait, extends, task_checks, input_checks};
+ghost use Rattle.tp_dag.specs.Journal.{keeps, is_of_room};
 ghost use Rattle.tp_dag.specs.Kept.{extend};
 
 use crate::choice::{STEPS_EACH, may_begin, steps_of_input};
@@ -41,6 +41,10 @@ impl Pool {
         ensures checks { IfSome (first_refusal (task_checks self.old node class)) (λ r. result ≡ Err r) }
         ensures ok { IfOk result (λ t. IsTaskAdded node class t self.old self.new) }
         ensures err { OnErr result (self.new ≡ self.old) }
+        ensures exact { IfErr result (λ r. (first_refusal (task_checks self.old node class) ≡ Some r)
+            ⊎ ((r ≡ Refusal.Ended) × IsFinished self.old)
+            ⊎ ((r ≡ Refusal.HistoryFull MAX_STEPS) × IsTrue self.old.started × IsTrue (keeps self.old.journal))
+            ⊎ ((r ≡ Refusal.Inactive) × IsInactive node self.old) ⊎ IsTrue (is_of_room true r)) }
     {
         if let Some(refusal) = self.task_refusal(node, class) {
             return Err(refusal);
@@ -48,16 +52,13 @@ impl Pool {
         let Some(inputs) = Inputs::new(0) else {
             return Err(Refusal::BadSpec);
         };
-        if self.ended_with.is_some() {
+        if self.is_over() {
             return Err(Refusal::Ended);
         }
         if !self.has_spare(STEPS_EACH) {
             return Err(Refusal::HistoryFull(MAX_STEPS));
         }
         let number = self.board.task_count();
-        if node >= self.nodes || number >= MAX_TASKS as usize {
-            return Err(Refusal::NoNode);
-        }
         self.board.known();
         if !self.journal.is_active(node) {
             return Err(Refusal::Inactive);
@@ -75,7 +76,9 @@ impl Pool {
 
     // the first check of `task` that holds
     fn task_refusal(&self, node: u32, class: u32) -> Option<Refusal>
-        ensures { result ≡ first_refusal (task_checks self.now node class) }
+        ensures refusal { result ≡ first_refusal (task_checks self.now node class) }
+        ensures within { IfNone result (node < self.now.nodes) }
+        ensures few { IfNone result (length self.now.tasks < MAX_TASKS) }
     {
         if node >= self.nodes {
             return Some(Refusal::NoNode);
@@ -99,7 +102,8 @@ impl Pool {
     pub fn input(&mut self, source: u32) -> Result<(), Refusal>
         ensures checks { IfSome (first_refusal (input_checks self.old source)) (λ r. result ≡ Err r) }
         ensures ok { OnOk result (slice_get self.old.stages source ≢ Some stage.Done → IsInputAdded source self.old self.new) }
-        ensures done { OnOk result (slice_get self.old.stages source ≡ Some stage.Done → self.new ≡ record self.old { extended = extends self.old }) }
+        ensures done { OnOk result (slice_get self.old.stages source ≡ Some stage.Done
+            → self.new ≡ record self.old { extended = extends self.old }) }
         ensures waits { OnOk result ((t : ℕ) → t + 1 ≡ length self.old.tasks → MayWait t self.old) }
         ensures err { OnErr result (self.new ≡ self.old) }
         ensures exact { IfErr result (λ r. (first_refusal (input_checks self.old source) ≡ Some r)

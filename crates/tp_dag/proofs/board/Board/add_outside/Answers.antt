@@ -34,7 +34,8 @@ invariant_of-self c =
     let few : x.outside < MAX_STEPS = omega (arith, c.if-was-ge-MAX_STEPS.false) in
     record {
       facts = outside_facts c.args.task x c.self.invariant.facts is c.in-Fresh.is few;
-      ready = rw c.take_if.ensures (outside_ready c.args.task x c.self.invariant.ready is (home_few c.args.task x c.self.invariant.facts is) c.in-Fresh.is);
+      ready = rw c.take_if.ensures (outside_ready c.args.task x c.self.invariant.ready is
+          (home_few c.args.task x c.self.invariant.facts is) c.in-Fresh.is);
       coming = c.self.invariant.coming;
     }
 

@@ -58,7 +58,8 @@ invariant_of-self c =
     let x : Task = c.index-target.result.now in
     let at : slice_get c.self.inside.edges.items c.args.edge ≡ Some e = grind (arith, common_steps, gets) in
     let p = c.self.invariant.facts.placed c.args.edge e at in
-    let of = at_index c.self.inside.tasks.items e.source s (let b = p.before in let w = p.within in omega (arith, b, w)) c.index-source.ensures in
+    let of = at_index c.self.inside.tasks.items e.source s (let b = p.before in let w = p.within in omega (arith, b, w))
+    c.index-source.ensures in
     let is = at_index c.self.inside.tasks.items e.target x p.within c.index-target.ensures in
     let l = to_few c.args.edge e c.self.invariant.facts at in
     record {
@@ -75,6 +76,7 @@ returns-clause-ok c =
     let x : Task = c.index-target.result.now in
     let at : slice_get c.self.inside.edges.items c.args.edge ≡ Some e = grind (arith, common_steps, gets) in
     let p = c.self.invariant.facts.placed c.args.edge e at in
-    let of = at_index c.self.inside.tasks.items e.source s (let b = p.before in let w = p.within in omega (arith, b, w)) c.index-source.ensures in
+    let of = at_index c.self.inside.tasks.items e.source s (let b = p.before in let w = p.within in omega (arith, b, w))
+    c.index-source.ensures in
     let is = at_index c.self.inside.tasks.items e.target x p.within c.index-target.ensures in
     has_arrived c.self.inside c.args.self.now c.args.edge e s x c.self.view_is at c.in-UnderWay.is of c.in-Done.is is

@@ -28,7 +28,8 @@ take_if-requires-clause-some c = λ h.
     let x : Task = c.in-Some.field-0.now in
     let is : slice_get c.self.inside.tasks.items c.args.task ≡ Some x = grind (arith, common_steps, gets) in
     let none : x.missing ≡ 0 = (let h = c.if-was-ne0.false in grind (arith, nat_tests, h)) in
-    some_ready c.args.task x.node x c.self.invariant.ready is (home_few c.args.task x c.self.invariant.facts is) refl (begins x c.in-Fresh.is none)
+    some_ready c.args.task x.node x c.self.invariant.ready is (home_few c.args.task x c.self.invariant.facts is) refl
+    (begins x c.in-Fresh.is none)
 
 pub invariant_of-self : goal.invariant_of-self
 invariant_of-self c =
@@ -37,7 +38,8 @@ invariant_of-self c =
     let none : x.missing ≡ 0 = (let h = c.if-was-ne0.false in grind (arith, nat_tests, h)) in
     record {
       facts = begun_facts c.args.task x c.self.invariant.facts is c.in-Fresh.is none;
-      ready = rw c.take_if.ensures (begun_ready c.args.task x c.self.invariant.ready is (home_few c.args.task x c.self.invariant.facts is) c.in-Fresh.is none);
+      ready = rw c.take_if.ensures (begun_ready c.args.task x c.self.invariant.ready is (home_few c.args.task x c.self.invariant.facts is)
+          c.in-Fresh.is none);
       coming = c.self.invariant.coming;
     }
 

@@ -3,7 +3,8 @@ use Rattle.tp_dag.proofs.board.Board.find_coming.Goals as goal
 
 pub returns-in_err-k-clause-none : goal.returns-in_err-k-clause-none
 returns-in_err-k-clause-none c =
-    let none = found_no_coming c.self.inside c.args.self.now c.args.node _ _ c.self.view_is c.deref.ensures.value c.deref-2.ensures.value c.in_err-k.ensures.none in
+    let none = found_no_coming c.self.inside c.args.self.now c.args.node _ _ c.self.view_is c.deref.ensures.value c.deref-2.ensures.value
+    c.in_err-k.ensures.none in
     rw c.from_residual.ensures none
 
 pub returns-clause-some : goal.returns-clause-some

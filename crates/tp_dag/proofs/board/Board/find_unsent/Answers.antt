@@ -8,4 +8,5 @@ returns-in_err-k-clause-none c =
 
 pub returns-clause-some : goal.returns-clause-some
 returns-clause-some c =
-    found_unsent c.self.inside c.args.self.now c.args.task c.in_ok-k.k _ c.self.view_is c.deref.ensures.value c.in_ok-k.ensures.some c.in_ok-k.ensures.unsent
+    found_unsent c.self.inside c.args.self.now c.args.task c.in_ok-k.k _ c.self.view_is c.deref.ensures.value c.in_ok-k.ensures.some
+    c.in_ok-k.ensures.unsent

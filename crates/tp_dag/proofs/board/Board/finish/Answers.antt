@@ -24,7 +24,8 @@ invariant_of-self c =
     let is : slice_get c.self.inside.tasks.items c.args.task ≡ Some x = grind (arith, common_steps, gets) in
     let none : x.unsent ≡ 0 = (let h = c.if-was-ne0.false in grind (arith, nat_tests, h)) in
     record {
-      facts = finished_facts c.args.task x c.self.invariant.facts is c.in-Running.is (all_sent c.args.task x c.self.invariant.facts is none);
+      facts = finished_facts c.args.task x c.self.invariant.facts is c.in-Running.is
+          (all_sent c.args.task x c.self.invariant.facts is none);
       ready = ready_same c.args.task x (done x) c.self.invariant.ready is (ap is_fresh c.in-Running.is) refl;
       coming = c.self.invariant.coming;
     }

@@ -14,6 +14,7 @@ returns-clause-no c = λ h.
 
 pub returns-clause-yes : goal.returns-clause-yes
 returns-clause-yes c = λ h.
-    let some : slice_index_or c.self.inside.coming c.args.node 0 ≢ 0 = (let e = c.count_at.ensures in λ z. grind (arith, nat_tests, h, e, z)) in
+    let some : slice_index_or c.self.inside.coming c.args.node 0 ≢ 0 =
+    (let e = c.count_at.ensures in λ z. grind (arith, nat_tests, h, e, z)) in
     subst (λ (a : BoardState). (k : ℕ) × IsUnderWayTo c.args.node k a) c.self.view_is
     (some_coming_from c.args.node c.self.invariant.coming (within c.self.inside.coming c.args.node c.self.invariant.coming.nodes some) some)

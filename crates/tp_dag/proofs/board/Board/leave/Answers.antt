@@ -30,7 +30,8 @@ overflow_sub-source c =
     let x : Task = c.index-source.result.now in
     let at : slice_get c.self.inside.edges.items c.args.edge ≡ Some e = grind (arith, common_steps, gets) in
     let p = c.self.invariant.facts.placed c.args.edge e at in
-    let is = at_index c.self.inside.tasks.items e.source x (let b = p.before in let w = p.within in omega (arith, b, w)) c.index-source.ensures in
+    let is = at_index c.self.inside.tasks.items e.source x (let b = p.before in let w = p.within in omega (arith, b, w))
+    c.index-source.ensures in
     let some = unsent_some c.args.edge e x c.self.invariant.facts at is c.in-Out.is in omega (arith, some)
 
 pub index_mut-requires : goal.index_mut-requires
@@ -46,11 +47,13 @@ invariant_of-self c =
     let x : Task = c.index-source.result.now in
     let at : slice_get c.self.inside.edges.items c.args.edge ≡ Some e = grind (arith, common_steps, gets) in
     let p = c.self.invariant.facts.placed c.args.edge e at in
-    let is = at_index c.self.inside.tasks.items e.source x (let b = p.before in let w = p.within in omega (arith, b, w)) c.index-source.ensures in
+    let is = at_index c.self.inside.tasks.items e.source x (let b = p.before in let w = p.within in omega (arith, b, w))
+    c.index-source.ensures in
     record {
       facts = left_facts c.args.edge e x c.self.invariant.facts at is c.in-Out.is c.in-Running.is;
       ready = left_ready e.source x c.self.invariant.ready is c.in-Running.is;
-      coming = rw c.add_if.ensures (left_coming c.args.edge e c.self.invariant.coming at (to_few c.args.edge e c.self.invariant.facts at) c.in-Out.is);
+      coming = rw c.add_if.ensures (left_coming c.args.edge e c.self.invariant.coming at (to_few c.args.edge e c.self.invariant.facts at)
+          c.in-Out.is);
     }
 
 pub returns-clause-ok : goal.returns-clause-ok
@@ -59,5 +62,6 @@ returns-clause-ok c = λ h.
     let x : Task = c.index-source.result.now in
     let at : slice_get c.self.inside.edges.items c.args.edge ≡ Some e = grind (arith, common_steps, gets) in
     let p = c.self.invariant.facts.placed c.args.edge e at in
-    let is = at_index c.self.inside.tasks.items e.source x (let b = p.before in let w = p.within in omega (arith, b, w)) c.index-source.ensures in
+    let is = at_index c.self.inside.tasks.items e.source x (let b = p.before in let w = p.within in omega (arith, b, w))
+    c.index-source.ensures in
     has_left c.self.inside c.args.self.now c.args.edge e x c.self.view_is at c.in-Out.is is c.in-Running.is

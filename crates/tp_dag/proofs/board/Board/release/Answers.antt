@@ -20,7 +20,8 @@ pub add_if-requires-clause-few : goal.add_if-requires-clause-few
 add_if-requires-clause-few c =
     let x : Task = c.in-Some.field-0.now in
     let is : slice_get c.self.inside.tasks.items c.args.task ≡ Some x = grind (arith, common_steps, gets) in
-    let few = counts_few x.node c.self.invariant.ready (home_few c.args.task x c.self.invariant.facts is) c.self.invariant.facts.few_tasks in
+    let few = counts_few x.node c.self.invariant.ready (home_few c.args.task x c.self.invariant.facts is)
+    c.self.invariant.facts.few_tasks in
     omega (arith, few)
 
 pub overflow_sub-was : goal.overflow_sub-was
@@ -37,7 +38,8 @@ invariant_of-self c =
     let some : x.outside ≢ 0 = (let h = c.if-was-eq0.false in λ z. grind (arith, nat_tests, h, z)) in
     record {
       facts = released_facts c.args.task x c.self.invariant.facts is some;
-      ready = rw c.add_if.ensures (released_ready c.args.task x c.self.invariant.facts c.self.invariant.ready is (home_few c.args.task x c.self.invariant.facts is) some);
+      ready = rw c.add_if.ensures (released_ready c.args.task x c.self.invariant.facts c.self.invariant.ready is
+          (home_few c.args.task x c.self.invariant.facts is) some);
       coming = c.self.invariant.coming;
     }
 

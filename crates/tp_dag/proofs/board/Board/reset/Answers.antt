@@ -48,8 +48,10 @@ count_ready-self-inside-requires-clause-homes c = λ t x h.
     ∙ (c.reset_edges.ensures ∙ ap (map not_passed_on) c.deref_mut-2.ensures.value)) in
     let r : AreRecounted c.deref.result.now c.deref.result.now (map uncounted c.self.inside.tasks.items) c.count_edges.new.tasks =
     subst (λ (xs : List Task). AreRecounted c.deref.result.now c.deref.result.now xs c.count_edges.new.tasks) old c.count_edges.ensures in
-    let last : (with_items (with_items c.self.inside.tasks c.reset_tasks.new.tasks) c.count_edges.new.tasks).items ≡ c.count_edges.new.tasks =
-    with_items_is (with_items c.self.inside.tasks c.reset_tasks.new.tasks) c.count_edges.new.tasks (c.count_edges.auto.tasks ∙ c.deref_mut-3.ensures.len) in
+    let last : (with_items (with_items c.self.inside.tasks c.reset_tasks.new.tasks) c.count_edges.new.tasks).items
+    ≡ c.count_edges.new.tasks =
+    with_items_is (with_items c.self.inside.tasks c.reset_tasks.new.tasks) c.count_edges.new.tasks
+    (c.count_edges.auto.tasks ∙ c.deref_mut-3.ensures.len) in
     reset_homes c.count_edges.new.tasks c.deref.result.now c.self.invariant.facts edges r t x
     (ap (λ (xs : List Task). slice_get xs t) (sym (c.deref-2.ensures.value ∙ last)) ∙ h)
 
@@ -65,11 +67,15 @@ invariant_of-self c =
     ∙ (c.reset_edges.ensures ∙ ap (map not_passed_on) c.deref_mut-2.ensures.value)) in
     let r : AreRecounted c.deref.result.now c.deref.result.now (map uncounted c.self.inside.tasks.items) c.count_edges.new.tasks =
     subst (λ (xs : List Task). AreRecounted c.deref.result.now c.deref.result.now xs c.count_edges.new.tasks) old c.count_edges.ensures in
-    let last : (with_items (with_items c.self.inside.tasks c.reset_tasks.new.tasks) c.count_edges.new.tasks).items ≡ c.count_edges.new.tasks =
-    with_items_is (with_items c.self.inside.tasks c.reset_tasks.new.tasks) c.count_edges.new.tasks (c.count_edges.auto.tasks ∙ c.deref_mut-3.ensures.len) in
+    let last : (with_items (with_items c.self.inside.tasks c.reset_tasks.new.tasks) c.count_edges.new.tasks).items
+    ≡ c.count_edges.new.tasks =
+    with_items_is (with_items c.self.inside.tasks c.reset_tasks.new.tasks) c.count_edges.new.tasks
+    (c.count_edges.auto.tasks ∙ c.deref_mut-3.ensures.len) in
     record {
-      facts = same_facts refl last (sym c.deref.ensures.value) (reset_facts c.count_edges.new.tasks c.deref.result.now c.self.invariant.facts edges r);
-      ready = subst (λ (xs : List Task). AreCounts is_ready xs c.count_ready-self-inside.result) c.deref-2.ensures.value c.count_ready-self-inside.ensures;
+      facts = same_facts refl last (sym c.deref.ensures.value)
+          (reset_facts c.count_edges.new.tasks c.deref.result.now c.self.invariant.facts edges r);
+      ready = subst (λ (xs : List Task). AreCounts is_ready xs c.count_ready-self-inside.result) c.deref-2.ensures.value
+          c.count_ready-self-inside.ensures;
       coming = subst (λ (es : List Edge). AreCounts is_coming es (0 ∷ 0 ∷ 0 ∷ 0 ∷ 0 ∷ 0 ∷ 0 ∷ 0 ∷ [])) c.deref.ensures.value
           (reset_coming c.count_edges.new.tasks c.deref.result.now c.self.invariant.facts edges r);
     }
@@ -86,7 +92,9 @@ returns c =
     ∙ (c.reset_edges.ensures ∙ ap (map not_passed_on) c.deref_mut-2.ensures.value)) in
     let r : AreRecounted c.deref.result.now c.deref.result.now (map uncounted c.self.inside.tasks.items) c.count_edges.new.tasks =
     subst (λ (xs : List Task). AreRecounted c.deref.result.now c.deref.result.now xs c.count_edges.new.tasks) old c.count_edges.ensures in
-    let last : (with_items (with_items c.self.inside.tasks c.reset_tasks.new.tasks) c.count_edges.new.tasks).items ≡ c.count_edges.new.tasks =
-    with_items_is (with_items c.self.inside.tasks c.reset_tasks.new.tasks) c.count_edges.new.tasks (c.count_edges.auto.tasks ∙ c.deref_mut-3.ensures.len) in
+    let last : (with_items (with_items c.self.inside.tasks c.reset_tasks.new.tasks) c.count_edges.new.tasks).items
+    ≡ c.count_edges.new.tasks =
+    with_items_is (with_items c.self.inside.tasks c.reset_tasks.new.tasks) c.count_edges.new.tasks
+    (c.count_edges.auto.tasks ∙ c.deref_mut-3.ensures.len) in
     is_reset c.self.inside c.args.self.now _ c.count_edges.new.tasks c.deref.result.now c.self.view_is c.self.invariant.facts edges r
     refl refl refl last (sym c.deref.ensures.value)

@@ -1,12 +1,12 @@
-use Rattle.std.proofs.Common.{true, false, refl, subst}
-use Rattle.tp_dag.proofs.Repeating.{kept_again, is_again, ended_before}
-use Rattle.tp_dag.specs.State.{PoolState, IsFinished}
+use Rattle.std.proofs.Common.{Bool, true, false, refl, inr, subst, IsTrue}
+use Rattle.std.proofs.lemmas.Result.{err_from_is_err_and}
+use Rattle.tp_dag.specs.Journal.{is_of_room}
+use Rattle.tp_dag.proofs.Refusing.{room_now}
+use Rattle.tp_dag.proofs.Repeating.{kept_again, is_again}
 use Rattle.tp_dag.proofs.pool.Pool.again.Goals as goal
 
 pub returns-clause-finished : goal.returns-clause-finished
-returns-clause-finished c =
-    subst (λ (a : PoolState). IsFinished a) c.self.view_is
-    (ended_before c.self.inside c.is_over.result c.is_over.ensures c.if-not-is_over.false)
+returns-clause-finished c = c.is_over.ensures.yes c.if-not-is_over.false
 
 pub invariant_of-self : goal.invariant_of-self
 invariant_of-self c =
@@ -23,4 +23,10 @@ returns-clause-ok c =
       board = c.reset.new.self;
       progress = record { started = true; extended = false };
     })
-    c.args.self.now c.self.invariant c.self.view_is c.reset.ensures b.begun b.nodes b.keeps refl refl)
+    c.args.self.now c.self.invariant c.self.view_is c.reset.ensures b.begun b.nodes b.ready b.keeps refl refl)
+
+pub returns-in_err-journal-clause-exact : goal.returns-in_err-journal-clause-exact
+returns-in_err-journal-clause-exact c =
+    let p = err_from_is_err_and c.from_residual.result c.from_residual.ensures.1 in
+    rw (p.1, p.2) (inr (room_now c.self.inside c.args.self.now _ c.self.view_is
+    (subst (λ (k : Bool). IsTrue (is_of_room k c.in_err-journal.field-0.0)) c.self.invariant.keeps c.in_err-journal.ensures.room)))

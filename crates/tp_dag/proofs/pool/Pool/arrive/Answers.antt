@@ -7,13 +7,16 @@ use Rattle.tp_dag.proofs.pool.Pool.arrive.Goals as goal
 pub invariant_of-self : goal.invariant_of-self
 invariant_of-self c =
     kept_arrive c.self.inside _ c.args.self.now c.args.node c.args.input c.self.invariant c.self.view_is c.requires.coming c.requires.there
-    (arrives_surely c.self.inside c.args.self.now c.args.node c.args.input c.arrive-last.result c.arrive-last.new.self c.self.view_is c.known.ensures
+    (arrives_surely c.self.inside c.args.self.now c.args.node c.args.input c.arrive-last.result c.arrive-last.new.self c.self.view_is
+    c.known.ensures
     c.requires.coming c.arrive-last.ensures.ok c.arrive-last.ensures.exact) refl refl refl refl refl
 
 pub returns-clause-ways : goal.returns-clause-ways
 returns-clause-ways c =
-    has_arrived c.self.inside (record c.self.inside { board = c.arrive-last.new.self; hints = c.push_woken.new.hints }) c.args.self.now c.args.input c.self.view_is
-    (arrives_surely c.self.inside c.args.self.now c.args.node c.args.input c.arrive-last.result c.arrive-last.new.self c.self.view_is c.known.ensures
+    has_arrived c.self.inside (record c.self.inside { board = c.arrive-last.new.self; hints = c.push_woken.new.hints }) c.args.self.now
+    c.args.input c.self.view_is
+    (arrives_surely c.self.inside c.args.self.now c.args.node c.args.input c.arrive-last.result c.arrive-last.new.self c.self.view_is
+    c.known.ensures
     c.requires.coming c.arrive-last.ensures.ok c.arrive-last.ensures.exact) refl refl refl
 
 pub returns-clause-steps : goal.returns-clause-steps

@@ -3,6 +3,7 @@ use Rattle.std.specs.Prelude.{is_some}
 use Rattle.std.proofs.lemmas.Bool.Decides.{nat_tests}
 use Rattle.std.proofs.lemmas.Result.{err_from_is_err_and}
 use Rattle.tp_dag.specs.State.{PoolState, IsFinished}
+use Rattle.tp_dag.proofs.Actions.{not_quiet, receiving_now}
 use Rattle.tp_dag.proofs.Describing.{kept_end, end_leads}
 use Rattle.tp_dag.proofs.Refusing.{settle_refused, room_now}
 use Rattle.tp_dag.proofs.Repeating.{ended_before}
@@ -33,3 +34,10 @@ pub returns-clause-finished : goal.returns-clause-finished
 returns-clause-finished c = λ w e.
     ended_before (record c.self.inside { journal = c.settle.new.self; ended_with = Some c.in_ok-wave.wave })
     c.is_over-over-2.result c.is_over-over-2.ensures c.if-prove-2.false
+
+pub returns-then-not-is_quiet-clause-left : goal.returns-then-not-is_quiet-clause-left
+returns-then-not-is_quiet-clause-left c = λ e.
+    not_quiet c.self.inside c.args.self.now c.is_quiet.result c.self.view_is c.is_quiet.ensures c.if-not-is_quiet.true
+
+pub returns-clause-receiving : goal.returns-clause-receiving
+returns-clause-receiving c = receiving_now c.self.inside c.args.self.now _ c.self.view_is c.settle.ensures.receiving

@@ -2,6 +2,7 @@ use Rattle.std.proofs.Common.{ℕ, refl, subst}
 use Rattle.tp_dag.proofs.Views.{some_same, none_ready_seen}
 use Rattle.tp_dag.specs.State.{IsDispatched}
 use Rattle.tp_dag.specs.Kept.{state_of}
+use Rattle.tp_dag.proofs.Actions.{receiving_now}
 use Rattle.tp_dag.proofs.Keeping.{begins_surely, kept_dispatch, is_dispatched}
 use Rattle.tp_dag.proofs.Refusing.{begin_refused, room_now}
 use Rattle.tp_dag.proofs.pool.Pool.dispatch.Goals as goal
@@ -41,3 +42,6 @@ pub returns-in-Err-clause-room : goal.returns-in-Err-clause-room
 returns-in-Err-clause-room c =
     room_now c.self.inside c.args.self.now c.in-Err.refusal c.self.view_is
     (begin_refused c.self.inside c.args.node c.in-Some.task c.in-Err.refusal c.self.invariant c.in-Some.ensures.some c.in-Err.ensures.room)
+
+pub returns-clause-receiving : goal.returns-clause-receiving
+returns-clause-receiving c = receiving_now c.self.inside c.args.self.now _ c.self.view_is c.record.ensures.receiving

@@ -1,16 +1,21 @@
-use Rattle.std.proofs.Common.{◌≡◌, ℕ, Result, Option, ap, subst, refl, inr, ◌∙◌}
-use Rattle.std.specs.Prelude.{Ok, Err}
+use Rattle.std.proofs.Common.{◌≡◌, ℕ, List, Result, Option, ap, subst, refl, inr, ◌∙◌}
+use Rattle.std.specs.Prelude.{Ok, Err, OnOk, slice_get}
 use Rattle.std.proofs.lemmas.Result.{err_from_is_err_and}
 use Rattle.tp_base.specs.declared.Refusal.{Refusal}
 use Rattle.tp_dag.specs.State.{PoolState, IsDispatched, dispatched}
 use Rattle.tp_dag.specs.declared.pool.Next.{Next}
 use Rattle.tp_dag.specs.declared.pool.Next.TheVariants as next
+use Rattle.tp_dag.proofs.Actions.{have_ended}
 use Rattle.tp_dag.proofs.Ended.{none_begins, one_begins, end_dispatches_none}
 use Rattle.tp_dag.proofs.Going.{idle_now}
 use Rattle.tp_dag.proofs.Keeping.{dispatched_later}
 use Rattle.tp_dag.proofs.Refusing.{refused_or, room_after}
 use Rattle.tp_dag.specs.Journal.{keeps}
 use Rattle.tp_dag.proofs.pool.Pool.next.Goals as goal
+
+always : {P : Type 0} (r : Result Next Refusal) → P → OnOk r P
+always (Ok n) h = h
+always (Err e) h = tt
 
 same_run : (u t : ℕ) → next.Run u ≡ next.Run t → u ≡ t
 same_run u t e = cc
@@ -57,7 +62,8 @@ returns-in-Some-2-clause-run c = λ t e.
     (dispatched_later c.receive_all.ensures.adds (c.in_ok-task.ensures.ok c.in-Some-2.task c.in-Some-2.is))
 
 pub returns-in-Some-2-clause-graph : goal.returns-in-Some-2-clause-graph
-returns-in-Some-2-clause-graph c = (dispatched_later c.receive_all.ensures.adds (c.in_ok-task.ensures.ok c.in-Some-2.task c.in-Some-2.is)).graph
+returns-in-Some-2-clause-graph c = (dispatched_later c.receive_all.ensures.adds
+    (c.in_ok-task.ensures.ok c.in-Some-2.task c.in-Some-2.is)).graph
 
 pub returns-in-Some-2-clause-begun : goal.returns-in-Some-2-clause-begun
 returns-in-Some-2-clause-begun c =
@@ -67,7 +73,8 @@ returns-in-Some-2-clause-begun c =
 pub returns-in-None-clause-wait : goal.returns-in-None-clause-wait
 returns-in-None-clause-wait c = λ e.
     let none = c.in_ok-task.ensures.none (ap ok c.in-None.is) in
-    idle_now c.args.node c.receive_all.new.self c.dispatch.new.self c.detect_end.new.self c.in_ok-receive_all.ensures.ok none.0 none.1 (c.detect_end.ensures.wait e)
+    idle_now c.args.node c.receive_all.new.self c.dispatch.new.self c.detect_end.new.self c.in_ok-receive_all.ensures.ok none.0 none.1
+    (c.detect_end.ensures.wait e)
 
 pub returns-in-None-clause-begun : goal.returns-in-None-clause-begun
 returns-in-None-clause-begun c =
@@ -75,3 +82,16 @@ returns-in-None-clause-begun c =
     none_begins _ _ (dispatched c.detect_end.result)
     (c.detect_end.ensures.stages ∙ (stages c.receive_all.new.self c.dispatch.new.self none.0 ∙ c.receive_all.ensures.adds.stages))
     (λ t. end_dispatches_none c.detect_end.result t c.detect_end.ensures.none)
+
+abbrev at : ℕ → List (Option ℕ) → Option (Option ℕ)
+at node rs = slice_get rs node
+
+pub returns-in-Some-2-clause-ended : goal.returns-in-Some-2-clause-ended
+returns-in-Some-2-clause-ended c =
+    have_ended c.args.node c.dispatch.new.self
+    (ap (at c.args.node) c.dispatch.ensures.receiving ∙ c.in_ok-receive_all.ensures.ended)
+
+pub returns-in-None-clause-ended : goal.returns-in-None-clause-ended
+returns-in-None-clause-ended c =
+    always c.detect_end.result (have_ended c.args.node c.detect_end.new.self
+    (ap (at c.args.node) (c.detect_end.ensures.receiving ∙ c.dispatch.ensures.receiving) ∙ c.in_ok-receive_all.ensures.ended))

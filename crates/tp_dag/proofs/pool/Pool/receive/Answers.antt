@@ -1,4 +1,5 @@
-use Rattle.std.proofs.Common.{ap, refl, subst}
+use Rattle.std.proofs.Common.{◌≡◌, Some, None, ap, refl, subst, sym}
+use Rattle.std.specs.Prelude.{slice_get}
 use Rattle.tp_dag.specs.Board.{BoardState}
 use Rattle.tp_dag.specs.Kept.{IsConsistent}
 use Rattle.tp_dag.specs.State.{PoolState}
@@ -42,3 +43,7 @@ returns-clause-ok c =
     let h = arrives_surely c.self.inside c.args.self.now c.args.node c.args.input c.arrive-last.result c.arrive-last.new.self c.self.view_is
     c.known.ensures c.requires.coming c.arrive-last.ensures.ok c.arrive-last.ensures.exact in
     arrived_ways c.self.inside q c.args.self.now c.args.input c.self.view_is h refl refl
+
+pub receive-requires-clause-ended : goal.receive-requires-clause-ended
+receive-requires-clause-ended c =
+    subst (λ (a : PoolState). slice_get a.journal.receiving c.args.node ≡ Some None) (sym c.self.view_is) c.requires.ended

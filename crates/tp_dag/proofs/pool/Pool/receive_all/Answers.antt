@@ -1,4 +1,5 @@
-use Rattle.std.proofs.Common.{ap, arith, subst, sym}
+use Rattle.std.specs.Prelude.{slice_get}
+use Rattle.std.proofs.Common.{◌≡◌, Some, None, ap, arith, subst, sym}
 use Rattle.tp_dag.specs.Journal.{is_delivery}
 use Rattle.tp_dag.specs.State.{PoolState, AddsOnly, AreDelivered}
 use Rattle.std.proofs.lemmas.Result.{err_from_is_err_and}
@@ -31,6 +32,7 @@ loop-input-preserved c =
       delivered_trans c.args.node c.args.self.now c.find_message.new.self c.deliver.new.self adds
           (subst (λ (a : PoolState). AreDelivered c.args.node c.args.self.now a) (sym c.find_message.ensures.same)
           c.loop-input.invariant.1) c.deliver.ensures.ways,
+      c.in_ok-deliver.ensures.ended,
     )
 
 pub returns-in_err-deliver-clause-room : goal.returns-in_err-deliver-clause-room
@@ -39,3 +41,8 @@ returns-in_err-deliver-clause-room c =
     room_passed c.args.self.now c.find_message.new.self _ p.0 _ p.1 p.2
     (subst (λ (a : PoolState). AddsOnly is_delivery c.args.self.now a) (sym c.find_message.ensures.same) c.loop-input.invariant.0)
     c.in_err-deliver.ensures.room
+
+pub deliver-requires-clause-ended : goal.deliver-requires-clause-ended
+deliver-requires-clause-ended c =
+    subst (λ (a : PoolState). slice_get a.journal.receiving c.args.node ≡ Some None) (sym c.find_message.ensures.same)
+    c.loop-input.invariant.2
