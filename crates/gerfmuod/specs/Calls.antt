@@ -79,7 +79,7 @@ IsRestartCall = IsCall (λ k. k) IsRestarted
 
 -- The result is 0, or 17, `NoMemory`. In both cases the core has accepted the same steps as before.
 pub record IsReserved (old : Accepted) (refused : ℕ) (new : Accepted) : Type 0 where
-  pub refused : (refused ≡ 0) ⊎ (refused ≡ number_of NoMemory)
+  pub outcome : (refused ≡ 0) ⊎ (refused ≡ number_of NoMemory)
   pub same : new ≡ old
 
 abbrev pub IsReserveCall : CoreState → ℕ → CoreState → Type 0

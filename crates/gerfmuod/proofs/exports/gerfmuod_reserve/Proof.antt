@@ -7,7 +7,7 @@ use Rattle.gerfmuod.proofs.Walks.{Body, enter, of_opd, addr, stop, no_more, and_
 use Rattle.gerfmuod.proofs.Walks.{get, through, sets, lands_as, yes, lends_ref, ref_back, mem, Ptr, RawPtr, block_ptr, lies_at}
 use Rattle.gerfmuod.proofs.Walks.{in_a_block, rawptr_vals, rawptr_Tells, MutRef, plain, nothing, owned, heard, only, calls_at, lasts}
 use Rattle.gerfmuod.proofs.Walks.{on_entry, triple_of, Stays, walk_of, stay_dropped, Goes-dropped, ends_at, framed, CoreState}
-use Rattle.gerfmuod.proofs.Walks.{IsReserveCall, tells, lies_so}
+use Rattle.gerfmuod.proofs.Walks.{IsReserveCall, lies_so}
 use Rattle.gerfmuod.specs.contracts.slot.CoreSlot.{the_row as R}
 use Rattle.gerfmuod.specs.contracts.exports.gerfmuod_reserve as f
 use Rattle.gerfmuod.proofs.exports.gerfmuod_reserve.Statement.{statement}
