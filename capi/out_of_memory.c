@@ -98,8 +98,8 @@ static void make_calls(uint32_t many, uint32_t factor) {
     }
 }
 
-/* Memory is reserved for the steps of all generations, and after each reopening anew for tasks and messages. The settling of the
- * first generation needs a third piece of 1,024 steps. */
+/* Memory is reserved for the steps of all generations, and after each reopening anew for tasks and messages. The core reserves
+ * pieces of 1,024 steps: without the steps of the settlings, one piece less would be enough. */
 static void make_reserved_calls(void) {
     const uint32_t inputs = LARGE / 3 * 3; /* 0, 1 and 2 in turn, and one more task without any */
     const uint32_t steps = 3 * LARGE + inputs + 3 * FEWER + NODES + GERFMUOD_SETTLE_STEPS * NODES;
