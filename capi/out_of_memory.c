@@ -50,6 +50,8 @@ static const char *fault = "";
  * failed in the present call. */
 static uint32_t allocations, failing;
 static bool is_lasting, has_failed;
+/* Whether memory was reserved for all further steps. */
+static bool is_reserved;
 
 void *__real_malloc(size_t bytes);
 void *__real_realloc(void *old, size_t bytes);
@@ -113,8 +115,9 @@ static void make_reserved_calls(void) {
     }
 }
 
-/* Makes a call, and returns whether it was out of memory. */
+/* Makes a call, and returns whether it was out of memory. If memory was reserved, a call that takes steps may not allocate. */
 static bool make(call *it) {
+    const uint32_t before = allocations;
     has_failed = false;
     switch (it->kind) {
     case SETTLE: it->settled = gerfmuod_settle(&core); break;
@@ -125,6 +128,8 @@ static bool make(call *it) {
     }
     bool is_out = it->answer.refused == GERFMUOD_REFUSED_NO_MEMORY || it->settled.refused == GERFMUOD_REFUSED_NO_MEMORY ||
                   it->reserved == GERFMUOD_REFUSED_NO_MEMORY || it->written.outcome == GERFMUOD_OUT_OF_MEMORY;
+    CHECK(!is_reserved || it->kind > SETTLE || allocations == before);
+    is_reserved |= it->kind == RESERVE && it->reserved == 0;
     if (fault[0] == 'l' && place == 17) return true;
     if (fault[0] == 'c' && is_out && it->kind < SETTLE) CHECK(gerfmuod_start(&core).refused == 0);
     return is_out;
@@ -174,23 +179,19 @@ static void make_again(uint32_t *out) {
 }
 
 static void open_core(void) {
-    place = 0, allocations = 0;
+    place = 0, allocations = 0, is_reserved = false;
     CHECK(gerfmuod_open(&core, NODES) == 0);
     if (fault[0] == 't') free(__wrap_malloc(1));
     CHECK(allocations == 0);
 }
 
-/* Makes all calls with all memory, and keeps their replies. After memory was reserved, the calls that take steps may not allocate. */
+/* Makes all calls with all memory, and keeps their replies. */
 static void first_run(void) {
-    bool is_reserved = false;
     failing = 0;
     open_core();
     for (; place < count; place++) {
         call *it = &calls[place];
-        uint32_t before = allocations;
         CHECK(!make(it) && it->answer.refused == 0 && it->settled.refused == 0 && it->reserved == 0);
-        CHECK(!is_reserved || it->kind > SETTLE || allocations == before);
-        is_reserved |= it->kind == RESERVE;
         if (it->kind == TRACE) memcpy(traces[it->a], trace, sizeof trace);
         if (it->kind == AUDIT) memcpy(audits[it->a], audit, sizeof audit);
         look(it);
