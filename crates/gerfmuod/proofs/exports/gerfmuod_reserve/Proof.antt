@@ -1,11 +1,11 @@
 -- The proof of `gerfmuod_reserve`: it borrows the core for a lifetime that is created for the call.
-use Rattle.gerfmuod.proofs.Walks.{◌≡◌, [], ◌∷◌, ◌++◌, ℕ, refl, w32, u32, Is, shows, peeks, uint_Lawful, uint_Makes, uint_vals}
+use Rattle.gerfmuod.proofs.Walks.{[], ◌∷◌, ◌++◌, ℕ, refl, w32, u32, Is, shows, peeks, uint_Lawful, uint_Makes, uint_vals}
 use Rattle.gerfmuod.proofs.Walks.{uint_Tells, MutBor, proved, full_share, sep, ex, id⊢, GName, Lft, ftrue, flft, flent, named, vint}
 use Rattle.gerfmuod.proofs.Walks.{vptr, WpFn, fact, tables, ‵, raw, ◌⊛◌, some, later, prop, ◌$◌, ◌∵◌, !, qed, done, move, keep}
 use Rattle.gerfmuod.proofs.Walks.{drop, use1, use2, use3, split, join, fsplit, pick, await, regoal, suffices, group, lft_new, lft_end}
 use Rattle.gerfmuod.proofs.Walks.{Body, enter, of_opd, addr, stop, no_more, and_then, returns, alloc_all, pass_all, free_all, look_at}
 use Rattle.gerfmuod.proofs.Walks.{get, through, sets, lands_as, yes, lends_ref, ref_back, mem, Ptr, RawPtr, block_ptr, lies_at}
-use Rattle.gerfmuod.proofs.Walks.{in_a_block, rawptr_vals, rawptr_Tells, MutRef, plain, nothing, owned, heard, only, calls_at, lasts}
+use Rattle.gerfmuod.proofs.Walks.{in_a_block, rawptr_vals, rawptr_Tells, MutRef, plain, nothing, owned, heard, calls_at, lasts}
 use Rattle.gerfmuod.proofs.Walks.{on_entry, triple_of, Stays, walk_of, stay_dropped, Goes-dropped, ends_at, framed, CoreState}
 use Rattle.gerfmuod.proofs.Walks.{IsReserveCall, lies_so}
 use Rattle.gerfmuod.specs.contracts.slot.CoreSlot.{the_row as R}
