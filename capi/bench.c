@@ -158,6 +158,7 @@ static size_t trace_length;
 static void *nothing(void *unused) { return unused; }
 
 static void *take_steps(void *unused) {
+    if (gerfmuod_reserve(&deep, 3000, 500, 500)) exit(1);
     if (tasks(&deep, 3000) || messages(&deep, 3000)) exit(1);
     for (uint32_t node = 0; node < 8; node++)
         if (gerfmuod_ready(&deep, node).refused) exit(1);
@@ -214,7 +215,7 @@ static size_t depth_of(void *(*job)(void *)) {
 
 static int stacks(void) {
     if (gerfmuod_open(&deep, 8)) return 1;
-    printf("stack of steps, questions and settle %zu bytes\n", depth_of(take_steps));
+    printf("stack of reserve, steps, questions and settle %zu bytes\n", depth_of(take_steps));
     printf("stack of steps with large numbers, and close %zu bytes\n", depth_of(take_far_steps));
     printf("stack of trace %zu bytes\n", depth_of(write_trace));
     printf("stack of audit %zu bytes\n", depth_of(judge_trace));

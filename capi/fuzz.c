@@ -13,8 +13,8 @@
 #include <inttypes.h>
 #include <stdlib.h>
 
-enum { STEPS = 100, FEW = 24, SEVERAL = 4 };
-enum count { REFUSED, TAKEN, QUIET, ENDED, REOPENED, RESTARTED, NO_MEMORY, SOUND, UNSOUND, COUNTS };
+enum { STEPS = 100, FEW = 24, SEVERAL = 4, MANY = 3000 };
+enum count { REFUSED, TAKEN, QUIET, ENDED, REOPENED, RESTARTED, RESERVED, NO_MEMORY, SOUND, UNSOUND, COUNTS };
 
 static uint64_t seed, calls, counts[COUNTS];
 static gerfmuod_core core;
@@ -272,6 +272,26 @@ static void restart(void) {
     compare(&m, NULL);
 }
 
+/* How many steps, tasks or messages to reserve memory for: mostly more than there are, seldom more than there can be. */
+static uint32_t any_count(void) { return below(1000) ? below(below(2) ? FEW : MANY) : UINT32_MAX - below(MANY); }
+
+static void reserve(void) {
+    const uint32_t steps = any_count(), tasks = any_count(), messages = any_count();
+    bool refuses = below(4) == 0;
+    calls++;
+    if (refuses) refuse_in = 1 + below(4);
+    uint32_t got = gerfmuod_reserve(&core, steps, tasks, messages);
+    refuse_in = 0;
+    if (refuses && got == GERFMUOD_REFUSED_NO_MEMORY) {
+        compare(&m, NULL);
+        counts[NO_MEMORY]++;
+        got = gerfmuod_reserve(&core, steps, tasks, messages);
+    }
+    if (got != model_reserve(&m)) fail("reserve", NULL);
+    counts[RESERVED] += got == 0;
+    compare(&m, NULL);
+}
+
 /* ---- traces */
 
 /* Compares the audit of a trace with the model's. */
@@ -346,6 +366,7 @@ static bool generation(void) {
         random_step();
         if (below(8) == 0) random_steps();
         if (below(20) == 0) settle();
+        if (below(20) == 0) reserve();
         if (below(50) == 0) restart();
     }
     if (below(8) == 0) return false; /* it is closed in the middle */
@@ -366,6 +387,7 @@ static void closed(void) {
     for (uint32_t k = 0; k < 4; k++) random_step(), random_steps();
     settle();
     restart();
+    reserve();
     compare(&m, NULL);
     if (gerfmuod_trace(&core, room, sizeof room).outcome != GERFMUOD_NO_TEXT) fail("trace of a closed core", NULL);
     if (gerfmuod_close(&core) != GERFMUOD_REFUSED_NO_POOL) fail("close of a closed core", NULL);
@@ -387,8 +409,8 @@ int main(int argc, char **argv) {
     }
     printf("%" PRIu64 " calls on %" PRIu64 " cores, %" PRIu64 " steps taken and %" PRIu64 " refused, ", calls, cores, counts[TAKEN],
            counts[REFUSED]);
-    printf("%" PRIu64 " times quiet, %" PRIu64 " ends, %" PRIu64 " reopened, %" PRIu64 " restarted, ", counts[QUIET], counts[ENDED],
-           counts[REOPENED], counts[RESTARTED]);
+    printf("%" PRIu64 " times quiet, %" PRIu64 " ends, %" PRIu64 " reopened, %" PRIu64 " restarted, %" PRIu64 " reserved, ",
+           counts[QUIET], counts[ENDED], counts[REOPENED], counts[RESTARTED], counts[RESERVED]);
     printf("%" PRIu64 " sound and %" PRIu64 " damaged traces, %" PRIu64 " allocations refused: as the model says\n", counts[SOUND],
            counts[UNSOUND], counts[NO_MEMORY]);
     return 0;

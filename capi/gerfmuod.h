@@ -242,11 +242,21 @@ uint32_t gerfmuod_close(gerfmuod_core *core);
  * was not detected. Since 0.1.0. */
 GERFMUOD_CHECKED uint32_t gerfmuod_restart(gerfmuod_core *core);
 
+/* Reserves memory for `steps` more steps, for tasks with numbers below `tasks` and for messages with numbers below
+ * `messages`. Until that many more steps are taken, the calls that take steps allocate nothing, except at a task or a message
+ * with a higher number, or at an action that is opened: this is tested, not proved. All steps count: a task takes 3 and one
+ * for each input, an action 2, a message 3, gerfmuod_ready 1, a wave 3 for each node, and gerfmuod_settle at most
+ * GERFMUOD_SETTLE_STEPS for each node. Numbers from 1,048,576 on, and steps beyond GERFMUOD_MAX_STEPS, are ignored.
+ * It takes no step, and no other call shows a difference. gerfmuod_reopen keeps the room for steps, and drops the places of
+ * tasks and messages: reserve these again after it. gerfmuod_restart drops both. Refused: NO_POOL; BUSY; NO_MEMORY if an
+ * allocation fails: what was reserved until then stays reserved. Since 0.1.0. */
+GERFMUOD_CHECKED uint32_t gerfmuod_reserve(gerfmuod_core *core, uint32_t steps, uint32_t tasks, uint32_t messages);
+
 /* Takes the next step, if it is lawful and there is room for it. Refused for the first reason that applies: NO_POOL; BUSY;
  * BAD_SPEC for a kind above 15 or an insert with more than 16 inputs; HISTORY_FULL if only the steps that are kept for
  * gerfmuod_settle are left; the checks of its kind, in the order that is given at the calls below; NO_MEMORY if an
  * allocation fails. Allocations are for a task, for an action that is opened, for a message that is sent, and once in
- * 1,024 steps. Since 0.1.0. */
+ * 1,024 steps, if gerfmuod_reserve did not reserve memory for them. Since 0.1.0. */
 GERFMUOD_CHECKED gerfmuod_answer gerfmuod_step(gerfmuod_core *core, uint32_t kind, uint32_t first, uint32_t second,
                                                uint32_t third, uint32_t generation);
 

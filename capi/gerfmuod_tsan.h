@@ -21,6 +21,11 @@ static inline uint32_t gerfmuod_tsan_restart(gerfmuod_core *core) {
     return gerfmuod_restart(core);
 }
 
+static inline uint32_t gerfmuod_tsan_reserve(gerfmuod_core *core, uint32_t steps, uint32_t tasks, uint32_t messages) {
+    __tsan_write8(core);
+    return gerfmuod_reserve(core, steps, tasks, messages);
+}
+
 static inline gerfmuod_settled gerfmuod_tsan_settle(gerfmuod_core *core) {
     __tsan_write8(core);
     return gerfmuod_settle(core);
@@ -63,6 +68,7 @@ static inline gerfmuod_written gerfmuod_tsan_trace(const gerfmuod_core *core, ch
 #define gerfmuod_open gerfmuod_tsan_open
 #define gerfmuod_close gerfmuod_tsan_close
 #define gerfmuod_restart gerfmuod_tsan_restart
+#define gerfmuod_reserve gerfmuod_tsan_reserve
 #define gerfmuod_settle gerfmuod_tsan_settle
 #define gerfmuod_step gerfmuod_tsan_step
 #define gerfmuod_steps gerfmuod_tsan_steps

@@ -1,5 +1,6 @@
-/* limits.c: cores at their limits. A core that is full still detects termination and has a trace, which is sound. The calls that
- * take a const core do not write to it: here its memory is read-only. The others write to its first bytes alone. */
+/* limits.c: cores at their limits. A core that is full still detects termination and has a trace, which is sound. Memory is
+ * reserved for all steps that it can have, and once more when it is full. The calls that take a const core do not write to it:
+ * here its memory is read-only. The others write to its first bytes alone. */
 #define _DEFAULT_SOURCE
 #include "gerfmuod.h"
 #include <stdio.h>
@@ -48,6 +49,7 @@ static void full(uint32_t nodes, bool has_wave) {
     const uint32_t limit = GERFMUOD_MAX_STEPS - GERFMUOD_SETTLE_STEPS * nodes;
     gerfmuod_core core;
     CHECK(gerfmuod_open(&core, nodes) == 0 && gerfmuod_room(&core) == limit);
+    CHECK(gerfmuod_reserve(&core, UINT32_MAX, UINT32_MAX, UINT32_MAX) == 0);
     for (uint32_t node = 1; node < nodes; node++) CHECK(gerfmuod_ready(&core, node).refused == 0);
     if (has_wave) CHECK(gerfmuod_start(&core).refused == 0);
     fill(&core);
@@ -55,6 +57,7 @@ static void full(uint32_t nodes, bool has_wave) {
     gerfmuod_answer more = gerfmuod_ready(&core, 9); /* before the checks of the kind */
     CHECK(more.refused == GERFMUOD_REFUSED_HISTORY_FULL && more.number == limit && gerfmuod_room(&core) == 0);
     CHECK(gerfmuod_insert(&core, 0, 1, 17).refused == GERFMUOD_REFUSED_BAD_SPEC);
+    CHECK(gerfmuod_reserve(&core, UINT32_MAX, 0, 0) == 0 && gerfmuod_length(&core) == limit);
     gerfmuod_settled settled = gerfmuod_settle(&core);
     CHECK(settled.refused == 0 && settled.steps > 0 && settled.steps <= GERFMUOD_SETTLE_STEPS * nodes);
     CHECK(gerfmuod_settle(&core).refused == GERFMUOD_REFUSED_ENDED && gerfmuod_length(&core) == limit + settled.steps);

@@ -353,6 +353,9 @@ static uint32_t model_restart(model *m) {
     return 0;
 }
 
+/* It changes nothing that a call shows. */
+static uint32_t model_reserve(const model *m) { return m->is_open ? 0 : GERFMUOD_REFUSED_NO_POOL; }
+
 static uint32_t model_close(model *m) {
     uint32_t refused = m->is_open ? 0 : GERFMUOD_REFUSED_NO_POOL;
     memset(m, 0, sizeof *m);

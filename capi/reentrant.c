@@ -40,6 +40,7 @@ static void call_all(void) {
     CHECK(gerfmuod_steps(&core, events, 2, answers, 2) == 0 && answers[0].refused == why && answers[1].refused == 9);
     CHECK(gerfmuod_steps(&core, NULL, 0, NULL, 0) == 0 && gerfmuod_steps(&core, events, 2, NULL, 0) == 0);
     CHECK(gerfmuod_settle(&core).refused == why && gerfmuod_restart(&core) == why && gerfmuod_close(&core) == why);
+    CHECK(gerfmuod_reserve(&core, 5000, 500, 50) == why);
     CHECK(gerfmuod_numbers(&core, 0).refused == why && gerfmuod_numbers(&core, 9).refused == why);
     CHECK(!gerfmuod_whole(&core).quiet && gerfmuod_length(&core) == 0 && gerfmuod_room(&core) == 0);
     CHECK(gerfmuod_trace(&core, room, sizeof room).outcome == GERFMUOD_NO_TEXT);
@@ -81,6 +82,7 @@ static void allocate(void) {
     CHECK_INSIDE(gerfmuod_insert_by(&core, GERFMUOD_BY_OPENING, 0, 0, 70000, 0).refused == 0, GERFMUOD_REFUSED_BUSY);
     CHECK_INSIDE(gerfmuod_send(&core, 0, 1, 5, GERFMUOD_FIRST_GENERATION).refused == 0, GERFMUOD_REFUSED_BUSY);
     CHECK_INSIDE(gerfmuod_steps(&core, events, 3, answers, 3) == 2, GERFMUOD_REFUSED_BUSY);
+    CHECK_INSIDE(gerfmuod_reserve(&core, 10, 500, 0) == 0, GERFMUOD_REFUSED_BUSY);
     CHECK(answers[0].refused == 0 && answers[1].refused == 0 && answers[2].refused == GERFMUOD_REFUSED_NO_NODE);
     CHECK(gerfmuod_length(&core) == 5 && gerfmuod_numbers(&core, 0).pending == 3 && gerfmuod_numbers(&core, 1).pending == 3);
 }

@@ -99,6 +99,7 @@ static void opened_wrongly(void) {
     CHECK(gerfmuod_open(&core, 9) == GERFMUOD_REFUSED_BAD_SPEC);
     refused(gerfmuod_ready(&core, 0), GERFMUOD_REFUSED_NO_POOL);
     CHECK(gerfmuod_settle(&core).refused == GERFMUOD_REFUSED_NO_POOL && !gerfmuod_whole(&core).quiet);
+    CHECK(gerfmuod_reserve(&core, 1, 1, 1) == GERFMUOD_REFUSED_NO_POOL);
     gerfmuod_close(&core);
     gerfmuod_close(&core);
 }
@@ -109,6 +110,7 @@ int main(void) {
     opened_wrongly();
     gerfmuod_core core;
     CHECK(gerfmuod_open(&core, 2) == 0);
+    CHECK(gerfmuod_reserve(&core, 32, 8, 2) == 0 && gerfmuod_length(&core) == 0);
     refused(gerfmuod_step(&core, 16, 0, 0, 0, 0), GERFMUOD_REFUSED_BAD_SPEC);
     refused(gerfmuod_insert(&core, 0, 7, 17), GERFMUOD_REFUSED_BAD_SPEC);
     refused(gerfmuod_reopen(&core), GERFMUOD_REFUSED_WRONG_LIFE);

@@ -75,7 +75,7 @@ PROGRAMS = [
     Program(
         "out_of_memory.c",
         [*C11, *WRAPPED],
-        [Run([], 0, "as it should be"), *(Run([fault], 1, "check failed") for fault in ("takes", "changes", "lies"))],
+        [Run([], 0, "as it should be"), *(Run([fault], 1, "check failed") for fault in ("takes", "changes", "lies", "forgets"))],
     ),
     Program(
         "unlocked.c",

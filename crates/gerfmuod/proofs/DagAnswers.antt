@@ -1,5 +1,6 @@
 -- The results of the calls on a pool of task graphs meet their contracts.
-use Rattle.std.proofs.Common.{ℕ, ◌≡◌, ◌≢◌, ◌≤◌, ◌+◌, length, Bool, List, [], ◌∷◌, refl, arith, ap, sym, subst, ◌∙◌, Some, None, Option, Result, IsTrue, IsFalse, inl}
+use Rattle.std.proofs.Common.{ℕ, ◌≡◌, ◌≢◌, ◌≤◌, ◌+◌, length, Bool, List, [], ◌∷◌, refl, arith, ap, sym, subst, ◌∙◌, Some, None}
+use Rattle.std.proofs.Common.{Option, Result, IsTrue, IsFalse, inl}
 use Rattle.std.proofs.lemmas.Bool.{both_ways}
 use Rattle.std.specs.Prelude.{Ok, Err, IfSome, not, slice_get}
 use Rattle.tp_base.specs.declared.Refusal.{Refusal}
@@ -10,14 +11,17 @@ use Rattle.tp_dag.specs.Again.{IsAgain}
 use Rattle.tp_dag.specs.declared.Next.{Next}
 use Rattle.tp_dag.specs.declared.Next.TheVariants.{Run, Wait, Finished}
 use Rattle.tp_dag.specs.declared.entry.Stage.TheVariants as stage
-use Rattle.tp_dag.specs.State.{PoolState, AddsOnly, SameGraph, IsTaskAdded, IsInputAdded, IsFinished, IsDispatched, IsCompleted, IsIdle, MayWait, AreDelivered, AreSent, BeginsMore, dispatched, extends, task_checks, input_checks, next_checks, done_checks}
+use Rattle.tp_dag.specs.State.{PoolState, AddsOnly, SameGraph, IsTaskAdded, IsInputAdded, IsFinished, IsDispatched, IsCompleted}
+use Rattle.tp_dag.specs.State.{IsIdle, MayWait, AreDelivered, AreSent, BeginsMore, dispatched, extends, task_checks, input_checks}
+use Rattle.tp_dag.specs.State.{next_checks, done_checks}
 use Rattle.tp_dag.specs.Journal.{is_delivery, is_sending}
 use Rattle.tp_dag.proofs.Ended.{none_begins}
 use Rattle.tp_dag.proofs.Steps.{same_graph, adds_none}
 use Rattle.gerfmuod.specs.declared.dag.answer.DagAnswer.{DagAnswer}
 use Rattle.gerfmuod.specs.declared.dag.slot.PoolSlot.TheInside.{Inside}
 use Rattle.gerfmuod.specs.DagSlot.{state_of}
-use Rattle.gerfmuod.specs.Dag.{SlotState, RefusesBy, IsTask, IsInput, IsInputRefusal, IsNext, IsRefusalBy, IsDone, IsAgainCall, checks, next_answer, plain, refusal_answer}
+use Rattle.gerfmuod.specs.Dag.{SlotState, RefusesBy, IsTask, IsInput, IsInputRefusal, IsNext, IsRefusalBy, IsDone, IsAgainCall}
+use Rattle.gerfmuod.specs.Dag.{checks, next_answer, plain, refusal_answer}
 
 -- The number of a refusal is at least 1.
 pub some_number : (r : Refusal) → 1 ≤ number_of r
@@ -64,7 +68,8 @@ slot_same old new e f = ap (λ (b : Bool). slot b new.pool) e ∙ ap (λ (p : Po
 open_refuses : (old new : SlotState) (more : List Check) (a : DagAnswer) → IsTrue old.is_open
     → IfSome (first_refusal more) (λ r. (a.refused ≡ number_of r) × (new ≡ old)) → RefusesBy (checks old more) old a new
 open_refuses old new more a live h =
-    subst (λ (b : Bool). IfSome (first_refusal ((not b, refusal.NoPool) ∷ more)) (λ r. (a.refused ≡ number_of r) × (new ≡ old))) (sym live) h
+    subst (λ (b : Bool). IfSome (first_refusal ((not b, refusal.NoPool) ∷ more)) (λ r. (a.refused ≡ number_of r) × (new ≡ old)))
+    (sym live) h
 
 -- A pool that is not open does not.
 shut_refuses : (old : SlotState) (more : List Check) → IsFalse old.is_open
@@ -84,7 +89,8 @@ never_ok x r h = cc
 
 -- A call that succeeded passes all checks, and one that failed has the refusal of the first check that it does not
 -- pass.
-passed : {A : Type 0} (o : Option Refusal) (x : A) (S : Type 0) (Q : Refusal → Type 0) → IfSome o (λ r. Same A (Ok x) (Err r) × S) → IfSome o Q
+passed : {A : Type 0} (o : Option Refusal) (x : A) (S : Type 0) (Q : Refusal → Type 0)
+    → IfSome o (λ r. Same A (Ok x) (Err r) × S) → IfSome o Q
 passed None x S Q h = tt
 passed (Some r) x S Q h = absurd (never_ok x r h.0)
 
@@ -145,8 +151,8 @@ next_shut now node shut = record {
 pub next_done : (p : Inside) (now : SlotState) (pool : PoolState) (node news : ℕ) (n : Next) → state_of p ≡ now → IsTrue now.is_open
     → IfSome (first_refusal (next_checks p.pool node)) (λ r. Same Next (Ok n) (Err r) × (pool ≡ p.pool))
     → ((t : ℕ) → n ≡ Run t → IsDispatched node t p.pool pool) → ((w : ℕ) → n ≡ Finished w → IsFinished pool)
-    → (Same Next (Ok n) (Ok Wait) → IsIdle node pool) → (Same Next (Ok n) (Ok Wait) → AddsOnly is_delivery p.pool pool) → SameGraph p.pool pool
-    → AreDelivered node p.pool pool
+    → (Same Next (Ok n) (Ok Wait) → IsIdle node pool) → (Same Next (Ok n) (Ok Wait) → AddsOnly is_delivery p.pool pool)
+    → SameGraph p.pool pool → AreDelivered node p.pool pool
     → BeginsMore (dispatched (Ok n)) p.pool pool
     → IsNext now node (next_answer n news) (state_of (record p { pool = pool }))
 next_done p now pool node news n same live check run finished wait waiting graph ways begun =
@@ -286,8 +292,8 @@ input_done p now pool source same live check added done waits =
     })
 
 pub input_refused : (p : Inside) (now : SlotState) (pool : PoolState) (source : ℕ) (e : Refusal) → state_of p ≡ now → IsTrue now.is_open
-    → IfSome (first_refusal (input_checks p.pool source)) (λ r. Same (Unit {0}) (Err e) (Err r)) → pool ≡ p.pool → IsInputRefusal source p.pool e
-    → IsInput now source (refusal_answer e) (state_of (record p { pool = pool }))
+    → IfSome (first_refusal (input_checks p.pool source)) (λ r. Same (Unit {0}) (Err e) (Err r)) → pool ≡ p.pool
+    → IsInputRefusal source p.pool e → IsInput now source (refusal_answer e) (state_of (record p { pool = pool }))
 input_refused p now pool source e same live check is exact =
     let still : state_of (record p { pool = pool }) ≡ state_of p = slot_same (state_of p) (state_of (record p { pool = pool })) refl is in
     subst (λ (a : SlotState). IsInput a source (refusal_answer e) (state_of (record p { pool = pool }))) same (record {
@@ -305,7 +311,8 @@ pub again_done : (p : Inside) (now : SlotState) (pool : PoolState) → state_of 
     → IsFalse p.pool.extended → IsAgain p.pool pool → IsAgainCall now (plain 0 0) (state_of (record p { pool = pool }))
 again_done p now pool same live finished described is =
     subst (λ (a : SlotState). IsAgainCall a (plain 0 0) (state_of (record p { pool = pool }))) same (record {
-      checked = open_refuses (state_of p) (state_of (record p { pool = pool })) [] (plain 0 0) (ap (λ (a : SlotState). a.is_open) same ∙ live) tt;
+      checked = open_refuses (state_of p) (state_of (record p { pool = pool })) [] (plain 0 0)
+          (ap (λ (a : SlotState). a.is_open) same ∙ live) tt;
       finished = λ z. finished;
       described = λ z. described;
       again = λ z. is;
@@ -316,7 +323,8 @@ pub again_refused : (p : Inside) (now : SlotState) (pool : PoolState) (e : Refus
     → IsAgainCall now (refusal_answer e) (state_of (record p { pool = pool }))
 again_refused p now pool e same live is =
     subst (λ (a : SlotState). IsAgainCall a (refusal_answer e) (state_of (record p { pool = pool }))) same (record {
-      checked = open_refuses (state_of p) (state_of (record p { pool = pool })) [] (refusal_answer e) (ap (λ (a : SlotState). a.is_open) same ∙ live) tt;
+      checked = open_refuses (state_of p) (state_of (record p { pool = pool })) [] (refusal_answer e)
+          (ap (λ (a : SlotState). a.is_open) same ∙ live) tt;
       finished = λ z. absurd (not_zero e (number_of e) refl z);
       described = λ z. absurd (not_zero e (number_of e) refl z);
       again = λ z. absurd (not_zero e (number_of e) refl z);

@@ -1,7 +1,7 @@
 -- Safety of the results: if a call says that the pool had terminated, it had.
-use Rattle.std.proofs.Common.{ℕ, ◌≡◌, ◌+◌, ◌-◌, ◌≤◌, ◌++◌, Bool, true, false, inl, inr, List, [], ◌∷◌, Option, Some}
+use Rattle.std.proofs.Common.{ℕ, ◌≡◌, ◌+◌, ◌≤◌, ◌++◌, Bool, true, false, inl, inr, List, [], ◌∷◌, Option, Some}
 use Rattle.std.proofs.Common.{None, Result, length, refl, sym, ap, subst, ◌∙◌, arith}
-use Rattle.std.specs.Prelude.{Ok, Err, IsFalse, IsTrue, ◌&&◌, ◌↔◌, if◌then◌else◌}
+use Rattle.std.specs.Prelude.{Ok, Err, IsFalse, IsTrue, ◌&&◌, if◌then◌else◌}
 use Rattle.std.proofs.lemmas.Bool.{cases_Bool, lt-leb}
 use Rattle.tp_base.specs.declared.Refusal.{Refusal}
 use Rattle.tp_base.specs.declared.Refusal.TheVariants.{HistoryFull}
@@ -15,8 +15,7 @@ use Rattle.tp_core.specs.Accepted.{Accepted, Answers, judged, reply_to, with_ste
 use Rattle.tp_core.specs.Generations.{InEach}
 use Rattle.tp_core.specs.NeverEarly.{IsNeverEarly, IsOverFrom}
 use Rattle.tp_core.specs.Settled.{Settles}
-use Rattle.tp_core.specs.World.{is_quiet, IsQuiet}
-use Rattle.tp_core.proofs.Ending.{same_quiet}
+use Rattle.tp_core.specs.World.{is_quiet}
 use Rattle.tp_core.proofs.Generations.{present-control}
 use Rattle.tp_text.proofs.TracedEnds.{judged_wave}
 use Rattle.gerfmuod.specs.Asked.{settled, unsettled}

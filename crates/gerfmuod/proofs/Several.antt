@@ -4,7 +4,6 @@ use Rattle.std.proofs.Common.{subst, ◌∙◌, arith, Option, Some, None, Bool,
 use Rattle.std.specs.Prelude.{Ok, Err, if◌then◌else◌}
 use Rattle.std.proofs.lemmas.Bool.{cases_Bool}
 use Rattle.std.proofs.lemmas.List.{take_more, take_more_set, take-set, drop-set, drop-set-lt, drop-drop, drop_more, drop_all, length-set}
-use Rattle.std.proofs.lemmas.List.{take_all}
 use Rattle.tp_base.specs.declared.Refusal.{Refusal}
 use Rattle.tp_base.specs.declared.Step.{Step}
 use Rattle.tp_core.specs.declared.Reply.{Reply}

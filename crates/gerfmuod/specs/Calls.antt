@@ -1,8 +1,8 @@
 -- What each exported call on a core does. On a core that is not open it is refused as 24, `NoPool`, and on a core on which
 -- another call runs as 28, `Busy`.
-use Rattle.std.specs.Prelude.{ℕ, ◌≡◌, ◌≢◌, false, List, ◌∷◌, IsTrue, IsFalse, length, take}
+use Rattle.std.specs.Prelude.{ℕ, ◌≡◌, ◌≢◌, ◌⊎◌, false, List, ◌∷◌, IsTrue, IsFalse, length, take}
 use Rattle.tp_base.specs.Refusals.{number_of}
-use Rattle.tp_base.specs.declared.Refusal.TheVariants.{NoPool, WrongLife}
+use Rattle.tp_base.specs.declared.Refusal.TheVariants.{NoMemory, NoPool, WrongLife}
 use Rattle.tp_wave.specs.Generations.{present}
 use Rattle.tp_wave.specs.Sums.{is_ended}
 use Rattle.tp_core.specs.Accepted.{Accepted, no_numbers}
@@ -76,3 +76,11 @@ pub record IsRestarted (old : Accepted) (refused : ℕ) (new : Accepted) : Type 
 
 abbrev pub IsRestartCall : CoreState → ℕ → CoreState → Type 0
 IsRestartCall = IsCall (λ k. k) IsRestarted
+
+-- The result is 0, or 17, `NoMemory`. In both cases the core has accepted the same steps as before.
+pub record IsReserved (old : Accepted) (refused : ℕ) (new : Accepted) : Type 0 where
+  pub outcome : (refused ≡ 0) ⊎ (refused ≡ number_of NoMemory)
+  pub same : new ≡ old
+
+abbrev pub IsReserveCall : CoreState → ℕ → CoreState → Type 0
+IsReserveCall = IsCall (λ k. k) IsReserved

@@ -1,5 +1,6 @@
 -- The results and effects of the calls on a pool of task graphs.
-use Rattle.std.specs.Prelude.{ℕ, ◌+◌, ◌≡◌, ◌≢◌, ◌≤◌, ◌==◌, ◌&&◌, ◌⊎◌, Bool, false, not, nat_le, length, List, [], ◌∷◌, if◌then◌else◌, IsTrue, IsFalse, IfSome}
+use Rattle.std.specs.Prelude.{ℕ, ◌+◌, ◌≡◌, ◌≢◌, ◌≤◌, ◌==◌, ◌&&◌, ◌⊎◌, Bool, false, not, nat_le, length, List, [], ◌∷◌}
+use Rattle.std.specs.Prelude.{if◌then◌else◌, IsTrue, IsFalse, IfSome}
 use Rattle.std.specs.Prelude.{Option, Some, None, slice_get}
 use Rattle.tp_base.specs.declared.Step.{Step}
 use Rattle.tp_base.specs.declared.Step.TheVariants.{Insert, Supply, Begin, Done, ActionOpen, ActionClose, Ready, Send, Recv, MessageEnd}
@@ -9,7 +10,8 @@ use Rattle.tp_base.specs.declared.limits.TheConstants.{MAX_STEPS}
 use Rattle.tp_base.specs.declared.Refusal.TheVariants.{WrongLife, HistoryFull, NoMemory, NoPool, BadSpec}
 use Rattle.tp_base.specs.Checks.{Check, first_refusal}
 use Rattle.tp_base.specs.Refusals.{number_of}
-use Rattle.tp_dag.specs.State.{PoolState, AddsOnly, SameGraph, IsTaskAdded, IsInputAdded, IsStarted, IsOutsideAdded, IsReleased, IsDispatched, IsFinished, IsCompleted}
+use Rattle.tp_dag.specs.State.{PoolState, AddsOnly, SameGraph, IsTaskAdded, IsInputAdded, IsStarted, IsOutsideAdded, IsReleased}
+use Rattle.tp_dag.specs.State.{IsDispatched, IsFinished, IsCompleted}
 use Rattle.tp_dag.specs.State.{IsBehind, BeginsMore, IsIdle, MayWait, AreDelivered, AreSent, extends}
 use Rattle.tp_dag.specs.Journal.{is_readying, is_delivery, is_sending, is_of_room, keeps, kept_step}
 use Rattle.tp_dag.specs.Again.{IsAgain}

@@ -9,9 +9,7 @@ use Rattle.tp_core.specs.Accepted.{Accepted, Answers, world_of}
 use Rattle.tp_core.specs.World.{is_quiet}
 use Rattle.tp_core.specs.declared.Reply.{Reply}
 use Rattle.tp_core.specs.declared.Reply.TheVariants.{Plain, WaveSums, Not, Over, Opened}
-use Rattle.gerfmuod.specs.Events.{step_asked}
 use Rattle.gerfmuod.specs.Room.{is_full}
-use Rattle.gerfmuod.specs.declared.event.Event.{Event}
 use Rattle.gerfmuod.specs.declared.answer.Answer.{Answer}
 
 abbrev pub plain : ℕ → ℕ → ℕ → Answer

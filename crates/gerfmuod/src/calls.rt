@@ -9,7 +9,7 @@ ghost use Rattle.tp_core.specs.World.{is_quiet};
 ghost use Rattle.gerfmuod.specs.Asked.{counters, unsettled, IsSettled};
 ghost use Rattle.gerfmuod.specs.Batch.{IsStep};
 ghost use Rattle.gerfmuod.specs.Calls.{IsByCall, IsClosed, IsNumbersCall, IsRestartCall, IsSettleCall, IsStepCall, IsWholeCall};
-ghost use Rattle.gerfmuod.specs.Calls.{refused_step, IsRestarted};
+ghost use Rattle.gerfmuod.specs.Calls.{refused_step, IsReserveCall, IsRestarted};
 ghost use Rattle.gerfmuod.specs.Events.{event_of};
 ghost use Rattle.gerfmuod.specs.Makers.{made_step, maker_asked, IsMade};
 ghost use Rattle.gerfmuod.specs.Pool.{TellsNoEarlyEnd};
@@ -52,6 +52,22 @@ pub(crate) fn opening(nodes: u32) -> u32
         0
     } else {
         u32::from(Refusal::BadSpec.number())
+    }
+}
+
+/// Reserves memory for steps, tasks and messages in a core.
+pub(crate) fn reserved(slot: &mut CoreSlot, steps: u32, tasks: u32, messages: u32) -> u32
+    ensures { IsReserveCall slot.old result slot.new }
+{
+    let is_open = slot.enter();
+    if !is_open {
+        return u32::from(slot.refusal());
+    }
+    let reserved = slot.room.reserve(steps, tasks, messages);
+    slot.leave();
+    match reserved {
+        Ok(()) => 0,
+        Err(refusal) => u32::from(refusal.number()),
     }
 }
 

@@ -4,7 +4,8 @@ ghost use Rattle.std.specs.Prelude.{true, false};
 ghost use Rattle.std.specs.Borrow.{full_share, sem};
 ghost use Rattle.std.specs.Ptr.{lies_at, room_at};
 ghost use Rattle.gerfmuod.specs.contracts.dag.slot.PoolSlot.{the_row as slot_row};
-ghost use Rattle.gerfmuod.specs.Dag.{SlotState, IsOpening, IsTask, IsInput, IsStart, IsOutside, IsRelease, IsNext, IsDone, IsAgainCall, IsStep, IsClosed};
+ghost use Rattle.gerfmuod.specs.Dag.{SlotState, IsOpening, IsTask, IsInput, IsStart, IsOutside, IsRelease, IsNext, IsDone};
+ghost use Rattle.gerfmuod.specs.Dag.{IsAgainCall, IsStep, IsClosed};
 
 use crate::dag::answer::{DagAnswer, DagStep};
 use crate::dag::calls::{

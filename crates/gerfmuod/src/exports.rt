@@ -4,14 +4,14 @@ ghost use Rattle.std.specs.Borrow.{full_share, sem};
 ghost use Rattle.std.specs.Ptr.{lies_at, room_at};
 ghost use Rattle.gerfmuod.specs.contracts.slot.CoreSlot.{the_row as slot_row};
 ghost use Rattle.gerfmuod.specs.Calls.{IsByCall, IsClosed, IsNumbersCall, IsRestartCall, IsSettleCall, IsStepCall, IsTraceCall};
-ghost use Rattle.gerfmuod.specs.Calls.{IsStepsCall, IsWholeCall};
+ghost use Rattle.gerfmuod.specs.Calls.{IsReserveCall, IsStepsCall, IsWholeCall};
 ghost use Rattle.gerfmuod.specs.Events.{event_of};
 ghost use Rattle.gerfmuod.specs.Slot.{CoreState, opened, opening};
 
 use crate::answer::{Answer, Counters, Settled, Whole, Written};
 use crate::batch::steps;
 use crate::calls::{
-    answered, answered_by, close, counted, made, opening, restarted, seen, settled,
+    answered, answered_by, close, counted, made, opening, reserved, restarted, seen, settled,
 };
 use crate::event::Event;
 use crate::history::traced;
@@ -47,6 +47,32 @@ pub unsafe extern "C" fn gerfmuod_open(alloc: Global, core: *mut u8, nodes: u32)
     let made = made(alloc, nodes);
     (core as *mut CoreSlot).write(made);
     opening(nodes)
+}
+
+/// Reserves memory for `steps` more steps, for tasks with numbers below `tasks`, and for messages with numbers below
+/// `messages`. It takes no step, and no other call shows a difference. Numbers from 1,048,576 on, and steps beyond the
+/// 1,048,576 of a core, are ignored.
+///
+/// Until that many more steps are taken, the calls that take steps allocate nothing, except at a task or a message with a
+/// higher number, or at an action that is opened. All steps count: a task takes 3 and one for each input, a message 3, an
+/// opening 1, and `gerfmuod_settle` at most 9 for each node. A reopening keeps the room for steps, and drops the places of
+/// tasks and messages; a restart drops both.
+///
+/// Returns 0, or why the call was refused: 24, `NoPool`, if the core is not open; 28, `Busy`, if another call runs on it;
+/// 17, `NoMemory`, if an allocation fails. What was reserved until then stays reserved.
+#[unsafe(no_mangle)]
+pub unsafe extern "C" fn gerfmuod_reserve(
+    core: *mut u8,
+    steps: u32,
+    tasks: u32,
+    messages: u32,
+) -> u32
+    ghost old: { CoreState }
+    requires* { sem 𝓛 (lies_at slot_row full_share core old) }
+    ensures* { ∃ₛ (λ (new : CoreState). sem 𝓛 (lies_at slot_row full_share core new)
+        ∗ ⌜ IsReserveCall old result new ⌝) }
+{
+    reserved(&mut *(core as *mut CoreSlot), steps, tasks, messages)
 }
 
 /// Takes the next step if it is lawful and there is room for it. `told` in the result is 5 if the step ended a task, an

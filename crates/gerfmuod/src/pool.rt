@@ -91,6 +91,14 @@ impl CoreRoom {
         self.core.is_maker(maker, step)
     }
 
+    /// Reserves memory as `Core::reserve` does. It takes no step.
+    pub(crate) fn reserve(&mut self, steps: u32, tasks: u32, messages: u32) -> Result<(), Refusal>
+        ensures same { self.new ≡ self.old }
+        ensures err { IfErr result (λ r. r ≡ Refusal.NoMemory) }
+    {
+        self.core.reserve(steps, tasks, messages)
+    }
+
     /// Takes the next step as `Core::step` does. Refused, before that, as `BadSpec` if there is none, and as
     /// `HistoryFull` if there is no room for it.
     #[inline(always)]

@@ -1,6 +1,7 @@
 //! The calls on a pool of task graphs, as C gets their results.
 ghost use Rattle.std.specs.Prelude.{◌≡◌, ◌≤◌, Option, Result, ℕ, true, false};
-ghost use Rattle.gerfmuod.specs.Dag.{can_be, IsOpened, opening, IsTask, IsInput, IsStart, IsOutside, IsRelease, IsNext, IsDone, IsAgainCall, IsStep, IsClosed};
+ghost use Rattle.gerfmuod.specs.Dag.{can_be, IsOpened, opening, IsTask, IsInput, IsStart, IsOutside, IsRelease, IsNext, IsDone};
+ghost use Rattle.gerfmuod.specs.Dag.{IsAgainCall, IsStep, IsClosed};
 ghost use Rattle.gerfmuod.specs.Dag.{limit_of, plain, refusal_answer, next_answer, step_answer};
 
 use super::answer::{DagAnswer, DagStep};

@@ -1,6 +1,6 @@
 use Rattle.std.proofs.Common.{◌≡◌, ◌∙◌, ap, length, refl, take}
 use Rattle.std.proofs.lemmas.List.{take_min}
-use Rattle.gerfmuod.specs.Slot.{CoreState, Open}
+use Rattle.gerfmuod.specs.Slot.{CoreState}
 use Rattle.gerfmuod.proofs.Several.{taken_by_call}
 use Rattle.gerfmuod.proofs.batch.steps.Goals as goal
 

@@ -1,7 +1,7 @@
-use Rattle.std.proofs.Common.{◌≡◌, ◌<◌, length, get_or, subst, sym, arith, Option}
+use Rattle.std.proofs.Common.{◌≡◌, get_or, subst, arith, Option}
 use Rattle.tp_base.specs.declared.Step.{Step}
 use Rattle.gerfmuod.specs.Batch.{IsStep}
-use Rattle.gerfmuod.specs.Events.{event_of, step_asked}
+use Rattle.gerfmuod.specs.Events.{event_of}
 use Rattle.gerfmuod.specs.Pool.{TellsNoEarlyEnd}
 use Rattle.gerfmuod.specs.Told.{IsTold}
 use Rattle.gerfmuod.proofs.Several.{after_one, stops_at}

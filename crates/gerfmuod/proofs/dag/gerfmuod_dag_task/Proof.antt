@@ -61,11 +61,13 @@ gerfmuod_dag_task_spec 𝓤 𝓛 𝓜 𝓡 wired =
     let fclass = are.1.1.0.1 in
     let words = vint w32 node ∷ vint w32 class ∷ [] in
     let Told = λ (u : DagAnswer) (new : SlotState). IsTask n node class u new in
-    let y : Ptr → W.Ghost = λ p. ((κs, qs, bounds, (p, (node, (class, tt))), (rawptr_vals p, (vint w32 node ∷ [], (vint w32 class ∷ [], tt)))), n) in
+    let y : Ptr → W.Ghost =
+    λ p. ((κs, qs, bounds, (p, (node, (class, tt))), (rawptr_vals p, (vint w32 node ∷ [], (vint w32 class ∷ [], tt)))), n) in
     qed 𝓛 (raw (on_entry 𝓛 f.signature κs qs a (y a.0).0.4) ∷ ‵ (lies_at R full_share a.0 n) ∷ []) ∵ drop ! $
     in_a_block ! a.0 (λ p. lies_at R full_share p n) (id⊢ 𝓤 _) (λ b o e.
     regoal ! (λ p. prop (WpFn 𝓤 𝓛.H 𝓣.C 𝓣.Λ code.function (rawptr_vals p ++ words) (W.post (y p)))) e refl $
-    enter ! _ _ _ _ _ $ alloc_all ! (λ l. pass_all ! refl ((tt, tt), ((tt, record { fits = fnode }), ((tt, record { fits = fclass }), tt))) $
+    enter ! _ _ _ _ _ $ alloc_all ! (λ l.
+    pass_all ! refl ((tt, tt), ((tt, record { fits = fnode }), ((tt, record { fits = fclass }), tt))) $
     lft_new ! tt (λ α. let κ : Lft = α ∷ [] in move ! (1 ∷ []) $
     use1 𝓛 (later
     (some (λ (γ : GName). ‵ ((MutRef (named 0) κ R).own_val (record { ref_ptr = (b, o); ghost_name = γ; now = n }) (vptr b o ∷ []))
@@ -76,13 +78,16 @@ gerfmuod_dag_task_spec 𝓤 𝓛 𝓜 𝓡 wired =
     sets ! (addr ! (through ! refl (stop !))) refl (tt, tt) $
     let G = triple_of 𝓛 g.signature (g.spec 𝓛 𝓜.mem 𝓡.returns) in
     let bor : MutBor SlotState = record { ref_ptr = (b, o); ghost_name = γ; now = n } in
-    let z : G.Ghost = (((κ, tt), (full_share, tt), tt, (bor, (node, (class, tt))), (vptr b o ∷ [], (vint w32 node ∷ [], (vint w32 class ∷ [], tt)))), tt) in
-    nothing ! $ owned ! u32 (Is u32) (uint_Makes 𝓛 w32) class _ (refl, fclass) $ join ! $ owned ! u32 (Is u32) (uint_Makes 𝓛 w32) node _ (refl, fnode) $ join ! $ move ! (1 ∷ 0 ∷ []) $ join ! $
+    let z : G.Ghost =
+    (((κ, tt), (full_share, tt), tt, (bor, (node, (class, tt))), (vptr b o ∷ [], (vint w32 node ∷ [], (vint w32 class ∷ [], tt)))), tt) in
+    nothing ! $ owned ! u32 (Is u32) (uint_Makes 𝓛 w32) class _ (refl, fclass) $ join ! $
+    owned ! u32 (Is u32) (uint_Makes 𝓛 w32) node _ (refl, fnode) $ join ! $ move ! (1 ∷ 0 ∷ []) $ join ! $
     nothing ! $ move ! (3 ∷ 0 ∷ []) $ join ! $ join ! $ nothing ! $ move ! (1 ∷ 0 ∷ []) $ use2 𝓛 (raw (G.pre z)) (id⊢ 𝓤 _) $
     calls_at ! (framed 𝓤 𝓛.H 𝓜 𝓣) G (met 𝓤 𝓛 𝓜 𝓡 (code.calls-gerfmuod::dag::calls::task 𝓡.env wired)) z
     (and_then ! (get ! refl) (and_then ! (get ! refl) (and_then ! (get ! refl) (no_more !)))) (λ v.
     use1 𝓛 (later (some (λ (u : DagAnswer). ((‵ (flft κ full_share) ⊛ ‵ ftrue) ⊛ ‵ (A.own_val u (v ∷ []))) ⊛
-    some (λ (ws : SlotState × (Unit {0} × (Unit {0} × Unit {0}))). ‵ (lasts g.ended z.0.0 z.0.3 ws) ⊛ raw (fact 𝓤 (Told u ws.0)))))) (id⊢ 𝓤 _) $
+    some (λ (ws : SlotState × (Unit {0} × (Unit {0} × Unit {0}))). ‵ (lasts g.ended z.0.0 z.0.3 ws)
+    ⊛ raw (fact 𝓤 (Told u ws.0)))))) (id⊢ 𝓤 _) $
     await ! tt $ pick ! (λ u. split ! $ split ! $ split ! $ lft_end ! tt $
     -- [κ has ended; nothing; the result; the call's postcondition; the lender's claim]
     move ! (3 ∷ []) $ pick ! (λ ws. split ! $ move ! (1 ∷ []) $ heard ! _ (λ told. fsplit ! $ fsplit ! $

@@ -1,12 +1,12 @@
 -- The proof of `gerfmuod_close`: it borrows the core for a lifetime that is created for the call.
-use Rattle.gerfmuod.proofs.Walks.{◌≡◌, [], ◌∷◌, ℕ, refl, w32, u32, Is, shows, peeks, uint_Lawful, MutBor}
+use Rattle.gerfmuod.proofs.Walks.{[], ◌∷◌, ℕ, refl, w32, u32, Is, shows, peeks, uint_Lawful, MutBor}
 use Rattle.gerfmuod.proofs.Walks.{proved, full_share, sep, ex, id⊢, GName, Lft, ftrue, flft, flent, named}
 use Rattle.gerfmuod.proofs.Walks.{vptr, WpFn, fact, tables, ‵, raw, ◌⊛◌, some, later, prop, ◌$◌, ◌∵◌, !, qed, done, move, keep, drop, use1}
 use Rattle.gerfmuod.proofs.Walks.{use2, use3, split, join, fsplit, pick, await, regoal, suffices, group, lft_new, lft_end, Body, enter}
 use Rattle.gerfmuod.proofs.Walks.{of_opd, addr, stop, no_more, and_then, returns, alloc_all, pass_all, free_all, look_at, get, through}
 use Rattle.gerfmuod.proofs.Walks.{sets, lands_as, yes, lends_ref, ref_back, mem, Ptr, RawPtr, block_ptr, lies_at, in_a_block, rawptr_vals}
-use Rattle.gerfmuod.proofs.Walks.{rawptr_Tells, MutRef, plain, nothing, heard, only, calls_at, lasts, on_entry, triple_of, Stays, walk_of}
-use Rattle.gerfmuod.proofs.Walks.{stay_dropped, Goes-dropped, ends_at, framed, CoreState, IsClosed, tells, lies_so}
+use Rattle.gerfmuod.proofs.Walks.{rawptr_Tells, MutRef, plain, nothing, heard, calls_at, lasts, on_entry, triple_of, Stays, walk_of}
+use Rattle.gerfmuod.proofs.Walks.{stay_dropped, Goes-dropped, ends_at, framed, CoreState, IsClosed, lies_so}
 use Rattle.gerfmuod.specs.contracts.slot.CoreSlot.{the_row as R}
 use Rattle.gerfmuod.specs.contracts.exports.gerfmuod_close as f
 use Rattle.gerfmuod.proofs.exports.gerfmuod_close.Statement.{statement}

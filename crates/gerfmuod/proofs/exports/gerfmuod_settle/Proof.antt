@@ -1,5 +1,5 @@
 -- The proof of `gerfmuod_settle`: it borrows the core for a lifetime that is created for the call.
-use Rattle.gerfmuod.proofs.Walks.{◌≡◌, [], ◌∷◌, refl, ap, MutBor, proved, full_share, sep, ex, id⊢, GName, Lft, ftrue, flft, flent, named}
+use Rattle.gerfmuod.proofs.Walks.{[], ◌∷◌, refl, ap, MutBor, proved, full_share, sep, ex, id⊢, GName, Lft, ftrue, flft, flent, named}
 use Rattle.gerfmuod.proofs.Walks.{vptr, WpFn, fact, tables, ‵, raw, ◌⊛◌, some, later, prop, ◌$◌, ◌∵◌, !, qed, done, move, keep, drop, use1}
 use Rattle.gerfmuod.proofs.Walks.{use2, use3, split, join, fsplit, pick, await, regoal, suffices, group, lft_new, lft_end, Body, enter}
 use Rattle.gerfmuod.proofs.Walks.{of_opd, addr, stop, no_more, and_then, returns, alloc_all, pass_all, free_all, look_at, get, through}

@@ -1,5 +1,5 @@
 -- The proof of `gerfmuod_step_by`: it borrows the core for a lifetime that is created for the call.
-use Rattle.gerfmuod.proofs.Walks.{◌≡◌, [], ◌∷◌, ◌++◌, refl, ap, w32, MutBor, proved, full_share, sep, ex, id⊢, GName, Lft, ftrue, flft}
+use Rattle.gerfmuod.proofs.Walks.{[], ◌∷◌, ◌++◌, refl, ap, w32, MutBor, proved, full_share, sep, ex, id⊢, GName, Lft, ftrue, flft}
 use Rattle.gerfmuod.proofs.Walks.{flent, named, vint, vptr, WpFn, fact, tables, ‵, raw, ◌⊛◌, some, later, prop, ◌$◌, ◌∵◌, !, qed, done}
 use Rattle.gerfmuod.proofs.Walks.{move, keep, drop, use1, use2, use3, split, join, fsplit, pick, await, regoal, suffices, group, lft_new}
 use Rattle.gerfmuod.proofs.Walks.{lft_end, Body, enter, of_opd, addr, stop, no_more, and_then, returns, alloc_all, pass_all, free_all}

@@ -1,13 +1,14 @@
 -- The proof of `gerfmuod_steps`: it borrows the core for a lifetime that is created for the call, and passes the events and the
 -- buffer on.
-use Rattle.gerfmuod.proofs.Walks.{◌≡◌, ℕ, List, [], ◌∷◌, ◌++◌, refl, w64, MutBor, proved, full_share, sep, ex, id⊢, GName, Lft, ftrue, flft}
+use Rattle.gerfmuod.proofs.Walks.{ℕ, List, [], ◌∷◌, ◌++◌, refl, w64, MutBor, proved, full_share, sep, ex, id⊢, GName, Lft, ftrue, flft}
 use Rattle.gerfmuod.proofs.Walks.{flent, named, vptr, WpFn, fact, tables, ‵, raw, ◌⊛◌, some, later, prop, ◌$◌, ◌∵◌, !, qed, done, move}
 use Rattle.gerfmuod.proofs.Walks.{keep, drop, use1, use2, use3, split, join, fsplit, fjoin, feq_l, pick, await, regoal, suffices, group}
 use Rattle.gerfmuod.proofs.Walks.{lft_new, lft_end, Body, enter, of_opd, addr, from, fld, hop, stop, no_more, and_then, returns, alloc_all}
 use Rattle.gerfmuod.proofs.Walks.{pass_all, free_all, look_at, look_in_at, get, get_in, through, sets, lands_as, yes, lends_ref}
 use Rattle.gerfmuod.proofs.Walks.{ref_back, mem, owns, Ptr, RawPtr, block_ptr, lies_at, in_a_block, rawptr_vals, rawptr_Tells, MutRef}
 use Rattle.gerfmuod.proofs.Walks.{plain, nothing, heard, peeks, calls_at, lasts, triple_of, Stays, walk_of, stay_dropped, gave_slice}
-use Rattle.gerfmuod.proofs.Walks.{Goes-dropped, Goes-gave_slice, ends_at, framed, CoreState, IsStepsCall, Is, shows, uint_Lawful, lies_so, Answer}
+use Rattle.gerfmuod.proofs.Walks.{Goes-dropped, Goes-gave_slice, ends_at, framed, CoreState, IsStepsCall, Is, shows, uint_Lawful}
+use Rattle.gerfmuod.proofs.Walks.{lies_so, Answer}
 use types.Part.{whole, sub, agg}
 use denote.Builtin.{usize}
 use denote.Signature.{shr_slice_of}
@@ -54,7 +55,8 @@ gerfmuod_steps_spec 𝓤 𝓛 𝓜 𝓡 wired =
     move ! (4 ∷ []) $ split ! $ keep ! (6 ∷ 4 ∷ 2 ∷ 5 ∷ 0 ∷ []) $
     -- [the core; the events; the buffer; the events' token; the buffer's token]
     in_a_block ! a.0 (λ p. lies_at R full_share p n) (id⊢ 𝓤 _) (λ b o e.
-    regoal ! (λ p. prop (WpFn 𝓤 𝓛.H 𝓣.C 𝓣.Λ code.function (rawptr_vals p ++ (shr_slice_vals es ++ mut_slice_vals x)) (W.post (y p)))) e refl $
+    regoal ! (λ p. prop (WpFn 𝓤 𝓛.H 𝓣.C 𝓣.Λ code.function (rawptr_vals p ++ (shr_slice_vals es ++ mut_slice_vals x)) (W.post (y p))))
+    e refl $
     enter ! _ _ _ _ _ $ alloc_all ! (λ l.
     pass_all ! refl ((tt, tt), ((tt, (tt, (record { fits = few }, tt))), ((tt, (tt, (record { fits = count }, tt))), tt))) $
     lft_new ! tt (λ α. let β : Lft = α ∷ [] in move ! (1 ∷ []) $

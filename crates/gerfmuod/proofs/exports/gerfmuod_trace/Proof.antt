@@ -1,6 +1,6 @@
 -- The proof of `gerfmuod_trace`: it borrows the core for a lifetime that is created for the call, and passes the buffer
 -- on.
-use Rattle.gerfmuod.proofs.Walks.{◌≡◌, ℕ, List, [], ◌∷◌, ◌++◌, refl, ap, MutBor, proved, full_share, sep, ex, id⊢, GName, Lft, ftrue, flft}
+use Rattle.gerfmuod.proofs.Walks.{ℕ, List, [], ◌∷◌, ◌++◌, refl, ap, MutBor, proved, full_share, sep, ex, id⊢, GName, Lft, ftrue, flft}
 use Rattle.gerfmuod.proofs.Walks.{flent, named, vptr, WpFn, fact, tables, ‵, raw, ◌⊛◌, some, later, prop, ◌$◌, ◌∵◌, !, qed, done, move}
 use Rattle.gerfmuod.proofs.Walks.{keep, drop, use1, use2, use3, split, join, fsplit, fjoin, feq_l, pick, await, regoal, suffices, group}
 use Rattle.gerfmuod.proofs.Walks.{lft_new, lft_end, Body, enter, of_opd, addr, from, fld, hop, stop, no_more, and_then, returns, alloc_all}

@@ -14,11 +14,16 @@ returns-then-not-is_open c =
 pub returns : goal.returns
 returns c =
     elim c.match-done.branch [
-      | in-Ok w ↦ subst (λ (a : DagAnswer). IsDone c.args.slot.now c.args.node c.args.task a (state_of (record c.slot.inside { pool = c.done.new.self })))
+      | in-Ok w ↦
+          subst (λ (a : DagAnswer). IsDone c.args.slot.now c.args.node c.args.task a
+          (state_of (record c.slot.inside { pool = c.done.new.self })))
           (sym (w.result-is ∙ w.with_news.ensures))
           (done_done c.slot.inside c.args.slot.now c.done.new.self c.args.node c.args.task w.in-Ok.news c.slot.view_is
-          (opens _ _ c.is_open.ensures c.if-not-is_open.false) w.in-Ok.ensures.checks w.in-Ok.ensures.ok w.in-Ok.ensures.ways w.in-Ok.ensures.begun)
-      | in-Err w ↦ subst (λ (a : DagAnswer). IsDone c.args.slot.now c.args.node c.args.task a (state_of (record c.slot.inside { pool = c.done.new.self })))
+          (opens _ _ c.is_open.ensures c.if-not-is_open.false)
+          w.in-Ok.ensures.checks w.in-Ok.ensures.ok w.in-Ok.ensures.ways w.in-Ok.ensures.begun)
+      | in-Err w ↦
+          subst (λ (a : DagAnswer). IsDone c.args.slot.now c.args.node c.args.task a
+          (state_of (record c.slot.inside { pool = c.done.new.self })))
           (sym (w.result-is ∙ w.refused-in-Err.ensures))
           (done_refused c.slot.inside c.args.slot.now c.done.new.self c.args.node c.args.task w.in-Err.refusal c.slot.view_is
           (opens _ _ c.is_open.ensures c.if-not-is_open.false) w.in-Err.ensures.checks w.in-Err.ensures.err w.in-Err.ensures.refused

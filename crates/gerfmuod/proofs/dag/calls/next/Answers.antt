@@ -12,14 +12,18 @@ returns-then-not-is_open c =
 
 pub returns-in-Ok : goal.returns-in-Ok
 returns-in-Ok c =
-    subst (λ (a : DagAnswer). IsNext c.args.slot.now c.args.node a (state_of (record c.slot.inside { pool = c.next.new.self }))) (sym c.of_next.ensures)
+    subst (λ (a : DagAnswer). IsNext c.args.slot.now c.args.node a (state_of (record c.slot.inside { pool = c.next.new.self })))
+    (sym c.of_next.ensures)
     (next_done c.slot.inside c.args.slot.now c.next.new.self c.args.node _ c.in-Ok.next c.slot.view_is
-    (opens _ _ c.is_open.ensures c.if-not-is_open.false) c.in-Ok.ensures.checks c.in-Ok.ensures.run c.in-Ok.ensures.finished c.in-Ok.ensures.wait
-    c.in-Ok.ensures.waiting c.in-Ok.ensures.graph c.in-Ok.ensures.ways c.in-Ok.ensures.begun)
+    (opens _ _ c.is_open.ensures c.if-not-is_open.false)
+    c.in-Ok.ensures.checks c.in-Ok.ensures.run c.in-Ok.ensures.finished c.in-Ok.ensures.wait c.in-Ok.ensures.waiting
+    c.in-Ok.ensures.graph c.in-Ok.ensures.ways c.in-Ok.ensures.begun)
 
 pub returns-in-Err : goal.returns-in-Err
 returns-in-Err c =
     subst (λ (a : DagAnswer). IsNext c.args.slot.now c.args.node a (state_of (record c.slot.inside { pool = c.next.new.self })))
     (sym c.refused-in-Err.ensures)
     (next_refused c.slot.inside c.args.slot.now c.next.new.self c.args.node c.in-Err.refusal c.slot.view_is
-    (opens _ _ c.is_open.ensures c.if-not-is_open.false) c.in-Err.ensures.checks c.in-Err.ensures.err c.in-Err.ensures.refused c.in-Err.ensures.graph c.in-Err.ensures.ways c.in-Err.ensures.begun)
+    (opens _ _ c.is_open.ensures c.if-not-is_open.false)
+    c.in-Err.ensures.checks c.in-Err.ensures.err c.in-Err.ensures.refused c.in-Err.ensures.graph c.in-Err.ensures.ways
+    c.in-Err.ensures.begun)
