@@ -1,0 +1,12 @@
+use Rattle.std.proofs.Common.{◌≡◌, subst, sym}
+use Rattle.std.specs.Prelude.{Some}
+use Rattle.std.specs.Option.{option_or}
+use Rattle.tp_base.specs.declared.refusal.Refusal.{Refusal}
+use Rattle.tp_base.specs.declared.refusal.Refusal.TheVariants.{Missing}
+use Rattle.tp_work.proofs.Reporting.{first_or}
+use Rattle.tp_work.proofs.runner.fault_or_missing.Goals as goal
+
+pub returns-clause-fault : goal.returns-clause-fault
+returns-clause-fault g c =
+    let now = c.args.board.now.fault in
+    subst (λ (e : Refusal). option_or now (Some e) ≡ Some e) (sym c.unwrap_or.ensures) (first_or now Missing)
