@@ -172,8 +172,7 @@ module _ {G : Type 0} where
       let Own : History → Option Refusal → Type 0 = λ h o. IfSome o (λ e. IsAnswer (length h) e f.refusal) in
       subst (λ (o : Option Report). MatchOption o (f.refusal ≡ NoMemory)
       (λ s. IfSome board.fault (λ fault. IsAnswer (length board.history) fault f.refusal) × IsReportOf n g nodes board s))
-      (sym is)
-      (
+      (sym is) (
         subst (λ (h : History). Own h board.fault) report.history
             (subst (Own r.history.events) report.fault (if_some r.fault P (λ e. IsAnswer (length r.history.events) e f.refusal) why)),
         report,

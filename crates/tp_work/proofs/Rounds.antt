@@ -226,10 +226,11 @@ refused_by {A} {P} {T} b self pool ended token refusal result is answers =
           (ap (λ (e : Refusal × P × T). e.1) parts, inl (ap (λ (e : Refusal × P × T). e.0) parts, full))
       | inr place ↦
           let none : nat_lt b.limit (length b.history + 1) ≡ false = grind (arith, nat_tests, place) in
+          let room : length b.history + 1 ≤ b.limit = omega (arith, place) in
           let either : IfErr result (λ e. e ≡ (NoMemory, self, ended)) = rw none at answers in
           let parts : (refusal, pool, token) ≡ (NoMemory, self, ended) =
           subst (λ (r : Result A (Refusal × P × T)). IfErr r (λ e. e ≡ (NoMemory, self, ended))) is either in
-          (ap (λ (e : Refusal × P × T). e.1) parts, inr (ap (λ (e : Refusal × P × T). e.0) parts, omega (arith, place)))
+          (ap (λ (e : Refusal × P × T). e.1) parts, inr (ap (λ (e : Refusal × P × T). e.0) parts, room))
     ]
 
 -- Why a pool whose reopening was refused is not reopened.

@@ -9,4 +9,4 @@ use Rattle.tp_work.proofs.runner.fault_or_missing.Goals as goal
 pub returns-clause-fault : goal.returns-clause-fault
 returns-clause-fault g c =
     let now = c.args.board.now.fault in
-    subst (λ (e : Refusal). option_or now (Some e) ≡ Some e) (sym c.unwrap_or.ensures) (first_or now Missing)
+    subst (λ (e : Refusal). option_or now (Some e) ≡ Some e) (sym c.unwrap_or-fault.ensures) (first_or now Missing)

@@ -1,11 +1,10 @@
-use Rattle.std.proofs.Common.{rules, ◌≡◌, ◌∙◌, ◌<◌, ◌∷◌, [], ℕ, None, sym, ap, subst, inr, length}
+use Rattle.std.proofs.Common.{rules, ◌≡◌, ◌∙◌, ◌<◌, ◌∷◌, [], ℕ, sym, ap, subst, inr, length}
 use Rattle.std.specs.Prelude.{MatchOption, vec_len}
 use Rattle.std.specs.List.{All}
 use Rattle.std.proofs.lemmas.List.{length-append}
 use Rattle.std.proofs.lemmas.List.Elements.{All-push}
 use Rattle.std.proofs.lemmas.Option.{MatchOption-at_none}
 use Rattle.std.proofs.lemmas.Result.{IfErr-weaker, IfOk-weaker, on_ok_weaker}
-use Rattle.tp_base.specs.declared.refusal.Refusal.{Refusal}
 use Rattle.tp_graph.specs.Found.{HasEachOnce}
 use Rattle.tp_graph.specs.Serial.{Results}
 use Rattle.tp_node.specs.declared.pool.Pool.{Pool}

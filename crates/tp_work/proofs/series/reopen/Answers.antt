@@ -1,9 +1,7 @@
 use Rattle.std.proofs.Common.{◌∙◌, ◌<◌, ◌≤◌, ◌≡◌, Err, Ok, sym, ap, subst, arith, inl, length}
 use Rattle.std.proofs.lemmas.Result.{IfErr-weaker}
 use Rattle.tp_base.specs.declared.limits.TheConstants.{MAX_STEPS}
-use Rattle.tp_base.specs.declared.refusal.Refusal.{Refusal}
 use Rattle.tp_base.specs.declared.refusal.Refusal.TheVariants.{HistoryFull}
-use Rattle.tp_board.specs.States.{BoardState}
 use Rattle.tp_node.specs.declared.pool.Pool.{Pool}
 use Rattle.tp_wave.specs.Generations.{present_events}
 use Rattle.tp_wave.specs.Machine.{History}

@@ -11,4 +11,4 @@ returns g c =
     fault_weaker g.K.Ledgers.names.nodes (g.G.Graph.meaning c.args.graph) c.stopped_for.result c.args.pool.nodes.items c.args.pool.board
     (λ e. e ≡ c.answer_to-refusal.result) (IsAnswer (length h) c.args.fault)
     (λ is. subst (λ (e : Refusal). IsAnswer (length h) c.args.fault e) (sym is)
-    (rw c.len.ensures at c.answer_to-refusal.ensures)) c.stopped_for.ensures
+    (rw c.len.ensures.number at c.answer_to-refusal.ensures)) c.stopped_for.ensures

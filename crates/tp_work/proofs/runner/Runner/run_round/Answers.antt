@@ -3,5 +3,5 @@ use Rattle.tp_work.proofs.runner.Runner.run_round.Goals as goal
 
 pub returns-clause-workers : goal.returns-clause-workers
 returns-clause-workers g c = λ none.
-    let before = none_before c.end_of.result _ _ c.end_of.ensures.over c.end_of.ensures.fault none in
+    let before = none_before c.end_of-end.result _ _ c.end_of-end.ensures.over c.end_of-end.ensures.fault none in
     c.run_workers-answers.ensures.all (untold c.run_workers-answers.result.refusal _ _ c.tell_fault.ensures before)
