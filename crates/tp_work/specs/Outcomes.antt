@@ -92,8 +92,8 @@ IsFaultBy n g rounds Why f =
     × (length (generations r.history.events) ≤ rounds)
     × MatchOption r.fault (Why r f.refusal) (λ e. IsAnswer (length r.history.events) e f.refusal))
 
--- Why a pool in which no fault was set has no outcome: its termination was detected and announced to each of n nodes, and
--- not each task has one result and lived once, or an allocation failed in the check of that.
+-- Why a pool in which no fault was set has no outcome: its termination was detected and announced to each of n nodes,
+-- and not each task has one result and lived once, or an allocation failed in the check of that.
 abbrev pub IsLack : ℕ → ℕ → Report → Refusal → Type 0
 IsLack n tasks r e = HasEnded n r × Lacks (IsDoneOnce tasks r) e
 

@@ -71,8 +71,8 @@ pub record IsReportOf (n : ℕ) (g : TaskGraph) {G : Type 0} (nodes : List (Node
   pub fault : r.fault ≡ board.fault
   pub history : r.history.events ≡ board.history
 
--- The present generation of a pool of n nodes has ended without a fault: with these nodes and this board, termination was
--- detected and announced to each node.
+-- The present generation of a pool of n nodes has ended without a fault: with these nodes and this board, termination
+-- was detected and announced to each node.
 pub record IsOver (n : ℕ) {G : Type 0} (nodes : List (NodeState G)) (board : BoardState) : Type 0 where
   pub no_fault : board.fault ≡ None
   pub detected : IsTrue (is_ended n (present (steps_of board.history)))

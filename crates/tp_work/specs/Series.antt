@@ -57,9 +57,9 @@ pub record IsReopened (r : Report) : Type 0 where
   pub reopened : 1 < length (generations r.history.events)
   pub nothing : present_events r.history.events ≡ []
 
--- Why a pool in which no fault was set has no series of this many rounds. Termination was detected and announced to each
--- of n nodes, and the series stops there. Or the pool was just reopened, and in the generation before that not each task
--- had one result, or an allocation failed in the check of that.
+-- Why a pool in which no fault was set has no series of this many rounds. Termination was detected and announced to
+-- each of n nodes, and the series stops there. Or the pool was just reopened, and in the generation before that not
+-- each task had one result, or an allocation failed in the check of that.
 abbrev pub IsSeriesLack : ℕ → ℕ → ℕ → Report → Refusal → Type 0
 IsSeriesLack n tasks rounds r e =
     (HasEnded n r × StopsAfter (length (generations r.history.events)) rounds tasks r e) ⊎ (IsReopened r × ((e ≡ Missing) ⊎ (e ≡ NoMemory)))

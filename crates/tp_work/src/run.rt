@@ -89,8 +89,8 @@ fn run_only<
 
 /// Returns the outcome of a pool that has run, or why it has none.
 ///
-/// Refused with the fault that was set, if there is one; else `Missing` if a task has no result or more than one, or was
-/// not inserted, begun and done once; `NoMemory` if an allocation fails.
+/// Refused with the fault that was set, if there is one; else `Missing` if a task has no result or more than one, or
+/// was not inserted, begun and done once; `NoMemory` if an allocation fails.
 fn outcome_of<G: Graph, K: Ledgers>(
     alloc: Global,
     graph: &G,
