@@ -1,7 +1,8 @@
 -- What a report shows of a pool whose nodes are at their places.
 use Rattle.std.proofs.Common.{◌≡◌, ◌≤◌, ◌*◌, ◌↔◌, ℕ, List, [], ◌∷◌, Bool, true, false, Option, None, Some, Result, Ok, Err, IfOk, IfErr, OnOk, MatchResult}
-use Rattle.std.proofs.Common.{IfSome, IsFalse, IsTrue, MatchOption, length, refl, sym, ap, subst, ◌∙◌, inl, inr}
+use Rattle.std.proofs.Common.{IfSome, IsFalse, IsTrue, MatchOption, length, refl, sym, ap, subst, ◌∙◌, inl, inr, arith}
 use Rattle.std.proofs.lemmas.Bool.{cases_Bool}
+use Rattle.std.proofs.lemmas.List.Sums.{count_by-le-length}
 use Rattle.std.specs.Option.{option_or, unwrap_or}
 use Rattle.std.specs.Prelude.{sum_by, if◌then◌else◌}
 use Rattle.tp_base.specs.declared.refusal.Refusal.{Refusal}
@@ -24,7 +25,7 @@ use Rattle.tp_work.proofs.Placing.{sum_by-same, total-range}
 use Rattle.tp_work.specs.Lives.{generations}
 use Rattle.tp_work.specs.Outcomes.{HasEnded, IsAnswer, IsDoneOnce, IsFaultBy, IsFaultOf, IsOutcome, IsUngathered, Lacks}
 use Rattle.tp_work.specs.Places.{AreInOrder, AreOf, IsWhole}
-use Rattle.tp_work.specs.Reports.{AreOfTheRun, IsEnd, IsGathered, IsOfItsRun, IsOver, IsReport, IsReportOf}
+use Rattle.tp_work.specs.Reports.{AreOfTheRun, IsEnd, IsGathered, IsOfItsRun, IsOver, IsReport, IsReportOf, told_of_end}
 use Rattle.tp_work.specs.declared.config.Fault.{Fault}
 use Rattle.tp_work.specs.declared.gathered.Report.{Report}
 use Rattle.std.specs.List.{range_with_len}
@@ -40,6 +41,12 @@ module _ {G : Type 0} where
       ∙ ap (sum_by now) (order ∙ ap (range_with_len 0) each)
       ∙ total-range now n
 
+  -- termination is announced to at most all nodes
+  announced_to : (n : ℕ) (nodes : List (NodeState G)) (announced : ℕ) → announced ≡ told_of_end nodes → length nodes ≡ n → announced ≤ n
+  announced_to n nodes announced told each =
+      let few : told_of_end nodes ≤ length nodes = count_by-le-length (λ (s : NodeState G). s.state.ended) nodes in
+      omega (arith, few, told, each)
+
   pub is_report : (n : ℕ) (meaning : G
       → TaskGraph) (graph : G) (nodes : List (NodeState G)) (links : List (PoolLinkState G)) (board : BoardState) (r : Report)
       → IsGathered nodes links board r → IsOfItsRun n r → AreOfTheRun nodes r → IsWhole n graph nodes links
@@ -50,6 +57,7 @@ module _ {G : Type 0} where
         balance = gathered.balance;
         pending = gathered.pending ∙ pending_of_run n nodes r whole.nodes_are whole.order agree;
         done = gathered.done;
+        announced = announced_to n nodes r.announced gathered.announced whole.nodes_are;
         right = right graph whole.of_graph;
       }
 

@@ -54,13 +54,14 @@ abbrev pub AreOfTheRun : {G : Type 0} → List (NodeState G) → Report → Type
 AreOfTheRun nodes r = All (λ n. pending_here n.state ≡ pending_at n.numbers.node (present_events r.history.events)) nodes
 
 -- The report of a pool of n nodes, each at its place, that computes a graph: its numbers are those of the present
--- generation, messages sent minus messages received are in flight, and its results are what is left of values of the
--- graph.
+-- generation, messages sent minus messages received are in flight, termination was announced to at most all nodes, and
+-- its results are what is left of values of the graph.
 pub record IsReport (n : ℕ) (g : TaskGraph) (r : Report) : Type 0 where
   pub of_run : IsOfItsRun n r
   pub balance : r.sent ≡ r.received + r.under
   pub pending : r.pending ≡ total n (λ i. pending_at i (present_events r.history.events))
   pub done : r.done ≡ vec_len r.results
+  pub announced : r.announced ≤ n
   pub right : AreResults g r.results.items
 
 -- The report of a pool with these nodes and this board: it has the number of nodes to which termination was announced,
