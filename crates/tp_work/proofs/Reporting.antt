@@ -1,8 +1,9 @@
 -- What a report shows of a pool whose nodes are at their places.
-use Rattle.std.proofs.Common.{◌≡◌, ◌*◌, ◌↔◌, ℕ, List, [], ◌∷◌, Bool, true, false, Option, None, Some, Result, Ok, Err, IfOk, MatchResult}
-use Rattle.std.proofs.Common.{IsFalse, IsTrue, MatchOption, length, refl, sym, ap, subst, ◌∙◌, inl, inr}
+use Rattle.std.proofs.Common.{◌≡◌, ◌≤◌, ◌*◌, ◌↔◌, ℕ, List, [], ◌∷◌, Bool, true, false, Option, None, Some, Result, Ok, Err, IfOk, IfErr, OnOk, MatchResult}
+use Rattle.std.proofs.Common.{IfSome, IsFalse, IsTrue, MatchOption, length, refl, sym, ap, subst, ◌∙◌, inl, inr, arith}
 use Rattle.std.proofs.lemmas.Bool.{cases_Bool}
-use Rattle.std.specs.Option.{option_or}
+use Rattle.std.proofs.lemmas.List.Sums.{count_by-le-length}
+use Rattle.std.specs.Option.{option_or, unwrap_or}
 use Rattle.std.specs.Prelude.{sum_by, if◌then◌else◌}
 use Rattle.tp_base.specs.declared.refusal.Refusal.{Refusal}
 use Rattle.tp_base.specs.declared.refusal.Refusal.TheVariants.{Missing, NoMemory}
@@ -21,11 +22,10 @@ use Rattle.tp_base.specs.Totals.{total}
 use Rattle.tp_wave.specs.Sums.{is_ended}
 use Rattle.tp_work.proofs.Gathering.{sum_by-map}
 use Rattle.tp_work.proofs.Placing.{sum_by-same, total-range}
-use Rattle.tp_work.specs.Lives.{LivesOnce}
-use Rattle.tp_work.specs.Outcomes.{IsAnswer, IsComplete, IsFault, IsLack, IsOutcome, IsUngathered}
-use Rattle.tp_graph.specs.Found.{HasEachOnce}
+use Rattle.tp_work.specs.Lives.{generations}
+use Rattle.tp_work.specs.Outcomes.{HasEnded, IsAnswer, IsDoneOnce, IsFaultBy, IsFaultOf, IsOutcome, IsUngathered, Lacks}
 use Rattle.tp_work.specs.Places.{AreInOrder, AreOf, IsWhole}
-use Rattle.tp_work.specs.Reports.{AreOfTheRun, IsGathered, IsOfItsRun, IsReport, IsReportOf}
+use Rattle.tp_work.specs.Reports.{AreOfTheRun, IsEnd, IsGathered, IsOfItsRun, IsOver, IsReport, IsReportOf, told_of_end}
 use Rattle.tp_work.specs.declared.config.Fault.{Fault}
 use Rattle.tp_work.specs.declared.gathered.Report.{Report}
 use Rattle.std.specs.List.{range_with_len}
@@ -41,6 +41,12 @@ module _ {G : Type 0} where
       ∙ ap (sum_by now) (order ∙ ap (range_with_len 0) each)
       ∙ total-range now n
 
+  -- termination is announced to at most all nodes
+  announced_to : (n : ℕ) (nodes : List (NodeState G)) (announced : ℕ) → announced ≡ told_of_end nodes → length nodes ≡ n → announced ≤ n
+  announced_to n nodes announced told each =
+      let few : told_of_end nodes ≤ length nodes = count_by-le-length (λ (s : NodeState G). s.state.ended) nodes in
+      omega (arith, few, told, each)
+
   pub is_report : (n : ℕ) (meaning : G
       → TaskGraph) (graph : G) (nodes : List (NodeState G)) (links : List (PoolLinkState G)) (board : BoardState) (r : Report)
       → IsGathered nodes links board r → IsOfItsRun n r → AreOfTheRun nodes r → IsWhole n graph nodes links
@@ -51,6 +57,7 @@ module _ {G : Type 0} where
         balance = gathered.balance;
         pending = gathered.pending ∙ pending_of_run n nodes r whole.nodes_are whole.order agree;
         done = gathered.done;
+        announced = announced_to n nodes r.announced gathered.announced whole.nodes_are;
         right = right graph whole.of_graph;
       }
 
@@ -66,6 +73,22 @@ pub untold : (told : Option Refusal) (old new : BoardState) → MatchOption told
 untold None old new is none = refl
 untold (Some e) old new is none = absurd (kept-first old.fault e (sym (ap (λ (b : BoardState). b.fault) is) ∙ none))
 
+-- If a board has no fault at the end, it had none before.
+pub none_before : {T : Type 0} (end : Result T Refusal) (old new : BoardState) → OnOk end (new ≡ old)
+    → IfErr end (λ e. new ≡ with_fault e old) → new.fault ≡ None → old.fault ≡ None
+none_before (Ok token) old new same told none = ap (λ (b : BoardState). b.fault) (sym same) ∙ none
+none_before (Err e) old new same told none = absurd (kept-first old.fault e (sym (ap (λ (b : BoardState). b.fault) told) ∙ none))
+
+-- The first fault, or another that is set, is the fault.
+pub first_or : (fault : Option Refusal) (other : Refusal) → option_or fault (Some (unwrap_or fault other)) ≡ Some (unwrap_or fault other)
+first_or None other = refl
+first_or (Some e) other = refl
+
+-- what is said of a fault if it was set
+if_some : (fault : Option Refusal) (P : Type 0) (A : Refusal → Type 0) → MatchOption fault P A → IfSome fault A
+if_some None P A p = tt
+if_some (Some e) P A p = p
+
 -- ---- one generation
 -- If nothing was reopened, all events are of the present generation.
 pub all_present : (h : History) → IsFalse (any is_reopen (steps_of h)) → present_events h ≡ h
@@ -76,25 +99,20 @@ all_present (e ∷ past) none =
       | inr on ↦ present-goes_on e past on ∙ ap (λ (xs : History). e ∷ xs) (all_present past (rw on at none))
     ]
 
--- What is missing in a pool whose termination was detected and announced to each node, by whether each task was done
--- once.
-pub lack_by_made : {E : Type 0} (n tasks : ℕ) (r : Report) (made : Result Bool E) (answer : Option Refusal) → IsTrue r.ended
-    → r.announced ≡ n
-    → IfOk made (λ yes. IsTrue yes ↔ (HasEachOnce tasks r.results.items × LivesOnce tasks (steps_of r.history.events)))
-    → MatchResult made (λ yes. answer ≡ (if yes then None else Some Missing)) (λ _. answer ≡ Some NoMemory)
-    → MatchOption answer (IsComplete n tasks r) (IsLack n tasks r)
-lack_by_made n tasks r (Ok true) answer ended announced told is =
-    let once = told.0 refl in
-    subst (λ (o : Option Refusal). MatchOption o (IsComplete n tasks r) (IsLack n tasks r)) (sym is)
-    (record { ended = ended; announced = announced; each_once = once.0; lives = once.1 })
-lack_by_made n tasks r (Ok false) answer ended announced told is =
-    subst (λ (o : Option Refusal). MatchOption o (IsComplete n tasks r) (IsLack n tasks r)) (sym is)
-    (inl (refl, λ complete. let no : false ≡ true = told.1 (complete.each_once, complete.lives) in cc))
-lack_by_made n tasks r (Err e) answer ended announced told is =
-    subst (λ (o : Option Refusal). MatchOption o (IsComplete n tasks r) (IsLack n tasks r)) (sym is) (inr (refl, ended, announced))
+-- What a check says that is missing.
+pub lack_by_check : {E : Type 0} (Holds : Type 0) (checked : Result Bool E) (lack : Option Refusal)
+    → IfOk checked (λ yes. IsTrue yes ↔ Holds)
+    → MatchResult checked (λ yes. lack ≡ (if yes then None else Some Missing)) (λ _. lack ≡ Some NoMemory)
+    → MatchOption lack Holds (Lacks Holds)
+lack_by_check Holds (Ok true) lack told is = subst (λ (o : Option Refusal). MatchOption o Holds (Lacks Holds)) (sym is) (told.0 refl)
+lack_by_check Holds (Ok false) lack told is =
+    subst (λ (o : Option Refusal). MatchOption o Holds (Lacks Holds)) (sym is)
+    (inl (refl, λ holds. let no : false ≡ true = told.1 holds in cc))
+lack_by_check Holds (Err e) lack told is = subst (λ (o : Option Refusal). MatchOption o Holds (Lacks Holds)) (sym is) (inr refl)
 
--- The report of a complete pool gives its outcome.
-pub is_outcome : (n workers answered : ℕ) (g : TaskGraph) (r : Report) → IsReport n g r → IsComplete n g.tasks r → answered ≡ n * workers
+-- The report of a pool that is over gives its outcome, if each task was done once.
+pub is_outcome : (n workers answered : ℕ) (g : TaskGraph) (r : Report) → IsReport n g r → HasEnded n r → IsDoneOnce g.tasks r
+    → answered ≡ n * workers
     → IsOutcome n workers g
     (record {
       results = r.results;
@@ -104,35 +122,66 @@ pub is_outcome : (n workers answered : ℕ) (g : TaskGraph) (r : Report) → IsR
       workers = answered;
       history = r.history;
     })
-is_outcome n workers answered g r report complete all_answered =
+is_outcome n workers answered g r report over once all_answered =
     let h = r.history.events in
-    let all : present_events h ≡ h = all_present h complete.lives.one_generation in
+    let all : present_events h ≡ h = all_present h once.1.one_generation in
     let steps : present (steps_of h) ≡ steps_of h = sym (steps-present h) ∙ ap steps_of all in
     record {
-      each_once = complete.each_once;
+      each_once = once.0;
       right = report.right;
       run = subst (IsRun n) all (present_run n h report.of_run.run);
-      ended = subst IsTrue (report.of_run.ended ∙ ap (is_ended n) steps) complete.ended;
-      announced = complete.announced;
-      lives = complete.lives;
+      ended = subst IsTrue (report.of_run.ended ∙ ap (is_ended n) steps) over.detected;
+      announced = over.announced;
+      lives = once.1;
       tasks = (report.done, report.of_run.done ∙ ap (count is_done) steps);
       messages = report.of_run.sent ∙ ap (count is_send) steps;
       answered = all_answered;
     }
 
--- The report of a pool that has no outcome gives its fault.
-pub is_fault : (n tasks : ℕ) (g : TaskGraph) (f : Fault) (r : Report) → tasks ≡ g.tasks → IsReport n g r → f.report ≡ Some r
-    → MatchOption r.fault (IsLack n tasks r f.refusal) (λ e. IsAnswer (length r.history.events) e f.refusal) → IsFault n g f
-is_fault n tasks g f r same report is why =
+-- ---- faults
+-- The report of a pool that stops gives its fault.
+pub is_fault_by : (n : ℕ) (g : TaskGraph) (rounds : ℕ) (Why : Report → Refusal → Type 0) (f : Fault) (r : Report) → IsReport n g r
+    → length (generations r.history.events) ≤ rounds → f.report ≡ Some r
+    → MatchOption r.fault (Why r f.refusal) (λ e. IsAnswer (length r.history.events) e f.refusal) → IsFaultBy n g rounds Why f
+is_fault_by n g rounds Why f r report few is why =
     subst (λ (o : Option Report). MatchOption o (IsUngathered f.refusal)
-    (λ s. IsReport n g s × MatchOption s.fault (IsLack n g.tasks s f.refusal) (λ e. IsAnswer (length s.history.events) e f.refusal)))
-    (sym is)
-    (report, subst (λ (k : ℕ). MatchOption r.fault (IsLack n k r f.refusal) (λ e. IsAnswer (length r.history.events) e f.refusal)) same why)
+    (λ s. IsReport n g s × (length (generations s.history.events) ≤ rounds)
+    × MatchOption s.fault (Why s f.refusal) (λ e. IsAnswer (length s.history.events) e f.refusal)))
+    (sym is) (report, few, why)
+
+-- what follows from why, if no fault was set
+pub why_weaker : (fault : Option Refusal) (P Q : Type 0) (A : Refusal → Type 0) → (fault ≡ None → P → Q) → MatchOption fault P A
+    → MatchOption fault Q A
+why_weaker None P Q A f p = f refl p
+why_weaker (Some e) P Q A f p = p
 
 module _ {G : Type 0} where
-  -- The report that it holds is of these nodes and this board.
-  pub of_report : (n : ℕ) (g : TaskGraph) (f : Fault) (r : Report) (nodes : List (NodeState G)) (board : BoardState)
+  -- A pool without a fault is over when its threads have ended.
+  pub over_of_end : {T : Type 0} (n : ℕ) (nodes : List (NodeState G)) (board : BoardState) (end : Result T Refusal)
+      → IsEnd n nodes board end → board.fault ≡ None → IsOver n nodes board
+  over_of_end n nodes board (Ok token) over none = over
+  over_of_end n nodes board (Err e) fault none = let bad : Some e ≡ None = sym fault ∙ none in cc
+
+  -- Its report says so.
+  pub ended_of_over : (n : ℕ) (g : TaskGraph) (nodes : List (NodeState G)) (board : BoardState) (r : Report)
+      → IsReportOf n g nodes board r → IsOver n nodes board → HasEnded n r
+  ended_of_over n g nodes board r report over =
+      record {
+        detected = report.report.of_run.ended ∙ ap (λ (h : History). is_ended n (present (steps_of h))) report.history ∙ over.detected;
+        announced = report.announced ∙ over.announced;
+      }
+
+  -- The fault with this report, and the refusal for what was set, is that of these nodes and this board.
+  pub of_report : (n : ℕ) (g : TaskGraph) (f : Fault) (r : Report) (nodes : List (NodeState G)) (board : BoardState) (P : Type 0)
       → IsReportOf n g nodes board r → f.report ≡ Some r
-      → MatchOption f.report (f.refusal ≡ NoMemory) (IsReportOf n g nodes board)
-  of_report n g f r nodes board report is =
-      subst (λ (o : Option Report). MatchOption o (f.refusal ≡ NoMemory) (IsReportOf n g nodes board)) (sym is) report
+      → MatchOption r.fault P (λ e. IsAnswer (length r.history.events) e f.refusal)
+      → IsFaultOf n g nodes board (λ e. IfSome board.fault (λ fault. IsAnswer (length board.history) fault e)) f
+  of_report n g f r nodes board P report is why =
+      let Own : History → Option Refusal → Type 0 = λ h o. IfSome o (λ e. IsAnswer (length h) e f.refusal) in
+      subst (λ (o : Option Report). MatchOption o (f.refusal ≡ NoMemory)
+      (λ s. IfSome board.fault (λ fault. IsAnswer (length board.history) fault f.refusal) × IsReportOf n g nodes board s))
+      (sym is) (
+        subst (λ (h : History). Own h board.fault) report.history
+            (subst (Own r.history.events) report.fault (if_some r.fault P (λ e. IsAnswer (length r.history.events) e f.refusal) why)),
+        report,
+      )

@@ -1,6 +1,6 @@
 -- Rounds compared with the events of their generations.
 use Rattle.std.proofs.Common.{◌≡◌, ◌∙◌, ◌+◌, ◌<◌, ◌≤◌, ◌⊎◌, ℕ, true, false, List, [], ◌∷◌, ◌++◌, length, map, reverse, Option, Some, None}
-use Rattle.std.proofs.Common.{IfErr, IsTrue, MatchOption, OnOk, Result, Ok, Err, refl, sym, ap, subst, inl, inr, arith, get_or, vec_len}
+use Rattle.std.proofs.Common.{IfErr, IfOk, IfSome, IsTrue, MatchOption, MatchResult, OnOk, Result, Ok, Err, refl, sym, ap, subst, inl, inr, arith, get_or, vec_len}
 use Rattle.std.specs.List.{All, AllZip}
 use Rattle.std.specs.List.{range_with_len}
 use Rattle.std.specs.Prelude.{nat_lt}
@@ -11,7 +11,7 @@ use Rattle.std.proofs.lemmas.Simd.{map-map}
 use Rattle.std.proofs.lemmas.List.Elements.{All-cons, All-head, All-map, All-nil, All-push, All-tail}
 use Rattle.tp_base.specs.declared.limits.TheConstants.{MAX_STEPS}
 use Rattle.tp_base.specs.declared.refusal.Refusal.{Refusal}
-use Rattle.tp_base.specs.declared.refusal.Refusal.TheVariants.{HistoryFull, NoMemory}
+use Rattle.tp_base.specs.declared.refusal.Refusal.TheVariants.{HistoryFull, Missing, NoMemory}
 use Rattle.tp_board.specs.States.{BoardState, full_check}
 use Rattle.tp_graph.specs.Graphs.{TaskGraph}
 use Rattle.tp_node.specs.Calls.{AnswersWithBoth}
@@ -24,10 +24,10 @@ use Rattle.tp_wave.specs.Sums.{is_ended}
 use Rattle.tp_work.proofs.CountedTotals.{count-done, length-once}
 use Rattle.tp_work.proofs.Walking.{reverse-cons}
 use Rattle.tp_work.specs.Lives.{LivesInEach, LivesOnce, generations, sent_in}
-use Rattle.tp_work.specs.Outcomes.{IsAnswer, IsUngathered}
+use Rattle.tp_work.specs.Outcomes.{IsAnswer, IsFaultOf, IsUngathered, Lacks}
 use Rattle.tp_work.specs.Places.{IsWhole}
-use Rattle.tp_work.specs.Reports.{IsReport, IsReportOf, told_of_end}
-use Rattle.tp_work.specs.Series.{IsKept, IsRound, IsSeries, IsSeriesFault, IsSeriesLack, IsTold, with_messages}
+use Rattle.tp_work.specs.Reports.{IsReport, IsReportOf}
+use Rattle.tp_work.specs.Series.{IsKept, IsNotReopened, IsRound, IsSeries, IsSeriesFault, IsSeriesLack, with_messages}
 use Rattle.tp_work.specs.declared.config.Fault.{Fault}
 use Rattle.tp_work.specs.declared.gathered.Report.{Report}
 use Rattle.tp_work.specs.declared.series.Round.{Round}
@@ -128,92 +128,148 @@ is_series n workers g count s runs ended lives kept told many =
     }
 
 -- ---- faults
-pub where_none : {A : Type 0} (B : Refusal → Type 0) (fault : Option Refusal) → ((e : Refusal) → fault ≡ Some e → ⊥) → A
-    → MatchOption fault A B
-where_none B None other a = a
-where_none B (Some e) other a = absurd (other e refl)
-
 module _ {G : Type 0} where
-  is_fault-with : (n : ℕ) (g : TaskGraph) (count : ℕ) (report : Option Report) (own refusal : Refusal) (nodes : List (NodeState G))
-      (board : BoardState)
-      → MatchOption report (own ≡ NoMemory) (λ r. (own ≡ refusal) × IsReportOf n g nodes board r) → board.fault ≡ None
-      → ((r : Report) → IsReportOf n g nodes board r → IsSeriesLack n g.tasks count r refusal)
-      → MatchOption report (IsUngathered own) (λ r. IsReport n g r
+  series_fault-with : (n : ℕ) (g : TaskGraph) (count : ℕ) (report : Option Report) (own : Refusal) (nodes : List (NodeState G))
+      (board : BoardState) (Why : Refusal → Type 0) → MatchOption report (own ≡ NoMemory) (λ r. Why own × IsReportOf n g nodes board r)
+      → length (generations board.history) ≤ count
+      → ((r : Report) → IsReportOf n g nodes board r → Why own
+      → MatchOption board.fault (IsSeriesLack n g.tasks count r own) (λ e. IsAnswer (length board.history) e own))
+      → MatchOption report (IsUngathered own) (λ r. IsReport n g r × (length (generations r.history.events) ≤ count)
       × MatchOption r.fault (IsSeriesLack n g.tasks count r own) (λ e. IsAnswer (length r.history.events) e own))
-  is_fault-with n g count None own refusal nodes board told none lacks = inl told
-  is_fault-with n g count (Some r) own refusal nodes board told none lacks = (
-    told.1.report,
-    subst (λ (o : Option Refusal). MatchOption o (IsSeriesLack n g.tasks count r own) (λ e. IsAnswer (length r.history.events) e own))
-        (sym (told.1.fault ∙ none))
-        (subst (IsSeriesLack n g.tasks count r) (sym told.0) (lacks r told.1)),
-  )
+  series_fault-with n g count None own nodes board Why told few lacks = inl told
+  series_fault-with n g count (Some r) own nodes board Why told few lacks =
+      let Answers : Option Refusal → History → Type 0 =
+      λ o h. MatchOption o (IsSeriesLack n g.tasks count r own) (λ e. IsAnswer (length h) e own) in (
+        told.1.report,
+        subst (λ (h : History). length (generations h) ≤ count) (sym told.1.history) few,
+        subst (λ (o : Option Refusal). Answers o r.history.events) (sym told.1.fault)
+            (subst (λ (h : History). Answers board.fault h) (sym told.1.history) (lacks r told.1 told.0)),
+      )
 
-  -- The fault of a pool that stops for a refusal, if no fault was set and this is what is missing.
-  pub is_fault : (n : ℕ) (g : TaskGraph) (count : ℕ) (f : Fault) (refusal : Refusal) (nodes : List (NodeState G)) (board : BoardState)
-      → IsTold n g refusal nodes board f → board.fault ≡ None
-      → ((r : Report) → IsReportOf n g nodes board r → IsSeriesLack n g.tasks count r refusal) → IsSeriesFault n g count f
-  is_fault n g count f refusal nodes board told none lacks = is_fault-with n g count f.report f.refusal refusal nodes board told none lacks
+  -- The fault of a pool of these nodes and this board, if this is why.
+  pub series_fault : (n : ℕ) (g : TaskGraph) (count : ℕ) (f : Fault) (nodes : List (NodeState G)) (board : BoardState)
+      (Why : Refusal → Type 0) → IsFaultOf n g nodes board Why f → length (generations board.history) ≤ count
+      → ((r : Report) → IsReportOf n g nodes board r → Why f.refusal
+      → MatchOption board.fault (IsSeriesLack n g.tasks count r f.refusal) (λ e. IsAnswer (length board.history) e f.refusal))
+      → IsSeriesFault n g count f
+  series_fault n g count f nodes board Why told few lacks =
+      series_fault-with n g count f.report f.refusal nodes board Why told few lacks
 
--- If nothing has happened in the present generation, its termination was not detected.
-pub not_ended : (n : ℕ) (g : TaskGraph) (r : Report) (h : History) → IsReport n g r → r.history.events ≡ h → present_events h ≡ []
-    → IsTrue r.ended → ⊥
-not_ended n g r h report events opened ended =
-    let none : present (steps_of r.history.events) ≡ [] =
-    sym (steps-present r.history.events) ∙ ap steps_of (ap present_events events ∙ opened) in
-    let bad : r.ended ≡ false = report.of_run.ended ∙ ap (is_ended n) none in
-    cc
+  weaker-with : (n : ℕ) (g : TaskGraph) (report : Option Report) (own : Refusal) (nodes : List (NodeState G)) (board : BoardState)
+      (P Q : Refusal → Type 0) → (P own → Q own) → MatchOption report (own ≡ NoMemory) (λ r. P own × IsReportOf n g nodes board r)
+      → MatchOption report (own ≡ NoMemory) (λ r. Q own × IsReportOf n g nodes board r)
+  weaker-with n g None own nodes board P Q f told = told
+  weaker-with n g (Some r) own nodes board P Q f told = (f told.0, told.1)
 
--- The refusal of a reopening: the pool came back, and there was no memory or no place.
+  -- what follows from why
+  pub fault_weaker : (n : ℕ) (g : TaskGraph) (f : Fault) (nodes : List (NodeState G)) (board : BoardState) (P Q : Refusal → Type 0)
+      → (P f.refusal → Q f.refusal) → IsFaultOf n g nodes board P f → IsFaultOf n g nodes board Q f
+  fault_weaker n g f nodes board P Q why told = weaker-with n g f.report f.refusal nodes board P Q why told
+
+  -- The fault of a pool that stops for a refusal, by what was gathered of it.
+  pub fault_of_gathered : (n : ℕ) (g : TaskGraph) (f : Fault) (nodes : List (NodeState G)) (board : BoardState) (refusal : Refusal)
+      (gathered : Result Report Refusal) → IfOk gathered (IsReportOf n g nodes board) → IfErr gathered (λ e. e ≡ NoMemory)
+      → MatchResult gathered (λ r. f ≡ record { refusal = refusal; report = Some r }) (λ e. f ≡ record { refusal = e; report = None })
+      → IsFaultOf n g nodes board (λ e. e ≡ refusal) f
+  fault_of_gathered n g f nodes board refusal (Ok r) report memory is =
+      subst (IsFaultOf n g nodes board (λ e. e ≡ refusal)) (sym is) (refl, report)
+  fault_of_gathered n g f nodes board refusal (Err e) report memory is =
+      subst (IsFaultOf n g nodes board (λ e. e ≡ refusal)) (sym is) memory
+
+  -- The fault of a pool that stops for what is missing.
+  pub fault_of_lack : (n : ℕ) (g : TaskGraph) (f : Fault) (nodes : List (NodeState G)) (board : BoardState) (Holds : Type 0)
+      (lack : Option Refusal) → MatchOption lack Holds (Lacks Holds)
+      → MatchOption lack ⊥ (λ refusal. IsFaultOf n g nodes board (λ e. e ≡ refusal) f) → IsFaultOf n g nodes board (Lacks Holds) f
+  fault_of_lack n g f nodes board Holds None says told = absurd told
+  fault_of_lack n g f nodes board Holds (Some refusal) says told =
+      fault_weaker n g f nodes board (λ e. e ≡ refusal) (Lacks Holds) (λ is. subst (Lacks Holds) (sym is) says) told
+
+-- which of the two it is
+pub missing_or_memory : (Holds : Type 0) (e : Refusal) → Lacks Holds e → (e ≡ Missing) ⊎ (e ≡ NoMemory)
+missing_or_memory Holds e (inl missing) = inl missing.0
+missing_or_memory Holds e (inr memory) = inr memory
+
+-- what was said of no fault
+pub at_none : (fault : Option Refusal) (P : Type 0) (A : Refusal → Type 0) → fault ≡ None → P → MatchOption fault P A
+at_none fault P A none p = subst (λ (o : Option Refusal). MatchOption o P A) (sym none) p
+
+-- and of one that was set
+pub at_some : (fault : Option Refusal) (P : Type 0) (A : Refusal → Type 0) (e : Refusal) → fault ≡ Some e → A e → MatchOption fault P A
+at_some fault P A e is a = subst (λ (o : Option Refusal). MatchOption o P A) (sym is) a
+
+-- A reopening is refused if there is no place.
+pub full_refused : {A P T : Type 0} (b : BoardState) (self : P) (ended : T) (result : Result A (Refusal × P × T))
+    → AnswersWithBoth (full_check 1 b ∷ []) self ended result → b.limit < length b.history + 1
+    → result ≡ Err (HistoryFull (length b.history), self, ended)
+full_refused b self ended result answers full =
+    let yes : nat_lt b.limit (length b.history + 1) ≡ true = grind (arith, nat_tests, full) in rw yes at answers
+
+-- It then has the number of events.
+pub full_refusal : {A P T : Type 0} (refusal : Refusal) (pool : P) (token : T) (self : P) (ended : T) (b : BoardState)
+    (result : Result A (Refusal × P × T)) → result ≡ Err (refusal, pool, token)
+    → result ≡ Err (HistoryFull (length b.history), self, ended) → length b.history ≡ MAX_STEPS → refusal ≡ HistoryFull MAX_STEPS
+full_refusal {A} {P} {T} refusal pool token self ended b result is refused full =
+    let parts : (refusal, pool, token) ≡ (HistoryFull (length b.history), self, ended) = cc in
+    ap (λ (e : Refusal × P × T). e.0) parts ∙ ap HistoryFull full
+
+-- The refusal of a reopening: the pool came back, and there was no place, or there was and no memory.
 pub refused_by : {A P T : Type 0} (b : BoardState) (self pool : P) (ended token : T) (refusal : Refusal)
     (result : Result A (Refusal × P × T)) → result ≡ Err (refusal, pool, token)
     → AnswersWithBoth (full_check 1 b ∷ []) self ended result
-    → (pool ≡ self) × ((refusal ≡ NoMemory) ⊎ ((refusal ≡ HistoryFull (length b.history)) × (b.limit < length b.history + 1)))
+    → (pool ≡ self) × (((refusal ≡ HistoryFull (length b.history)) × (b.limit < length b.history + 1))
+    ⊎ ((refusal ≡ NoMemory) × (length b.history + 1 ≤ b.limit)))
 refused_by {A} {P} {T} b self pool ended token refusal result is answers =
     elim (cases_lt b.limit (length b.history + 1)) [
       | inl full ↦
-          let yes : nat_lt b.limit (length b.history + 1) ≡ true = grind (arith, nat_tests, full) in
-          let same : result ≡ Err (HistoryFull (length b.history), self, ended) = rw yes at answers in
+          let same : result ≡ Err (HistoryFull (length b.history), self, ended) = full_refused b self ended result answers full in
           let parts : (refusal, pool, token) ≡ (HistoryFull (length b.history), self, ended) = cc in
-          (ap (λ (e : Refusal × P × T). e.1) parts, inr (ap (λ (e : Refusal × P × T). e.0) parts, full))
+          (ap (λ (e : Refusal × P × T). e.1) parts, inl (ap (λ (e : Refusal × P × T). e.0) parts, full))
       | inr place ↦
           let none : nat_lt b.limit (length b.history + 1) ≡ false = grind (arith, nat_tests, place) in
+          let room : length b.history + 1 ≤ b.limit = omega (arith, place) in
           let either : IfErr result (λ e. e ≡ (NoMemory, self, ended)) = rw none at answers in
           let parts : (refusal, pool, token) ≡ (NoMemory, self, ended) =
           subst (λ (r : Result A (Refusal × P × T)). IfErr r (λ e. e ≡ (NoMemory, self, ended))) is either in
-          (ap (λ (e : Refusal × P × T). e.1) parts, inl (ap (λ (e : Refusal × P × T). e.0) parts))
+          (ap (λ (e : Refusal × P × T). e.1) parts, inr (ap (λ (e : Refusal × P × T). e.0) parts, room))
     ]
 
--- What is missing in a pool whose reopening for another round was refused: memory or a place.
-pub lack_of_refusal : (n tasks count : ℕ) (r : Report) (b : BoardState) (refusal : Refusal) → IsTrue r.ended → r.announced ≡ n
-    → length r.history.events ≤ MAX_STEPS → r.history.events ≡ b.history → b.limit ≡ MAX_STEPS
-    → length (generations b.history) < count → (refusal ≡ NoMemory)
-    ⊎ ((refusal ≡ HistoryFull (length b.history)) × (b.limit < length b.history + 1)) → IsSeriesLack n tasks count r refusal
-lack_of_refusal n tasks count r b refusal ended announced few events limit wanted (inl memory) = inr (inl (memory, inl (ended, announced)))
-lack_of_refusal n tasks count r b refusal ended announced few events limit wanted (inr full) =
+-- Why a pool whose reopening was refused is not reopened.
+pub not_reopened : (r : Report) (b : BoardState) (refusal : Refusal) → length r.history.events ≤ MAX_STEPS → r.history.events ≡ b.history
+    → b.limit ≡ MAX_STEPS
+    → ((refusal ≡ HistoryFull (length b.history)) × (b.limit < length b.history + 1))
+    ⊎ ((refusal ≡ NoMemory) × (length b.history + 1 ≤ b.limit)) → IsNotReopened r refusal
+not_reopened r b refusal few events limit (inl full) =
     let all : length r.history.events ≡ MAX_STEPS = omega (arith, few, ap length events, limit, full.1) in
-    inr (inr (
-      full.0 ∙ ap HistoryFull (ap length (sym events) ∙ all),
-      record {
-        ended = ended;
-        announced = announced;
-        wanted = subst (λ (h : History). length (generations h) < count) (sym events) wanted;
-        full = all;
-      },
-    ))
+    inl (full.0 ∙ ap HistoryFull (ap length (sym events) ∙ all), all)
+not_reopened r b refusal few events limit (inr memory) = inr (memory.0, omega (arith, ap length events, limit, memory.1))
 
--- The fault of a pool whose reopening for another round was refused, if it and what was returned are the same.
-module _ {G : Type 0} where
-  pub not_reopened : (n : ℕ) (g : TaskGraph) (count : ℕ) (f : Fault) (refusal : Refusal) (nodes : List (NodeState G)) (b : BoardState)
-      → IsTold n g refusal nodes b f → b.fault ≡ None → b.limit ≡ MAX_STEPS
-      → told_of_end nodes ≡ n → IsTrue (is_ended n (present (steps_of b.history))) → length (generations b.history) < count
-      → (refusal ≡ NoMemory) ⊎ ((refusal ≡ HistoryFull (length b.history)) × (b.limit < length b.history + 1)) → IsSeriesFault n g count f
-  not_reopened n g count f refusal nodes b is_told none limit all_told ended wanted why =
-      is_fault n g count f refusal nodes b is_told none
-      (λ r report.
-      let own : IsTrue r.ended =
-      report.report.of_run.ended ∙ ap (λ (h : History). is_ended n (present (steps_of h))) report.history ∙ ended in
-      lack_of_refusal n g.tasks count r b refusal own (report.announced
-      ∙ all_told) report.report.of_run.few report.history limit wanted why)
+-- ---- what a check made
+module _ {T E : Type 0} (Holds : Type 0) where
+  -- What was made shows that the check passed, or a refusal what is missing.
+  pub made_or_lack : (made : Result (Option T) E) (result : Result T Refusal)
+      → MatchResult made (λ it. MatchOption it (result ≡ Err Missing) (λ m. result ≡ Ok m)) (λ _. result ≡ Err NoMemory)
+      → IfOk made (λ it. MatchOption it (Holds → ⊥) (λ _. Holds)) → MatchResult result (λ _. Holds) (Lacks Holds)
+  made_or_lack (Ok (Some m)) result is says = subst (λ (r : Result T Refusal). MatchResult r (λ _. Holds) (Lacks Holds)) (sym is) says
+  made_or_lack (Ok None) result is says =
+      subst (λ (r : Result T Refusal). MatchResult r (λ _. Holds) (Lacks Holds)) (sym is) (inl (refl, says))
+  made_or_lack (Err e) result is says = subst (λ (r : Result T Refusal). MatchResult r (λ _. Holds) (Lacks Holds)) (sym is) (inr refl)
+
+-- What holds for what was made holds for what is returned.
+pub made_is : {T E : Type 0} (P : T → Type 0) (made : Result (Option T) E) (result : Result T Refusal)
+    → MatchResult made (λ it. MatchOption it (result ≡ Err Missing) (λ m. result ≡ Ok m)) (λ _. result ≡ Err NoMemory)
+    → IfOk made (λ it. IfSome it P) → IfOk result P
+made_is {T} P (Ok (Some m)) result is holds = subst (λ (r : Result T Refusal). IfOk r P) (sym is) holds
+made_is {T} P (Ok None) result is holds = subst (λ (r : Result T Refusal). IfOk r P) (sym is) tt
+made_is {T} P (Err e) result is holds = subst (λ (r : Result T Refusal). IfOk r P) (sym is) tt
+
+-- the two parts of what is said of a result
+pub match_ok : {T E : Type 0} (r : Result T E) (P : Type 0) (Q : E → Type 0) → MatchResult r (λ _. P) Q → OnOk r P
+match_ok (Ok x) P Q p = p
+match_ok (Err e) P Q p = tt
+
+pub match_err : {T E : Type 0} (r : Result T E) (P : Type 0) (Q : E → Type 0) → MatchResult r (λ _. P) Q → IfErr r Q
+match_err (Ok x) P Q p = tt
+match_err (Err e) P Q p = p
 
 -- ---- a pool that was reopened
 module _ {G : Type 0} where

@@ -5,15 +5,17 @@ use Rattle.tp_base.specs.declared.limits.TheConstants.{MAX_IDLE_TURNS, MAX_NODES
 use Rattle.tp_base.specs.declared.refusal.Refusal.{Refusal}
 use Rattle.tp_base.specs.declared.refusal.Refusal.TheVariants.{HistoryFull, Missing, NoMemory, NoNode, Stranger}
 use Rattle.tp_board.specs.Numbers.{is_done, is_send}
+use Rattle.tp_board.specs.States.{BoardState}
 use Rattle.tp_graph.specs.Found.{HasEachOnce, times}
 use Rattle.tp_graph.specs.Graphs.{TaskGraph}
 use Rattle.tp_graph.specs.Left.{AreResults}
 use Rattle.tp_graph.specs.Serial.{Results}
+use Rattle.tp_node.specs.Nodes.{NodeState}
 use Rattle.tp_wave.specs.Machine.{IsRun, steps_of}
 use Rattle.tp_wave.specs.Steps.{count}
 use Rattle.tp_wave.specs.Sums.{is_ended}
-use Rattle.tp_work.specs.Lives.{LivesOnce}
-use Rattle.tp_work.specs.Reports.{IsReport}
+use Rattle.tp_work.specs.Lives.{LivesOnce, generations}
+use Rattle.tp_work.specs.Reports.{IsReport, IsReportOf}
 use Rattle.tp_work.specs.declared.config.Config.{Config}
 use Rattle.tp_work.specs.declared.config.Fault.{Fault}
 use Rattle.tp_work.specs.declared.config.Outcome.{Outcome}
@@ -48,18 +50,18 @@ pub record IsOutcome (n workers : ℕ) (g : TaskGraph) (o : Outcome) : Type 0 wh
   pub messages : o.messages ≡ count is_send (steps_of o.history.events)
   pub answered : o.workers ≡ n * workers
 
--- Termination was detected and announced to each of n nodes, each task has one result, and each task lived once.
-pub record IsComplete (n tasks : ℕ) (r : Report) : Type 0 where
-  pub ended : IsTrue r.ended
+-- Termination of the present generation was detected and announced to each of n nodes.
+pub record HasEnded (n : ℕ) (r : Report) : Type 0 where
+  pub detected : IsTrue r.ended
   pub announced : r.announced ≡ n
-  pub each_once : HasEachOnce tasks r.results.items
-  pub lives : LivesOnce tasks (steps_of r.history.events)
 
--- Why a pool in which no fault was set has no outcome: it is not complete; or termination was detected and announced to
--- each of n nodes, and an allocation failed in the check that each task has one result and lived once.
-abbrev pub IsLack : ℕ → ℕ → Report → Refusal → Type 0
-IsLack n tasks r e =
-    ((e ≡ Missing) × (IsComplete n tasks r → ⊥)) ⊎ ((e ≡ NoMemory) × IsTrue r.ended × (r.announced ≡ n))
+-- Each task has one result and lived once, and no other task has any.
+abbrev pub IsDoneOnce : ℕ → Report → Type 0
+IsDoneOnce tasks r = HasEachOnce tasks r.results.items × LivesOnce tasks (steps_of r.history.events)
+
+-- the refusal if something does not hold, or if an allocation failed in the check of it
+abbrev pub Lacks : Type 0 → Refusal → Type 0
+Lacks Holds e = ((e ≡ Missing) × (Holds → ⊥)) ⊎ (e ≡ NoMemory)
 
 -- There is room for at most one more event.
 abbrev pub IsFull : ℕ → Type 0
@@ -79,10 +81,28 @@ IsMisplaced e = (e ≡ NoNode) ⊎ (e ≡ Stranger)
 abbrev pub IsUngathered : Refusal → Type 0
 IsUngathered e = (e ≡ NoMemory) ⊎ IsMisplaced e
 
--- If there is a report and a fault was set, that is the refusal; `HistoryFull` is returned only if the history is full.
-abbrev pub IsFault : ℕ → TaskGraph → Fault → Type 0
-IsFault n g f =
+-- The refusal of a fault, by its report. If a fault was set, that is the refusal; `HistoryFull` is returned only if the
+-- history is full. If none was set, this is why. There are at most this many generations.
+abbrev pub IsFaultBy : ℕ → TaskGraph → ℕ → (Report → Refusal → Type 0) → Fault → Type 0
+IsFaultBy n g rounds Why f =
     MatchOption
     f.report
     (IsUngathered f.refusal)
-    (λ r. IsReport n g r × MatchOption r.fault (IsLack n g.tasks r f.refusal) (λ e. IsAnswer (length r.history.events) e f.refusal))
+    (λ r. IsReport n g r
+    × (length (generations r.history.events) ≤ rounds)
+    × MatchOption r.fault (Why r f.refusal) (λ e. IsAnswer (length r.history.events) e f.refusal))
+
+-- Why a pool in which no fault was set has no outcome: its termination was detected and announced to each of n nodes,
+-- and not each task has one result and lived once, or an allocation failed in the check of that.
+abbrev pub IsLack : ℕ → ℕ → Report → Refusal → Type 0
+IsLack n tasks r e = HasEnded n r × Lacks (IsDoneOnce tasks r) e
+
+-- the fault of a run on n nodes
+abbrev pub IsFault : ℕ → TaskGraph → Fault → Type 0
+IsFault n g f = IsFaultBy n g 1 (IsLack n g.tasks) f
+
+-- The fault of a pool with these nodes and this board: why, and the pool's report; or there is no report because an
+-- allocation failed.
+abbrev pub IsFaultOf : ℕ → TaskGraph → {G : Type 0} → List (NodeState G) → BoardState → (Refusal → Type 0) → Fault → Type 0
+IsFaultOf n g nodes board Why f =
+    MatchOption f.report (f.refusal ≡ NoMemory) (λ r. Why f.refusal × IsReportOf n g nodes board r)

@@ -1,7 +1,8 @@
 -- The report of a pool.
-use Rattle.std.specs.Prelude.{ℕ, ◌+◌, ◌≡◌, ◌≤◌, List, IsTrue, length, sum_by, vec_len}
+use Rattle.std.specs.Prelude.{ℕ, ◌+◌, ◌≡◌, ◌≤◌, List, Some, None, Result, IsTrue, MatchResult, length, sum_by, vec_len}
 use Rattle.std.specs.List.{All, count_by, flat_map}
 use Rattle.tp_base.specs.declared.limits.TheConstants.{MAX_STEPS}
+use Rattle.tp_base.specs.declared.refusal.Refusal.{Refusal}
 use Rattle.tp_board.specs.Numbers.{is_done, is_recv, is_send}
 use Rattle.tp_board.specs.States.{BoardState}
 use Rattle.tp_graph.specs.Graphs.{TaskGraph}
@@ -53,13 +54,14 @@ abbrev pub AreOfTheRun : {G : Type 0} → List (NodeState G) → Report → Type
 AreOfTheRun nodes r = All (λ n. pending_here n.state ≡ pending_at n.numbers.node (present_events r.history.events)) nodes
 
 -- The report of a pool of n nodes, each at its place, that computes a graph: its numbers are those of the present
--- generation, messages sent minus messages received are in flight, and its results are what is left of values of the
--- graph.
+-- generation, messages sent minus messages received are in flight, termination was announced to at most all nodes, and
+-- its results are what is left of values of the graph.
 pub record IsReport (n : ℕ) (g : TaskGraph) (r : Report) : Type 0 where
   pub of_run : IsOfItsRun n r
   pub balance : r.sent ≡ r.received + r.under
   pub pending : r.pending ≡ total n (λ i. pending_at i (present_events r.history.events))
   pub done : r.done ≡ vec_len r.results
+  pub announced : r.announced ≤ n
   pub right : AreResults g r.results.items
 
 -- The report of a pool with these nodes and this board: it has the number of nodes to which termination was announced,
@@ -69,3 +71,14 @@ pub record IsReportOf (n : ℕ) (g : TaskGraph) {G : Type 0} (nodes : List (Node
   pub announced : r.announced ≡ told_of_end nodes
   pub fault : r.fault ≡ board.fault
   pub history : r.history.events ≡ board.history
+
+-- The present generation of a pool of n nodes has ended without a fault: with these nodes and this board, termination
+-- was detected and announced to each node.
+pub record IsOver (n : ℕ) {G : Type 0} (nodes : List (NodeState G)) (board : BoardState) : Type 0 where
+  pub no_fault : board.fault ≡ None
+  pub detected : IsTrue (is_ended n (present (steps_of board.history)))
+  pub announced : told_of_end nodes ≡ n
+
+-- How a pool ended: with its termination token if it is over, or with its fault.
+abbrev pub IsEnd : ℕ → {G T : Type 0} → List (NodeState G) → BoardState → Result T Refusal → Type 0
+IsEnd n nodes board end = MatchResult end (λ _. IsOver n nodes board) (λ e. board.fault ≡ Some e)

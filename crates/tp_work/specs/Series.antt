@@ -1,22 +1,19 @@
 -- A series: the generations of a pool that is reopened and run again.
-use Rattle.std.specs.Prelude.{ℕ, ◌+◌, ◌*◌, ◌≡◌, ◌<◌, ◌⊎◌, List, IsTrue, MatchOption, length, reverse, vec_len}
+use Rattle.std.specs.Prelude.{ℕ, ◌+◌, ◌*◌, ◌≡◌, ◌<◌, ◌⊎◌, List, [], IsTrue, length, reverse, vec_len}
 use Rattle.std.specs.List.{All, AllZip}
 use Rattle.tp_base.specs.declared.limits.TheConstants.{MAX_STEPS}
 use Rattle.tp_base.specs.declared.refusal.Refusal.{Refusal}
 use Rattle.tp_base.specs.declared.refusal.Refusal.TheVariants.{HistoryFull, Missing, NoMemory}
 use Rattle.tp_board.specs.Numbers.{is_done}
-use Rattle.tp_board.specs.States.{BoardState}
 use Rattle.tp_graph.specs.Graphs.{TaskGraph}
 use Rattle.tp_graph.specs.Left.{AreResults}
-use Rattle.tp_node.specs.Nodes.{NodeState}
 use Rattle.tp_wave.specs.Generations.{AreRuns, present_events}
 use Rattle.tp_wave.specs.Machine.{History, steps_of}
 use Rattle.tp_wave.specs.Steps.{count}
 use Rattle.tp_wave.specs.Sums.{is_ended}
 use Rattle.tp_work.specs.Lives.{LivesInEach, LivesOnce, generations, sent_in}
-use Rattle.tp_work.specs.Outcomes.{IsAnswer, IsUngathered}
+use Rattle.tp_work.specs.Outcomes.{HasEnded, IsFaultBy, Lacks}
 use Rattle.tp_graph.specs.Found.{HasEachOnce}
-use Rattle.tp_work.specs.Reports.{IsReport, IsReportOf}
 use Rattle.tp_work.specs.declared.config.Fault.{Fault}
 use Rattle.tp_work.specs.declared.gathered.Report.{Report}
 use Rattle.tp_work.specs.declared.series.Round.{Round}
@@ -41,45 +38,35 @@ pub record IsSeries (n workers : ℕ) (g : TaskGraph) (rounds : ℕ) (s : Series
   pub runs : AreRuns n s.history.events
   pub each : AllZip (IsRound n workers g) (reverse (generations s.history.events)) s.rounds.items
 
--- Termination of the present generation was detected and announced to each of n nodes, each task has one result, and
--- each task lived once in it; if it is the last of this many rounds, each task did so in every generation before it
--- too.
-pub record IsCompleteSoFar (n tasks rounds : ℕ) (r : Report) : Type 0 where
-  pub ended : IsTrue r.ended
-  pub announced : r.announced ≡ n
-  pub each_once : HasEachOnce tasks r.results.items
-  pub lives : LivesOnce tasks (steps_of (present_events r.history.events))
-  pub earlier : length (generations r.history.events) ≡ rounds → LivesInEach tasks r.history.events
+-- Each task has one result and lived once in each generation, and no other task has any.
+abbrev pub IsDoneOnceInEach : ℕ → Report → Type 0
+IsDoneOnceInEach tasks r = HasEachOnce tasks r.results.items × LivesInEach tasks r.history.events
 
--- Termination of some generation was detected and announced to each of n nodes: of the present one, or it is not the
--- first.
-abbrev pub HasEnded : ℕ → Report → Type 0
-HasEnded n r = (IsTrue r.ended × (r.announced ≡ n)) ⊎ (1 < length (generations r.history.events))
+-- Why a pool is not reopened: its history is full; or it is not, and an allocation failed.
+abbrev pub IsNotReopened : Report → Refusal → Type 0
+IsNotReopened r e =
+    ((e ≡ HistoryFull MAX_STEPS) × (length r.history.events ≡ MAX_STEPS)) ⊎ ((e ≡ NoMemory) × (length r.history.events < MAX_STEPS))
 
--- A generation has ended, which was announced to each of n nodes, and another is wanted, for whose first event the
--- history has no place.
-pub record IsAtLimit (n rounds : ℕ) (r : Report) : Type 0 where
-  pub ended : IsTrue r.ended
-  pub announced : r.announced ≡ n
-  pub wanted : length (generations r.history.events) < rounds
-  pub full : length r.history.events ≡ MAX_STEPS
+-- Why a series stops after this many of its rounds, if termination was detected and announced to each node: the pool is
+-- not reopened for the next one; or this is the last one, and not each task has one result and lived once in each.
+abbrev pub StopsAfter : ℕ → ℕ → ℕ → Report → Refusal → Type 0
+StopsAfter k rounds tasks r e = ((k < rounds) × IsNotReopened r e) ⊎ ((k ≡ rounds) × Lacks (IsDoneOnceInEach tasks r) e)
 
--- Why a pool in which no fault was set has no series of this many rounds: it is not complete so far, an allocation
--- failed in the check of that or in the reopening, or its history was full at the reopening.
+-- The pool was reopened, and nothing has happened since.
+pub record IsReopened (r : Report) : Type 0 where
+  pub reopened : 1 < length (generations r.history.events)
+  pub nothing : present_events r.history.events ≡ []
+
+-- Why a pool in which no fault was set has no series of this many rounds. Termination was detected and announced to
+-- each of n nodes, and the series stops there. Or the pool was just reopened, and in the generation before that not
+-- each task had one result, or an allocation failed in the check of that.
 abbrev pub IsSeriesLack : ℕ → ℕ → ℕ → Report → Refusal → Type 0
 IsSeriesLack n tasks rounds r e =
-    ((e ≡ Missing) × (IsCompleteSoFar n tasks rounds r → ⊥))
-    ⊎ (((e ≡ NoMemory) × HasEnded n r) ⊎ ((e ≡ HistoryFull MAX_STEPS) × IsAtLimit n rounds r))
+    (HasEnded n r × StopsAfter (length (generations r.history.events)) rounds tasks r e) ⊎ (IsReopened r × ((e ≡ Missing) ⊎ (e ≡ NoMemory)))
 
--- If there is a report and a fault was set, that is the refusal; `HistoryFull` is returned only if the history is full.
--- The report is of the present generation.
+-- the fault of a series of this many rounds on n nodes; its report is of the present generation
 abbrev pub IsSeriesFault : ℕ → TaskGraph → ℕ → Fault → Type 0
-IsSeriesFault n g rounds f =
-    MatchOption
-    f.report
-    (IsUngathered f.refusal)
-    (λ r. IsReport n g r
-    × MatchOption r.fault (IsSeriesLack n g.tasks rounds r f.refusal) (λ e. IsAnswer (length r.history.events) e f.refusal))
+IsSeriesFault n g rounds f = IsFaultBy n g rounds (IsSeriesLack n g.tasks rounds) f
 
 -- A round before its number of messages is set: each task has one result, which is right, this many tasks were done,
 -- and this many workers at each of n nodes have returned.
@@ -97,9 +84,3 @@ pub record AddsKept (n workers : ℕ) (g : TaskGraph) (old new : List Round) : T
 -- the round with this number of messages
 abbrev pub with_messages : ℕ → Round → Round
 with_messages sent r = record { results = r.results; tasks = r.tasks; messages = sent; workers = r.workers }
-
--- The fault of a pool with these nodes and this board, which stops for a refusal: the refusal and the pool's report; or
--- there is no report because an allocation failed.
-abbrev pub IsTold : ℕ → TaskGraph → Refusal → {G : Type 0} → List (NodeState G) → BoardState → Fault → Type 0
-IsTold n g refusal nodes board f =
-    MatchOption f.report (f.refusal ≡ NoMemory) (λ r. (f.refusal ≡ refusal) × IsReportOf n g nodes board r)

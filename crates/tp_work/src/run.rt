@@ -3,12 +3,10 @@ ghost use Rattle.std.specs.Prelude.{◌≡◌, ◌↔◌, ◌*◌, length, IfErr
 ghost use Rattle.std.specs.Prelude.{if◌then◌else◌};
 ghost use Rattle.tp_base.specs.declared.refusal.Refusal.TheVariants.{Missing, NoMemory};
 ghost use Rattle.tp_graph.specs.Graphs.{TaskGraph};
-ghost use Rattle.tp_work.specs.Outcomes.{IsAnswer, IsComplete, IsFault, IsLack, IsOutcome, IsWithinLimits};
-ghost use Rattle.tp_graph.specs.Found.{HasEachOnce};
-ghost use Rattle.tp_wave.specs.Machine.{steps_of};
-ghost use Rattle.tp_work.specs.Lives.{LivesOnce};
+ghost use Rattle.tp_work.specs.Lives.{generations};
+ghost use Rattle.tp_work.specs.Outcomes.{HasEnded, IsAnswer, IsDoneOnce, IsFault, IsFaultOf, IsLack, IsOutcome, IsWithinLimits, Lacks};
 ghost use Rattle.tp_work.specs.Places.{IsWhole};
-ghost use Rattle.tp_work.specs.Reports.{IsReport, IsReportOf, told_of_end};
+ghost use Rattle.tp_work.specs.Reports.{IsEnd, IsOver, IsReport};
 
 use crate::config::{Config, Fault, Outcome};
 use crate::gate::Gate;
@@ -29,10 +27,10 @@ use tp_graph::{Graph, Named, Only};
 /// Refused with `Stalled` if a gate returned `false` or a worker's idle turns ran out; `BodyFailed` if a task has no
 /// value; `HistoryFull` if the pool needs more than 1,048,576 events; `StoreFull` if more than 65,536 tasks are
 /// unfinished at a node; `NoNode` and `Stranger` if a part is not at its place; `NoMemory` if an allocation fails or a
-/// thread cannot be started; `Missing` if termination was not detected or not announced to each node, or a task has no
-/// result or more than one, or was not inserted, begun and done once. The first fault that a worker set is the refusal,
-/// even after termination was detected. `HistoryFull` has the number of events, if there is room for at most one more;
-/// otherwise the refusal is `Missing`.
+/// thread cannot be started; `Missing` if a task has no result or more than one, or was not inserted, begun and done
+/// once. The first fault that was set is the refusal, even after termination was detected. When all threads have ended
+/// and none was set, `Missing` is set as the fault if termination was not detected or not announced to each node.
+/// `HistoryFull` has the number of events, if there is room for at most one more; otherwise the refusal is `Missing`.
 pub fn run_pool<G: Graph, A: Gate, R: Threads + Wait + Sync>(
     rt: &R,
     alloc: Global,
@@ -91,9 +89,8 @@ fn run_only<
 
 /// Returns the outcome of a pool that has run, or why it has none.
 ///
-/// Refused with the fault that was set, if there is one; else `Missing` if termination was not detected or not
-/// announced to each node, or a task has no result or more than one, or was not inserted, begun and done once;
-/// `NoMemory` if an allocation fails.
+/// Refused with the fault that was set, if there is one; else `Missing` if a task has no result or more than one, or
+/// was not inserted, begun and done once; `NoMemory` if an allocation fails.
 fn outcome_of<G: Graph, K: Ledgers>(
     alloc: Global,
     graph: &G,
@@ -102,17 +99,19 @@ fn outcome_of<G: Graph, K: Ledgers>(
 ) -> Result<Outcome, Fault>
     requires nodes { config.nodes ≡ K.names.nodes }
     requires whole { IsWhole K.names.nodes graph.now ran.pool.nodes.items ran.pool.links.items }
+    requires number { length (generations ran.pool.board.history) ≡ 1 }
+    requires end { IsEnd K.names.nodes ran.pool.nodes.items ran.pool.board ran.end }
     requires workers { ran.pool.board.fault ≡ None → ran.workers ≡ config.nodes * config.workers }
     ensures outcome { IfOk result (IsOutcome config.nodes config.workers (G.meaning graph.now)) }
-    ensures no_fault { OnOk result (ran.pool.board.fault ≡ None) }
-    ensures all_told { OnOk result (told_of_end ran.pool.nodes.items ≡ config.nodes) }
+    ensures over { OnOk result (IsOver K.names.nodes ran.pool.nodes.items ran.pool.board) }
     ensures fault { IfErr result (IsFault config.nodes (G.meaning graph.now)) }
-    ensures of_pool { IfErr result (λ f.
-        MatchOption f.report (f.refusal ≡ NoMemory) (IsReportOf config.nodes (G.meaning graph.now) ran.pool.nodes.items ran.pool.board)) }
+    ensures of_pool { IfErr result
+        (IsFaultOf config.nodes (G.meaning graph.now) ran.pool.nodes.items ran.pool.board (λ e.
+        IfSome ran.pool.board.fault (λ fault. IsAnswer (length ran.pool.board.history) fault e))) }
 {
     let Ran {
         pool,
-        token: _,
+        end: _,
         workers,
     } = ran;
     match report_of(alloc, config.nodes, graph, pool) {
@@ -130,16 +129,16 @@ fn outcome_from(
     report: Report,
     workers: u32,
 ) -> Result<Outcome, Fault>
+    requires ended { report.fault ≡ None → HasEnded config.nodes report }
     requires workers { report.fault ≡ None → workers ≡ config.nodes * config.workers }
     ensures outcome { IfOk result (λ o. (g : TaskGraph) → tasks ≡ g.tasks → IsReport config.nodes g report
         → IsOutcome config.nodes config.workers g o) }
     ensures no_fault { OnOk result (report.fault ≡ None) }
-    ensures all_told { OnOk result (report.announced ≡ config.nodes) }
     ensures fault { IfErr result (λ f. (f.report ≡ Some report)
         × MatchOption report.fault (IsLack config.nodes tasks report f.refusal) (λ fault.
         IsAnswer (length report.history.events) fault f.refusal)) }
 {
-    match refusal_of(alloc, config.nodes, tasks, &report) {
+    match refusal_of(alloc, tasks, &report) {
         Some(refusal) => Err(Fault {
             refusal,
             report: Some(report),
@@ -155,17 +154,18 @@ fn outcome_from(
     }
 }
 
-/// Returns why a pool with this report has no outcome. `None` only if no fault was set, termination was detected and
-/// announced to each node, and each task has one result and lived once.
-fn refusal_of(alloc: Global, nodes: u32, tasks: u32, report: &Report) -> Option<Refusal>
+/// Returns why a pool with this report has no outcome: the fault that was set, or what is missing after termination was
+/// detected and announced.
+fn refusal_of(alloc: Global, tasks: u32, report: &Report) -> Option<Refusal>
     ensures no_fault { IfNone result (report.now.fault ≡ None) }
-    ensures complete { IfNone result (IsComplete nodes tasks report.now) }
+    ensures once { IfNone result (IsDoneOnce tasks report.now) }
     ensures refusal { IfSome result (λ e.
-        MatchOption report.now.fault (IsLack nodes tasks report.now e) (λ fault. IsAnswer (length report.now.history.events) fault e)) }
+        MatchOption report.now.fault (Lacks (IsDoneOnce tasks report.now) e) (λ fault.
+        IsAnswer (length report.now.history.events) fault e)) }
 {
     match report.fault {
         Some(fault) => Some(answer_to(fault, report.history.len())),
-        None => lack_of(alloc, nodes, tasks, report),
+        None => lack_by(is_done_once(alloc, tasks, report)),
     }
 }
 
@@ -182,22 +182,11 @@ pub(crate) fn answer_to(fault: Refusal, events: usize) -> Refusal
     Refusal::Missing
 }
 
-/// Returns what is missing for an outcome of a pool in which no fault was set.
-fn lack_of(alloc: Global, nodes: u32, tasks: u32, report: &Report) -> Option<Refusal>
-    ensures { MatchOption result (IsComplete nodes tasks report.now) (IsLack nodes tasks report.now) }
+/// Returns what is missing, by a check: `Missing` if it fails, and `NoMemory` if an allocation failed in it.
+pub(crate) fn lack_by(checked: Result<bool, AllocError>) -> Option<Refusal>
+    ensures { MatchResult checked (λ yes. result ≡ (if yes then None else Some Missing)) (λ _. result ≡ Some NoMemory) }
 {
-    if !report.ended || report.announced != nodes {
-        return Some(Refusal::Missing);
-    }
-    lack_by(is_made_once(alloc, tasks, report))
-}
-
-/// Returns what is missing after termination was detected and announced: `Missing` if not each task was done once, and
-/// `NoMemory` if the check of that had no memory.
-fn lack_by(made: Result<bool, AllocError>) -> Option<Refusal>
-    ensures { MatchResult made (λ yes. result ≡ (if yes then None else Some Missing)) (λ _. result ≡ Some NoMemory) }
-{
-    match made {
+    match checked {
         Ok(true) => None,
         Ok(false) => Some(Refusal::Missing),
         Err(_) => Some(Refusal::NoMemory),
@@ -205,9 +194,8 @@ fn lack_by(made: Result<bool, AllocError>) -> Option<Refusal>
 }
 
 /// Returns whether each of `tasks` tasks has one result and lived once, and no other task has any.
-fn is_made_once(alloc: Global, tasks: u32, report: &Report) -> Result<bool, AllocError>
-    ensures { IfOk result (λ yes. IsTrue yes
-        ↔ (HasEachOnce tasks report.now.results.items × LivesOnce tasks (steps_of report.now.history.events))) }
+fn is_done_once(alloc: Global, tasks: u32, report: &Report) -> Result<bool, AllocError>
+    ensures { IfOk result (λ yes. IsTrue yes ↔ IsDoneOnce tasks report.now) }
 {
     Ok(each_once(alloc, tasks, &report.results)? && each_lives(alloc, tasks, &report.history)?)
 }

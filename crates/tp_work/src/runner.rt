@@ -1,16 +1,21 @@
 //! Runs one generation of a pool: starts the workers, waits for them, and takes the pool out of its locks.
-ghost use Rattle.std.specs.Prelude.{◌≡◌, ◌≤◌, ◌*◌, ◌-◌, length, vec_len, IfErr, IfOk, IfSome, MatchOption, None, OnOk, Some};
+ghost use Rattle.std.specs.Prelude.{◌≡◌, ◌≤◌, ◌↔◌, ◌*◌, ◌-◌, length, vec_len, IfErr, IfOk, IfSome, IsTrue, MatchOption, MatchResult};
+ghost use Rattle.std.specs.Prelude.{None, OnOk, Some};
+ghost use Rattle.std.specs.Option.{unwrap_or};
 ghost use Rattle.tp_base.specs.declared.limits.TheConstants.{MAX_STEPS};
-ghost use Rattle.tp_base.specs.declared.refusal.Refusal.TheVariants.{NoMemory};
+ghost use Rattle.tp_base.specs.declared.refusal.Refusal.TheVariants.{Missing, NoMemory};
 ghost use Rattle.tp_board.specs.States.{with_fault};
+ghost use Rattle.tp_wave.specs.Generations.{present};
+ghost use Rattle.tp_wave.specs.Machine.{steps_of};
+ghost use Rattle.tp_wave.specs.Sums.{is_ended};
 ghost use Rattle.tp_work.specs.Lives.{generations};
 ghost use Rattle.tp_work.specs.Outcomes.{IsMisplaced, IsUngathered, IsWithinLimits};
 ghost use Rattle.tp_work.specs.Places.{IsWhole};
-ghost use Rattle.tp_work.specs.Reports.{IsReportOf};
+ghost use Rattle.tp_work.specs.Reports.{IsEnd, IsReportOf, told_of_end};
 
 use crate::config::{Config, Fault};
 use crate::gate::Gate;
-use crate::gathered::{Report, finish};
+use crate::gathered::{Report, count_told, finish};
 use crate::locks::{Locks, check_places, lock_pool};
 use crate::run_queue::Share;
 use crate::worker::{Worker, set_fault};
@@ -21,7 +26,7 @@ use std::thread::{JoinHandle, SpawnError, Threads};
 use tp_base::{MAX_STEPS, NodeId, Refusal};
 use tp_board::{Blanks, Board, Ended, Ledgers};
 use tp_graph::{Comparable, Graph};
-use tp_node::{Pool, open_pool};
+use tp_node::{Node, Pool, open_pool};
 
 /// What is common to the generations of a pool: the graph, the gate and the configuration.
 #[derive(Drop)]
@@ -62,6 +67,7 @@ impl<G: Comparable, A: Gate, R: Threads + Wait + Sync> Runner<'_, G, A, R> {
         ensures whole { IfOk result (λ r. IsWhole K.names.nodes self.now.graph r.pool.nodes.items r.pool.links.items) }
         ensures limit { IfOk result (λ r. r.pool.board.limit ≡ MAX_STEPS) }
         ensures number { IfOk result (λ r. length (generations r.pool.board.history) ≡ number) }
+        ensures end { IfOk result (λ r. IsEnd K.names.nodes r.pool.nodes.items r.pool.board r.end) }
         ensures workers { IfOk result (λ r. r.pool.board.fault ≡ None → r.workers ≡ self.now.config.nodes * self.now.config.workers) }
         ensures refusal { IfErr result IsUngathered }
     {
@@ -72,13 +78,15 @@ impl<G: Comparable, A: Gate, R: Threads + Wait + Sync> Runner<'_, G, A, R> {
         }
     }
 
-    /// Puts a pool under locks, runs it, and takes it out when all its threads have ended, with the termination token
-    /// if it is there. If a worker returned a refusal, or not all could be started, that is the pool's fault unless it
-    /// has one.
+    /// Puts a pool under locks, runs it, and takes it out when all its threads have ended. If a worker returned a
+    /// refusal, or not all could be started, that is the pool's fault unless it has one. If it has none then, its fault
+    /// is `Missing` unless the termination token is there and termination was announced to each node.
     fn run_round<K: Ledgers + Send + Sync>(&self, pool: Pool<G, K>) -> Result<Ran<G, K>, Refusal>
         requires limits { IsWithinLimits self.now.config }
+        requires nodes { vec_len pool.nodes ≡ K.names.nodes }
         ensures nodes { IfOk result (λ r. vec_len r.pool.nodes ≡ vec_len pool.nodes) }
         ensures links { IfOk result (λ r. vec_len r.pool.links ≡ vec_len pool.links) }
+        ensures end { IfOk result (λ r. IsEnd K.names.nodes r.pool.nodes.items r.pool.board r.end) }
         ensures workers { IfOk result (λ r. r.pool.board.fault ≡ None → r.workers ≡ self.now.config.nodes * self.now.config.workers) }
         ensures refusal { IfErr result (λ e. e ≡ NoMemory) }
     {
@@ -86,9 +94,10 @@ impl<G: Comparable, A: Gate, R: Threads + Wait + Sync> Runner<'_, G, A, R> {
         let answers = self.run_workers(&locks);
         let (mut pool, token) = locks.into_pool(room);
         tell_fault(&mut pool.board, answers.refusal);
+        let end = end_of(&pool.nodes, &mut pool.board, token);
         Ok(Ran {
             pool,
-            token,
+            end,
             workers: answers.workers,
         })
     }
@@ -136,8 +145,9 @@ impl<G: Comparable, A: Gate, R: Threads + Wait + Sync> Runner<'_, G, A, R> {
 pub(crate) struct Ran<G: Graph, K: Ledgers> {
     /// The pool.
     pub pool: Pool<G, K>,
-    /// The termination token, if termination was detected and announced to each node.
-    pub token: Option<Ended<K>>,
+    /// The termination token, if no fault was set, and termination was detected and announced to each node; otherwise
+    /// the pool's fault.
+    pub end: Result<Ended<K>, Refusal>,
     /// The number of workers that returned.
     pub workers: u32,
 }
@@ -204,6 +214,56 @@ fn tell_fault<K: Ledgers>(board: &mut Board<K>, refusal: Option<Refusal>)
     }
 }
 
+/// Returns the termination token of a pool whose threads have ended, or its fault. If it has none, and the token is not
+/// there or termination was not announced to each node, `Missing` is set.
+fn end_of<G: Graph, K: Ledgers>(
+    nodes: &[Node<G, K>],
+    board: &mut Board<K>,
+    token: Option<Ended<K>>,
+) -> Result<Ended<K>, Refusal>
+    requires { length nodes.now ≡ K.names.nodes }
+    ensures end { IsEnd K.names.nodes nodes.now board.new result }
+    ensures over { OnOk result (board.new ≡ board.old) }
+    ensures fault { IfErr result (λ e. board.new ≡ with_fault e board.old) }
+    ensures missing { IfErr result (λ e. board.old.fault ≡ None → (e ≡ Missing)
+        × (IfSome token (λ _. told_of_end nodes.now ≡ K.names.nodes → ⊥))) }
+{
+    match token {
+        Some(ended) if is_free_of_fault(nodes, board) => Ok(audited(board, ended)),
+        _ => Err(fault_or_missing(board)),
+    }
+}
+
+/// Returns whether no fault was set, and termination was announced to each node.
+fn is_free_of_fault<G: Graph, K: Ledgers>(nodes: &[Node<G, K>], board: &Board<K>) -> bool
+    requires { length nodes.now ≡ K.names.nodes }
+    ensures { IsTrue result ↔ ((board.now.fault ≡ None) × (told_of_end nodes.now ≡ K.names.nodes)) }
+{
+    let count = board.nodes();
+    board.fault().is_none() && count_told(nodes) == count
+}
+
+/// Returns the termination token, which shows that termination was detected.
+fn audited<K: Ledgers>(board: &mut Board<K>, ended: Ended<K>) -> Ended<K>
+    ensures same { board.new ≡ board.old }
+    ensures detected { IsTrue (is_ended K.names.nodes (present (steps_of board.old.history))) }
+{
+    let mut ended = ended;
+    board.audit_ended(&mut ended);
+    ended
+}
+
+/// Returns the fault of a board. If none was set, `Missing` is set and returned.
+fn fault_or_missing<K: Ledgers>(board: &mut Board<K>) -> Refusal
+    ensures first { result ≡ unwrap_or board.old.fault Missing }
+    ensures board { board.new ≡ with_fault result board.old }
+    ensures fault { board.new.fault ≡ Some result }
+{
+    let fault = board.fault().unwrap_or(Refusal::Missing);
+    board.set_fault(fault);
+    fault
+}
+
 /// Returns the report of a pool of `nodes` nodes.
 ///
 /// Refused with `NoMemory` if an allocation fails. The pool is lost then.
@@ -232,6 +292,22 @@ pub(crate) fn ungathered(refusal: Refusal) -> Fault
     Fault {
         refusal,
         report: None,
+    }
+}
+
+/// Returns the fault of a pool that stops for a refusal, with its report if that could be gathered. If not, the refusal
+/// is why.
+pub(crate) fn fault_with(refusal: Refusal, gathered: Result<Report, Refusal>) -> Fault
+    ensures { MatchResult gathered
+        (λ report. result ≡ record { refusal = refusal; report = Some report })
+        (λ e. result ≡ record { refusal = e; report = None }) }
+{
+    match gathered {
+        Ok(report) => Fault {
+            refusal,
+            report: Some(report),
+        },
+        Err(refusal) => ungathered(refusal),
     }
 }
 

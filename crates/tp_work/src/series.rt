@@ -1,26 +1,27 @@
 //! Running a pool through several generations, reopened after each but the last.
-ghost use Rattle.std.specs.Prelude.{◌≡◌, ◌≤◌, ◌<◌, ◌+◌, ◌*◌, ◌-◌, [], ℕ, length, map, reverse, slice_index, slice_index_or, vec_capacity};
-ghost use Rattle.std.specs.Prelude.{vec_len, IfErr, IfOk, IfSome, IsTrue, MatchOption, None, OnOk, Some};
+ghost use Rattle.std.specs.Prelude.{◌≡◌, ◌≤◌, ◌<◌, ◌+◌, ◌*◌, ◌-◌, ◌++◌, ◌∷◌, [], ℕ, length, map, reverse, slice_index, slice_index_or};
+ghost use Rattle.std.specs.Prelude.{vec_capacity, vec_len, Err, IfErr, IfOk, IfSome, MatchOption, MatchResult, None, Ok, OnOk, Some};
 ghost use Rattle.std.specs.List.{All};
 ghost use Rattle.tp_base.specs.declared.limits.TheConstants.{MAX_STEPS};
+ghost use Rattle.tp_base.specs.declared.refusal.Refusal.TheVariants.{HistoryFull, Missing, NoMemory};
 ghost use Rattle.tp_graph.specs.Graphs.{TaskGraph};
 ghost use Rattle.tp_graph.specs.Left.{AreResults};
 ghost use Rattle.tp_wave.specs.Generations.{present_events};
-ghost use Rattle.tp_work.specs.Lives.{LivesInEach, generations, sent_in};
-ghost use Rattle.tp_work.specs.Outcomes.{IsAnswer, IsWithinLimits};
+ghost use Rattle.tp_work.specs.Lives.{generations, sent_in};
+ghost use Rattle.tp_work.specs.Outcomes.{HasEnded, IsAnswer, IsFaultOf, IsWithinLimits, Lacks};
 ghost use Rattle.tp_graph.specs.Found.{HasEachOnce};
 ghost use Rattle.tp_work.specs.Places.{IsWhole};
-ghost use Rattle.tp_work.specs.Reports.{IsReport, told_of_end};
-ghost use Rattle.tp_work.specs.Series.{AddsKept, IsKept, IsSeries, IsSeriesFault, IsSeriesLack, IsTold, with_messages};
+ghost use Rattle.tp_work.specs.Reports.{IsEnd, IsOver, IsReport};
+ghost use Rattle.tp_work.specs.Series.{AddsKept, IsDoneOnceInEach, IsKept, IsSeries, IsSeriesFault, with_messages};
 ghost use Rattle.tp_work.specs.declared.series.Round.{Round};
 
 use crate::config::{Config, Fault};
 use crate::gate::Gate;
-use crate::gathered::{Report, count_told};
+use crate::gathered::Report;
 use crate::lives::sent_in_each;
 use crate::once::each_once;
-use crate::run::answer_to;
-use crate::runner::{Ran, Runner, report_of, ungathered};
+use crate::run::{answer_to, lack_by};
+use crate::runner::{Ran, Runner, fault_with, report_of, ungathered};
 use std::alloc::{AllocError, Global};
 use std::sync::Wait;
 use std::thread::Threads;
@@ -58,7 +59,8 @@ pub struct Series {
 /// Refused as [`run_pool`](crate::run_pool) is, by the first generation that is refused; the rounds before it are
 /// dropped. Also refused with `HistoryFull` if the history, which all generations share, has no place for a reopening;
 /// `NoMemory` if an allocation for a reopening or for the list of rounds fails. The report of a fault has the numbers
-/// of the present generation, and all events.
+/// of the present generation, and all events. If a task of an earlier generation has no result or more than one, the
+/// pool is reopened before `Missing` is returned, and nothing has happened in the present generation.
 pub fn run_generations<G: Graph, A: Gate, R: Threads + Wait + Sync>(
     rt: &R,
     alloc: Global,
@@ -185,8 +187,7 @@ fn run_and_reopen<G: Comparable, K: Ledgers + Send + Sync, A: Gate, R: Threads +
     }
 }
 
-/// Reopens a pool that has run, if termination was detected and announced to each node and no fault was set, and keeps
-/// the round of the generation that ended.
+/// Reopens a pool that has run, if it has no fault, and keeps the round of the generation that ended.
 fn next_generation<G: Graph, K: Ledgers>(
     alloc: Global,
     graph: G,
@@ -195,42 +196,32 @@ fn next_generation<G: Graph, K: Ledgers>(
 ) -> Result<Pool<G, K>, Fault>
     requires whole { IsWhole K.names.nodes graph ran.pool.nodes.items ran.pool.links.items }
     requires limit { ran.pool.board.limit ≡ MAX_STEPS }
+    requires end { IsEnd K.names.nodes ran.pool.nodes.items ran.pool.board ran.end }
     requires room { vec_len rounds.old < vec_capacity rounds.old }
     ensures nodes { IfOk result (λ p. vec_len p.nodes ≡ K.names.nodes) }
     ensures links { IfOk result (λ p. vec_len p.links ≡ K.names.nodes * (K.names.nodes - 1)) }
     ensures kept { OnOk result ((workers : ℕ) → ran.workers ≡ K.names.nodes * workers
         → AddsKept K.names.nodes workers (G.meaning graph) rounds.old.items rounds.new.items) }
-    ensures no_fault { OnOk result (ran.pool.board.fault ≡ None) }
-    ensures all_told { OnOk result (told_of_end ran.pool.nodes.items ≡ K.names.nodes) }
+    ensures over { OnOk result (IsOver K.names.nodes ran.pool.nodes.items ran.pool.board) }
     ensures room { vec_capacity rounds.new ≡ vec_capacity rounds.old }
     ensures fault { IfErr result (λ f. (count : ℕ) → length (generations ran.pool.board.history) < count
         → IsSeriesFault K.names.nodes (G.meaning graph) count f) }
+    ensures stopped { IfErr result (λ f. IfErr ran.end (λ fault.
+        IsFaultOf K.names.nodes (G.meaning graph) ran.pool.nodes.items ran.pool.board
+        (IsAnswer (length ran.pool.board.history) fault) f)) }
 {
     let Ran {
         pool,
-        token,
+        end,
         workers: answered,
     } = ran;
-    match token {
-        Some(ended) if is_free_of_fault(&pool) => {
-            reopen(alloc, graph, pool, ended, answered, rounds)
-        }
-        _ => Err(stopped(alloc, graph, pool)),
+    match end {
+        Ok(ended) => reopen(alloc, graph, pool, ended, answered, rounds),
+        Err(fault) => Err(stopped(alloc, graph, pool, fault)),
     }
 }
 
-/// Returns whether no fault was set in a pool, and termination was announced to each node.
-fn is_free_of_fault<G: Graph, K: Ledgers>(pool: &Pool<G, K>) -> bool
-    requires { vec_len pool.now.nodes ≡ K.names.nodes }
-    ensures no_fault { IsTrue result → pool.now.board.fault ≡ None }
-    ensures all_told { IsTrue result → told_of_end pool.now.nodes.items ≡ K.names.nodes }
-{
-    let nodes = pool.board.nodes();
-    pool.board.fault().is_none() && count_told(&pool.nodes) == nodes
-}
-
-/// Reopens a pool in which no fault was set and termination was announced to each node, given its token, and keeps the
-/// round of the generation that ended.
+/// Reopens a pool that is over, given its termination token, and keeps the round of the generation that ended.
 fn reopen<G: Graph, K: Ledgers>(
     alloc: Global,
     graph: G,
@@ -241,8 +232,7 @@ fn reopen<G: Graph, K: Ledgers>(
 ) -> Result<Pool<G, K>, Fault>
     requires whole { IsWhole K.names.nodes graph pool.nodes.items pool.links.items }
     requires limit { pool.board.limit ≡ MAX_STEPS }
-    requires fault { pool.board.fault ≡ None }
-    requires all_told { told_of_end pool.nodes.items ≡ K.names.nodes }
+    requires over { IsOver K.names.nodes pool.nodes.items pool.board }
     requires room { vec_len rounds.old < vec_capacity rounds.old }
     ensures nodes { IfOk result (λ p. vec_len p.nodes ≡ K.names.nodes) }
     ensures links { IfOk result (λ p. vec_len p.links ≡ K.names.nodes * (K.names.nodes - 1)) }
@@ -251,10 +241,9 @@ fn reopen<G: Graph, K: Ledgers>(
     ensures room { vec_capacity rounds.new ≡ vec_capacity rounds.old }
     ensures fault { IfErr result (λ f. (count : ℕ) → length (generations pool.board.history) < count
         → IsSeriesFault K.names.nodes (G.meaning graph) count f) }
+    ensures full { length pool.board.history ≡ MAX_STEPS → MatchResult result (λ _. ⊥)
+        (IsFaultOf K.names.nodes (G.meaning graph) pool.nodes.items pool.board (λ e. e ≡ HistoryFull MAX_STEPS)) }
 {
-    let mut pool = pool;
-    let mut ended = ended;
-    pool.board.audit_ended(&mut ended);
     match pool.reopen(alloc, ended) {
         Ok(Reopened { pool, results }) => keep(alloc, graph, pool, results, answered, rounds),
         Err((refusal, pool, _)) => Err(stopped_for(alloc, graph, pool, refusal)),
@@ -281,63 +270,56 @@ fn keep<G: Graph, K: Ledgers>(
     ensures kept { OnOk result ((workers : ℕ) → answered ≡ K.names.nodes * workers
         → AddsKept K.names.nodes workers (G.meaning graph) rounds.old.items rounds.new.items) }
     ensures room { vec_capacity rounds.new ≡ vec_capacity rounds.old }
-    ensures fault { IfErr result (λ f. (count : ℕ) → IsSeriesFault K.names.nodes (G.meaning graph) count f) }
+    ensures fault { IfErr result (λ f. (count : ℕ) → length (generations pool.board.history) ≤ count
+        → IsSeriesFault K.names.nodes (G.meaning graph) count f) }
+    ensures lack { IfErr result (IsFaultOf K.names.nodes (G.meaning graph) pool.nodes.items pool.board
+        (Lacks (HasEachOnce (G.meaning graph).tasks results.items))) }
 {
     let tasks = graph.tasks();
-    match each_once(alloc, tasks, &results) {
-        Ok(true) => {
-            rounds.push_reserved(Round {
-                results,
-                tasks,
-                messages: 0,
-                workers: answered,
-            });
+    let lack = lack_by(each_once(alloc, tasks, &results));
+    let round = Round {
+        results,
+        tasks,
+        messages: 0,
+        workers: answered,
+    };
+    keep_unless(alloc, graph, pool, lack, round, rounds)
+}
+
+/// Keeps a round, unless something is missing for it.
+fn keep_unless<G: Graph, K: Ledgers>(
+    alloc: Global,
+    graph: G,
+    pool: Pool<G, K>,
+    lack: Option<Refusal>,
+    round: Round,
+    rounds: &mut Vec<Round>,
+) -> Result<Pool<G, K>, Fault>
+    requires whole { IsWhole K.names.nodes graph pool.nodes.items pool.links.items }
+    requires room { vec_len rounds.old < vec_capacity rounds.old }
+    ensures pool { IfOk result (λ p. p ≡ pool) }
+    ensures kept { OnOk result ((lack ≡ None) × (rounds.new.items ≡ rounds.old.items ++ round ∷ [])) }
+    ensures room { vec_capacity rounds.new ≡ vec_capacity rounds.old }
+    ensures fault { IfErr result (λ f. MatchOption lack ⊥ (λ refusal.
+        IsFaultOf K.names.nodes (G.meaning graph) pool.nodes.items pool.board (λ e. e ≡ refusal) f)) }
+{
+    match lack {
+        None => {
+            rounds.push_reserved(round);
             Ok(pool)
         }
-        Ok(false) => Err(stopped_for(alloc, graph, pool, Refusal::Missing)),
-        Err(_) => Err(stopped_for(alloc, graph, pool, Refusal::NoMemory)),
+        Some(refusal) => Err(stopped_for(alloc, graph, pool, refusal)),
     }
 }
 
-/// Returns the fault of a pool that is not reopened: a fault was set there, termination was not detected or not
-/// announced to each node, or the termination token is not at its place.
-fn stopped<G: Graph, K: Ledgers>(alloc: Global, graph: G, pool: Pool<G, K>) -> Fault
+/// Returns the fault of a pool in which this fault was set.
+fn stopped<G: Graph, K: Ledgers>(alloc: Global, graph: G, pool: Pool<G, K>, fault: Refusal) -> Fault
     requires whole { IsWhole K.names.nodes graph pool.nodes.items pool.links.items }
-    ensures { (count : ℕ) → IsSeriesFault K.names.nodes (G.meaning graph) count result }
+    ensures { IsFaultOf K.names.nodes (G.meaning graph) pool.nodes.items pool.board
+        (IsAnswer (length pool.board.history) fault) result }
 {
-    let nodes = pool.board.nodes();
-    match report_of(alloc, nodes, &graph, pool) {
-        Ok(report) => fault_of(nodes, graph, report),
-        Err(refusal) => ungathered(refusal),
-    }
-}
-
-/// Returns the fault of a pool that is not reopened, with its report.
-fn fault_of<G: Graph>(nodes: u32, graph: G, report: Report) -> Fault
-    requires report { IsReport nodes (G.meaning graph) report }
-    ensures { (count : ℕ) → IsSeriesFault nodes (G.meaning graph) count result }
-{
-    let _graph = graph;
-    match reason_of(nodes, &report) {
-        Some(refusal) => Fault {
-            refusal,
-            report: Some(report),
-        },
-        None => ungathered(Refusal::Stranger),
-    }
-}
-
-/// Returns why a pool is not reopened, if its report shows it.
-fn reason_of(nodes: u32, report: &Report) -> Option<Refusal>
-    ensures { IfSome result (λ e. (tasks count : ℕ)
-        → MatchOption report.now.fault (IsSeriesLack nodes tasks count report.now e) (λ fault.
-        IsAnswer (length report.now.history.events) fault e)) }
-{
-    match report.fault {
-        Some(fault) => Some(answer_to(fault, report.history.len())),
-        None if report.ended && report.announced == nodes => None,
-        None => Some(Refusal::Missing),
-    }
+    let refusal = answer_to(fault, pool.board.len());
+    stopped_for(alloc, graph, pool, refusal)
 }
 
 /// Returns the fault of a pool that stops for a refusal.
@@ -348,16 +330,10 @@ fn stopped_for<G: Graph, K: Ledgers>(
     refusal: Refusal,
 ) -> Fault
     requires whole { IsWhole K.names.nodes graph pool.nodes.items pool.links.items }
-    ensures { IsTold K.names.nodes (G.meaning graph) refusal pool.nodes.items pool.board result }
+    ensures { IsFaultOf K.names.nodes (G.meaning graph) pool.nodes.items pool.board (λ e. e ≡ refusal) result }
 {
     let nodes = pool.board.nodes();
-    match report_of(alloc, nodes, &graph, pool) {
-        Ok(report) => Fault {
-            refusal,
-            report: Some(report),
-        },
-        Err(refusal) => ungathered(refusal),
-    }
+    fault_with(refusal, report_of(alloc, nodes, &graph, pool))
 }
 
 /// Returns the series of a pool that has run its last generation, with the rounds of the earlier ones.
@@ -370,18 +346,21 @@ fn series_of<G: Graph, K: Ledgers>(
 ) -> Result<Series, Fault>
     requires nodes { config.nodes ≡ K.names.nodes }
     requires whole { IsWhole K.names.nodes graph.now ran.pool.nodes.items ran.pool.links.items }
+    requires end { IsEnd K.names.nodes ran.pool.nodes.items ran.pool.board ran.end }
     requires workers { ran.pool.board.fault ≡ None → ran.workers ≡ config.nodes * config.workers }
     requires number { length (generations ran.pool.board.history) ≡ vec_len rounds + 1 }
     requires kept { All (IsKept config.nodes config.workers (G.meaning graph.now)) rounds.items }
     requires room { vec_len rounds < vec_capacity rounds }
     ensures series { IfOk result (IsSeries config.nodes config.workers (G.meaning graph.now) (vec_len rounds + 1)) }
-    ensures no_fault { OnOk result (ran.pool.board.fault ≡ None) }
-    ensures all_told { OnOk result (told_of_end ran.pool.nodes.items ≡ config.nodes) }
+    ensures over { OnOk result (IsOver K.names.nodes ran.pool.nodes.items ran.pool.board) }
     ensures fault { IfErr result (IsSeriesFault config.nodes (G.meaning graph.now) (vec_len rounds + 1)) }
+    ensures of_pool { IfErr result
+        (IsFaultOf config.nodes (G.meaning graph.now) ran.pool.nodes.items ran.pool.board (λ e.
+        IfSome ran.pool.board.fault (λ fault. IsAnswer (length ran.pool.board.history) fault e))) }
 {
     let Ran {
         pool,
-        token: _,
+        end: _,
         workers,
     } = ran;
     match report_of(alloc, config.nodes, graph, pool) {
@@ -401,17 +380,19 @@ fn series_from<G: Graph>(
     rounds: Vec<Round>,
 ) -> Result<Series, Fault>
     requires report { IsReport config.nodes (G.meaning graph.now) report }
+    requires ended { report.fault ≡ None → HasEnded config.nodes report }
     requires workers { report.fault ≡ None → workers ≡ config.nodes * config.workers }
     requires number { length (generations report.history.events) ≡ vec_len rounds + 1 }
     requires kept { All (IsKept config.nodes config.workers (G.meaning graph.now)) rounds.items }
     requires room { vec_len rounds < vec_capacity rounds }
     ensures series { IfOk result (IsSeries config.nodes config.workers (G.meaning graph.now) (vec_len rounds + 1)) }
     ensures no_fault { OnOk result (report.fault ≡ None) }
-    ensures all_told { OnOk result (report.announced ≡ config.nodes) }
-    ensures fault { IfErr result (IsSeriesFault config.nodes (G.meaning graph.now) (vec_len rounds + 1)) }
+    ensures fault { IfErr result (λ f. (f.report ≡ Some report)
+        × MatchOption report.fault (Lacks (IsDoneOnceInEach (G.meaning graph.now).tasks report) f.refusal) (λ fault.
+        IsAnswer (length report.history.events) fault f.refusal)) }
 {
     let tasks = graph.tasks();
-    match sent_of(alloc, config.nodes, tasks, rounds.len() + 1, &report) {
+    match sent_of(alloc, tasks, rounds.len() + 1, &report) {
         Ok(sent) => {
             let last = Round {
                 results: report.results,
@@ -446,33 +427,32 @@ fn told_rounds(rounds: Vec<Round>, last: Round, sent: &[u32]) -> Vec<Round>
     rounds
 }
 
-/// Returns the number of messages of each generation, oldest first, if nothing is missing for a series.
-fn sent_of(
-    alloc: Global,
-    nodes: u32,
-    tasks: u32,
-    count: usize,
-    report: &Report,
-) -> Result<Vec<u32>, Refusal>
+/// Returns the number of messages of each generation, oldest first, if no fault was set and nothing is missing for a
+/// series whose last generation ended.
+fn sent_of(alloc: Global, tasks: u32, count: usize, report: &Report) -> Result<Vec<u32>, Refusal>
     requires few { length report.now.history.events ≤ MAX_STEPS }
     requires number { length (generations report.now.history.events) ≡ count }
     ensures no_fault { OnOk result (report.now.fault ≡ None) }
-    ensures ended { OnOk result (IsTrue report.now.ended) }
-    ensures announced { OnOk result (report.now.announced ≡ nodes) }
-    ensures once { OnOk result (HasEachOnce tasks report.now.results.items × LivesInEach tasks report.now.history.events) }
+    ensures once { OnOk result (IsDoneOnceInEach tasks report.now) }
     ensures sent { IfOk result (λ sent. sent.items ≡ reverse (map sent_in (generations report.now.history.events))) }
     ensures refusal { IfErr result (λ e.
-        MatchOption report.now.fault (IsSeriesLack nodes tasks count report.now e) (λ fault.
+        MatchOption report.now.fault (Lacks (IsDoneOnceInEach tasks report.now) e) (λ fault.
         IsAnswer (length report.now.history.events) fault e)) }
 {
-    if let Some(fault) = report.fault {
-        return Err(answer_to(fault, report.history.len()));
+    match report.fault {
+        Some(fault) => Err(answer_to(fault, report.history.len())),
+        None => or_lack(sent_where_once(alloc, tasks, count, report)),
     }
-    if !report.ended || report.announced != nodes {
-        return Err(Refusal::Missing);
-    }
-    match sent_where_once(alloc, tasks, count, report) {
-        Ok(Some(sent)) => Ok(sent),
+}
+
+/// Returns what a check made. Refused with `Missing` if the check failed, and `NoMemory` if an allocation failed in it.
+fn or_lack<T: Drop>(made: Result<Option<T>, AllocError>) -> Result<T, Refusal>
+    ensures { MatchResult made
+        (λ it. MatchOption it (result ≡ Err Missing) (λ made. result ≡ Ok made))
+        (λ _. result ≡ Err NoMemory) }
+{
+    match made {
+        Ok(Some(made)) => Ok(made),
         Ok(None) => Err(Refusal::Missing),
         Err(_) => Err(Refusal::NoMemory),
     }
@@ -489,8 +469,7 @@ fn sent_where_once(
     requires few { length report.now.history.events ≤ MAX_STEPS }
     requires number { length (generations report.now.history.events) ≡ count }
     ensures once { IfOk result (λ sent.
-        MatchOption sent (HasEachOnce tasks report.now.results.items × LivesInEach tasks report.now.history.events
-        → ⊥) (λ _. HasEachOnce tasks report.now.results.items × LivesInEach tasks report.now.history.events)) }
+        MatchOption sent (IsDoneOnceInEach tasks report.now → ⊥) (λ _. IsDoneOnceInEach tasks report.now)) }
     ensures sent { IfOk result (λ sent. IfSome sent (λ each. each.items ≡ reverse (map sent_in (generations report.now.history.events)))) }
 {
     if !each_once(alloc, tasks, &report.results)? {

@@ -1,25 +1,46 @@
-use Rattle.std.proofs.Common.{rules, ◌≡◌, ◌∙◌, ◌∷◌, ◌<◌, [], ℕ, refl, sym, ap, subst, inl, inr, length}
+use Rattle.std.proofs.Common.{rules, ◌≡◌, ◌∙◌, ◌<◌, ◌∷◌, [], ℕ, sym, ap, subst, inr, length}
+use Rattle.std.specs.Prelude.{MatchOption, vec_len}
 use Rattle.std.specs.List.{All}
 use Rattle.std.proofs.lemmas.List.{length-append}
 use Rattle.std.proofs.lemmas.List.Elements.{All-push}
-use Rattle.tp_base.specs.declared.refusal.Refusal.TheVariants.{Missing, NoMemory}
-use Rattle.tp_graph.specs.Serial.{Results}
-use Rattle.tp_wave.specs.Machine.{History}
-use Rattle.tp_work.proofs.Rounds.{is_fault, not_ended}
-use Rattle.tp_work.specs.Lives.{generations}
+use Rattle.std.proofs.lemmas.Option.{MatchOption-at_none}
+use Rattle.std.proofs.lemmas.Result.{IfErr-weaker, IfOk-weaker, on_ok_weaker}
 use Rattle.tp_graph.specs.Found.{HasEachOnce}
+use Rattle.tp_graph.specs.Serial.{Results}
+use Rattle.tp_node.specs.declared.pool.Pool.{Pool}
+use Rattle.tp_wave.specs.Generations.{present_events}
+use Rattle.tp_wave.specs.Machine.{History}
+use Rattle.tp_work.proofs.Reporting.{lack_by_check}
+use Rattle.tp_work.proofs.Rounds.{at_none, fault_of_lack, missing_or_memory, series_fault}
+use Rattle.tp_work.specs.Lives.{generations}
+use Rattle.tp_work.specs.Outcomes.{Lacks}
 use Rattle.tp_work.specs.Series.{IsKept}
 use Rattle.tp_work.specs.declared.series.Round.{Round}
 use Rattle.tp_work.proofs.series.keep.Goals as goal
 
-pub returns-in-Ok-true-clause-kept : goal.returns-in-Ok-true-clause-kept
-returns-in-Ok-true-clause-kept g c =
-    λ workers answered.
+pub returns-clause-nodes : goal.returns-clause-nodes
+returns-clause-nodes g c =
+    IfOk-weaker c.keep_unless.result _ _
+    (λ (p : Pool g.row.G.Denot g.row.K.Denot) same. ap (λ (q : Pool g.row.G.Denot g.row.K.Denot). vec_len q.nodes) same
+    ∙ c.args.pool.nodes.ok.0 ∙ c.requires.whole.nodes_are) c.keep_unless.ensures.pool
+
+pub returns-clause-links : goal.returns-clause-links
+returns-clause-links g c =
+    IfOk-weaker c.keep_unless.result _ _
+    (λ (p : Pool g.row.G.Denot g.row.K.Denot) same. ap (λ (q : Pool g.row.G.Denot g.row.K.Denot). vec_len q.links) same
+    ∙ c.args.pool.links.ok.0 ∙ c.requires.whole.links_are) c.keep_unless.ensures.pool
+
+pub returns-clause-kept : goal.returns-clause-kept
+returns-clause-kept g c =
     let n = g.K.Ledgers.names.nodes in
     let graph = g.G.Graph.meaning c.args.graph in
     let tasks : c.tasks-tasks.result ≡ graph.tasks = search rules in
+    let says = lack_by_check (HasEachOnce c.tasks-tasks.result c.deref.result.now) c.each_once.result c.lack_by-lack.result
+    c.each_once.ensures c.lack_by-lack.ensures in
     let last : Round = record { results = c.args.results; tasks = c.tasks-tasks.result; messages = 0; workers = c.args.answered } in
-    let once : HasEachOnce c.tasks-tasks.result c.deref.result.now = c.in-Ok-true.ensures.0 c.in-Ok-true.field-0-test in
+    on_ok_weaker c.keep_unless.result
+    (λ kept workers answered.
+    let once : HasEachOnce c.tasks-tasks.result c.deref.result.now = MatchOption-at_none _ _ kept.0 says in
     let own : IsKept n workers graph last = record {
       each_once = subst (λ (rs : Results). HasEachOnce graph.tasks rs) c.deref.ensures.value
           (subst (λ (k : ℕ). HasEachOnce k c.deref.result.now) tasks once);
@@ -28,28 +49,44 @@ returns-in-Ok-true-clause-kept g c =
       answered = answered;
     } in
     record {
-      more = ap length c.push_reserved.ensures.items ∙ length-append c.args.rounds.now.items (last ∷ []);
+      more = ap length kept.1 ∙ length-append c.args.rounds.now.items (last ∷ []);
       kept = λ all.
-          subst (All (IsKept n workers graph)) (sym c.push_reserved.ensures.items)
-          (All-push (IsKept n workers graph) c.args.rounds.now.items last all own);
-    }
+          subst (All (IsKept n workers graph)) (sym kept.1) (All-push (IsKept n workers graph) c.args.rounds.now.items last all own);
+    })
+    c.keep_unless.ensures.kept
 
-pub returns-in-Ok-false-clause-fault : goal.returns-in-Ok-false-clause-fault
-returns-in-Ok-false-clause-fault g c =
-    λ count.
-    is_fault g.K.Ledgers.names.nodes (g.G.Graph.meaning c.args.graph) count c.stopped_for.result Missing c.args.pool.nodes.items
-    c.args.pool.board c.stopped_for.ensures c.requires.fault
-    (λ r report.
-    inl (
-      refl,
-      λ complete.
-          not_ended g.K.Ledgers.names.nodes (g.G.Graph.meaning c.args.graph) r c.args.pool.board.history report.report report.history
-          c.requires.opened.0 complete.ended,
-    ))
+pub returns-clause-lack : goal.returns-clause-lack
+returns-clause-lack g c =
+    let n = g.K.Ledgers.names.nodes in
+    let graph = g.G.Graph.meaning c.args.graph in
+    let tasks : c.tasks-tasks.result ≡ graph.tasks = search rules in
+    let says = lack_by_check (HasEachOnce c.tasks-tasks.result c.deref.result.now) c.each_once.result c.lack_by-lack.result
+    c.each_once.ensures c.lack_by-lack.ensures in
+    IfErr-weaker c.keep_unless.result _ _
+    (λ f told. fault_of_lack n graph f c.args.pool.nodes.items c.args.pool.board (HasEachOnce graph.tasks c.args.results.items)
+    c.lack_by-lack.result
+    (subst (λ (rs : Results). MatchOption c.lack_by-lack.result (HasEachOnce graph.tasks rs) (Lacks (HasEachOnce graph.tasks rs)))
+    c.deref.ensures.value
+    (subst (λ (k : ℕ). MatchOption c.lack_by-lack.result (HasEachOnce k c.deref.result.now) (Lacks (HasEachOnce k c.deref.result.now)))
+    tasks says)) told) c.keep_unless.ensures.fault
 
-pub returns-in-Err-clause-fault : goal.returns-in-Err-clause-fault
-returns-in-Err-clause-fault g c =
-    λ count.
-    is_fault g.K.Ledgers.names.nodes (g.G.Graph.meaning c.args.graph) count c.stopped_for-in-Err.result NoMemory c.args.pool.nodes.items
-    c.args.pool.board c.stopped_for-in-Err.ensures c.requires.fault
-    (λ r report. inr (inl (refl, inr (subst (λ (h : History). 1 < length (generations h)) (sym report.history) c.requires.opened.1))))
+pub returns-clause-fault : goal.returns-clause-fault
+returns-clause-fault g c =
+    let n = g.K.Ledgers.names.nodes in
+    let graph = g.G.Graph.meaning c.args.graph in
+    let tasks : c.tasks-tasks.result ≡ graph.tasks = search rules in
+    let says = lack_by_check (HasEachOnce c.tasks-tasks.result c.deref.result.now) c.each_once.result c.lack_by-lack.result
+    c.each_once.ensures c.lack_by-lack.ensures in
+    IfErr-weaker c.keep_unless.result _ _
+    (λ f told count few. series_fault n graph count f c.args.pool.nodes.items c.args.pool.board
+    (Lacks (HasEachOnce c.tasks-tasks.result c.deref.result.now))
+    (fault_of_lack n graph f c.args.pool.nodes.items c.args.pool.board (HasEachOnce c.tasks-tasks.result c.deref.result.now)
+    c.lack_by-lack.result says told) few
+    (λ r report why. at_none c.args.pool.board.fault _ _ c.requires.fault
+    (inr (
+      record {
+        reopened = subst (λ (h : History). 1 < length (generations h)) (sym report.history) c.requires.opened.1;
+        nothing = ap present_events report.history ∙ c.requires.opened.0;
+      },
+      missing_or_memory (HasEachOnce c.tasks-tasks.result c.deref.result.now) f.refusal why,
+    )))) c.keep_unless.ensures.fault

@@ -1,13 +1,16 @@
-use Rattle.std.proofs.Common.{◌∙◌, ◌<◌, IsTrue, sym, ap, subst, arith, length}
-use Rattle.tp_board.specs.States.{BoardState}
+use Rattle.std.proofs.Common.{◌∙◌, ◌<◌, ◌≤◌, ◌≡◌, Err, Ok, sym, ap, subst, arith, inl, length}
+use Rattle.std.proofs.lemmas.Result.{IfErr-weaker}
+use Rattle.tp_base.specs.declared.limits.TheConstants.{MAX_STEPS}
+use Rattle.tp_base.specs.declared.refusal.Refusal.TheVariants.{HistoryFull}
 use Rattle.tp_node.specs.declared.pool.Pool.{Pool}
-use Rattle.tp_wave.specs.Generations.{present, present_events}
-use Rattle.tp_wave.specs.Machine.{History, steps_of}
-use Rattle.tp_wave.specs.Sums.{is_ended}
-use Rattle.tp_work.proofs.Rounds.{not_reopened, refused_by, whole-reopened}
+use Rattle.tp_wave.specs.Generations.{present_events}
+use Rattle.tp_wave.specs.Machine.{History}
+use Rattle.tp_work.proofs.Reporting.{ended_of_over}
+use Rattle.tp_work.proofs.Rounds.{at_none, fault_weaker, full_refusal, full_refused, not_reopened, refused_by, series_fault, whole-reopened}
 use Rattle.tp_work.specs.Lives.{generations}
+use Rattle.tp_work.specs.Outcomes.{IsFaultOf}
 use Rattle.tp_work.specs.Places.{IsWhole}
-use Rattle.tp_work.specs.Series.{IsTold}
+use Rattle.tp_work.specs.Series.{IsNotReopened}
 use Rattle.tp_work.proofs.series.reopen.Goals as goal
 
 pub keep-requires-clause-whole : goal.keep-requires-clause-whole
@@ -22,36 +25,69 @@ keep-requires-clause-opened g c κs within =
     (ap present_events events, subst (λ (h : History). 1 < length (generations h)) (sym events) (omega arith))
 
 pub keep-requires-clause-fault : goal.keep-requires-clause-fault
-keep-requires-clause-fault g c κs within =
-    c.in-Ok.ensures.event.fault ∙ ap (λ (b : BoardState). b.fault) c.audit_ended.ensures.same ∙ c.requires.fault
+keep-requires-clause-fault g c κs within = c.in-Ok.ensures.event.fault ∙ c.requires.over.no_fault
 
 pub keep-requires-clause-right : goal.keep-requires-clause-right
 keep-requires-clause-right g c κs within = c.in-Ok.ensures.right c.args.graph c.requires.whole.of_graph
 
 pub stopped_for-requires-clause-whole : goal.stopped_for-requires-clause-whole
 stopped_for-requires-clause-whole g c κs within =
-    let before : Pool g.row.G.Denot g.row.K.Denot =
-    record { nodes = c.args.pool.nodes; links = c.args.pool.links; board = c.audit_ended.new.self } in
-    let back = refused_by c.audit_ended.new.self before c.in-Err.pool c.audit_ended.new.ended c.in-Err.field-0-2 c.in-Err.refusal
+    let back = refused_by c.args.pool.board c.args.pool c.in-Err.pool c.args.ended c.in-Err.field-0-2 c.in-Err.refusal
     c.reopen.result c.in-Err.is c.reopen.ensures.refused in
     subst (λ (p : Pool g.row.G.Denot g.row.K.Denot). IsWhole g.K.Ledgers.names.nodes c.args.graph p.nodes.items p.links.items)
     (sym back.0) c.requires.whole
 
+pub returns-in-Ok-clause-fault : goal.returns-in-Ok-clause-fault
+returns-in-Ok-clause-fault g c =
+    IfErr-weaker c.keep.result _ _
+    (λ f told count wanted. told count
+    (subst (λ (h : History). length (generations h) ≤ count) (sym c.in-Ok.ensures.event.history) (omega (arith, wanted))))
+    c.keep.ensures.fault
+
+pub returns-in-Ok-clause-full : goal.returns-in-Ok-clause-full
+returns-in-Ok-clause-full g c =
+    λ full.
+    let refused = full_refused c.args.pool.board c.args.pool c.args.ended c.reopen.result c.reopen.ensures.refused
+    (omega (arith, full, c.requires.limit)) in
+    absurd (let bad : Ok c.in-Ok.field-0 ≡ Err _ = sym c.in-Ok.is ∙ refused in cc)
+
 pub returns-clause-fault : goal.returns-clause-fault
 returns-clause-fault g c =
     λ count wanted.
-    let before : Pool g.row.G.Denot g.row.K.Denot =
-    record { nodes = c.args.pool.nodes; links = c.args.pool.links; board = c.audit_ended.new.self } in
-    let back = refused_by c.audit_ended.new.self before c.in-Err.pool c.audit_ended.new.ended c.in-Err.field-0-2 c.in-Err.refusal
-    c.reopen.result c.in-Err.is c.reopen.ensures.refused in
-    let same = c.audit_ended.ensures.same in
+    let n = g.K.Ledgers.names.nodes in
+    let graph = g.G.Graph.meaning c.args.graph in
+    let pool = c.args.pool in
+    let refusal = c.in-Err.refusal in
+    let back = refused_by pool.board pool c.in-Err.pool c.args.ended c.in-Err.field-0-2 refusal c.reopen.result c.in-Err.is
+    c.reopen.ensures.refused in
     let is_told =
-    subst (λ (p : Pool g.row.G.Denot g.row.K.Denot). IsTold g.K.Ledgers.names.nodes (g.G.Graph.meaning c.args.graph) c.in-Err.refusal
-    p.nodes.items p.board c.stopped_for.result) back.0 c.stopped_for.ensures in
-    not_reopened g.K.Ledgers.names.nodes (g.G.Graph.meaning c.args.graph) count c.stopped_for.result c.in-Err.refusal
-    c.args.pool.nodes.items c.audit_ended.new.self is_told
-    (ap (λ (b : BoardState). b.fault) same ∙ c.requires.fault) (ap (λ (b : BoardState). b.limit) same
-    ∙ c.requires.limit) c.requires.all_told
-    (subst (λ (b : BoardState). IsTrue (is_ended g.K.Ledgers.names.nodes (present (steps_of b.history)))) (sym same)
-    c.audit_ended.ensures.ended)
-    (subst (λ (b : BoardState). length (generations b.history) < count) (sym same) wanted) back.1
+    subst (λ (p : Pool g.row.G.Denot g.row.K.Denot). IsFaultOf n graph p.nodes.items p.board (λ e. e ≡ refusal) c.stopped_for.result)
+    back.0 c.stopped_for.ensures in
+    series_fault n graph count c.stopped_for.result pool.nodes.items pool.board (λ e. e ≡ refusal) is_told (omega (arith, wanted))
+    (λ r report is. at_none pool.board.fault _ _ c.requires.over.no_fault
+    (inl (
+      ended_of_over n graph pool.nodes.items pool.board r report c.requires.over,
+      inl (
+        subst (λ (h : History). length (generations h) < count) (sym report.history) wanted,
+        subst (IsNotReopened r) (sym is)
+            (not_reopened r pool.board refusal report.report.of_run.few report.history c.requires.limit back.1),
+      ),
+    )))
+
+pub returns-clause-full : goal.returns-clause-full
+returns-clause-full g c =
+    λ full.
+    let n = g.K.Ledgers.names.nodes in
+    let graph = g.G.Graph.meaning c.args.graph in
+    let pool = c.args.pool in
+    let refusal = c.in-Err.refusal in
+    let back = refused_by pool.board pool c.in-Err.pool c.args.ended c.in-Err.field-0-2 refusal c.reopen.result c.in-Err.is
+    c.reopen.ensures.refused in
+    let is_told =
+    subst (λ (p : Pool g.row.G.Denot g.row.K.Denot). IsFaultOf n graph p.nodes.items p.board (λ e. e ≡ refusal) c.stopped_for.result)
+    back.0 c.stopped_for.ensures in
+    let refused = full_refused pool.board pool c.args.ended c.reopen.result c.reopen.ensures.refused
+    (omega (arith, full, c.requires.limit)) in
+    fault_weaker n graph c.stopped_for.result pool.nodes.items pool.board (λ e. e ≡ refusal) (λ e. e ≡ HistoryFull MAX_STEPS)
+    (λ is. is ∙ full_refusal refusal c.in-Err.pool c.in-Err.field-0-2 pool c.args.ended pool.board c.reopen.result c.in-Err.is refused full)
+    is_told

@@ -9,11 +9,11 @@ returns-in-Ok-clause-kept g c =
     let config = c.args.runner.now.config in
     let graph = g.G.Graph.meaning c.args.runner.now.graph in
     both_ok c.next_generation.result
-    (λ none kept.
+    (λ over kept.
     subst (λ (n : ℕ). AddsKept n config.workers graph c.args.rounds.now.items c.next_generation.new.rounds.items)
     (sym c.requires.config)
-    (kept config.workers (c.in-Ok.ensures.workers none ∙ ap (λ (n : ℕ). n * config.workers) c.requires.config)))
-    c.next_generation.ensures.no_fault c.next_generation.ensures.kept
+    (kept config.workers (c.in-Ok.ensures.workers over.no_fault ∙ ap (λ (n : ℕ). n * config.workers) c.requires.config)))
+    c.next_generation.ensures.over c.next_generation.ensures.kept
 
 pub returns-in-Ok-clause-fault : goal.returns-in-Ok-clause-fault
 returns-in-Ok-clause-fault g c =

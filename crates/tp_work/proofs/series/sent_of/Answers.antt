@@ -1,12 +1,22 @@
-use Rattle.std.proofs.Common.{refl, inl}
-use Rattle.tp_work.proofs.Rounds.{where_none}
+use Rattle.std.proofs.lemmas.Result.{IfErr-weaker}
+use Rattle.tp_work.proofs.Rounds.{at_none, made_is, made_or_lack, match_err, match_ok}
+use Rattle.tp_work.specs.Outcomes.{Lacks}
+use Rattle.tp_work.specs.Series.{IsDoneOnceInEach}
 use Rattle.tp_work.proofs.series.sent_of.Goals as goal
 
-pub returns-in-Ok-None-clause-refusal : goal.returns-in-Ok-None-clause-refusal
-returns-in-Ok-None-clause-refusal c =
-    where_none _ c.args.report.now.fault c.in_default.not-Some
-    (inl (
-      refl,
-      λ complete.
-          (rw c.in-Ok-None.field-0-is at c.in-Ok-None.ensures.once) (complete.each_once, complete.earlier c.requires.number),
-    ))
+pub returns-in-None-clause-once : goal.returns-in-None-clause-once
+returns-in-None-clause-once c =
+    let once = IsDoneOnceInEach c.args.tasks c.args.report.now in
+    match_ok c.or_lack.result once (Lacks once)
+    (made_or_lack once c.sent_where_once.result c.or_lack.result c.or_lack.ensures c.sent_where_once.ensures.once)
+
+pub returns-in-None-clause-sent : goal.returns-in-None-clause-sent
+returns-in-None-clause-sent c =
+    made_is _ c.sent_where_once.result c.or_lack.result c.or_lack.ensures c.sent_where_once.ensures.sent
+
+pub returns-in-None-clause-refusal : goal.returns-in-None-clause-refusal
+returns-in-None-clause-refusal c =
+    let once = IsDoneOnceInEach c.args.tasks c.args.report.now in
+    IfErr-weaker c.or_lack.result _ _ (λ e lacks. at_none c.args.report.now.fault _ _ c.in-None.is lacks)
+    (match_err c.or_lack.result once (Lacks once)
+    (made_or_lack once c.sent_where_once.result c.or_lack.result c.or_lack.ensures c.sent_where_once.ensures.once))

@@ -1,4 +1,4 @@
-use Rattle.std.proofs.Common.{rules, ◌≡◌, ◌∙◌, ◌+◌, ℕ, IsTrue, length, map, reverse, ap, subst, vec_len}
+use Rattle.std.proofs.Common.{rules, ◌≡◌, ◌∙◌, ◌+◌, ℕ, IsTrue, length, map, refl, reverse, ap, subst, vec_len}
 use Rattle.std.proofs.lemmas.List.{length-map, length-reverse}
 use Rattle.tp_work.proofs.Rounds.{is_series}
 use Rattle.tp_work.specs.Lives.{LivesInEach, generations, sent_in}
@@ -29,8 +29,13 @@ returns-in-Ok-clause-series g c =
     } in
     let sent : c.deref.result.now ≡ reverse (map sent_in (generations h)) = c.deref.ensures.value ∙ c.in-Ok.ensures.sent in
     is_series n workers graph (vec_len c.args.rounds + 1) (record { rounds = c.told_rounds.result; history = c.args.report.history })
-    c.requires.report.of_run.run (subst IsTrue c.requires.report.of_run.ended c.in-Ok.ensures.ended)
+    c.requires.report.of_run.run (subst IsTrue c.requires.report.of_run.ended (c.requires.ended c.in-Ok.ensures.no_fault).detected)
     (subst (λ (k : ℕ). LivesInEach k h) tasks c.in-Ok.ensures.once.1)
     (c.told_rounds.ensures.kept n workers graph c.requires.kept own)
     (c.told_rounds.ensures.sent ∙ sent)
     c.told_rounds.ensures.many
+
+pub returns-in-Err-clause-fault : goal.returns-in-Err-clause-fault
+returns-in-Err-clause-fault g c =
+    let tasks : c.tasks-tasks.result ≡ (g.G.Graph.meaning c.args.graph.now).tasks = search rules in
+    (refl, rw tasks at c.in-Err.ensures.refusal)

@@ -1,8 +1,14 @@
-use Rattle.std.proofs.Common.{ℕ, subst}
-use Rattle.tp_work.specs.Series.{IsSeriesFault}
+use Rattle.std.proofs.Common.{◌≡◌, subst, sym}
+use Rattle.std.specs.Prelude.{length}
+use Rattle.tp_base.specs.declared.refusal.Refusal.{Refusal}
+use Rattle.tp_work.specs.Outcomes.{IsAnswer}
+use Rattle.tp_work.proofs.Rounds.{fault_weaker}
 use Rattle.tp_work.proofs.series.stopped.Goals as goal
 
-pub returns-in-Ok : goal.returns-in-Ok
-returns-in-Ok g c =
-    λ count. subst (λ (n : ℕ). IsSeriesFault n (g.G.Graph.meaning c.args.graph) count c.fault_of.result) c.nodes-nodes.ensures.number
-    (c.fault_of.ensures count)
+pub returns : goal.returns
+returns g c =
+    let h = c.args.pool.board.history in
+    fault_weaker g.K.Ledgers.names.nodes (g.G.Graph.meaning c.args.graph) c.stopped_for.result c.args.pool.nodes.items c.args.pool.board
+    (λ e. e ≡ c.answer_to-refusal.result) (IsAnswer (length h) c.args.fault)
+    (λ is. subst (λ (e : Refusal). IsAnswer (length h) c.args.fault e) (sym is)
+    (rw c.len.ensures.number at c.answer_to-refusal.ensures)) c.stopped_for.ensures

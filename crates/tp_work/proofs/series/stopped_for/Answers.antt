@@ -1,10 +1,11 @@
-use Rattle.std.proofs.Common.{ℕ, refl, subst}
-use Rattle.tp_work.specs.Reports.{IsReportOf}
+use Rattle.std.proofs.Common.{◌≡◌, ℕ, subst}
+use Rattle.tp_work.specs.Outcomes.{IsFaultOf}
+use Rattle.tp_work.proofs.Rounds.{fault_of_gathered}
 use Rattle.tp_work.proofs.series.stopped_for.Goals as goal
 
-pub returns-in-Ok : goal.returns-in-Ok
-returns-in-Ok g c = (
-  refl,
-  subst (λ (n : ℕ). IsReportOf n (g.G.Graph.meaning c.args.graph) c.args.pool.nodes.items c.args.pool.board c.in-Ok.report)
-      c.nodes-nodes.ensures.number c.in-Ok.ensures.report,
-)
+pub returns : goal.returns
+returns g c =
+    subst (λ (n : ℕ). IsFaultOf n (g.G.Graph.meaning c.args.graph) c.args.pool.nodes.items c.args.pool.board (λ e. e ≡ c.args.refusal)
+    c.fault_with.result) c.nodes-nodes.ensures.number
+    (fault_of_gathered c.nodes-nodes.result (g.G.Graph.meaning c.args.graph) c.fault_with.result c.args.pool.nodes.items c.args.pool.board
+    c.args.refusal c.report_of.result c.report_of.ensures.report c.report_of.ensures.refusal c.fault_with.ensures)
