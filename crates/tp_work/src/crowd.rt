@@ -31,14 +31,14 @@ impl Crowd {
     }
 
     /// Counts a worker that is about to sleep.
-    pub fn leave(&self) {
+    pub fn add_sleeper(&self) {
         if self.has_surplus() {
             self.sleepers.fetch_add(1, Ordering::SeqCst);
         }
     }
 
     /// Counts a worker that has slept.
-    pub fn join(&self) {
+    pub fn remove_sleeper(&self) {
         if self.has_surplus() {
             self.sleepers.fetch_sub(1, Ordering::SeqCst);
         }

@@ -184,23 +184,23 @@ impl<G: Graph, K: Ledgers> Locks<G, K> {
         }
     }
 
-    /// Wakes a worker of a node that has work, unless the workers that are awake suffice.
+    /// Wakes a worker of a node that has work, unless each processor has a worker that is awake, and the node too.
     #[inline(always)]
-    pub fn call(&self, node_slot: &NodeSlot<RunQueue<G, K>>) {
+    pub fn wake(&self, node_slot: &NodeSlot<RunQueue<G, K>>) {
         if self.crowd.may_wake(node_slot.parker.sleepers()) {
             node_slot.parker.ring();
         }
     }
 
-    /// Wakes workers of other nodes before a worker sleeps: while all processors were busy, nobody was woken for the
-    /// work that waits there.
-    pub fn call_instead(&self) {
+    /// Wakes workers of nodes that have work, before a worker sleeps: while each processor had a worker that was awake,
+    /// none was woken for that work.
+    pub fn wake_elsewhere(&self) {
         if !self.crowd.has_surplus() {
             return;
         }
         for node_slot in &self.node_slots {
             if node_slot.has_waiting() || node_slot.has_mail() {
-                self.call(node_slot);
+                self.wake(node_slot);
             }
         }
     }

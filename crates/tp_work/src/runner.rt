@@ -96,8 +96,8 @@ impl<G: Comparable, A: Gate, R: Threads + Wait + Sync> Runner<'_, G, A, R> {
         })
     }
 
-    /// Returns how many workers there are beyond one for each processor: none if that number is not known. A single
-    /// worker need not ask.
+    /// Returns the number of workers beyond one for each processor: 0 if the number of processors is not known. It is
+    /// not asked for a single worker.
     fn surplus(&self) -> u32
         requires limits { IsWithinLimits self.now.config }
     {
@@ -111,8 +111,9 @@ impl<G: Comparable, A: Gate, R: Threads + Wait + Sync> Runner<'_, G, A, R> {
         }
     }
 
-    /// Starts all workers, and waits for their results. The first ones, one for each node and as many as there are
-    /// processors, begin at once; each of the others waits until there is work for it. If one cannot be started, `NoMemory` is among the refusals.
+    /// Starts all workers, and waits for their results. The first ones begin at once: one for each node, and as many as
+    /// there are processors. Each of the others sleeps until there is work for it. If one cannot be started, `NoMemory`
+    /// is among the refusals.
     fn run_workers<K: Ledgers + Send + Sync>(
         &self,
         locks: &Locks<G, K>,

@@ -41,7 +41,7 @@ pub(crate) struct Worker<'a, G: Graph, K: Ledgers, A: Gate, R: Wait> {
     /// How it divides its node's ready tasks with the other workers there.
     pub share: Share,
     pub idle_turns: u32,
-    /// Whether each processor and each node has a worker that starts before it.
+    /// Whether it sleeps at first, because each processor and each node has a worker that started before it.
     pub is_spare: bool,
     pub locks: &'a Locks<G, K>,
     pub gate: &'a A,
@@ -127,7 +127,7 @@ impl<'a, G: Comparable, K: Ledgers, A: Gate, R: Wait> Worker<'a, G, K, A, R> {
         let mut idle = 0u32;
         let mut seen = None;
         if self.is_spare {
-            self.wait_for_call(node_slot);
+            self.sleep_at_start(node_slot);
         }
         for _ in self.rt.forever() {
             match self.turn(node_slot, in_flight, idle, &mut seen)? {
@@ -141,7 +141,7 @@ impl<'a, G: Comparable, K: Ledgers, A: Gate, R: Wait> Worker<'a, G, K, A, R> {
                 WorkerTurn::Moved => idle = 0,
                 WorkerTurn::Begun => {
                     if node_slot.has_waiting() {
-                        self.locks.call(node_slot);
+                        self.locks.wake(node_slot);
                     }
                     self.perform(in_flight, idle)?;
                     idle = 0;
@@ -153,16 +153,16 @@ impl<'a, G: Comparable, K: Ledgers, A: Gate, R: Wait> Worker<'a, G, K, A, R> {
         unreachable!()
     }
 
-    /// Sleeps before the first turn, until it is woken or for as long as a sleep may take.
+    /// Sleeps before the first turn: until the worker is woken, at most for the longest time of a sleep.
     #[cold]
     #[inline(never)]
-    fn wait_for_call(&self, node_slot: &NodeSlot<RunQueue<G, K>>) {
+    fn sleep_at_start(&self, node_slot: &NodeSlot<RunQueue<G, K>>) {
         let heard = node_slot.parker.listen();
-        self.locks.crowd.leave();
+        self.locks.crowd.add_sleeper();
         if !self.locks.is_stopped.load(Ordering::SeqCst) {
             node_slot.parker.sleep(self.rt, heard, u32::MAX);
         }
-        self.locks.crowd.join();
+        self.locks.crowd.remove_sleeper();
         node_slot.parker.get_up();
     }
 
@@ -177,12 +177,12 @@ impl<'a, G: Comparable, K: Ledgers, A: Gate, R: Wait> Worker<'a, G, K, A, R> {
             return;
         }
         let heard = node_slot.parker.listen();
-        self.locks.crowd.leave();
+        self.locks.crowd.add_sleeper();
         if !self.is_wanted(node_slot, seen) {
-            self.locks.call_instead();
+            self.locks.wake_elsewhere();
             node_slot.parker.sleep(self.rt, heard, idle);
         }
-        self.locks.crowd.join();
+        self.locks.crowd.remove_sleeper();
         node_slot.parker.get_up();
     }
 

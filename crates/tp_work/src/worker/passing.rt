@@ -47,7 +47,7 @@ impl<'a, G: Comparable, K: Ledgers, A: Gate, R: Wait> Worker<'a, G, K, A, R> {
         let done = record_done(here, &mut board, finished);
         drop(board);
         if let Some(node_slot) = told {
-            self.locks.call(node_slot);
+            self.locks.wake(node_slot);
         }
         done
     }
@@ -86,7 +86,7 @@ impl<'a, G: Comparable, K: Ledgers, A: Gate, R: Wait> Worker<'a, G, K, A, R> {
                 });
             }
             drop(board);
-            self.locks.call(there);
+            self.locks.wake(there);
         }
         Ok(Passed {
             board: lock_soon(self.rt, &self.locks.board),
