@@ -44,13 +44,11 @@ impl Crowd {
         }
     }
 
-    /// Returns whether to wake a worker of a node at which `sleepers` workers sleep: one does, and either fewer workers
-    /// are awake than there are processors, or all of that node sleep.
-    #[inline(always)]
+    /// Returns whether to wake a worker of a node at which `sleepers` workers sleep: fewer workers are awake than there
+    /// are processors, or all of that node sleep.
     pub fn may_wake(&self, sleepers: u64) -> bool {
-        sleepers > 0
-            && (!self.has_surplus()
-                || sleepers >= self.workers
-                || self.sleepers.load(Ordering::SeqCst) > self.surplus)
+        !self.has_surplus()
+            || sleepers >= self.workers
+            || self.sleepers.load(Ordering::SeqCst) > self.surplus
     }
 }

@@ -187,6 +187,14 @@ impl<G: Graph, K: Ledgers> Locks<G, K> {
     /// Wakes a worker of a node that has work, unless each processor has a worker that is awake, and the node too.
     #[inline(always)]
     pub fn wake(&self, node_slot: &NodeSlot<RunQueue<G, K>>) {
+        if node_slot.parker.sleepers() > 0 {
+            self.wake_sleeper(node_slot);
+        }
+    }
+
+    #[cold]
+    #[inline(never)]
+    fn wake_sleeper(&self, node_slot: &NodeSlot<RunQueue<G, K>>) {
         if self.crowd.may_wake(node_slot.parker.sleepers()) {
             node_slot.parker.ring();
         }
