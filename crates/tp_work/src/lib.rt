@@ -5,6 +5,7 @@
 mod config;
 mod counted_graph;
 mod counted_run;
+mod crowd;
 mod gate;
 mod gathered;
 mod lives;

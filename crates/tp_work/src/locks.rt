@@ -5,6 +5,7 @@ ghost use Rattle.tp_work.specs.Places as places;
 ghost use Rattle.tp_work.specs.Places.{AreInOrder, AreLinksInOrder, AreOf};
 ghost use Rattle.tp_work.specs.Outcomes.{IsMisplaced};
 
+use crate::crowd::Crowd;
 use crate::parker::Parker;
 use crate::run_queue::RunQueue;
 use std::alloc::{AllocError, Global};
@@ -28,6 +29,8 @@ pub(crate) struct Locks<G: Graph, K: Ledgers> {
     pub board: Mutex<Board<K>>,
     /// The termination token, once termination was announced to each node.
     pub token: Mutex<Option<Ended<K>>>,
+    /// How many workers are awake.
+    pub crowd: Crowd,
     /// The number of control steps.
     pub control_steps: AtomicU64,
     /// Whether a fault was set, or termination was announced to each node.
@@ -56,12 +59,16 @@ impl<D> NodeSlot<D> {
         }
     }
 
-    /// Wakes a worker if any tasks wait.
+    /// Returns whether a task waits for a worker.
     #[inline(always)]
-    pub fn call_for_waiting(&self) {
-        if self.waiting.load(Ordering::SeqCst) > 0 {
-            self.parker.ring();
-        }
+    pub fn has_waiting(&self) -> bool {
+        self.waiting.load(Ordering::SeqCst) > 0
+    }
+
+    /// Returns whether there is a message for the node.
+    #[inline(always)]
+    pub fn has_mail(&self) -> bool {
+        self.mail.load(Ordering::SeqCst) > 0
     }
 }
 
@@ -139,6 +146,7 @@ impl<G: Graph, K: Ledgers> Locks<G, K> {
     pub fn new(
         alloc: Global,
         pool: Pool<G, K>,
+        crowd: Crowd,
         room: Room<NodeSlot<RunQueue<G, K>>, LinkSlot<G, K>>,
     ) -> Self
         requires nodes { (room.nodes.items ≡ []) × (vec_len pool.nodes ≤ vec_capacity room.nodes) }
@@ -162,6 +170,7 @@ impl<G: Graph, K: Ledgers> Locks<G, K> {
             link_slots,
             board: Mutex::new(board),
             token: Mutex::new(None),
+            crowd,
             control_steps: AtomicU64::new(0),
             is_stopped: AtomicBool::new(false),
         }
@@ -172,6 +181,35 @@ impl<G: Graph, K: Ledgers> Locks<G, K> {
         self.is_stopped.store(true, Ordering::SeqCst);
         for node_slot in &self.node_slots {
             node_slot.parker.ring_all();
+        }
+    }
+
+    /// Wakes a worker of a node that has work, unless each processor has a worker that is awake, and the node too.
+    #[inline(always)]
+    pub fn wake(&self, node_slot: &NodeSlot<RunQueue<G, K>>) {
+        if node_slot.parker.sleepers() > 0 {
+            self.wake_sleeper(node_slot);
+        }
+    }
+
+    #[cold]
+    #[inline(never)]
+    fn wake_sleeper(&self, node_slot: &NodeSlot<RunQueue<G, K>>) {
+        if self.crowd.may_wake(node_slot.parker.sleepers()) {
+            node_slot.parker.ring();
+        }
+    }
+
+    /// Wakes workers of nodes that have work, before a worker sleeps: while each processor had a worker that was awake,
+    /// none was woken for that work.
+    pub fn wake_elsewhere(&self) {
+        if !self.crowd.has_surplus() {
+            return;
+        }
+        for node_slot in &self.node_slots {
+            if node_slot.has_waiting() || node_slot.has_mail() {
+                self.wake(node_slot);
+            }
         }
     }
 
@@ -201,6 +239,7 @@ impl<G: Graph, K: Ledgers> Locks<G, K> {
             link_slots,
             board,
             token,
+            crowd: _,
             control_steps: _,
             is_stopped: _,
         } = self;
@@ -223,6 +262,7 @@ impl<G: Graph, K: Ledgers> Locks<G, K> {
 pub(crate) fn lock_pool<G: Graph, K: Ledgers>(
     alloc: Global,
     pool: Pool<G, K>,
+    crowd: Crowd,
 ) -> Result<(Locks<G, K>, Room<Node<G, K>, PoolLink<G, K>>), Refusal>
     ensures nodes { IfOk result (λ r. (vec_len r.0.node_slots ≡ vec_len pool.nodes) × (r.1.nodes.items ≡ [])
         × (vec_len r.0.node_slots ≤ vec_capacity r.1.nodes)) }
@@ -231,7 +271,7 @@ pub(crate) fn lock_pool<G: Graph, K: Ledgers>(
     ensures refusal { IfErr result (λ e. e ≡ NoMemory) }
 {
     let (locked, room) = two_rooms(alloc, pool.nodes.len(), pool.links.len())?;
-    Ok((Locks::new(alloc, pool, locked), room))
+    Ok((Locks::new(alloc, pool, crowd, locked), room))
 }
 
 /// Reserves room for this many nodes and links, twice.

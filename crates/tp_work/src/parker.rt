@@ -46,6 +46,12 @@ impl Parker {
         self.answer();
     }
 
+    /// Returns the number of workers that sleep, or are about to.
+    #[inline(always)]
+    pub fn sleepers(&self) -> u64 {
+        self.sleepers.load(Ordering::SeqCst)
+    }
+
     /// Acknowledges a ring, and returns the word afterwards.
     fn answer(&self) -> u64 {
         let rings = self.rings.load(Ordering::SeqCst);

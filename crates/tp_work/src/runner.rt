@@ -14,6 +14,7 @@ ghost use Rattle.tp_work.specs.Places.{IsWhole};
 ghost use Rattle.tp_work.specs.Reports.{IsEnd, IsReportOf, told_of_end};
 
 use crate::config::{Config, Fault};
+use crate::crowd::Crowd;
 use crate::gate::Gate;
 use crate::gathered::{Report, count_told, finish};
 use crate::locks::{Locks, check_places, lock_pool};
@@ -90,8 +91,10 @@ impl<G: Comparable, A: Gate, R: Threads + Wait + Sync> Runner<'_, G, A, R> {
         ensures workers { IfOk result (λ r. r.pool.board.fault ≡ None → r.workers ≡ self.now.config.nodes * self.now.config.workers) }
         ensures refusal { IfErr result (λ e. e ≡ NoMemory) }
     {
-        let (locks, room) = lock_pool(self.alloc, pool)?;
-        let answers = self.run_workers(&locks);
+        let surplus = self.surplus();
+        let crowd = Crowd::new(self.config.workers, surplus);
+        let (locks, room) = lock_pool(self.alloc, pool, crowd)?;
+        let answers = self.run_workers(&locks, surplus);
         let (mut pool, token) = locks.into_pool(room);
         tell_fault(&mut pool.board, answers.refusal);
         let end = end_of(&pool.nodes, &mut pool.board, token);
@@ -102,13 +105,35 @@ impl<G: Comparable, A: Gate, R: Threads + Wait + Sync> Runner<'_, G, A, R> {
         })
     }
 
-    /// Starts all workers, and waits for their results. If one cannot be started, `NoMemory` is among the refusals.
-    fn run_workers<K: Ledgers + Send + Sync>(&self, locks: &Locks<G, K>) -> WorkerAnswers
+    /// Returns the number of workers beyond one for each processor: 0 if the number of processors is not known. It is
+    /// not asked for a single worker.
+    fn surplus(&self) -> u32
+        requires limits { IsWithinLimits self.now.config }
+    {
+        let all = self.config.nodes * self.config.workers;
+        if all == 1 {
+            return 0;
+        }
+        match thread::available_parallelism(self.rt) {
+            Ok(processors) => (all as usize).saturating_sub(processors.get()) as u32,
+            Err(_) => 0,
+        }
+    }
+
+    /// Starts all workers, and waits for their results. The first ones begin at once: one for each node, and as many as
+    /// there are processors. Each of the others sleeps until there is work for it. If one cannot be started, `NoMemory`
+    /// is among the refusals.
+    fn run_workers<K: Ledgers + Send + Sync>(
+        &self,
+        locks: &Locks<G, K>,
+        surplus: u32,
+    ) -> WorkerAnswers
         requires limits { IsWithinLimits self.now.config }
         ensures all { result.refusal ≡ None → result.workers ≡ self.now.config.nodes * self.now.config.workers }
     {
         let all = self.config.nodes * self.config.workers;
         let nodes = self.config.nodes;
+        let begin_at_once = nodes.max(all.saturating_sub(surplus));
         let first = Worker {
             rt: self.rt,
             alloc: self.alloc,
@@ -116,6 +141,7 @@ impl<G: Comparable, A: Gate, R: Threads + Wait + Sync> Runner<'_, G, A, R> {
             place: NodeId(0),
             share: Share::new(self.config.nodes, self.config.workers),
             idle_turns: self.config.idle_turns,
+            is_spare: false,
             locks,
             gate: self.gate,
         };
@@ -127,7 +153,7 @@ impl<G: Comparable, A: Gate, R: Threads + Wait + Sync> Runner<'_, G, A, R> {
             {
                 let mut handles = Vec::new(first.alloc);
                 for number in 0..all {
-                    let worker = first.at(NodeId(number % nodes));
+                    let worker = first.at(NodeId(number % nodes), number >= begin_at_once);
                     if keep(&mut handles, scope.spawn(move || worker.run())).is_err() {
                         set_fault(first.rt, first.locks, Refusal::NoMemory);
                         break;

@@ -41,6 +41,8 @@ pub(crate) struct Worker<'a, G: Graph, K: Ledgers, A: Gate, R: Wait> {
     /// How it divides its node's ready tasks with the other workers there.
     pub share: Share,
     pub idle_turns: u32,
+    /// Whether it sleeps at first, because each processor and each node has a worker that started before it.
+    pub is_spare: bool,
     pub locks: &'a Locks<G, K>,
     pub gate: &'a A,
 }
@@ -78,8 +80,8 @@ struct Seen {
 }
 
 impl<'a, G: Comparable, K: Ledgers, A: Gate, R: Wait> Worker<'a, G, K, A, R> {
-    /// Returns the same worker at another node.
-    pub fn at(&self, place: NodeId) -> Self {
+    /// Returns the same worker at another node, as a spare one or not.
+    pub fn at(&self, place: NodeId, is_spare: bool) -> Self {
         Worker {
             rt: self.rt,
             alloc: self.alloc,
@@ -87,6 +89,7 @@ impl<'a, G: Comparable, K: Ledgers, A: Gate, R: Wait> Worker<'a, G, K, A, R> {
             place,
             share: self.share,
             idle_turns: self.idle_turns,
+            is_spare,
             locks: self.locks,
             gate: self.gate,
         }
@@ -123,6 +126,9 @@ impl<'a, G: Comparable, K: Ledgers, A: Gate, R: Wait> Worker<'a, G, K, A, R> {
     ) -> Result<(), Refusal> {
         let mut idle = 0u32;
         let mut seen = None;
+        if self.is_spare {
+            self.sleep_at_start(node_slot);
+        }
         for _ in self.rt.forever() {
             match self.turn(node_slot, in_flight, idle, &mut seen)? {
                 WorkerTurn::Idle => {
@@ -134,7 +140,9 @@ impl<'a, G: Comparable, K: Ledgers, A: Gate, R: Wait> Worker<'a, G, K, A, R> {
                 }
                 WorkerTurn::Moved => idle = 0,
                 WorkerTurn::Begun => {
-                    node_slot.call_for_waiting();
+                    if node_slot.has_waiting() {
+                        self.locks.wake(node_slot);
+                    }
                     self.perform(in_flight, idle)?;
                     idle = 0;
                 }
@@ -145,19 +153,36 @@ impl<'a, G: Comparable, K: Ledgers, A: Gate, R: Wait> Worker<'a, G, K, A, R> {
         unreachable!()
     }
 
+    /// Sleeps before the first turn: until the worker is woken, at most for the longest time of a sleep.
+    #[cold]
+    #[inline(never)]
+    fn sleep_at_start(&self, node_slot: &NodeSlot<RunQueue<G, K>>) {
+        let heard = node_slot.parker.listen();
+        self.locks.crowd.add_sleeper();
+        if !self.locks.is_stopped.load(Ordering::SeqCst) {
+            node_slot.parker.sleep(self.rt, heard, u32::MAX);
+        }
+        self.locks.crowd.remove_sleeper();
+        node_slot.parker.get_up();
+    }
+
     /// After the first idle turn in a row, polls the hints; after each further one, sleeps unless the hints show
-    /// something that a turn may do.
+    /// something that a turn may do. If there are more workers than processors it does not poll: that would keep a
+    /// processor from another worker.
     #[cold]
     #[inline(never)]
     fn rest(&self, node_slot: &NodeSlot<RunQueue<G, K>>, seen: Option<Seen>, idle: u32) {
-        if idle == 1 {
+        if idle == 1 && !self.locks.crowd.has_surplus() {
             self.look_around(node_slot, seen);
             return;
         }
         let heard = node_slot.parker.listen();
+        self.locks.crowd.add_sleeper();
         if !self.is_wanted(node_slot, seen) {
+            self.locks.wake_elsewhere();
             node_slot.parker.sleep(self.rt, heard, idle);
         }
+        self.locks.crowd.remove_sleeper();
         node_slot.parker.get_up();
     }
 
@@ -173,9 +198,7 @@ impl<'a, G: Comparable, K: Ledgers, A: Gate, R: Wait> Worker<'a, G, K, A, R> {
     /// Returns whether the hints show a stop, a task that waits, a message, or a control step since the worker last
     /// tried one.
     fn is_wanted(&self, node_slot: &NodeSlot<RunQueue<G, K>>, seen: Option<Seen>) -> bool {
-        if node_slot.waiting.load(Ordering::SeqCst) > 0
-            || node_slot.mail.load(Ordering::SeqCst) > 0
-        {
+        if node_slot.has_waiting() || node_slot.has_mail() {
             return true;
         }
         let control_steps = self.locks.control_steps.load(Ordering::SeqCst);
@@ -255,8 +278,7 @@ impl<'a, G: Comparable, K: Ledgers, A: Gate, R: Wait> Worker<'a, G, K, A, R> {
         in_flight: &mut InFlight<G>,
         seen: &mut Option<Seen>,
     ) -> Result<WorkerTurn<K>, Refusal> {
-        let took = node_slot.mail.load(Ordering::SeqCst) > 0
-            && self.receive_some(&mut run_queue.node, node_slot)?;
+        let took = node_slot.has_mail() && self.receive_some(&mut run_queue.node, node_slot)?;
         let waiting = run_queue.waiting();
         if took && (waiting == 0 || !self.may_go_on()?) {
             node_slot.tell_waiting(waiting);

@@ -47,7 +47,7 @@ impl<'a, G: Comparable, K: Ledgers, A: Gate, R: Wait> Worker<'a, G, K, A, R> {
         let done = record_done(here, &mut board, finished);
         drop(board);
         if let Some(node_slot) = told {
-            node_slot.parker.ring();
+            self.locks.wake(node_slot);
         }
         done
     }
@@ -86,7 +86,7 @@ impl<'a, G: Comparable, K: Ledgers, A: Gate, R: Wait> Worker<'a, G, K, A, R> {
                 });
             }
             drop(board);
-            there.parker.ring();
+            self.locks.wake(there);
         }
         Ok(Passed {
             board: lock_soon(self.rt, &self.locks.board),

@@ -27,10 +27,7 @@ impl<'a, G: Comparable, K: Ledgers, A: Gate, R: Wait> Worker<'a, G, K, A, R> {
             return Ok(false);
         }
         for _ in 1..MESSAGES_IN_A_HOLD {
-            if node_slot.mail.load(Ordering::SeqCst) == 0
-                || !self.may_go_on()?
-                || !self.receive(here, node_slot)?
-            {
+            if !node_slot.has_mail() || !self.may_go_on()? || !self.receive(here, node_slot)? {
                 break;
             }
         }
