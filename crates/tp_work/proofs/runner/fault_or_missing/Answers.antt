@@ -3,6 +3,7 @@ use Rattle.std.specs.Prelude.{Option, Some}
 use Rattle.std.specs.Option.{option_or, unwrap_or}
 use Rattle.tp_base.specs.declared.refusal.Refusal.{Refusal}
 use Rattle.tp_base.specs.declared.refusal.Refusal.TheVariants.{Missing}
+use Rattle.tp_board.specs.States.{BoardState}
 use Rattle.tp_work.proofs.Reporting.{first_or}
 use Rattle.tp_work.proofs.runner.fault_or_missing.Goals as goal
 
@@ -10,4 +11,5 @@ pub returns-clause-fault : goal.returns-clause-fault
 returns-clause-fault g c =
     let now = c.args.board.now.fault in
     let same = c.unwrap_or-fault.ensures ∙ ap (λ (o : Option Refusal). unwrap_or o Missing) c.fault.ensures in
-    subst (λ (e : Refusal). option_or now (Some e) ≡ Some e) (sym same) (first_or now Missing)
+    ap (λ (b : BoardState). b.fault) c.set_fault.ensures
+    ∙ subst (λ (e : Refusal). option_or now (Some e) ≡ Some e) (sym same) (first_or now Missing)
