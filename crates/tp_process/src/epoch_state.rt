@@ -14,7 +14,7 @@ use crate::outcome::{Next, Refusal};
 
 /// The upper bound on the pieces of work that are open, on the messages sent and on the messages received, for one
 /// process in one epoch.
-const LIMIT: u64 = 1 << 43;
+pub(crate) const LIMIT: u64 = 1 << 43;
 
 /// What one process knows in one epoch. The processes form a binary tree: the children of process i are 2i + 1 and
 /// 2i + 2.

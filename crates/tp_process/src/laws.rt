@@ -1,10 +1,20 @@
 //! The theorems of the detector, each on a public function: of one epoch, and of all epochs together.
 
+ghost use Rattle.std.specs.Prelude.{◌≡◌, ◌≢◌};
 ghost use Rattle.tp_process.specs.World.{ControlMessagesLaw, EndedLaw, FewWavesLaw, GoesOnLaw, NeverEarlyLaw, OnceLaw, QuietLaw, SoonLaw};
 ghost use Rattle.tp_process.specs.Epochs.{AheadLaw, CallsLaw, ControlMessagesEpochLaw, EpochLaw, FewWavesEpochLaw, GoesOnEpochLaw, LagsLaw};
 ghost use Rattle.tp_process.specs.Epochs.{LeftEpochLaw, MessageLaw, NearLaw, NeverEarlyEpochLaw, NoneLateLaw, OnceEpochLaw, SoonEpochLaw};
 ghost use Rattle.tp_process.specs.Network.{AllEndLaw, HandedLaw, NeverLateLaw};
 ghost use Rattle.tp_process.specs.Opening.{OpenCallsLaw, OpenLaw};
+
+use crate::epoch_state::LIMIT;
+use crate::process::MARK;
+
+/// The limit of work and of messages has this value, and memory of zeros is no open process.
+pub fn limits_are_these()
+    ensures limit { LIMIT ≡ 8796093022208 }
+    ensures zeros { MARK ≢ 0 }
+{}
 
 /// Safety: if a process knows the end, or `next` returns `Ended`, no process has work and no message is under way,
 /// whatever the processes do and whichever control messages come, in whatever order.

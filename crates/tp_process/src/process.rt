@@ -14,7 +14,7 @@ use crate::epoch_state::StoredState;
 use crate::outcome::{Next, Refusal};
 
 /// The value of `mark` in an open process: `gerfmuod` in ASCII.
-const MARK: u64 = 0x6765_7266_6d75_6f64;
+pub(crate) const MARK: u64 = 0x6765_7266_6d75_6f64;
 
 /// One process of a distributed program, as the detector sees it: 96 bytes of plain data.
 ///
