@@ -11,25 +11,24 @@ use Rattle.pool_patterns.specs.Ranks.{rank}
 use Rattle.pool_patterns.specs.declared.fault.TableFault.{TableFault}
 use Rattle.pool_patterns.specs.declared.fault.TableFault.TheVariants.{Empty, TooManyInputs, TooManyEvents, NoMemory}
 
--- a task takes two at least
-two_each : (count : ℕ) → 2 ≤ task_events count
-two_each count = grind (arith, nat_tests)
+-- a task takes three at least
+three_each : (count : ℕ) → 3 ≤ task_events count
+three_each count = grind (arith, nat_tests)
 
-events_many : (r : Relation) (w n : ℕ) → 2 * n ≤ events_below r w n
+events_many : (r : Relation) (w n : ℕ) → 3 * n ≤ events_below r w n
 events_many r w zero = omega arith
-events_many r w (suc n) = omega (arith, events_many r w n, two_each (inputs r w (n / w) (n % w)))
+events_many r w (suc n) = omega (arith, events_many r w n, three_each (inputs r w (n / w) (n % w)))
 
 -- this many tasks take too many
-pub too_many : (r : Relation) (w steps : ℕ) → 2 ^ 20 ≤ steps * w → 1048576 < grid_events r w steps
+pub too_many : (r : Relation) (w steps : ℕ) → 349525 < steps * w → 1048576 < grid_events r w steps
 too_many r w steps h = omega (arith, h, events_many r w (steps * w))
 
-pub too_many_columns : (r : Relation) (w steps : ℕ) → 1 ≤ steps → 2 ^ 20 ≤ w → 1048576 < grid_events r w steps
-too_many_columns r w steps some h =
-    too_many r w steps (let least : 1 * w ≤ steps * w = mul-le 1 w steps w some (omega arith) in omega (arith, h, least))
-
-pub too_many_rows : (r : Relation) (w steps : ℕ) → 1 ≤ w → 2 ^ 20 ≤ steps → 1048576 < grid_events r w steps
-too_many_rows r w steps some h =
-    too_many r w steps (let least : steps * 1 ≤ steps * w = mul-le steps 1 steps w (omega arith) some in omega (arith, h, least))
+-- of fewer tasks, neither the columns nor the rows are many
+pub few_sides : (w steps : ℕ) → 1 ≤ w → 1 ≤ steps → steps * w ≤ 349525 → (w < 2 ^ 20) × (steps < 2 ^ 20)
+few_sides w steps some any few =
+    let columns : 1 * w ≤ steps * w = mul-le 1 w steps w any (omega arith) in
+    let rows : steps * 1 ≤ steps * w = mul-le steps 1 steps w (omega arith) some in
+    (omega (arith, columns, few), omega (arith, rows, few))
 
 pub events_more : (r : Relation) (w n before now count : ℕ) → before ≡ events_below r w n → count ≡ inputs r w (n / w) (n % w)
     → now ≡ before + task_events count → now ≡ events_below r w (n + 1)

@@ -12,7 +12,10 @@ use crate::noting::spots_of;
 use crate::relation::Relation;
 use crate::spots::{Output, Spot};
 use std::alloc::Global;
-use tp_base::TaskId;
+use tp_base::{MAX_STEPS, TaskId};
+
+/// The most tasks that can be within the limit of events, since each takes at least 3.
+const MOST_TASKS: u32 = MAX_STEPS / 3;
 
 /// A grid of tasks over a pattern, with the inputs and feeds of each task computed once. A graph borrows it, so that
 /// each of its calls is a look-up.
@@ -36,8 +39,10 @@ pub struct FeedTable<P: Relation> {
 impl<P: Relation> FeedTable<P> {
     /// Returns the table of a grid of `steps` rows of `width` columns. Refused with `Empty` if there are no columns or
     /// no rows, with `TooManyInputs` if a task has more than 16, with `TooManyEvents` if the tasks take more than
-    /// 1,048,576 events at one node, and with `NoMemory` if an allocation fails first. Takes O(width * width) time for
-    /// each row of one period ([`Relation::period`]), and memory for each task and for each feed of those rows.
+    /// 1,048,576 events at one node, and with `NoMemory` if an allocation fails first. Each task takes at least 3 events,
+    /// so more than 349,525 tasks are refused at once. Otherwise it takes O(width * width) time for each row of one
+    /// period ([`Relation::period`]), and memory for each task and for each feed of those rows.
+    #[tactic(auto, using(crate::proofs::Events::few_sides, crate::proofs::Events::too_many))]
     pub fn new(alloc: Global, pattern: P, width: u32, steps: u32) -> Result<Self, TableFault>
         ensures made { IfOk result (λ table. (table.pattern ≡ pattern) × (table.width ≡ width) × (table.steps ≡ steps)) }
         ensures no_fault { OnOk result (HasNoFault (P.relation pattern width) width steps) }
@@ -46,7 +51,7 @@ impl<P: Relation> FeedTable<P> {
         if width == 0 || steps == 0 {
             return Err(TableFault::Empty);
         }
-        if width >= 1 << 20 || steps >= 1 << 20 || u64::from(steps) * u64::from(width) >= 1 << 20 {
+        if u64::from(steps) * u64::from(width) > u64::from(MOST_TASKS) {
             return Err(TableFault::TooManyEvents);
         }
         let period = pattern.period(width, steps);

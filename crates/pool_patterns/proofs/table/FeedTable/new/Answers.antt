@@ -1,22 +1,11 @@
 use Rattle.std.proofs.Common.{◌≡◌, ◌≤◌, ◌+◌, ◌-◌, min, sym, subst, arith, rules}
 use Rattle.std.proofs.lemmas.Result.{err_from_is_err_and}
-use Rattle.pool_patterns.proofs.Events.{rows_fault, too_many, too_many_columns, too_many_rows}
+use Rattle.pool_patterns.proofs.Events.{rows_fault}
 use Rattle.pool_patterns.proofs.Noted.{kinds_are, none_wide}
 use Rattle.pool_patterns.specs.Faults.{IsTableFault}
 use Rattle.pool_patterns.specs.Grids.{Relation}
 use Rattle.pool_patterns.specs.Kinds.{IsRowsFault}
 use Rattle.pool_patterns.proofs.table.FeedTable.new.Goals as goal
-use Rattle.pool_patterns.proofs.table.FeedTable.new.Goals.{then-width-via-then-width, then-width-via-else-width+then-steps}
-use Rattle.pool_patterns.proofs.table.FeedTable.new.Goals.{then-width-via-else-width+else-steps+then-from}
-
-pub returns-then-width-clause-refused : goal.returns-then-width-clause-refused
-returns-then-width-clause-refused g c =
-    let r : Relation = g.P.Relation.relation c.args.pattern c.args.width in
-    elim c.then-width.branch [
-      | then-width-via-then-width w ↦ too_many_columns r c.args.width c.args.steps (search rules) (search rules)
-      | then-width-via-else-width+then-steps w ↦ too_many_rows r c.args.width c.args.steps (search rules) (search rules)
-      | then-width-via-else-width+else-steps+then-from w ↦ too_many r c.args.width c.args.steps (search rules)
-    ]
 
 pub returns-in_err-kinds-clause-refused : goal.returns-in_err-kinds-clause-refused
 returns-in_err-kinds-clause-refused g c =
