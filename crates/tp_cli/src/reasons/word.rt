@@ -137,34 +137,53 @@ fn write_reason<E: Diagnostics>(word: &str, reason: WordReason, err: &mut E)
         WordReason::UnknownKind => {
             err.tell_parts(&[word, ": the kind must be product, wavefront or reduce\n"])
         }
-        WordReason::Form(form) => err.tell_parts(&[word, ": the form must be ", form, "\n"]),
-        WordReason::NoNumber(field) => err.tell_parts(&[
-            word,
-            ": ",
-            field.name(),
-            " is not a number of at most six digits without leading zeros\n",
-        ]),
-        WordReason::OutOfRange(field, number) => write_range(word, field, number, err),
+        WordReason::Form(form) => write_form(word, form, err),
+        WordReason::NoNumber(field) => write_no_number(word, field.name(), err),
+        WordReason::OutOfRange(field, number) => {
+            let mut digits = Buffer::new();
+            write_range(
+                word,
+                field.name(),
+                digits.format(number),
+                field.range(),
+                err,
+            )
+        }
         WordReason::Repeated => err.tell_parts(&[word, " repeats an earlier one\n"]),
         WordReason::Undivided(side, order) => write_undivided(word, side, order, err),
     }
 }
 
-/// Prints that a number of a specification is out of range.
-fn write_range<E: Diagnostics>(word: &str, field: Field, number: u32, err: &mut E)
+/// Prints that a specification has more or fewer numbers than its kind.
+fn write_form<E: Diagnostics>(word: &str, form: &str, err: &mut E)
     ensures { MayExplain E.tells err.old err.new }
 {
-    let mut digits = Buffer::new();
+    err.tell_parts(&[word, ": the form must be ", form, "\n"])
+}
+
+/// Prints that a part of a specification, of this name, is no number.
+fn write_no_number<E: Diagnostics>(word: &str, name: &str, err: &mut E)
+    ensures { MayExplain E.tells err.old err.new }
+{
     err.tell_parts(&[
         word,
         ": ",
-        field.name(),
-        " ",
-        digits.format(number),
-        " is ",
-        field.range(),
-        "\n",
+        name,
+        " is not a number of at most six digits without leading zeros\n",
     ])
+}
+
+/// Prints that a number of a specification, of this name, is out of range.
+fn write_range<'a, E: Diagnostics>(
+    word: &'a str,
+    name: &'a str,
+    number: &'a str,
+    range: &'a str,
+    err: &mut E,
+)
+    ensures { MayExplain E.tells err.old err.new }
+{
+    err.tell_parts(&[word, ": ", name, " ", number, " is ", range, "\n"])
 }
 
 /// Prints that the side of the tiles does not divide the order of a product.
