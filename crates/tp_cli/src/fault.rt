@@ -2,6 +2,7 @@
 ghost use Rattle.std.specs.Prelude.{◌≡◌, ◌≢◌, codes};
 ghost use Rattle.tp_cli.specs.Faults.{line_of, refusal_line, refusal_of, status_of, text_line, words_line};
 
+use itoa::Buffer;
 use std::io::ErrorKind;
 use tp_base::Refusal;
 use tp_shell::{Diagnostics, Status, Told, WordsFault};
@@ -79,7 +80,7 @@ fn tell_words<E: Diagnostics>(fault: &WordsFault, err: &mut E)
     ensures { E.tells err.old (words_line fault.now) err.new }
 {
     match fault {
-        WordsFault::Words(text) => err.tell(format_args!("{text}\n")),
+        WordsFault::Words(text) => err.tell_parts(&[text.as_str(), "\n"]),
         WordsFault::Memory => err.tell(text_line(TextFault::Memory)),
         WordsFault::Write => err.tell(text_line(TextFault::Write)),
     }
@@ -100,7 +101,9 @@ fn text_line(fault: TextFault) -> &'static str
 fn tell_refusal<E: Diagnostics>(refusal: Refusal, err: &mut E)
     ensures { E.tells err.old (refusal_line refusal) err.new }
 {
-    err.tell(format_args!("refused {} {}\n", refusal.number(), refusal.name()));
+    let mut digits = Buffer::new();
+    let number = digits.format(refusal.number());
+    err.tell_parts(&["refused ", number, " ", refusal.name(), "\n"]);
 }
 
 /// Returns the error line and the exit status for arguments that could not be read: an allocation failed, or one of

@@ -6,6 +6,7 @@ mod cli;
 mod command;
 mod fault;
 mod kept;
+mod laws;
 mod pools;
 mod reasons;
 mod request;
@@ -16,4 +17,5 @@ mod text;
 
 pub use cli::main_with;
 pub use fault::without_words;
+pub use laws::limits_are_these;
 pub use terminal::main_at_terminal;

@@ -1,5 +1,5 @@
 //! The subcommand `run`: runs one pool, and prints its table or its trace.
-ghost use Rattle.std.specs.Prelude.{◌≡◌, ◌≢◌, ◌↔◌, ℕ, List, Err, IfErr, IfOk, MatchResult};
+ghost use Rattle.std.specs.Prelude.{◌≡◌, ◌≢◌, ◌↔◌, ℕ, List, Ok, Err, IfErr, IfOk, MatchResult};
 ghost use Rattle.std.specs.Io.KnownBytes.{Appends};
 ghost use Rattle.std.specs.String.{string_bytes};
 ghost use Rattle.std.specs.Thread.{IsSync};
@@ -96,6 +96,7 @@ fn profiled(config: Config) -> tp_profile::Run {
 fn status_of_profile(written: io::Result<()>) -> Result<Status, Fault>
     ensures done { IfOk result (λ status. status ≡ Done) }
     ensures why { IfErr result (λ fault. fault ≡ Fault.Write) }
+    ensures exact { MatchResult written (λ _. result ≡ Ok Done) (λ _. result ≡ Err Fault.Write) }
 {
     if written.is_ok() {
         Ok(Status::Done)

@@ -70,7 +70,7 @@ fn tell_words<E: Diagnostics>(fault: &WordsFault, err: &mut E)
     ensures { E.tells err.old (words_line fault.now) err.new }
 {
     match fault {
-        WordsFault::Words(text) => err.tell(format_args!("{text}\n")),
+        WordsFault::Words(text) => err.tell_parts(&[text.as_str(), "\n"]),
         WordsFault::Memory => err.tell(text_line(TextFault::Memory)),
         WordsFault::Write => err.tell(text_line(TextFault::Write)),
     }

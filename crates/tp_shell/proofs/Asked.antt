@@ -1,5 +1,5 @@
 -- What a caller knows of a parse of the command line.
-use Rattle.std.proofs.Common.{◌≡◌, ◌≢◌, ◌∙◌, ap, subst, inl, inr, refl, List, Option, Some, None, MatchOption, true}
+use Rattle.std.proofs.Common.{◌≡◌, ◌≢◌, ◌∙◌, ap, subst, inl, inr, List, Option, Some, None, MatchOption, true}
 use Rattle.clap.specs.Faults.{fault_of, is_simple_and_free}
 use Rattle.clap.specs.Kinds.{HasKind, IsAmong}
 use Rattle.clap.specs.Values.{kind_of}
@@ -40,12 +40,6 @@ module _ (app : App) (missing : ErrorKind) (Lacks : Type 0) (words : List Text) 
   words_fault (faults.Words text) hidden fails met = at_fault fails met.0 met.1
   words_fault faults.Memory hidden fails met = met
   words_fault faults.Write hidden fails met = shown_asked hidden fails met
-
--- the fault if arguments are at fault
-pub met_else : (kind : ErrorKind) (fault : WordsFault) → fault ≢ faults.Write → kind ≢ OutOfMemory → ¬ IsToBeShown kind → IsMetBy kind fault
-met_else kind (faults.Words text) other memory hidden = (memory, hidden)
-met_else kind faults.Memory other memory hidden = tt
-met_else kind faults.Write other memory hidden = absurd (other refl)
 
 -- what follows if nothing was found
 pub none_asked : {X : Type 0} (o : Option X) (P : Type 0) (Q : X → Type 0) → o ≡ None → MatchOption o P Q → P

@@ -1,4 +1,4 @@
 pub mod Command
-pub mod Complaints
 pub mod Statuses
 pub mod Streams
+pub mod Texts

@@ -1,24 +1,45 @@
 //! The arguments of the command line.
-ghost use Rattle.std.specs.Prelude.{◌≡◌, ◌≢◌};
+ghost use Rattle.std.specs.Prelude.{◌≡◌, ◌≢◌, ℕ, List, ⊤, IfOk, map};
+ghost use Rattle.std.specs.String.{string_bytes};
 
 use crate::status::Status;
 use std::alloc::{AllocError, Global};
 use std::env::{self, Env};
-use std::io::ErrorKind;
+use std::io::{self, ErrorKind};
 
-/// Returns the arguments of the command line, beginning with the program's own name. Refused with `OutOfMemory` if
-/// there is no memory for them, and with another kind if an argument is not UTF-8.
-pub fn arguments<R: Env + AllocGlobal>(rt: &R) -> Result<Vec<String>, ErrorKind> {
-    match env::args(rt) {
-        Ok(arguments) => arguments
-            .collect(rt.alloc())
-            .map_err(|_| ErrorKind::OutOfMemory),
-        Err(error) => Err(error.kind()),
+/// What has the arguments of a command line, such as a process.
+///
+/// In code that is generic over it, only a call of `all_arguments` shows what they are.
+pub trait HasArguments {
+    // Its arguments are these, as the bytes of their UTF-8.
+    ghost has: { Self → List (List ℕ) → Type 0 };
+
+    /// Returns the arguments of the command line.
+    fn all_arguments(&self) -> io::Result<Vec<String>>
+        ensures { IfOk result (λ arguments. has self.now (map string_bytes arguments.items)) };
+}
+
+// std says nothing of a process's arguments.
+impl<R: Env + AllocGlobal> HasArguments for R {
+    ghost has = { λ holder texts. ⊤ };
+
+    fn all_arguments(&self) -> io::Result<Vec<String>> {
+        Ok(env::args(self)?.collect(self.alloc())?)
     }
 }
 
+/// Returns the arguments of the command line, beginning with the program's own name. Refused with `OutOfMemory` if
+/// there is no memory for them, and with another kind if an argument is not UTF-8.
+pub fn arguments<R: HasArguments>(rt: &R) -> Result<Vec<String>, ErrorKind>
+    ensures { IfOk result (λ arguments. R.has rt.now (map string_bytes arguments.items)) }
+{
+    rt.all_arguments().map_err(|error| error.kind())
+}
+
 /// Returns the arguments as borrowed texts. Refused if an allocation fails.
-pub fn words_of(alloc: Global, arguments: &[String]) -> Result<Vec<&str>, AllocError> {
+pub fn words_of(alloc: Global, arguments: &[String]) -> Result<Vec<&str>, AllocError>
+    ensures { IfOk result (λ words. map (λ word. word.now) words.items ≡ map string_bytes arguments.now) }
+{
     let mut words = Vec::with_capacity(alloc, arguments.len())?;
     for argument in arguments {
         words.push(argument.as_str())?;

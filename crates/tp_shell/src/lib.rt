@@ -10,8 +10,8 @@ mod streams;
 mod words;
 
 pub use diagnostics::{Diagnostics, Told, complain};
-pub use environment::{arguments, without_words, words_of};
+pub use environment::{HasArguments, arguments, without_words, words_of};
 pub use options::{VERSION, config_of, count_of, count_option, with_counts};
 pub use status::Status;
 pub use streams::{ReadFault, Source, write_text};
-pub use words::{WordsFault, show};
+pub use words::{ParserError, WordsFault, show};

@@ -1,12 +1,16 @@
 //! What happens if arguments make no request: help or the version is shown, or they are at fault.
-ghost use Rattle.std.specs.Prelude.{◌≡◌, ◌≢◌, IfErr, OnOk};
+ghost use Rattle.std.specs.Prelude.{◌≡◌, ◌≢◌, ◌++◌, IfErr, IfOk, IfSome, OnOk, codes};
+ghost use Rattle.std.specs.Io.KnownBytes.{Appends};
+ghost use Rattle.std.specs.String.{string_bytes};
 ghost use Rattle.clap.specs.Values.{kind_of};
 ghost use Rattle.tp_shell.specs.Command.{IsMetBy, IsToBeShown};
 ghost use Rattle.tp_shell.specs.Streams.{HasShown};
+ghost use Rattle.tp_shell.specs.Texts.{HasShownText, HasTextOf, IsLineOf};
 
 use clap::Error;
 use clap::error::ErrorKind;
 use std::alloc::{AllocError, Global};
+use std::fmt::Display;
 use std::io::{self, Write};
 
 /// Why arguments make no request, and nothing is shown for them.
@@ -20,24 +24,59 @@ pub enum WordsFault {
     Write,
 }
 
+/// A parser's error: why arguments make no request, and a text that is shown or printed.
+///
+/// clap's contracts say nothing about that text. In code that is generic over this trait, it can only come from
+/// formatting the error.
+pub trait ParserError: Display {
+    ghost use Rattle.clap.specs.declared.error.kind.ErrorKind.{ErrorKind};
+
+    // why the arguments make no request
+    ghost kind_of: { Self → ErrorKind };
+
+    /// Returns why the arguments make no request.
+    fn reason(&self) -> ErrorKind
+        ensures { result ≡ kind_of self.now };
+}
+
+impl ParserError for Error {
+    ghost kind_of = { kind_of };
+
+    fn reason(&self) -> ErrorKind {
+        self.kind()
+    }
+}
+
 /// Shows help or the version if the arguments asked for it, and else returns what is wrong with them.
-pub fn show<O: Write>(alloc: Global, error: &Error, out: &mut O) -> Result<(), WordsFault>
-    ensures shown { OnOk result (IsToBeShown (kind_of error.now) × HasShown (O.contents out.old) (O.contents out.new)) }
-    ensures why { IfErr result (IsMetBy (kind_of error.now)) }
+pub fn show<E: ParserError, O: Write>(
+    alloc: Global,
+    error: &E,
+    out: &mut O,
+) -> Result<(), WordsFault>
+    ensures shown { OnOk result (IsToBeShown (E.kind_of error.now) × HasShown (O.contents out.old) (O.contents out.new)) }
+    ensures text { OnOk result (HasShownText (E.Display.output error.now) (O.contents out.old) (O.contents out.new)) }
+    ensures why { IfErr result (IsMetBy (E.kind_of error.now)) }
+    ensures line { IfErr result (HasTextOf (E.Display.output error.now)) }
     ensures unwritten { IfErr result (λ fault. fault ≢ WordsFault.Write → out.new ≡ out.old) }
 {
-    match error.kind() {
+    match error.reason() {
         ErrorKind::OutOfMemory => Err(WordsFault::Memory),
-        ErrorKind::DisplayHelp | ErrorKind::DisplayVersion => { show_text(alloc, error, out) }
+        ErrorKind::DisplayHelp | ErrorKind::DisplayVersion => show_text(alloc, error, out),
         _ => Err(words_fault(alloc, error)),
     }
 }
 
 /// Shows help or the version.
-fn show_text<O: Write>(alloc: Global, error: &Error, out: &mut O) -> Result<(), WordsFault>
-    requires { IsToBeShown (kind_of error.now) }
-    ensures shown { OnOk result (IsToBeShown (kind_of error.now) × HasShown (O.contents out.old) (O.contents out.new)) }
-    ensures why { IfErr result (IsMetBy (kind_of error.now)) }
+fn show_text<E: ParserError, O: Write>(
+    alloc: Global,
+    error: &E,
+    out: &mut O,
+) -> Result<(), WordsFault>
+    requires { IsToBeShown (E.kind_of error.now) }
+    ensures shown { OnOk result (IsToBeShown (E.kind_of error.now) × HasShown (O.contents out.old) (O.contents out.new)) }
+    ensures text { OnOk result (HasShownText (E.Display.output error.now) (O.contents out.old) (O.contents out.new)) }
+    ensures why { IfErr result (IsMetBy (E.kind_of error.now)) }
+    ensures line { IfErr result (HasTextOf (E.Display.output error.now)) }
     ensures unwritten { IfErr result (λ fault. fault ≢ WordsFault.Write → out.new ≡ out.old) }
 {
     let text = match text_of(alloc, error) {
@@ -51,8 +90,9 @@ fn show_text<O: Write>(alloc: Global, error: &Error, out: &mut O) -> Result<(), 
 }
 
 /// Returns what is wrong with the arguments.
-fn words_fault(alloc: Global, error: &Error) -> WordsFault
-    ensures { result ≢ WordsFault.Write }
+fn words_fault<D: Display>(alloc: Global, error: &D) -> WordsFault
+    ensures text { HasTextOf (D.output error.now) result }
+    ensures other { result ≢ WordsFault.Write }
 {
     match text_of(alloc, error) {
         Ok(text) => WordsFault::Words(text),
@@ -61,17 +101,26 @@ fn words_fault(alloc: Global, error: &Error) -> WordsFault
 }
 
 /// Returns the parser's message, without the line feed at its end.
-fn text_of(alloc: Global, error: &Error) -> Result<String, AllocError> {
-    let mut text = format!(in alloc; "{error}")?;
-    if text.ends_with('\n') {
-        text.pop();
+fn text_of<D: Display>(alloc: Global, error: &D) -> Result<String, AllocError>
+    ensures { IfOk result (λ line. IfSome (D.output error.now) (λ text. IsLineOf text (string_bytes line))) }
+{
+    Ok(without_feed(format!(in alloc; "{error}")?))
+}
+
+/// Returns a text without the line feed at its end.
+fn without_feed(mut text: String) -> String
+    ensures { IsLineOf (string_bytes text) (string_bytes result) }
+{
+    if !text.ends_with('\n') {
+        return text;
     }
-    Ok(text)
+    text.pop();
+    text
 }
 
 /// Writes a text and a line feed.
 fn write_line<O: Write>(out: &mut O, text: &str) -> io::Result<()>
-    ensures { OnOk result (HasShown (O.contents out.old) (O.contents out.new)) }
+    ensures { OnOk result (Appends (O.contents out.old) (O.contents out.new) (text.now ++ codes "\n")) }
 {
     writeln!(out, "{text}")?;
     out.flush()

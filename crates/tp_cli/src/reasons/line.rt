@@ -3,8 +3,12 @@ ghost use Rattle.tp_cli.specs.Reasons.{MayExplain};
 
 use crate::reasons::number::{cut, number_of, short_number_of};
 use crate::text::TextKind;
+use itoa::Buffer;
 use tp_base::MAX_INPUTS;
 use tp_shell::Diagnostics;
+
+/// How a message names what every number of a line is.
+static A_NUMBER: &str = "a number of at most six digits without leading zeros\n";
 
 /// The numbers after a keyword.
 #[derive(Clone, Copy)]
@@ -33,16 +37,18 @@ fn explain_line<E: Diagnostics>(kind: TextKind, text: &[u8], line: u32, err: &mu
 {
     let is_second = is_second(kind, text);
     let (words, is_ended) = find_line(text, line);
+    let mut digits = Buffer::new();
+    let number = digits.format(line);
     if !is_ended && words.is_empty() {
-        err.tell(format_args!("line {line} is missing\n"))
+        err.tell_parts(&["line ", number, " is missing\n"])
     } else if !is_ended {
-        err.tell(format_args!("line {line} has no end\n"))
+        err.tell_parts(&["line ", number, " has no end\n"])
     } else if kind == TextKind::Trace && line <= 1 {
-        err.tell(format_args!("line {line} is neither `trace 1` nor `trace 2`\n"))
+        err.tell_parts(&["line ", number, " is neither `trace 1` nor `trace 2`\n"])
     } else if line <= nodes_at(kind, is_second) {
-        err.tell(format_args!("line {line} is not `nodes N`, N from 1 to 8\n"))
+        err.tell_parts(&["line ", number, " is not `nodes N`, N from 1 to 8\n"])
     } else {
-        explain_step(kind, is_second, line, words, err)
+        explain_step(kind, is_second, number, words, err)
     }
 }
 
@@ -80,7 +86,7 @@ fn nodes_at(kind: TextKind, is_second: bool) -> u32 {
 fn explain_step<E: Diagnostics>(
     kind: TextKind,
     is_second: bool,
-    line: u32,
+    line: &str,
     words: &[u8],
     err: &mut E,
 )
@@ -91,12 +97,16 @@ fn explain_step<E: Diagnostics>(
         return explain_unknown(line, word, err);
     };
     match word {
-        b"reopen" if !is_second => err.tell(format_args!(
-            "line {line}: version 1 has no step `reopen`\n"
-        )),
-        b"judge" if kind == TextKind::Trace => err.tell(format_args!(
-            "line {line}: after `judge` comes `not` or `ended W`, W at least 1\n"
-        )),
+        b"reopen" if !is_second => err.tell_parts(&[
+            "line ",
+            line,
+            ": version 1 has no step `reopen`\n",
+        ]),
+        b"judge" if kind == TextKind::Trace => err.tell_parts(&[
+            "line ",
+            line,
+            ": after `judge` comes `not` or `ended W`, W at least 1\n",
+        ]),
         _ => explain_numbers(line, word, rest, due, err),
     }
 }
@@ -116,18 +126,18 @@ fn numbers_due(is_second: bool, word: &[u8]) -> Option<usize> {
 }
 
 /// Prints that a line begins with no step.
-fn explain_unknown<E: Diagnostics>(line: u32, word: &[u8], err: &mut E)
+fn explain_unknown<E: Diagnostics>(line: &str, word: &[u8], err: &mut E)
     ensures { MayExplain E.tells err.old err.new }
 {
     match shown(word) {
-        Some(word) => err.tell(format_args!("line {line}: unknown step `{word}`\n")),
-        None => err.tell(format_args!("line {line}: not a step\n")),
+        Some(word) => err.tell_parts(&["line ", line, ": unknown step `", word, "`\n"]),
+        None => err.tell_parts(&["line ", line, ": not a step\n"]),
     }
 }
 
 /// Prints why the text after a keyword is not the required count of numbers.
 fn explain_numbers<E: Diagnostics>(
-    line: u32,
+    line: &str,
     word: &[u8],
     rest: Option<&[u8]>,
     due: usize,
@@ -140,29 +150,40 @@ fn explain_numbers<E: Diagnostics>(
         Err(other) => return explain_other(line, other, err),
     };
     if count != due {
-        return err.tell(format_args!(
-            "line {line}: wrong count of numbers: {count} instead of {due}\n"
-        ));
+        return explain_count(line, count, due, err);
     }
     match word {
         b"insert" if last > u32::from(MAX_INPUTS) => {
-            err.tell(format_args!("line {line}: a task has at most 16 inputs\n"))
+            err.tell_parts(&["line ", line, ": a task has at most 16 inputs\n"])
         }
-        _ => err.tell(format_args!("line {line} does not match the grammar\n")),
+        _ => err.tell_parts(&["line ", line, " does not match the grammar\n"]),
     }
 }
 
+/// Prints that more or fewer numbers follow a keyword than it takes.
+fn explain_count<E: Diagnostics>(line: &str, count: usize, due: usize, err: &mut E)
+    ensures { MayExplain E.tells err.old err.new }
+{
+    let mut has = Buffer::new();
+    let mut takes = Buffer::new();
+    err.tell_parts(&[
+        "line ",
+        line,
+        ": wrong count of numbers: ",
+        has.format(count),
+        " instead of ",
+        takes.format(due),
+        "\n",
+    ])
+}
+
 /// Prints that a word after a keyword is no number.
-fn explain_other<E: Diagnostics>(line: u32, word: &[u8], err: &mut E)
+fn explain_other<E: Diagnostics>(line: &str, word: &[u8], err: &mut E)
     ensures { MayExplain E.tells err.old err.new }
 {
     match shown(word) {
-        Some(word) => err.tell(format_args!(
-            "line {line}: `{word}` is not a number of at most six digits without leading zeros\n"
-        )),
-        None => err.tell(format_args!(
-            "line {line}: not a number of at most six digits without leading zeros\n"
-        )),
+        Some(word) => err.tell_parts(&["line ", line, ": `", word, "` is not ", A_NUMBER]),
+        None => err.tell_parts(&["line ", line, ": not ", A_NUMBER]),
     }
 }
 

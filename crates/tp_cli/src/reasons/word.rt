@@ -2,6 +2,7 @@
 ghost use Rattle.tp_cli.specs.Reasons.{MayExplain};
 
 use crate::reasons::number::short_number_of;
+use itoa::Buffer;
 use tp_base::{MAX_ORDER, MAX_POOLS, MAX_SEED, MAX_SIDE};
 use tp_shell::Diagnostics;
 
@@ -133,26 +134,72 @@ fn write_reason<E: Diagnostics>(word: &str, reason: WordReason, err: &mut E)
     ensures { MayExplain E.tells err.old err.new }
 {
     match reason {
-        WordReason::UnknownKind => err.tell(format_args!(
-            "{word}: the kind must be product, wavefront or reduce\n"
-        )),
-        WordReason::Form(form) => err.tell(format_args!("{word}: the form must be {form}\n")),
-        WordReason::NoNumber(field) => {
-            let name = field.name();
-            err.tell(format_args!(
-                "{word}: {name} is not a number of at most six digits without leading zeros\n"
-            ))
+        WordReason::UnknownKind => {
+            err.tell_parts(&[word, ": the kind must be product, wavefront or reduce\n"])
         }
+        WordReason::Form(form) => write_form(word, form, err),
+        WordReason::NoNumber(field) => write_no_number(word, field.name(), err),
         WordReason::OutOfRange(field, number) => {
-            let name = field.name();
-            let range = field.range();
-            err.tell(format_args!("{word}: {name} {number} is {range}\n"))
+            let mut digits = Buffer::new();
+            write_range(
+                word,
+                field.name(),
+                digits.format(number),
+                field.range(),
+                err,
+            )
         }
-        WordReason::Repeated => err.tell(format_args!("{word} repeats an earlier one\n")),
-        WordReason::Undivided(side, order) => err.tell(format_args!(
-            "{word}: SIDE {side} does not divide ORDER {order}\n"
-        )),
+        WordReason::Repeated => err.tell_parts(&[word, " repeats an earlier one\n"]),
+        WordReason::Undivided(side, order) => write_undivided(word, side, order, err),
     }
+}
+
+/// Prints that a specification has more or fewer numbers than its kind.
+fn write_form<E: Diagnostics>(word: &str, form: &str, err: &mut E)
+    ensures { MayExplain E.tells err.old err.new }
+{
+    err.tell_parts(&[word, ": the form must be ", form, "\n"])
+}
+
+/// Prints that a part of a specification, of this name, is no number.
+fn write_no_number<E: Diagnostics>(word: &str, name: &str, err: &mut E)
+    ensures { MayExplain E.tells err.old err.new }
+{
+    err.tell_parts(&[
+        word,
+        ": ",
+        name,
+        " is not a number of at most six digits without leading zeros\n",
+    ])
+}
+
+/// Prints that a number of a specification, of this name, is out of range.
+fn write_range<'a, E: Diagnostics>(
+    word: &'a str,
+    name: &'a str,
+    number: &'a str,
+    range: &'a str,
+    err: &mut E,
+)
+    ensures { MayExplain E.tells err.old err.new }
+{
+    err.tell_parts(&[word, ": ", name, " ", number, " is ", range, "\n"])
+}
+
+/// Prints that the side of the tiles does not divide the order of a product.
+fn write_undivided<E: Diagnostics>(word: &str, side: u32, order: u32, err: &mut E)
+    ensures { MayExplain E.tells err.old err.new }
+{
+    let mut sides = Buffer::new();
+    let mut orders = Buffer::new();
+    err.tell_parts(&[
+        word,
+        ": SIDE ",
+        sides.format(side),
+        " does not divide ORDER ",
+        orders.format(order),
+        "\n",
+    ])
 }
 
 impl Field {
