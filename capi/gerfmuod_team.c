@@ -21,8 +21,9 @@
 /* The number of polls of a thread in one turn before it sleeps: 20 to 100 microseconds. */
 enum { SPINS = 2000, ALL_NODES = (1 << GERFMUOD_DAG_MAX_NODES) - 1 };
 
-/* How often a contended lock is retried, each time after a backoff of so many pauses at first and at most, before the thread
- * blocks: 20 to 60 microseconds in all. The lock is held for less than one; blocking and being woken costs several. */
+/* How often a contended lock is retried before the thread blocks, and the pauses of the processor before the first retry and,
+ * doubled each time, at most: up to 60 microseconds in all. A turn mostly holds the lock for less than half a microsecond;
+ * blocking and being woken costs more. docs/measurements/details.md has the measurements. */
 enum { TRIES = 12, FIRST_PAUSES = 4, MOST_PAUSES = 128 };
 
 /* Some GERFMUOD_STEP_* of gerfmuod.h. */
