@@ -2,7 +2,8 @@
  *
  * One mutex protects the pool and every field; what a thread records of a run is its own (gerfmuod_profile.h). A thread that
  * finds no task first spins on a counter of its node, if there is a processor for it, and then sleeps on a condition variable
- * of its node. News of a node, from a task that is done or from outside, raises its counter and wakes one of its threads. */
+ * of its node. News of a node, from a task that is done or from outside, raises its counter and wakes one of its threads. A
+ * thread that finds the lock held retries it with exponential backoff before it blocks. */
 #ifndef _GNU_SOURCE
 #define _GNU_SOURCE /* sched_getaffinity */
 #endif
@@ -20,6 +21,11 @@
 /* The number of polls of a thread in one turn before it sleeps: 20 to 100 microseconds. */
 enum { SPINS = 2000, ALL_NODES = (1 << GERFMUOD_DAG_MAX_NODES) - 1 };
 
+/* How often a contended lock is retried before the thread blocks, and the pauses of the processor before the first retry and,
+ * doubled each time, at most: up to 60 microseconds in all. A turn mostly holds the lock for less than half a microsecond;
+ * blocking and being woken costs more. docs/measurements/details.md has the measurements. */
+enum { TRIES = 12, FIRST_PAUSES = 4, MOST_PAUSES = 128 };
+
 /* Some GERFMUOD_STEP_* of gerfmuod.h. */
 enum { STEP_START = 10, STEP_JUDGE = 14 };
 
@@ -30,7 +36,7 @@ struct gerfmuod_team {
     uint32_t sleeping[GERFMUOD_DAG_MAX_NODES];
     uint32_t first_task[GERFMUOD_DAG_MAX_NODES]; /* of each node, or GERFMUOD_DAG_NONE */
     uint32_t nodes, tasks, processors;
-    uint32_t threads;           /* 0 until a run is started */
+    uint32_t threads;           /* 0 until a run is started; also read without the lock */
     uint32_t fault, at;         /* the refusal that ends every turn, and the task of the last refusal */
     uint32_t executing;         /* tasks that were returned and are not done */
     uint32_t waiting, spinning; /* threads that wait, and those of them that spin */
@@ -41,6 +47,35 @@ struct gerfmuod_team {
     char apart[64]; /* keeps the counters that spinning threads read off the cache lines above */
     uint32_t version[GERFMUOD_DAG_MAX_NODES]; /* incremented at news; read without the lock */
 };
+
+/* ---- the lock */
+
+static inline void pause_processor(void) {
+#if defined(__x86_64__) || defined(__i386__)
+    __builtin_ia32_pause();
+#elif defined(__aarch64__)
+    __asm__ volatile("yield");
+#endif
+}
+
+/* Retries the lock, and blocks in the end. With more threads than processors the one that holds it may not be running, and a
+ * thread that spins would keep it from that. */
+static NOINLINE void acquire_contended(gerfmuod_team *team) {
+    uint32_t pauses = FIRST_PAUSES, tries = TRIES;
+    if (__atomic_load_n(&team->threads, __ATOMIC_RELAXED) > team->processors) tries = 0;
+    for (; tries > 0; tries--) {
+        for (uint32_t i = 0; i < pauses; i++) pause_processor();
+        if (!pthread_mutex_trylock(&team->lock)) return;
+        if (pauses < MOST_PAUSES) pauses *= 2;
+    }
+    pthread_mutex_lock(&team->lock);
+}
+
+static inline void acquire(gerfmuod_team *team) {
+    if (pthread_mutex_trylock(&team->lock)) acquire_contended(team);
+}
+
+static inline void release(gerfmuod_team *team) { pthread_mutex_unlock(&team->lock); }
 
 /* ---- opening and describing */
 
@@ -155,17 +190,17 @@ static uint32_t check_description(gerfmuod_team *team) {
 
 uint32_t gerfmuod_team_task(gerfmuod_team *team, uint32_t node, uint32_t class_, const uint32_t *inputs, size_t count,
                             uint32_t *number) {
-    pthread_mutex_lock(&team->lock);
+    acquire(team);
     uint32_t refused = check_description(team);
     if (!refused) refused = describe_task(team, node, class_, inputs, count, false);
     if (!refused && number) *number = team->tasks - 1;
-    pthread_mutex_unlock(&team->lock);
+    release(team);
     return refused;
 }
 
 uint32_t gerfmuod_team_describe(gerfmuod_team *team, uint32_t tasks, const uint8_t *nodes, const uint8_t *classes,
                                 const uint32_t *offsets, const uint32_t *inputs) {
-    pthread_mutex_lock(&team->lock);
+    acquire(team);
     uint32_t refused = check_description(team), from = offsets[0];
     if (!refused && team->tasks) refused = refuse(team, GERFMUOD_DAG_WRONG_LIFE, GERFMUOD_DAG_NONE);
     for (uint32_t t = 0; t < tasks && !refused; t++) {
@@ -175,7 +210,7 @@ uint32_t gerfmuod_team_describe(gerfmuod_team *team, uint32_t tasks, const uint8
         else refused = describe_task(team, node, class_, inputs ? inputs + from : NULL, end - from, false);
         from = end;
     }
-    pthread_mutex_unlock(&team->lock);
+    release(team);
     return refused;
 }
 
@@ -206,30 +241,30 @@ static NOINLINE uint32_t hold_task(gerfmuod_team *team, uint32_t node, uint32_t 
 
 uint32_t gerfmuod_team_spawn(gerfmuod_team *team, uint32_t node, uint32_t class_, const uint32_t *inputs, size_t count,
                              uint32_t outside, gerfmuod_team_attach attach, void *data, uint32_t *number) {
-    pthread_mutex_lock(&team->lock);
+    acquire(team);
     uint32_t refused = hold_task(team, node, class_, inputs, count, outside), task = team->tasks - 1;
     if (!refused) {
         if (number) *number = task;
         if (attach) attach(data, task);
         if (team->is_complete && !outside) refused = result_of(team, gerfmuod_dag_release(&team->dag, task), task);
     }
-    pthread_mutex_unlock(&team->lock);
+    release(team);
     return refused;
 }
 
 uint32_t gerfmuod_team_outside(gerfmuod_team *team, uint32_t task) {
-    pthread_mutex_lock(&team->lock);
+    acquire(team);
     uint32_t refused = team->fault;
     if (!refused) refused = result_of(team, gerfmuod_dag_outside(&team->dag, task), task);
-    pthread_mutex_unlock(&team->lock);
+    release(team);
     return refused;
 }
 
 uint32_t gerfmuod_team_release(gerfmuod_team *team, uint32_t task) {
-    pthread_mutex_lock(&team->lock);
+    acquire(team);
     uint32_t refused = team->fault;
     if (!refused) refused = result_of(team, gerfmuod_dag_release(&team->dag, task), task);
-    pthread_mutex_unlock(&team->lock);
+    release(team);
     return refused;
 }
 
@@ -261,26 +296,18 @@ static uint32_t start(gerfmuod_team *team, uint32_t threads) {
     if (!team->is_complete) refused = gerfmuod_dag_start(&team->dag).refused;
     if (refused) return refuse(team, refused, GERFMUOD_DAG_NONE);
     team->is_complete = true;
-    team->threads = threads;
+    __atomic_store_n(&team->threads, threads, __ATOMIC_RELAXED);
     if (team->profile) profile_start(team->profile);
     tell(team, ALL_NODES, true);
     return GERFMUOD_DAG_OK;
 }
 
 uint32_t gerfmuod_team_start(gerfmuod_team *team, uint32_t threads) {
-    pthread_mutex_lock(&team->lock);
+    acquire(team);
     uint32_t refused = check_start(team, threads);
     if (!refused) refused = start(team, threads);
-    pthread_mutex_unlock(&team->lock);
+    release(team);
     return refused;
-}
-
-static inline void pause_processor(void) {
-#if defined(__x86_64__) || defined(__i386__)
-    __builtin_ia32_pause();
-#elif defined(__aarch64__)
-    __asm__ volatile("yield");
-#endif
 }
 
 static void sleep_until_news(gerfmuod_team *team, uint32_t node) {
@@ -293,12 +320,12 @@ static void sleep_until_news(gerfmuod_team *team, uint32_t node) {
 static uint32_t spin_until_news(gerfmuod_team *team, uint32_t node, uint32_t spins) {
     uint32_t seen = __atomic_load_n(&team->version[node], __ATOMIC_RELAXED);
     team->spinning++;
-    pthread_mutex_unlock(&team->lock);
+    release(team);
     while (spins > 0 && __atomic_load_n(&team->version[node], __ATOMIC_RELAXED) == seen) {
         pause_processor();
         spins--;
     }
-    pthread_mutex_lock(&team->lock);
+    acquire(team);
     team->spinning--;
     return spins;
 }
@@ -352,7 +379,7 @@ static inline ALWAYS_INLINE gerfmuod_dag_answer turn_with(struct profile *profil
     struct turn turn = {0, 0};
     if (profile && done == GERFMUOD_DAG_NONE) turn.begun = ticks_now(profile);
     else if (profile) profile_end_body(profile, done);
-    pthread_mutex_lock(&team->lock);
+    acquire(team);
     if (node < team->nodes) {
         if (done != GERFMUOD_DAG_NONE && !team->fault) {
             answer = gerfmuod_dag_done(&team->dag, node, done);
@@ -365,7 +392,7 @@ static inline ALWAYS_INLINE gerfmuod_dag_answer turn_with(struct profile *profil
         }
         answer = take(team, node, &turn.waited);
     }
-    pthread_mutex_unlock(&team->lock);
+    release(team);
     if (profile && node < team->nodes) profile_end_turn(profile, node, task_of(answer), turn);
     return answer;
 }
@@ -380,9 +407,9 @@ gerfmuod_dag_answer gerfmuod_team_turn(gerfmuod_team *team, uint32_t node, uint3
 
 void gerfmuod_team_stop(gerfmuod_team *team, uint32_t task) {
     if (task != GERFMUOD_DAG_NONE && team->profile) profile_end_body(team->profile, task);
-    pthread_mutex_lock(&team->lock);
+    acquire(team);
     if (!team->is_over) fail(team, GERFMUOD_TEAM_STOPPED, task);
-    pthread_mutex_unlock(&team->lock);
+    release(team);
 }
 
 /* The state that the threads of one run share. They wait at the gate until it is known that all of them started. */
@@ -430,11 +457,11 @@ static uint32_t run_workers(gerfmuod_team *team, struct run *run, struct worker 
         workers[begun] = (struct worker){.run = run, .node = begun % team->nodes};
         if (pthread_create(&workers[begun].thread, NULL, worker_thread, &workers[begun])) break;
     }
-    pthread_mutex_lock(&team->lock);
+    acquire(team);
     uint32_t refused = begun < threads ? refuse(team, GERFMUOD_TEAM_NOT_STARTED, GERFMUOD_DAG_NONE) : start(team, threads);
     run->state = refused ? ABANDONED : OPEN;
     pthread_cond_broadcast(&run->gate);
-    pthread_mutex_unlock(&team->lock);
+    release(team);
     if (!refused) run_tasks(run, 0);
     for (uint32_t w = 1; w < begun; w++) pthread_join(workers[w].thread, NULL);
     return refused ? refused : team->fault;
@@ -442,10 +469,10 @@ static uint32_t run_workers(gerfmuod_team *team, struct run *run, struct worker 
 
 uint32_t gerfmuod_team_run(gerfmuod_team *team, uint32_t threads, gerfmuod_team_body body, void *context) {
     struct run run = {.team = team, .body = body, .context = context, .state = SHUT};
-    pthread_mutex_lock(&team->lock);
+    acquire(team);
     uint32_t refused = check_start(team, threads);
     if (!refused) team->is_in_run = true;
-    pthread_mutex_unlock(&team->lock);
+    release(team);
     if (refused) return refused;
     struct worker *workers = calloc(threads, sizeof *workers);
     if (workers) {
@@ -456,35 +483,35 @@ uint32_t gerfmuod_team_run(gerfmuod_team *team, uint32_t threads, gerfmuod_team_
     } else {
         refused = GERFMUOD_DAG_NO_MEMORY;
     }
-    pthread_mutex_lock(&team->lock);
+    acquire(team);
     team->is_in_run = false;
-    pthread_mutex_unlock(&team->lock);
+    release(team);
     return refused;
 }
 
 uint32_t gerfmuod_team_again(gerfmuod_team *team) {
-    pthread_mutex_lock(&team->lock);
+    acquire(team);
     uint32_t refused = team->fault;
     /* a thread that waits is in a turn of the run that ended */
     if (!refused && (team->is_in_run || team->waiting)) refused = refuse(team, GERFMUOD_TEAM_RUNNING, GERFMUOD_DAG_NONE);
     if (!refused) refused = result_of(team, gerfmuod_dag_again(&team->dag), GERFMUOD_DAG_NONE);
-    if (!refused) team->threads = 0, team->is_over = false;
-    pthread_mutex_unlock(&team->lock);
+    if (!refused) __atomic_store_n(&team->threads, 0, __ATOMIC_RELAXED), team->is_over = false;
+    release(team);
     return refused;
 }
 
 uint32_t gerfmuod_team_at(gerfmuod_team *team) {
     if (!team) return GERFMUOD_DAG_NONE;
-    pthread_mutex_lock(&team->lock);
+    acquire(team);
     uint32_t at = team->at;
-    pthread_mutex_unlock(&team->lock);
+    release(team);
     return at;
 }
 
 /* ---- times of a run */
 
 uint32_t gerfmuod_team_record(gerfmuod_team *team, uint32_t slices) {
-    pthread_mutex_lock(&team->lock);
+    acquire(team);
     uint32_t refused = check_description(team);
     if (!refused && team->tasks) refused = refuse(team, GERFMUOD_DAG_WRONG_LIFE, GERFMUOD_DAG_NONE);
     if (!refused) {
@@ -492,7 +519,7 @@ uint32_t gerfmuod_team_record(gerfmuod_team *team, uint32_t slices) {
         if (slices && !profile) refused = refuse(team, GERFMUOD_DAG_NO_MEMORY, GERFMUOD_DAG_NONE);
         else profile_close(team->profile), team->profile = profile;
     }
-    pthread_mutex_unlock(&team->lock);
+    release(team);
     return refused;
 }
 
@@ -507,7 +534,7 @@ static uint32_t check_recorded(gerfmuod_team *team) {
 /* Writes a text about the run that was recorded: the events, or the summary. */
 static uint32_t write_recorded(gerfmuod_team *team, FILE *file, bool is_summary) {
     struct times times;
-    pthread_mutex_lock(&team->lock);
+    acquire(team);
     uint32_t refused = check_recorded(team);
     if (!refused && !profile_times(team->profile, &times)) refused = refuse(team, GERFMUOD_DAG_NO_MEMORY, GERFMUOD_DAG_NONE);
     if (!refused) {
@@ -516,7 +543,7 @@ static uint32_t write_recorded(gerfmuod_team *team, FILE *file, bool is_summary)
         free(times.tasks);
         if (fflush(file) || ferror(file)) refused = refuse(team, GERFMUOD_TEAM_NOT_WRITTEN, GERFMUOD_DAG_NONE);
     }
-    pthread_mutex_unlock(&team->lock);
+    release(team);
     return refused;
 }
 
@@ -600,7 +627,7 @@ size_t gerfmuod_team_trace(gerfmuod_team *team, char *room, size_t length) {
     struct text text = {room, length, 0};
     uint32_t waves = 0;
     gerfmuod_dag_taken step;
-    pthread_mutex_lock(&team->lock);
+    acquire(team);
     uint32_t last_wave = team->is_over ? team->waves : 0;
     if (team->is_traced) {
         append(&text, "trace 1\nnodes");
@@ -611,7 +638,7 @@ size_t gerfmuod_team_trace(gerfmuod_team *team, char *room, size_t length) {
         waves += step.kind == STEP_START;
         append_step(&text, step, waves, last_wave);
     }
-    pthread_mutex_unlock(&team->lock);
+    release(team);
     if (length) room[text.written < length ? text.written : length - 1] = 0;
     return text.written;
 }
