@@ -1,5 +1,5 @@
 -- How a run ends on a terminal.
-use Rattle.std.proofs.Common.{◌≡◌, ◌∙◌, ◌⊎◌, ℕ, List, Option, Result, Ok, Err, IfErr, IfOk, ap, arith, inl, inr, refl, subst, sym}
+use Rattle.std.proofs.Common.{◌≡◌, ◌∙◌, ◌⊎◌, ℕ, List, Option, Result, Ok, Err, IfErr, IfOk, ap, arith, inl, inr, subst, sym}
 use Rattle.clap.specs.Words.{Text}
 use Rattle.tp_cli.proofs.Ending.{faulty, if_done, if_failed, if_fault, if_refused, written_status}
 use Rattle.tp_cli.specs.Ends.{CouldNotWrite, HasAnswered, HasNothing, RefusedPool, RefusedText, Succeeded}
