@@ -1,13 +1,13 @@
 -- Why there are no prefix sums.
-use Rattle.std.specs.Prelude.{ℕ, ℤ, ◌≤◌, ◌-◌, ◌^◌, List, length}
+use Rattle.std.specs.Prelude.{ℕ, ℤ, ◌≤◌, ◌^◌, List, length}
 use Rattle.pool_kernels.specs.GridFaults.{IsGridFault}
-use Rattle.prefix.specs.Prefixes.{doubling, prefix_rule}
+use Rattle.prefix.specs.Prefixes.{AreRows, doubling, prefix_rule}
 use Rattle.prefix.specs.declared.sums.PrefixFault.{PrefixFault}
 use Rattle.prefix.specs.declared.sums.PrefixFault.TheVariants.{Grid, TooMany}
 
--- At n nodes, with this many workers at each: there are too many numbers, or a grid of enough rows has exactly the fault
--- that is returned.
+-- At n nodes, with this many workers at each: there are too many numbers, or the grid of the fewest rows that are enough
+-- has exactly the fault that is returned.
 abbrev pub IsPrefixFault : ℕ → ℕ → List ℤ → PrefixFault → Type 0
 IsPrefixFault n workers xs TooMany = 2 ^ 20 ≤ length xs
 IsPrefixFault n workers xs (Grid fault) =
-    (rows : ℕ) × (length xs ≤ 2 ^ (rows - 1)) × IsGridFault n workers doubling (prefix_rule xs) (length xs) rows fault
+    (rows : ℕ) × AreRows (length xs) rows × IsGridFault n workers doubling (prefix_rule xs) (length xs) rows fault

@@ -3,7 +3,9 @@
 //! input are at fault, and 3 if reading or writing fails, or memory runs out there.
 #![tactic(auto)]
 
-ghost use Rattle.std.specs.Prelude.{IfOk};
+ghost use Rattle.std.specs.Prelude.{◌≡◌, ◌≢◌, ◌≤◌, ◌⊎◌, IfOk, IsErr, MatchResult};
+ghost use Rattle.clap.specs.Values.{kind_of};
+ghost use Rattle.clap.specs.declared.error.kind.ErrorKind.TheVariants.{DisplayHelp, OutOfMemory};
 ghost use Rattle.tp_work.specs.Outcomes.{IsWithinLimits};
 
 mod kernel;
@@ -32,7 +34,9 @@ fn main(rt: HostRuntime) -> ExitCode {
 /// Reads, computes and prints. Returns the exit status, or why reading or writing failed.
 fn run<R: Threads + Wait + Sync + Env + Input + Print + Eprint + AllocGlobal>(
     rt: &R,
-) -> io::Result<u8> {
+) -> io::Result<u8>
+    ensures { IfOk result (λ status. status ≤ 2) }
+{
     match config_asked(rt)? {
         Ok(config) => sum_up(rt, config),
         Err(status) => Ok(status),
@@ -41,11 +45,15 @@ fn run<R: Threads + Wait + Sync + Env + Input + Print + Eprint + AllocGlobal>(
 
 /// Returns the numbers of nodes and workers, or the exit status if the arguments ask for help or are at fault.
 fn config_asked<R: Env + Print + Eprint + AllocGlobal>(rt: &R) -> io::Result<Result<Config, u8>>
-    ensures { IfOk result (λ asked. IfOk asked IsWithinLimits) }
+    ensures { IfOk result (λ asked. MatchResult asked IsWithinLimits (λ status. (status ≡ 0) ⊎ (status ≡ 2))) }
 {
-    let Ok(arguments) = arguments(rt) else {
-        eprintln!(rt; "the arguments cannot be read")?;
-        return Ok(Err(2));
+    let arguments = match arguments(rt) {
+        Ok(arguments) => arguments,
+        Err(io::ErrorKind::OutOfMemory) => return Err(io::ErrorKind::OutOfMemory.into()),
+        Err(_) => {
+            eprintln!(rt; "the arguments are not text")?;
+            return Ok(Err(2));
+        }
     };
     let words = words_of(rt.alloc(), &arguments)?;
     let command = with_counts(rt.alloc(), Command::new(rt.alloc(), "prefix"))?;
@@ -56,12 +64,17 @@ fn config_asked<R: Env + Print + Eprint + AllocGlobal>(rt: &R) -> io::Result<Res
 }
 
 /// Prints help if the arguments ask for it, and else what is wrong with them. Returns the exit status.
-fn show(rt: &(impl Print + Eprint), error: &Error) -> io::Result<u8> {
+fn show(rt: &(impl Print + Eprint), error: &Error) -> io::Result<u8>
+    ensures status { IfOk result (λ status.
+        ((status ≡ 0) × (kind_of error.now ≡ DisplayHelp)) ⊎ ((status ≡ 2) × (kind_of error.now ≢ DisplayHelp))) }
+    ensures memory { kind_of error.now ≡ OutOfMemory → IsErr result }
+{
     match error.kind() {
         ErrorKind::DisplayHelp => {
             print!(rt; "{error}")?;
             Ok(0)
         }
+        ErrorKind::OutOfMemory => Err(io::ErrorKind::OutOfMemory.into()),
         _ => {
             eprint!(rt; "{error}")?;
             Ok(2)
@@ -75,6 +88,7 @@ fn sum_up<R: Threads + Wait + Sync + Input + Print + Eprint + AllocGlobal>(
     config: Config,
 ) -> io::Result<u8>
     requires { IsWithinLimits config }
+    ensures { IfOk result (λ status. status ≤ 2) }
 {
     let Some(numbers) = numbers_of(rt)? else {
         eprintln!(rt; "a line is no whole number of 64 bits")?;
@@ -99,7 +113,9 @@ fn numbers_of(rt: &(impl Input + AllocGlobal)) -> io::Result<Option<Vec<i64>>> {
 }
 
 /// Prints numbers, one a line. Returns the exit status.
-fn print_all(rt: &impl Print, numbers: &[i64]) -> io::Result<u8> {
+fn print_all(rt: &impl Print, numbers: &[i64]) -> io::Result<u8>
+    ensures { IfOk result (λ status. status ≡ 0) }
+{
     for number in numbers {
         println!(rt; "{number}")?;
     }
@@ -107,7 +123,9 @@ fn print_all(rt: &impl Print, numbers: &[i64]) -> io::Result<u8> {
 }
 
 /// Prints why there are no sums. Returns the exit status.
-fn complain(rt: &impl Eprint, fault: &PrefixFault) -> io::Result<u8> {
+fn complain(rt: &impl Eprint, fault: &PrefixFault) -> io::Result<u8>
+    ensures { IfOk result (λ status. status ≡ 1) }
+{
     match fault {
         PrefixFault::TooMany => eprintln!(rt; "there are 1,048,576 numbers or more")?,
         PrefixFault::Grid(GridFault::Table(fault)) => eprintln!(rt; "no grid: {fault:?}")?,

@@ -1,7 +1,7 @@
 //! Prefix sums, computed by a pool of threads.
-ghost use Rattle.std.specs.Prelude.{◌≡◌, ◌≤◌, ◌<◌, ◌-◌, ◌^◌, IfErr, IfOk, length};
+ghost use Rattle.std.specs.Prelude.{◌≡◌, ◌≤◌, ◌<◌, ◌^◌, IfErr, IfOk};
 ghost use Rattle.prefix.specs.Faults.{IsPrefixFault};
-ghost use Rattle.prefix.specs.Prefixes.{prefixes};
+ghost use Rattle.prefix.specs.Prefixes.{AreRows, prefixes};
 ghost use Rattle.tp_work.specs.Outcomes.{IsWithinLimits};
 
 use crate::kernel::Prefix;
@@ -51,11 +51,15 @@ pub(crate) fn prefix_sums<R: Threads + Wait + Sync>(
     }
 }
 
-/// Returns how many rows the sums of this many numbers take: after row t, a sum has 2^t numbers.
+/// Returns how many rows the sums of this many numbers take: in row t, a sum has up to 2^t numbers.
 fn rows_for(width: u32) -> u32
     requires { width < 2 ^ 20 }
-    ensures whole { width ≤ 2 ^ (result - 1) }
-    ensures few { (1 ≤ result) × (result ≤ 21) }
+    ensures rows { AreRows width result }
+    ensures few { result ≤ 21 }
 {
-    if width == 0 { 1 } else { width.ilog2() + 2 }
+    if width <= 1 {
+        1
+    } else {
+        (width - 1).ilog2() + 2
+    }
 }
