@@ -12,7 +12,7 @@
  *     inputs was reported as done, and was received as a message if it comes from another node, and each of its inputs from
  *     outside was released;
  *   - it returns GERFMUOD_DAG_OVER only if each task of the graph was returned and reported as done, each once, and no
- *     message is under way; it returns GERFMUOD_DAG_WAIT only if a task is not done, or a message is under way or being received;
+ *     message is under way; and GERFMUOD_DAG_WAIT only if a task is not done, or a message is under way or being received;
  *   - no silent wait: while not all tasks are done and no input from outside is awaited, some task runs, or
  *     gerfmuod_dag_next at some node returns a task or receives a message;
  *   - a call is refused only for a reason named below, the first that applies, and then changes nothing. If it is refused
