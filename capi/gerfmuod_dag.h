@@ -12,14 +12,15 @@
  *     inputs was reported as done, and was received as a message if it comes from another node, and each of its inputs from
  *     outside was released;
  *   - it returns GERFMUOD_DAG_OVER only if each task of the graph was returned and reported as done, each once, and no
- *     message is under way;
+ *     message is under way; and GERFMUOD_DAG_WAIT only if a task is not done, or a message is under way or being received;
  *   - no silent wait: while not all tasks are done and no input from outside is awaited, some task runs, or
  *     gerfmuod_dag_next at some node returns a task or receives a message;
- *   - a call is refused for the first reason that applies, in the order named below, and then changes nothing. If it is
- *     refused because steps or memory run out, the graph stays as it was described; if memory ran out, the call may be repeated.
+ *   - a call is refused only for a reason named below, the first that applies, and then changes nothing. If it is refused
+ *     because steps or memory run out, the graph stays as it was described; if memory ran out, the call may be repeated.
  *
- * Not proved: that any thread makes the call that the third guarantee names, anything about time, the two headers and
- * gerfmuod_team.c, which are C, and your bodies. Preconditions, which nothing checks:
+ * Not proved: that any thread makes the call that the third guarantee names, that a call which reports a lack of steps or
+ * memory had none left, the place of such a lack, of ENDED and of INACTIVE in the order of reasons, anything about time, the
+ * two headers and gerfmuod_team.c, which are C, and your bodies. Preconditions, which nothing checks:
  *   - one call on a pool at a time: protect the calls with a mutex. Different pools may be used at the same time;
  *   - memory of a pool that was opened at least once, at an address that is a multiple of 8. No other code reads or writes it;
  *   - gerfmuod_dag_done is called after the last write of a body, gerfmuod_dag_next before the first read of the next one.
@@ -156,7 +157,8 @@ gerfmuod_dag_answer gerfmuod_dag_done(gerfmuod_dag *dag, uint32_t node, uint32_t
 /* The same graph once more, after GERFMUOD_DAG_OVER: all tasks wait again for their inputs, and gerfmuod_dag_next may be
  * called at once. Inputs from outside have to be declared again, which a task without inputs cannot do: it may be returned at
  * any time. The steps are those of the new run. Refused, and nothing changes: WRONG_LIFE if gerfmuod_dag_next has not returned
- * OVER, or if a task or an input was added after the start; NO_MEMORY if the pool is traced. */
+ * OVER, or if a task or an input was added after the start; NO_MEMORY if the pool is traced. (Not proved: that it is never
+ * refused as HISTORY_FULL.) */
 gerfmuod_dag_answer gerfmuod_dag_again(gerfmuod_dag *dag);
 
 /* The step with number k, from 0. Its kind is 255 if there is none, or if the pool is not traced or not open. */

@@ -11,16 +11,19 @@ use Rattle.tp_dag.specs.Again.{IsAgain}
 use Rattle.tp_dag.specs.declared.Next.{Next}
 use Rattle.tp_dag.specs.declared.Next.TheVariants.{Run, Wait, Finished}
 use Rattle.tp_dag.specs.declared.entry.Stage.TheVariants as stage
-use Rattle.tp_dag.specs.State.{PoolState, AddsOnly, SameGraph, IsTaskAdded, IsInputAdded, IsFinished, IsDispatched, IsCompleted}
-use Rattle.tp_dag.specs.State.{IsIdle, MayWait, AreDelivered, AreSent, BeginsMore, dispatched, extends, task_checks, input_checks}
-use Rattle.tp_dag.specs.State.{next_checks, done_checks}
-use Rattle.tp_dag.specs.Journal.{is_delivery, is_sending}
+use Rattle.tp_dag.specs.State.{PoolState, AddsOnly, SameGraph, IsTaskAdded, IsInputAdded, IsStarted, IsFinished, IsDispatched, IsCompleted}
+use Rattle.tp_dag.specs.State.{IsOutsideAdded, IsReleased}
+use Rattle.tp_dag.specs.State.{IsIdle, IsNotQuiet, HasEndedMessages, MayWait, AreDelivered, AreSent, BeginsMore, dispatched, extends}
+use Rattle.tp_dag.specs.State.{task_checks, input_checks, start_checks, outside_checks, release_checks, next_checks, done_checks}
+use Rattle.tp_dag.specs.Journal.{is_readying, is_delivery, is_sending}
 use Rattle.tp_dag.proofs.Ended.{none_begins}
 use Rattle.tp_dag.proofs.Steps.{same_graph, adds_none}
 use Rattle.gerfmuod.specs.declared.dag.answer.DagAnswer.{DagAnswer}
 use Rattle.gerfmuod.specs.declared.dag.slot.PoolSlot.TheInside.{Inside}
 use Rattle.gerfmuod.specs.DagSlot.{state_of}
-use Rattle.gerfmuod.specs.Dag.{SlotState, RefusesBy, IsTask, IsInput, IsInputRefusal, IsNext, IsRefusalBy, IsDone, IsAgainCall}
+use Rattle.gerfmuod.specs.Dag.{SlotState, RefusesBy, IsTask, IsTaskRefusal, IsInput, IsInputRefusal, IsStart, IsStartRefusal, IsNext}
+use Rattle.gerfmuod.specs.Dag.{IsOutside, IsOutsideRefusal, IsRelease}
+use Rattle.gerfmuod.specs.Dag.{IsRefusalBy, IsDone, IsAgainCall, IsAgainRefusal}
 use Rattle.gerfmuod.specs.Dag.{checks, next_answer, plain, refusal_answer}
 
 -- The number of a refusal is at least 1.
@@ -120,18 +123,115 @@ task_done p now pool node class number same live check is =
           (none_refused {A = ℕ} (first_refusal (task_checks p.pool node class)) number _ check);
       added = λ z. is;
       refused = λ s. absurd (omega (arith, s));
+      exact = λ live s. absurd (omega (arith, s));
     })
 
 pub task_refused : (p : Inside) (now : SlotState) (pool : PoolState) (node class : ℕ) (e : Refusal) → state_of p ≡ now → IsTrue now.is_open
     → IfSome (first_refusal (task_checks p.pool node class)) (λ r. Same ℕ (Err e) (Err r)) → pool ≡ p.pool
-    → IsTask now node class (refusal_answer e) (state_of (record p { pool = pool }))
-task_refused p now pool node class e same live check is =
+    → IsTaskRefusal node class p.pool e → IsTask now node class (refusal_answer e) (state_of (record p { pool = pool }))
+task_refused p now pool node class e same live check is exact =
     let still : state_of (record p { pool = pool }) ≡ state_of p = slot_same (state_of p) (state_of (record p { pool = pool })) refl is in
     subst (λ (a : SlotState). IsTask a node class (refusal_answer e) (state_of (record p { pool = pool }))) same (record {
       checked = open_refuses (state_of p) (state_of (record p { pool = pool })) (task_checks p.pool node class) (refusal_answer e)
           (ap (λ (a : SlotState). a.is_open) same ∙ live) (by_check ℕ (first_refusal (task_checks p.pool node class)) e still check);
       added = λ z. absurd (not_zero e (number_of e) refl z);
       refused = λ s. still;
+      exact = λ live s. (e, refl, exact);
+    })
+
+-- ---- start
+pub start_shut : (now : SlotState) → IsFalse now.is_open → IsStart now (refusal_answer refusal.NoPool) now
+start_shut now shut = record {
+  checked = shut_refuses now (start_checks now.pool) shut;
+  started = λ z. absurd (not_zero refusal.NoPool (number_of refusal.NoPool) refl z);
+  refused = λ s. adds_none is_readying now.pool;
+  ways = refl;
+  exact = λ live s. absurd (both_ways now.is_open shut live);
+}
+
+pub start_done : (p : Inside) (now : SlotState) (pool : PoolState) → state_of p ≡ now → IsTrue now.is_open
+    → IfSome (first_refusal (start_checks p.pool)) (λ r. Same (Unit {0}) (Ok tt) (Err r) × (pool ≡ p.pool))
+    → IsStarted p.pool pool → pool.ways ≡ p.pool.ways → IsStart now (plain 0 0) (state_of (record p { pool = pool }))
+start_done p now pool same live check is ways =
+    subst (λ (a : SlotState). IsStart a (plain 0 0) (state_of (record p { pool = pool }))) same (record {
+      checked = open_refuses (state_of p) (state_of (record p { pool = pool })) (start_checks p.pool) (plain 0 0)
+          (ap (λ (a : SlotState). a.is_open) same ∙ live)
+          (passed {A = Unit {0}} (first_refusal (start_checks p.pool)) tt (pool ≡ p.pool) _ check);
+      started = λ z. is;
+      refused = λ s. absurd (omega (arith, s));
+      ways = ways;
+      exact = λ live s. absurd (omega (arith, s));
+    })
+
+pub start_refused : (p : Inside) (now : SlotState) (pool : PoolState) (e : Refusal) → state_of p ≡ now → IsTrue now.is_open
+    → IfSome (first_refusal (start_checks p.pool)) (λ r. Same (Unit {0}) (Err e) (Err r) × (pool ≡ p.pool))
+    → AddsOnly is_readying p.pool pool → pool.ways ≡ p.pool.ways → IsStartRefusal p.pool e
+    → IsStart now (refusal_answer e) (state_of (record p { pool = pool }))
+start_refused p now pool e same live check is ways exact =
+    subst (λ (a : SlotState). IsStart a (refusal_answer e) (state_of (record p { pool = pool }))) same (record {
+      checked = open_refuses (state_of p) (state_of (record p { pool = pool })) (start_checks p.pool) (refusal_answer e)
+          (ap (λ (a : SlotState). a.is_open) same ∙ live)
+          (failed (Unit {0}) (first_refusal (start_checks p.pool)) e (pool ≡ p.pool) (state_of (record p { pool = pool }) ≡ state_of p)
+          (slot_same (state_of p) (state_of (record p { pool = pool })) refl) check);
+      started = λ z. absurd (not_zero e (number_of e) refl z);
+      refused = λ s. is;
+      ways = ways;
+      exact = λ live s. (e, refl, exact);
+    })
+
+-- ---- outside
+pub outside_done : (p : Inside) (now : SlotState) (pool : PoolState) (task : ℕ) → state_of p ≡ now → IsTrue now.is_open
+    → IfSome (first_refusal (outside_checks p.pool task)) (λ r. Same (Unit {0}) (Ok tt) (Err r)) → IsOutsideAdded task p.pool pool
+    → IsOutside now task (plain 0 0) (state_of (record p { pool = pool }))
+outside_done p now pool task same live check is =
+    subst (λ (a : SlotState). IsOutside a task (plain 0 0) (state_of (record p { pool = pool }))) same (record {
+      checked = open_refuses (state_of p) (state_of (record p { pool = pool })) (outside_checks p.pool task) (plain 0 0)
+          (ap (λ (a : SlotState). a.is_open) same ∙ live)
+          (none_refused {A = Unit {0}} (first_refusal (outside_checks p.pool task)) tt _ check);
+      added = λ z. is;
+      refused = λ s. absurd (omega (arith, s));
+      exact = λ live s. absurd (omega (arith, s));
+    })
+
+pub outside_refused : (p : Inside) (now : SlotState) (pool : PoolState) (task : ℕ) (e : Refusal) → state_of p ≡ now → IsTrue now.is_open
+    → IfSome (first_refusal (outside_checks p.pool task)) (λ r. Same (Unit {0}) (Err e) (Err r)) → pool ≡ p.pool
+    → IsOutsideRefusal task p.pool e → IsOutside now task (refusal_answer e) (state_of (record p { pool = pool }))
+outside_refused p now pool task e same live check is exact =
+    let still : state_of (record p { pool = pool }) ≡ state_of p = slot_same (state_of p) (state_of (record p { pool = pool })) refl is in
+    subst (λ (a : SlotState). IsOutside a task (refusal_answer e) (state_of (record p { pool = pool }))) same (record {
+      checked = open_refuses (state_of p) (state_of (record p { pool = pool })) (outside_checks p.pool task) (refusal_answer e)
+          (ap (λ (a : SlotState). a.is_open) same ∙ live)
+          (by_check (Unit {0}) (first_refusal (outside_checks p.pool task)) e still check);
+      added = λ z. absurd (not_zero e (number_of e) refl z);
+      refused = λ s. still;
+      exact = λ live s. (e, refl, exact);
+    })
+
+-- ---- release
+pub release_done : (p : Inside) (now : SlotState) (pool : PoolState) (task news : ℕ) → state_of p ≡ now → IsTrue now.is_open
+    → IfSome (first_refusal (release_checks p.pool task)) (λ r. Same ℕ (Ok news) (Err r)) → IsReleased task p.pool pool
+    → IsRelease now task (plain 0 news) (state_of (record p { pool = pool }))
+release_done p now pool task news same live check is =
+    subst (λ (a : SlotState). IsRelease a task (plain 0 news) (state_of (record p { pool = pool }))) same (record {
+      checked = open_refuses (state_of p) (state_of (record p { pool = pool })) (release_checks p.pool task) (plain 0 news)
+          (ap (λ (a : SlotState). a.is_open) same ∙ live)
+          (none_refused {A = ℕ} (first_refusal (release_checks p.pool task)) news _ check);
+      released = λ z. is;
+      refused = λ s. absurd (omega (arith, s));
+      exact = λ live s. absurd (omega (arith, s));
+    })
+
+pub release_refused : (p : Inside) (now : SlotState) (pool : PoolState) (task : ℕ) (e : Refusal) → state_of p ≡ now → IsTrue now.is_open
+    → IfSome (first_refusal (release_checks p.pool task)) (λ r. Same ℕ (Err e) (Err r)) → pool ≡ p.pool
+    → (first_refusal (release_checks p.pool task) ≡ Some e) → IsRelease now task (refusal_answer e) (state_of (record p { pool = pool }))
+release_refused p now pool task e same live check is exact =
+    let still : state_of (record p { pool = pool }) ≡ state_of p = slot_same (state_of p) (state_of (record p { pool = pool })) refl is in
+    subst (λ (a : SlotState). IsRelease a task (refusal_answer e) (state_of (record p { pool = pool }))) same (record {
+      checked = open_refuses (state_of p) (state_of (record p { pool = pool })) (release_checks p.pool task) (refusal_answer e)
+          (ap (λ (a : SlotState). a.is_open) same ∙ live) (by_check ℕ (first_refusal (release_checks p.pool task)) e still check);
+      released = λ z. absurd (not_zero e (number_of e) refl z);
+      refused = λ s. still;
+      exact = λ live s. (e, refl, exact);
     })
 
 -- ---- next
@@ -142,6 +242,8 @@ next_shut now node shut = record {
   run = λ z. absurd (omega (arith, z));
   finished = λ z. absurd (omega (arith, z));
   wait = λ z. absurd (omega (arith, z));
+  left = λ z. absurd (omega (arith, z));
+  ended = λ z. absurd (not_zero refusal.NoPool (number_of refusal.NoPool) refl z);
   refused = λ z. adds_none is_delivery now.pool;
   graph = same_graph now.pool;
   ways = λ k. inl refl;
@@ -152,11 +254,11 @@ pub next_done : (p : Inside) (now : SlotState) (pool : PoolState) (node news : �
     → IfSome (first_refusal (next_checks p.pool node)) (λ r. Same Next (Ok n) (Err r) × (pool ≡ p.pool))
     → ((t : ℕ) → n ≡ Run t → IsDispatched node t p.pool pool) → ((w : ℕ) → n ≡ Finished w → IsFinished pool)
     → (Same Next (Ok n) (Ok Wait) → IsIdle node pool) → (Same Next (Ok n) (Ok Wait) → AddsOnly is_delivery p.pool pool)
-    → SameGraph p.pool pool → AreDelivered node p.pool pool
+    → (Same Next (Ok n) (Ok Wait) → IsNotQuiet pool) → HasEndedMessages node pool → SameGraph p.pool pool → AreDelivered node p.pool pool
     → BeginsMore (dispatched (Ok n)) p.pool pool
     → IsNext now node (next_answer n news) (state_of (record p { pool = pool }))
-next_done p now pool node news n same live check run finished wait waiting graph ways begun =
-    subst (λ (a : SlotState). IsNext a node (next_answer n news) new) same (by_kind n check run finished wait waiting begun)
+next_done p now pool node news n same live check run finished wait waiting left ended graph ways begun =
+    subst (λ (a : SlotState). IsNext a node (next_answer n news) new) same (by_kind n check run finished wait waiting left begun)
   where
     new : SlotState
     new = state_of (record p { pool = pool })
@@ -167,39 +269,45 @@ next_done p now pool node news n same live check run finished wait waiting graph
     by_kind : (m : Next) → IfSome (first_refusal (next_checks p.pool node)) (λ r. Same Next (Ok m) (Err r) × (pool ≡ p.pool))
         → ((t : ℕ) → m ≡ Run t → IsDispatched node t p.pool pool) → ((w : ℕ) → m ≡ Finished w → IsFinished pool)
         → (Same Next (Ok m) (Ok Wait) → IsIdle node pool) → (Same Next (Ok m) (Ok Wait) → AddsOnly is_delivery p.pool pool)
-        → BeginsMore (dispatched (Ok m)) p.pool pool
+        → (Same Next (Ok m) (Ok Wait) → IsNotQuiet pool) → BeginsMore (dispatched (Ok m)) p.pool pool
         → IsNext (state_of p) node (next_answer m news) new
-    by_kind (Run u) c r f w d b = record {
+    by_kind (Run u) c r f w d q b = record {
       checked = open_refuses (state_of p) new (next_checks p.pool node) (next_answer (Run u) news) here
           (passed {A = Next} (first_refusal (next_checks p.pool node)) (Run u) (pool ≡ p.pool) _ c);
       exact = λ live z. absurd (omega (arith, z));
       run = λ z. r u refl;
       finished = λ z. absurd (omega (arith, z));
       wait = λ z. absurd (omega (arith, z));
+      left = λ z. absurd (omega (arith, z));
+      ended = λ z. ended;
       refused = λ z. absurd (omega (arith, z));
       graph = graph;
       ways = ways;
       begun = b;
     }
-    by_kind Wait c r f w d b = record {
+    by_kind Wait c r f w d q b = record {
       checked = open_refuses (state_of p) new (next_checks p.pool node) (next_answer Wait news) here
           (passed {A = Next} (first_refusal (next_checks p.pool node)) Wait (pool ≡ p.pool) _ c);
       exact = λ live z. absurd (omega (arith, z));
       run = λ z. absurd (omega (arith, z));
       finished = λ z. absurd (omega (arith, z));
       wait = λ z. (w refl, d refl);
+      left = λ z. q refl;
+      ended = λ z. ended;
       refused = λ z. absurd (omega (arith, z));
       graph = graph;
       ways = ways;
       begun = b;
     }
-    by_kind (Finished v) c r f w d b = record {
+    by_kind (Finished v) c r f w d q b = record {
       checked = open_refuses (state_of p) new (next_checks p.pool node) (next_answer (Finished v) news) here
           (passed {A = Next} (first_refusal (next_checks p.pool node)) (Finished v) (pool ≡ p.pool) _ c);
       exact = λ live z. absurd (omega (arith, z));
       run = λ z. absurd (omega (arith, z));
       finished = λ z. f v refl;
       wait = λ z. absurd (omega (arith, z));
+      left = λ z. absurd (omega (arith, z));
+      ended = λ z. ended;
       refused = λ z. absurd (omega (arith, z));
       graph = graph;
       ways = ways;
@@ -221,6 +329,8 @@ next_refused p now pool node e same live check err exact graph ways begun =
       run = λ z. absurd (omega (arith, z));
       finished = λ z. absurd (omega (arith, z));
       wait = λ z. absurd (omega (arith, z));
+      left = λ z. absurd (omega (arith, z));
+      ended = λ z. absurd (not_zero e (number_of e) refl z);
       refused = λ z. err;
       graph = graph;
       ways = ways;
@@ -317,11 +427,12 @@ again_done p now pool same live finished described is =
       described = λ z. described;
       again = λ z. is;
       refused = λ s. absurd (omega (arith, s));
+      exact = λ live s. absurd (omega (arith, s));
     })
 
 pub again_refused : (p : Inside) (now : SlotState) (pool : PoolState) (e : Refusal) → state_of p ≡ now → IsTrue now.is_open → pool ≡ p.pool
-    → IsAgainCall now (refusal_answer e) (state_of (record p { pool = pool }))
-again_refused p now pool e same live is =
+    → IsAgainRefusal p.pool e → IsAgainCall now (refusal_answer e) (state_of (record p { pool = pool }))
+again_refused p now pool e same live is exact =
     subst (λ (a : SlotState). IsAgainCall a (refusal_answer e) (state_of (record p { pool = pool }))) same (record {
       checked = open_refuses (state_of p) (state_of (record p { pool = pool })) [] (refusal_answer e)
           (ap (λ (a : SlotState). a.is_open) same ∙ live) tt;
@@ -329,4 +440,5 @@ again_refused p now pool e same live is =
       described = λ z. absurd (not_zero e (number_of e) refl z);
       again = λ z. absurd (not_zero e (number_of e) refl z);
       refused = λ s. slot_same (state_of p) (state_of (record p { pool = pool })) refl is;
+      exact = λ live s. (e, refl, exact);
     })

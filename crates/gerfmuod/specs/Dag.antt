@@ -1,5 +1,5 @@
 -- The results and effects of the calls on a pool of task graphs.
-use Rattle.std.specs.Prelude.{ℕ, ◌+◌, ◌≡◌, ◌≢◌, ◌≤◌, ◌==◌, ◌&&◌, ◌⊎◌, Bool, false, not, nat_le, length, List, [], ◌∷◌}
+use Rattle.std.specs.Prelude.{ℕ, ◌+◌, ◌≡◌, ◌≢◌, ◌≤◌, ◌==◌, ◌&&◌, ◌⊎◌, Bool, true, false, not, nat_le, length, List, [], ◌∷◌}
 use Rattle.std.specs.Prelude.{if◌then◌else◌, IsTrue, IsFalse, IfSome}
 use Rattle.std.specs.Prelude.{Option, Some, None, slice_get}
 use Rattle.tp_base.specs.declared.Step.{Step}
@@ -7,13 +7,14 @@ use Rattle.tp_base.specs.declared.Step.TheVariants.{Insert, Supply, Begin, Done,
 use Rattle.tp_base.specs.declared.Step.TheVariants.{Start, Down, Give, Up, Judge, Reopen}
 use Rattle.tp_base.specs.declared.Refusal.{Refusal}
 use Rattle.tp_base.specs.declared.limits.TheConstants.{MAX_STEPS}
-use Rattle.tp_base.specs.declared.Refusal.TheVariants.{WrongLife, HistoryFull, NoMemory, NoPool, BadSpec}
+use Rattle.tp_base.specs.declared.Refusal.TheVariants.{WrongLife, Inactive, Ended, HistoryFull, NoMemory, NoPool, BadSpec}
 use Rattle.tp_base.specs.Checks.{Check, first_refusal}
 use Rattle.tp_base.specs.Refusals.{number_of}
 use Rattle.tp_dag.specs.State.{PoolState, AddsOnly, SameGraph, IsTaskAdded, IsInputAdded, IsStarted, IsOutsideAdded, IsReleased}
 use Rattle.tp_dag.specs.State.{IsDispatched, IsFinished, IsCompleted}
-use Rattle.tp_dag.specs.State.{IsBehind, BeginsMore, IsIdle, MayWait, AreDelivered, AreSent, extends}
-use Rattle.tp_dag.specs.Journal.{is_readying, is_delivery, is_sending, is_of_room, keeps, kept_step}
+use Rattle.tp_dag.specs.State.{IsBehind, BeginsMore, IsIdle, IsInactive, IsNotQuiet, HasEndedMessages, LacksInput, MayWait}
+use Rattle.tp_dag.specs.State.{AreDelivered, AreSent, extends}
+use Rattle.tp_dag.specs.Journal.{LacksRoomForSteps, is_readying, is_delivery, is_sending, is_of_room, keeps, kept_step}
 use Rattle.tp_dag.specs.Again.{IsAgain}
 use Rattle.tp_dag.specs.State.{task_checks, input_checks, start_checks, outside_checks, release_checks, next_checks, done_checks}
 use Rattle.tp_dag.specs.declared.entry.Stage.TheVariants as stage
@@ -90,10 +91,20 @@ next_answer (Run t) news = record { refused = 0; told = 1; number = t; news = ne
 next_answer Wait news = record { refused = 0; told = 2; number = 0; news = 0 }
 next_answer (Finished w) news = record { refused = 0; told = 3; number = w; news = 0 }
 
+-- Why no task is added: by the first check that holds; or since the pool is over; or a started pool that keeps its steps has none left for
+-- it; or nothing is pending at the node; or for lack of room for steps, or of memory.
+abbrev pub IsTaskRefusal : ℕ → ℕ → PoolState → Refusal → Type 0
+IsTaskRefusal node class a r =
+    (first_refusal (task_checks a node class) ≡ Some r) ⊎ ((r ≡ Ended) × IsFinished a)
+    ⊎ ((r ≡ HistoryFull MAX_STEPS) × IsTrue a.started × IsTrue (keeps a.journal))
+    ⊎ ((r ≡ Inactive) × IsInactive node a)
+    ⊎ IsTrue (is_of_room true r)
+
 pub record IsTask (old : SlotState) (node class : ℕ) (a : DagAnswer) (new : SlotState) : Type 0 where
   pub checked : RefusesBy (checks old (task_checks old.pool node class)) old a new
   pub added : a.refused ≡ 0 → IsTaskAdded node class a.number old.pool new.pool
   pub refused : 1 ≤ a.refused → new ≡ old
+  pub exact : IsTrue old.is_open → 1 ≤ a.refused → (r : Refusal) × (a.refused ≡ number_of r) × IsTaskRefusal node class old.pool r
 
 -- Why the newest task does not get this input: by the first check that holds; or since it may not get one more; or a started pool that
 -- keeps its steps has none left for it; or for lack of memory.
@@ -112,21 +123,34 @@ pub record IsInput (old : SlotState) (source : ℕ) (a : DagAnswer) (new : SlotS
   pub refused : 1 ≤ a.refused → new ≡ old
   pub exact : IsTrue old.is_open → 1 ≤ a.refused → (r : Refusal) × (a.refused ≡ number_of r) × IsInputRefusal source old.pool r
 
+-- An open pool is not started by the first check that holds; or, if it keeps its steps, for lack of room for them, or of memory.
+abbrev pub IsStartRefusal : PoolState → Refusal → Type 0
+IsStartRefusal a r = (first_refusal (start_checks a) ≡ Some r) ⊎ LacksRoomForSteps (keeps a.journal) r
+
 pub record IsStart (old : SlotState) (a : DagAnswer) (new : SlotState) : Type 0 where
   pub checked : RefusesBy (checks old (start_checks old.pool)) old a new
   pub started : a.refused ≡ 0 → IsStarted old.pool new.pool
   pub refused : 1 ≤ a.refused → AddsOnly is_readying old.pool new.pool
   pub ways : new.pool.ways ≡ old.pool.ways
+  pub exact : IsTrue old.is_open → 1 ≤ a.refused → (r : Refusal) × (a.refused ≡ number_of r) × IsStartRefusal old.pool r
+
+-- An open pool does not take one more input from outside by the first check that holds; or since the task lacks nothing after the start.
+abbrev pub IsOutsideRefusal : ℕ → PoolState → Refusal → Type 0
+IsOutsideRefusal task a r =
+    (first_refusal (outside_checks a task) ≡ Some r) ⊎ ((r ≡ WrongLife) × IsTrue a.started × (LacksInput task a → ⊥))
 
 pub record IsOutside (old : SlotState) (task : ℕ) (a : DagAnswer) (new : SlotState) : Type 0 where
   pub checked : RefusesBy (checks old (outside_checks old.pool task)) old a new
   pub added : a.refused ≡ 0 → IsOutsideAdded task old.pool new.pool
   pub refused : 1 ≤ a.refused → new ≡ old
+  pub exact : IsTrue old.is_open → 1 ≤ a.refused → (r : Refusal) × (a.refused ≡ number_of r) × IsOutsideRefusal task old.pool r
 
 pub record IsRelease (old : SlotState) (task : ℕ) (a : DagAnswer) (new : SlotState) : Type 0 where
   pub checked : RefusesBy (checks old (release_checks old.pool task)) old a new
   pub released : a.refused ≡ 0 → IsReleased task old.pool new.pool
   pub refused : 1 ≤ a.refused → new ≡ old
+  pub exact : IsTrue old.is_open → 1 ≤ a.refused → (r : Refusal) × (a.refused ≡ number_of r)
+      × (first_refusal (release_checks old.pool task) ≡ Some r)
 
 -- 1 if a result of `next` dispatches task t, else 0
 abbrev pub dispatched_by : DagAnswer → ℕ → ℕ
@@ -143,6 +167,8 @@ pub record IsNext (old : SlotState) (node : ℕ) (a : DagAnswer) (new : SlotStat
   pub run : a.told ≡ 1 → IsDispatched node a.number old.pool new.pool
   pub finished : a.told ≡ 3 → IsFinished new.pool
   pub wait : a.told ≡ 2 → IsIdle node new.pool × AddsOnly is_delivery old.pool new.pool
+  pub left : a.told ≡ 2 → IsNotQuiet new.pool
+  pub ended : a.refused ≡ 0 → HasEndedMessages node new.pool
   pub refused : 1 ≤ a.refused → AddsOnly is_delivery old.pool new.pool
   pub graph : SameGraph old.pool new.pool
   pub ways : AreDelivered node old.pool new.pool
@@ -157,12 +183,17 @@ pub record IsDone (old : SlotState) (node task : ℕ) (a : DagAnswer) (new : Slo
   pub ways : AreSent task old.pool new.pool
   pub begun : BeginsMore (λ t. 0) old.pool new.pool
 
+-- An open pool is not started once more if it is not over, or was extended; or for lack of room for steps, or of memory if it keeps them.
+abbrev pub IsAgainRefusal : PoolState → Refusal → Type 0
+IsAgainRefusal a r = ((r ≡ WrongLife) × ((IsFinished a → ⊥) ⊎ IsTrue a.extended)) ⊎ IsTrue (is_of_room (keeps a.journal) r)
+
 pub record IsAgainCall (old : SlotState) (a : DagAnswer) (new : SlotState) : Type 0 where
   pub checked : RefusesBy (checks old []) old a new
   pub finished : a.refused ≡ 0 → IsFinished old.pool
   pub described : a.refused ≡ 0 → IsFalse old.pool.extended
   pub again : a.refused ≡ 0 → IsAgain old.pool new.pool
   pub refused : 1 ≤ a.refused → new ≡ old
+  pub exact : IsTrue old.is_open → 1 ≤ a.refused → (r : Refusal) × (a.refused ≡ number_of r) × IsAgainRefusal old.pool r
 
 abbrev pub step_answer : Option Step → DagStep
 step_answer (Some (Insert i t k)) = record { kind = 0; first = i.0; second = t.0; third = k.count }

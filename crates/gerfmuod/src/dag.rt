@@ -105,7 +105,8 @@ pub unsafe extern "C" fn gerfmuod_dag_release(pool: *mut u8, task: u32) -> DagAn
     release(&mut *(pool as *mut PoolSlot), task)
 }
 
-/// Returns what a thread of a node is to do next: run task `number`, wait, or stop.
+/// Returns what a thread of a node is to do next: run task `number`, wait, or stop. It is to wait only if something is
+/// left: a task is not done, a message is in flight, or an action is open.
 ///
 /// Refused, and the graph does not change: `NoPool` if the pool is not open; then as `Pool::next` is.
 #[unsafe(no_mangle)]

@@ -16,5 +16,5 @@ returns c =
       | in-Err w ↦ subst (λ (a : DagAnswer). IsAgainCall c.args.slot.now a (state_of (record c.slot.inside { pool = c.again.new.self })))
           (sym (w.result-is ∙ w.refused-in-Err.ensures))
           (again_refused c.slot.inside c.args.slot.now c.again.new.self w.in-Err.refusal c.slot.view_is
-          (opens _ _ c.is_open.ensures c.if-not-is_open.false) w.in-Err.ensures.err)
+          (opens _ _ c.is_open.ensures c.if-not-is_open.false) w.in-Err.ensures.err w.in-Err.ensures.exact)
     ]

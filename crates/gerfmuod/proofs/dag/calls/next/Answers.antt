@@ -17,7 +17,7 @@ returns-in-Ok c =
     (next_done c.slot.inside c.args.slot.now c.next.new.self c.args.node _ c.in-Ok.next c.slot.view_is
     (opens _ _ c.is_open.ensures c.if-not-is_open.false)
     c.in-Ok.ensures.checks c.in-Ok.ensures.run c.in-Ok.ensures.finished c.in-Ok.ensures.wait c.in-Ok.ensures.waiting
-    c.in-Ok.ensures.graph c.in-Ok.ensures.ways c.in-Ok.ensures.begun)
+    c.in-Ok.ensures.left c.in-Ok.ensures.ended c.in-Ok.ensures.graph c.in-Ok.ensures.ways c.in-Ok.ensures.begun)
 
 pub returns-in-Err : goal.returns-in-Err
 returns-in-Err c =

@@ -18,5 +18,6 @@ returns c =
         pool = c.task.new.self;
       }))) (sym (w.result-is ∙ w.refused-in-Err.ensures))
           (task_refused c.slot.inside c.args.slot.now c.task.new.self c.args.node c.args.class w.in-Err.refusal c.slot.view_is
-          (opens _ _ c.is_open.ensures c.if-not-is_open.false) w.in-Err.ensures.checks w.in-Err.ensures.err)
+          (opens _ _ c.is_open.ensures c.if-not-is_open.false) w.in-Err.ensures.checks w.in-Err.ensures.err
+          w.in-Err.ensures.exact)
     ]
