@@ -1,7 +1,7 @@
 //! The pool of tasks that a caller runs, call by call: an input that is sent, one from outside, tasks that a running task adds.
 
 use tp_base::{MAX_STEPS, NodeId, Refusal, Step, TaskId};
-use tp_dag::{Next, Pool};
+use tp_dag::{MAX_INPUTS, MAX_TASKS, Next, Pool};
 
 /// A call of `Pool`.
 #[derive(Clone, Copy, Debug, PartialEq, Eq)]
@@ -16,12 +16,13 @@ enum Call {
     Again,
 }
 
-/// What a call returns: of `next` the task to be run, or one of these.
+/// What a call returns: of `next` the task to be run, or one of these. The end has the number of the wave behind it: the pool had ended
+/// when its first wave ended.
 type Answer = Result<u32, Refusal>;
 
 const WAIT: Answer = Ok(100);
 
-const FINISHED: Answer = Ok(200);
+const FINISHED: Answer = Ok(201);
 
 type Row = (Call, Answer);
 
@@ -36,7 +37,7 @@ fn of_next(returned: Result<Next, Refusal>) -> Answer {
     match returned {
         Ok(Next::Run(task)) => Ok(task),
         Ok(Next::Wait) => WAIT,
-        Ok(Next::Finished(_)) => FINISHED,
+        Ok(Next::Finished(wave)) => Ok(wave.saturating_add(200)),
         Err(refusal) => Err(refusal),
     }
 }
@@ -91,6 +92,26 @@ fn a_task_waits_for_a_message_and_for_the_outside(rt: HostRuntime) {
         (Call::Next(1), FINISHED),
     ];
     let mut pool = Pool::new(rt.alloc(), 2, true);
+    assert_eq!(rt; first_wrong(&mut pool, rows.as_slice()), None);
+}
+
+#[test]
+fn the_largest_graph_has_these_numbers(rt: HostRuntime) {
+    assert_eq!(rt; (MAX_TASKS, MAX_INPUTS), (134_217_728, 536_870_912));
+}
+
+#[test]
+fn a_lower_class_is_dispatched_first(rt: HostRuntime) {
+    let rows = [
+        (Call::Task(0, 3), Ok(0)),
+        (Call::Task(0, 1), Ok(1)),
+        (Call::Task(0, 2), Ok(2)),
+        (Call::Start, Ok(0)),
+        (Call::Next(0), Ok(1)),
+        (Call::Next(0), Ok(2)),
+        (Call::Next(0), Ok(0)),
+    ];
+    let mut pool = Pool::new(rt.alloc(), 1, true);
     assert_eq!(rt; first_wrong(&mut pool, rows.as_slice()), None);
 }
 
@@ -183,7 +204,12 @@ fn a_graph_runs_again(rt: HostRuntime) {
         (Call::Again, Ok(0)),
         (Call::Next(1), WAIT),
         (Call::Next(0), Ok(0)),
+        // a graph that runs again may grow as well
+        (Call::Task(0, 0), Ok(2)),
+        (Call::Release(2), Ok(1)),
         (Call::Done(0, 0), Ok(2)),
+        (Call::Next(0), Ok(2)),
+        (Call::Done(0, 2), Ok(0)),
         (Call::Next(1), Ok(1)),
         (Call::Done(1, 1), Ok(0)),
         (Call::Next(1), FINISHED),
