@@ -1,5 +1,6 @@
 -- Which actions are open after each step that a journal records.
-use Rattle.std.proofs.Common.{ℕ, zero, suc, ◌≡◌, ◌≢◌, ◌≤◌, ◌<◌, ◌+◌, List, Bool, true, false, Option, Some, None, Result, refl, ap, subst, sym, ◌∙◌, ◌↔◌, arith, IsTrue, IsFalse, inl, inr}
+use Rattle.std.proofs.Common.{ℕ, zero, suc, ◌≡◌, ◌≢◌, ◌≤◌, ◌<◌, ◌+◌, List, Bool, true, false, Option, Some, None, Result, refl, ap, subst}
+use Rattle.std.proofs.Common.{sym, ◌∙◌, ◌↔◌, arith, IsTrue, IsFalse, inl, inr}
 use Rattle.std.specs.Prelude.{◌||◌, ◌&&◌, ◌==◌, nat_le, nat_lt, slice_get, Ok, Err, OnOk, if◌then◌else◌}
 use Rattle.std.specs.List.{list_any}
 use Rattle.std.proofs.Math.ListN.{set}

@@ -1,5 +1,6 @@
 -- How many of a list pass a test, when one place is written or one thing is added, and numbers that say so for each node.
-use Rattle.std.proofs.Common.{cond, arith, ◌+◌, ◌<◌, ◌≤◌, ◌⊎◌, ℕ, zero, suc, ◌≡◌, ◌≢◌, List, [], ◌∷◌, ◌++◌, length, length-set, Bool, true, false, IsTrue, IsFalse, Some, refl, ap, subst, sym, ◌∙◌, inl, inr}
+use Rattle.std.proofs.Common.{cond, arith, ◌+◌, ◌<◌, ◌≤◌, ◌⊎◌, ℕ, zero, suc, ◌≡◌, ◌≢◌, List, [], ◌∷◌, ◌++◌, length, length-set, Bool}
+use Rattle.std.proofs.Common.{true, false, IsTrue, IsFalse, Some, refl, ap, subst, sym, ◌∙◌, inl, inr}
 use Rattle.std.specs.Prelude.{slice_get, ◌==◌}
 use Rattle.std.specs.List.{slice_index_or}
 use Rattle.std.proofs.Math.ListN.{set}

@@ -1,5 +1,6 @@
 -- What the tests of a task and of an edge mean, and what a scan that finds one, or none, tells of a board.
-use Rattle.std.proofs.Common.{arith, ◌<◌, ◌≤◌, ◌⊎◌, ℕ, ◌≡◌, ◌≢◌, List, length, Bool, true, false, IsTrue, IsFalse, Option, Some, None, refl, ap, subst, sym, ◌∙◌, inl, inr}
+use Rattle.std.proofs.Common.{arith, ◌<◌, ◌≤◌, ◌⊎◌, ℕ, ◌≡◌, ◌≢◌, List, length, Bool, true, false, IsTrue, IsFalse, Option, Some, None}
+use Rattle.std.proofs.Common.{refl, ap, subst, sym, ◌∙◌, inl, inr}
 use Rattle.std.specs.Prelude.{slice_get, ◌==◌, ◌&&◌, not}
 use Rattle.std.specs.List.{slice_index_or}
 use Rattle.std.proofs.lemmas.Bool.{and_parts}
@@ -14,7 +15,8 @@ use Rattle.tp_dag.specs.declared.entry.Way.{Way}
 use Rattle.tp_dag.specs.declared.entry.Way.TheVariants as way
 use Rattle.tp_dag.specs.declared.board.Board.TheInside.{Inside}
 use Rattle.tp_dag.specs.Board.{BoardState, LacksInput, IsReady, HasNoneReady, IsComing, IsUnderWayTo, IsUnsent}
-use Rattle.tp_dag.specs.Counts.{is_fresh, is_out, is_received, is_under_way, may_be, is_done, arrives, is_missing, is_unsent, is_coming, is_ready, BoardFacts, AreCounts, board_of}
+use Rattle.tp_dag.specs.Counts.{is_fresh, is_out, is_received, is_under_way, may_be, is_done, arrives, is_missing, is_unsent, is_coming}
+use Rattle.tp_dag.specs.Counts.{is_ready, BoardFacts, AreCounts, board_of}
 use Rattle.tp_dag.proofs.Counting.{find_one, at_below, count_some, one_one}
 use Rattle.tp_dag.proofs.Boards.{some_same}
 use Rattle.tp_dag.proofs.Reading.{none_ready_if, unsent_from_test, all_sent}

@@ -1,5 +1,6 @@
 -- How the lists of steps behind a journal go on with its calls.
-use Rattle.std.proofs.Common.{ℕ, zero, suc, ◌≡◌, ◌<◌, ◌+◌, List, [], ◌∷◌, ◌++◌, Bool, true, false, Option, Some, None, Result, length, refl, ap, subst, sym, ◌∙◌, arith, IsTrue, IsFalse}
+use Rattle.std.proofs.Common.{ℕ, zero, suc, ◌≡◌, ◌<◌, ◌+◌, List, [], ◌∷◌, ◌++◌, Bool, true, false, Option, Some, None, Result, length}
+use Rattle.std.proofs.Common.{refl, ap, subst, sym, ◌∙◌, arith, IsTrue, IsFalse}
 use Rattle.std.specs.Prelude.{◌||◌, ◌==◌, nat_le, Ok, Err, OnOk, OnErr, IfErr, is_some, slice_get, not}
 use Rattle.std.specs.List.{list_any, slice_index_or}
 use Rattle.std.specs.Option.{option_map}
@@ -16,14 +17,16 @@ use Rattle.tp_wave.specs.Control.{is_control}
 use Rattle.tp_wave.specs.Generations.{IsOfGeneration}
 use Rattle.tp_wave.specs.Sums.{judgement, is_ended}
 use Rattle.tp_core.specs.Accepted.{IsRefusedFor, no_numbers}
-use Rattle.tp_core.specs.Recording.{Recorded, Backs, MayBeRecorded, IsRecorded, HasSettled, record_checks, limit_checks, kept_checks, settling_checks}
+use Rattle.tp_core.specs.Recording.{Recorded, Backs, MayBeRecorded, IsRecorded, HasSettled, record_checks, limit_checks, kept_checks}
+use Rattle.tp_core.specs.Recording.{settling_checks}
 use Rattle.tp_core.specs.Run.{world, node_of, IsLawful}
 use Rattle.tp_core.specs.World.{World, is_open, IsQuiet}
 use Rattle.tp_core.specs.declared.numbers.NodeNumbers.{NodeNumbers}
 use Rattle.tp_core.proofs.Ending.{same_quiet}
 use Rattle.tp_dag.specs.declared.journal.Journal.TheInside.{Inside}
 use Rattle.tp_dag.specs.JournalKept.{journal_of}
-use Rattle.tp_dag.specs.Journal.{JournalState, IsBehindJournal, JournalLeads, Records, IsRefusedForRoom, Adds, IsJudged, keeps, receipt, is_of_room, is_plain, is_readying, is_ending, has_open, is_receiving, LacksRoomForSteps}
+use Rattle.tp_dag.specs.Journal.{JournalState, IsBehindJournal, JournalLeads, Records, IsRefusedForRoom, Adds, IsJudged, keeps, receipt}
+use Rattle.tp_dag.specs.Journal.{is_of_room, is_plain, is_readying, is_ending, has_open, is_receiving, LacksRoomForSteps}
 use Rattle.tp_dag.proofs.Steps.{one_generation, adds_more}
 use Rattle.tp_dag.proofs.Worlds.{may_come, plain_opens, controls_stay}
 use Rattle.tp_dag.proofs.Actions.{opening_open, message_open, same_open, ready_closes, received_open, end_closes, first_open}

@@ -1,5 +1,6 @@
 -- What the refusals of a pool mean: for which check, for lack of room, or because a task may be dispatched.
-use Rattle.std.proofs.Common.{ℕ, ◌≡◌, ◌≢◌, ◌<◌, ◌≤◌, ◌⊎◌, List, Bool, true, false, length, map, refl, ap, subst, ◌∙◌, ◌↔◌, sym, arith, IsTrue, IsFalse, Result, Option, Some, None, inr}
+use Rattle.std.proofs.Common.{ℕ, ◌≡◌, ◌≢◌, ◌<◌, ◌≤◌, ◌⊎◌, List, Bool, true, false, length, map, refl, ap, subst, ◌∙◌, ◌↔◌, sym, arith}
+use Rattle.std.proofs.Common.{IsTrue, IsFalse, Result, Option, Some, None, inr}
 use Rattle.std.specs.Prelude.{◌==◌, ◌&&◌, Ok, Err, IfErr, IfSome, is_some, slice_get, nat_le}
 use Rattle.std.proofs.lemmas.Bool.{both_ways}
 use Rattle.std.proofs.lemmas.Bool.Decides.{nat_tests}
