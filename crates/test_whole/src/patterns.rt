@@ -146,3 +146,23 @@ fn three_rows_of_three_columns(rt: HostRuntime) -> Result<(), Fail> {
     assert_eq!(rt; stirred.as_slice(), wanted.as_slice());
     Ok(())
 }
+
+// In six columns the distances of `Fft` are 1 and 2.
+#[test]
+fn each_relation_repeats_after_its_period(rt: HostRuntime) {
+    for (pattern, period) in [
+        (Pattern::Trivial, 1),
+        (Pattern::NoComm, 1),
+        (Pattern::Stencil, 1),
+        (Pattern::StencilPeriodic, 1),
+        (Pattern::Dom, 1),
+        (Pattern::Tree, 1),
+        (Pattern::Fft, 2),
+        (Pattern::AllToAll, 1),
+        (Pattern::Nearest { radius: 2 }, 1),
+        (Pattern::Spread { seed: 3 }, 6),
+        (Pattern::RandomNearest { radius: 2, seed: 0 }, 9),
+    ] {
+        assert_eq!(rt; pattern.period(6, 9), period, "{pattern:?}");
+    }
+}
