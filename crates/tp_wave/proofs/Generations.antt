@@ -1,5 +1,5 @@
 -- The theorems about generations, carried over from those about one.
-use Rattle.std.proofs.Common.{◌≡◌, ℕ, suc, ◌+◌, ◌*◌, ◌≤◌, true, false, cond, [], ◌∷◌, ◌++◌, length, refl, ap, inl, inr}
+use Rattle.std.proofs.Common.{◌≡◌, ℕ, suc, ◌+◌, ◌*◌, ◌<◌, ◌≤◌, true, false, cond, [], ◌∷◌, ◌++◌, length, refl, ap, inl, inr}
 use Rattle.std.proofs.Common.{arith, IsTrue, IsFalse}
 use Rattle.std.proofs.Props.{props}
 use Rattle.std.proofs.lemmas.Bool.{cases_Bool, both_ways}
@@ -16,10 +16,11 @@ use Rattle.tp_wave.specs.Cut.{IsQuietHistory}
 use Rattle.tp_wave.specs.Generations.{present, present_events, generation, IsOfGeneration, MayReopen, GoesOn, MayCome, AreRuns, InEach}
 use Rattle.tp_wave.specs.Generations.{ended_generations, IsEndedRun, EndedGenerationsLaw, GenerationsLaw, IsNeverEarly, NeverEarlyInEachLaw}
 use Rattle.tp_wave.specs.Generations.{ReopeningLaw, OverLaw, PresentLaw, FewGenerationsLaw}
+use Rattle.tp_wave.specs.Settling.{IsSoonJudged, SoonInEachLaw}
 use Rattle.tp_wave.proofs.Props.{IsNext-prop}
 use Rattle.tp_wave.proofs.Runs.{quiet_step}
 use Rattle.tp_wave.proofs.Judged.{judged_law, never_early_law}
-use Rattle.tp_wave.proofs.Settling.{seven_events}
+use Rattle.tp_wave.proofs.Settling.{seven_events, soon_law}
 
 -- the present events after one more event
 pub present-reopened : (e : Event) (past : History) → IsTrue (is_reopen (step_of e)) → present_events (e ∷ past) ≡ []
@@ -119,6 +120,13 @@ few n (e ∷ past) r =
 
 pub few_law : FewGenerationsLaw
 few_law n h r = omega (arith, few n h r)
+
+-- ---- once nothing is left in a generation
+soon_judged : (n : ℕ) → 0 < n → (h : History) → IsRun n h → IsSoonJudged n h
+soon_judged n p h r later past is quiet = rw is (soon_law n later past p (rw is at r) quiet)
+
+pub soon_in_each : SoonInEachLaw
+soon_in_each n h p r = in_each n (IsSoonJudged n) (soon_judged n p) h r
 
 -- Each is a proposition: it has at most one proof, so a type can keep it.
 IsOfGeneration-prop : (k : ℕ) (s : Step) → IsProp (IsOfGeneration k s)
