@@ -23,6 +23,8 @@ mod grids;
 #[cfg(test)]
 mod hindered;
 #[cfg(test)]
+mod idle;
+#[cfg(test)]
 mod kernels;
 #[cfg(test)]
 mod lent;
