@@ -4,7 +4,7 @@ use Rattle.std.proofs.Common.{eqb, refl, ap, sym, ◌∙◌, ⊎_elim, arith}
 use Rattle.std.proofs.lemmas.Bool.{cases_eq, cases_lt, eq-eqb, ne_eqb}
 use Rattle.tp_graph.proofs.Valued.{gather-same}
 use Rattle.tp_graph.specs.Values.{gather, then_some}
-use Rattle.pool_patterns.specs.Ranks.{rank, nth}
+use Rattle.pool_kernels.specs.Ranks.{rank, nth}
 use Rattle.pool_kernels.specs.Kernels.{gather_where}
 
 -- one more at the end
