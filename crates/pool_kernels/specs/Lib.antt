@@ -7,7 +7,6 @@ pub mod Kinds
 pub mod GridLaws
 pub mod Kernels
 pub mod RunFaults
-pub mod Joined
 pub mod Numbers
 pub mod Sums
 pub mod Doubles

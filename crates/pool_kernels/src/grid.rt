@@ -5,10 +5,10 @@ ghost use Rattle.pool_kernels.specs.Kernels.{kernel_graph, row_at, rule_in};
 ghost use Rattle.tp_graph.specs.Found.{HasEachOnce};
 ghost use Rattle.tp_graph.specs.Left.{AreKept};
 
-use crate::joining::joined;
 use crate::kernel::Kernel;
 use crate::relation::Relation;
 use crate::table::FeedTable;
+use pool_blocks::joined;
 use std::alloc::{AllocError, Global};
 use tp_base::{NodeId, Refusal, TaskId};
 use tp_graph::{Graph, Value};

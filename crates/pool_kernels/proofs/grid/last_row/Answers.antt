@@ -1,7 +1,7 @@
 use Rattle.std.proofs.Common.{◌≡◌, ◌-◌, ◌*◌, ap, ◌∙◌, ⊎_elim}
 use Rattle.tp_base.specs.declared.Refusal.TheVariants.{Missing}
+use Rattle.pool_blocks.specs.Joined.{LacksTask}
 use Rattle.pool_kernels.proofs.Rows.{row_from, row_whole}
-use Rattle.pool_kernels.specs.Joined.{LacksTask}
 use Rattle.pool_kernels.proofs.grid.last_row.Goals as goal
 
 pub unreachable-requires : goal.unreachable-requires
