@@ -7,7 +7,7 @@ use Rattle.tp_graph.specs.Found.{HasEachOnce}
 use Rattle.tp_graph.specs.Graphs.{TaskGraph}
 use Rattle.tp_graph.specs.Left.{AreKept}
 use Rattle.tp_graph.specs.Serial.{Results}
-use Rattle.tp_graph.specs.Values.{gather, then_some, value_of}
+use Rattle.tp_graph.specs.Values.{gather, value_of}
 use Rattle.pool_blocks.proofs.JoinedValues.{joining}
 use Rattle.pool_blocks.specs.Joined.{KeepsFrom, LacksTask, in_a_row, numbers_from}
 use Rattle.pool_blocks.specs.Lists.{list_of}

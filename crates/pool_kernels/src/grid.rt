@@ -1,5 +1,5 @@
 //! A grid of tasks with a kernel, as a graph, and its last row from a pool's results.
-ghost use Rattle.std.specs.Prelude.{◌≡◌, ◌≤◌, ◌<◌, ◌-◌, ◌*◌, ◌^◌, IfOk, Some, ⊤};
+ghost use Rattle.std.specs.Prelude.{◌≡◌, ◌-◌, ◌*◌, IfOk, Some, ⊤};
 ghost use Rattle.pool_kernels.specs.GridLaws.{grid_lawful};
 ghost use Rattle.pool_kernels.specs.Kernels.{kernel_graph, row_at, rule_in};
 ghost use Rattle.tp_graph.specs.Found.{HasEachOnce};

@@ -1,4 +1,4 @@
-use Rattle.std.proofs.Common.{◌*◌, subst}
+use Rattle.std.proofs.Common.{subst}
 use Rattle.tp_graph.proofs.Left.{results_kept}
 use Rattle.tp_graph.specs.Found.{HasEachOnce}
 use Rattle.tp_graph.specs.Graphs.{TaskGraph}
