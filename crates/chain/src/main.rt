@@ -34,8 +34,16 @@ fn main(rt: HostRuntime) -> io::Result<()> {
             }
             Ok(())
         }
-        Err(Fault { refusal, .. }) => {
-            println!(rt; "refused {} {}", refusal.number(), refusal.name())
+        Err(fault) => {
+            print!(rt;
+                "refused {} {}",
+                fault.refusal.number(),
+                fault.refusal.name()
+            )?;
+            if let Some(task) = fault.failed {
+                print!(rt; ": task {}", task.0)?;
+            }
+            println!(rt)
         }
     }
 }

@@ -3,6 +3,7 @@ pub mod Refused
 pub mod LentFaults
 pub mod Outcomes
 pub mod Lists
+pub mod JoinedValues
 pub mod Sums
 pub mod Fits
 pub mod Blocks

@@ -2,6 +2,7 @@ pub mod RunEvents
 pub mod Faults
 pub mod Outcomes
 pub mod Runs
+pub mod Joined
 pub mod Lists
 pub mod Stencils
 pub mod StencilLaws

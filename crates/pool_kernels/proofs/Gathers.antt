@@ -4,26 +4,9 @@ use Rattle.std.proofs.Common.{eqb, refl, ap, sym, ◌∙◌, ⊎_elim, arith}
 use Rattle.std.proofs.lemmas.Bool.{cases_eq, cases_lt, eq-eqb, ne_eqb}
 use Rattle.tp_graph.proofs.Valued.{gather-same}
 use Rattle.tp_graph.specs.Values.{gather, then_some}
+use Rattle.pool_blocks.proofs.JoinedValues.{and_then, gather-more}
 use Rattle.pool_patterns.specs.Ranks.{rank, nth}
 use Rattle.pool_kernels.specs.Kernels.{gather_where}
-
--- one more at the end
-abbrev pub and_then : {A : Type 0} → Option (List A) → Option A → Option (List A)
-and_then xs x = then_some xs (λ before. then_some x (λ last. Some (before ++ last ∷ [])))
-
-more_step : {A : Type 0} (o : Option A) (p : Option (List A)) (q : Option A)
-    → then_some o (λ first. then_some (and_then p q) (λ rest. Some (first ∷ rest)))
-    ≡ and_then (then_some o (λ first. then_some p (λ rest. Some (first ∷ rest)))) q
-more_step None p q = refl
-more_step (Some a) None q = refl
-more_step (Some a) (Some b) None = refl
-more_step (Some a) (Some b) (Some c) = refl
-
-pub gather-more : {A : Type 0} (n : ℕ) (f : ℕ → Option A) → gather (suc n) f ≡ and_then (gather n f) (f n)
-gather-more zero f = refl
-gather-more (suc n) f =
-    ap (λ o. then_some (f 0) (λ first. then_some o (λ rest. Some (first ∷ rest)))) (gather-more n (λ s. f (suc s)))
-    ∙ more_step (f 0) (gather n (λ s. f (suc s))) (f (suc n))
 
 -- the numbers below n that have f, by their ranks
 nth_step : {A : Type 0} (f : ℕ → Bool) (v : ℕ → Option A) (n : ℕ) (b : Bool)

@@ -1,10 +1,6 @@
--- The values of tasks in a row as one list, and the last row of a grid.
-use Rattle.std.proofs.Common.{◌≡◌, ◌≢◌, ◌<◌, ◌≤◌, ◌+◌, ◌-◌, ◌*◌, ℕ, zero, suc, ℤ, List, [], ◌∷◌, ◌++◌, length, get_or}
-use Rattle.std.proofs.Common.{Option, Some, None}
-use Rattle.std.proofs.Common.{refl, ap, sym, ◌∙◌, ⊎_elim, append_assoc, arith}
-use Rattle.std.specs.List.{All, Contains}
-use Rattle.std.proofs.lemmas.Bool.{cases_lt}
-use Rattle.std.proofs.lemmas.List.{append-nil}
+-- The last row of a grid, from the values of its tasks.
+use Rattle.std.proofs.Common.{◌≡◌, ◌<◌, ◌≤◌, ◌+◌, ◌-◌, ◌*◌, ℕ, zero, suc, ℤ, List, [], ◌∷◌, ◌++◌, length, get_or, Some}
+use Rattle.std.proofs.Common.{refl, ap, sym, ◌∙◌, arith}
 use Rattle.tp_graph.proofs.Left.{results_kept}
 use Rattle.tp_graph.proofs.Made.{gathered, some_same, then_some-is}
 use Rattle.tp_graph.proofs.Valued.{gather-same}
@@ -13,50 +9,14 @@ use Rattle.tp_graph.specs.Graphs.{TaskGraph}
 use Rattle.tp_graph.specs.Left.{AreKept, AreResults}
 use Rattle.tp_graph.specs.Serial.{Results}
 use Rattle.tp_graph.specs.Values.{gather, then_some, value_of}
+use Rattle.pool_blocks.proofs.JoinedValues.{joining}
+use Rattle.pool_blocks.specs.Joined.{KeepsFrom, LacksTask, in_a_row, numbers_from}
 use Rattle.pool_blocks.specs.Lists.{list_of}
 use Rattle.pool_patterns.proofs.Found.{has_one}
 use Rattle.pool_patterns.proofs.LastRow.{last_kept}
 use Rattle.pool_patterns.specs.Grids.{IsNarrow, Relation, grid_graph}
 use Rattle.pool_kernels.proofs.Cells.{cell_is}
-use Rattle.pool_kernels.proofs.Gathers.{and_then, gather-more}
-use Rattle.pool_kernels.specs.Joined.{KeepsFrom, LacksTask, numbers_from}
-use Rattle.pool_kernels.specs.Kernels.{Rule, cell, in_a_row, kernel_graph, row_at, rule_in}
-
--- ---- the values of tasks in a row
-row_append : (xs ys : List (List ℤ)) → in_a_row (xs ++ ys) ≡ in_a_row xs ++ in_a_row ys
-row_append [] ys = refl
-row_append (x ∷ xs) ys = ap (λ l. x ++ l) (row_append xs ys) ∙ sym (append_assoc x (in_a_row xs) (in_a_row ys))
-
-abbrev joining : Option (List (List ℤ)) → Option (List ℤ)
-joining values = then_some values (λ all. Some (in_a_row all))
-
-one_more : (o : Option (List (List ℤ))) (all value : List ℤ) → joining o ≡ Some all
-    → joining (and_then o (Some value)) ≡ Some (all ++ value)
-one_more None all value e = absurd (cc)
-one_more (Some values) all value e =
-    let same : in_a_row values ≡ all = some_same e in
-    ap Some (row_append values (value ∷ []) ∙ ap (λ l. l ++ (value ++ [])) same ∙ ap (λ l. all ++ l) (append-nil value))
-
--- the next task's numbers
-pub joined_more : (g : TaskGraph) (first i : ℕ) (all value : List ℤ) → value_of g (first + i) ≡ Some value
-    → numbers_from g first i ≡ Some all → numbers_from g first (i + 1) ≡ Some (all ++ value)
-joined_more g first i all value is before =
-    let next : i + 1 ≡ suc i = omega arith in
-    ap (numbers_from g first) next
-    ∙ ap joining (gather-more i (λ k. value_of g (first + k)) ∙ ap (and_then (gather i (λ k. value_of g (first + k)))) is)
-    ∙ one_more (gather i (λ k. value_of g (first + k))) all value before
-
--- one more task has a result
-pub more_there : (first i : ℕ) (results : Results) (value : List ℤ) → Contains results (record { 0 = first + i }, value)
-    → ((place : ℕ) → place < i → All (λ r. r.0.0 ≢ first + place) results → ⊥)
-    → (place : ℕ) → place < i + 1 → All (λ r. r.0.0 ≢ first + place) results → ⊥
-more_there first i results value found before place h none =
-    ⊎_elim
-    (λ (earlier : place < i). before place earlier none)
-    (λ (now : i ≤ place).
-    let same : first + i ≡ first + place = omega (arith, now, h) in
-    none found.0 (record { 0 = first + i }, value) found.1 (ap (λ r. r.0.0) found.2 ∙ same))
-    (cases_lt place i)
+use Rattle.pool_kernels.specs.Kernels.{Rule, cell, kernel_graph, row_at, rule_in}
 
 -- results with one of each task lack none
 pub none_lacks : (tasks first count : ℕ) (results : Results) → HasEachOnce tasks results → first + count ≤ tasks

@@ -2,6 +2,7 @@
 use Rattle.std.specs.Prelude.{◌≡◌, ◌<◌, ◌+◌, ◌*◌, ◌/◌, ◌%◌, ℕ, zero, suc, ℤ, Bool, List, [], ◌∷◌, ◌++◌, Option, Some, if◌then◌else◌}
 use Rattle.tp_graph.specs.Graphs.{TaskGraph}
 use Rattle.tp_graph.specs.Values.{fitting, gather, then_some, value_of}
+use Rattle.pool_blocks.specs.Joined.{in_a_row}
 use Rattle.pool_patterns.specs.Grids.{IsNarrow, Relation, grid_graph}
 
 -- what a task computes from its row, its column and the values that feed it, in rising order of their columns; none if
@@ -24,11 +25,6 @@ gather_where f v (suc n) =
 abbrev pub cell : Relation → Rule → ℕ → ℕ → ℕ → Option (List ℤ)
 cell r rule w zero i = computed rule 0 i []
 cell r rule w (suc t) i = then_some (gather_where (λ j. r (suc t) j i) (cell r rule w t) w) (computed rule (suc t) i)
-
--- lists of numbers, one after the other
-abbrev pub in_a_row : List (List ℤ) → List ℤ
-in_a_row [] = []
-in_a_row (x ∷ rest) = x ++ in_a_row rest
 
 -- the numbers of row t, column after column; none if a column has no value
 abbrev pub row_at : Relation → Rule → ℕ → ℕ → Option (List ℤ)

@@ -1,5 +1,4 @@
 pub mod Kernels
-pub mod Joined
 pub mod Numbers
 pub mod Sums
 pub mod Doubles

@@ -8,8 +8,8 @@ ghost use Rattle.tp_work.specs.Outcomes.{IsOutcome, IsWithinLimits};
 
 use crate::fault::GridFault;
 use crate::grid::KernelGrid;
-use crate::joining::joined;
 use crate::kernel::Kernel;
+use pool_blocks::joined;
 use pool_patterns::{FeedTable, PatternFault, Relation};
 use std::alloc::Global;
 use std::sync::Wait;

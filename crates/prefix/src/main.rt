@@ -16,6 +16,7 @@ use crate::sums::{PrefixFault, prefix_sums};
 use clap::error::ErrorKind;
 use clap::{Command, Error};
 use pool_kernels::GridFault;
+use pool_patterns::PatternFault;
 use std::env::Env;
 use std::io;
 use std::process::ExitCode;
@@ -96,7 +97,7 @@ fn sum_up<R: Threads + Wait + Sync + Input + Print + Eprint + AllocGlobal>(
     };
     match prefix_sums(rt, rt.alloc(), &numbers, config) {
         Ok(sums) => print_all(rt, &sums),
-        Err(fault) => complain(rt, &fault),
+        Err(fault) => complain(rt, &fault, numbers.len()),
     }
 }
 
@@ -122,8 +123,8 @@ fn print_all(rt: &impl Print, numbers: &[i64]) -> io::Result<u8>
     Ok(0)
 }
 
-/// Prints why there are no sums. Returns the exit status.
-fn complain(rt: &impl Eprint, fault: &PrefixFault) -> io::Result<u8>
+/// Prints why there are no sums of `width` numbers. Returns the exit status.
+fn complain(rt: &impl Eprint, fault: &PrefixFault, width: usize) -> io::Result<u8>
     ensures { IfOk result (λ status. status ≡ 1) }
 {
     match fault {
@@ -131,8 +132,21 @@ fn complain(rt: &impl Eprint, fault: &PrefixFault) -> io::Result<u8>
         PrefixFault::Grid(GridFault::Table(fault)) => eprintln!(rt; "no grid: {fault:?}")?,
         PrefixFault::Grid(GridFault::Run(fault)) => {
             let refusal = fault.refusal();
-            eprintln!(rt; "refused {} {}", refusal.number(), refusal.name())?;
+            eprint!(rt; "refused {} {}", refusal.number(), refusal.name())?;
+            if let Some((row, column)) = failed_at(fault, width) {
+                eprint!(rt; ": row {row}, column {column}")?;
+            }
+            eprintln!(rt)?;
         }
     }
     Ok(1)
+}
+
+/// Returns the row and the column of the task whose body failed, if one did.
+fn failed_at(fault: &PatternFault, width: usize) -> Option<(usize, usize)> {
+    let PatternFault::Run(fault) = fault else {
+        return None;
+    };
+    let task = fault.failed?.0 as usize;
+    Some((task.checked_div(width)?, task.checked_rem(width)?))
 }

@@ -46,8 +46,9 @@ impl Gate for Counting {
     }
 }
 
-/// Why a series ended early, and what its report has: the number of events of all generations, and of the present one
-/// the numbers of pending tasks and actions and of tasks done, whether its termination was detected, and the fault.
+/// Why a series ended early, the task whose body failed, and what the report has: the number of events of all
+/// generations, and of the present one the numbers of pending tasks and actions and of tasks done, whether its
+/// termination was detected, and the fault.
 #[derive(Clone, Copy, Debug, PartialEq, Eq)]
 struct Found {
     refusal: Refusal,
@@ -56,6 +57,7 @@ struct Found {
     done: u32,
     ended: bool,
     fault: Option<Refusal>,
+    failed: Option<TaskId>,
 }
 
 /// What is found of a series of three generations. `None` if it ends well, or if its fault has no report.
@@ -76,6 +78,7 @@ fn found_of<G: Graph, A: Gate, R: Threads + Wait + Sync>(
                 done: report.done,
                 ended: report.ended,
                 fault: report.fault,
+                failed: fault.failed,
             })
         }
     }
@@ -106,6 +109,7 @@ fn a_body_that_fails_ends_the_series(rt: HostRuntime) -> Result<(), Fail> {
         done: 0,
         ended: false,
         fault: Some(Refusal::BodyFailed),
+        failed: Some(TaskId(0)),
     };
     assert_eq!(rt; found_of(&rt, rt.alloc(), product, &OpenGate), Some(wanted));
     Ok(())
@@ -124,6 +128,7 @@ fn a_gate_is_asked_in_the_second_generation(rt: HostRuntime) {
             done: 2,
             ended: false,
             fault: Some(Refusal::Stalled(0)),
+            failed: None,
         };
         let gate = Counting::new(barred, last);
         let found = found_of(&rt, rt.alloc(), TREE, &gate);
@@ -141,6 +146,7 @@ fn a_store_that_is_full_ends_the_series(rt: HostRuntime) -> Result<(), Fail> {
         done: 0,
         ended: false,
         fault: Some(Refusal::StoreFull),
+        failed: None,
     };
     let found = found_of_grid(&rt, rt.alloc(), Pattern::Trivial, 65_537, 1)?;
     assert_eq!(rt; found, Some(wanted));

@@ -75,9 +75,9 @@ pub ended_told : (n : ℕ) (steps : List Step) (out : Bool) {judged : ℕ} → (
     → out ≡ is_ended n steps
 ended_told n steps out {judged} is number = same_by out (is_ended n steps) judged is number
 
--- a message's event has a place for the number of the generation
+-- Each generation that ended has at least eight of the events.
 pub few_generations : (n nodes : ℕ) (h : List Event) (t : BookTotals) (w : Wave) → IsBoardOf n nodes h t w
-    → generation (steps_of h) < 1048576
+    → generation (steps_of h) < 131074
 few_generations n nodes h t w board = omega (arith, few_law n h board.runs, board.whole)
 
 -- a node's numbers are no more than the history's events

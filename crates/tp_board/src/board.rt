@@ -70,10 +70,11 @@ impl<K: Ledgers> Board<K> {
         self.nodes
     }
 
-    /// Returns the number of the present generation: the first is 1, and each reopening adds one.
+    /// Returns the number of the present generation: the first is 1, and each reopening adds one. There are at most 131,073,
+    /// because each that ended has at least eight of the 1,048,576 events that fit.
     pub fn generation(&self) -> Generation
         ensures number { result.0 ≡ generation (steps_of self.now.history) }
-        ensures small { result.0 < 1048576 }
+        ensures small { result.0 < 131074 }
     {
         self.event_log.generation()
     }

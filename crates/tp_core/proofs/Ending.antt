@@ -77,8 +77,9 @@ same_world n (s ∷ later) old c =
     let parts : IsTrue (is_control s) × IsTrue (list_all is_control later) = and_parts (is_control s) (list_all is_control later) c in
     world_stays s (world n (later ++ old)) parts.0 ∙ same_world n later old parts.1
 
-pub same_numbers : (n : ℕ) (xs : List NodeNumbers) (later old : List Step) → IsTrue (list_all is_control later) → IsLawfulRun n (later ++ old)
-    → HasNumbers xs (record { nodes = n; steps = old }) → HasNumbers xs (record { nodes = n; steps = later ++ old })
+pub same_numbers : (n : ℕ) (xs : List NodeNumbers) (later old : List Step) → IsTrue (list_all is_control later)
+    → IsLawfulRun n (later ++ old) → HasNumbers xs (record { nodes = n; steps = old })
+    → HasNumbers xs (record { nodes = n; steps = later ++ old })
 same_numbers n xs [] old c r h = h
 same_numbers n xs (s ∷ later) old c r h =
     let parts : IsTrue (is_control s) × IsTrue (list_all is_control later) = and_parts (is_control s) (list_all is_control later) c in

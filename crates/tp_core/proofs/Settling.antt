@@ -28,7 +28,8 @@ judged_soon n later steps pos r q =
     let old : IsLawfulRun n steps = IsLawfulRun-past n later steps r in
     let quiet : cut.IsQuietHistory n (history n steps) = (quiet_seen n steps pos old).1 q in
     let soon = soon_law n front (history n steps) pos (rw whole at run) quiet in
-    let still : cut.IsQuietHistory n (history n (later ++ steps)) = rw whole (quiet_law n front (history n steps) (rw whole at run) quiet).0 in
+    let after : cut.IsQuietHistory n (front ++ history n steps) = (quiet_law n front (history n steps) (rw whole at run) quiet).0 in
+    let still : cut.IsQuietHistory n (history n (later ++ steps)) = rw whole after in
     let now : steps_of (front ++ history n steps) ≡ later ++ steps = ap steps_of (sym whole) ∙ steps_of-history n (later ++ steps) in
     let then' : steps_of (history n steps) ≡ steps = steps_of-history n steps in (
       omega (arith, soon.0, length-after n later steps),

@@ -1,5 +1,6 @@
 -- The theorems about generations, carried over from those about one.
-use Rattle.std.proofs.Common.{◌≡◌, ℕ, suc, ◌+◌, ◌≤◌, true, false, cond, [], ◌∷◌, ◌++◌, length, refl, ap, inl, inr, arith, IsTrue, IsFalse}
+use Rattle.std.proofs.Common.{◌≡◌, ℕ, suc, ◌+◌, ◌*◌, ◌<◌, ◌≤◌, true, false, cond, [], ◌∷◌, ◌++◌, length, refl, ap, inl, inr}
+use Rattle.std.proofs.Common.{arith, IsTrue, IsFalse}
 use Rattle.std.proofs.Props.{props}
 use Rattle.std.proofs.lemmas.Bool.{cases_Bool, both_ways}
 use Rattle.std.specs.List.{All}
@@ -15,9 +16,11 @@ use Rattle.tp_wave.specs.Cut.{IsQuietHistory}
 use Rattle.tp_wave.specs.Generations.{present, present_events, generation, IsOfGeneration, MayReopen, GoesOn, MayCome, AreRuns, InEach}
 use Rattle.tp_wave.specs.Generations.{ended_generations, IsEndedRun, EndedGenerationsLaw, GenerationsLaw, IsNeverEarly, NeverEarlyInEachLaw}
 use Rattle.tp_wave.specs.Generations.{ReopeningLaw, OverLaw, PresentLaw, FewGenerationsLaw}
+use Rattle.tp_wave.specs.Settling.{IsSoonJudged, SoonInEachLaw}
 use Rattle.tp_wave.proofs.Props.{IsNext-prop}
 use Rattle.tp_wave.proofs.Runs.{quiet_step}
 use Rattle.tp_wave.proofs.Judged.{judged_law, never_early_law}
+use Rattle.tp_wave.proofs.Settling.{seven_events, soon_law}
 
 -- the present events after one more event
 pub present-reopened : (e : Event) (past : History) → IsTrue (is_reopen (step_of e)) → present_events (e ∷ past) ≡ []
@@ -104,28 +107,26 @@ pub ended_generations_law : EndedGenerationsLaw
 ended_generations_law n h r = (ended_runs n h r, many_ended h)
 
 -- ---- the number of generations
-nothing_ended : (n : ℕ) (h : History) → h ≡ [] → IsTrue (is_ended n (steps_of h)) → ⊥
-nothing_ended n [] e t = cc
-nothing_ended n (x ∷ xs) e t = cc
-
-few : (n : ℕ) (h : History) → AreRuns n h → count is_reopen (steps_of h) + count is_reopen (steps_of h) ≤ length h
+few : (n : ℕ) (h : History) → AreRuns n h → 8 * count is_reopen (steps_of h) + length (present_events h) ≤ length h
 few n [] r = omega arith
-few n (e ∷ []) r =
+few n (e ∷ past) r =
     elim (cases_Bool (is_reopen e.1)) [
-      | inl reopens ↦ absurd (nothing_ended n [] refl (r.0.reopens reopens).ended)
-      | inr on ↦ rw on (omega arith)
-    ]
-few n (e ∷ d ∷ past) r =
-    elim (cases_Bool (is_reopen e.1)) [
-      | inl reopens ↦ elim (cases_Bool (is_reopen d.1)) [
-        | inl again ↦ absurd (nothing_ended n (present_events (d ∷ past)) (present-reopened d past again) (r.0.reopens reopens).ended)
-        | inr on ↦ rw (reopens, on) (omega (arith, few n past r.1.1))
-      ]
-      | inr on ↦ rw on (omega (arith, few n (d ∷ past) r.1))
+      | inl reopens ↦
+          let seven : 7 ≤ length (present_events past) =
+          seven_events n (present_events past) (present_run n past r.1) (r.0.reopens reopens).ended in
+          rw reopens (omega (arith, few n past r.1, seven))
+      | inr on ↦ rw on (omega (arith, few n past r.1))
     ]
 
 pub few_law : FewGenerationsLaw
 few_law n h r = omega (arith, few n h r)
+
+-- ---- once nothing is left in a generation
+soon_judged : (n : ℕ) → 0 < n → (h : History) → IsRun n h → IsSoonJudged n h
+soon_judged n p h r later past is quiet = rw is (soon_law n later past p (rw is at r) quiet)
+
+pub soon_in_each : SoonInEachLaw
+soon_in_each n h p r = in_each n (IsSoonJudged n) (soon_judged n p) h r
 
 -- Each is a proposition: it has at most one proof, so a type can keep it.
 IsOfGeneration-prop : (k : ℕ) (s : Step) → IsProp (IsOfGeneration k s)

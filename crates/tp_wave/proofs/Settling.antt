@@ -1,8 +1,10 @@
--- Once nothing is left, fewer than 9n events are lawful, and one is until the end was judged.
-use Rattle.std.proofs.Common.{◌≡◌, ◌≢◌, ℕ, zero, suc, ◌+◌, ◌-◌, ◌*◌, ◌<◌, ◌≤◌, Bool, true, false, cond, eqb, not, ◌||◌, List, [], ◌∷◌, ◌++◌}
-use Rattle.std.proofs.Common.{length, refl, sym, ap, ◌∙◌, ◌⊎◌, inl, inr, arith, IsTrue, IsFalse, is_some, length-append}
+-- Once nothing is left, fewer than 9n events are lawful, and one is until the end was judged. A run whose end was judged
+-- has at least seven events.
+use Rattle.std.proofs.Common.{◌≡◌, ◌≢◌, ℕ, zero, suc, ◌+◌, ◌-◌, ◌*◌, ◌<◌, ◌≤◌, Bool, true, false, cond, eqb, leb, not, ◌||◌, ◌&&◌}
+use Rattle.std.proofs.Common.{List, [], ◌∷◌, ◌++◌, Some, None, length, refl, sym, ap, ◌∙◌, ◌⊎◌, inl, inr, arith}
+use Rattle.std.proofs.Common.{IsTrue, IsFalse, is_some, length-append}
 use Rattle.std.proofs.lemmas.Bool.{cases_eq, cases_Bool, eq-eqb, ne_eqb, or_cases, or_parts, or_right, not-true, eqb-true, both_ways}
-use Rattle.std.proofs.lemmas.Bool.{le-leb, cases_lt}
+use Rattle.std.proofs.lemmas.Bool.{le-leb, leb-true, cases_lt, and_parts}
 use Rattle.tp_base.specs.History.{Event}
 use Rattle.tp_base.specs.declared.NodeId.{NodeId}
 use Rattle.tp_base.specs.declared.Step.{Step}
@@ -12,7 +14,7 @@ use Rattle.tp_base.specs.Totals.{total}
 use Rattle.tp_wave.specs.Sums.{waves, earlier, four_equal, judgement, is_ended}
 use Rattle.tp_base.specs.Tree.{parent}
 use Rattle.tp_wave.specs.Control.{in_wave, has_ended, is_reached, is_control, IsDue, IsControlStep, AreLawfulWaves}
-use Rattle.tp_wave.specs.Machine.{History, steps_of, IsRun}
+use Rattle.tp_wave.specs.Machine.{History, steps_of, pending_after, pending_at, IsRun}
 use Rattle.tp_wave.specs.Cut.{IsQuietHistory}
 use Rattle.tp_wave.specs.Settling.{SoonLaw, ComesNext, GoesOnLaw}
 use Rattle.tp_base.proofs.Totals.{total_one-changes, total-zero}
@@ -20,7 +22,7 @@ use Rattle.tp_wave.proofs.Positions.{before-all, before-append, length-steps_of}
 use Rattle.tp_wave.proofs.Visits.{lawful_waves, judged_ended, ended_given, all_given, newest-here, newest-past}
 use Rattle.tp_wave.proofs.Given.{none_reached, waves-earlier}
 use Rattle.tp_wave.proofs.Runs.{quiet_step, quiet_law}
-use Rattle.tp_wave.proofs.Judged.{newest_settled}
+use Rattle.tp_wave.proofs.Judged.{judged_law, newest_settled}
 
 -- ---- the marks of a wave: each node reached, each that gave, each whose sums were taken, and the judgement
 abbrev one : Bool → ℕ
@@ -359,6 +361,76 @@ soon n later h p r q =
 
 pub soon_law : SoonLaw
 soon_law n later h p r q = (soon n later h p r q, few_waves n later h r q)
+
+-- ---- a run whose end was judged has at least seven events
+judge_marks : (past : List Step) (s : Step) → IsTrue (is_judge s) → IsTrue (in_wave is_judge (s ∷ past)) × (waves (s ∷ past) ≡ waves past)
+judge_marks past Judge e = (refl, refl)
+judge_marks past _ e = cc
+
+two_waves : (n : ℕ) (past : List Step) → IsTrue (is_some (judgement n past)) → 2 ≤ waves past
+two_waves n past e = leb-true 2 (waves past) (go (leb 2 (waves past)) (four_equal n past) e)
+  where
+    go : (b c : Bool) → IsTrue (is_some (cond (b && c) (Some (waves past - 1)) None)) → IsTrue b
+    go true c e = refl
+    go false c e = cc
+
+-- A judgement of the end needs two full waves.
+six_control : (n : ℕ) (past : List Step) (s : Step) → 0 < n → AreLawfulWaves n (s ∷ past) → IsTrue (is_judge s)
+    → IsTrue (is_some (judgement n past))
+    → 6 ≤ count is_control (s ∷ past)
+six_control n past s p r judge ended =
+    let steps : List Step = s ∷ past in
+    let judged : IsTrue (in_wave is_judge steps) × (waves steps ≡ waves past) = judge_marks past s judge in
+    let there : IsTrue (any is_start steps) = visited_reached n 0 steps r (judged_ended n steps r judged.0) in
+    let all : count is_control steps ≡ laps (3 * n) (waves steps - 1) + marks n steps = spent n steps p r there in
+    let full : marks n steps ≡ 3 * n = marks-judged n steps p r judged.0 in
+    let lap : laps (3 * n) 1 ≤ laps (3 * n) (waves steps - 1) =
+    laps-le (3 * n) 1 (waves steps - 1) (omega (arith, judged.1, two_waves n past ended)) in
+    let one_lap : laps (3 * n) 1 ≡ 0 + 3 * n = refl in
+    omega (arith, all, full, lap, one_lap, p)
+
+control_keeps : (s : Step) (pending : ℕ) → IsTrue (is_control s) → pending_after s pending ≡ pending
+control_keeps Start pending e = refl
+control_keeps (Down j) pending e = refl
+control_keeps (Give j) pending e = refl
+control_keeps (Up j) pending e = refl
+control_keeps Judge pending e = refl
+control_keeps _ pending e = cc
+
+control_few : (steps : List Step) → count is_control steps ≤ length steps
+control_few [] = omega arith
+control_few (s ∷ past) =
+    elim (is_control s) as (λ b. cond b (count is_control past + 1) (count is_control past) ≤ suc (length past)) [
+      | true ↦ omega (arith, control_few past)
+      | false ↦ omega (arith, control_few past)
+    ]
+
+-- The root has its opening action at first, so an idle root had some other step.
+idle_root : (h : History) → pending_at 0 h ≡ 0 → count is_control (steps_of h) < length h
+idle_root [] idle = absurd (omega (arith, idle))
+idle_root (e ∷ past) idle =
+    elim (cases_Bool (is_control e.1)) [
+      | inr other ↦ rw other (omega (arith, control_few (steps_of past), length-steps_of past))
+      | inl control ↦
+          let before_it : pending_at 0 past ≡ 0 = same (eqb e.0.0 0) (rw (control_keeps e.1 (pending_at 0 past) control) at idle) in
+          rw control (omega (arith, idle_root past before_it))
+    ]
+  where
+    same : (b : Bool) → cond b (pending_at 0 past) (pending_at 0 past) ≡ 0 → pending_at 0 past ≡ 0
+    same true k = k
+    same false k = k
+
+pub seven_events : (n : ℕ) (h : History) → IsRun n h → IsTrue (is_ended n (steps_of h)) → 7 ≤ length h
+seven_events n [] r ended = cc
+seven_events n (e ∷ past) r ended =
+    elim (or_cases (is_judge e.1 && is_some (judgement n (steps_of past))) (is_ended n (steps_of past)) ended) [
+      | inr old ↦ omega (arith, seven_events n past r.1 old)
+      | inl now ↦
+          let parts = and_parts (is_judge e.1) (is_some (judgement n (steps_of past))) now in
+          let some_node : 0 < n = omega (arith, r.0.known) in
+          let six = six_control n (steps_of past) e.1 some_node (lawful_waves n (e ∷ past) r) parts.0 parts.1 in
+          omega (arith, six, idle_root (e ∷ past) ((judged_law n (e ∷ past) r ended).idle 0 some_node))
+    ]
 
 -- ---- if the end was not judged, a control step is lawful
 node_at : ℕ → NodeId

@@ -1,6 +1,6 @@
 -- Generations. A pool whose end was judged can be reopened: its state is then the initial one, and only the list of
 -- steps goes on. So each theorem about a pool is about one generation: the events since the newest reopening.
-use Rattle.std.specs.Prelude.{ℕ, ◌+◌, ◌≡◌, ◌≤◌, List, [], ◌∷◌, ◌++◌, length, Bool, IsTrue, IsFalse, Some, if◌then◌else◌}
+use Rattle.std.specs.Prelude.{ℕ, ◌+◌, ◌*◌, ◌≡◌, ◌≤◌, List, [], ◌∷◌, ◌++◌, length, Bool, IsTrue, IsFalse, Some, if◌then◌else◌}
 use Rattle.std.specs.List.{All}
 use Rattle.tp_base.specs.History.{Event}
 use Rattle.tp_base.specs.declared.Step.{Step}
@@ -103,7 +103,7 @@ OverLaw = (n : ℕ) (past : History) (e : Event) → AreRuns n (e ∷ past) → 
 abbrev pub PresentLaw : Type 0
 PresentLaw = (h : History) → (steps_of (present_events h) ≡ present (steps_of h)) × (length (present_events h) ≤ length h)
 
--- A reopening is never the first event and never directly after another one, so at most half of the events are
--- reopenings.
+-- A generation that ended has at least eight events: one after which the root is idle, two waves with a start, a visit of
+-- the root and a judgement each, and the reopening.
 abbrev pub FewGenerationsLaw : Type 0
-FewGenerationsLaw = (n : ℕ) (h : History) → AreRuns n h → generation (steps_of h) + generation (steps_of h) ≤ length h + 2
+FewGenerationsLaw = (n : ℕ) (h : History) → AreRuns n h → 8 * generation (steps_of h) ≤ length h + 8

@@ -169,7 +169,8 @@ module _ {G : Type 0} where
   -- The fault of a pool that stops for a refusal, by what was gathered of it.
   pub fault_of_gathered : (n : ℕ) (g : TaskGraph) (f : Fault) (nodes : List (NodeState G)) (board : BoardState) (refusal : Refusal)
       (gathered : Result Report Refusal) → IfOk gathered (IsReportOf n g nodes board) → IfErr gathered (λ e. e ≡ NoMemory)
-      → MatchResult gathered (λ r. f ≡ record { refusal = refusal; report = Some r }) (λ e. f ≡ record { refusal = e; report = None })
+      → MatchResult gathered (λ r. f ≡ record { refusal = refusal; report = Some r; failed = None })
+      (λ e. f ≡ record { refusal = e; report = None; failed = None })
       → IsFaultOf n g nodes board (λ e. e ≡ refusal) f
   fault_of_gathered n g f nodes board refusal (Ok r) report memory is =
       subst (IsFaultOf n g nodes board (λ e. e ≡ refusal)) (sym is) (refl, report)

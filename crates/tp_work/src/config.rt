@@ -63,4 +63,6 @@ pub struct Fault {
     pub refusal: Refusal,
     /// What was gathered of the pool, if it could be.
     pub report: Option<Report>,
+    /// The task whose body failed first, if one returned `BodyFailed`. No contract depends on it.
+    pub failed: Option<TaskId>,
 }

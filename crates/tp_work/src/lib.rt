@@ -6,6 +6,7 @@ mod config;
 mod counted_graph;
 mod counted_run;
 mod crowd;
+mod failed_task;
 mod gate;
 mod gathered;
 mod lives;

@@ -9,6 +9,7 @@ ghost use Rattle.tp_work.specs.Places.{IsWhole};
 ghost use Rattle.tp_work.specs.Reports.{IsEnd, IsOver, IsReport};
 
 use crate::config::{Config, Fault, Outcome};
+use crate::failed_task::FailedTask;
 use crate::gate::Gate;
 use crate::gathered::Report;
 use crate::lives::each_lives;
@@ -43,7 +44,14 @@ pub fn run_pool<G: Graph, A: Gate, R: Threads + Wait + Sync>(
     ensures fault { IfErr result (IsFault config.nodes (G.meaning graph)) }
 {
     let blanks = Blanks::new(config.nodes);
-    run_only::<G, Brand, Brand, A, R>(rt, alloc, graph, config, gate, blanks)
+    let failed = FailedTask::new();
+    match run_only::<G, Brand, Brand, A, R>(rt, alloc, graph, config, gate, &failed, blanks) {
+        Ok(outcome) => Ok(outcome),
+        Err(fault) => Err(Fault {
+            failed: failed.task(),
+            ..fault
+        }),
+    }
 }
 
 /// Opens a pool over the one graph that `D` names, so that comparing graphs costs nothing, with the ledgers that `K`
@@ -61,6 +69,7 @@ fn run_only<
     graph: G,
     config: Config,
     gate: &'a A,
+    failed: &'a FailedTask,
     blanks: Blanks,
 ) -> Result<Outcome, Fault>
     requires it { D.it ≡ Some graph }
@@ -76,6 +85,7 @@ fn run_only<
         graph: Only::<G, D>::new(graph),
         config,
         gate,
+        failed,
     };
     let pool = match runner.open::<K>(blanks) {
         Ok(pool) => pool,
@@ -142,6 +152,7 @@ fn outcome_from(
         Some(refusal) => Err(Fault {
             refusal,
             report: Some(report),
+            failed: None,
         }),
         None => Ok(Outcome {
             results: report.results,

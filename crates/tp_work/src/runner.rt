@@ -15,6 +15,7 @@ ghost use Rattle.tp_work.specs.Reports.{IsEnd, IsReportOf, told_of_end};
 
 use crate::config::{Config, Fault};
 use crate::crowd::Crowd;
+use crate::failed_task::FailedTask;
 use crate::gate::Gate;
 use crate::gathered::{Report, count_told, finish};
 use crate::locks::{Locks, check_places, lock_pool};
@@ -37,6 +38,7 @@ pub(crate) struct Runner<'a, G: Graph, A: Gate, R: Wait> {
     pub graph: G,
     pub config: Config,
     pub gate: &'a A,
+    pub failed: &'a FailedTask,
 }
 
 impl<G: Comparable, A: Gate, R: Threads + Wait + Sync> Runner<'_, G, A, R> {
@@ -144,6 +146,7 @@ impl<G: Comparable, A: Gate, R: Threads + Wait + Sync> Runner<'_, G, A, R> {
             is_spare: false,
             locks,
             gate: self.gate,
+            failed: self.failed,
         };
         let answers = thread::scope(
             thread::scope_env(),
@@ -315,11 +318,12 @@ pub(crate) fn report_of<G: Graph, K: Ledgers>(
 
 /// Returns the fault of a pool without a report.
 pub(crate) fn ungathered(refusal: Refusal) -> Fault
-    ensures { result ≡ record { refusal = refusal; report = None } }
+    ensures { result ≡ record { refusal = refusal; report = None; failed = None } }
 {
     Fault {
         refusal,
         report: None,
+        failed: None,
     }
 }
 
@@ -327,13 +331,14 @@ pub(crate) fn ungathered(refusal: Refusal) -> Fault
 /// is why.
 pub(crate) fn fault_with(refusal: Refusal, gathered: Result<Report, Refusal>) -> Fault
     ensures { MatchResult gathered
-        (λ report. result ≡ record { refusal = refusal; report = Some report })
-        (λ e. result ≡ record { refusal = e; report = None }) }
+        (λ report. result ≡ record { refusal = refusal; report = Some report; failed = None })
+        (λ e. result ≡ record { refusal = e; report = None; failed = None }) }
 {
     match gathered {
         Ok(report) => Fault {
             refusal,
             report: Some(report),
+            failed: None,
         },
         Err(refusal) => ungathered(refusal),
     }

@@ -16,6 +16,7 @@ ghost use Rattle.tp_work.specs.Series.{AddsKept, IsDoneOnceInEach, IsKept, IsSer
 ghost use Rattle.tp_work.specs.declared.series.Round.{Round};
 
 use crate::config::{Config, Fault};
+use crate::failed_task::FailedTask;
 use crate::gate::Gate;
 use crate::gathered::Report;
 use crate::lives::sent_in_each;
@@ -75,7 +76,16 @@ pub fn run_generations<G: Graph, A: Gate, R: Threads + Wait + Sync>(
     ensures fault { IfErr result (IsSeriesFault config.nodes (G.meaning graph) count) }
 {
     let blanks = Blanks::new(config.nodes);
-    run_only::<G, Brand, Brand, A, R>(rt, alloc, graph, config, gate, count, blanks)
+    let failed = FailedTask::new();
+    match run_only::<G, Brand, Brand, A, R>(
+        rt, alloc, graph, config, gate, &failed, count, blanks,
+    ) {
+        Ok(series) => Ok(series),
+        Err(fault) => Err(Fault {
+            failed: failed.task(),
+            ..fault
+        }),
+    }
 }
 
 /// Opens a pool over the one graph that `D` names, so that comparing graphs costs nothing, with the ledgers that `K`
@@ -93,6 +103,7 @@ fn run_only<
     graph: G,
     config: Config,
     gate: &'a A,
+    failed: &'a FailedTask,
     count: u32,
     blanks: Blanks,
 ) -> Result<Series, Fault>
@@ -110,6 +121,7 @@ fn run_only<
         graph: Only::<G, D>::new(graph),
         config,
         gate,
+        failed,
     };
     let mut rounds = match Vec::with_capacity(alloc, count as usize) {
         Ok(rounds) => rounds,
@@ -408,6 +420,7 @@ fn series_from<G: Graph>(
         Err(refusal) => Err(Fault {
             refusal,
             report: Some(report),
+            failed: None,
         }),
     }
 }

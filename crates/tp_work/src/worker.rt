@@ -5,6 +5,7 @@ ghost use Rattle.std.specs.Prelude.{◌≡◌, IfOk, None, OnOk, Some, if◌then
 mod passing;
 mod receiving;
 
+use crate::failed_task::FailedTask;
 use crate::gate::Gate;
 use crate::locks::{Locks, NodeSlot, lock_soon};
 use crate::run_queue::{RunQueue, Share};
@@ -45,6 +46,7 @@ pub(crate) struct Worker<'a, G: Graph, K: Ledgers, A: Gate, R: Wait> {
     pub is_spare: bool,
     pub locks: &'a Locks<G, K>,
     pub gate: &'a A,
+    pub failed: &'a FailedTask,
 }
 
 /// The task that a worker has in flight between two critical sections of its node's lock. Each turn borrows it, so that
@@ -92,6 +94,7 @@ impl<'a, G: Comparable, K: Ledgers, A: Gate, R: Wait> Worker<'a, G, K, A, R> {
             is_spare,
             locks: self.locks,
             gate: self.gate,
+            failed: self.failed,
         }
     }
 
@@ -114,7 +117,12 @@ impl<'a, G: Comparable, K: Ledgers, A: Gate, R: Wait> Worker<'a, G, K, A, R> {
             begun: None,
             finished: None,
         };
-        self.work_at(node_slot, &mut in_flight)
+        let ended = self.work_at(node_slot, &mut in_flight);
+        // A task whose body failed is still in flight.
+        if let (Err(Refusal::BodyFailed), Some(work)) = (&ended, &in_flight.begun) {
+            self.failed.note(work.task());
+        }
+        ended
     }
 
     /// Takes turns until the pool has ended. The in-flight task is borrowed, so that no way out of this function has to

@@ -38,7 +38,8 @@ fn reserve_room(steps: &mut Vec<Step>, more: usize) -> Result<u32, AllocError>
     ensures room { IfOk result (λ end. end ≤ vec_capacity steps.new) }
     // The list has the pieces of all these steps.
     ensures pieces { OnOk result ((k : ℕ) → k ≤ length steps.old.items + more → k ≤ MAX_STEPS → HasPieces k (vec_capacity steps.new)) }
-    ensures frugal { IfOk result (λ end. GrowsFrugally (length steps.old.items) (max (vec_capacity steps.old) end) (vec_capacity steps.new)) }
+    ensures frugal { IfOk result (λ end.
+        GrowsFrugally (length steps.old.items) (max (vec_capacity steps.old) end) (vec_capacity steps.new)) }
     ensures kept { OnErr result (vec_capacity steps.new ≡ vec_capacity steps.old) }
 {
     let taken = steps.len();

@@ -3,8 +3,8 @@ use Rattle.tp_base.specs.declared.Refusal.TheVariants.{Missing}
 use Rattle.tp_graph.specs.Found.{HasEachOnce}
 use Rattle.tp_graph.specs.Graphs.{TaskGraph}
 use Rattle.tp_graph.specs.Left.{AreResults}
+use Rattle.pool_blocks.specs.Joined.{LacksTask}
 use Rattle.pool_kernels.proofs.Rows.{run_row, run_whole}
-use Rattle.pool_kernels.specs.Joined.{LacksTask}
 use Rattle.pool_kernels.proofs.run.run_grid.Goals as goal
 
 pub unreachable-requires : goal.unreachable-requires

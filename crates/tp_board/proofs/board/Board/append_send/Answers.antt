@@ -1,11 +1,11 @@
-use Rattle.std.proofs.Common.{ap, ◌∙◌, rules, tests}
+use Rattle.std.proofs.Common.{ap, ◌∙◌, arith, rules, tests}
 use Rattle.tp_base.specs.declared.step.Step.TheVariants.{Send}
 use Rattle.tp_board.specs.States.{BoardState}
 use Rattle.tp_board.proofs.Further.{few_generations, send_follows, within_more}
 use Rattle.tp_board.proofs.board.Board.append_send.Goals as goal
 
 pub add_send-requires-clause-few : goal.add_send-requires-clause-few
-add_send-requires-clause-few g c = few_generations _ _ _ _ _ c.self.invariant
+add_send-requires-clause-few g c = omega (arith, few_generations _ _ _ _ _ c.self.invariant)
 
 pub invariant_of-self-2 : goal.invariant_of-self-2
 invariant_of-self-2 g c =

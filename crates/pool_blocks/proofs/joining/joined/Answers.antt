@@ -1,7 +1,7 @@
 use Rattle.std.proofs.Common.{◌+◌, ◌++◌, Some, refl, ap, sym, ◌∙◌, subst, inr, arith}
 use Rattle.tp_graph.specs.Found.{ArePlaces}
-use Rattle.pool_kernels.proofs.Rows.{joined_more, more_there}
-use Rattle.pool_kernels.proofs.joining.joined.Goals as goal
+use Rattle.pool_blocks.proofs.JoinedValues.{joined_more, more_there}
+use Rattle.pool_blocks.proofs.joining.joined.Goals as goal
 
 pub loop-i-preserved : goal.loop-i-preserved
 loop-i-preserved c =

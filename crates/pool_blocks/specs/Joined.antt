@@ -1,11 +1,15 @@
 -- The values of tasks in a row, as one list.
-use Rattle.std.specs.Prelude.{◌≡◌, ◌≢◌, ◌<◌, ◌+◌, ◌⊎◌, ℕ, ℤ, List, Option, Some, All, IsTrue}
+use Rattle.std.specs.Prelude.{◌≡◌, ◌≢◌, ◌<◌, ◌+◌, ◌⊎◌, ℕ, ℤ, List, [], ◌∷◌, ◌++◌, Option, Some, All, IsTrue}
 use Rattle.tp_base.specs.declared.Refusal.{Refusal}
 use Rattle.tp_base.specs.declared.Refusal.TheVariants.{Missing, NoMemory}
 use Rattle.tp_graph.specs.Graphs.{TaskGraph}
 use Rattle.tp_graph.specs.Serial.{Results}
 use Rattle.tp_graph.specs.Values.{gather, then_some, value_of}
-use Rattle.pool_kernels.specs.Kernels.{in_a_row}
+
+-- lists of numbers, one after the other
+abbrev pub in_a_row : List (List ℤ) → List ℤ
+in_a_row [] = []
+in_a_row (x ∷ rest) = x ++ in_a_row rest
 
 -- the numbers of the values of `count` tasks from task `first` on; none if one of the tasks has no value
 abbrev pub numbers_from : TaskGraph → ℕ → ℕ → Option (List ℤ)

@@ -2,7 +2,7 @@
 ghost use Rattle.std.specs.Prelude.{◌≡◌, ◌<◌, ◌+◌, ◌^◌, IfOk, IfErr, OnOk, Some};
 ghost use Rattle.tp_graph.specs.Graphs.{TaskGraph};
 ghost use Rattle.tp_graph.specs.Left.{AreKept};
-ghost use Rattle.pool_kernels.specs.Joined.{IsJoinedRefusal, KeepsFrom, LacksTask, numbers_from};
+ghost use Rattle.pool_blocks.specs.Joined.{IsJoinedRefusal, KeepsFrom, LacksTask, numbers_from};
 
 use std::alloc::Global;
 use tp_base::{Refusal, TaskId};
