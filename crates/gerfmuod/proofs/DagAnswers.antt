@@ -69,9 +69,9 @@ slot_same old new e f = ap (λ (b : Bool). slot b new.pool) e ∙ ap (λ (p : Po
 
 -- An open pool passes the first check.
 open_refuses : (old new : SlotState) (more : List Check) (a : DagAnswer) → IsTrue old.is_open
-    → IfSome (first_refusal more) (λ r. (a.refused ≡ number_of r) × (new ≡ old)) → RefusesBy (checks old more) old a new
+    → IfSome (first_refusal more) (λ r. (a ≡ refusal_answer r) × (new ≡ old)) → RefusesBy (checks old more) old a new
 open_refuses old new more a live h =
-    subst (λ (b : Bool). IfSome (first_refusal ((not b, refusal.NoPool) ∷ more)) (λ r. (a.refused ≡ number_of r) × (new ≡ old)))
+    subst (λ (b : Bool). IfSome (first_refusal ((not b, refusal.NoPool) ∷ more)) (λ r. (a ≡ refusal_answer r) × (new ≡ old)))
     (sym live) h
 
 -- A pool that is not open does not.
@@ -79,7 +79,7 @@ shut_refuses : (old : SlotState) (more : List Check) → IsFalse old.is_open
     → RefusesBy (checks old more) old (refusal_answer refusal.NoPool) old
 shut_refuses old more shut =
     subst (λ (b : Bool). IfSome (first_refusal ((not b, refusal.NoPool) ∷ more))
-    (λ r. (number_of refusal.NoPool ≡ number_of r) × (old ≡ old))) (sym shut) (refl, refl)
+    (λ r. (refusal_answer refusal.NoPool ≡ refusal_answer r) × (old ≡ old))) (sym shut) (refl, refl)
 
 abbrev Same : (A : Type 0) → Result A Refusal → Result A Refusal → Type 0
 Same A x y = x ≡ y
@@ -98,9 +98,9 @@ passed None x S Q h = tt
 passed (Some r) x S Q h = absurd (never_ok x r h.0)
 
 failed : (A : Type 0) (o : Option Refusal) (e : Refusal) (S T : Type 0) → (S → T) → IfSome o (λ r. Same A (Err e) (Err r) × S)
-    → IfSome o (λ r. (number_of e ≡ number_of r) × T)
+    → IfSome o (λ r. (refusal_answer e ≡ refusal_answer r) × T)
 failed A None e S T f h = tt
-failed A (Some r) e S T f h = (ap number_of (same_err A e r h.0), f h.1)
+failed A (Some r) e S T f h = (ap refusal_answer (same_err A e r h.0), f h.1)
 
 -- The same, of a call that changes nothing if it is refused.
 none_refused : {A : Type 0} (o : Option Refusal) (x : A) (Q : Refusal → Type 0) → IfSome o (λ r. Same A (Ok x) (Err r)) → IfSome o Q
@@ -108,9 +108,9 @@ none_refused None x Q h = tt
 none_refused (Some r) x Q h = absurd (never_ok x r h)
 
 by_check : (A : Type 0) {T : Type 0} (o : Option Refusal) (e : Refusal) → T → IfSome o (λ r. Same A (Err e) (Err r))
-    → IfSome o (λ r. (number_of e ≡ number_of r) × T)
+    → IfSome o (λ r. (refusal_answer e ≡ refusal_answer r) × T)
 by_check A None e t h = tt
-by_check A (Some r) e t h = (ap number_of (same_err A e r h), t)
+by_check A (Some r) e t h = (ap refusal_answer (same_err A e r h), t)
 
 -- ---- task
 pub task_done : (p : Inside) (now : SlotState) (pool : PoolState) (node class number : ℕ) → state_of p ≡ now → IsTrue now.is_open
@@ -316,7 +316,7 @@ next_done p now pool node news n same live check run finished wait waiting left 
 
 pub next_refused : (p : Inside) (now : SlotState) (pool : PoolState) (node : ℕ) (e : Refusal) → state_of p ≡ now → IsTrue now.is_open
     → IfSome (first_refusal (next_checks p.pool node)) (λ r. Same Next (Err e) (Err r) × (pool ≡ p.pool)) → AddsOnly is_delivery p.pool pool
-    → IsRefusalBy (next_checks p.pool node) p.pool e → SameGraph p.pool pool → AreDelivered node p.pool pool
+    → IsRefusalBy (next_checks p.pool node) pool e → SameGraph p.pool pool → AreDelivered node p.pool pool
     → BeginsMore (dispatched (Err e)) p.pool pool
     → IsNext now node (refusal_answer e) (state_of (record p { pool = pool }))
 next_refused p now pool node e same live check err exact graph ways begun =
@@ -366,7 +366,7 @@ done_done p now pool node task news same live check is ways begun =
 
 pub done_refused : (p : Inside) (now : SlotState) (pool : PoolState) (node task : ℕ) (e : Refusal) → state_of p ≡ now → IsTrue now.is_open
     → IfSome (first_refusal (done_checks p.pool node task)) (λ r. Same ℕ (Err e) (Err r) × (pool ≡ p.pool))
-    → AddsOnly is_sending p.pool pool → IsRefusalBy (done_checks p.pool node task) p.pool e → AreSent task p.pool pool
+    → AddsOnly is_sending p.pool pool → IsRefusalBy (done_checks p.pool node task) pool e → AreSent task p.pool pool
     → BeginsMore (λ t. 0) p.pool pool
     → IsDone now node task (refusal_answer e) (state_of (record p { pool = pool }))
 done_refused p now pool node task e same live check is exact ways begun =

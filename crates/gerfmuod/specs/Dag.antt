@@ -14,7 +14,7 @@ use Rattle.tp_dag.specs.State.{PoolState, AddsOnly, SameGraph, IsTaskAdded, IsIn
 use Rattle.tp_dag.specs.State.{IsDispatched, IsFinished, IsCompleted}
 use Rattle.tp_dag.specs.State.{IsBehind, BeginsMore, IsIdle, IsInactive, IsNotQuiet, HasEndedMessages, LacksInput, MayWait}
 use Rattle.tp_dag.specs.State.{AreDelivered, AreSent, extends}
-use Rattle.tp_dag.specs.Journal.{LacksRoomForSteps, is_readying, is_delivery, is_sending, is_of_room, keeps, kept_step}
+use Rattle.tp_dag.specs.Journal.{LacksRoomForSteps, is_readying, is_delivery, is_sending, is_of_room, is_of_some_room, keeps, kept_step}
 use Rattle.tp_dag.specs.Again.{IsAgain}
 use Rattle.tp_dag.specs.State.{task_checks, input_checks, start_checks, outside_checks, release_checks, next_checks, done_checks}
 use Rattle.tp_dag.specs.declared.entry.Stage.TheVariants as stage
@@ -69,21 +69,21 @@ pub record IsShut (a : SlotState) : Type 0 where
 abbrev pub checks : SlotState → List Check → List Check
 checks a more = (not a.is_open, NoPool) ∷ more
 
--- A check is a condition and a refusal. If a condition holds, the call is refused for the first that does, and nothing
--- changes.
-abbrev pub RefusesBy : List Check → SlotState → DagAnswer → SlotState → Type 0
-RefusesBy tests old a new = IfSome (first_refusal tests) (λ r. (a.refused ≡ number_of r) × (new ≡ old))
-
-abbrev pub plain : ℕ → ℕ → DagAnswer
-plain number news = record { refused = 0; told = 0; number = number; news = news }
-
--- the number of steps, if there is no room for more
+-- the limit that was met, if there is no room for more
 abbrev pub limit_of : Refusal → ℕ
 limit_of (HistoryFull n) = n
 limit_of _ = 0
 
 abbrev pub refusal_answer : Refusal → DagAnswer
 refusal_answer r = record { refused = number_of r; told = 0; number = limit_of r; news = 0 }
+
+-- A check is a condition and a refusal. If a condition holds, the call is refused for the first that does, and nothing
+-- changes.
+abbrev pub RefusesBy : List Check → SlotState → DagAnswer → SlotState → Type 0
+RefusesBy tests old a new = IfSome (first_refusal tests) (λ r. (a ≡ refusal_answer r) × (new ≡ old))
+
+abbrev pub plain : ℕ → ℕ → DagAnswer
+plain number news = record { refused = 0; told = 0; number = number; news = news }
 
 -- the result of `next`: news is the set of nodes at which a thread may find something new
 abbrev pub next_answer : Next → ℕ → DagAnswer
@@ -98,13 +98,14 @@ IsTaskRefusal node class a r =
     (first_refusal (task_checks a node class) ≡ Some r) ⊎ ((r ≡ Ended) × IsFinished a)
     ⊎ ((r ≡ HistoryFull MAX_STEPS) × IsTrue a.started × IsTrue (keeps a.journal))
     ⊎ ((r ≡ Inactive) × IsInactive node a)
-    ⊎ IsTrue (is_of_room true r)
+    ⊎ (r ≡ NoMemory)
+    ⊎ IsTrue (is_of_room a.journal r)
 
 pub record IsTask (old : SlotState) (node class : ℕ) (a : DagAnswer) (new : SlotState) : Type 0 where
   pub checked : RefusesBy (checks old (task_checks old.pool node class)) old a new
   pub added : a.refused ≡ 0 → IsTaskAdded node class a.number old.pool new.pool
   pub refused : 1 ≤ a.refused → new ≡ old
-  pub exact : IsTrue old.is_open → 1 ≤ a.refused → (r : Refusal) × (a.refused ≡ number_of r) × IsTaskRefusal node class old.pool r
+  pub exact : IsTrue old.is_open → 1 ≤ a.refused → (r : Refusal) × (a ≡ refusal_answer r) × IsTaskRefusal node class old.pool r
 
 -- Why the newest task does not get this input: by the first check that holds; or since it may not get one more; or a started pool that
 -- keeps its steps has none left for it; or for lack of memory.
@@ -121,7 +122,7 @@ pub record IsInput (old : SlotState) (source : ℕ) (a : DagAnswer) (new : SlotS
   pub done : a.refused ≡ 0 → slice_get old.pool.stages source ≡ Some stage.Done → new.pool ≡ record old.pool { extended = extends old.pool }
   pub waits : a.refused ≡ 0 → (t : ℕ) → t + 1 ≡ length old.pool.tasks → MayWait t old.pool
   pub refused : 1 ≤ a.refused → new ≡ old
-  pub exact : IsTrue old.is_open → 1 ≤ a.refused → (r : Refusal) × (a.refused ≡ number_of r) × IsInputRefusal source old.pool r
+  pub exact : IsTrue old.is_open → 1 ≤ a.refused → (r : Refusal) × (a ≡ refusal_answer r) × IsInputRefusal source old.pool r
 
 -- An open pool is not started by the first check that holds; or, if it keeps its steps, for lack of room for them, or of memory.
 abbrev pub IsStartRefusal : PoolState → Refusal → Type 0
@@ -132,7 +133,7 @@ pub record IsStart (old : SlotState) (a : DagAnswer) (new : SlotState) : Type 0 
   pub started : a.refused ≡ 0 → IsStarted old.pool new.pool
   pub refused : 1 ≤ a.refused → AddsOnly is_readying old.pool new.pool
   pub ways : new.pool.ways ≡ old.pool.ways
-  pub exact : IsTrue old.is_open → 1 ≤ a.refused → (r : Refusal) × (a.refused ≡ number_of r) × IsStartRefusal old.pool r
+  pub exact : IsTrue old.is_open → 1 ≤ a.refused → (r : Refusal) × (a ≡ refusal_answer r) × IsStartRefusal old.pool r
 
 -- An open pool does not take one more input from outside by the first check that holds; or since the task lacks nothing after the start.
 abbrev pub IsOutsideRefusal : ℕ → PoolState → Refusal → Type 0
@@ -143,27 +144,28 @@ pub record IsOutside (old : SlotState) (task : ℕ) (a : DagAnswer) (new : SlotS
   pub checked : RefusesBy (checks old (outside_checks old.pool task)) old a new
   pub added : a.refused ≡ 0 → IsOutsideAdded task old.pool new.pool
   pub refused : 1 ≤ a.refused → new ≡ old
-  pub exact : IsTrue old.is_open → 1 ≤ a.refused → (r : Refusal) × (a.refused ≡ number_of r) × IsOutsideRefusal task old.pool r
+  pub exact : IsTrue old.is_open → 1 ≤ a.refused → (r : Refusal) × (a ≡ refusal_answer r) × IsOutsideRefusal task old.pool r
 
 pub record IsRelease (old : SlotState) (task : ℕ) (a : DagAnswer) (new : SlotState) : Type 0 where
   pub checked : RefusesBy (checks old (release_checks old.pool task)) old a new
   pub released : a.refused ≡ 0 → IsReleased task old.pool new.pool
   pub refused : 1 ≤ a.refused → new ≡ old
-  pub exact : IsTrue old.is_open → 1 ≤ a.refused → (r : Refusal) × (a.refused ≡ number_of r)
+  pub exact : IsTrue old.is_open → 1 ≤ a.refused → (r : Refusal) × (a ≡ refusal_answer r)
       × (first_refusal (release_checks old.pool task) ≡ Some r)
 
 -- 1 if a result of `next` dispatches task t, else 0
 abbrev pub dispatched_by : DagAnswer → ℕ → ℕ
 dispatched_by a t = if a.told == 1 then (if a.number == t then 1 else 0) else 0
 
--- An open pool refuses `next` and `done` by the first check that holds, or for lack of room for steps, or of memory if it keeps them.
+-- An open pool refuses `next` and `done` by the first check that holds; or for lack of room, since it is at a limit after the call; or of
+-- memory, if it keeps its steps.
 abbrev pub IsRefusalBy : List Check → PoolState → Refusal → Type 0
-IsRefusalBy tests a r = (first_refusal tests ≡ Some r) ⊎ IsTrue (is_of_room (keeps a.journal) r)
+IsRefusalBy tests a r = (first_refusal tests ≡ Some r) ⊎ IsTrue (is_of_room a.journal r)
 
 pub record IsNext (old : SlotState) (node : ℕ) (a : DagAnswer) (new : SlotState) : Type 0 where
   pub checked : RefusesBy (checks old (next_checks old.pool node)) old a new
-  pub exact : IsTrue old.is_open → 1 ≤ a.refused → (r : Refusal) × (a.refused ≡ number_of r)
-      × IsRefusalBy (next_checks old.pool node) old.pool r
+  pub exact : IsTrue old.is_open → 1 ≤ a.refused → (r : Refusal) × (a ≡ refusal_answer r)
+      × IsRefusalBy (next_checks old.pool node) new.pool r
   pub run : a.told ≡ 1 → IsDispatched node a.number old.pool new.pool
   pub finished : a.told ≡ 3 → IsFinished new.pool
   pub wait : a.told ≡ 2 → IsIdle node new.pool × AddsOnly is_delivery old.pool new.pool
@@ -176,8 +178,8 @@ pub record IsNext (old : SlotState) (node : ℕ) (a : DagAnswer) (new : SlotStat
 
 pub record IsDone (old : SlotState) (node task : ℕ) (a : DagAnswer) (new : SlotState) : Type 0 where
   pub checked : RefusesBy (checks old (done_checks old.pool node task)) old a new
-  pub exact : IsTrue old.is_open → 1 ≤ a.refused → (r : Refusal) × (a.refused ≡ number_of r)
-      × IsRefusalBy (done_checks old.pool node task) old.pool r
+  pub exact : IsTrue old.is_open → 1 ≤ a.refused → (r : Refusal) × (a ≡ refusal_answer r)
+      × IsRefusalBy (done_checks old.pool node task) new.pool r
   pub done : a.refused ≡ 0 → IsCompleted task old.pool new.pool
   pub refused : 1 ≤ a.refused → AddsOnly is_sending old.pool new.pool
   pub ways : AreSent task old.pool new.pool
@@ -185,7 +187,7 @@ pub record IsDone (old : SlotState) (node task : ℕ) (a : DagAnswer) (new : Slo
 
 -- An open pool is not started once more if it is not over, or was extended; or for lack of room for steps, or of memory if it keeps them.
 abbrev pub IsAgainRefusal : PoolState → Refusal → Type 0
-IsAgainRefusal a r = ((r ≡ WrongLife) × ((IsFinished a → ⊥) ⊎ IsTrue a.extended)) ⊎ IsTrue (is_of_room (keeps a.journal) r)
+IsAgainRefusal a r = ((r ≡ WrongLife) × ((IsFinished a → ⊥) ⊎ IsTrue a.extended)) ⊎ IsTrue (is_of_some_room (keeps a.journal) r)
 
 pub record IsAgainCall (old : SlotState) (a : DagAnswer) (new : SlotState) : Type 0 where
   pub checked : RefusesBy (checks old []) old a new
@@ -193,7 +195,7 @@ pub record IsAgainCall (old : SlotState) (a : DagAnswer) (new : SlotState) : Typ
   pub described : a.refused ≡ 0 → IsFalse old.pool.extended
   pub again : a.refused ≡ 0 → IsAgain old.pool new.pool
   pub refused : 1 ≤ a.refused → new ≡ old
-  pub exact : IsTrue old.is_open → 1 ≤ a.refused → (r : Refusal) × (a.refused ≡ number_of r) × IsAgainRefusal old.pool r
+  pub exact : IsTrue old.is_open → 1 ≤ a.refused → (r : Refusal) × (a ≡ refusal_answer r) × IsAgainRefusal old.pool r
 
 abbrev pub step_answer : Option Step → DagStep
 step_answer (Some (Insert i t k)) = record { kind = 0; first = i.0; second = t.0; third = k.count }

@@ -13,6 +13,8 @@ mod calls;
 #[cfg(test)]
 mod counted;
 #[cfg(test)]
+mod cuts;
+#[cfg(test)]
 mod failing;
 #[cfg(test)]
 mod gates;

@@ -1,8 +1,9 @@
 -- A list behind the counters of a recorder goes on by a step, and the step's checks are exact for it.
 use Rattle.tp_core.proofs.Words.{ℕ, ◌≡◌, ◌<◌, ◌≤◌, List, [], ◌∷◌, Bool, true, false, Option, Some, None, refl, ap}
-use Rattle.tp_core.proofs.Words.{sym, subst, ◌∙◌, arith, IsTrue, IsFalse, nat_tests, nat_lt, ◌||◌, set, length-set}
+use Rattle.tp_core.proofs.Words.{sym, subst, ◌∙◌, arith, IsTrue, IsFalse, nat_tests, nat_lt, ◌||◌, set, length-set, length, length-reverse}
 use Rattle.tp_core.proofs.Words.{option_map, slice_index_or, if◌then◌else◌, Step, Insert, Supply, Begin, Done, ActionOpen, ActionClose}
-use Rattle.tp_core.proofs.Words.{Ready, Send, Recv, MessageEnd, MAX_MESSAGES, MAX_NODES, Refusal, first_refusal, is_control, is_reopen, any}
+use Rattle.tp_core.proofs.Words.{Ready, Send, Recv, MessageEnd, MAX_MESSAGES, MAX_NODES, MAX_STEPS, Refusal, first_refusal, is_control}
+use Rattle.tp_core.proofs.Words.{is_reopen, any}
 use Rattle.tp_core.proofs.Words.{History, Needs, pending_at, under_way, under_way_after, steps_of, present, NodeNumbers}
 use Rattle.tp_core.proofs.Words.{history, IsLawful, IsLawfulRun, IsRefusedFor, opened_below, numbers_in, pool_step}
 use Rattle.tp_core.proofs.Words.{Wave, Follows}
@@ -12,7 +13,8 @@ use Rattle.tp_core.proofs.Exact.{first_of_first}
 use Rattle.tp_core.proofs.Generations.{present-goes_on, present_run, never_early_in_each}
 use Rattle.tp_core.proofs.Keeping.{moved, numbers_written, zeros}
 use Rattle.tp_core.proofs.Written.{written}
-use Rattle.tp_core.specs.Recording.{Recorded, Backs, MayBeRecorded, limit_checks, kept_checks, record_checks, BackingListsAreSafe}
+use Rattle.tp_core.specs.Recording.{Recorded, Backs, MayBeRecorded, limit_checks, kept_checks, record_checks, IsWithinLimits}
+use Rattle.tp_core.specs.Recording.{BackingListsAreSafe}
 use Rattle.tp_core.specs.RecorderKept.{AreFew, AreFirst, kept_steps, has_needed, numbers_after, sent_after, received_after}
 
 -- ---- a list behind the counters is a run of one generation
@@ -143,6 +145,20 @@ few_next {numbers} {v} under node s few low is none =
           (sym (written numbers node i v d (omega (arith, low, size))))
           (received_either _ v (slice_index_or numbers i d) received (few.received i d l));
     }
+
+-- ---- the limits
+kept_few : (b : Bool) (items : List Step) → length items ≤ MAX_STEPS → IfSome (kept_steps b items) (λ xs. length xs ≤ MAX_STEPS)
+kept_few true items h = rw (length-reverse items) h
+kept_few false items h = tt
+
+pub within_limits : {nodes under : ℕ} {numbers : List NodeNumbers} {wave : Wave} (keeps : Bool) (items : List Step) → AreFew numbers
+    → length items ≤ MAX_STEPS
+    → IsWithinLimits (record { nodes = nodes; numbers = numbers; under = under; wave = wave; steps = kept_steps keeps items })
+within_limits keeps items few few_steps = record {
+  steps = kept_few keeps items few_steps;
+  sent = λ i l. few.sent i zeros l;
+  received = λ i l. few.received i zeros l;
+}
 
 -- ---- why a step that may come next is refused
 pub by_limit : (a : Recorded) (node : ℕ) (s : Step) (asks : Bool) (r : Refusal)

@@ -1,9 +1,9 @@
 -- What contracts see of a recorder: counters, and the lists of steps that have them.
-use Rattle.std.specs.Prelude.{ℕ, ◌*◌, ◌==◌, ◌||◌, ◌≡◌, ◌≤◌, List, [], ◌∷◌, ◌++◌, not, nat_le, IsFalse, length}
+use Rattle.std.specs.Prelude.{ℕ, ◌*◌, ◌==◌, ◌||◌, ◌≡◌, ◌<◌, ◌≤◌, List, [], ◌∷◌, ◌++◌, not, nat_le, IsFalse, length}
 use Rattle.std.specs.Prelude.{Option, Some, None, IfSome}
 use Rattle.std.specs.List.{slice_index_or}
 use Rattle.tp_base.specs.Checks.{Check}
-use Rattle.tp_base.specs.declared.limits.TheConstants.{MAX_MESSAGES, MAX_NODES}
+use Rattle.tp_base.specs.declared.limits.TheConstants.{MAX_MESSAGES, MAX_NODES, MAX_STEPS}
 use Rattle.tp_base.specs.declared.Refusal.TheVariants.{Ended, NotIdle, HistoryFull}
 use Rattle.tp_base.specs.declared.Step.{Step}
 use Rattle.tp_base.specs.declared.Step.TheVariants.{Insert, ActionOpen, Send, Recv}
@@ -71,6 +71,12 @@ kept_checks (Some steps) more = rooms_check (length steps) more
 -- The checks of a step that may be recorded, in order: a counter is at its limit; there is no room.
 abbrev pub record_checks : Recorded → ℕ → Step → List Check
 record_checks a node s = limit_checks (slice_index_or a.numbers node no_numbers) a.under s ++ kept_checks a.steps 1
+
+-- At most MAX_STEPS steps are kept, and each node has sent and received at most MAX_MESSAGES messages.
+pub record IsWithinLimits (a : Recorded) : Type 0 where
+  pub steps : IfSome a.steps (λ xs. length xs ≤ MAX_STEPS)
+  pub sent : (i : ℕ) → i < MAX_NODES → (slice_index_or a.numbers i no_numbers).sent ≤ MAX_MESSAGES
+  pub received : (i : ℕ) → i < MAX_NODES → (slice_index_or a.numbers i no_numbers).received ≤ MAX_MESSAGES
 
 -- ---- settling
 -- The checks of settling, in order, if the list h is behind the counters: termination was detected; the pool is not

@@ -57,7 +57,7 @@ impl Recorder {
     ghost use Rattle.tp_base.specs.declared.Step.{Step};
     ghost use Rattle.tp_wave.specs.Sums.{is_ended};
     ghost use Rattle.tp_core.specs.Accepted.{IsRefusedFor};
-    ghost use Rattle.tp_core.specs.Recording.{Backs, MayBeRecorded, IsRecorded, record_checks};
+    ghost use Rattle.tp_core.specs.Recording.{Backs, MayBeRecorded, IsRecorded, IsWithinLimits, record_checks};
     ghost use Rattle.tp_core.specs.Run.{world};
     ghost use Rattle.tp_core.specs.World.{IsQuiet};
 
@@ -86,7 +86,8 @@ impl Recorder {
     /// 536,870,911 messages and does so again, or if a number that the step raises is 4,294,967,295; `HistoryFull`,
     /// with the number of kept steps, if this is 1,048,576; `NoMemory` if steps are kept and an allocation fails. Other
     /// refusals say that the step is not one of a pool, or that no lawful step has these counters: `NoNode`,
-    /// `Inactive`, `NoMessage`, `BadSpec`.
+    /// `Inactive`, `NoMessage`, `BadSpec`. After each call at most 1,048,576 steps are kept, and no node has sent or received
+    /// more than 536,870,911 messages.
     pub fn record(&mut self, node: NodeId, step: Step) -> Result<(), Refusal>
         // Each list behind the old counters goes on by the step.
         ensures ok { OnOk result (IsRecorded node.0 step self.old self.new) }
@@ -95,6 +96,7 @@ impl Recorder {
         ensures why { IfErr result (λ r. (h : List Step) → Backs h self.old → MayBeRecorded self.old.nodes node.0 h step
             → IsRefusedFor (first_refusal (record_checks self.old node.0 step)) (is_some self.old.steps) r) }
         ensures err { OnErr result (self.new ≡ self.old) }
+        ensures within { IsWithinLimits self.new }
         ensures nodes { self.new.nodes ≡ self.old.nodes }
     {
         if node.0 >= self.nodes {

@@ -1,32 +1,36 @@
 -- How the lists of steps behind a journal go on with its calls.
-use Rattle.std.proofs.Common.{ℕ, zero, suc, ◌≡◌, ◌<◌, ◌+◌, List, [], ◌∷◌, ◌++◌, Bool, true, false, Option, Some, None, Result, length}
-use Rattle.std.proofs.Common.{refl, ap, subst, sym, ◌∙◌, arith, IsTrue, IsFalse}
-use Rattle.std.specs.Prelude.{◌||◌, ◌==◌, nat_le, Ok, Err, OnOk, OnErr, IfErr, is_some, slice_get, not}
+use Rattle.std.proofs.Common.{ℕ, zero, suc, ◌≡◌, ◌<◌, ◌≤◌, ◌+◌, List, [], ◌∷◌, ◌++◌, Bool, true, false, Option, Some, None, Result, length}
+use Rattle.std.proofs.Common.{refl, ap, subst, sym, ◌∙◌, arith, inl, inr, IsTrue, IsFalse}
+use Rattle.std.specs.Prelude.{◌||◌, ◌&&◌, ◌⊎◌, ◌*◌, ◌==◌, nat_le, nat_lt, Ok, Err, OnOk, OnErr, IfErr, IfSome, is_some, slice_get, not}
 use Rattle.std.specs.List.{list_any, slice_index_or}
 use Rattle.std.specs.Option.{option_map}
 use Rattle.std.proofs.lemmas.Bool.{both_ways}
+use Rattle.std.proofs.lemmas.Bool.Decides.{nat_tests}
 use Rattle.std.proofs.Math.ListN.{set}
 use Rattle.tp_base.specs.declared.Refusal.{Refusal}
 use Rattle.tp_base.specs.declared.Refusal.TheVariants as refusal
 use Rattle.tp_base.specs.declared.Step.{Step}
 use Rattle.tp_base.specs.declared.Step.TheVariants.{Insert, ActionOpen, Ready, Send, Recv, MessageEnd, Judge}
 use Rattle.tp_base.specs.Checks.{Check, first_refusal}
-use Rattle.tp_base.specs.declared.limits.TheConstants.{MAX_MESSAGES}
+use Rattle.tp_base.specs.declared.limits.TheConstants.{MAX_MESSAGES, MAX_STEPS}
 use Rattle.tp_wave.specs.Steps.{is_reopen}
 use Rattle.tp_wave.specs.Control.{is_control}
 use Rattle.tp_wave.specs.Generations.{IsOfGeneration}
 use Rattle.tp_wave.specs.Sums.{judgement, is_ended}
 use Rattle.tp_core.specs.Accepted.{IsRefusedFor, no_numbers}
-use Rattle.tp_core.specs.Recording.{Recorded, Backs, MayBeRecorded, IsRecorded, HasSettled, record_checks, limit_checks, kept_checks}
-use Rattle.tp_core.specs.Recording.{settling_checks}
+use Rattle.tp_core.specs.Recording.{Recorded, Backs, MayBeRecorded, IsRecorded, IsWithinLimits, HasSettled, record_checks, limit_checks}
+use Rattle.tp_core.specs.Recording.{kept_checks, settling_checks}
 use Rattle.tp_core.specs.Run.{world, node_of, IsLawful}
 use Rattle.tp_core.specs.World.{World, is_open, IsQuiet}
 use Rattle.tp_core.specs.declared.numbers.NodeNumbers.{NodeNumbers}
 use Rattle.tp_core.proofs.Ending.{same_quiet}
+use Rattle.tp_core.proofs.RecorderCounting.{inside_of}
 use Rattle.tp_dag.specs.declared.journal.Journal.TheInside.{Inside}
 use Rattle.tp_dag.specs.JournalKept.{journal_of}
 use Rattle.tp_dag.specs.Journal.{JournalState, IsBehindJournal, JournalLeads, Records, IsRefusedForRoom, Adds, IsJudged, keeps, receipt}
-use Rattle.tp_dag.specs.Journal.{is_of_room, is_plain, is_readying, is_ending, has_open, is_receiving, LacksRoomForSteps}
+use Rattle.tp_dag.specs.Journal.{has_all_messages, has_most, is_met, lacks_steps, is_of_some_room, most}
+use Rattle.tp_dag.specs.Journal.{is_of_room, with_limit, is_plain, is_readying, is_ending, has_open, is_receiving}
+use Rattle.tp_dag.specs.Journal.{LacksRoomForSteps}
 use Rattle.tp_dag.proofs.Steps.{one_generation, adds_more}
 use Rattle.tp_dag.proofs.Worlds.{may_come, plain_opens, controls_stay}
 use Rattle.tp_dag.proofs.Actions.{opening_open, message_open, same_open, ready_closes, received_open, end_closes, first_open}
@@ -62,39 +66,120 @@ records_plain a new node s plain is same = λ past b may. record {
 }
 
 -- ---- a refusal for room
-abbrev ByLimits : List Check → Type 0
-ByLimits cs = (k asks : Bool) (r : Refusal) → IsRefusedFor (first_refusal cs) asks r → (IsTrue asks → IsTrue k) → IsTrue (is_of_room k r)
+or_left : (x y : Bool) → IsTrue x → IsTrue (x || y)
+or_left true y h = refl
+or_left false y h = cc
 
-none_left : (k asks : Bool) (r : Refusal) → (r ≡ refusal.NoMemory) × IsTrue asks → (IsTrue asks → IsTrue k) → IsTrue (is_of_room k r)
-none_left k asks r h f = rw h.0 (f h.1)
+or_right : (x y : Bool) → IsTrue y → IsTrue (x || y)
+or_right true y h = refl
+or_right false y h = h
 
-full : (k : Bool) (n : ℕ) (r : Refusal) → r ≡ refusal.HistoryFull n → IsTrue (is_of_room k r)
-full k n r h = rw h refl
+any_at : (test : NodeNumbers → Bool) (xs : List NodeNumbers) (i : ℕ) (d : NodeNumbers) → i < length xs
+    → IsTrue (test (slice_index_or xs i d)) → IsTrue (list_any test xs)
+any_at test [] i d l h = absurd (omega (arith, l))
+any_at test (x ∷ xs) zero d l h = or_left (test x) (list_any test xs) h
+any_at test (x ∷ xs) (suc i) d l h = or_right (test x) (list_any test xs) (any_at test xs i d (omega (arith, l)) h)
 
-one_check : (b : Bool) (n : ℕ) (cs : List Check) → ByLimits cs → ByLimits ((b, refusal.HistoryFull n) ∷ cs)
-one_check true n cs rest k asks r h f = full k n r h
-one_check false n cs rest k asks r h f = rest k asks r h f
+-- there is no memory, or no room for steps
+abbrev LacksSteps : Bool → Bool → Refusal → Type 0
+LacksSteps keeps lacks r = ((r ≡ refusal.NoMemory) × IsTrue keeps) ⊎ ((r ≡ refusal.HistoryFull MAX_STEPS) × IsTrue lacks)
 
-by_kept : (o : Option (List Step)) (more : ℕ) → ByLimits (kept_checks o more)
-by_kept None more k asks r h f = none_left k asks r h f
-by_kept (Some xs) more k asks r h f = one_check _ _ [] none_left k asks r h f
+in_room : (a : JournalState) (r : Refusal) → LacksSteps (keeps a) (lacks_steps a.recorded) r → IsTrue (is_of_room a r)
+in_room a r h = elim h [ inl e ↦ rw e.0 e.1 | inr e ↦ rw e.0 (or_left (lacks_steps a.recorded) _ e.1) ]
 
--- the limit of a counter: the largest number of 32 bits
-abbrev most : ℕ
-most = 4294967295
+abbrev AreFewKept : Option (List Step) → Type 0
+AreFewKept o = IfSome o (λ xs. length xs ≤ MAX_STEPS)
 
-limits_room : (x : NodeNumbers) (under : ℕ) (s : Step) (o : Option (List Step)) → ByLimits (limit_checks x under s ++ kept_checks o 1)
-limits_room x under (Insert i t n) o k asks r h f =
-    one_check (x.pending == most) most (kept_checks o 1) (by_kept o 1) k asks r h f
-limits_room x under (ActionOpen i a) o k asks r h f =
-    one_check (x.pending == most) most (kept_checks o 1) (by_kept o 1) k asks r h f
-limits_room x under (Send i j m g) o k asks r h f =
-    one_check (nat_le MAX_MESSAGES x.sent) MAX_MESSAGES ((under == most, refusal.HistoryFull most) ∷ kept_checks o 1)
-    (one_check (under == most) most (kept_checks o 1) (by_kept o 1)) k asks r h f
-limits_room x under (Recv j m g) o k asks r h f =
-    one_check (nat_le MAX_MESSAGES x.received) MAX_MESSAGES ((x.pending == most, refusal.HistoryFull most) ∷ kept_checks o 1)
-    (one_check (x.pending == most) most (kept_checks o 1) (by_kept o 1)) k asks r h f
-limits_room x under (s) o k asks r h f = by_kept o 1 k asks r h f
+abbrev has_refused : List Check → Bool
+has_refused cs = is_some (first_refusal cs)
+
+by_check : (b c : Bool) (n : ℕ) (r : Refusal) → (IsTrue b → n ≡ MAX_STEPS) → (IsTrue b → IsTrue c)
+    → IsRefusedFor (first_refusal ((b, refusal.HistoryFull n) ∷ [])) true r
+    → LacksSteps true (has_refused ((c, refusal.HistoryFull n) ∷ [])) r
+by_check true true n r is more h = inr (h ∙ ap (λ (k : ℕ). refusal.HistoryFull k) (is refl), refl)
+by_check true false n r is more h = absurd (both_ways false refl (more refl))
+by_check false c n r is more h = inl h
+
+by_kept : (o : Option (List Step)) (nodes : ℕ) (r : Refusal) → AreFewKept o → 1 ≤ nodes
+    → IsRefusedFor (first_refusal (kept_checks o 1)) (is_some o) r → LacksSteps (is_some o) (has_refused (kept_checks o (9 * nodes))) r
+by_kept None nodes r few one h = inl h
+by_kept (Some xs) nodes r few one h =
+    by_check (nat_lt MAX_STEPS (length xs + 1)) (nat_lt MAX_STEPS (length xs + 9 * nodes)) (length xs) r (full_at (length xs) few)
+    (no_more (length xs)) h
+  where
+    full_at : (n : ℕ) → n ≤ MAX_STEPS → IsTrue (nat_lt MAX_STEPS (n + 1)) → n ≡ MAX_STEPS
+    full_at n few full = let l : MAX_STEPS < n + 1 = grind (arith, nat_tests, full) in omega (arith, few, l)
+
+    no_more : (n : ℕ) → IsTrue (nat_lt MAX_STEPS (n + 1)) → IsTrue (nat_lt MAX_STEPS (n + 9 * nodes))
+    no_more n full = let l : MAX_STEPS < n + 1 = grind (arith, nat_tests, full) in grind (arith, nat_tests, l, one)
+
+-- a step may have raised a counter of its node to its limit
+abbrev ByLimits : JournalState → List Check → Type 0
+ByLimits a cs = (r : Refusal) → IsRefusedFor (first_refusal cs) (keeps a) r → IsTrue (is_of_room a r)
+
+one_check : (a : JournalState) (b : Bool) (n : ℕ) (cs : List Check) → (IsTrue b → IsTrue (is_met a.recorded n)) → ByLimits a cs
+    → ByLimits a ((b, refusal.HistoryFull n) ∷ cs)
+one_check a true n cs is rest r h = rw h (is refl)
+one_check a false n cs is rest r h = rest r h
+
+abbrev numbers_of : JournalState → ℕ → NodeNumbers
+numbers_of a node = slice_index_or a.recorded.numbers node no_numbers
+
+by_pending : (a : JournalState) (node : ℕ) (cs : List Check) → node < length a.recorded.numbers → ByLimits a cs
+    → ByLimits a (((numbers_of a node).pending == most, refusal.HistoryFull most) ∷ cs)
+by_pending a node cs l rest =
+    one_check a ((numbers_of a node).pending == most) most cs
+    (λ h. or_right (a.recorded.under == most) _ (any_at (λ x. x.pending == most) a.recorded.numbers node no_numbers l h)) rest
+
+by_flight : (a : JournalState) (cs : List Check) → ByLimits a cs → ByLimits a ((a.recorded.under == most, refusal.HistoryFull most) ∷ cs)
+by_flight a cs rest = one_check a (a.recorded.under == most) most cs (λ h. or_left (a.recorded.under == most) _ h) rest
+
+messages_met : (a : JournalState) (node : ℕ) → node < length a.recorded.numbers → IsTrue (has_all_messages (numbers_of a node))
+    → IsTrue (is_met a.recorded MAX_MESSAGES)
+messages_met a node l h =
+    or_left (list_any has_all_messages a.recorded.numbers) _ (any_at has_all_messages a.recorded.numbers node no_numbers l h)
+
+limits_room : (a : JournalState) (node : ℕ) (s : Step) → node < length a.recorded.numbers → ByLimits a (kept_checks a.recorded.steps 1)
+    → ByLimits a (limit_checks (numbers_of a node) a.recorded.under s ++ kept_checks a.recorded.steps 1)
+limits_room a node (Insert i t n) l kept r h = by_pending a node (kept_checks a.recorded.steps 1) l kept r h
+limits_room a node (ActionOpen i k) l kept r h = by_pending a node (kept_checks a.recorded.steps 1) l kept r h
+limits_room a node (Send i j m g) l kept r h =
+    one_check a (nat_le MAX_MESSAGES (numbers_of a node).sent) MAX_MESSAGES
+    ((a.recorded.under == most, refusal.HistoryFull most) ∷ kept_checks a.recorded.steps 1)
+    (λ e. messages_met a node l (or_left (nat_le MAX_MESSAGES (numbers_of a node).sent) _ e))
+    (by_flight a (kept_checks a.recorded.steps 1) kept) r h
+limits_room a node (Recv j m g) l kept r h =
+    one_check a (nat_le MAX_MESSAGES (numbers_of a node).received) MAX_MESSAGES
+    (((numbers_of a node).pending == most, refusal.HistoryFull most) ∷ kept_checks a.recorded.steps 1)
+    (λ e. messages_met a node l (or_right (nat_le MAX_MESSAGES (numbers_of a node).sent) _ e))
+    (by_pending a node (kept_checks a.recorded.steps 1) l kept) r h
+limits_room a node (s) l kept r h = kept r h
+
+-- the same, if no more is known than whether steps are kept
+lacks_kept : (o : Option (List Step)) (more : ℕ) → IsTrue (has_refused (kept_checks o more)) → IsTrue (is_some o)
+lacks_kept None more h = h
+lacks_kept (Some xs) more h = refl
+
+either_of : (q s y z : Bool) → IsTrue ((q && y) || (s && z)) → IsTrue (q || s)
+either_of true s y z h = refl
+either_of false true y z h = refl
+either_of false false y z h = h
+
+some_limit : (p q s x y z k : Bool) → (IsTrue x → IsTrue k) → IsTrue ((p && x) || ((q && y) || (s && z)))
+    → IsTrue ((p && k) || (q || s))
+some_limit true q s true y z k kept h = or_left k (q || s) (kept refl)
+some_limit true q s false y z k kept h = or_right k (q || s) (either_of q s y z h)
+some_limit false q s x y z k kept h = either_of q s y z h
+
+pub some_room : (a : JournalState) (r : Refusal) → IsTrue (is_of_room a r) → IsTrue (is_of_some_room (keeps a) r)
+some_room a refusal.NoMemory h = h
+some_room a (refusal.HistoryFull n) h =
+    some_limit (n == MAX_STEPS) (n == MAX_MESSAGES) (n == most) (lacks_steps a.recorded) (list_any has_all_messages a.recorded.numbers)
+    (has_most a.recorded) (keeps a) (lacks_kept a.recorded.steps (9 * a.recorded.nodes)) h
+some_room a (r) h = cc
+
+pub lacks_some : (k : Bool) (r : Refusal) → LacksRoomForSteps k r → IsTrue (is_of_some_room k r)
+lacks_some k r h = elim h.1 [ inl e ↦ rw e h.0 | inr e ↦ rw e (or_left k _ h.0) ]
 
 pub refused_with : (r : Result (Unit {0}) Refusal) (e : Refusal) (P : Refusal → Type 0) → r ≡ Err e → P e → IfErr r P
 refused_with r e P h x = rw h x
@@ -105,43 +190,60 @@ at_place (x ∷ xs) zero o d l e = ap Some e
 at_place (x ∷ xs) (suc i) o d l e = at_place xs i o d (omega (arith, l)) e
 
 -- what the recorder says of a refused step, in the words of the journal
-pub refused_for_room : (a : JournalState) (node : ℕ) (s : Step) (r : Refusal)
+pub refused_for_room : (a : JournalState) (node : ℕ) (s : Step) (r : Refusal) → IsWithinLimits a.recorded
     → ((past : List Step) → Backs past a.recorded → MayBeRecorded a.recorded.nodes node past s
     → IsRefusedFor (first_refusal (record_checks a.recorded node s)) (is_some a.recorded.steps) r)
     → IsRefusedForRoom node s a r
-refused_for_room a node s r why = λ past b may.
-    limits_room (slice_index_or a.recorded.numbers node no_numbers) a.recorded.under s a.recorded.steps (keeps a)
-    (is_some a.recorded.steps) r (why past b.backs may) (λ h. h)
+refused_for_room a node s r within why = λ past b may.
+    let inside = inside_of b.backs may in
+    let few = b.backs.few_nodes in
+    let size = b.backs.numbers.size in
+    limits_room a node s (omega (arith, inside, few, size))
+    (λ e h. in_room a e (by_kept a.recorded.steps a.recorded.nodes e within.steps b.backs.some_node h)) r (why past b.backs may)
 
-pub record_refused : (p : Inside) (now : JournalState) (node : ℕ) (s : Step) (r : Result (Unit {0}) Refusal) → journal_of p ≡ now
+pub record_refused : (p : Inside) (now : JournalState) (node : ℕ) (s : Step) (r : Result (Unit {0}) Refusal) (new : Recorded)
+    → journal_of p ≡ now → IsWithinLimits new → OnErr r (new ≡ p.recorder)
     → IfErr r (λ e. (past : List Step) → Backs past p.recorder → MayBeRecorded p.recorder.nodes node past s
     → IsRefusedFor (first_refusal (record_checks p.recorder node s)) (is_some p.recorder.steps) e)
     → IfErr r (IsRefusedForRoom node s now)
-record_refused p now node s (Ok u) same h = tt
-record_refused p now node s (Err e) same h =
-    subst (λ (a : JournalState). IsRefusedForRoom node s a e) same (refused_for_room (journal_of p) node s e h)
+record_refused p now node s (Ok u) new same within err h = tt
+record_refused p now node s (Err e) new same within err h =
+    subst (λ (a : JournalState). IsRefusedForRoom node s a e) same
+    (refused_for_room (journal_of p) node s e (subst (λ (a : Recorded). IsWithinLimits a) err within) h)
 
 -- a step that raises no counter
-by_steps : (o : Option (List Step)) (r : Refusal) → IsRefusedFor (first_refusal (kept_checks o 1)) (is_some o) r
+by_steps : (o : Option (List Step)) (r : Refusal) → AreFewKept o → IsRefusedFor (first_refusal (kept_checks o 1)) (is_some o) r
     → LacksRoomForSteps (is_some o) r
-by_steps None r h = absurd (both_ways false refl h.1)
-by_steps (Some xs) r h = (refl, one_check _ _ [] none_left true true r h (λ k. k))
+by_steps None r few h = absurd (both_ways false refl h.1)
+by_steps (Some xs) r few h = (refl, elim (by_kept (Some xs) 1 r few (omega arith) h) [ inl e ↦ inl e.0 | inr e ↦ inr e.0 ])
 
-by_settling : (ended quiet : Bool) (o : Option (List Step)) (more : ℕ) (k : Bool) (r : Refusal) → ended ≡ false → quiet ≡ true
+-- the waves, which need room for more steps
+at_limit : (b : Bool) (n : ℕ) (r : Refusal) → IsRefusedFor (first_refusal ((b, refusal.HistoryFull n) ∷ [])) true r
+    → LacksSteps true (has_refused ((b, refusal.HistoryFull n) ∷ [])) (with_limit r)
+at_limit true n r h = inr (rw h refl, refl)
+at_limit false n r h = inl (rw h.0 refl, refl)
+
+by_waves : (o : Option (List Step)) (more : ℕ) (r : Refusal) → IsRefusedFor (first_refusal (kept_checks o more)) (is_some o) r
+    → LacksSteps (is_some o) (has_refused (kept_checks o more)) (with_limit r)
+by_waves None more r h = absurd (both_ways false refl h.1)
+by_waves (Some xs) more r h = at_limit (nat_lt MAX_STEPS (length xs + more)) (length xs) r h
+
+by_settling : (ended quiet : Bool) (o : Option (List Step)) (more : ℕ) (r : Refusal) → ended ≡ false → quiet ≡ true
     → IsRefusedFor (first_refusal ((ended, refusal.Ended) ∷ (not quiet, refusal.NotIdle) ∷ kept_checks o more)) (is_some o) r
-    → (IsTrue (is_some o) → IsTrue k) → IsTrue (is_of_room k r)
-by_settling true quiet o more k r e q h f = cc
-by_settling false false o more k r e q h f = cc
-by_settling false true o more k r e q h f = by_kept o more k (is_some o) r h f
+    → LacksSteps (is_some o) (has_refused (kept_checks o more)) (with_limit r)
+by_settling true quiet o more r e q h = cc
+by_settling false false o more r e q h = cc
+by_settling false true o more r e q h = by_waves o more r h
 
 pub settling_refused : (a : JournalState) (r : Refusal)
     → ((past : List Step) → Backs past a.recorded
     → IsRefusedFor (first_refusal (settling_checks a.recorded past)) (is_some a.recorded.steps) r)
     → (past : List Step) → IsBehindJournal past a → IsFalse (is_ended a.recorded.nodes past) → IsQuiet (world a.recorded.nodes past)
-    → IsTrue (is_of_room (keeps a) r)
+    → IsTrue (is_of_room a (with_limit r))
 settling_refused a r why past b ended quiet =
-    by_settling _ _ a.recorded.steps _ (keeps a) r ended
-    (same_quiet true (world a.recorded.nodes past) (λ h. quiet, λ h. refl)) (why past b.backs) (λ h. h)
+    in_room a (with_limit r)
+    (by_settling _ _ a.recorded.steps (9 * a.recorded.nodes) r ended
+    (same_quiet true (world a.recorded.nodes past) (λ h. quiet, λ h. refl)) (why past b.backs))
 
 -- ---- the next node ends its opening action
 abbrev pub ready_step : ℕ → Step
@@ -152,11 +254,11 @@ pub may_ready : {past : List Step} {a : JournalState} → IsBehindJournal past a
 may_ready {past} {a} b l =
     may_record a.ready_nodes (ready_step a.ready_nodes) b.backs refl refl (l, opening_open a.ready_nodes b (omega arith) l) tt refl
 
-pub ready_refused : (a : JournalState) (r : Refusal) → a.ready_nodes < a.recorded.nodes
+pub ready_refused : (a : JournalState) (r : Refusal) → IsWithinLimits a.recorded → a.ready_nodes < a.recorded.nodes
     → ((past : List Step) → Backs past a.recorded → MayBeRecorded a.recorded.nodes a.ready_nodes past (ready_step a.ready_nodes)
     → IsRefusedFor (first_refusal (record_checks a.recorded a.ready_nodes (ready_step a.ready_nodes))) (is_some a.recorded.steps) r)
     → (past : List Step) → IsBehindJournal past a → LacksRoomForSteps (keeps a) r
-ready_refused a r l why past b = by_steps a.recorded.steps r (why past b.backs (may_ready b l))
+ready_refused a r within l why past b = by_steps a.recorded.steps r within.steps (why past b.backs (may_ready b l))
 
 readied : {past : List Step} {a : JournalState} (new : Recorded) → IsBehindJournal past a → a.ready_nodes < a.recorded.nodes
     → IsRecorded a.ready_nodes (ready_step a.ready_nodes) a.recorded new → new.nodes ≡ a.recorded.nodes
@@ -238,11 +340,12 @@ ends_one a new node k l at is same = λ past b. record {
 }
 
 -- it is refused only for room
-pub end_refused : (a : JournalState) (node k : ℕ) (e : Refusal) → node < a.recorded.nodes → slice_get a.receiving node ≡ Some (Some k)
+pub end_refused : (a : JournalState) (node k : ℕ) (e : Refusal) → IsWithinLimits a.recorded → node < a.recorded.nodes
+    → slice_get a.receiving node ≡ Some (Some k)
     → ((past : List Step) → Backs past a.recorded → MayBeRecorded a.recorded.nodes node past (end_step node k)
     → IsRefusedFor (first_refusal (record_checks a.recorded node (end_step node k))) (is_some a.recorded.steps) e)
-    → (past : List Step) → IsBehindJournal past a → IsTrue (is_of_room (keeps a) e)
-end_refused a node k e l at why past b = refused_for_room a node (end_step node k) e why past b (may_end node k b l at)
+    → (past : List Step) → IsBehindJournal past a → IsTrue (is_of_room a e)
+end_refused a node k e within l at why past b = refused_for_room a node (end_step node k) e within why past b (may_end node k b l at)
 
 -- ---- the waves run
 settled : {past : List Step} {a : JournalState} (new : Recorded) (w count : ℕ) → IsBehindJournal past a

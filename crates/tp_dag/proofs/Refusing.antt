@@ -1,7 +1,7 @@
 -- What the refusals of a pool mean: for which check, for lack of room, or because a task may be dispatched.
 use Rattle.std.proofs.Common.{ℕ, ◌≡◌, ◌≢◌, ◌<◌, ◌≤◌, ◌⊎◌, List, Bool, true, false, length, map, refl, ap, subst, ◌∙◌, ◌↔◌, sym, arith}
 use Rattle.std.proofs.Common.{IsTrue, IsFalse, Result, Option, Some, None, inr}
-use Rattle.std.specs.Prelude.{◌==◌, ◌&&◌, Ok, Err, IfErr, IfSome, is_some, slice_get, nat_le}
+use Rattle.std.specs.Prelude.{◌==◌, ◌&&◌, Ok, Err, IfErr, IfSome, OnErr, is_some, slice_get, nat_le}
 use Rattle.std.proofs.lemmas.Bool.{both_ways}
 use Rattle.std.proofs.lemmas.Bool.Decides.{nat_tests}
 use Rattle.std.proofs.lemmas.List.{length-map}
@@ -23,8 +23,8 @@ use Rattle.tp_dag.specs.declared.entry.Way.TheVariants as way
 use Rattle.tp_dag.specs.declared.pool.Pool.TheInside.{Inside}
 use Rattle.tp_dag.specs.Board as on_board
 use Rattle.tp_dag.specs.Counts.{BoardFacts}
-use Rattle.tp_dag.specs.Journal.{IsBehindJournal, IsRefusedForRoom, LacksRoomForSteps, keeps, is_of_room, receipt}
-use Rattle.tp_dag.specs.State.{PoolState, IsFinished, AddsOnly, LacksInput, HasNoneReady, MayWait, IsComing, outside_checks, release_checks}
+use Rattle.tp_dag.specs.Journal.{JournalState, IsBehindJournal, IsRefusedForRoom, LacksRoomForSteps, keeps, is_of_room, receipt}
+use Rattle.tp_dag.specs.State.{PoolState, IsFinished, LacksInput, HasNoneReady, MayWait, IsComing, outside_checks, release_checks}
 use Rattle.tp_dag.specs.Kept.{state_of, entry_of, stage_of, outside_of, way_of, IsPool, IsConsistent, IsHome, IsFromAfar, sending}
 use Rattle.tp_dag.proofs.Lists.{at_below, map_get, map_got, past_end}
 use Rattle.tp_dag.proofs.Finding.{ready_lacks_none}
@@ -34,39 +34,23 @@ use Rattle.tp_dag.proofs.Reading.{lacks_input}
 use Rattle.tp_dag.proofs.Views.{some_same, lacks_seen, lacks_board, consistent}
 
 -- ---- a step that may be recorded is refused for lack of room alone
-pub room_now : (p : Inside) (now : PoolState) (r : Refusal) → state_of p ≡ now → IsTrue (is_of_room (keeps p.journal) r)
-    → IsTrue (is_of_room (keeps now.journal) r)
-room_now p now r same h = subst (λ (a : PoolState). IsTrue (is_of_room (keeps a.journal) r)) same h
+pub room_now : (p : Inside) (now : PoolState) (r : Refusal) → state_of p ≡ now → IsTrue (is_of_room p.journal r)
+    → IsTrue (is_of_room now.journal r)
+room_now p now r same h = subst (λ (a : PoolState). IsTrue (is_of_room a.journal r)) same h
 
--- the same, of a state that keeps steps as another one does
-pub room_of : (a b : PoolState) (r : Refusal) → keeps b.journal ≡ keeps a.journal → IsTrue (is_of_room (keeps b.journal) r)
-    → IsTrue (is_of_room (keeps a.journal) r)
-room_of a b r same h = subst (λ (k : Bool). IsTrue (is_of_room k r)) same h
+-- the same, of a journal that is as before
+pub room_still : (a b : JournalState) (r : Refusal) → b ≡ a → IsTrue (is_of_room a r) → IsTrue (is_of_room b r)
+room_still a b r same h = subst (λ (j : JournalState). IsTrue (is_of_room j r)) (sym same) h
 
-pub room_after : {test : Step → Bool} (a b : PoolState) (r : Refusal) → AddsOnly test a b → IsTrue (is_of_room (keeps b.journal) r)
-    → IsTrue (is_of_room (keeps a.journal) r)
-room_after a b r x h = room_of a b r x.graph.keeps h
+pub refused_or : {A : Type 0} (r : Result A Refusal) (P Q : Refusal → Type 0) → IfErr r Q → IfErr r (λ e. P e ⊎ Q e)
+refused_or (Ok u) P Q h = tt
+refused_or (Err e) P Q h = inr h
 
-pub room_after_if : {A : Type 0} {test : Step → Bool} (a b : PoolState) (r : Result A Refusal) → AddsOnly test a b
-    → IfErr r (λ e. IsTrue (is_of_room (keeps b.journal) e)) → IfErr r (λ e. IsTrue (is_of_room (keeps a.journal) e))
-room_after_if a b (Ok u) x h = tt
-room_after_if a b (Err e) x h = room_after a b e x h
-
--- a call that passes on a refusal
-pub room_passed : {A : Type 0} {test : Step → Bool} (a b : PoolState) (r : Result A Refusal) (e f : Refusal) → r ≡ Err e → e ≡ f
-    → AddsOnly test a b → IsTrue (is_of_room (keeps b.journal) f) → IfErr r (λ g. IsTrue (is_of_room (keeps a.journal) g))
-room_passed a b r e f is same x h = rw (is, same) (room_after a b f x h)
-
-pub refused_or : {A : Type 0} (r : Result A Refusal) (P : Refusal → Type 0) (a b : PoolState) → keeps b.journal ≡ keeps a.journal
-    → IfErr r (λ e. IsTrue (is_of_room (keeps b.journal) e)) → IfErr r (λ e. P e ⊎ IsTrue (is_of_room (keeps a.journal) e))
-refused_or (Ok u) P a b same h = tt
-refused_or (Err e) P a b same h = inr (room_of a b e same h)
-
-pub room_if : {A : Type 0} (p : Inside) (now : PoolState) (r : Result A Refusal) → IsPool p → state_of p ≡ now
-    → IfErr r (λ e. (past : List Step) → IsBehindJournal past p.journal → IsTrue (is_of_room (keeps p.journal) e))
-    → IfErr r (λ e. IsTrue (is_of_room (keeps now.journal) e))
-room_if p now (Ok u) k same h = tt
-room_if p now (Err e) k same h = room_now p now e same (h k.past k.behind.journal)
+pub room_if : {A : Type 0} (p : Inside) (new : JournalState) (r : Result A Refusal) → IsPool p → OnErr r (new ≡ p.journal)
+    → IfErr r (λ e. (past : List Step) → IsBehindJournal past p.journal → IsTrue (is_of_room p.journal e))
+    → IfErr r (λ e. IsTrue (is_of_room new e))
+room_if p new (Ok u) k same h = tt
+room_if p new (Err e) k same h = room_still p.journal new e same (h k.past k.behind.journal)
 
 pub lacks_if : {A : Type 0} (p : Inside) (now : PoolState) (r : Result A Refusal) → IsPool p → state_of p ≡ now
     → IfErr r (λ e. (past : List Step) → IsBehindJournal past p.journal → LacksRoomForSteps (keeps p.journal) e)
@@ -75,24 +59,17 @@ lacks_if p now (Ok u) k same h = tt
 lacks_if p now (Err e) k same h =
     subst (λ (a : PoolState). LacksRoomForSteps (keeps a.journal) e) same (h k.past k.behind.journal)
 
--- with more memory it is refused for lack of room too
-pub room_or_memory : (k : Bool) (r : Refusal) → IsTrue (is_of_room k r) → IsTrue (is_of_room true r)
-room_or_memory true r h = h
-room_or_memory false (refusal.HistoryFull n) h = refl
-room_or_memory false (r) h = cc
-
 pub insert_refused : (p : Inside) (node t : ℕ) (i : Inputs) (r : Refusal) → IsPool p → node < p.nodes → t ≡ length p.board.tasks
     → ((past : List Step) → IsBehindJournal past p.journal → IsActive node (world p.journal.recorded.nodes past))
-    → IsRefusedForRoom node (Insert (record { 0 = node }) (record { 0 = t }) i) p.journal r → IsTrue (is_of_room true r)
+    → IsRefusedForRoom node (Insert (record { 0 = node }) (record { 0 = t }) i) p.journal r → IsTrue (is_of_room p.journal r)
 insert_refused p node t i r k within number active h =
     let unknown : slice_get (map stage_of p.board.tasks) t ≡ None =
     past_end (map stage_of p.board.tasks) t (let l = length-map p.board.tasks stage_of in omega (arith, l, number)) in
-    room_or_memory (keeps p.journal) r
-    (h k.past k.behind.journal (may_insert node t i k.behind within unknown
-    (subst (λ (n : ℕ). IsActive node (world n k.past)) k.behind.nodes (active k.past k.behind.journal))))
+    h k.past k.behind.journal (may_insert node t i k.behind within unknown
+    (subst (λ (n : ℕ). IsActive node (world n k.past)) k.behind.nodes (active k.past k.behind.journal)))
 
 pub begin_refused : (p : Inside) (node t : ℕ) (r : Refusal) → IsPool p → on_board.IsReady node t p.board
-    → IsRefusedForRoom node (Begin (record { 0 = t })) p.journal r → IsTrue (is_of_room (keeps p.journal) r)
+    → IsRefusedForRoom node (Begin (record { 0 = t })) p.journal r → IsTrue (is_of_room p.journal r)
 begin_refused p node t r k ready h =
     h k.past k.behind.journal (may_begin node t (entry_of ready.task) k.behind
     (map_get stage_of p.board.tasks t ready.task ready.is ∙ ap Some ready.fresh) (map_get entry_of p.board.tasks t ready.task ready.is)
@@ -100,7 +77,7 @@ begin_refused p node t r k ready h =
 
 pub receive_refused : (p : Inside) (now : PoolState) (node k : ℕ) (r : Refusal) → IsPool p → state_of p ≡ now → BoardFacts p.board
     → node < now.nodes → IsComing node k now → IsFromAfar node k now → IsRefusedForRoom node (receipt node k) p.journal r
-    → IsTrue (is_of_room (keeps p.journal) r)
+    → IsTrue (is_of_room p.journal r)
 receive_refused p now node k r kept same f within came afar h =
     h kept.past kept.behind.journal (receipt_may p p now node k same
     (subst (λ (a : PoolState). IsConsistent a) same (consistent p.nodes p.progress p.journal p.board f kept.board)) within came afar
@@ -114,7 +91,7 @@ running_task p now t same runs =
 
 pub complete_refused : (p : Inside) (now : PoolState) (node t : ℕ) (r : Refusal) → IsPool p → state_of p ≡ now
     → slice_get now.stages t ≡ Some stage.Running → IsHome node t now → IsRefusedForRoom node (Done (record { 0 = t })) p.journal r
-    → IsTrue (is_of_room (keeps p.journal) r)
+    → IsTrue (is_of_room p.journal r)
 complete_refused p now node t r k same runs home h =
     let x = running_task p now t same runs in
     h k.past k.behind.journal (may_complete node t (entry_of x.0) k.behind
@@ -123,7 +100,7 @@ complete_refused p now node t r k same runs home h =
 
 pub send_refused : (p : Inside) (now : PoolState) (node t k : ℕ) (e : Edge) (r : Refusal) → IsPool p → BoardFacts p.board → state_of p ≡ now
     → slice_get now.stages t ≡ Some stage.Running → IsHome node t now → slice_get p.board.edges k ≡ Some e → e.way ≡ way.Out
-    → (node ≢ e.to) × IsRefusedForRoom node (sending node e.to k) p.journal r → IsTrue (is_of_room (keeps p.journal) r)
+    → (node ≢ e.to) × IsRefusedForRoom node (sending node e.to k) p.journal r → IsTrue (is_of_room p.journal r)
 send_refused p now node t k e r kept f same runs home at out h =
     let x = running_task p now t same runs in
     let is = map_get entry_of p.board.tasks t x.0 x.1 in
@@ -141,8 +118,8 @@ send_refused p now node t k e r kept f same runs home at out h =
 pub settle_refused : (p : Inside) (b : Bool) (r : Refusal) → IsPool p → is_some p.ended_with ≡ false
     → ((past : List Step) → IsBehindJournal past p.journal → (IsTrue b ↔ IsQuiet (world p.journal.recorded.nodes past))) → IsTrue b
     → ((past : List Step) → IsBehindJournal past p.journal → IsFalse (is_ended p.journal.recorded.nodes past)
-    → IsQuiet (world p.journal.recorded.nodes past) → IsTrue (is_of_room (keeps p.journal) r))
-    → IsTrue (is_of_room (keeps p.journal) r)
+    → IsQuiet (world p.journal.recorded.nodes past) → IsTrue (is_of_room p.journal r))
+    → IsTrue (is_of_room p.journal r)
 settle_refused p b r k none quiet is h =
     h k.past k.behind.journal (ap (λ (n : ℕ). is_ended n k.past) k.behind.nodes ∙ (sym k.ended ∙ none))
     ((quiet k.past k.behind.journal).0 is)

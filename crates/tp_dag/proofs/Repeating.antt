@@ -63,7 +63,7 @@ may_insert {tasks} {a} count node k b ready l =
 
 -- an insertion is refused for lack of room alone
 pub insert_refused : {tasks : List Task} {a : JournalState} (count node : ℕ) (k : Inputs) (r : Refusal) (b : IsBeginning tasks count a)
-    → a.ready_nodes ≡ 0 → node < a.recorded.nodes → IsRefusedForRoom node (inserts node count k) a r → IsTrue (is_of_room (keeps a) r)
+    → a.ready_nodes ≡ 0 → node < a.recorded.nodes → IsRefusedForRoom node (inserts node count k) a r → IsTrue (is_of_room a r)
 insert_refused count node k r b ready l h = h b.steps b.behind (may_insert count node k b ready l)
 
 pub inserts_more : {tasks : List Task} {old new : JournalState} (count : ℕ) (x : Task) (k : Inputs) → IsBeginning tasks count old

@@ -1,14 +1,17 @@
 -- What contracts see of a pool's journal, the lists of steps behind it, and what its calls do.
-use Rattle.std.specs.Prelude.{ℕ, ◌≡◌, ◌==◌, ◌&&◌, nat_le, nat_lt, List, ◌∷◌, ◌++◌, Bool, true, false, slice_get, IsTrue}
+use Rattle.std.specs.Prelude.{ℕ, ◌≡◌, ◌==◌, ◌&&◌, ◌||◌, ◌*◌, ◌⊎◌, nat_le, nat_lt, List, ◌∷◌, ◌++◌, Bool, true, false, slice_get, IsTrue}
 use Rattle.std.specs.Prelude.{Option, Some, None, is_some, reverse}
-use Rattle.std.specs.List.{list_all}
+use Rattle.std.specs.List.{list_all, list_any}
+use Rattle.tp_base.specs.Checks.{first_refusal}
+use Rattle.tp_base.specs.declared.limits.TheConstants.{MAX_MESSAGES, MAX_STEPS}
 use Rattle.tp_base.specs.declared.Refusal.{Refusal}
 use Rattle.tp_base.specs.declared.Refusal.TheVariants as refusal
 use Rattle.tp_base.specs.declared.Step.{Step}
 use Rattle.tp_base.specs.declared.Step.TheVariants.{Insert, Begin, Done, Ready, Send, Recv, MessageEnd, Judge}
 use Rattle.tp_wave.specs.Control.{is_control}
 use Rattle.tp_wave.specs.Sums.{judgement}
-use Rattle.tp_core.specs.Recording.{Recorded, Backs, MayBeRecorded}
+use Rattle.tp_core.specs.declared.numbers.NodeNumbers.{NodeNumbers}
+use Rattle.tp_core.specs.Recording.{Recorded, Backs, MayBeRecorded, kept_checks}
 use Rattle.tp_core.specs.Run.{world}
 use Rattle.tp_core.specs.World.{Kind, Opening, Named, OfMessage, is_open}
 
@@ -51,15 +54,49 @@ kept_step (Some steps) k = slice_get (reverse steps) k
 abbrev pub receipt : ℕ → ℕ → Step
 receipt node k = Recv (record { 0 = node }) (record { 0 = k }) (record { 0 = 1 })
 
--- whether a refusal is for lack of room: of room for steps, or of memory, which only a journal that keeps steps allocates
-abbrev pub is_of_room : Bool → Refusal → Bool
-is_of_room keeps refusal.NoMemory = keeps
-is_of_room keeps (refusal.HistoryFull n) = true
-is_of_room keeps _ = false
+-- ---- limits
+-- Steps are kept, and there is no room for nine more a node, which the waves may take.
+abbrev pub lacks_steps : Recorded → Bool
+lacks_steps a = is_some (first_refusal (kept_checks a.steps (9 * a.nodes)))
+
+-- The node has sent, or received, as many messages as it may.
+abbrev pub has_all_messages : NodeNumbers → Bool
+has_all_messages x = nat_le MAX_MESSAGES x.sent || nat_le MAX_MESSAGES x.received
+
+-- the largest number of 32 bits, the limit of a counter
+abbrev pub most : ℕ
+most = 4294967295
+
+-- As many tasks and actions are pending at a node, or messages are in flight, as can be counted.
+abbrev pub has_most : Recorded → Bool
+has_most a = (a.under == most) || list_any (λ x. x.pending == most) a.numbers
+
+-- whether limit n is met: of kept steps, of the messages of a node, or of what is counted
+abbrev pub is_met : Recorded → ℕ → Bool
+is_met a n =
+    ((n == MAX_STEPS) && lacks_steps a)
+    || (((n == MAX_MESSAGES) && list_any has_all_messages a.numbers) || ((n == most) && has_most a))
+
+-- whether a refusal is for lack of room: a limit is met; or an allocation failed, and only a journal that keeps steps allocates
+abbrev pub is_of_room : JournalState → Refusal → Bool
+is_of_room a refusal.NoMemory = keeps a
+is_of_room a (refusal.HistoryFull n) = is_met a.recorded n
+is_of_room a _ = false
+
+-- whether a refusal is for lack of room in some journal, of which is known only whether it keeps steps
+abbrev pub is_of_some_room : Bool → Refusal → Bool
+is_of_some_room keeps refusal.NoMemory = keeps
+is_of_some_room keeps (refusal.HistoryFull n) = ((n == MAX_STEPS) && keeps) || ((n == MAX_MESSAGES) || (n == most))
+is_of_some_room keeps _ = false
+
+-- the refusal of several steps, with the limit of kept steps in place of how many are kept
+abbrev pub with_limit : Refusal → Refusal
+with_limit (refusal.HistoryFull n) = refusal.HistoryFull MAX_STEPS
+with_limit r = r
 
 -- Steps are kept, and there is no room for more of them, or no memory.
 abbrev pub LacksRoomForSteps : Bool → Refusal → Type 0
-LacksRoomForSteps keeps r = IsTrue keeps × IsTrue (is_of_room keeps r)
+LacksRoomForSteps keeps r = IsTrue keeps × ((r ≡ refusal.NoMemory) ⊎ (r ≡ refusal.HistoryFull MAX_STEPS))
 
 -- The number of nodes is as before, and steps are kept if they were.
 pub record SameKind (old new : JournalState) : Type 0 where
@@ -82,7 +119,7 @@ Records node s old new = (past : List Step) → IsBehindJournal past old → May
 -- A step that may be recorded after some list behind the journal is refused only for lack of room.
 abbrev pub IsRefusedForRoom : ℕ → Step → JournalState → Refusal → Type 0
 IsRefusedForRoom node s a r = (past : List Step) → IsBehindJournal past a → MayBeRecorded a.recorded.nodes node past s
-    → IsTrue (is_of_room (keeps a) r)
+    → IsTrue (is_of_room a r)
 
 -- Steps that pass the test were added.
 pub record Adds (test : Step → Bool) (past now : List Step) : Type 0 where

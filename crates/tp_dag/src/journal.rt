@@ -6,11 +6,11 @@ ghost use Rattle.tp_wave.specs.Sums.{is_ended};
 ghost use Rattle.tp_core.specs.Run.{world};
 ghost use Rattle.tp_core.specs.World.{IsActive, IsQuiet};
 ghost use Rattle.tp_dag.specs.Journal.{IsBehindJournal, SameKind, Records, IsRefusedForRoom, JournalLeads, Adds, IsJudged, keeps, LacksRoomForSteps};
-ghost use Rattle.tp_dag.specs.Journal.{is_plain, is_of_room, is_readying, is_ending, receipt, kept_step};
+ghost use Rattle.tp_dag.specs.Journal.{is_plain, is_of_room, is_readying, is_ending, receipt, kept_step, with_limit};
 
 use std::alloc::Global;
 use std::marker::Model;
-use tp_base::{Generation, MessageId, NodeId, Refusal, Step};
+use tp_base::{Generation, MAX_STEPS, MessageId, NodeId, Refusal, Step};
 use tp_core::Recorder;
 
 /// Contracts speak of each list of steps that is behind the journal.
@@ -33,6 +33,16 @@ impl Model for Journal {
     ghost view = { journal_of };
 
     ghost invariant = { IsKept };
+}
+
+// a refusal of the waves: the recorder returns how many steps are kept, the journal how many may be kept
+fn with_limit(refusal: Refusal) -> Refusal
+    ensures { result ≡ with_limit refusal }
+{
+    match refusal {
+        Refusal::HistoryFull(_) => Refusal::HistoryFull(MAX_STEPS),
+        other => other,
+    }
 }
 
 impl Journal {
@@ -117,7 +127,7 @@ impl Journal {
         requires { node < self.old.recorded.nodes }
         ensures adds { JournalLeads (Adds is_ending) self.old self.new }
         ensures ended { OnOk result (slice_get self.new.receiving node ≡ Some None) }
-        ensures room { IfErr result (λ r. (past : List Step) → IsBehindJournal past self.old → IsTrue (is_of_room (keeps self.old) r)) }
+        ensures room { IfErr result (λ r. (past : List Step) → IsBehindJournal past self.old → IsTrue (is_of_room self.old r)) }
         ensures err { OnErr result (self.new ≡ self.old) }
         ensures same { SameKind self.old self.new }
     {
@@ -157,16 +167,20 @@ impl Journal {
     }
 
     /// Runs the waves of a quiet pool until they judge that it has terminated. Returns the wave at whose end it had.
+    /// If there is no room for their steps, it is refused with the limit, 1,048,576.
     pub fn settle(&mut self) -> Result<u32, Refusal>
         ensures ok { IfOk result (λ w. JournalLeads (IsJudged self.old.recorded.nodes w) self.old self.new) }
         ensures room { IfErr result (λ r. (past : List Step) → IsBehindJournal past self.old
             → IsFalse (is_ended self.old.recorded.nodes past) → IsQuiet (world self.old.recorded.nodes past)
-            → IsTrue (is_of_room (keeps self.old) r)) }
+            → IsTrue (is_of_room self.old r)) }
         ensures err { OnErr result (self.new ≡ self.old) }
         ensures same { SameKind self.old self.new }
         ensures receiving { self.new.receiving ≡ self.old.receiving }
     {
-        let (wave, _) = self.recorder.settle()?;
+        let (wave, _) = match self.recorder.settle() {
+            Ok(settled) => settled,
+            Err(refusal) => return Err(with_limit(refusal)),
+        };
         Ok(wave)
     }
 

@@ -264,8 +264,8 @@ impl Pool {
     /// whose inputs are all there.
     ///
     /// Refused: `WrongLife` if the pool was not started, and `NoNode`, and nothing changes; else only for lack of room, and the graph is as
-    /// before: `HistoryFull` if 1,048,576 steps are kept, or, in a pool that keeps none, if the node has received 536,870,911 messages;
-    /// `NoMemory` if steps are kept, after which `next` may be called again.
+    /// before: `HistoryFull`, with the limit, if 1,048,576 steps are kept, or too few are left for the waves, or, if none are kept, if the
+    /// node has received 536,870,911 messages; `NoMemory` if steps are kept, after which `next` may be called again.
     pub fn next(&mut self, node: u32) -> Result<Next, Refusal>
         ensures checks { IfSome (first_refusal (next_checks self.old node)) (λ r. (result ≡ Err r) × (self.new ≡ self.old)) }
         ensures run { IfOk result (λ next. (t : ℕ) → next ≡ Next.Run t → IsDispatched node t self.old self.new) }
@@ -276,7 +276,7 @@ impl Pool {
         ensures ended { OnOk result (HasEndedMessages node self.new) }
         ensures err { OnErr result (AddsOnly is_delivery self.old self.new) }
         ensures refused { IfErr result (λ r. (first_refusal (next_checks self.old node) ≡ Some r)
-            ⊎ IsTrue (is_of_room (keeps self.old.journal) r)) }
+            ⊎ IsTrue (is_of_room self.new.journal r)) }
         ensures graph { SameGraph self.old self.new }
         ensures ways { AreDelivered node self.old self.new }
         ensures begun { BeginsMore (dispatched result) self.old self.new }
@@ -357,7 +357,7 @@ impl Pool {
         ensures stages { self.new.stages ≡ self.old.stages }
         ensures ways { self.new.ways ≡ self.old.ways }
         ensures receiving { self.new.journal.receiving ≡ self.old.journal.receiving }
-        ensures room { IfErr result (λ r. IsTrue (is_of_room (keeps self.old.journal) r)) }
+        ensures room { IfErr result (λ r. IsTrue (is_of_room self.new.journal r)) }
     {
         if let Some(wave) = self.ended_with {
             let over = self.journal.is_over();
@@ -379,7 +379,7 @@ impl Pool {
         ensures ok { IfOk result (λ found. (t : ℕ) → found ≡ Some t → IsDispatched node t self.old self.new) }
         ensures none { result ≡ Ok None → (self.new ≡ self.old) × HasNoneReady node self.new }
         ensures err { OnErr result (self.new ≡ self.old) }
-        ensures room { IfErr result (λ r. IsTrue (is_of_room (keeps self.old.journal) r)) }
+        ensures room { IfErr result (λ r. IsTrue (is_of_room self.new.journal r)) }
         ensures ways { self.new.ways ≡ self.old.ways }
         ensures receiving { self.new.journal.receiving ≡ self.old.journal.receiving }
     {
@@ -403,7 +403,7 @@ impl Pool {
         ensures ways { AreDelivered node self.old self.new }
         ensures ok { OnOk result ((k : ℕ) → IsComing node k self.new → ⊥) }
         ensures ended { OnOk result (slice_get self.new.journal.receiving node ≡ Some None) }
-        ensures room { IfErr result (λ r. IsTrue (is_of_room (keeps self.old.journal) r)) }
+        ensures room { IfErr result (λ r. IsTrue (is_of_room self.new.journal r)) }
     {
         // an earlier call may have found no memory for the end of a message
         self.end_message(node)?;
@@ -432,7 +432,7 @@ impl Pool {
         ensures ways { AreDelivered node self.old self.new }
         ensures ok { OnOk result (self.new.ways ≡ slice_set self.old.ways input way.Received) }
         ensures ended { OnOk result (slice_get self.new.journal.receiving node ≡ Some None) }
-        ensures room { IfErr result (λ r. IsTrue (is_of_room (keeps self.old.journal) r)) }
+        ensures room { IfErr result (λ r. IsTrue (is_of_room self.new.journal r)) }
     {
         if self.is_from(node, input) {
             self.arrive(node, input);
@@ -451,7 +451,7 @@ impl Pool {
         ensures adds { AddsOnly is_delivery self.old self.new }
         ensures ok { OnOk result (self.new.ways ≡ slice_set self.old.ways input way.Received) }
         ensures err { OnErr result (self.new ≡ self.old) }
-        ensures room { IfErr result (λ r. IsTrue (is_of_room (keeps self.old.journal) r)) }
+        ensures room { IfErr result (λ r. IsTrue (is_of_room self.new.journal r)) }
     {
         self.board.known();
         if let Err(refusal) = self.journal.receive(node, input) {
@@ -469,7 +469,7 @@ impl Pool {
         ensures adds { AddsOnly is_delivery self.old self.new }
         ensures ways { self.new.ways ≡ self.old.ways }
         ensures ended { OnOk result (slice_get self.new.journal.receiving node ≡ Some None) }
-        ensures room { IfErr result (λ r. IsTrue (is_of_room (keeps self.old.journal) r)) }
+        ensures room { IfErr result (λ r. IsTrue (is_of_room self.new.journal r)) }
     {
         self.journal.end_message(node)
     }
@@ -505,15 +505,15 @@ impl Pool {
     /// a thread may find something new, as bits.
     ///
     /// Refused, and nothing changes: `NoTask`; `WrongLife` if the task was not dispatched, or is done; `NoNode` if its home is another
-    /// node. Else only for lack of room; some messages were sent, and the task is still running: `HistoryFull` if 1,048,576 steps are
-    /// kept, or, in a pool that keeps none, if the node has sent 536,870,911 messages; `NoMemory` if steps are kept, after which `done` may
-    /// be called again.
+    /// node. Else only for lack of room; some messages were sent, and the task is still running: `HistoryFull`, with the limit, if
+    /// 1,048,576 steps are kept, or, in a pool that keeps none, if the node has sent 536,870,911 messages; `NoMemory` if steps are kept,
+    /// after which `done` may be called again.
     pub fn done(&mut self, node: u32, task: u32) -> Result<u32, Refusal>
         ensures checks { IfSome (first_refusal (done_checks self.old node task)) (λ r. (result ≡ Err r) × (self.new ≡ self.old)) }
         ensures ok { OnOk result (IsCompleted task self.old self.new) }
         ensures err { OnErr result (AddsOnly is_sending self.old self.new) }
         ensures refused { IfErr result (λ r. (first_refusal (done_checks self.old node task) ≡ Some r)
-            ⊎ IsTrue (is_of_room (keeps self.old.journal) r)) }
+            ⊎ IsTrue (is_of_room self.new.journal r)) }
         ensures ways { AreSent task self.old self.new }
         ensures begun { BeginsMore (λ t. 0) self.old self.new }
     {
@@ -551,7 +551,7 @@ impl Pool {
         ensures adds { AddsOnly is_sending self.old self.new }
         ensures ways { AreSent task self.old self.new }
         ensures ok { OnOk result (AllPassed task self.new) }
-        ensures room { IfErr result (λ r. IsTrue (is_of_room (keeps self.old.journal) r)) }
+        ensures room { IfErr result (λ r. IsTrue (is_of_room self.new.journal r)) }
     {
         self.send_hinted(node, task)?;
         while let Some(input) = self.find_unsent(task) {
@@ -566,7 +566,7 @@ impl Pool {
         requires home { IsHome node task self.old }
         ensures adds { AddsOnly is_sending self.old self.new }
         ensures ways { AreSent task self.old self.new }
-        ensures room { IfErr result (λ r. IsTrue (is_of_room (keeps self.old.journal) r)) }
+        ensures room { IfErr result (λ r. IsTrue (is_of_room self.new.journal r)) }
     {
         let mut next = self.hints.first_output(task);
         for _turn in 0..MAX_INPUTS {
@@ -599,7 +599,7 @@ impl Pool {
         ensures ways { AreSent task self.old self.new }
         ensures ok { OnOk result (IsOutput task input self.old → slice_get self.old.ways input ≡ Some way.Out
             → self.new.ways ≡ slice_set self.old.ways input way.UnderWay) }
-        ensures room { IfErr result (λ r. IsTrue (is_of_room (keeps self.old.journal) r)) }
+        ensures room { IfErr result (λ r. IsTrue (is_of_room self.new.journal r)) }
     {
         self.board.known();
         let Some(edge) = output_of(&self.board, task, input, Way::Out) else {
@@ -619,7 +619,7 @@ impl Pool {
         ensures ok { OnOk result (IsCompleted task self.old self.new) }
         ensures ways { self.new.ways ≡ self.old.ways }
         ensures err { OnErr result (self.new ≡ self.old) }
-        ensures room { IfErr result (λ r. IsTrue (is_of_room (keeps self.old.journal) r)) }
+        ensures room { IfErr result (λ r. IsTrue (is_of_room self.new.journal r)) }
     {
         self.journal.record(node, Step::Done(TaskId(task)))?;
         let finished = self.board.finish(task);

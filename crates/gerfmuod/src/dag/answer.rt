@@ -8,8 +8,8 @@ pub struct DagAnswer {
     pub refused: u32,
     /// Of `next`: 1, run the task `number`; 2, wait; 3, stop. Of other calls 0.
     pub told: u32,
-    /// The task that was added or is to be run, or the wave that detected termination; if there is no room for more
-    /// steps, the number of steps. Else 0.
+    /// The task that was added or is to be run, or the wave that detected termination; if the refusal is `HistoryFull`, the
+    /// limit that was met. Else 0.
     pub number: u32,
     /// The nodes at which a thread may find something new, as bits.
     pub news: u32,

@@ -17,7 +17,7 @@ use tp_base::{MAX_NODES, NodeId, Refusal, Step};
 use tp_wave::Wave;
 
 impl Recorder {
-    ghost use Rattle.tp_core.specs.Recording.{Backs, HasSettled, settling_checks};
+    ghost use Rattle.tp_core.specs.Recording.{Backs, HasSettled, IsWithinLimits, settling_checks};
 
     /// Takes control steps until termination is detected, if the pool is quiet. Returns the number of the wave at whose
     /// end the pool had terminated, and the number of steps taken: at most nine per node, which start at most two
@@ -34,6 +34,7 @@ impl Recorder {
         ensures why { IfErr result (λ r. (h : List Step) → Backs h self.old
             → IsRefusedFor (first_refusal (settling_checks self.old h)) (is_some self.old.steps) r) }
         ensures err { OnErr result (self.new ≡ self.old) }
+        ensures within { IsWithinLimits self.new }
         ensures nodes { self.new.nodes ≡ self.old.nodes }
         ensures kept { is_some self.new.steps ≡ is_some self.old.steps }
     {

@@ -44,7 +44,8 @@ impl Pool {
         ensures exact { IfErr result (λ r. (first_refusal (task_checks self.old node class) ≡ Some r)
             ⊎ ((r ≡ Refusal.Ended) × IsFinished self.old)
             ⊎ ((r ≡ Refusal.HistoryFull MAX_STEPS) × IsTrue self.old.started × IsTrue (keeps self.old.journal))
-            ⊎ ((r ≡ Refusal.Inactive) × IsInactive node self.old) ⊎ IsTrue (is_of_room true r)) }
+            ⊎ ((r ≡ Refusal.Inactive) × IsInactive node self.old) ⊎ (r ≡ Refusal.NoMemory)
+            ⊎ IsTrue (is_of_room self.old.journal r)) }
     {
         if let Some(refusal) = self.task_refusal(node, class) {
             return Err(refusal);

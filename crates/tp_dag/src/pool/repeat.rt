@@ -4,7 +4,7 @@ ghost use Rattle.tp_base.specs.declared.limits.TheConstants.{MAX_NODES};
 ghost use Rattle.tp_dag.specs.declared.entry.Task.{Task};
 ghost use Rattle.tp_dag.specs.declared.limits.TheConstants.{MAX_TASKS};
 ghost use Rattle.tp_dag.specs.Again.{IsAgain, IsBeginning};
-ghost use Rattle.tp_dag.specs.Journal.{IsBehindJournal, SameKind, keeps, is_of_room};
+ghost use Rattle.tp_dag.specs.Journal.{IsBehindJournal, SameKind, keeps, is_of_some_room};
 ghost use Rattle.tp_dag.specs.State.{IsFinished};
 
 use crate::board::Board;
@@ -21,7 +21,7 @@ fn begun_journal(alloc: Global, keeps_steps: bool, board: &Board) -> Result<Jour
     ensures nodes { IfOk result (λ journal. journal.recorded.nodes ≡ board.now.nodes) }
     ensures keeps { IfOk result (λ journal. keeps journal ≡ keeps_steps) }
     ensures ready { IfOk result (λ journal. journal.recorded.nodes ≤ journal.ready_nodes) }
-    ensures room { IfErr result (λ r. IsTrue (is_of_room keeps_steps r)) }
+    ensures room { IfErr result (λ r. IsTrue (is_of_some_room keeps_steps r)) }
 {
     board.known();
     let mut journal = Journal::new(alloc, board.nodes(), keeps_steps);
@@ -37,7 +37,7 @@ fn insert_all(journal: &mut Journal, tasks: &[Task]) -> Result<(), Refusal>
     requires ready { journal.old.ready_nodes ≡ 0 }
     ensures begun { OnOk result (IsBeginning tasks.now (length tasks.now) journal.new) }
     ensures same { SameKind journal.old journal.new }
-    ensures room { IfErr result (λ r. IsTrue (is_of_room (keeps journal.old) r)) }
+    ensures room { IfErr result (λ r. IsTrue (is_of_some_room (keeps journal.old) r)) }
 {
     let Some(inputs) = Inputs::new(0) else {
         return Err(Refusal::BadSpec);
@@ -61,7 +61,7 @@ impl Pool {
         ensures ok { OnOk result (IsAgain self.old self.new) }
         ensures err { OnErr result (self.new ≡ self.old) }
         ensures exact { IfErr result (λ r. ((r ≡ Refusal.WrongLife) × ((IsFinished self.old → ⊥) ⊎ IsTrue self.old.extended))
-            ⊎ IsTrue (is_of_room (keeps self.old.journal) r)) }
+            ⊎ IsTrue (is_of_some_room (keeps self.old.journal) r)) }
     {
         if !self.is_over() {
             return Err(Refusal::WrongLife);

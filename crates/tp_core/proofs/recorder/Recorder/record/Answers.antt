@@ -1,5 +1,5 @@
 use Rattle.tp_core.proofs.Words.{List, ap, arith, sym, subst, err_from_is_err_and, is_some, Step, IsRefusedFor, first_refusal}
-use Rattle.tp_core.proofs.RecorderCounting.{backs_next, by_limit, few_next, inside_of, needed_there}
+use Rattle.tp_core.proofs.RecorderCounting.{backs_next, by_limit, few_next, inside_of, needed_there, within_limits}
 use Rattle.tp_core.specs.Recording.{Recorded, Backs, MayBeRecorded, record_checks}
 use Rattle.tp_core.specs.RecorderKept.{recorded}
 use Rattle.tp_core.proofs.recorder.Recorder.record.Goals as goal
@@ -36,3 +36,11 @@ returns-clause-ok c h b m =
     backs_next (subst (λ (a : Recorded). Backs h a) (sym c.self.view_is) b)
     (subst (λ (a : Recorded). MayBeRecorded a.nodes c.args.node.0 h c.args.step) (sym c.self.view_is) m)
     (c.in_ok-own.ensures.ok).0 (c.in_ok-own.ensures.ok).1 c.in_ok-keep.ensures.ok
+
+pub returns-clause-within : goal.returns-clause-within
+returns-clause-within c =
+    let sound = c.self.invariant in
+    let few = sound.few_nodes in
+    within_limits c.self.inside.keeps c.keep.new.steps.items
+    (few_next c.self.inside.under c.args.node.0 c.args.step sound.few (omega arith) (c.in_ok-own.ensures.ok).0 c.in_ok-own.ensures.below)
+    c.keep.ensures.within

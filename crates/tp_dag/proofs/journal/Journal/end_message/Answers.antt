@@ -4,8 +4,9 @@ use Rattle.std.proofs.lemmas.Result.{err_from_is_err_and}
 use Rattle.std.proofs.Math.ListN.{set}
 use Rattle.tp_base.specs.declared.Step.{Step}
 use Rattle.std.proofs.Common.{List, IsTrue}
-use Rattle.tp_dag.specs.Journal.{JournalState, JournalLeads, IsBehindJournal, Adds, is_ending, is_of_room, keeps}
+use Rattle.tp_dag.specs.Journal.{JournalState, JournalLeads, IsBehindJournal, Adds, is_ending, is_of_room}
 use Rattle.tp_dag.specs.JournalKept.{journal_of}
+use Rattle.tp_core.specs.Recording.{Recorded, IsWithinLimits}
 use Rattle.tp_dag.proofs.Lists.{set_here}
 use Rattle.tp_dag.proofs.Journals.{ends_one, end_refused, refused_with, at_place}
 use Rattle.tp_dag.proofs.journal.Journal.end_message.Goals as goal
@@ -19,8 +20,10 @@ returns-in_err-record-clause-room c =
     let long = c.self.invariant.places in
     let at = at_place c.self.inside.receiving c.args.node (Some c.in-Some.message) _ (omega (arith, inside, few, long)) c.in-Some.is in
     refused_with _ p.0 _ p.1 (rw p.2 (subst (λ (a : JournalState). (past : List Step) → IsBehindJournal past a
-    → IsTrue (is_of_room (keeps a) c.in_err-record.field-0.0)) c.self.view_is
-    (end_refused (journal_of c.self.inside) c.args.node c.in-Some.message c.in_err-record.field-0.0 inside at c.in_err-record.ensures.why)))
+    → IsTrue (is_of_room a c.in_err-record.field-0.0)) c.self.view_is
+    (end_refused (journal_of c.self.inside) c.args.node c.in-Some.message c.in_err-record.field-0.0
+    (subst (λ (a : Recorded). IsWithinLimits a) c.in_err-record.ensures.err c.record.ensures.within) inside at
+    c.in_err-record.ensures.why)))
 
 pub returns-clause-adds : goal.returns-clause-adds
 returns-clause-adds c =

@@ -3,6 +3,7 @@ use Rattle.std.proofs.lemmas.Result.{err_from_is_err_and}
 use Rattle.tp_base.specs.declared.Step.{Step}
 use Rattle.tp_dag.specs.Journal.{JournalState, JournalLeads, IsBehindJournal, LacksRoomForSteps, Adds, keeps, is_readying}
 use Rattle.tp_dag.specs.JournalKept.{journal_of}
+use Rattle.tp_core.specs.Recording.{Recorded, IsWithinLimits}
 use Rattle.tp_dag.proofs.Journals.{readies_one, ready_refused}
 use Rattle.tp_dag.proofs.journal.Journal.ready_next.Goals as goal
 
@@ -21,4 +22,5 @@ returns-in_err-record-clause-room c =
     rw (p.1, p.2) (subst (λ (a : JournalState). (past : List Step) → IsBehindJournal past a
     → LacksRoomForSteps (keeps a) c.in_err-record.field-0.0) c.self.view_is
     (ready_refused (journal_of c.self.inside) c.in_err-record.field-0.0
+    (subst (λ (a : Recorded). IsWithinLimits a) c.in_err-record.ensures.err c.record.ensures.within)
     (let n = c.nodes.ensures in omega (arith, n, c.if-node-nodes.false)) c.in_err-record.ensures.why))

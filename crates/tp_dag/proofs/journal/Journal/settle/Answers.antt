@@ -6,7 +6,7 @@ use Rattle.tp_dag.proofs.journal.Journal.settle.Goals as goal
 
 pub returns-clause-ok : goal.returns-clause-ok
 returns-clause-ok c =
-    subst (λ (a : JournalState). JournalLeads (IsJudged a.recorded.nodes c.in_ok-wave.wave) a (journal_of (record c.self.inside {
+    subst (λ (a : JournalState). JournalLeads (IsJudged a.recorded.nodes c.in-Ok.settled.0) a (journal_of (record c.self.inside {
       recorder = c.settle.new.self;
     }))) c.self.view_is
-    (settles (journal_of c.self.inside) c.settle.new.self c.in_ok-wave.wave _ c.in_ok-wave.ensures.ok c.settle.ensures.nodes)
+    (settles (journal_of c.self.inside) c.settle.new.self c.in-Ok.settled.0 _ c.in-Ok.ensures.ok c.settle.ensures.nodes)

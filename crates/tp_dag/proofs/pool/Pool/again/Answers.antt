@@ -1,7 +1,7 @@
 use Rattle.std.proofs.Common.{Bool, true, false, refl, inr, subst, IsTrue}
 use Rattle.std.proofs.lemmas.Result.{err_from_is_err_and}
-use Rattle.tp_dag.specs.Journal.{is_of_room}
-use Rattle.tp_dag.proofs.Refusing.{room_now}
+use Rattle.tp_dag.specs.Journal.{is_of_some_room, keeps}
+use Rattle.tp_dag.specs.State.{PoolState}
 use Rattle.tp_dag.proofs.Repeating.{kept_again, is_again}
 use Rattle.tp_dag.proofs.pool.Pool.again.Goals as goal
 
@@ -28,5 +28,5 @@ returns-clause-ok c =
 pub returns-in_err-journal-clause-exact : goal.returns-in_err-journal-clause-exact
 returns-in_err-journal-clause-exact c =
     let p = err_from_is_err_and c.from_residual.result c.from_residual.ensures.1 in
-    rw (p.1, p.2) (inr (room_now c.self.inside c.args.self.now _ c.self.view_is
-    (subst (λ (k : Bool). IsTrue (is_of_room k c.in_err-journal.field-0.0)) c.self.invariant.keeps c.in_err-journal.ensures.room)))
+    rw (p.1, p.2) (inr (subst (λ (a : PoolState). IsTrue (is_of_some_room (keeps a.journal) c.in_err-journal.field-0.0)) c.self.view_is
+    (subst (λ (k : Bool). IsTrue (is_of_some_room k c.in_err-journal.field-0.0)) c.self.invariant.keeps c.in_err-journal.ensures.room)))

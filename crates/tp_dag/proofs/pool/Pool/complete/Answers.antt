@@ -1,7 +1,7 @@
 use Rattle.std.proofs.Common.{refl}
 use Rattle.std.proofs.lemmas.Result.{err_from_is_err_and}
 use Rattle.tp_dag.proofs.Keeping.{finishes_surely, kept_complete, is_completed}
-use Rattle.tp_dag.proofs.Refusing.{complete_refused, room_now}
+use Rattle.tp_dag.proofs.Refusing.{complete_refused, room_still}
 use Rattle.tp_dag.proofs.pool.Pool.complete.Goals as goal
 
 pub prove-unreachable-requires : goal.prove-unreachable-requires
@@ -23,6 +23,6 @@ returns-clause-ok c =
 pub returns-in_err-record-clause-room : goal.returns-in_err-record-clause-room
 returns-in_err-record-clause-room c =
     let p = err_from_is_err_and c.from_residual.result c.from_residual.ensures.1 in
-    rw (p.1, p.2) (room_now c.self.inside c.args.self.now _ c.self.view_is
-    (complete_refused c.self.inside c.args.self.now c.args.node c.args.task _ c.self.invariant c.self.view_is c.requires.running
-    c.requires.home c.in_err-record.ensures.room))
+    rw (p.1, p.2) (room_still c.self.inside.journal c.record.new.self c.in_err-record.field-0.0 c.in_err-record.ensures.err
+    (complete_refused c.self.inside c.args.self.now c.args.node c.args.task c.in_err-record.field-0.0 c.self.invariant c.self.view_is
+    c.requires.running c.requires.home c.in_err-record.ensures.room))

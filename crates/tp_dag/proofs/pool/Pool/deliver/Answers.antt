@@ -3,7 +3,6 @@ use Rattle.tp_dag.specs.Journal.{is_delivery}
 use Rattle.tp_dag.specs.State.{PoolState}
 use Rattle.tp_dag.proofs.Steps.{adds_trans}
 use Rattle.tp_dag.proofs.Going.{delivered_one, delivered_same, ways_only}
-use Rattle.tp_dag.proofs.Refusing.{room_after_if}
 use Rattle.tp_dag.proofs.pool.Pool.deliver.Goals as goal
 
 pub returns-in_err-receive-clause-ways : goal.returns-in_err-receive-clause-ways
@@ -26,5 +25,4 @@ returns-then-is_from-clause-adds c =
     ways_only is_delivery c.args.self.now c.arrive.new.self _ c.arrive.ensures.ways c.arrive.ensures.steps
 
 pub returns-clause-room : goal.returns-clause-room
-returns-clause-room c =
-    room_after_if c.args.self.now c.receive.new.self c.end_message.result c.receive.ensures.adds c.end_message.ensures.room
+returns-clause-room c = c.end_message.ensures.room

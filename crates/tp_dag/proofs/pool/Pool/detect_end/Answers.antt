@@ -5,7 +5,7 @@ use Rattle.std.proofs.lemmas.Result.{err_from_is_err_and}
 use Rattle.tp_dag.specs.State.{PoolState, IsFinished}
 use Rattle.tp_dag.proofs.Actions.{not_quiet, receiving_now}
 use Rattle.tp_dag.proofs.Describing.{kept_end, end_leads}
-use Rattle.tp_dag.proofs.Refusing.{settle_refused, room_now}
+use Rattle.tp_dag.proofs.Refusing.{settle_refused, room_still}
 use Rattle.tp_dag.proofs.Repeating.{ended_before}
 use Rattle.tp_dag.proofs.pool.Pool.detect_end.Goals as goal
 
@@ -20,8 +20,9 @@ returns-in_err-wave-clause-room c =
     let none : is_some c.self.inside.ended_with ≡ false = grind (arith, c.in_default.is) in
     let quiet : IsTrue c.is_quiet.result = grind (arith, nat_tests, c.if-not-is_quiet.false) in
     rw (p.1, p.2)
-    (room_now c.self.inside c.args.self.now _ c.self.view_is
-    (settle_refused c.self.inside c.is_quiet.result _ c.self.invariant none c.is_quiet.ensures quiet c.in_err-wave.ensures.room))
+    (room_still c.self.inside.journal c.settle.new.self c.in_err-wave.field-0.0 c.in_err-wave.ensures.err
+    (settle_refused c.self.inside c.is_quiet.result c.in_err-wave.field-0.0 c.self.invariant none c.is_quiet.ensures quiet
+    c.in_err-wave.ensures.room))
 
 pub invariant_of-self-2 : goal.invariant_of-self-2
 invariant_of-self-2 c =

@@ -4,7 +4,7 @@ use Rattle.tp_dag.specs.State.{IsDispatched}
 use Rattle.tp_dag.specs.Kept.{state_of}
 use Rattle.tp_dag.proofs.Actions.{receiving_now}
 use Rattle.tp_dag.proofs.Keeping.{begins_surely, kept_dispatch, is_dispatched}
-use Rattle.tp_dag.proofs.Refusing.{begin_refused, room_now}
+use Rattle.tp_dag.proofs.Refusing.{begin_refused, room_still}
 use Rattle.tp_dag.proofs.pool.Pool.dispatch.Goals as goal
 
 pub returns-in_default-clause-none : goal.returns-in_default-clause-none
@@ -40,7 +40,7 @@ returns-clause-ok c = λ t e.
 
 pub returns-in-Err-clause-room : goal.returns-in-Err-clause-room
 returns-in-Err-clause-room c =
-    room_now c.self.inside c.args.self.now c.in-Err.refusal c.self.view_is
+    room_still c.self.inside.journal c.record.new.self c.in-Err.refusal c.in-Err.ensures.err
     (begin_refused c.self.inside c.args.node c.in-Some.task c.in-Err.refusal c.self.invariant c.in-Some.ensures.some c.in-Err.ensures.room)
 
 pub returns-clause-receiving : goal.returns-clause-receiving

@@ -4,7 +4,6 @@ use Rattle.tp_dag.proofs.Ended.{none_begins, done_begins}
 use Rattle.std.proofs.lemmas.Result.{err_from_is_err_and}
 use Rattle.tp_dag.proofs.Going.{done_after, completed_marked, home_after}
 use Rattle.tp_dag.proofs.Keeping.{completed_later}
-use Rattle.tp_dag.proofs.Refusing.{room_after}
 use Rattle.tp_dag.proofs.pool.Pool.done.Goals as goal
 
 pub complete-requires-clause-home : goal.complete-requires-clause-home
@@ -32,7 +31,7 @@ returns-in_err-complete-clause-begun c =
 pub returns-in_err-complete-clause-refused : goal.returns-in_err-complete-clause-refused
 returns-in_err-complete-clause-refused c =
     let p = err_from_is_err_and c.from_residual-in_err-complete.result c.from_residual-in_err-complete.ensures.1 in
-    rw (p.1, p.2) (inr (room_after c.args.self.now c.send_all.new.self _ c.send_all.ensures.adds c.in_err-complete.ensures.room))
+    rw (p.1, p.2) (inr c.in_err-complete.ensures.room)
 
 pub returns-clause-begun : goal.returns-clause-begun
 returns-clause-begun c =

@@ -27,4 +27,4 @@ returns-clause-adds c =
 
 pub returns-clause-room : goal.returns-clause-room
 returns-clause-room c =
-    room_if c.self.inside c.args.self.now c.end_message.result c.self.invariant c.self.view_is c.end_message.ensures.room
+    room_if c.self.inside c.end_message.new.self c.end_message.result c.self.invariant c.end_message.ensures.err c.end_message.ensures.room

@@ -9,8 +9,7 @@ use Rattle.tp_dag.proofs.Actions.{have_ended}
 use Rattle.tp_dag.proofs.Ended.{none_begins, one_begins, end_dispatches_none}
 use Rattle.tp_dag.proofs.Going.{idle_now}
 use Rattle.tp_dag.proofs.Keeping.{dispatched_later}
-use Rattle.tp_dag.proofs.Refusing.{refused_or, room_after}
-use Rattle.tp_dag.specs.Journal.{keeps}
+use Rattle.tp_dag.proofs.Refusing.{refused_or}
 use Rattle.tp_dag.proofs.pool.Pool.next.Goals as goal
 
 always : {P : Type 0} (r : Result Next Refusal) → P → OnOk r P
@@ -35,13 +34,10 @@ returns-in-Some-clause-begun c = none_begins _ _ (dispatched (Err c.in-Some.refu
 pub returns-in_err-task-clause-refused : goal.returns-in_err-task-clause-refused
 returns-in_err-task-clause-refused c =
     let p = err_from_is_err_and c.from_residual-in_err-task.result c.from_residual-in_err-task.ensures.1 in
-    rw (p.1, p.2) (inr (room_after c.args.self.now c.receive_all.new.self _ c.receive_all.ensures.adds c.in_err-task.ensures.room))
+    rw (p.1, p.2) (inr c.in_err-task.ensures.room)
 
 pub returns-in-None-clause-refused : goal.returns-in-None-clause-refused
-returns-in-None-clause-refused c =
-    let none = c.in_ok-task.ensures.none (ap ok c.in-None.is) in
-    refused_or c.detect_end.result _ c.args.self.now c.dispatch.new.self
-    (ap (λ (a : PoolState). keeps a.journal) none.0 ∙ c.receive_all.ensures.adds.graph.keeps) c.detect_end.ensures.room
+returns-in-None-clause-refused c = refused_or c.detect_end.result _ _ c.detect_end.ensures.room
 
 pub returns-in_err-receive_all-clause-begun : goal.returns-in_err-receive_all-clause-begun
 returns-in_err-receive_all-clause-begun c =

@@ -4,13 +4,13 @@ use Rattle.tp_dag.specs.Board.{BoardState}
 use Rattle.tp_dag.specs.Kept.{IsConsistent}
 use Rattle.tp_dag.specs.State.{PoolState}
 use Rattle.tp_dag.proofs.Keeping.{arrives_surely, kept_receive, receive_leads, has_received, arrived_ways}
-use Rattle.tp_dag.proofs.Refusing.{receive_refused, room_now}
+use Rattle.tp_dag.proofs.Refusing.{receive_refused, room_still}
 use Rattle.tp_dag.proofs.Views.{consistent}
 use Rattle.tp_dag.proofs.pool.Pool.receive.Goals as goal
 
 pub returns-in-Err-clause-room : goal.returns-in-Err-clause-room
 returns-in-Err-clause-room c =
-    room_now c.self.inside c.args.self.now c.in-Err.refusal c.self.view_is
+    room_still c.self.inside.journal c.receive.new.self c.in-Err.refusal c.in-Err.ensures.err
     (receive_refused c.self.inside c.args.self.now c.args.node c.args.input c.in-Err.refusal c.self.invariant c.self.view_is c.known.ensures
     c.requires.within c.requires.coming c.requires.afar c.in-Err.ensures.room)
 

@@ -3,7 +3,6 @@ use Rattle.std.proofs.Common.{◌≡◌, Some, None, ap, arith, subst, sym}
 use Rattle.tp_dag.specs.Journal.{is_delivery}
 use Rattle.tp_dag.specs.State.{PoolState, AddsOnly, AreDelivered}
 use Rattle.std.proofs.lemmas.Result.{err_from_is_err_and}
-use Rattle.tp_dag.proofs.Refusing.{room_passed}
 use Rattle.tp_dag.proofs.Steps.{adds_trans}
 use Rattle.tp_dag.proofs.Going.{delivered_trans, falls_coming}
 use Rattle.tp_dag.proofs.pool.Pool.receive_all.Goals as goal
@@ -38,9 +37,7 @@ loop-input-preserved c =
 pub returns-in_err-deliver-clause-room : goal.returns-in_err-deliver-clause-room
 returns-in_err-deliver-clause-room c =
     let p = err_from_is_err_and c.from_residual-in_err-deliver.result c.from_residual-in_err-deliver.ensures.1 in
-    room_passed c.args.self.now c.find_message.new.self _ p.0 _ p.1 p.2
-    (subst (λ (a : PoolState). AddsOnly is_delivery c.args.self.now a) (sym c.find_message.ensures.same) c.loop-input.invariant.0)
-    c.in_err-deliver.ensures.room
+    rw (p.1, p.2) c.in_err-deliver.ensures.room
 
 pub deliver-requires-clause-ended : goal.deliver-requires-clause-ended
 deliver-requires-clause-ended c =

@@ -2,7 +2,7 @@ use Rattle.std.proofs.Common.{refl}
 use Rattle.std.proofs.lemmas.Result.{err_from_is_err_and}
 use Rattle.tp_dag.specs.declared.entry.Way.TheVariants as way
 use Rattle.tp_dag.proofs.Keeping.{output_edge, leaves_surely, home_board, kept_send, adds_send, sent_ways, left_ways}
-use Rattle.tp_dag.proofs.Refusing.{send_refused, room_now}
+use Rattle.tp_dag.proofs.Refusing.{send_refused, room_still}
 use Rattle.tp_dag.proofs.pool.Pool.send.Goals as goal
 
 pub returns-in_default-clause-ok : goal.returns-in_default-clause-ok
@@ -49,6 +49,8 @@ pub returns-in_err-send_message-clause-room : goal.returns-in_err-send_message-c
 returns-in_err-send_message-clause-room c =
     let some = c.in-Some.ensures.some in
     let p = err_from_is_err_and c.from_residual.result c.from_residual.ensures.1 in
-    rw (p.1, p.2) (room_now c.self.inside c.args.self.now _ c.self.view_is
-    (send_refused c.self.inside c.args.self.now c.args.node c.args.task c.args.input c.in-Some.edge _ c.self.invariant c.known.ensures
-    c.self.view_is c.requires.running c.requires.home some.0 some.2 c.in_err-send_message.ensures.room))
+    rw (p.1, p.2) (room_still c.self.inside.journal c.send_message.new.journal c.in_err-send_message.field-0.0
+    c.in_err-send_message.ensures.err
+    (send_refused c.self.inside c.args.self.now c.args.node c.args.task c.args.input c.in-Some.edge
+    c.in_err-send_message.field-0.0 c.self.invariant c.known.ensures c.self.view_is c.requires.running c.requires.home some.0 some.2
+    c.in_err-send_message.ensures.room))

@@ -1,5 +1,4 @@
 use Rattle.std.proofs.lemmas.Result.{err_from_is_err_and}
-use Rattle.tp_dag.proofs.Refusing.{room_passed}
 use Rattle.tp_dag.proofs.Steps.{adds_trans}
 use Rattle.tp_dag.proofs.Going.{home_after, sent_trans}
 use Rattle.tp_dag.proofs.pool.Pool.send_hinted.Goals as goal
@@ -21,4 +20,4 @@ loop-turn-preserved c = (
 pub returns-in_err-send-clause-room : goal.returns-in_err-send-clause-room
 returns-in_err-send-clause-room c =
     let p = err_from_is_err_and c.from_residual.result c.from_residual.ensures.1 in
-    room_passed c.args.self.now c.loop-turn.self _ p.0 _ p.1 p.2 c.loop-turn.invariant.0 c.in_err-send.ensures.room
+    rw (p.1, p.2) c.in_err-send.ensures.room

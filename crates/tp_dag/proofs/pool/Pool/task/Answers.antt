@@ -5,7 +5,7 @@ use Rattle.tp_dag.specs.State.{PoolState, IsTaskAdded}
 use Rattle.tp_dag.specs.declared.entry.Progress.{Progress}
 use Rattle.tp_dag.proofs.Actions.{is_inactive}
 use Rattle.std.proofs.lemmas.Result.{err_from_is_err_and}
-use Rattle.tp_dag.proofs.Refusing.{insert_refused}
+use Rattle.tp_dag.proofs.Refusing.{insert_refused, room_now}
 use Rattle.tp_dag.proofs.Describing.{kept_task, task_added}
 use Rattle.tp_dag.proofs.pool.Pool.task.Goals as goal
 
@@ -48,6 +48,7 @@ returns-then-not-is_active-clause-exact c =
 pub returns-in_err-record-clause-exact : goal.returns-in_err-record-clause-exact
 returns-in_err-record-clause-exact c =
     let p = err_from_is_err_and c.from_residual-in_err-record.result c.from_residual-in_err-record.ensures.1 in
-    rw (p.1, p.2) (inr (inr (inr (inr (insert_refused c.self.inside c.args.node c.task_count-number.result c.in-Some-new.inputs _
+    rw (p.1, p.2) (inr (inr (inr (inr (inr (room_now c.self.inside c.args.self.now c.in_err-record.field-0.0 c.self.view_is
+    (insert_refused c.self.inside c.args.node c.task_count-number.result c.in-Some-new.inputs c.in_err-record.field-0.0
     c.self.invariant (subst (λ (a : PoolState). c.args.node < a.nodes) (sym c.self.view_is) c.in_default.ensures.within)
-    c.task_count-number.ensures (λ past b. (c.is_active.ensures past b).0 c.if-not-is_active.false) c.in_err-record.ensures.room)))))
+    c.task_count-number.ensures (λ past b. (c.is_active.ensures past b).0 c.if-not-is_active.false) c.in_err-record.ensures.room)))))))

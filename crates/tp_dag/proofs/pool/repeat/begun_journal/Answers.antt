@@ -1,10 +1,11 @@
 use Rattle.std.proofs.Common.{List, Bool, IsTrue, length, ap, subst, sym, ◌∙◌, arith}
 use Rattle.std.specs.Prelude.{slice_get}
 use Rattle.std.proofs.lemmas.Result.{err_from_is_err_and}
-use Rattle.tp_dag.specs.Journal.{is_of_room}
+use Rattle.tp_dag.specs.Journal.{is_of_some_room}
 use Rattle.tp_dag.specs.declared.entry.Task.{Task}
 use Rattle.tp_dag.specs.Again.{IsBeginning}
 use Rattle.tp_dag.proofs.Repeating.{begun, kept_by}
+use Rattle.tp_dag.proofs.Journals.{lacks_some}
 use Rattle.tp_dag.proofs.pool.repeat.begun_journal.Goals as goal
 
 pub insert_all-requires-clause-homes : goal.insert_all-requires-clause-homes
@@ -30,13 +31,13 @@ returns-clause-keeps c =
 pub returns-in_err-insert_all-clause-room : goal.returns-in_err-insert_all-clause-room
 returns-in_err-insert_all-clause-room c =
     let p = err_from_is_err_and c.from_residual.result c.from_residual.ensures.1 in
-    rw (p.1, p.2) (subst (λ (k : Bool). IsTrue (is_of_room k c.in_err-insert_all.field-0.0))
+    rw (p.1, p.2) (subst (λ (k : Bool). IsTrue (is_of_some_room k c.in_err-insert_all.field-0.0))
     (kept_by c.args.keeps_steps c.new-journal.result c.new-journal.ensures.kept) c.in_err-insert_all.ensures.room)
 
 pub returns-in_err-ready_all-clause-room : goal.returns-in_err-ready_all-clause-room
 returns-in_err-ready_all-clause-room c =
     let p = err_from_is_err_and c.from_residual-in_err-ready_all.result c.from_residual-in_err-ready_all.ensures.1 in
     let b = c.in_ok-insert_all.ensures.begun in
-    rw (p.1, p.2) (subst (λ (k : Bool). IsTrue (is_of_room k c.in_err-ready_all.field-0.0))
+    rw (p.1, p.2) (subst (λ (k : Bool). IsTrue (is_of_some_room k c.in_err-ready_all.field-0.0))
     (c.in_ok-insert_all.ensures.same.keeps ∙ kept_by c.args.keeps_steps c.new-journal.result c.new-journal.ensures.kept)
-    (c.in_err-ready_all.ensures.room b.steps b.behind).1)
+    (lacks_some _ _ (c.in_err-ready_all.ensures.room b.steps b.behind)))

@@ -1,11 +1,12 @@
 use Rattle.std.proofs.Common.{◌∙◌, Bool, IsTrue, refl, subst, arith}
 use Rattle.std.proofs.lemmas.Result.{err_from_is_err_and}
-use Rattle.tp_dag.specs.Journal.{is_of_room}
+use Rattle.tp_dag.specs.Journal.{is_of_some_room}
 use Rattle.std.specs.List.{slice_index_or}
 use Rattle.std.proofs.lemmas.Option.{slice_get-get_or}
 use Rattle.tp_dag.specs.declared.entry.Task.{Task}
 use Rattle.tp_dag.specs.declared.entry.Stage.TheVariants as stage
 use Rattle.tp_dag.proofs.Repeating.{begins_none, inserts_more, insert_refused}
+use Rattle.tp_dag.proofs.Journals.{some_room}
 use Rattle.tp_dag.proofs.pool.repeat.insert_all.Goals as goal
 
 abbrev none : Task
@@ -37,6 +38,7 @@ returns-in_err-record-clause-room c =
     let same = c.loop-t.invariant.2 in
     let home = c.requires.homes c.loop-t.t x at in
     let n = same.nodes in
-    rw (p.1, p.2) (subst (λ (k : Bool). IsTrue (is_of_room k c.in_err-record.field-0.0)) same.keeps
-    (insert_refused c.loop-t.t x.node c.in-Some.inputs _ c.loop-t.invariant.0 c.loop-t.invariant.1 (omega (arith, home, n))
-    c.in_err-record.ensures.room))
+    rw (p.1, p.2) (subst (λ (k : Bool). IsTrue (is_of_some_room k c.in_err-record.field-0.0)) same.keeps
+    (some_room c.loop-t.journal c.in_err-record.field-0.0
+    (insert_refused c.loop-t.t x.node c.in-Some.inputs c.in_err-record.field-0.0 c.loop-t.invariant.0 c.loop-t.invariant.1
+    (omega (arith, home, n)) c.in_err-record.ensures.room)))
