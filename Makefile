@@ -53,6 +53,8 @@ demo:
 test:
 	@tools/dev try
 	@tools/dev pages
+	@tools/dev limits strange --quick
+	@tools/dev limits refuse --quick
 	@tools/dev capi
 	@tools/dev dag
 	@tools/dev package

@@ -1,15 +1,16 @@
 -- The values of the tasks are the blocks of the cells after each number of steps.
-use Rattle.std.proofs.Common.{◌≡◌, ◌<◌, ◌≤◌, ◌+◌, ◌-◌, ◌*◌, ◌%◌, ℕ, zero, suc, ℤ, Bool, List, [], ◌++◌, length, get_or, take, true, false}
-use Rattle.std.proofs.Common.{if◌then◌else◌, nat_lt, refl, ap, sym, ◌∙◌, ⊎_elim, IsTrue, Some, arith}
+use Rattle.std.proofs.Common.{◌≡◌, ◌<◌, ◌≤◌, ◌+◌, ◌-◌, ◌*◌, ◌%◌, ℕ, zero, suc, ℤ, Bool, List, [], ◌∷◌, ◌++◌, length, get_or}
+use Rattle.std.proofs.Common.{take, drop, true, false, if◌then◌else◌, nat_lt, refl, ap, sym, ◌∙◌, ⊎_elim, IsTrue, Option, Some, arith}
 use Rattle.std.proofs.Math.Seq.{take-add}
 use Rattle.std.proofs.lemmas.Nat.{mul-le, mul-add-lt, mod-mul-add}
-use Rattle.std.proofs.lemmas.List.{get_or_past, take_all}
+use Rattle.std.proofs.lemmas.List.{drop-drop, get_or_past, take_all}
 use Rattle.std.proofs.lemmas.Bool.{le-leb}
 use Rattle.std.proofs.lemmas.Bool.Decides.{nat_tests}
-use Rattle.tp_graph.proofs.Made.{inputs_of, some_same}
+use Rattle.tp_graph.proofs.Made.{gathered, inputs_of, some_same, then_some-is}
 use Rattle.tp_graph.specs.Blocks.{block_of}
-use Rattle.tp_graph.specs.Values.{value_of}
+use Rattle.tp_graph.specs.Values.{gather, value_of}
 use Rattle.pool_blocks.proofs.Lists.{block-past, lt-tells}
+use Rattle.pool_blocks.specs.Joined.{in_a_row, numbers_from}
 use Rattle.pool_blocks.specs.Lists.{block_before, block_behind}
 use Rattle.pool_blocks.specs.StencilLaws.{block_lawful}
 use Rattle.pool_blocks.specs.Stencils.{BlockStep, IsByBlocks, IsCut, KeepsLength, Step, after, befores, block_graph, next_of, source}
@@ -68,6 +69,20 @@ behind-part blocks size b xs inputs long whole h =
     get_or_past inputs (to_before b + 1) [] (omega (arith, long, none)) ∙ sym (block-past size (b + 1) xs past))
     (lt-tells (b + 1) blocks)
 
+-- the blocks of a list in a row are its beginning
+blocks_in_a_row : (size : ℕ) (values : List (List ℤ)) (xs : List ℤ)
+    → ((i : ℕ) → i < length values → get_or values i [] ≡ block_of size i xs) → in_a_row values ≡ take (length values * size) xs
+blocks_in_a_row size [] xs h = let none : 0 * size ≡ 0 = omega arith in ap (λ k. take k xs) (sym none)
+blocks_in_a_row size (x ∷ rest) xs h =
+    let none : 0 * size ≡ 0 = omega arith in
+    let all : size + length rest * size ≡ suc (length rest) * size = omega arith in
+    let later : (i : ℕ) → block_of size (suc i) xs ≡ block_of size i (drop size xs) =
+    λ i. let place : suc i * size ≡ size + i * size = omega arith in
+    ap (λ k. take size (drop k xs)) place ∙ ap (take size) (sym (drop-drop (i * size) size xs)) in
+    ap (λ l. l ++ in_a_row rest) (h 0 (omega arith) ∙ ap (λ k. take size (drop k xs)) none)
+    ∙ ap (λ l. take size xs ++ l) (blocks_in_a_row size rest (drop size xs) (λ i q. h (suc i) (omega (arith, q)) ∙ later i))
+    ∙ sym (take-add size (length rest * size) xs) ∙ ap (λ k. take k xs) all
+
 module _ (takes : ℕ → ℕ → Bool) (step : Step) (next : BlockStep) (cells : List ℤ) (blocks size steps : ℕ)
     (cut : IsCut blocks size steps (length cells)) (taken : takes (length cells) size
     ≡ true) (long : KeepsLength step) (by : IsByBlocks takes step next) where
@@ -125,25 +140,19 @@ module _ (takes : ℕ → ℕ → Bool) (step : Step) (next : BlockStep) (cells 
       ∙ ap (next (block_before size b xs) (block_of size b xs)) (behind-part blocks size b xs made.0 (made.1.long ∙ many) whole upper)
       ∙ sym (block-next r b p)
 
-  -- one more block of the cells after the last step
-  pub cells_more : (nr_blocks nr_steps b : ℕ) (value made : List ℤ) → nr_blocks ≡ blocks → nr_steps ≡ steps → b < nr_blocks →
-      value_of (block_graph next cells blocks size steps) (nr_steps * nr_blocks + b) ≡ Some value
-      → made ≡ take (b * size) (after step steps cells) → made ++ value ≡ take ((b + 1) * size) (after step steps cells)
-  cells_more nr_blocks nr_steps b value made n m h e before =
-      let place : nr_steps * nr_blocks + b ≡ steps * blocks + b = ap (λ k. k * nr_blocks + b) m ∙ ap (λ k. steps * k + b) n in
-      let next_place : b * size + size ≡ (b + 1) * size = omega arith in
-      let is : value ≡ block_of size b (after step steps cells) =
-      block_after steps b value (omega arith) (omega (arith, n, h))
-      (sym (ap (value_of (block_graph next cells blocks size steps)) place) ∙ e) in
-      ap (λ l. l ++ value) before ∙ ap (λ l. take (b * size) (after step steps cells) ++ l) is
-      ∙ sym (take-add (b * size) size (after step steps cells)) ∙ ap (λ k. take k (after step steps cells)) next_place
-
-  pub cells_all : (nr_blocks b : ℕ) (made : List ℤ) → nr_blocks ≡ blocks → nr_blocks ≤ b → made ≡ take (b * size) (after step steps cells)
-      → made ≡ after step steps cells
-  cells_all nr_blocks b made n h e =
-      let past : length (after step steps cells) ≤ b * size =
-      omega (arith, after-length step steps cells long, cut.whole, mul-le blocks size b size (omega (arith, n, h)) (omega arith)) in
-      e ∙ take_all (b * size) (after step steps cells) past
+  -- the numbers of the blocks after the last step are the cells after it
+  pub last_numbers : (first count : ℕ) (made : List ℤ) → first ≡ steps * blocks → count ≡ blocks
+      → numbers_from (block_graph next cells blocks size steps) first count ≡ Some made → made ≡ after step steps cells
+  last_numbers first count made place many e =
+      let xs : List ℤ = after step steps cells in
+      let f : ℕ → Option (List ℤ) = λ i. value_of (block_graph next cells blocks size steps) (first + i) in
+      let values = then_some-is (gather count f) (λ all. Some (in_a_row all)) made e in
+      let all = gathered count f values.0 [] values.1 in
+      let rows : length values.0 * size ≡ blocks * size = ap (λ n. n * size) (all.0 ∙ many) in
+      sym (some_same values.2)
+      ∙ blocks_in_a_row size values.0 xs (λ i h. block_after steps i (get_or values.0 i []) (omega arith) (omega (arith, h, all.0, many))
+      (ap (λ m. value_of (block_graph next cells blocks size steps) (m + i)) (sym place) ∙ all.1 i (omega (arith, h, all.0))))
+      ∙ take_all (length values.0 * size) xs (omega (arith, after-length step steps cells long, cut.whole, rows))
 
 -- the blocks after the last step are kept
 pub last_kept : (next : BlockStep) (cells : List ℤ) (blocks size steps n k b : ℕ) → n ≡ blocks → k ≡ steps

@@ -51,7 +51,7 @@ cells_refused next cells blocks size steps results refusal once why =
     (λ e. e)
     (λ (lacks : (refusal ≡ Missing) × LacksBlock blocks steps results).
     let lack = lacks.1 in
-    absurd (has_one ((steps + 1) * blocks) (steps * blocks + lack.block) results once (omega (arith, lack.within)) lack.none))
+    absurd (has_one ((steps + 1) * blocks) (steps * blocks + lack.place) results once (omega (arith, lack.within)) lack.none))
     why
 
 -- cells that take this many steps in one run take any part of them

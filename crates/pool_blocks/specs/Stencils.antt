@@ -1,12 +1,12 @@
 -- Steps of a stencil over some cells in blocks: a block becomes a function of itself and its neighbours.
-use Rattle.std.specs.Prelude.{◌≡◌, ◌≢◌, ◌<◌, ◌≤◌, ◌+◌, ◌-◌, ◌*◌, ◌/◌, ◌%◌, ◌^◌, ◌⊎◌, All, ℕ, zero, suc, ℤ, Bool, true, false, List, []}
+use Rattle.std.specs.Prelude.{◌≡◌, ◌<◌, ◌≤◌, ◌+◌, ◌-◌, ◌*◌, ◌/◌, ◌%◌, ◌^◌, ◌⊎◌, ℕ, zero, suc, ℤ, Bool, true, false, List, []}
 use Rattle.std.specs.Prelude.{length, slice_index_or, Some, if◌then◌else◌, nat_lt, nat_le}
 use Rattle.tp_base.specs.declared.Refusal.{Refusal}
-use Rattle.tp_base.specs.declared.Refusal.TheVariants.{Missing, NoMemory}
 use Rattle.tp_graph.specs.Blocks.{block_of}
 use Rattle.tp_graph.specs.Graphs.{TaskGraph}
 use Rattle.tp_graph.specs.Serial.{Results}
 use Rattle.tp_graph.specs.Values.{all_fit}
+use Rattle.pool_blocks.specs.Joined.{IsJoinedRefusal, LacksTask}
 use Rattle.pool_blocks.specs.Lists.{block_before, block_behind}
 
 -- what cells become at a step, and what a block becomes, from the block before it, itself and the block after it
@@ -103,11 +103,9 @@ block_graph next cells blocks size steps = record {
 }
 
 -- a block of the last step has no result
-pub record LacksBlock (blocks steps : ℕ) (results : Results) : Type 0 where
-  pub block : ℕ
-  pub within : block < blocks
-  pub none : All (λ r. r.0.0 ≢ steps * blocks + block) results
+abbrev pub LacksBlock : ℕ → ℕ → Results → Type 0
+LacksBlock blocks steps results = LacksTask (steps * blocks) blocks results
 
 -- why there are no cells at the end: a block of the last step is missing, or an allocation failed
 abbrev pub IsCellsRefusal : ℕ → ℕ → Results → Refusal → Type 0
-IsCellsRefusal blocks steps results refusal = (refusal ≡ NoMemory) ⊎ ((refusal ≡ Missing) × LacksBlock blocks steps results)
+IsCellsRefusal blocks steps results refusal = IsJoinedRefusal (steps * blocks) blocks results refusal

@@ -4,11 +4,12 @@ ghost use Rattle.tp_base.specs.declared.Refusal.TheVariants.{NoMemory};
 ghost use Rattle.tp_graph.specs.Left.{AreKept};
 ghost use Rattle.pool_blocks.specs.Stencils.{IsCellsRefusal, LacksBlock, after, block_graph};
 
+use crate::joining::joined;
 use crate::stencil::Stencil;
 use crate::steps::Steps;
 use std::alloc::Global;
 use tp_base::{Refusal, TaskId};
-use tp_graph::{Value, places, serial, value_at};
+use tp_graph::{Value, serial};
 
 /// Returns the cells after the last step, from the results of the tasks. Refused with `Missing` if a block of the last
 /// step has no result, and with `NoMemory` if an allocation fails first.
@@ -24,15 +25,7 @@ pub fn cells_of<S: Stencil>(
     ensures refused { IfErr result (IsCellsRefusal work.now.blocks work.now.steps results.now) }
 {
     let (blocks, steps) = (work.blocks(), work.steps());
-    let places = places(alloc, (steps + 1) * blocks, results)?;
-    let mut cells = Vec::new(alloc);
-    for b in 0..blocks {
-        let Some(value) = value_at(results, places.as_slice(), TaskId(steps * blocks + b)) else {
-            return Err(Refusal::Missing);
-        };
-        cells.extend_from_slice(value.as_slice())?;
-    }
-    Ok(cells)
+    joined(alloc, results, steps * blocks, blocks)
 }
 
 /// Returns the cells after the last step, computed on one thread. Refused only with `NoMemory`: every cell fits 64

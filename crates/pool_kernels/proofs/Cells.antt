@@ -6,9 +6,9 @@ use Rattle.tp_graph.proofs.Made.{then_some-is}
 use Rattle.tp_graph.proofs.Valued.{gather-same, value-is}
 use Rattle.tp_graph.specs.Graphs.{IsLawful, TaskGraph}
 use Rattle.tp_graph.specs.Values.{all_fit, fitting, gather, then_some, value_of}
-use Rattle.pool_patterns.specs.GridLaws.{grid_lawful}
-use Rattle.pool_patterns.specs.Grids.{IsNarrow, Relation, grid_graph, inputs, source}
-use Rattle.pool_patterns.specs.Ranks.{nth, nth_is, rank}
+use Rattle.pool_kernels.specs.GridLaws.{grid_lawful}
+use Rattle.pool_kernels.specs.Grids.{IsNarrow, Relation, grid_graph, inputs, source}
+use Rattle.pool_kernels.specs.Ranks.{nth, nth_is, rank}
 use Rattle.pool_kernels.proofs.Gathers.{AreTwo, from_one, from_two, gather-nth, gather_one, gather_two}
 use Rattle.pool_kernels.specs.Kernels.{CellLaw, Rule, cell, computed, kernel_graph, rule_in}
 

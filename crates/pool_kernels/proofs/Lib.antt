@@ -1,3 +1,11 @@
+pub mod More
+pub mod Picked
+pub mod Noted
+pub mod Counted
+pub mod Events
+pub mod EventLaws
+pub mod Found
+pub mod LastRow
 pub mod Gathers
 pub mod Cells
 pub mod Rows

@@ -1,28 +1,21 @@
 -- The last row of a grid, from the values of its tasks.
 use Rattle.std.proofs.Common.{◌≡◌, ◌<◌, ◌≤◌, ◌+◌, ◌-◌, ◌*◌, ℕ, zero, suc, ℤ, List, [], ◌∷◌, ◌++◌, length, get_or, Some}
 use Rattle.std.proofs.Common.{refl, ap, sym, ◌∙◌, arith}
-use Rattle.tp_graph.proofs.Left.{results_kept}
 use Rattle.tp_graph.proofs.Made.{gathered, some_same, then_some-is}
 use Rattle.tp_graph.proofs.Valued.{gather-same}
 use Rattle.tp_graph.specs.Found.{HasEachOnce}
 use Rattle.tp_graph.specs.Graphs.{TaskGraph}
-use Rattle.tp_graph.specs.Left.{AreKept, AreResults}
+use Rattle.tp_graph.specs.Left.{AreKept}
 use Rattle.tp_graph.specs.Serial.{Results}
-use Rattle.tp_graph.specs.Values.{gather, then_some, value_of}
+use Rattle.tp_graph.specs.Values.{gather, value_of}
 use Rattle.pool_blocks.proofs.JoinedValues.{joining}
 use Rattle.pool_blocks.specs.Joined.{KeepsFrom, LacksTask, in_a_row, numbers_from}
 use Rattle.pool_blocks.specs.Lists.{list_of}
-use Rattle.pool_patterns.proofs.Found.{has_one}
-use Rattle.pool_patterns.proofs.LastRow.{last_kept}
-use Rattle.pool_patterns.specs.Grids.{IsNarrow, Relation, grid_graph}
+use Rattle.pool_kernels.proofs.Found.{has_one}
+use Rattle.pool_kernels.proofs.LastRow.{last_kept}
+use Rattle.pool_kernels.specs.Grids.{IsNarrow, Relation}
 use Rattle.pool_kernels.proofs.Cells.{cell_is}
 use Rattle.pool_kernels.specs.Kernels.{Rule, cell, kernel_graph, row_at, rule_in}
-
--- results with one of each task lack none
-pub none_lacks : (tasks first count : ℕ) (results : Results) → HasEachOnce tasks results → first + count ≤ tasks
-    → LacksTask first count results → ⊥
-none_lacks tasks first count results once inside lack =
-    has_one tasks (first + lack.place) results once (omega (arith, lack.within, inside)) lack.none
 
 -- ---- the last row of a grid
 pub last_row : (r : Relation) (rule : Rule) (w steps : ℕ) → IsNarrow r w steps → 1 ≤ steps
@@ -31,25 +24,24 @@ last_row r rule w steps narrow some =
     ap joining (gather-same w (λ i. value_of (kernel_graph r rule w steps) ((steps - 1) * w + i)) (cell r rule w (steps - 1))
     (λ i h. cell_is r rule w steps narrow (steps - 1) i (omega (arith, some)) h))
 
--- the row of a run, from the numbers of its last tasks
-pub run_row : (r : Relation) (rule : Rule) (w steps first count : ℕ) (results : Results) (row : List ℤ) → IsNarrow r w steps → 1 ≤ steps
-    → first ≡ (steps - 1) * w → count ≡ w → AreResults (kernel_graph r rule w steps) results
+-- the last row, from the numbers of its tasks
+pub row_from : (r : Relation) (rule : Rule) (w steps first count : ℕ) (results : Results) (row : List ℤ) → IsNarrow r w steps → 1 ≤ steps
+    → first ≡ (steps - 1) * w → count ≡ w → AreKept (kernel_graph r rule w steps) results
     → ((g : TaskGraph) → AreKept g results → KeepsFrom g first count → numbers_from g first count ≡ Some row)
     → row_at r rule w (steps - 1) ≡ Some row
-run_row r rule w steps first count results row narrow some place whole right made =
+row_from r rule w steps first count results row narrow some place whole right made =
     let g : TaskGraph = kernel_graph r rule w steps in
     sym (last_row r rule w steps narrow some)
     ∙ ap (λ m. numbers_from g m w) (sym place) ∙ ap (numbers_from g first) (sym whole)
-    ∙ made g (results_kept g results right) (λ i h. last_kept r w steps (rule_in rule w) (first + i) i (ap (λ m. m + i) place))
+    ∙ made g right (λ i h. last_kept r w steps (rule_in rule w) (first + i) i (ap (λ m. m + i) place))
 
--- each of the last tasks has a result
-pub run_whole : (r : Relation) (rule : Rule) (w steps first count : ℕ) (results : Results) → 1 ≤ steps
-    → first ≡ (steps - 1) * w → count ≡ w → HasEachOnce (kernel_graph r rule w steps).tasks results → LacksTask first count results → ⊥
-unfolding grid_graph
-run_whole r rule w steps first count results some place whole once lack =
+-- each task of the last row has a result
+pub row_whole : (w steps first count : ℕ) (results : Results) → 1 ≤ steps → first ≡ (steps - 1) * w → count ≡ w
+    → HasEachOnce (steps * w) results → LacksTask first count results → ⊥
+row_whole w steps first count results some place whole once lack =
     let next : steps - 1 + 1 ≡ steps = omega (arith, some) in
     let last : (steps - 1 + 1) * w ≡ steps * w = ap (λ m. m * w) next in
-    none_lacks (steps * w) first count results once (omega (arith, place, whole, last)) lack
+    has_one (steps * w) (first + lack.place) results once (omega (arith, lack.within, place, whole, last)) lack.none
 
 -- ---- a row of blocks of one size
 pub list_same : (n : ℕ) (f g : ℕ → ℤ) → ((e : ℕ) → e < n → f e ≡ g e) → list_of n f ≡ list_of n g

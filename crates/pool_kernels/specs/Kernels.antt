@@ -3,7 +3,7 @@ use Rattle.std.specs.Prelude.{◌≡◌, ◌<◌, ◌+◌, ◌*◌, ◌/◌, ◌
 use Rattle.tp_graph.specs.Graphs.{TaskGraph}
 use Rattle.tp_graph.specs.Values.{fitting, gather, then_some, value_of}
 use Rattle.pool_blocks.specs.Joined.{in_a_row}
-use Rattle.pool_patterns.specs.Grids.{IsNarrow, Relation, grid_graph}
+use Rattle.pool_kernels.specs.Grids.{IsNarrow, Relation, grid_graph}
 
 -- what a task computes from its row, its column and the values that feed it, in rising order of their columns; none if
 -- it fails

@@ -1,9 +1,16 @@
+pub mod Ranks
+pub mod Grids
+pub mod Tables
+pub mod Events
+pub mod Faults
+pub mod Kinds
+pub mod GridLaws
 pub mod Kernels
+pub mod RunFaults
 pub mod Numbers
 pub mod Sums
 pub mod Doubles
 pub mod Digits
 pub mod Pairs
-pub mod GridFaults
 pub mod Plans
 pub mod Marks

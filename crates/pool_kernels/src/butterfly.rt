@@ -2,7 +2,7 @@
 ghost use Rattle.pool_kernels.specs.Digits.{butterfly};
 
 use crate::digits::without;
-use pool_patterns::Relation;
+use crate::relation::Relation;
 
 /// A butterfly: each column feeds itself and the one that differs from it in a single binary digit, digit 0 from row 0
 /// to row 1, digit 1 from row 1 to row 2, and so on.

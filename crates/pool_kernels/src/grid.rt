@@ -1,10 +1,14 @@
-//! A grid of tasks with a kernel, as a graph.
-ghost use Rattle.std.specs.Prelude.{◌≡◌, ◌≤◌, ◌<◌, ◌*◌, ◌^◌, ⊤};
-ghost use Rattle.pool_patterns.specs.GridLaws.{grid_lawful};
-ghost use Rattle.pool_kernels.specs.Kernels.{kernel_graph, rule_in};
+//! A grid of tasks with a kernel, as a graph, and its last row from a pool's results.
+ghost use Rattle.std.specs.Prelude.{◌≡◌, ◌-◌, ◌*◌, IfOk, Some, ⊤};
+ghost use Rattle.pool_kernels.specs.GridLaws.{grid_lawful};
+ghost use Rattle.pool_kernels.specs.Kernels.{kernel_graph, row_at, rule_in};
+ghost use Rattle.tp_graph.specs.Found.{HasEachOnce};
+ghost use Rattle.tp_graph.specs.Left.{AreKept};
 
 use crate::kernel::Kernel;
-use pool_patterns::{FeedTable, Grid, Relation};
+use crate::relation::Relation;
+use crate::table::FeedTable;
+use pool_blocks::joined;
 use std::alloc::{AllocError, Global};
 use tp_base::{NodeId, Refusal, TaskId};
 use tp_graph::{Graph, Value};
@@ -37,22 +41,6 @@ impl<'a, P: Relation, K: Kernel> KernelGrid<'a, P, K> {
             kernel: self.kernel,
         }
     }
-
-    /// Returns the number of columns of a row.
-    pub(crate) fn width(&self) -> u32
-        ensures same { result ≡ self.now.table.now.width }
-        ensures few { result < 2 ^ 20 }
-    {
-        self.table.width()
-    }
-
-    /// Returns the number of rows.
-    pub(crate) fn steps(&self) -> u32
-        ensures same { result ≡ self.now.table.now.steps }
-        ensures some { (1 ≤ result) × (result * self.now.table.now.width < 2 ^ 20) }
-    {
-        self.table.steps()
-    }
 }
 
 impl<'a, P: Relation, K: Kernel> Clone for KernelGrid<'a, P, K> {
@@ -70,7 +58,7 @@ impl<'a, P: Relation, K: Kernel> Clone for KernelGrid<'a, P, K> {
 
 impl<'a, P: Relation, K: Kernel> Copy for KernelGrid<'a, P, K> {}
 
-#[tactic(auto, unfolding(pool_patterns::specs::Grids::grid_graph))]
+#[tactic(auto, unfolding(crate::specs::Grids::grid_graph))]
 impl<'a, P: Relation + Send + Sync, K: Kernel> Graph for KernelGrid<'a, P, K> {
     ghost meaning = { λ g.
         kernel_graph (P.relation g.table.now.pattern g.table.now.width) (K.rule g.kernel) g.table.now.width g.table.now.steps };
@@ -80,36 +68,66 @@ impl<'a, P: Relation + Send + Sync, K: Kernel> Graph for KernelGrid<'a, P, K> {
         (rule_in (K.rule g.kernel) g.table.now.width) g.table.now.some_columns g.table.now.narrow };
 
     fn tasks(&self) -> u32 {
-        Grid::new(self.table, 0).tasks()
+        self.table.steps() * self.table.width()
     }
 
     fn arity(&self, task: TaskId) -> u8 {
-        Grid::new(self.table, 0).arity(task)
+        self.table.spot(task).arity
     }
 
-    fn class(&self, task: TaskId) -> u8 {
-        Grid::new(self.table, 0).class(task)
+    fn class(&self, _task: TaskId) -> u8 {
+        0
     }
 
     fn feeds(&self, task: TaskId) -> u32 {
-        Grid::new(self.table, 0).feeds(task)
+        self.table.spot(task).feeds
     }
 
     fn feed(&self, task: TaskId, turn: u32) -> (TaskId, u8) {
-        Grid::new(self.table, 0).feed(task, turn)
+        let spot = self.table.spot(task);
+        let output = self.table.output(task, spot, turn);
+        let next_row = task.0 - spot.column + self.table.width();
+        (TaskId(next_row + output.column), output.slot)
     }
 
     fn home(&self, task: TaskId, nodes: u32) -> NodeId {
-        Grid::new(self.table, 0).home(task, nodes)
+        NodeId(self.table.spot(task).column * nodes / self.table.width())
     }
 
+    /// Keeps the last row.
     fn keeps(&self, task: TaskId) -> bool {
-        Grid::new(self.table, 0).keeps(task)
+        (self.table.steps() - 1) * self.table.width() <= task.0
     }
 
     fn body(&self, alloc: Global, task: TaskId, inputs: &[Value]) -> Result<Value, Refusal> {
-        let width = self.table.width();
-        self.kernel
-            .compute(alloc, task.0 / width, task.0 % width, inputs)
+        let row = task.0 / self.table.width();
+        let column = self.table.spot(task).column;
+        self.kernel.compute(alloc, row, column, inputs)
+    }
+}
+
+/// Returns the numbers of the last row of a grid, column after column: those that the row-by-row method computes. There
+/// has to be one result of each task, in any order, and those of the last row have to be their values.
+pub fn last_row<P: Relation, K: Kernel>(
+    alloc: Global,
+    grid: &KernelGrid<P, K>,
+    results: &[(TaskId, Value)],
+) -> Result<Vec<i64>, AllocError>
+    requires right { AreKept
+        (kernel_graph (P.relation grid.now.table.now.pattern grid.now.table.now.width) (K.rule grid.now.kernel)
+        grid.now.table.now.width grid.now.table.now.steps) results.now }
+    requires once { HasEachOnce (grid.now.table.now.steps * grid.now.table.now.width) results.now }
+    ensures { IfOk result (λ row.
+        row_at (P.relation grid.now.table.now.pattern grid.now.table.now.width) (K.rule grid.now.kernel) grid.now.table.now.width
+        (grid.now.table.now.steps - 1) ≡ Some row.items) }
+{
+    let (width, steps) = (grid.table.width(), grid.table.steps());
+    match joined(alloc, results, (steps - 1) * width, width) {
+        Ok(row) => Ok(row),
+        Err(refusal) => match refusal {
+            Refusal::NoMemory => Err(AllocError),
+            // Each task has a result, so none is missing.
+            _ => unreachable!(),
+        },
     }
 }

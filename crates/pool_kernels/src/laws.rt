@@ -1,4 +1,6 @@
-//! What the tasks of a grid compute, and what a check of a graph means, as laws: calls whose postconditions are theorems.
+//! What the tasks of a grid compute, how many events a grid takes, and what a check of a graph means, as laws: calls whose
+//! postconditions are theorems.
+ghost use Rattle.pool_kernels.specs.Events.{GridEventsLaw, GridStepsLaw, NoMessageLaw};
 ghost use Rattle.pool_kernels.specs.Kernels.{CellLaw};
 ghost use Rattle.pool_kernels.specs.Plans.{LawfulIsSound, SoundIsLawful};
 
@@ -6,6 +8,15 @@ ghost use Rattle.pool_kernels.specs.Plans.{LawfulIsSound, SoundIsLawful};
 #[tactic(auto, using(crate::proofs::Cells::cell_value))]
 pub fn cells_are_values()
     ensures { CellLaw }
+{}
+
+/// States that the number of events of a grid is the number counted on its graph, which has no messages at one node.
+/// Any list of steps that computes the graph has that number of steps of tasks and messages.
+#[tactic(auto, using(crate::proofs::EventLaws::events_law, crate::proofs::EventLaws::no_message, crate::proofs::EventLaws::steps_law))]
+pub fn grid_events_are_counted()
+    ensures events { GridEventsLaw }
+    ensures one_node { NoMessageLaw }
+    ensures steps { GridStepsLaw }
 {}
 
 /// States that a lawful graph is in order at 1 to 8 nodes. If a graph is in order at each of them, there are ways back

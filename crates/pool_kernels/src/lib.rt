@@ -1,9 +1,10 @@
 //! Grids of tasks over a relation, with a kernel of one's own, and what such pools need besides: values number by
 //! number, the results of a row as one list.
 //!
-//! A [`Relation`](pool_patterns::Relation) says which columns of a row feed which of the next, and a [`Kernel`] what a
-//! task computes from its row, its column and the values that feed it. A [`KernelGrid`] is the graph of both, and
-//! [`run_kernel`] runs it on threads. [`Butterfly`] is a relation for transforms.
+//! A [`Relation`] says which columns of a row feed which of the next, and a [`Kernel`] what a task computes from its
+//! row, its column and the values that feed it. A [`FeedTable`] is computed from a relation once; a [`KernelGrid`],
+//! which borrows the table, is the graph of both, and [`run_grid`] runs it on threads. [`run_kernel`] does all of this.
+//! [`Butterfly`] is a relation for transforms.
 #![tactic(auto)]
 
 mod blocks;
@@ -15,11 +16,17 @@ mod fault;
 mod graph_fault;
 mod grid;
 mod kernel;
+mod kinds;
 mod laws;
+mod noting;
 mod pair_run;
 mod pairing;
 mod plan;
+mod relation;
 mod run;
+mod spots;
+mod table;
+mod table_fault;
 mod values;
 
 pub use blocks::PairedBlocks;
@@ -27,14 +34,17 @@ pub use butterfly::Butterfly;
 pub use check::{check_graph, check_plan};
 pub use digits::{digit, without};
 pub use doubles::{bits_of, double_of};
-pub use fault::GridFault;
+pub use fault::{GridFault, RunFault};
 pub use graph_fault::GraphFault;
-pub use grid::KernelGrid;
+pub use grid::{KernelGrid, last_row};
 pub use kernel::Kernel;
-pub use laws::{cells_are_values, sound_graphs_are_lawful};
+pub use laws::{cells_are_values, grid_events_are_counted, sound_graphs_are_lawful};
 pub use pair_run::run_pairs;
 pub use pairing::Pairing;
 pub use plan::{Plan, PlanOf};
 pub use pool_blocks::joined;
+pub use relation::Relation;
 pub use run::{GridRun, run_grid, run_kernel};
+pub use table::FeedTable;
+pub use table_fault::TableFault;
 pub use values::{number_at, value_by};

@@ -1,7 +1,7 @@
 //! Running steps that pair numbers on threads.
 ghost use Rattle.std.specs.Prelude.{◌≡◌, ◌+◌, ◌^◌, IfErr, IfOk};
 ghost use Rattle.pool_kernels.specs.Digits.{butterfly};
-ghost use Rattle.pool_kernels.specs.GridFaults.{IsGridFault};
+ghost use Rattle.pool_kernels.specs.RunFaults.{IsGridFault};
 ghost use Rattle.pool_kernels.specs.Pairs.{pair_rule, paired};
 ghost use Rattle.tp_work.specs.Outcomes.{IsWithinLimits};
 

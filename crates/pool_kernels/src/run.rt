@@ -1,20 +1,18 @@
 //! Running a kernel on threads.
 ghost use Rattle.std.specs.Prelude.{◌≡◌, ◌-◌, IfOk, IfErr, OnOk, Some};
-ghost use Rattle.pool_patterns.specs.Faults.{HasNoFault};
-ghost use Rattle.pool_patterns.specs.RunFaults.{IsPatternFault};
-ghost use Rattle.pool_kernels.specs.GridFaults.{IsGridFault};
+ghost use Rattle.pool_kernels.specs.Faults.{HasNoFault};
 ghost use Rattle.pool_kernels.specs.Kernels.{kernel_graph, row_at};
+ghost use Rattle.pool_kernels.specs.RunFaults.{IsGridFault, IsRunFault};
 ghost use Rattle.tp_work.specs.Outcomes.{IsOutcome, IsWithinLimits};
 
-use crate::fault::GridFault;
-use crate::grid::KernelGrid;
+use crate::fault::{GridFault, RunFault};
+use crate::grid::{KernelGrid, last_row};
 use crate::kernel::Kernel;
-use pool_blocks::joined;
-use pool_patterns::{FeedTable, PatternFault, Relation};
+use crate::relation::Relation;
+use crate::table::FeedTable;
 use std::alloc::Global;
 use std::sync::Wait;
 use std::thread::Threads;
-use tp_base::Refusal;
 use tp_work::{Config, OpenGate, Outcome, run_pool};
 
 /// The result of a run of a kernel.
@@ -33,7 +31,7 @@ pub fn run_grid<P: Relation + Send + Sync, K: Kernel, R: Threads + Wait + Sync>(
     alloc: Global,
     grid: &KernelGrid<P, K>,
     config: Config,
-) -> Result<GridRun, PatternFault>
+) -> Result<GridRun, RunFault>
     requires { IsWithinLimits config }
     ensures row { IfOk result (λ run.
         row_at (P.relation grid.now.table.now.pattern grid.now.table.now.width) (K.rule grid.now.kernel) grid.now.table.now.width
@@ -41,21 +39,16 @@ pub fn run_grid<P: Relation + Send + Sync, K: Kernel, R: Threads + Wait + Sync>(
     ensures outcome { IfOk result (λ run. IsOutcome config.nodes config.workers
         (kernel_graph (P.relation grid.now.table.now.pattern grid.now.table.now.width) (K.rule grid.now.kernel)
         grid.now.table.now.width grid.now.table.now.steps) run.outcome) }
-    ensures refused { IfErr result (IsPatternFault config.nodes config.workers
+    ensures refused { IfErr result (IsRunFault config.nodes config.workers
         (kernel_graph (P.relation grid.now.table.now.pattern grid.now.table.now.width) (K.rule grid.now.kernel)
         grid.now.table.now.width grid.now.table.now.steps)) }
 {
-    let (width, steps) = (grid.width(), grid.steps());
     match run_pool(rt, alloc, grid.copied(), config, &OpenGate) {
-        Ok(outcome) => match joined(alloc, &outcome.results, (steps - 1) * width, width) {
+        Ok(outcome) => match last_row(alloc, grid, &outcome.results) {
             Ok(row) => Ok(GridRun { row, outcome }),
-            Err(refusal) => match refusal {
-                Refusal::NoMemory => Err(PatternFault::Unmade(outcome)),
-                // In a pool that ended each task has a result, so none is missing.
-                _ => unreachable!(),
-            },
+            Err(_) => Err(RunFault::Unmade(outcome)),
         },
-        Err(fault) => Err(PatternFault::Run(fault)),
+        Err(fault) => Err(RunFault::Run(fault)),
     }
 }
 

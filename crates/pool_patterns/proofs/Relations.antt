@@ -1,17 +1,18 @@
--- The period of each pattern.
+-- The period of each pattern, and one iteration more.
 use Rattle.std.proofs.Common.{◌≡◌, ◌<◌, ◌≤◌, ◌+◌, ◌-◌, ◌*◌, ◌/◌, ◌%◌, ◌^◌, ℕ, zero, suc, min, max, refl, ap, sym, ◌∙◌, subst, arith, ⊎_elim}
 use Rattle.std.specs.Prelude.{◌==◌, ◌||◌, nat_le}
 use Rattle.std.specs.Int.{abs_diff}
 use Rattle.std.proofs.Math.Nat.{add-mod_right, pow-suc}
 use Rattle.std.proofs.lemmas.Bool.{cases_eq, cases_lt, le-leb, lt-leb}
 use Rattle.std.proofs.lemmas.Nat.{pow_below}
-use Rattle.pool_patterns.specs.Grids.{ComesAgain}
-use Rattle.pool_patterns.specs.Ranks.{rank}
+use Rattle.pool_kernels.proofs.More.{suc_false, suc_true}
+use Rattle.pool_kernels.specs.Grids.{ComesAgain}
+use Rattle.pool_kernels.specs.Ranks.{rank}
+use Rattle.pool_patterns.specs.Kernels.{stir, stirred}
 use Rattle.pool_patterns.specs.Relations.{doublings, fifth, period_of, relates}
 use Rattle.pool_patterns.specs.declared.pattern.Pattern.{Pattern}
 use Rattle.pool_patterns.specs.declared.pattern.Pattern.TheVariants.{Trivial, NoComm, Stencil, StencilPeriodic, Dom, Tree, Fft, AllToAll}
 use Rattle.pool_patterns.specs.declared.pattern.Pattern.TheVariants.{Nearest, Spread, RandomNearest}
-use Rattle.pool_patterns.proofs.More.{suc_false, suc_true}
 
 power_le : (i j : ℕ) → i ≤ j → 2 ^ i ≤ 2 ^ j
 power_le i j h =
@@ -95,3 +96,6 @@ by_period (Nearest radius) w steps t j i some few a b = refl
 
 pub comes_again : (p : Pattern) (w steps n : ℕ) → n ≡ period_of p w steps → ComesAgain (relates p w) w steps n
 comes_again p w steps n is = subst (ComesAgain (relates p w) w steps) (sym is) (by_period p w steps)
+
+pub stir_more : (n x y z : ℕ) → y ≡ stir n x → z ≡ stirred y → z ≡ stir (n + 1) x
+stir_more n x y z e is = let s : n + 1 ≡ suc n = omega arith in is ∙ ap stirred e ∙ ap (λ m. stir m x) (sym s)

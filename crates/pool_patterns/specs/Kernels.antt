@@ -1,8 +1,9 @@
 -- What a task computes from its inputs: numbers below 2 ^ 31, to which the kernel is applied this many times.
-use Rattle.std.specs.Prelude.{◌+◌, ◌*◌, ◌%◌, ℕ, zero, suc, ℤ, pos, List, [], ◌∷◌, Option, Some, None, if◌then◌else◌, nat_lt}
-use Rattle.tp_graph.specs.Graphs.{TaskGraph}
+use Rattle.std.specs.Prelude.{◌+◌, ◌*◌, ◌%◌, ℕ, zero, suc, ℤ, pos, List, [], ◌∷◌, map, Option, Some, None, if◌then◌else◌, nat_lt}
+use Rattle.std.specs.Int.{cast_unsigned, w64}
+use Rattle.std.specs.List.{sum}
 use Rattle.tp_graph.specs.Values.{then_some}
-use Rattle.pool_patterns.specs.Grids.{Relation, grid_graph}
+use Rattle.pool_kernels.specs.Kernels.{Rule}
 
 -- one iteration
 abbrev pub stirred : ℕ → ℕ
@@ -26,10 +27,10 @@ abbrev pub total_of : List (List ℤ) → Option ℕ
 total_of [] = Some 0
 total_of (a ∷ rest) = then_some (number_of a) (λ n. then_some (total_of rest) (λ m. Some (n + m)))
 
--- the rule of the tasks of a grid of w columns
-abbrev pub kernel_rule : ℕ → ℕ → ℕ → List (List ℤ) → Option (List ℤ)
-kernel_rule w iterations t values = then_some (total_of values) (λ n. Some (pos (made iterations (t % w) n) ∷ []))
+-- what a task computes, of any row
+abbrev pub stir_rule : ℕ → Rule
+stir_rule iterations t i values = then_some (total_of values) (λ n. Some (pos (made iterations i n) ∷ []))
 
--- a grid of tasks of this rule
-abbrev pub kernel_graph : Relation → ℕ → ℕ → ℕ → TaskGraph
-kernel_graph r w steps iterations = grid_graph r w steps (kernel_rule w iterations)
+-- the checksum of a row of numbers that are 0 or more: their sum mod 2 ^ 31
+abbrev pub checksum : List ℤ → ℕ
+checksum row = sum (map (cast_unsigned w64) row) % 2147483648

@@ -1,11 +1,2 @@
-pub mod RunFaults
-pub mod Ranks
-pub mod Grids
 pub mod Kernels
-pub mod Rows
 pub mod Relations
-pub mod Tables
-pub mod Events
-pub mod Faults
-pub mod Kinds
-pub mod GridLaws

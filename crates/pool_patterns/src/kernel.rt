@@ -1,10 +1,35 @@
-//! The kernel of a grid's tasks, which is arithmetic on numbers below 2^31.
+//! The kernel of the tasks, which is arithmetic on numbers below 2^31.
 ghost use Rattle.std.specs.Prelude.{◌≡◌, ◌<◌, ◌≤◌, MatchResult, Some, None, length};
 ghost use Rattle.tp_base.specs.declared.Refusal.TheVariants.{BodyFailed};
-ghost use Rattle.pool_patterns.specs.Kernels.{made, number_of, stir, stirred, total_of};
+ghost use Rattle.pool_patterns.specs.Kernels.{made, number_of, stir, stir_rule, stirred, total_of};
 
+use pool_kernels::Kernel;
+use std::alloc::Global;
 use tp_base::Refusal;
 use tp_graph::Value;
+
+/// The kernel of Task Bench's tasks: a task sums the numbers of its inputs, adds its column and 1, and stirs the sum
+/// `iterations` times.
+#[derive(Clone, Copy, Debug, PartialEq, Eq)]
+pub struct Stirring {
+    /// The number of iterations in each task.
+    pub iterations: u64,
+}
+
+impl Kernel for Stirring {
+    ghost rule = { λ s. stir_rule s.iterations };
+
+    fn compute(
+        &self,
+        alloc: Global,
+        _row: u32,
+        column: u32,
+        inputs: &[Value],
+    ) -> Result<Value, Refusal> {
+        let number = made(self.iterations, column, total_of(inputs)?);
+        Ok(Value::one(alloc, number as i64)?)
+    }
+}
 
 /// Returns the result of one iteration of the kernel.
 pub(crate) fn stirred(x: u64) -> u64
@@ -16,7 +41,7 @@ pub(crate) fn stirred(x: u64) -> u64
 }
 
 /// Returns the result of `iterations` iterations.
-#[tactic(auto, using(crate::proofs::More::stir_more))]
+#[tactic(auto, using(crate::proofs::Relations::stir_more))]
 fn stir(x: u64, iterations: u64) -> u64
     requires { x < 2147483648 }
     ensures same { result ≡ stir iterations x }
@@ -30,7 +55,7 @@ fn stir(x: u64, iterations: u64) -> u64
 }
 
 /// Returns what a column computes from the sum of its inputs.
-pub(crate) fn made(iterations: u64, column: u32, total: u64) -> u64
+fn made(iterations: u64, column: u32, total: u64) -> u64
     requires { total < 1099511627776 }
     ensures same { result ≡ made iterations column total }
     ensures small { result < 2147483648 }
@@ -39,7 +64,7 @@ pub(crate) fn made(iterations: u64, column: u32, total: u64) -> u64
 }
 
 /// Returns the number of an input, which is below 2 ^ 31. Refused with `BodyFailed` if the input is no such number.
-pub(crate) fn number_of(value: &Value) -> Result<u64, Refusal>
+fn number_of(value: &Value) -> Result<u64, Refusal>
     ensures { MatchResult result
         (λ n. (number_of value.now ≡ Some n) × (n < 2147483648))
         (λ refusal. (refusal ≡ BodyFailed) × (number_of value.now ≡ None)) }
@@ -53,7 +78,7 @@ pub(crate) fn number_of(value: &Value) -> Result<u64, Refusal>
 }
 
 /// Returns the sum of the numbers of some inputs. Refused with `BodyFailed` if one is no such number.
-pub(crate) fn total_of(values: &[Value]) -> Result<u64, Refusal>
+fn total_of(values: &[Value]) -> Result<u64, Refusal>
     requires { length values.now ≤ 16 }
     ensures { MatchResult result
         (λ n. (total_of values.now ≡ Some n) × (n < 1099511627776))

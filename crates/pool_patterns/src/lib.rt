@@ -1,33 +1,15 @@
-//! Task Bench's patterns as pools (E. Slaughter and others, "Task Bench: A Parameterized Benchmark for Evaluating
-//! Parallel Runtime Performance", 2020): grids of tasks in which a relation says which columns of a row feed which of
-//! the next.
+//! Task Bench's patterns as relations, and the kernel of its tasks (E. Slaughter and others, "Task Bench: A Parameterized
+//! Benchmark for Evaluating Parallel Runtime Performance", 2020).
 //!
-//! A pattern is a [`Relation`]; [`Pattern`] has those of Task Bench. A [`FeedTable`] is computed from it once. A
-//! [`Grid`], which borrows the table, is the graph that a pool runs, and [`last_row`] reads the numbers of the last row
-//! from its results.
+//! A [`Pattern`] says which columns of a row feed which of the next, and [`Stirring`] what a task computes from these.
+//! The table of a pattern, the graph and its runs are those of any relation and kernel.
 #![tactic(auto)]
 
-mod fault;
-mod grid;
 mod kernel;
-mod kinds;
-mod laws;
-mod noting;
 mod pattern;
 mod relating;
-mod relation;
 mod row;
-mod run;
-mod run_fault;
-mod spots;
-mod table;
 
-pub use fault::TableFault;
-pub use grid::Grid;
-pub use laws::grid_events_are_counted;
+pub use kernel::Stirring;
 pub use pattern::Pattern;
-pub use relation::Relation;
-pub use row::{checksum, last_row};
-pub use run::{PatternRun, run_pattern};
-pub use run_fault::PatternFault;
-pub use table::FeedTable;
+pub use row::checksum;

@@ -1,11 +1,11 @@
 //! The relation of each of Task Bench's patterns, and its period.
 ghost use Rattle.std.specs.Prelude.{◌≡◌, ◌≤◌, ◌<◌, ◌^◌};
-ghost use Rattle.pool_patterns.specs.Grids.{AreSizes};
+ghost use Rattle.pool_kernels.specs.Grids.{AreSizes};
 ghost use Rattle.pool_patterns.specs.Relations.{doublings, fifth, is_drawn, period_of, relates};
 
 use crate::kernel::stirred;
 use crate::pattern::Pattern;
-use crate::relation::Relation;
+use pool_kernels::Relation;
 
 impl Relation for Pattern {
     ghost relation = { relates };

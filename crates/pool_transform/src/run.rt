@@ -1,7 +1,7 @@
 //! Running the transform on threads.
 ghost use Rattle.std.specs.Prelude.{◌≡◌, ◌+◌, ◌^◌, IfErr, IfOk};
 ghost use Rattle.pool_kernels.specs.Digits.{butterfly};
-ghost use Rattle.pool_kernels.specs.GridFaults.{IsGridFault};
+ghost use Rattle.pool_kernels.specs.RunFaults.{IsGridFault};
 ghost use Rattle.pool_kernels.specs.Pairs.{pair_rule};
 ghost use Rattle.pool_transform.specs.Transforms.{summed, transform};
 ghost use Rattle.tp_work.specs.Outcomes.{IsWithinLimits};

@@ -1,6 +1,6 @@
 -- Why there are no prefix sums.
 use Rattle.std.specs.Prelude.{ℕ, ℤ, ◌≤◌, ◌^◌, List, length}
-use Rattle.pool_kernels.specs.GridFaults.{IsGridFault}
+use Rattle.pool_kernels.specs.RunFaults.{IsGridFault}
 use Rattle.prefix.specs.Prefixes.{AreRows, doubling, prefix_rule}
 use Rattle.prefix.specs.declared.sums.PrefixFault.{PrefixFault}
 use Rattle.prefix.specs.declared.sums.PrefixFault.TheVariants.{Grid, TooMany}

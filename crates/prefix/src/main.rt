@@ -15,8 +15,7 @@ mod sums;
 use crate::sums::{PrefixFault, prefix_sums};
 use clap::error::ErrorKind;
 use clap::{Command, Error};
-use pool_kernels::GridFault;
-use pool_patterns::PatternFault;
+use pool_kernels::{GridFault, RunFault};
 use std::env::Env;
 use std::io;
 use std::process::ExitCode;
@@ -143,8 +142,8 @@ fn complain(rt: &impl Eprint, fault: &PrefixFault, width: usize) -> io::Result<u
 }
 
 /// Returns the row and the column of the task whose body failed, if one did.
-fn failed_at(fault: &PatternFault, width: usize) -> Option<(usize, usize)> {
-    let PatternFault::Run(fault) = fault else {
+fn failed_at(fault: &RunFault, width: usize) -> Option<(usize, usize)> {
+    let RunFault::Run(fault) = fault else {
         return None;
     };
     let task = fault.failed?.0 as usize;

@@ -1,7 +1,7 @@
 //! Which columns feed which: the relation.
 ghost use Rattle.prefix.specs.Prefixes.{doubling};
 
-use pool_patterns::Relation;
+use pool_kernels::Relation;
 
 /// A column is fed by itself and by the one at its left, 1 column away in row 1, 2 in row 2, 4 in row 3 and so on.
 #[derive(Clone, Copy)]

@@ -3,7 +3,7 @@
 ghost use Rattle.std.specs.Prelude.{◌≡◌, ◌≤◌, MatchResult};
 
 use pool_blocks::LentFault;
-use pool_patterns::{PatternFault, TableFault};
+use pool_kernels::{RunFault, TableFault};
 use std::alloc::AllocError;
 use std::io::Write;
 use thiserror::Error;
@@ -145,8 +145,8 @@ impl From<LentFault> for Fault {
     }
 }
 
-impl From<PatternFault> for Fault {
-    fn from(fault: PatternFault) -> Self {
+impl From<RunFault> for Fault {
+    fn from(fault: RunFault) -> Self {
         match fault.refusal() {
             Refusal::HistoryFull(_) => Fault::LongRun,
             refusal => Fault::from(refusal),

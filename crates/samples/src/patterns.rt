@@ -5,9 +5,8 @@ ghost use Rattle.tp_work.specs.Outcomes.{IsWithinLimits};
 use crate::fault::Fault;
 use crate::request::PatternGrid;
 use crate::watched::{Watch, run_pool_watched};
-use pool_patterns::{
-    FeedTable, Grid, Pattern, PatternFault, PatternRun, Relation, checksum, last_row, run_pattern,
-};
+use pool_kernels::{FeedTable, GridRun, KernelGrid, RunFault, last_row, run_grid};
+use pool_patterns::{Pattern, Stirring, checksum};
 use std::alloc::Global;
 use std::rt::Clock;
 use std::sync::Wait;
@@ -28,10 +27,11 @@ pub(crate) fn pattern_text<R: Threads + Wait + Sync + Clock>(
         return Err(Fault::NoPattern);
     };
     let table = FeedTable::new(alloc, pattern, asked.width, asked.steps)?;
-    let grid = Grid::new(&table, asked.iterations);
+    let iterations = asked.iterations;
+    let grid = KernelGrid::new(&table, Stirring { iterations });
     let run = match watch.log {
         Some(_) => run_timed(rt, alloc, &grid, config, watch)?,
-        None => run_pattern(rt, alloc, &grid, config)?,
+        None => run_grid(rt, alloc, &grid, config)?,
     };
     let sum = checksum(&run.row);
     let (tasks, messages) = (run.outcome.tasks, run.outcome.messages);
@@ -39,21 +39,21 @@ pub(crate) fn pattern_text<R: Threads + Wait + Sync + Clock>(
 }
 
 /// Runs a grid with its tasks timed.
-fn run_timed<P: Relation + Send + Sync, R: Threads + Wait + Sync + Clock>(
+fn run_timed<R: Threads + Wait + Sync + Clock>(
     rt: &R,
     alloc: Global,
-    grid: &Grid<P>,
+    grid: &KernelGrid<Pattern, Stirring>,
     config: Config,
     watch: Watch,
-) -> Result<PatternRun, Fault>
+) -> Result<GridRun, Fault>
     requires { IsWithinLimits config }
 {
     match run_pool_watched(rt, alloc, *grid, config, watch) {
         Ok(outcome) => {
             let row = last_row(alloc, grid, &outcome.results)?;
-            Ok(PatternRun { row, outcome })
+            Ok(GridRun { row, outcome })
         }
-        Err(fault) => Err(Fault::from(PatternFault::Run(fault))),
+        Err(fault) => Err(Fault::from(RunFault::Run(fault))),
     }
 }
 

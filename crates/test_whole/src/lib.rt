@@ -13,6 +13,8 @@ mod calls;
 #[cfg(test)]
 mod counted;
 #[cfg(test)]
+mod cuts;
+#[cfg(test)]
 mod failing;
 #[cfg(test)]
 mod gates;
@@ -20,6 +22,8 @@ mod gates;
 mod grids;
 #[cfg(test)]
 mod hindered;
+#[cfg(test)]
+mod idle;
 #[cfg(test)]
 mod kernels;
 #[cfg(test)]

@@ -3,7 +3,8 @@
 ghost use Rattle.std.specs.Prelude.{◌+◌, ◌==◌, ◌||◌};
 
 use crate::patterns::numbers;
-use pool_patterns::{FeedTable, Grid, Relation};
+use pool_kernels::{FeedTable, KernelGrid, Relation};
+use pool_patterns::Stirring;
 use std::test::Fail;
 
 /// Each column is fed by itself and by the one opposite, counted from the other end.
@@ -26,7 +27,8 @@ impl Relation for Mirror {
 #[test]
 fn a_pattern_of_ones_own_is_a_relation(rt: HostRuntime) -> Result<(), Fail> {
     let table = FeedTable::new(rt.alloc(), Mirror, 3, 2)?;
-    let values = numbers(rt.alloc(), Grid::new(&table, 0))?;
+    let grid = KernelGrid::new(&table, Stirring { iterations: 0 });
+    let values = numbers(rt.alloc(), grid)?;
     assert_eq!(rt; values.as_slice(), [1, 2, 3, 5, 4, 7].as_slice());
     Ok(())
 }

@@ -1,9 +1,10 @@
 //! Task Bench's patterns: who feeds whom in six columns, and the numbers of three rows, computed independently.
 
 ghost use Rattle.std.specs.Prelude.{◌≡◌, ◌<◌};
-ghost use Rattle.pool_patterns.specs.Grids.{AreSizes};
+ghost use Rattle.pool_kernels.specs.Grids.{AreSizes};
 
-use pool_patterns::{FeedTable, Grid, Pattern, Relation};
+use pool_kernels::{FeedTable, KernelGrid, Relation};
+use pool_patterns::{Pattern, Stirring};
 use std::alloc::{AllocError, Global};
 use std::test::Fail;
 use tp_base::Refusal;
@@ -134,10 +135,12 @@ pub(crate) fn numbers<G: Graph>(alloc: Global, graph: G) -> Result<Vec<i64>, Ref
 fn three_rows_of_three_columns(rt: HostRuntime) -> Result<(), Fail> {
     let table = FeedTable::new(rt.alloc(), Pattern::Stencil, 3, 3)?;
     // With no iteration a task has the sum of its inputs, its column and 1.
-    let plain = numbers(rt.alloc(), Grid::new(&table, 0))?;
+    let sums = KernelGrid::new(&table, Stirring { iterations: 0 });
+    let plain = numbers(rt.alloc(), sums)?;
     // The first row with one iteration: 1 * 3, 2 * 5 and 3 * 7, each with 1,013,904,223. A separate program computed
     // the others.
-    let stirred = numbers(rt.alloc(), Grid::new(&table, 1))?;
+    let once = KernelGrid::new(&table, Stirring { iterations: 1 });
+    let stirred = numbers(rt.alloc(), once)?;
     let wanted = [
         1013904226, 1013904233, 1013904244, 1306738507, 1729189538, 322658879, 476142549,
         1738095637, 1888272995,
@@ -145,4 +148,24 @@ fn three_rows_of_three_columns(rt: HostRuntime) -> Result<(), Fail> {
     assert_eq!(rt; plain.as_slice(), [1, 2, 3, 4, 8, 8, 13, 22, 19].as_slice());
     assert_eq!(rt; stirred.as_slice(), wanted.as_slice());
     Ok(())
+}
+
+// In six columns the distances of `Fft` are 1 and 2.
+#[test]
+fn each_relation_repeats_after_its_period(rt: HostRuntime) {
+    for (pattern, period) in [
+        (Pattern::Trivial, 1),
+        (Pattern::NoComm, 1),
+        (Pattern::Stencil, 1),
+        (Pattern::StencilPeriodic, 1),
+        (Pattern::Dom, 1),
+        (Pattern::Tree, 1),
+        (Pattern::Fft, 2),
+        (Pattern::AllToAll, 1),
+        (Pattern::Nearest { radius: 2 }, 1),
+        (Pattern::Spread { seed: 3 }, 6),
+        (Pattern::RandomNearest { radius: 2, seed: 0 }, 9),
+    ] {
+        assert_eq!(rt; pattern.period(6, 9), period, "{pattern:?}");
+    }
 }

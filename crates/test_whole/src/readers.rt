@@ -10,7 +10,7 @@ type Answer = Result<Verdict, TextFault>;
 
 /// A kind of texts.
 #[derive(Clone, Copy, Debug)]
-enum Kind {
+pub(crate) enum Kind {
     Script,
     Trace,
 }
@@ -24,7 +24,12 @@ const TEXTS: [(Kind, &[u8], u32, u32); 2] = [
 ];
 
 impl Kind {
-    fn answer<R: Read, W: Write>(self, alloc: Global, reader: &mut R, writer: &mut W) -> Answer {
+    pub(crate) fn answer<R: Read, W: Write>(
+        self,
+        alloc: Global,
+        reader: &mut R,
+        writer: &mut W,
+    ) -> Answer {
         match self {
             Kind::Script => sim(alloc, reader, writer),
             Kind::Trace => audit(alloc, reader, writer),

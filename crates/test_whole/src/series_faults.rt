@@ -1,8 +1,9 @@
 //! Series of generations that end with a fault although there is enough memory: the fault, and what its report has. All
 //! run at one node with one worker, so that the numbers are the same each time.
 
+use pool_kernels::{FeedTable, KernelGrid};
 use pool_matrix::Product;
-use pool_patterns::{FeedTable, Grid, Pattern};
+use pool_patterns::{Pattern, Stirring};
 use pool_samples::Reduce;
 use std::alloc::Global;
 use std::sync::Wait;
@@ -93,7 +94,8 @@ fn found_of_grid<R: Threads + Wait + Sync>(
     steps: u32,
 ) -> Result<Option<Found>, Fail> {
     let table = FeedTable::new(alloc, pattern, width, steps)?;
-    Ok(found_of(rt, alloc, Grid::new(&table, 0), &OpenGate))
+    let grid = KernelGrid::new(&table, Stirring { iterations: 0 });
+    Ok(found_of(rt, alloc, grid, &OpenGate))
 }
 
 // One entry overflows. In the opening, one task is inserted.

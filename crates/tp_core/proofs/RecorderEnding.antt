@@ -1,6 +1,7 @@
 -- Settling of a recorder: the lists behind its counters go on by the control steps that are taken, up to the judgement.
 use Rattle.tp_core.proofs.Words.{ℕ, ◌+◌, ◌*◌, ◌≡◌, ◌<◌, ◌≤◌, List, [], ◌∷◌, ◌++◌, Bool, true, false, Option, Some, None}
-use Rattle.tp_core.proofs.Words.{length, reverse, refl, ap, sym, subst, ◌∙◌, arith, IsTrue, IsFalse, list_all, and_parts, length-append, length-reverse}
+use Rattle.tp_core.proofs.Words.{length, reverse, refl, ap, sym, subst, ◌∙◌, arith, IsTrue, IsFalse, list_all, and_parts}
+use Rattle.tp_core.proofs.Words.{length-append, length-reverse}
 use Rattle.tp_core.proofs.Words.{control_refusal, inl, inr, is_some, reverse-append, take, if◌then◌else◌, Result, Ok, Err}
 use Rattle.tp_core.proofs.Words.{Refusal, NotIdle, first_refusal, Step, Judge, MAX_STEPS, is_control, is_reopen, IsDue, any}
 use Rattle.tp_core.proofs.Words.{present, waves, is_ended, judgement, Wave, Follows, Stands, NodeNumbers, World, world, IsQuiet}

@@ -18,7 +18,7 @@ use tp_graph::Graph;
 use tp_shell::{Diagnostics, complain, show};
 
 /// A graph that is drawn has at most this many tasks.
-const MAX_TASKS: u32 = 2_000;
+pub(crate) const MAX_TASKS: u32 = 2_000;
 
 /// Runs the program with its arguments, beginning with its own name, and returns the exit status. It reads from
 /// `reader`, writes its picture to `out` and an error line to `err`. The status is 0 if the picture was written, or

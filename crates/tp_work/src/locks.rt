@@ -12,6 +12,7 @@ use std::alloc::{AllocError, Global};
 use std::hint::spin_loop;
 use std::sync::atomic::{AtomicBool, AtomicU64, Ordering};
 use std::sync::{Mutex, MutexGuard, Wait};
+use std::time::Duration;
 use tp_base::{NodeId, Refusal};
 use tp_board::{Board, Ended, Ledgers};
 use tp_graph::{Comparable, Graph, is_same};
@@ -85,6 +86,15 @@ pub(crate) struct LinkSlot<G: Graph, K: Ledgers> {
 /// before that, and blocking and being woken costs more. docs/measurements/locks.md has the measurements.
 const TRIES: u32 = 12;
 
+/// How often a worker retries its node's lock in that way, before it naps.
+const TRIES_BEFORE_A_NAP: u32 = 4;
+
+/// The most naps before it blocks.
+const NAPS: u32 = 36;
+
+/// The length of a nap, in microseconds.
+const NAP: u64 = 50;
+
 /// The first backoff, in spins. Each further one is twice as long: a retry takes the cache line away from the thread
 /// that holds the lock, and with it the data next to the lock.
 const FIRST_SPINS: u32 = 32;
@@ -108,17 +118,45 @@ pub(crate) fn lock_soon<'l, T, R: Wait>(rt: &R, lock: &'l Mutex<T>) -> MutexGuar
 #[cold]
 #[inline(never)]
 fn lock_later<'l, T, R: Wait>(rt: &R, lock: &'l Mutex<T>) -> MutexGuard<'l, T> {
+    match retry(lock, TRIES) {
+        Some(guard) => guard,
+        None => lock.lock(rt),
+    }
+}
+
+/// Acquires a lock that was contended. If it is not free after the first backoffs, several threads want it all the
+/// time. If one of them naps, the others have enough to do, and no thread has to wake it.
+#[cold]
+#[inline(never)]
+fn lock_between_naps<'l, T, R: Wait>(rt: &R, lock: &'l Mutex<T>) -> MutexGuard<'l, T> {
+    if let Some(guard) = retry(lock, TRIES_BEFORE_A_NAP) {
+        return guard;
+    }
+    // Nothing changes this word, so each nap ends when its time is over.
+    let word = AtomicU64::new(0);
+    for _ in 0..NAPS {
+        word.park_timeout(rt, 0, Duration::from_micros(NAP));
+        if let Some(guard) = lock.try_lock() {
+            return guard;
+        }
+    }
+    lock.lock(rt)
+}
+
+/// Retries a contended lock with exponential backoff.
+#[inline(always)]
+fn retry<'l, T>(lock: &'l Mutex<T>, tries: u32) -> Option<MutexGuard<'l, T>> {
     let mut spins = FIRST_SPINS;
-    for _ in 0..TRIES {
+    for _ in 0..tries {
         for _ in 0..spins {
             spin_loop();
         }
         if let Some(guard) = lock.try_lock() {
-            return guard;
+            return Some(guard);
         }
         spins = spins.saturating_mul(2).min(MOST_SPINS);
     }
-    lock.lock(rt)
+    None
 }
 
 /// Empty lists with room for the parts of a pool, as they are or under locks.
@@ -173,6 +211,22 @@ impl<G: Graph, K: Ledgers> Locks<G, K> {
             crowd,
             control_steps: AtomicU64::new(0),
             is_stopped: AtomicBool::new(false),
+        }
+    }
+
+    /// Acquires the lock of a node for one of its workers. If it is contended, the worker naps instead of spinning for
+    /// longer, which saves processor time. If there are more workers than processors it spins: other workers sleep so
+    /// that this one can go on.
+    #[inline(always)]
+    pub fn lock_node<'l, R: Wait>(
+        &self,
+        rt: &R,
+        node_slot: &'l NodeSlot<RunQueue<G, K>>,
+    ) -> MutexGuard<'l, RunQueue<G, K>> {
+        match node_slot.run_queue.try_lock() {
+            Some(guard) => guard,
+            None if self.crowd.has_surplus() => lock_later(rt, &node_slot.run_queue),
+            None => lock_between_naps(rt, &node_slot.run_queue),
         }
     }
 

@@ -1,9 +1,9 @@
 //! Runs one generation of a pool: starts the workers, waits for them, and takes the pool out of its locks.
-ghost use Rattle.std.specs.Prelude.{◌≡◌, ◌≤◌, ◌↔◌, ◌*◌, ◌-◌, length, vec_len, IfErr, IfOk, IfSome, IsTrue, MatchOption, MatchResult};
-ghost use Rattle.std.specs.Prelude.{None, OnOk, Some};
+ghost use Rattle.std.specs.Prelude.{◌≡◌, ◌≢◌, ◌≤◌, ◌↔◌, ◌*◌, ◌-◌, length, vec_len, IfErr, IfOk, IfSome, IsTrue, MatchOption, MatchResult};
+ghost use Rattle.std.specs.Prelude.{Err, IsOk, None, OnOk, Some};
 ghost use Rattle.std.specs.Option.{unwrap_or};
 ghost use Rattle.tp_base.specs.declared.limits.TheConstants.{MAX_STEPS};
-ghost use Rattle.tp_base.specs.declared.refusal.Refusal.TheVariants.{Missing, NoMemory};
+ghost use Rattle.tp_base.specs.declared.refusal.Refusal.TheVariants.{Missing, NoMemory, Stranger};
 ghost use Rattle.tp_board.specs.States.{with_fault};
 ghost use Rattle.tp_wave.specs.Generations.{present};
 ghost use Rattle.tp_wave.specs.Machine.{steps_of};
@@ -197,6 +197,8 @@ impl WorkerAnswers {
         ensures workers { result.workers ≡ self.workers }
         ensures all { result.refusal ≡ None → result.workers ≡ wanted }
         ensures refusal { IfSome self.refusal (λ e. result.refusal ≡ Some e) }
+        ensures short { self.refusal ≡ None → self.workers ≢ wanted → result.refusal ≡ Some NoMemory }
+        ensures same { self.workers ≡ wanted → result ≡ self }
     {
         if self.refusal.is_none() && self.workers != wanted {
             return WorkerAnswers {
@@ -345,8 +347,8 @@ pub(crate) fn fault_with(refusal: Refusal, gathered: Result<Report, Refusal>) ->
 /// Checks that each part of a pool is at its place, and that the board has this generation and the highest limit of
 /// events.
 ///
-/// Refused with `NoNode` if a node or a link is not at its place; `Stranger` if a node is of another graph, or the
-/// board is not that of the pool.
+/// Refused with `Stranger` if the board is not that of the pool; then with `NoNode` if a node or a link is not at its
+/// place, and with `Stranger` if a node is of another graph.
 fn check_whole<G: Comparable, K: Ledgers>(
     pool: &Pool<G, K>,
     graph: &G,
@@ -357,16 +359,19 @@ fn check_whole<G: Comparable, K: Ledgers>(
     ensures whole { OnOk result (IsWhole K.names.nodes graph.now pool.now.nodes.items pool.now.links.items) }
     ensures limit { OnOk result (pool.now.board.limit ≡ MAX_STEPS) }
     ensures number { OnOk result (length (generations pool.now.board.history) ≡ number) }
+    ensures board { (pool.now.board.limit ≡ MAX_STEPS → length (generations pool.now.board.history) ≡ number → ⊥)
+        → result ≡ Err Stranger }
     ensures refusal { IfErr result IsMisplaced }
 {
-    check_places(pool, graph)?;
-    check_board(&pool.board, number)
+    check_board(&pool.board, number)?;
+    check_places(pool, graph)
 }
 
 fn check_board<K: Ledgers>(board: &Board<K>, number: u32) -> Result<(), Refusal>
     ensures limit { OnOk result (board.now.limit ≡ MAX_STEPS) }
     ensures number { OnOk result (length (generations board.now.history) ≡ number) }
-    ensures refusal { IfErr result IsMisplaced }
+    ensures right { board.now.limit ≡ MAX_STEPS → length (generations board.now.history) ≡ number → IsOk result }
+    ensures refusal { IfErr result (λ e. e ≡ Stranger) }
 {
     if board.generation().0 != number || board.limit() != MAX_STEPS {
         return Err(Refusal::Stranger);

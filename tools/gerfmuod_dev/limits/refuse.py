@@ -6,6 +6,8 @@ all allocations from there on failing. Each time it has to print its whole outpu
 3; `pools` may also print a line for each pool. Prints for each command how many allocations it has, and how many runs
 were refused. The last line is `N passed, M failed`; the status is 1 if one failed, or if a command was never refused.
 Needs a C compiler.
+
+With --quick it tries a few commands, each with one allocation failing at a time, and nothing if a program is not built.
 """
 import os
 import tempfile
@@ -15,6 +17,8 @@ from .. import running
 from .out_of_memory import LINE_OF_SAMPLES, LINE_OF_TP, is_refused, is_whole
 
 PROGRAMS = ("tp", "samples")
+# the commands of the quick form
+QUICK = ("sim of a fault", "run reduce:4:0, two nodes with two workers", "run reduce:4:0 --generations 3, two nodes", "draw run")
 TWO_BY_TWO = ["--nodes", "2", "--workers", "2"]
 
 
@@ -48,9 +52,9 @@ class Refusing:
             is_reached = os.path.exists(self.report)
 
 
-def try_command(tally, refusing, case):
+def try_command(tally, refusing, case, ways=(False, True)):
     expected = running.run(case.command, case.stdin)
-    for also_later in (False, True):
+    for also_later in ways:
         allocations = refused = whole = 0
         for number, result in refusing.results(case.command, case.stdin, also_later):
             allocations = number - 1
@@ -136,10 +140,15 @@ def commands_of_samples(samples, folder):
 def arguments(parser):
     for name in PROGRAMS:
         running.program_argument(parser, name)
+    parser.add_argument("--quick", action="store_true", help="a few commands, if the programs are built: the form of make test")
 
 
 def run(options):
-    running.require(*(getattr(options, name) for name in PROGRAMS))
+    programs = [getattr(options, name) for name in PROGRAMS]
+    if options.quick and not all(map(os.path.isfile, programs)):
+        print("Allocations that fail in turn were not tried: that needs `make`.")
+        return 0
+    running.require(*programs)
     tally = running.Tally()
     with tempfile.TemporaryDirectory() as folder:
         library = running.preload_library("refuse", folder)
@@ -147,5 +156,8 @@ def run(options):
             return 1
         refusing = Refusing(folder, library)
         for command in (*commands_of_tp(options.tp, folder), *commands_of_samples(options.samples, folder)):
-            try_command(tally, refusing, command)
+            if not options.quick:
+                try_command(tally, refusing, command)
+            elif command.name in QUICK:
+                try_command(tally, refusing, command, ways=(False,))
     return tally.end()

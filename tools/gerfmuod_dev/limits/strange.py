@@ -4,6 +4,8 @@ Streams are closed, full or not read, reads are interrupted forever, texts are t
 not text, and the system refuses more threads (which is tried as root alone). Each case has an expected status, an output
 and at most one line on standard error. Prints each case that ends differently. The last line is `N passed, M failed`; the
 status is 1 if one failed. The interrupted reads need a C compiler.
+
+With --quick it tries the interrupted reads and the pools of many events alone, and nothing if the program is not built.
 """
 import dataclasses
 import os
@@ -192,15 +194,22 @@ def try_threads(trial):
 
 def arguments(parser):
     running.program_argument(parser)
+    parser.add_argument("--quick", action="store_true", help="a few cases, if the program is built: the form of make test")
 
 
 def run(options):
+    if options.quick and not os.path.isfile(options.tp):
+        print("Reads that are always interrupted were not tried: that needs `make`.")
+        return 0
     running.require(options.tp)
     with tempfile.TemporaryDirectory() as folder:
         trial = Trial(options.tp, folder)
         script = trial.write("script", ["nodes 1"])
         trace = trial.write("trace", ["trace 1", "nodes 1"])
         try_interrupted(trial, script)
+        if options.quick:
+            try_arguments_and_pools(trial)
+            return trial.tally.end()
         try_unreadable(trial)
         try_unwritable(trial, "sim", script, "sim")
         try_unwritable(trial, "audit", trace, "audit")

@@ -1,14 +1,16 @@
 use Rattle.std.proofs.Common.{◌*◌}
 use Rattle.tp_graph.proofs.Left.{results_kept}
-use Rattle.pool_patterns.specs.Kernels.{kernel_graph}
+use Rattle.pool_kernels.specs.Kernels.{kernel_graph}
+use Rattle.pool_patterns.specs.Kernels.{stir_rule}
+use Rattle.pool_patterns.specs.Relations.{relates}
 use Rattle.samples.proofs.patterns.run_timed.Goals as goal
 
 pub last_row-requires-clause-once : goal.last_row-requires-clause-once
-unfolding Rattle.pool_patterns.specs.Grids.grid_graph
+unfolding Rattle.pool_kernels.specs.Grids.grid_graph
 last_row-requires-clause-once g c = rw c.deref.ensures.value c.in-Ok.ensures.outcome.each_once
 
 pub last_row-requires-clause-right : goal.last_row-requires-clause-right
 last_row-requires-clause-right g c =
     let t = c.args.grid.now.table.now in
-    let graph = kernel_graph (g.P.Relation.relation t.pattern t.width) t.width t.steps c.args.grid.now.iterations in
+    let graph = kernel_graph (relates t.pattern t.width) (stir_rule c.args.grid.now.kernel.iterations) t.width t.steps in
     rw c.deref.ensures.value (results_kept graph c.in-Ok.outcome.results.items c.in-Ok.ensures.outcome.right)

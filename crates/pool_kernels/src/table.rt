@@ -1,0 +1,115 @@
+//! The table of a grid, which makes each call of its graph a look-up.
+ghost use Rattle.std.specs.Prelude.{◌≡◌, ◌≤◌, ◌<◌, ◌*◌, ◌/◌, ◌%◌, ◌^◌, suc, IfErr, IfOk, OnOk};
+ghost use Rattle.tp_base.specs.declared.limits.TheConstants.{MAX_STEPS};
+ghost use Rattle.pool_kernels.specs.Events.{grid_events};
+ghost use Rattle.pool_kernels.specs.Faults.{HasNoFault, IsTableFault};
+ghost use Rattle.pool_kernels.specs.Grids.{IsNarrow};
+ghost use Rattle.pool_kernels.specs.Tables.{AreSpots, IsOutput, IsSpot};
+
+use crate::kinds::{Kinds, kinds_of};
+use crate::noting::spots_of;
+use crate::relation::Relation;
+use crate::spots::{Output, Spot};
+use crate::table_fault::TableFault;
+use std::alloc::Global;
+use tp_base::{MAX_STEPS, TaskId};
+
+/// The most tasks that can be within the limit of events, since each takes at least 3.
+const MOST_TASKS: u32 = MAX_STEPS / 3;
+
+/// A grid of tasks over a relation, with the inputs and feeds of each task computed once. A graph borrows it, so that
+/// each of its calls is a look-up.
+#[derive(Drop)]
+pub struct FeedTable<P: Relation> {
+    pattern: P,
+    width: u32,
+    steps: u32,
+    spots: Vec<Spot>,
+    outputs: Vec<Output>,
+    ghost some_columns: { 1 ≤ width },
+    ghost few_columns: { width < 2 ^ 20 },
+    ghost some_steps: { 1 ≤ steps },
+    ghost few_steps: { steps < 2 ^ 20 },
+    ghost few_tasks: { steps * width < 2 ^ 20 },
+    ghost narrow: { IsNarrow (P.relation pattern width) width steps },
+    ghost few_events: { grid_events (P.relation pattern width) width steps ≤ MAX_STEPS },
+    ghost noted: { AreSpots (P.relation pattern width) width steps (steps * width) spots.items outputs.items },
+}
+
+impl<P: Relation> FeedTable<P> {
+    /// Returns the table of a grid of `steps` rows of `width` columns. Refused with `Empty` if there are no columns or
+    /// no rows, with `TooManyInputs` if a task has more than 16, with `TooManyEvents` if the tasks take more than
+    /// 1,048,576 events at one node, and with `NoMemory` if an allocation fails first. Each task takes at least 3 events,
+    /// so more than 349,525 tasks are refused at once. Otherwise it takes O(width * width) time for each row of one
+    /// period ([`Relation::period`]), and memory for each task and for each feed of those rows.
+    #[tactic(auto, using(crate::proofs::Events::few_sides, crate::proofs::Events::too_many))]
+    pub fn new(alloc: Global, pattern: P, width: u32, steps: u32) -> Result<Self, TableFault>
+        ensures made { IfOk result (λ table. (table.pattern ≡ pattern) × (table.width ≡ width) × (table.steps ≡ steps)) }
+        ensures no_fault { OnOk result (HasNoFault (P.relation pattern width) width steps) }
+        ensures refused { IfErr result (IsTableFault (P.relation pattern width) width steps) }
+    {
+        if width == 0 || steps == 0 {
+            return Err(TableFault::Empty);
+        }
+        if u64::from(steps) * u64::from(width) > u64::from(MOST_TASKS) {
+            return Err(TableFault::TooManyEvents);
+        }
+        let period = pattern.period(width, steps);
+        let kinds = kinds_of(alloc, &pattern, width, period.min(steps - 1))?;
+        let spots = spots_of(alloc, &kinds, width, steps, period)?;
+        let Kinds { outputs, .. } = kinds;
+        Ok(FeedTable {
+            pattern,
+            width,
+            steps,
+            spots,
+            outputs,
+        })
+    }
+
+    /// Returns the relation.
+    pub fn pattern(&self) -> P
+        ensures { result ≡ self.now.pattern }
+    {
+        self.pattern
+    }
+
+    /// Returns the number of columns of a row.
+    pub fn width(&self) -> u32
+        ensures same { result ≡ self.now.width }
+        ensures some { (1 ≤ result) × (result < 2 ^ 20) }
+    {
+        self.width
+    }
+
+    /// Returns the number of rows.
+    pub fn steps(&self) -> u32
+        ensures same { result ≡ self.now.steps }
+        ensures some { (1 ≤ result) × (result * self.now.width < 2 ^ 20) }
+    {
+        self.steps
+    }
+
+    /// Returns the entry of a task.
+    pub(crate) fn spot(&self, task: TaskId) -> Spot
+        requires { task.0 < self.now.steps * self.now.width }
+        ensures { IsSpot (P.relation self.now.pattern self.now.width) self.now.width self.now.steps
+            self.now.outputs.items task.0 result }
+    {
+        self.spots[task.0 as usize]
+    }
+
+    /// Returns an output of a task: a column of the next row, and the slot there.
+    #[tactic(auto, using(crate::proofs::Noted::output_there))]
+    pub(crate) fn output(&self, task: TaskId, spot: Spot, turn: u32) -> Output
+        requires known { task.0 < self.now.steps * self.now.width }
+        requires right { IsSpot (P.relation self.now.pattern self.now.width) self.now.width self.now.steps
+            self.now.outputs.items task.0 spot }
+        requires within { turn < spot.feeds }
+        ensures same { IsOutput (P.relation self.now.pattern self.now.width) self.now.width (suc (task.0 / self.now.width))
+            (task.0 % self.now.width) turn result }
+        ensures inside { result.column < self.now.width }
+    {
+        self.outputs[spot.start + turn as usize]
+    }
+}

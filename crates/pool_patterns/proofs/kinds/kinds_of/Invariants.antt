@@ -1,9 +1,0 @@
-use Rattle.std.proofs.Common.{◌*◌}
-use Rattle.pool_patterns.specs.Kinds.{AreArities, AreSpans}
-use Rattle.pool_patterns.proofs.kinds.kinds_of.Given as goal
-
-abbrev pub invariant-loop-row : goal.invariant-loop-row
-invariant-loop-row g l = record {
-  spans : AreSpans (g.P.Relation.relation l.pattern l.width) l.width (l.row * l.width) l.kinds.spans.items l.kinds.outputs.items;
-  arities : AreArities (g.P.Relation.relation l.pattern l.width) l.width (l.row * l.width) l.kinds.arities.items;
-}
