@@ -239,6 +239,7 @@ pub next_shut : (now : SlotState) (node : ℕ) → IsFalse now.is_open → IsNex
 next_shut now node shut = record {
   checked = shut_refuses now (next_checks now.pool node) shut;
   exact = λ live z. absurd (both_ways now.is_open shut live);
+  tells = λ z. absurd (not_zero refusal.NoPool (number_of refusal.NoPool) refl z);
   run = λ z. absurd (omega (arith, z));
   finished = λ z. absurd (omega (arith, z));
   wait = λ z. absurd (omega (arith, z));
@@ -275,6 +276,7 @@ next_done p now pool node news n same live check run finished wait waiting left 
       checked = open_refuses (state_of p) new (next_checks p.pool node) (next_answer (Run u) news) here
           (passed {A = Next} (first_refusal (next_checks p.pool node)) (Run u) (pool ≡ p.pool) _ c);
       exact = λ live z. absurd (omega (arith, z));
+      tells = λ z. (omega arith, omega arith);
       run = λ z. r u refl;
       finished = λ z. absurd (omega (arith, z));
       wait = λ z. absurd (omega (arith, z));
@@ -289,6 +291,7 @@ next_done p now pool node news n same live check run finished wait waiting left 
       checked = open_refuses (state_of p) new (next_checks p.pool node) (next_answer Wait news) here
           (passed {A = Next} (first_refusal (next_checks p.pool node)) Wait (pool ≡ p.pool) _ c);
       exact = λ live z. absurd (omega (arith, z));
+      tells = λ z. (omega arith, omega arith);
       run = λ z. absurd (omega (arith, z));
       finished = λ z. absurd (omega (arith, z));
       wait = λ z. (w refl, d refl);
@@ -303,6 +306,7 @@ next_done p now pool node news n same live check run finished wait waiting left 
       checked = open_refuses (state_of p) new (next_checks p.pool node) (next_answer (Finished v) news) here
           (passed {A = Next} (first_refusal (next_checks p.pool node)) (Finished v) (pool ≡ p.pool) _ c);
       exact = λ live z. absurd (omega (arith, z));
+      tells = λ z. (omega arith, omega arith);
       run = λ z. absurd (omega (arith, z));
       finished = λ z. f v refl;
       wait = λ z. absurd (omega (arith, z));
@@ -326,6 +330,7 @@ next_refused p now pool node e same live check err exact graph ways begun =
           (failed Next (first_refusal (next_checks p.pool node)) e (pool ≡ p.pool) (state_of (record p { pool = pool }) ≡ state_of p)
           (slot_same (state_of p) (state_of (record p { pool = pool })) refl) check);
       exact = λ live s. (e, refl, exact);
+      tells = λ z. absurd (not_zero e (number_of e) refl z);
       run = λ z. absurd (omega (arith, z));
       finished = λ z. absurd (omega (arith, z));
       wait = λ z. absurd (omega (arith, z));

@@ -166,6 +166,7 @@ pub record IsNext (old : SlotState) (node : ℕ) (a : DagAnswer) (new : SlotStat
   pub checked : RefusesBy (checks old (next_checks old.pool node)) old a new
   pub exact : IsTrue old.is_open → 1 ≤ a.refused → (r : Refusal) × (a ≡ refusal_answer r)
       × IsRefusalBy (next_checks old.pool node) new.pool r
+  pub tells : a.refused ≡ 0 → (1 ≤ a.told) × (a.told ≤ 3)
   pub run : a.told ≡ 1 → IsDispatched node a.number old.pool new.pool
   pub finished : a.told ≡ 3 → IsFinished new.pool
   pub wait : a.told ≡ 2 → IsIdle node new.pool × AddsOnly is_delivery old.pool new.pool
