@@ -12,6 +12,7 @@ use std::alloc::{AllocError, Global};
 use std::hint::spin_loop;
 use std::sync::atomic::{AtomicBool, AtomicU64, Ordering};
 use std::sync::{Mutex, MutexGuard, Wait};
+use std::time::Duration;
 use tp_base::{NodeId, Refusal};
 use tp_board::{Board, Ended, Ledgers};
 use tp_graph::{Comparable, Graph, is_same};
@@ -93,6 +94,12 @@ const FIRST_SPINS: u32 = 32;
 /// backoff.
 const MOST_SPINS: u32 = 1024;
 
+/// The most naps of a worker that waits for its node's lock, before it blocks.
+const NAPS: u32 = 36;
+
+/// The length of a nap, in microseconds.
+const NAP: u64 = 50;
+
 /// Acquires a lock. If it is contended, the thread retries it with exponential backoff, and then blocks as std does. It
 /// does not yield: a yielding thread would wait for all others that want its processor, and many of them would keep the
 /// processor from the thread that holds the lock.
@@ -108,17 +115,46 @@ pub(crate) fn lock_soon<'l, T, R: Wait>(rt: &R, lock: &'l Mutex<T>) -> MutexGuar
 #[cold]
 #[inline(never)]
 fn lock_later<'l, T, R: Wait>(rt: &R, lock: &'l Mutex<T>) -> MutexGuard<'l, T> {
+    match retry(lock) {
+        Some(guard) => guard,
+        None => lock.lock(rt),
+    }
+}
+
+/// Acquires a lock that was contended, with naps before the thread blocks. If the lock is not free after all backoffs,
+/// several threads want it all the time. If one of them naps, the others have enough to do, and no thread has to wake
+/// it.
+#[cold]
+#[inline(never)]
+fn lock_between_naps<'l, T, R: Wait>(rt: &R, lock: &'l Mutex<T>) -> MutexGuard<'l, T> {
+    if let Some(guard) = retry(lock) {
+        return guard;
+    }
+    // Nothing changes this word, so each nap ends when its time is over.
+    let word = AtomicU64::new(0);
+    for _ in 0..NAPS {
+        word.park_timeout(rt, 0, Duration::from_micros(NAP));
+        if let Some(guard) = lock.try_lock() {
+            return guard;
+        }
+    }
+    lock.lock(rt)
+}
+
+/// Retries a contended lock with exponential backoff.
+#[inline(always)]
+fn retry<T>(lock: &Mutex<T>) -> Option<MutexGuard<'_, T>> {
     let mut spins = FIRST_SPINS;
     for _ in 0..TRIES {
         for _ in 0..spins {
             spin_loop();
         }
         if let Some(guard) = lock.try_lock() {
-            return guard;
+            return Some(guard);
         }
         spins = spins.saturating_mul(2).min(MOST_SPINS);
     }
-    lock.lock(rt)
+    None
 }
 
 /// Empty lists with room for the parts of a pool, as they are or under locks.
@@ -173,6 +209,21 @@ impl<G: Graph, K: Ledgers> Locks<G, K> {
             crowd,
             control_steps: AtomicU64::new(0),
             is_stopped: AtomicBool::new(false),
+        }
+    }
+
+    /// Acquires the lock of a node for one of its workers, which naps before it blocks: that saves processor time. If
+    /// there are more workers than processors it does not nap: other workers sleep so that this one can go on.
+    #[inline(always)]
+    pub fn lock_node<'l, R: Wait>(
+        &self,
+        rt: &R,
+        node_slot: &'l NodeSlot<RunQueue<G, K>>,
+    ) -> MutexGuard<'l, RunQueue<G, K>> {
+        match node_slot.run_queue.try_lock() {
+            Some(guard) => guard,
+            None if self.crowd.has_surplus() => lock_later(rt, &node_slot.run_queue),
+            None => lock_between_naps(rt, &node_slot.run_queue),
         }
     }
 

@@ -226,7 +226,7 @@ impl<'a, G: Comparable, K: Ledgers, A: Gate, R: Wait> Worker<'a, G, K, A, R> {
     ) -> Result<WorkerTurn<K>, Refusal> {
         // It is dropped after the lock, which is acquired later: it may have many numbers.
         let mut spent = None;
-        let mut run_queue = lock_soon(self.rt, &node_slot.run_queue);
+        let mut run_queue = self.locks.lock_node(self.rt, node_slot);
         self.turn_at(&mut run_queue, node_slot, in_flight, idle, seen, &mut spent)
     }
 
