@@ -7,10 +7,10 @@ use Rattle.samples.proofs.patterns.run_timed.Goals as goal
 
 pub last_row-requires-clause-once : goal.last_row-requires-clause-once
 unfolding Rattle.pool_kernels.specs.Grids.grid_graph
-last_row-requires-clause-once g c = rw c.deref.ensures.value c.in-Ok.ensures.outcome.each_once
+last_row-requires-clause-once g c = rw c.deref.ensures.value (λ κs. c.in-Ok.ensures.outcome.each_once)
 
 pub last_row-requires-clause-right : goal.last_row-requires-clause-right
 last_row-requires-clause-right g c =
     let t = c.args.grid.now.table.now in
     let graph = kernel_graph (relates t.pattern t.width) (stir_rule c.args.grid.now.kernel.iterations) t.width t.steps in
-    rw c.deref.ensures.value (results_kept graph c.in-Ok.outcome.results.items c.in-Ok.ensures.outcome.right)
+    rw c.deref.ensures.value (λ κs. results_kept graph c.in-Ok.outcome.results.items c.in-Ok.ensures.outcome.right)
