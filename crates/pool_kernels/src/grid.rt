@@ -31,9 +31,9 @@ impl<'a, P: Relation, K: Kernel> KernelGrid<'a, P, K> {
 
     /// Returns the same grid again, which has the same graph.
     pub(crate) fn copied(&self) -> Self
-        ensures { kernel_graph (P.relation result.table.now.pattern result.table.now.width) (K.rule result.kernel)
+        ensures { kernel_graph (P.relation result.table.now.relation result.table.now.width) (K.rule result.kernel)
             result.table.now.width result.table.now.steps
-            ≡ kernel_graph (P.relation self.now.table.now.pattern self.now.table.now.width) (K.rule self.now.kernel)
+            ≡ kernel_graph (P.relation self.now.table.now.relation self.now.table.now.width) (K.rule self.now.kernel)
             self.now.table.now.width self.now.table.now.steps }
     {
         KernelGrid {
@@ -61,10 +61,10 @@ impl<'a, P: Relation, K: Kernel> Copy for KernelGrid<'a, P, K> {}
 #[tactic(auto, unfolding(crate::specs::Grids::grid_graph))]
 impl<'a, P: Relation + Send + Sync, K: Kernel> Graph for KernelGrid<'a, P, K> {
     ghost meaning = { λ g.
-        kernel_graph (P.relation g.table.now.pattern g.table.now.width) (K.rule g.kernel) g.table.now.width g.table.now.steps };
+        kernel_graph (P.relation g.table.now.relation g.table.now.width) (K.rule g.kernel) g.table.now.width g.table.now.steps };
 
     ghost lawful = { λ g.
-        grid_lawful (P.relation g.table.now.pattern g.table.now.width) g.table.now.width g.table.now.steps
+        grid_lawful (P.relation g.table.now.relation g.table.now.width) g.table.now.width g.table.now.steps
         (rule_in (K.rule g.kernel) g.table.now.width) g.table.now.some_columns g.table.now.narrow };
 
     fn tasks(&self) -> u32 {
@@ -114,11 +114,11 @@ pub fn last_row<P: Relation, K: Kernel>(
     results: &[(TaskId, Value)],
 ) -> Result<Vec<i64>, AllocError>
     requires right { AreKept
-        (kernel_graph (P.relation grid.now.table.now.pattern grid.now.table.now.width) (K.rule grid.now.kernel)
+        (kernel_graph (P.relation grid.now.table.now.relation grid.now.table.now.width) (K.rule grid.now.kernel)
         grid.now.table.now.width grid.now.table.now.steps) results.now }
     requires once { HasEachOnce (grid.now.table.now.steps * grid.now.table.now.width) results.now }
     ensures { IfOk result (λ row.
-        row_at (P.relation grid.now.table.now.pattern grid.now.table.now.width) (K.rule grid.now.kernel) grid.now.table.now.width
+        row_at (P.relation grid.now.table.now.relation grid.now.table.now.width) (K.rule grid.now.kernel) grid.now.table.now.width
         (grid.now.table.now.steps - 1) ≡ Some row.items) }
 {
     let (width, steps) = (grid.table.width(), grid.table.steps());

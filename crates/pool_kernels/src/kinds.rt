@@ -24,16 +24,16 @@ pub(crate) struct Kinds {
 /// Returns the outputs and inputs of `rows` rows, from row 1 on.
 pub(crate) fn kinds_of<P: Relation>(
     alloc: Global,
-    pattern: &P,
+    relation: &P,
     width: u32,
     rows: u32,
 ) -> Result<Kinds, TableFault>
     requires { (1 ≤ width) × (width < 2 ^ 20) × (rows + 1 < 2 ^ 20) }
     ensures spans { IfOk result (λ kinds.
-        AreSpans (P.relation pattern.now width) width (rows * width) kinds.spans.items kinds.outputs.items) }
+        AreSpans (P.relation relation.now width) width (rows * width) kinds.spans.items kinds.outputs.items) }
     ensures arities { IfOk result (λ kinds.
-        AreArities (P.relation pattern.now width) width (rows * width) kinds.arities.items) }
-    ensures refused { IfErr result (IsRowsFault (P.relation pattern.now width) width (rows + 1)) }
+        AreArities (P.relation relation.now width) width (rows * width) kinds.arities.items) }
+    ensures refused { IfErr result (IsRowsFault (P.relation relation.now width) width (rows + 1)) }
 {
     let mut kinds = Kinds {
         spans: Vec::new(alloc),
@@ -41,7 +41,7 @@ pub(crate) fn kinds_of<P: Relation>(
         arities: Vec::new(alloc),
     };
     for row in 0..rows {
-        add_row(alloc, pattern, width, row, &mut kinds)?;
+        add_row(alloc, relation, width, row, &mut kinds)?;
     }
     Ok(kinds)
 }
@@ -49,25 +49,25 @@ pub(crate) fn kinds_of<P: Relation>(
 /// Appends the outputs and inputs of the next row.
 fn add_row<P: Relation>(
     alloc: Global,
-    pattern: &P,
+    relation: &P,
     width: u32,
     rows: u32,
     kinds: &mut Kinds,
 ) -> Result<(), TableFault>
     requires sizes { AreSizes width (rows + 1) }
-    requires spans { AreSpans (P.relation pattern.now width) width (rows * width) kinds.old.spans.items kinds.old.outputs.items }
-    requires arities { AreArities (P.relation pattern.now width) width (rows * width) kinds.old.arities.items }
+    requires spans { AreSpans (P.relation relation.now width) width (rows * width) kinds.old.spans.items kinds.old.outputs.items }
+    requires arities { AreArities (P.relation relation.now width) width (rows * width) kinds.old.arities.items }
     ensures spans { IfOk result (λ _.
-        AreSpans (P.relation pattern.now width) width ((rows + 1) * width) kinds.new.spans.items kinds.new.outputs.items) }
+        AreSpans (P.relation relation.now width) width ((rows + 1) * width) kinds.new.spans.items kinds.new.outputs.items) }
     ensures arities { IfOk result (λ _.
-        AreArities (P.relation pattern.now width) width ((rows + 1) * width) kinds.new.arities.items) }
-    ensures refused { IfErr result (IsRowFault (P.relation pattern.now width) width (rows + 1)) }
+        AreArities (P.relation relation.now width) width ((rows + 1) * width) kinds.new.arities.items) }
+    ensures refused { IfErr result (IsRowFault (P.relation relation.now width) width (rows + 1)) }
 {
     let mut seen = vec![in alloc; 0; width as usize]?;
     for from in 0..width {
         let start = kinds.outputs.len();
         let count = add_column(
-            pattern,
+            relation,
             width,
             rows + 1,
             from,
@@ -82,7 +82,7 @@ fn add_row<P: Relation>(
 
 /// Appends the outputs of a column, and counts them at the columns that they go to. Returns how many there are.
 fn add_column<P: Relation>(
-    pattern: &P,
+    relation: &P,
     width: u32,
     step: u32,
     from: u32,
@@ -91,16 +91,16 @@ fn add_column<P: Relation>(
 ) -> Result<u32, TableFault>
     requires sizes { AreSizes width step }
     requires within { from < width }
-    requires before { AreSeen (P.relation pattern.now width) width step from 0 seen.old.items }
-    ensures seen { IfOk result (λ _. AreSeen (P.relation pattern.now width) width step (from + 1) 0 seen.new.items) }
+    requires before { AreSeen (P.relation relation.now width) width step from 0 seen.old.items }
+    ensures seen { IfOk result (λ _. AreSeen (P.relation relation.now width) width step (from + 1) 0 seen.new.items) }
     ensures made { IfOk result (λ _.
-        outputs.new.items ≡ outputs.old.items ++ outputs_to (P.relation pattern.now width) step from width) }
-    ensures count { IfOk result (λ count. count ≡ rank (λ i. P.relation pattern.now width step from i) width) }
-    ensures refused { IfErr result (IsRowFault (P.relation pattern.now width) width step) }
+        outputs.new.items ≡ outputs.old.items ++ outputs_to (P.relation relation.now width) step from width) }
+    ensures count { IfOk result (λ count. count ≡ rank (λ i. P.relation relation.now width step from i) width) }
+    ensures refused { IfErr result (IsRowFault (P.relation relation.now width) width step) }
 {
     let mut count = 0;
     for to in 0..width {
-        if pattern.relates(width, step, from, to) {
+        if relation.relates(width, step, from, to) {
             let slot = seen[to as usize];
             if slot >= MAX_INPUTS {
                 return Err(TableFault::TooManyInputs);

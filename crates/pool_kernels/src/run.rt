@@ -34,13 +34,13 @@ pub fn run_grid<P: Relation + Send + Sync, K: Kernel, R: Threads + Wait + Sync>(
 ) -> Result<GridRun, RunFault>
     requires { IsWithinLimits config }
     ensures row { IfOk result (λ run.
-        row_at (P.relation grid.now.table.now.pattern grid.now.table.now.width) (K.rule grid.now.kernel) grid.now.table.now.width
+        row_at (P.relation grid.now.table.now.relation grid.now.table.now.width) (K.rule grid.now.kernel) grid.now.table.now.width
         (grid.now.table.now.steps - 1) ≡ Some run.row.items) }
     ensures outcome { IfOk result (λ run. IsOutcome config.nodes config.workers
-        (kernel_graph (P.relation grid.now.table.now.pattern grid.now.table.now.width) (K.rule grid.now.kernel)
+        (kernel_graph (P.relation grid.now.table.now.relation grid.now.table.now.width) (K.rule grid.now.kernel)
         grid.now.table.now.width grid.now.table.now.steps) run.outcome) }
     ensures refused { IfErr result (IsRunFault config.nodes config.workers
-        (kernel_graph (P.relation grid.now.table.now.pattern grid.now.table.now.width) (K.rule grid.now.kernel)
+        (kernel_graph (P.relation grid.now.table.now.relation grid.now.table.now.width) (K.rule grid.now.kernel)
         grid.now.table.now.width grid.now.table.now.steps)) }
 {
     match run_pool(rt, alloc, grid.copied(), config, &OpenGate) {
@@ -58,7 +58,7 @@ pub fn run_grid<P: Relation + Send + Sync, K: Kernel, R: Threads + Wait + Sync>(
 pub fn run_kernel<P: Relation + Send + Sync, K: Kernel, R: Threads + Wait + Sync>(
     rt: &R,
     alloc: Global,
-    pattern: P,
+    relation: P,
     kernel: K,
     width: u32,
     steps: u32,
@@ -66,14 +66,14 @@ pub fn run_kernel<P: Relation + Send + Sync, K: Kernel, R: Threads + Wait + Sync
 ) -> Result<GridRun, GridFault>
     requires { IsWithinLimits config }
     ensures row { IfOk result (λ run.
-        row_at (P.relation pattern width) (K.rule kernel) width (steps - 1) ≡ Some run.row.items) }
+        row_at (P.relation relation width) (K.rule kernel) width (steps - 1) ≡ Some run.row.items) }
     ensures outcome { IfOk result (λ run. IsOutcome config.nodes config.workers
-        (kernel_graph (P.relation pattern width) (K.rule kernel) width steps) run.outcome) }
-    ensures no_fault { OnOk result (HasNoFault (P.relation pattern width) width steps) }
+        (kernel_graph (P.relation relation width) (K.rule kernel) width steps) run.outcome) }
+    ensures no_fault { OnOk result (HasNoFault (P.relation relation width) width steps) }
     ensures refused { IfErr result
-        (IsGridFault config.nodes config.workers (P.relation pattern width) (K.rule kernel) width steps) }
+        (IsGridFault config.nodes config.workers (P.relation relation width) (K.rule kernel) width steps) }
 {
-    let table = match FeedTable::new(alloc, pattern, width, steps) {
+    let table = match FeedTable::new(alloc, relation, width, steps) {
         Ok(table) => table,
         Err(fault) => return Err(GridFault::Table(fault)),
     };

@@ -21,7 +21,7 @@ const MOST_TASKS: u32 = MAX_STEPS / 3;
 /// each of its calls is a look-up.
 #[derive(Drop)]
 pub struct FeedTable<P: Relation> {
-    pattern: P,
+    relation: P,
     width: u32,
     steps: u32,
     spots: Vec<Spot>,
@@ -31,9 +31,9 @@ pub struct FeedTable<P: Relation> {
     ghost some_steps: { 1 ≤ steps },
     ghost few_steps: { steps < 2 ^ 20 },
     ghost few_tasks: { steps * width < 2 ^ 20 },
-    ghost narrow: { IsNarrow (P.relation pattern width) width steps },
-    ghost few_events: { grid_events (P.relation pattern width) width steps ≤ MAX_STEPS },
-    ghost noted: { AreSpots (P.relation pattern width) width steps (steps * width) spots.items outputs.items },
+    ghost narrow: { IsNarrow (P.relation relation width) width steps },
+    ghost few_events: { grid_events (P.relation relation width) width steps ≤ MAX_STEPS },
+    ghost noted: { AreSpots (P.relation relation width) width steps (steps * width) spots.items outputs.items },
 }
 
 impl<P: Relation> FeedTable<P> {
@@ -43,10 +43,10 @@ impl<P: Relation> FeedTable<P> {
     /// so more than 349,525 tasks are refused at once. Otherwise it takes O(width * width) time for each row of one
     /// period ([`Relation::period`]), and memory for each task and for each feed of those rows.
     #[tactic(auto, using(crate::proofs::Events::few_sides, crate::proofs::Events::too_many))]
-    pub fn new(alloc: Global, pattern: P, width: u32, steps: u32) -> Result<Self, TableFault>
-        ensures made { IfOk result (λ table. (table.pattern ≡ pattern) × (table.width ≡ width) × (table.steps ≡ steps)) }
-        ensures no_fault { OnOk result (HasNoFault (P.relation pattern width) width steps) }
-        ensures refused { IfErr result (IsTableFault (P.relation pattern width) width steps) }
+    pub fn new(alloc: Global, relation: P, width: u32, steps: u32) -> Result<Self, TableFault>
+        ensures made { IfOk result (λ table. (table.relation ≡ relation) × (table.width ≡ width) × (table.steps ≡ steps)) }
+        ensures no_fault { OnOk result (HasNoFault (P.relation relation width) width steps) }
+        ensures refused { IfErr result (IsTableFault (P.relation relation width) width steps) }
     {
         if width == 0 || steps == 0 {
             return Err(TableFault::Empty);
@@ -54,12 +54,12 @@ impl<P: Relation> FeedTable<P> {
         if u64::from(steps) * u64::from(width) > u64::from(MOST_TASKS) {
             return Err(TableFault::TooManyEvents);
         }
-        let period = pattern.period(width, steps);
-        let kinds = kinds_of(alloc, &pattern, width, period.min(steps - 1))?;
+        let period = relation.period(width, steps);
+        let kinds = kinds_of(alloc, &relation, width, period.min(steps - 1))?;
         let spots = spots_of(alloc, &kinds, width, steps, period)?;
         let Kinds { outputs, .. } = kinds;
         Ok(FeedTable {
-            pattern,
+            relation,
             width,
             steps,
             spots,
@@ -68,10 +68,10 @@ impl<P: Relation> FeedTable<P> {
     }
 
     /// Returns the relation.
-    pub fn pattern(&self) -> P
-        ensures { result ≡ self.now.pattern }
+    pub fn relation(&self) -> P
+        ensures { result ≡ self.now.relation }
     {
-        self.pattern
+        self.relation
     }
 
     /// Returns the number of columns of a row.
@@ -93,7 +93,7 @@ impl<P: Relation> FeedTable<P> {
     /// Returns the entry of a task.
     pub(crate) fn spot(&self, task: TaskId) -> Spot
         requires { task.0 < self.now.steps * self.now.width }
-        ensures { IsSpot (P.relation self.now.pattern self.now.width) self.now.width self.now.steps
+        ensures { IsSpot (P.relation self.now.relation self.now.width) self.now.width self.now.steps
             self.now.outputs.items task.0 result }
     {
         self.spots[task.0 as usize]
@@ -103,10 +103,10 @@ impl<P: Relation> FeedTable<P> {
     #[tactic(auto, using(crate::proofs::Noted::output_there))]
     pub(crate) fn output(&self, task: TaskId, spot: Spot, turn: u32) -> Output
         requires known { task.0 < self.now.steps * self.now.width }
-        requires right { IsSpot (P.relation self.now.pattern self.now.width) self.now.width self.now.steps
+        requires right { IsSpot (P.relation self.now.relation self.now.width) self.now.width self.now.steps
             self.now.outputs.items task.0 spot }
         requires within { turn < spot.feeds }
-        ensures same { IsOutput (P.relation self.now.pattern self.now.width) self.now.width (suc (task.0 / self.now.width))
+        ensures same { IsOutput (P.relation self.now.relation self.now.width) self.now.width (suc (task.0 / self.now.width))
             (task.0 % self.now.width) turn result }
         ensures inside { result.column < self.now.width }
     {

@@ -62,7 +62,7 @@ module _ (old new : List Round) (sent : List ℕ) (many : length new ≡ length 
       let inside : k < length old = omega (arith, within, many) in
       let was = all k d inside in
       subst (IsKept n workers g) (sym (told k d inside))
-      (record { each_once = was.each_once; right = was.right; tasks = was.tasks; answered = was.answered })
+      (record { each_once = was.each_once; right = was.right; tasks = was.tasks; announced = was.announced; answered = was.answered })
 
   pub messages-told : length old ≡ length sent → map (λ (r : Round). r.messages) new ≡ sent
   messages-told long =
@@ -89,6 +89,7 @@ rounds-beside n workers g (h ∷ hs) (r ∷ rs) well kept same =
     let own = All-head (IsKept n workers g) r rs kept in (
       record {
         ended = one.ended;
+        announced = own.announced;
         lives = one.lives;
         each_once = own.each_once;
         right = own.right;

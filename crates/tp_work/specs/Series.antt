@@ -19,11 +19,12 @@ use Rattle.tp_work.specs.declared.gathered.Report.{Report}
 use Rattle.tp_work.specs.declared.series.Round.{Round}
 use Rattle.tp_work.specs.declared.series.Series.{Series}
 
--- A round, compared with the events of its generation: termination was detected on n nodes, each task of the graph
--- lived once, has a value and has one result, which is what is left of that value, and no other task has any. The
--- numbers of tasks done, results and messages agree. This many workers at each node have returned.
+-- A round, compared with the events of its generation: termination was detected on n nodes and announced to each, each
+-- task of the graph lived once, has a value and has one result, which is what is left of that value, and no other task
+-- has any. The numbers of tasks done, results and messages agree. This many workers at each node have returned.
 pub record IsRound (n workers : ℕ) (g : TaskGraph) (h : History) (r : Round) : Type 0 where
   pub ended : IsTrue (is_ended n (steps_of h))
+  pub announced : r.announced ≡ n
   pub lives : LivesOnce g.tasks (steps_of h)
   pub each_once : HasEachOnce g.tasks r.results.items
   pub right : AreResults g r.results.items
@@ -58,8 +59,8 @@ pub record IsReopened (r : Report) : Type 0 where
   pub nothing : present_events r.history.events ≡ []
 
 -- Why a pool in which no fault was set has no series of this many rounds. Termination was detected and announced to
--- each of n nodes, and the series stops there. Or the pool was just reopened, and in the generation before that not
--- each task had one result, or an allocation failed in the check of that.
+-- each of n nodes, and the series stops there. Or the pool was just reopened, and it is `Missing` or `NoMemory`: in the
+-- generation before, whose results are not in the report, not each task had one, or an allocation failed in the check.
 abbrev pub IsSeriesLack : ℕ → ℕ → ℕ → Report → Refusal → Type 0
 IsSeriesLack n tasks rounds r e =
     (HasEnded n r × StopsAfter (length (generations r.history.events)) rounds tasks r e) ⊎ (IsReopened r × ((e ≡ Missing) ⊎ (e ≡ NoMemory)))
@@ -69,11 +70,12 @@ abbrev pub IsSeriesFault : ℕ → TaskGraph → ℕ → Fault → Type 0
 IsSeriesFault n g rounds f = IsFaultBy n g rounds (IsSeriesLack n g.tasks rounds) f
 
 -- A round before its number of messages is set: each task has one result, which is right, this many tasks were done,
--- and this many workers at each of n nodes have returned.
+-- termination was announced to each of n nodes, and this many workers at each have returned.
 pub record IsKept (n workers : ℕ) (g : TaskGraph) (r : Round) : Type 0 where
   pub each_once : HasEachOnce g.tasks r.results.items
   pub right : AreResults g r.results.items
   pub tasks : r.tasks ≡ g.tasks
+  pub announced : r.announced ≡ n
   pub answered : r.workers ≡ n * workers
 
 -- One such round was appended to the others.
@@ -83,4 +85,5 @@ pub record AddsKept (n workers : ℕ) (g : TaskGraph) (old new : List Round) : T
 
 -- the round with this number of messages
 abbrev pub with_messages : ℕ → Round → Round
-with_messages sent r = record { results = r.results; tasks = r.tasks; messages = sent; workers = r.workers }
+with_messages sent r =
+    record { results = r.results; tasks = r.tasks; messages = sent; announced = r.announced; workers = r.workers }

@@ -18,7 +18,7 @@ ghost use Rattle.tp_work.specs.declared.series.Round.{Round};
 use crate::config::{Config, Fault};
 use crate::failed_task::FailedTask;
 use crate::gate::Gate;
-use crate::gathered::Report;
+use crate::gathered::{Report, count_told};
 use crate::lives::sent_in_each;
 use crate::once::each_once;
 use crate::run::{answer_to, lack_by};
@@ -40,6 +40,8 @@ pub struct Round {
     pub tasks: u32,
     /// The number of messages sent.
     pub messages: u32,
+    /// The number of nodes to which termination was announced.
+    pub announced: u32,
     /// The number of workers at all nodes together: those that have returned.
     pub workers: u32,
 }
@@ -256,19 +258,25 @@ fn reopen<G: Graph, K: Ledgers>(
     ensures full { length pool.board.history ≡ MAX_STEPS → MatchResult result (λ _. ⊥)
         (IsFaultOf K.names.nodes (G.meaning graph) pool.nodes.items pool.board (λ e. e ≡ HistoryFull MAX_STEPS)) }
 {
+    // This call of the board shows that there are at most 8 nodes.
+    let _nodes = pool.board.nodes();
+    let announced = count_told(&pool.nodes);
     match pool.reopen(alloc, ended) {
-        Ok(Reopened { pool, results }) => keep(alloc, graph, pool, results, answered, rounds),
+        Ok(Reopened { pool, results }) => keep(
+            alloc, graph, pool, results, announced, answered, rounds,
+        ),
         Err((refusal, pool, _)) => Err(stopped_for(alloc, graph, pool, refusal)),
     }
 }
 
-/// Keeps the round of a generation that ended, with these results, if each task has one. The pool was reopened, and no
-/// fault was set.
+/// Keeps the round of a generation that ended and was announced to all nodes, with these results, if each task has one.
+/// The pool was reopened, and no fault was set.
 fn keep<G: Graph, K: Ledgers>(
     alloc: Global,
     graph: G,
     pool: Pool<G, K>,
     results: Vec<(TaskId, Value)>,
+    announced: u32,
     answered: u32,
     rounds: &mut Vec<Round>,
 ) -> Result<Pool<G, K>, Fault>
@@ -276,6 +284,7 @@ fn keep<G: Graph, K: Ledgers>(
     requires opened { (present_events pool.board.history ≡ []) × (1 < length (generations pool.board.history)) }
     requires fault { pool.board.fault ≡ None }
     requires right { AreResults (G.meaning graph) results.items }
+    requires announced { announced ≡ K.names.nodes }
     requires room { vec_len rounds.old < vec_capacity rounds.old }
     ensures nodes { IfOk result (λ p. vec_len p.nodes ≡ K.names.nodes) }
     ensures links { IfOk result (λ p. vec_len p.links ≡ K.names.nodes * (K.names.nodes - 1)) }
@@ -293,6 +302,7 @@ fn keep<G: Graph, K: Ledgers>(
         results,
         tasks,
         messages: 0,
+        announced,
         workers: answered,
     };
     keep_unless(alloc, graph, pool, lack, round, rounds)
@@ -410,6 +420,7 @@ fn series_from<G: Graph>(
                 results: report.results,
                 tasks,
                 messages: 0,
+                announced: report.announced,
                 workers,
             };
             Ok(Series {

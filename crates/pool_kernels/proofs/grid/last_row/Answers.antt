@@ -23,5 +23,5 @@ returns-in-Ok g c =
     let s = c.steps-steps.result in
     let place : (s - 1) * w ≡ (t.steps - 1) * t.width =
     ap (λ n. (n - 1) * w) c.steps-steps.ensures.same ∙ ap (λ n. (t.steps - 1) * n) c.width-width.ensures.same in
-    row_from (g.P.Relation.relation t.pattern t.width) (g.K.Kernel.rule c.args.grid.now.kernel) t.width t.steps ((s - 1) * w) w
+    row_from (g.P.Relation.relation t.relation t.width) (g.K.Kernel.rule c.args.grid.now.kernel) t.width t.steps ((s - 1) * w) w
     c.args.results.now c.in-Ok.row.items t.narrow t.some_steps place c.width-width.ensures.same c.requires.right c.in-Ok.ensures.made

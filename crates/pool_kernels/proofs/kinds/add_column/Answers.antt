@@ -11,13 +11,13 @@ pub returns-then-slot-ge-MAX_INPUTS-clause-refused : goal.returns-then-slot-ge-M
 returns-then-slot-ge-MAX_INPUTS-clause-refused g c =
     let before = c.loop-to.invariant.seen in
     let read = get_or_read c.loop-to.seen.items c.loop-to.to c.index-slot.result.now (search rules) c.index-slot.ensures 0 in
-    seen_wide (g.P.Relation.relation c.args.pattern.now c.args.width) c.args.width c.args.step c.args.from c.loop-to.to
+    seen_wide (g.P.Relation.relation c.args.relation.now c.args.width) c.args.width c.args.step c.args.from c.loop-to.to
     c.index-slot.result.now c.loop-to.seen.items
     (search rules) (search rules) (search rules) read (search rules) before
 
 pub loop-to-preserved : goal.loop-to-preserved
 loop-to-preserved g c =
-    let r : Relation = g.P.Relation.relation c.args.pattern.now c.args.width in
+    let r : Relation = g.P.Relation.relation c.args.relation.now c.args.width in
     let before = c.loop-to.invariant in
     elim c.if-relates.branch [
       | then-relates+else-slot-ge-MAX_INPUTS+in_ok-push w ↦

@@ -6,7 +6,7 @@ use Rattle.pool_kernels.proofs.kinds.add_row.Goals as goal
 
 pub loop-from-preserved : goal.loop-from-preserved
 loop-from-preserved g c =
-    let r : Relation = g.P.Relation.relation c.args.pattern.now c.args.width in
+    let r : Relation = g.P.Relation.relation c.args.relation.now c.args.width in
     let before = c.loop-from.invariant in
     let made = c.in_ok-count.ensures in
     let more : c.args.rows * c.args.width + c.loop-from.from + 1 ≡ c.args.rows * c.args.width + (c.loop-from.from + 1) = omega arith in
@@ -23,7 +23,7 @@ loop-from-preserved g c =
 
 pub returns-clause-arities : goal.returns-clause-arities
 returns-clause-arities g c =
-    let r : Relation = g.P.Relation.relation c.args.pattern.now c.args.width in
+    let r : Relation = g.P.Relation.relation c.args.relation.now c.args.width in
     let all : c.loop-from.from ≡ c.args.width = omega arith in
     let seen = subst (λ j. AreSeen r c.args.width (c.args.rows + 1) j 0 c.loop-from.seen.items) all c.loop-from.invariant.seen in
     let put =

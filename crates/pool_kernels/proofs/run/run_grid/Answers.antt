@@ -15,6 +15,6 @@ last_row-requires-clause-once g c =
 pub last_row-requires-clause-right : goal.last_row-requires-clause-right
 last_row-requires-clause-right g c =
     let t = c.copied.result.table.now in
-    let graph = kernel_graph (g.P.Relation.relation t.pattern t.width) (g.K.Kernel.rule c.copied.result.kernel) t.width t.steps in
+    let graph = kernel_graph (g.P.Relation.relation t.relation t.width) (g.K.Kernel.rule c.copied.result.kernel) t.width t.steps in
     rw c.deref.ensures.value (λ κs l. subst (λ (h : TaskGraph). AreKept h c.in-Ok.outcome.results.items) c.copied.ensures
     (results_kept graph c.in-Ok.outcome.results.items c.in-Ok.ensures.outcome.right))

@@ -12,5 +12,5 @@ last_row-requires-clause-once g c = rw c.deref.ensures.value (λ κs. c.in-Ok.en
 pub last_row-requires-clause-right : goal.last_row-requires-clause-right
 last_row-requires-clause-right g c =
     let t = c.args.grid.now.table.now in
-    let graph = kernel_graph (relates t.pattern t.width) (stir_rule c.args.grid.now.kernel.iterations) t.width t.steps in
+    let graph = kernel_graph (relates t.relation t.width) (stir_rule c.args.grid.now.kernel.iterations) t.width t.steps in
     rw c.deref.ensures.value (λ κs. results_kept graph c.in-Ok.outcome.results.items c.in-Ok.ensures.outcome.right)

@@ -37,7 +37,14 @@ returns-clause-kept g c =
     let tasks : c.tasks-tasks.result ≡ graph.tasks = search rules in
     let says = lack_by_check (HasEachOnce c.tasks-tasks.result c.deref.result.now) c.each_once.result c.lack_by-lack.result
     c.each_once.ensures c.lack_by-lack.ensures in
-    let last : Round = record { results = c.args.results; tasks = c.tasks-tasks.result; messages = 0; workers = c.args.answered } in
+    let last : Round =
+    record {
+      results = c.args.results;
+      tasks = c.tasks-tasks.result;
+      messages = 0;
+      announced = c.args.announced;
+      workers = c.args.answered;
+    } in
     on_ok_weaker c.keep_unless.result
     (λ kept workers answered.
     let once : HasEachOnce c.tasks-tasks.result c.deref.result.now = MatchOption-at_none _ _ kept.0 says in
@@ -46,6 +53,7 @@ returns-clause-kept g c =
           (subst (λ (k : ℕ). HasEachOnce k c.deref.result.now) tasks once);
       right = c.requires.right;
       tasks = tasks;
+      announced = c.requires.announced;
       answered = answered;
     } in
     record {

@@ -10,6 +10,7 @@ use Rattle.tp_work.proofs.Rounds.{at_none, fault_weaker, full_refusal, full_refu
 use Rattle.tp_work.specs.Lives.{generations}
 use Rattle.tp_work.specs.Outcomes.{IsFaultOf}
 use Rattle.tp_work.specs.Places.{IsWhole}
+use Rattle.tp_work.specs.Reports.{told_of_end}
 use Rattle.tp_work.specs.Series.{IsNotReopened}
 use Rattle.tp_work.proofs.series.reopen.Goals as goal
 
@@ -29,6 +30,10 @@ keep-requires-clause-fault g c κs within = c.in-Ok.ensures.event.fault ∙ c.re
 
 pub keep-requires-clause-right : goal.keep-requires-clause-right
 keep-requires-clause-right g c κs within = c.in-Ok.ensures.right c.args.graph c.requires.whole.of_graph
+
+pub keep-requires-clause-announced : goal.keep-requires-clause-announced
+keep-requires-clause-announced g c κs within =
+    c.count_told-announced.ensures ∙ ap told_of_end c.deref.ensures.value ∙ c.requires.over.announced
 
 pub stopped_for-requires-clause-whole : goal.stopped_for-requires-clause-whole
 stopped_for-requires-clause-whole g c κs within =

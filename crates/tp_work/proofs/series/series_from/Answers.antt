@@ -20,11 +20,19 @@ returns-in-Ok-clause-series g c =
     let n = c.args.config.nodes in
     let workers = c.args.config.workers in
     let tasks : c.tasks-tasks.result ≡ graph.tasks = search rules in
-    let last : Round = record { results = c.args.report.results; tasks = c.tasks-tasks.result; messages = 0; workers = c.args.workers } in
+    let last : Round =
+    record {
+      results = c.args.report.results;
+      tasks = c.tasks-tasks.result;
+      messages = 0;
+      announced = c.args.report.announced;
+      workers = c.args.workers;
+    } in
     let own : IsKept n workers graph last = record {
       each_once = subst (λ (k : ℕ). HasEachOnce k c.args.report.results.items) tasks c.in-Ok.ensures.once.0;
       right = c.requires.report.right;
       tasks = tasks;
+      announced = (c.requires.ended c.in-Ok.ensures.no_fault).announced;
       answered = c.requires.workers c.in-Ok.ensures.no_fault;
     } in
     let sent : c.deref.result.now ≡ reverse (map sent_in (generations h)) = c.deref.ensures.value ∙ c.in-Ok.ensures.sent in

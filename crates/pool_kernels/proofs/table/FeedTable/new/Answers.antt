@@ -9,7 +9,7 @@ use Rattle.pool_kernels.proofs.table.FeedTable.new.Goals as goal
 
 pub returns-in_err-kinds-clause-refused : goal.returns-in_err-kinds-clause-refused
 returns-in_err-kinds-clause-refused g c =
-    let r : Relation = g.P.Relation.relation c.args.pattern c.args.width in
+    let r : Relation = g.P.Relation.relation c.args.relation c.args.width in
     let rows : c.min.result ≡ min c.period-period.result (c.args.steps - 1) = search rules in
     let some : 1 ≤ c.args.steps = search rules in
     let few : c.min.result + 1 ≤ c.args.steps = omega (arith, rows, some) in
@@ -21,7 +21,7 @@ pub returns-in_err-spots-clause-refused : goal.returns-in_err-spots-clause-refus
 returns-in_err-spots-clause-refused g c =
     let w = c.args.width in
     let steps = c.args.steps in
-    let r : Relation = g.P.Relation.relation c.args.pattern w in
+    let r : Relation = g.P.Relation.relation c.args.relation w in
     let rows : c.min.result ≡ min c.period-period.result (steps - 1) = search rules in
     let k = c.in_ok-kinds.kinds in
     let kinds =
@@ -35,7 +35,7 @@ pub invariant_of-result-clause-narrow : goal.invariant_of-result-clause-narrow
 invariant_of-result-clause-narrow g c =
     let w = c.args.width in
     let steps = c.args.steps in
-    let r : Relation = g.P.Relation.relation c.args.pattern w in
+    let r : Relation = g.P.Relation.relation c.args.relation w in
     let rows : c.min.result ≡ min c.period-period.result (steps - 1) = search rules in
     let k = c.in_ok-kinds.kinds in
     none_wide r w steps c.period-period.result k.spans.items k.outputs.items k.arities.items c.period-period.ensures.some
@@ -46,7 +46,7 @@ pub invariant_of-result-clause-few_events : goal.invariant_of-result-clause-few_
 invariant_of-result-clause-few_events g c =
     let w = c.args.width in
     let steps = c.args.steps in
-    let r : Relation = g.P.Relation.relation c.args.pattern w in
+    let r : Relation = g.P.Relation.relation c.args.relation w in
     let rows : c.min.result ≡ min c.period-period.result (steps - 1) = search rules in
     let k = c.in_ok-kinds.kinds in
     c.in_ok-spots.ensures.few r
@@ -57,7 +57,7 @@ pub invariant_of-result-clause-noted : goal.invariant_of-result-clause-noted
 invariant_of-result-clause-noted g c =
     let w = c.args.width in
     let steps = c.args.steps in
-    let r : Relation = g.P.Relation.relation c.args.pattern w in
+    let r : Relation = g.P.Relation.relation c.args.relation w in
     let rows : c.min.result ≡ min c.period-period.result (steps - 1) = search rules in
     let k = c.in_ok-kinds.kinds in
     c.in_ok-spots.ensures.made r
