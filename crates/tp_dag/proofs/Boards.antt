@@ -1,5 +1,6 @@
 -- What is true of a board stays true when a task is written, when an edge and a task are written, and when a task or an edge is added.
-use Rattle.std.proofs.Common.{arith, ◌+◌, ◌<◌, ◌≤◌, ℕ, zero, suc, ◌≡◌, ◌≢◌, List, [], ◌∷◌, ◌++◌, length, length-set, Bool, false, IsTrue, Some, refl, ap, subst, sym, ◌∙◌, inl, inr}
+use Rattle.std.proofs.Common.{arith, ◌+◌, ◌<◌, ◌≤◌, ℕ, zero, suc, ◌≡◌, ◌≢◌, List, [], ◌∷◌, ◌++◌, length, length-set, Bool, false, IsTrue}
+use Rattle.std.proofs.Common.{Some, refl, ap, subst, sym, ◌∙◌, inl, inr}
 use Rattle.std.specs.Prelude.{slice_get, ◌==◌, ◌&&◌, not}
 use Rattle.std.proofs.Math.ListN.{set}
 use Rattle.std.proofs.lemmas.Bool.Decides.{nat_tests}

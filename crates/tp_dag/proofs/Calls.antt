@@ -1,5 +1,6 @@
 -- What each call does to a board keeps what is true of it.
-use Rattle.std.proofs.Common.{arith, ◌+◌, ◌-◌, ◌<◌, ◌≤◌, ℕ, ◌≡◌, ◌≢◌, List, [], ◌∷◌, ◌++◌, length, Bool, true, false, IsTrue, Some, refl, ap, subst, sym, ◌∙◌}
+use Rattle.std.proofs.Common.{arith, ◌+◌, ◌-◌, ◌<◌, ◌≤◌, ℕ, ◌≡◌, ◌≢◌, List, [], ◌∷◌, ◌++◌, length, Bool, true, false, IsTrue, Some, refl}
+use Rattle.std.proofs.Common.{ap, subst, sym, ◌∙◌}
 use Rattle.std.specs.Prelude.{slice_get, ◌==◌, ◌&&◌, not, if◌then◌else◌}
 use Rattle.std.specs.List.{slice_index_or}
 use Rattle.std.proofs.Math.ListN.{set}
@@ -13,7 +14,8 @@ use Rattle.tp_dag.specs.declared.entry.Stage.TheVariants as stage
 use Rattle.tp_dag.specs.declared.entry.Way.{Way}
 use Rattle.tp_dag.specs.declared.entry.Way.TheVariants as way
 use Rattle.tp_dag.specs.Board.{BoardState, new_task}
-use Rattle.tp_dag.specs.Counts.{is_fresh, is_out, is_received, is_under_way, may_be, is_missing, is_unsent, is_coming, is_ready, BoardFacts, AreCounts}
+use Rattle.tp_dag.specs.Counts.{is_fresh, is_out, is_received, is_under_way, may_be, is_missing, is_unsent, is_coming, is_ready}
+use Rattle.tp_dag.specs.Counts.{BoardFacts, AreCounts}
 use Rattle.tp_dag.proofs.Counting.{one, count_set, count_some, counts_same, counts_push, counts_push_none}
 use Rattle.tp_dag.proofs.Boards.{moved, some_same, get_other, out_edge, lacking_more, owing_more, facts_task, facts_both, facts_push_task}
 use Rattle.tp_dag.proofs.Numbers.{may_begin, one_here, one_else, one_if, one_less, ready_set, ready_same, some_ready, coming_set}

@@ -1,5 +1,6 @@
 -- What the calls that describe a graph, and the judgement of the end, keep and have done.
-use Rattle.std.proofs.Common.{ℕ, ◌≡◌, ◌≤◌, ◌<◌, ◌+◌, ◌-◌, List, [], ◌∷◌, ◌++◌, Bool, true, length, map, refl, ap, subst, ◌∙◌, sym, arith, IsTrue, Some, None}
+use Rattle.std.proofs.Common.{ℕ, ◌≡◌, ◌≤◌, ◌<◌, ◌+◌, ◌-◌, List, [], ◌∷◌, ◌++◌, Bool, true, length, map, refl, ap, subst, ◌∙◌, sym, arith}
+use Rattle.std.proofs.Common.{IsTrue, Some, None}
 use Rattle.std.specs.Prelude.{if◌then◌else◌, is_some, slice_get}
 use Rattle.std.specs.List.{list_all}
 use Rattle.std.proofs.Math.ListN.{set}
@@ -20,7 +21,8 @@ use Rattle.tp_dag.specs.Board as on_board
 use Rattle.tp_dag.specs.Board.{BoardState, HasEdge, HasOutside, HasReleased, with_task}
 use Rattle.tp_dag.specs.Counts.{BoardFacts}
 use Rattle.tp_dag.specs.Journal.{JournalState, IsBehindJournal, JournalLeads, Records, IsJudged, SameKind, keeps, is_readying}
-use Rattle.tp_dag.specs.State.{PoolState, IsBehind, Leads, SameSteps, AddsOnly, IsInputAdded, IsTaskAdded, IsStarted, extends, IsOutsideAdded, IsReleased}
+use Rattle.tp_dag.specs.State.{PoolState, IsBehind, Leads, SameSteps, AddsOnly, IsInputAdded, IsTaskAdded, IsStarted, extends}
+use Rattle.tp_dag.specs.State.{IsOutsideAdded, IsReleased}
 use Rattle.tp_dag.specs.Kept.{state_of, seen, entry_of, stage_of, outside_of, input_of, way_of, extend, IsPool, IsConsistent}
 use Rattle.tp_dag.proofs.Actions.{are_ready}
 use Rattle.tp_dag.proofs.Lists.{map_get, past_end}

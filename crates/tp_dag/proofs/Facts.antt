@@ -1,5 +1,6 @@
 -- The lists of steps behind a pool: which step may be recorded after them, and how they go on with it.
-use Rattle.std.proofs.Common.{ℕ, ◌≡◌, ◌≢◌, ◌<◌, List, [], ◌∷◌, ◌++◌, Bool, length, refl, ap, subst, ◌∙◌, sym, arith, IsTrue, IsFalse, inl, inr, Option, Some, None}
+use Rattle.std.proofs.Common.{ℕ, ◌≡◌, ◌≢◌, ◌<◌, List, [], ◌∷◌, ◌++◌, Bool, length, refl, ap, subst, ◌∙◌, sym, arith, IsTrue, IsFalse, inl}
+use Rattle.std.proofs.Common.{inr, Option, Some, None}
 use Rattle.std.specs.Prelude.{◌||◌, slice_get}
 use Rattle.std.specs.List.{list_all}
 use Rattle.std.specs.Option.{option_map}
@@ -31,7 +32,8 @@ use Rattle.tp_dag.proofs.Counting.{same_or}
 use Rattle.tp_dag.proofs.Journals.{may_record}
 use Rattle.tp_dag.proofs.Lists.{set_cases, set_apart, set_here, set_there, at_below, last_cases, get_push, past_end}
 use Rattle.tp_dag.proofs.Steps.{or_right, received_step, received_steps, received_task}
-use Rattle.tp_dag.proofs.Worlds.{life_here, life_there, home_on, home_here, home_there, inserted_here, inserted_there, flies_on, flies_now, unknown_now, active_task, control_stays}
+use Rattle.tp_dag.proofs.Worlds.{life_here, life_there, home_on, home_here, home_there, inserted_here, inserted_there, flies_on}
+use Rattle.tp_dag.proofs.Worlds.{flies_now, unknown_now, active_task, control_stays}
 
 -- ---- which step may be recorded
 pub may_be_recorded : {past : List Step} {a : PoolState} (node : ℕ) (s : Step) → IsBehind past a → IsFalse (is_control s || is_reopen s)

@@ -10,7 +10,8 @@ use Rattle.tp_dag.specs.declared.entry.Stage.TheVariants as stage
 use Rattle.tp_dag.specs.declared.entry.Way.{Way}
 use Rattle.tp_dag.specs.declared.entry.Way.TheVariants as way
 use Rattle.tp_dag.specs.Journal.{Adds, keeps, is_delivery}
-use Rattle.tp_dag.specs.State.{PoolState, SameGraph, AddsOnly, Leads, SameSteps, IsComing, IsOutput, IsIdle, HasNoneReady, AreDelivered, AreSent, IsCompleted}
+use Rattle.tp_dag.specs.State.{PoolState, SameGraph, AddsOnly, Leads, SameSteps, IsComing, IsOutput, IsIdle, HasNoneReady, AreDelivered}
+use Rattle.tp_dag.specs.State.{AreSent, IsCompleted}
 use Rattle.tp_dag.specs.Kept.{IsHome, IsMarked}
 use Rattle.tp_dag.specs.Counts.{count_where, is_out, is_under_way}
 use Rattle.tp_dag.proofs.Lists.{set_here, set_there}

@@ -1,5 +1,6 @@
 -- What the pool keeps through its calls, and what each call has done.
-use Rattle.std.proofs.Common.{ℕ, ◌≡◌, ◌≢◌, ◌<◌, ◌⊎◌, List, [], ◌∷◌, ◌++◌, Bool, map, refl, ap, subst, ◌∙◌, sym, arith, IsTrue, IsFalse, Option, Some, None, inl, inr, append_assoc}
+use Rattle.std.proofs.Common.{ℕ, ◌≡◌, ◌≢◌, ◌<◌, ◌⊎◌, List, [], ◌∷◌, ◌++◌, Bool, map, refl, ap, subst, ◌∙◌, sym, arith, IsTrue, IsFalse}
+use Rattle.std.proofs.Common.{Option, Some, None, inl, inr, append_assoc}
 use Rattle.std.specs.Prelude.{IfSome, IfNone, is_some, slice_get, slice_set}
 use Rattle.std.specs.List.{list_all}
 use Rattle.std.proofs.Math.ListN.{set}
@@ -23,12 +24,16 @@ use Rattle.tp_dag.specs.declared.pool.Pool.TheInside.{Inside}
 use Rattle.tp_dag.specs.Board as on_board
 use Rattle.tp_dag.specs.Board.{BoardState, HasBegun, HasLeft, HasArrived, HasFinished}
 use Rattle.tp_dag.specs.Counts.{BoardFacts}
-use Rattle.tp_dag.specs.Journal.{JournalState, IsBehindJournal, JournalLeads, Records, Adds, SameKind, keeps, receipt, is_delivery, is_ending, is_readying, is_sending}
-use Rattle.tp_dag.specs.State.{PoolState, AddsOnly, SameGraph, IsBehind, Leads, SameSteps, Begins, Ends, WasDone, WasReceived, IsReceived, IsComing, IsOutput, IsCompleted, IsDispatched, AreSent}
-use Rattle.tp_dag.specs.Kept.{state_of, seen, entry_of, stage_of, outside_of, input_of, way_of, IsPool, IsConsistent, IsFrom, IsFromAfar, IsHome, AllPassed, SendsOne, sending}
+use Rattle.tp_dag.specs.Journal.{JournalState, IsBehindJournal, JournalLeads, Records, Adds, SameKind, keeps, receipt, is_delivery}
+use Rattle.tp_dag.specs.Journal.{is_ending, is_readying, is_sending}
+use Rattle.tp_dag.specs.State.{PoolState, AddsOnly, SameGraph, IsBehind, Leads, SameSteps, Begins, Ends, WasDone, WasReceived, IsReceived}
+use Rattle.tp_dag.specs.State.{IsComing, IsOutput, IsCompleted, IsDispatched, AreSent}
+use Rattle.tp_dag.specs.Kept.{state_of, seen, entry_of, stage_of, outside_of, input_of, way_of, IsPool, IsConsistent, IsFrom, IsFromAfar}
+use Rattle.tp_dag.specs.Kept.{IsHome, AllPassed, SendsOne, sending}
 use Rattle.tp_dag.proofs.Lists.{at_below, map_get, map_got}
 use Rattle.tp_dag.proofs.Finding.{ready_lacks_none}
-use Rattle.tp_dag.proofs.Facts.{Leaves, may_begin, may_complete, may_send, may_receive, behind_later, behind_begin, behind_done, behind_way, behind_send, behind_receive}
+use Rattle.tp_dag.proofs.Facts.{Leaves, may_begin, may_complete, may_send, may_receive, behind_later, behind_begin, behind_done}
+use Rattle.tp_dag.proofs.Facts.{behind_way, behind_send, behind_receive}
 use Rattle.tp_dag.proofs.Ended.{begun, begun_by, was_done}
 use Rattle.tp_dag.proofs.Steps.{or_right, same_trans, leads_trans, received_now, all_append, all_pass, ending_delivers}
 use Rattle.tp_dag.proofs.Views.{some_same, seen_stage, seen_way, consistent, coming_board, coming_seen, passed_seen, unsent_seen}

@@ -1,5 +1,6 @@
 -- The beginning of the same graph once more.
-use Rattle.std.proofs.Common.{arith, ℕ, ◌+◌, ◌<◌, ◌≤◌, ◌≡◌, List, [], ◌∷◌, ◌++◌, map, Bool, true, false, length, refl, ap, subst, ◌∙◌, sym, IsTrue, IsFalse, Some, None, inl, inr}
+use Rattle.std.proofs.Common.{arith, ℕ, ◌+◌, ◌<◌, ◌≤◌, ◌≡◌, List, [], ◌∷◌, ◌++◌, map, Bool, true, false, length, refl, ap, subst, ◌∙◌}
+use Rattle.std.proofs.Common.{sym, IsTrue, IsFalse, Some, None, inl, inr}
 use Rattle.std.specs.Prelude.{◌==◌, slice_get, is_some, if◌then◌else◌}
 use Rattle.std.specs.List.{find, list_all, list_any}
 use Rattle.std.specs.Option.{option_map}
@@ -29,7 +30,8 @@ use Rattle.tp_dag.specs.declared.entry.Way.TheVariants as way
 use Rattle.tp_dag.specs.declared.pool.Pool.TheInside.{Inside}
 use Rattle.tp_dag.specs.Again.{IsAgain, IsBeginning, is_beginning}
 use Rattle.tp_dag.specs.Board.{BoardState, IsReset, described, not_passed_on}
-use Rattle.tp_dag.specs.Journal.{JournalState, IsBehindJournal, JournalLeads, Records, Adds, SameKind, IsRefusedForRoom, is_of_room, is_readying, keeps}
+use Rattle.tp_dag.specs.Journal.{JournalState, IsBehindJournal, JournalLeads, Records, Adds, SameKind, IsRefusedForRoom, is_of_room}
+use Rattle.tp_dag.specs.Journal.{is_readying, keeps}
 use Rattle.tp_dag.specs.Kept.{state_of, seen, entry_of, stage_of, outside_of, input_of, way_of, IsPool}
 use Rattle.tp_dag.specs.State.{PoolState, IsBehind, IsFinished, life_for}
 use Rattle.tp_dag.proofs.Lists.{at_below, map_got}

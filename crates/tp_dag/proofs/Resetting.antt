@@ -1,5 +1,6 @@
 -- Passes that write each place of a list, and that count edges at their tasks; and the board that they leave.
-use Rattle.std.proofs.Common.{arith, ◌+◌, ◌<◌, ◌≤◌, ℕ, zero, suc, ◌≡◌, ◌≢◌, List, [], ◌∷◌, ◌++◌, map, replicate, length, length-set, Bool, true, false, IsTrue, Some, refl, ap, subst, sym, ◌∙◌, inl, inr}
+use Rattle.std.proofs.Common.{arith, ◌+◌, ◌<◌, ◌≤◌, ℕ, zero, suc, ◌≡◌, ◌≢◌, List, [], ◌∷◌, ◌++◌, map, replicate, length, length-set, Bool}
+use Rattle.std.proofs.Common.{true, false, IsTrue, Some, refl, ap, subst, sym, ◌∙◌, inl, inr}
 use Rattle.std.specs.Prelude.{slice_get, ◌==◌, ◌&&◌, not, take, if◌then◌else◌, vec_capacity}
 use Rattle.std.specs.List.{slice_index_or}
 use Rattle.std.proofs.Math.ListN.{set}
@@ -16,7 +17,8 @@ use Rattle.tp_dag.specs.declared.entry.Way.{Way}
 use Rattle.tp_dag.specs.declared.entry.Way.TheVariants as way
 use Rattle.tp_dag.specs.declared.board.Board.TheInside.{Inside}
 use Rattle.tp_dag.specs.Board.{BoardState, described, not_passed_on, IsReset}
-use Rattle.tp_dag.specs.Counts.{count_where, is_out, is_received, is_under_way, may_be, is_missing, is_unsent, is_coming, is_ready, IsPlaced, IsCounted, BoardFacts, AreCounts, board_of}
+use Rattle.tp_dag.specs.Counts.{count_where, is_out, is_received, is_under_way, may_be, is_missing, is_unsent, is_coming, is_ready}
+use Rattle.tp_dag.specs.Counts.{IsPlaced, IsCounted, BoardFacts, AreCounts, board_of}
 use Rattle.tp_dag.specs.Resets.{is_to, is_from, uncounted, recounted, AreRecounted, AreWritten}
 use Rattle.tp_dag.proofs.Counting.{one, count_few, count_zero, count_next, count_push, at_below, same_or, counts_push, counts_few}
 use Rattle.tp_dag.proofs.Boards.{some_same, lacking_more, owing_more}

@@ -7,7 +7,8 @@ use Rattle.tp_dag.specs.declared.entry.Edge.{Edge}
 use Rattle.tp_dag.specs.declared.entry.Stage.TheVariants as stage
 use Rattle.tp_dag.specs.declared.entry.Way.TheVariants as way
 use Rattle.tp_dag.specs.declared.board.Board.TheInside.{Inside}
-use Rattle.tp_dag.specs.Board.{BoardState, LacksInput, IsUnsent, HasEdge, HasOutside, HasReleased, HasBegun, HasLeft, HasArrived, HasFinished}
+use Rattle.tp_dag.specs.Board.{BoardState, LacksInput, IsUnsent, HasEdge, HasOutside, HasReleased, HasBegun, HasLeft, HasArrived}
+use Rattle.tp_dag.specs.Board.{HasFinished}
 use Rattle.tp_dag.specs.Counts.{BoardFacts, board_of}
 use Rattle.tp_dag.proofs.Boards.{moved, some_same, out_edge, lacking_more, owing_more}
 use Rattle.tp_dag.proofs.Reading.{all_received, all_sent, lacks_input, some_unsent}

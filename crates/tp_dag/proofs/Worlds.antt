@@ -13,7 +13,8 @@ use Rattle.tp_wave.specs.Control.{is_control}
 use Rattle.tp_wave.specs.Generations.{generation, IsOfGeneration}
 use Rattle.tp_core.specs.declared.life.Life.{Life}
 use Rattle.tp_core.specs.declared.life.Life.TheVariants as life
-use Rattle.tp_core.specs.World.{World, Task, Action, Message, Kind, life_of, home_of, is_done, is_message, is_under_way, is_known_message, is_unfinished_at, is_action, is_open, is_at, same_kind, how_many, IsActive}
+use Rattle.tp_core.specs.World.{World, Task, Action, Message, Kind, life_of, home_of, is_done, is_message, is_under_way, is_known_message}
+use Rattle.tp_core.specs.World.{is_unfinished_at, is_action, is_open, is_at, same_kind, how_many, IsActive}
 use Rattle.tp_core.specs.Pool.{after, with_life, without, lacking}
 use Rattle.tp_core.specs.Run.{world, IsLawful}
 use Rattle.tp_core.specs.Generations.{MayCome}

@@ -1,5 +1,6 @@
 -- The invariant of a board: where its edges lead, how far they are, and that its counts are those of its lists.
-use Rattle.std.specs.Prelude.{ℕ, ◌+◌, ◌≡◌, ◌<◌, ◌≤◌, ◌==◌, ◌&&◌, List, [], ◌∷◌, Bool, true, false, not, length, slice_get, Option, Some, None, IsTrue, if◌then◌else◌, vec_capacity}
+use Rattle.std.specs.Prelude.{ℕ, ◌+◌, ◌≡◌, ◌<◌, ◌≤◌, ◌==◌, ◌&&◌, List, [], ◌∷◌, Bool, true, false, not, length, slice_get, Option, Some}
+use Rattle.std.specs.Prelude.{None, IsTrue, if◌then◌else◌, vec_capacity}
 use Rattle.std.specs.List.{slice_index_or}
 use Rattle.tp_base.specs.declared.limits.TheConstants.{MAX_NODES, MAX_STEPS}
 use Rattle.tp_dag.specs.declared.limits.TheConstants.{MAX_TASKS, MAX_INPUTS}

@@ -1,12 +1,14 @@
 //! The board: the tasks and edges of a graph with their counts, and at each node how many tasks are ready and how many edges are under
 //! way to it. It knows no steps and no hints.
-ghost use Rattle.std.specs.Prelude.{◌≡◌, ◌<◌, ◌≤◌, ◌+◌, ◌-◌, ◌^◌, ℕ, [], length, IsTrue, IsFalse, IfSome, IfNone, OnOk, slice_get, slice_set, Some, if◌then◌else◌};
+ghost use Rattle.std.specs.Prelude.{◌≡◌, ◌<◌, ◌≤◌, ◌+◌, ◌-◌, ◌^◌, ℕ, [], length, IsTrue, IsFalse, IfSome, IfNone, OnOk, slice_get};
+ghost use Rattle.std.specs.Prelude.{slice_set, Some, if◌then◌else◌};
 ghost use Rattle.std.specs.List.{slice_index_or};
 ghost use Rattle.tp_base.specs.declared.limits.TheConstants.{MAX_NODES, MAX_STEPS};
 ghost use Rattle.tp_dag.specs.declared.limits.TheConstants.{MAX_INPUTS, MAX_TASKS};
 ghost use Rattle.tp_dag.specs.declared.entry.Task.{Task};
 ghost use Rattle.tp_dag.specs.declared.entry.Stage.TheVariants as stage;
-ghost use Rattle.tp_dag.specs.Board.{LacksInput, IsReady, HasNoneReady, IsComing, HasNoneComing, MayArrive, MayLeave, IsUnderWayTo, IsUnsent, with_task};
+ghost use Rattle.tp_dag.specs.Board.{LacksInput, IsReady, HasNoneReady, IsComing, HasNoneComing, MayArrive, MayLeave, IsUnderWayTo};
+ghost use Rattle.tp_dag.specs.Board.{IsUnsent, with_task};
 ghost use Rattle.tp_dag.specs.Board.{HasEdge, HasOutside, HasReleased, HasBegun, HasLeft, HasArrived, HasFinished, IsReset};
 ghost use Rattle.tp_dag.specs.Counts.{BoardFacts};
 

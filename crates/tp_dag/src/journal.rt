@@ -1,11 +1,13 @@
 //! The journal of a pool: the recorder that counts its steps, and the actions that are open. It knows no graph.
-ghost use Rattle.std.specs.Prelude.{◌≡◌, ◌≤◌, ◌<◌, ◌↔◌, ℕ, List, [], slice_get, Some, None, IfOk, IfErr, OnOk, OnErr, IsTrue, IsFalse, if◌then◌else◌};
+ghost use Rattle.std.specs.Prelude.{◌≡◌, ◌≤◌, ◌<◌, ◌↔◌, ℕ, List, [], slice_get, Some, None, IfOk, IfErr, OnOk, OnErr, IsTrue, IsFalse};
+ghost use Rattle.std.specs.Prelude.{if◌then◌else◌};
 ghost use Rattle.tp_base.specs.declared.limits.TheConstants.{MAX_NODES};
 ghost use Rattle.tp_base.specs.declared.Step.{Step};
 ghost use Rattle.tp_wave.specs.Sums.{is_ended};
 ghost use Rattle.tp_core.specs.Run.{world};
 ghost use Rattle.tp_core.specs.World.{IsActive, IsQuiet};
-ghost use Rattle.tp_dag.specs.Journal.{IsBehindJournal, SameKind, Records, IsRefusedForRoom, JournalLeads, Adds, IsJudged, keeps, LacksRoomForSteps};
+ghost use Rattle.tp_dag.specs.Journal.{IsBehindJournal, SameKind, Records, IsRefusedForRoom, JournalLeads, Adds, IsJudged, keeps};
+ghost use Rattle.tp_dag.specs.Journal.{LacksRoomForSteps};
 ghost use Rattle.tp_dag.specs.Journal.{is_plain, is_of_room, is_readying, is_ending, receipt, kept_step, with_limit};
 
 use std::alloc::Global;

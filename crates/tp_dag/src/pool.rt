@@ -1,5 +1,6 @@
 //! The pool: the calls that describe a graph, dispatch its tasks and take their completions. Bodies and values are the caller's.
-ghost use Rattle.std.specs.Prelude.{◌≡◌, ◌≢◌, ◌≤◌, ◌<◌, ◌+◌, ◌⊎◌, ℕ, List, [], ◌∷◌, ◌++◌, length, IfOk, IfErr, IfSome, IfNone, OnOk, OnErr, IsTrue, IsFalse, slice_get, slice_set, true, false, Ok, Err, Some, None, if◌then◌else◌};
+ghost use Rattle.std.specs.Prelude.{◌≡◌, ◌≢◌, ◌≤◌, ◌<◌, ◌+◌, ◌⊎◌, ℕ, List, [], ◌∷◌, ◌++◌, length, IfOk, IfErr, IfSome, IfNone, OnOk};
+ghost use Rattle.std.specs.Prelude.{OnErr, IsTrue, IsFalse, slice_get, slice_set, true, false, Ok, Err, Some, None, if◌then◌else◌};
 ghost use Rattle.tp_base.specs.declared.limits.TheConstants.{MAX_NODES, MAX_STEPS};
 ghost use Rattle.tp_base.specs.declared.Step.{Step};
 ghost use Rattle.tp_base.specs.Checks.{first_refusal};
@@ -12,7 +13,8 @@ ghost use Rattle.tp_dag.specs.State.{AddsOnly, IsStarted, IsOutsideAdded, IsRele
 ghost use Rattle.tp_dag.specs.State.{IsIdle, IsComing, IsOutput, LacksInput, HasNoneReady, AreDelivered, AreSent};
 ghost use Rattle.tp_dag.specs.State.{start_checks, outside_checks, release_checks, next_checks, done_checks, dispatched};
 ghost use Rattle.tp_dag.specs.State.{IsBehind, IsBacked, SameSteps, BeginsMore, HasEndedMessages, IsNotQuiet};
-ghost use Rattle.tp_dag.specs.Journal.{IsRefusedForRoom, LacksRoomForSteps, SameKind, keeps, kept_step, is_delivery, is_sending, is_readying, is_of_room};
+ghost use Rattle.tp_dag.specs.Journal.{IsRefusedForRoom, LacksRoomForSteps, SameKind, keeps, kept_step, is_delivery, is_sending};
+ghost use Rattle.tp_dag.specs.Journal.{is_readying, is_of_room};
 ghost use Rattle.tp_dag.specs.Kept.{IsConsistent, IsFrom, IsFromAfar, IsHome, AllPassed, IsMarked, SendsOne, sending};
 
 use crate::board::Board;
