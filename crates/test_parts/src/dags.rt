@@ -126,8 +126,10 @@ fn a_running_task_adds_tasks(rt: HostRuntime) {
         // task 2 is held, and waits for the running task that added it and for one at another node
         (Call::Next(0), WAIT),
         (Call::Input(0), Ok(0)),
+        (Call::Outside(2), Ok(0)),
         (Call::Input(1), Ok(0)),
         (Call::Input(2), Err(Refusal::NoTask)),
+        (Call::Release(2), Ok(0)),
         (Call::Release(2), Ok(0)),
         (Call::Next(0), WAIT),
         (Call::Done(0, 0), Ok(0)),
@@ -147,8 +149,15 @@ fn a_running_task_adds_tasks(rt: HostRuntime) {
         (Call::Task(0, 0), Err(Refusal::Ended)),
         (Call::Again, Err(Refusal::WrongLife)),
     ];
-    let mut pool = Pool::new(rt.alloc(), 2, false);
-    assert_eq!(rt; first_wrong(&mut pool, rows.as_slice()), None);
+    // where steps are kept, only `task` and `input` take from those that are left for what is added
+    for keeps_steps in [false, true] {
+        let mut pool = Pool::new(rt.alloc(), 2, keeps_steps);
+        assert_eq!(rt;
+            first_wrong(&mut pool, rows.as_slice()),
+            None,
+            "{keeps_steps}"
+        );
+    }
 }
 
 fn add_tasks(pool: &mut Pool, count: u32) {
