@@ -4,9 +4,10 @@
 # make test     every test and every program, without proofs (some minutes)
 # make mpi      tree search with the detector for distributed programs, and Cholesky with a task graph in each process, over
 #               Open MPI, up to 16 processes (a few minutes)
-# make gate     the gate: every proof from scratch, its mutants, each test, each program (see docs/GATE.md)
+# make gate     the gate: every proof from scratch, its mutants, each test, each program (see docs/GATE.md; ANEW=1: nothing
+#               that an earlier run on this machine passed is reused)
 # make mutants  tries all mutants of the crates that changed (ALL=1: of every crate; CRATE=tp_wave: of one)
-# make times    the gate, with the processor seconds of each crate
+# make times    the gate, and the processor time that it takes
 # make soak     runs each sample pool 200 times at 8 nodes with 8 workers each, compares the outputs and audits the traces;
 #               then runs the program with unusual streams and texts, at a terminal, with every stored text truncated after
 #               each byte, and with random texts; the programs over borrowed data at a terminal; and random calls of the
@@ -17,7 +18,8 @@
 #               that do the same; the quick form takes some minutes (FULL=1: all cases, stored as the numbers of
 #               docs/PERFORMANCE.md; see bench/README.md)
 # make docs     draws the pictures of docs/figures again: runs by bin/samples, a page by Chromium, Cholesky by the library of
-#               make lib (without these two, their pictures stay), the crates and a wave by tools/pictures.py
+#               make lib (without these two, their pictures stay), plots and the crates by matplotlib and graphviz
+#               (tools/bench-packages); and writes out/guarantees, an index of all contracts
 # make install  installs the proved programs and the library, with the manual, the completion for bash, the documents, and
 #               packages for pkg-config and CMake. It takes DESTDIR, PREFIX (/usr/local), EXEC_PREFIX, BINDIR, LIBDIR,
 #               INCLUDEDIR, DATADIR, MANDIR, DOCDIR and PYTHONDIR (defaults: `tools/dev install --help`), also in small
@@ -67,13 +69,13 @@ mpi: lib/libgerfmuod.a
 
 # (one job per check: each further job of a check loads the libraries again)
 gate:
-	RT_JOBS=$$(tools/dev lanes) rt ci
+	RT_JOBS=$$(tools/dev lanes) rt ci $(if $(ANEW),--anew)
 
 mutants:
 	@tools/dev mutants $(if $(ALL),--all,$(CRATE))
 
 times:
-	tools/dev gate-times
+	@bash -c 'time $(MAKE) --no-print-directory gate'
 
 soak: bin/samples lib/libgerfmuod.a
 	tools/dev soak bin/tp --runs 200
@@ -90,7 +92,8 @@ bench: bin/samples lib/libgerfmuod.a
 
 docs: bin/samples
 	@tools/dev draw
-	@tools/pictures.py
+	@tools/dev plot
+	@tools/dev proved
 
 BUILT ?= .
 FOLDERS := DESTDIR PREFIX EXEC_PREFIX BINDIR LIBDIR INCLUDEDIR DATADIR MANDIR DOCDIR PYTHONDIR

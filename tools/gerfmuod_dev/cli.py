@@ -4,8 +4,8 @@ They work on the repository that they are in, from whatever folder they are call
 """
 import argparse
 
-from . import bench, build, capi, dag_programs, demo, docs, drawn, gate_times, lanes, library, limits, lines
-from . import mpi, mutants, new_pool, pages, proved, soak, summary, tries, words
+from . import bench, build, capi, dag_programs, demo, docs, drawn, lanes, library, limits, lines
+from . import mpi, mutants, new_pool, pages, plots, proved, soak, summary, tries
 from .limits import cuts, generations, hostile_numbers, live, memory, pictures, progress, random_texts, reasons
 from .limits import refuse, refuse_tests, stacks, strange
 from .shipping import completion, dist, installing, manual, package
@@ -20,13 +20,12 @@ COMMANDS = {
     "try": tries,
     "pages": pages,
     "mutants": mutants,
-    "gate-times": gate_times,
     "lanes": lanes,
     "lines": lines,
     "docs": docs,
     "proved": proved,
-    "words": words,
     "draw": drawn,
+    "plot": plots,
     "summary": summary,
     "new-pool": new_pool,
     "soak": soak,

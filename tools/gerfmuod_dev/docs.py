@@ -5,7 +5,7 @@
 - each relative link of README.md, CONTRIBUTING.md, bench/README.md, docs/*.md, docs/guarantees and docs/measurements leads to
   a file, and to a heading if it names one
 - README.md has at most 130 lines, and none of over 120 columns: only warnings, unless --strict is given
-- the pictures are those that tools/pictures.py draws (its --check)
+- the table of docs/ARCHITECTURE.md has the groups of crates.txt, and the plots are drawn from what is stored (`tools/dev plot`)
 - docs/guarantees is what tools/dev proved writes from the contracts, and docs/PROVED.md names only calls and clauses that exist
 
 Prints each difference, and a line for each kind of check. The last line is `N passed, M failed`; the status is 1 if one
@@ -14,11 +14,10 @@ failed.
 import glob
 import os
 import re
-import subprocess
-import sys
 from urllib.parse import unquote
 
-from . import memory_table, proved, repository
+from . import crate_map, memory_table, plots, proved, repository
+from .bench import figures
 from .repository import text_of
 from .running import Tally
 
@@ -27,7 +26,6 @@ BLOCK = re.compile(r"(?:`(crates/[^`\n]+)`:\n\n)?```(\w+)\n(.*?\n)```\n", re.S)
 CODE = re.compile(r"^ *```.*?^ *```[^\n]*$|`[^`\n]*`", re.S | re.M)
 LINK = re.compile(r'\]\(<?([^()\s>]+)>?(?:\s+"[^"]*")?\)|^ *\[[^\]\n]+\]: *(\S+)|\b(?:src|srcset|href)="([^"]+)"', re.M)
 ELSEWHERE = re.compile(r"[a-z][a-z0-9+.-]*:|//", re.I)
-PICTURES = "tools/pictures.py"
 MOST_COLUMNS, MOST_LINES = 120, 130
 
 
@@ -94,15 +92,6 @@ def check_readme(tally, is_strict):
             print(f"warning: README.md: {fault}")
 
 
-def check_pictures(tally):
-    if not os.path.exists(PICTURES):
-        return
-    result = subprocess.run([sys.executable, PICTURES, "--check"], stdout=subprocess.PIPE, stderr=subprocess.STDOUT, text=True)
-    if result.returncode:
-        print(result.stdout, end="")
-    tally.judge(result.returncode == 0, f"{PICTURES} --check")
-
-
 def arguments(parser):
     parser.add_argument("--strict", action="store_true", help="the warnings about README.md are faults")
     parser.add_argument("--calls", action="store_true", help="print the public calls that can run out of memory, and check nothing")
@@ -119,6 +108,7 @@ def run(options):
         check_page(page, tally)
     check_links(tally)
     check_readme(tally, options.strict)
-    check_pictures(tally)
+    crate_map.check(tally)
+    plots.check(tally, [name for name in plots.PLOTS if name not in figures.PLOTS])
     proved.check(tally)
     return tally.end()

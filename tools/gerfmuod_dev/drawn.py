@@ -2,7 +2,7 @@
 
 `tools/dev try samples` compares the pictures of traces with what the program draws unproved. The page is a screenshot of
 Chromium (`tools/page-packages` prints the packages). Cholesky (capi/dag/cholesky.c) runs with lib/libgerfmuod.a, over OpenBLAS
-if that is installed; of a few runs, the fastest is drawn. Prints a line for each picture. The status is 1 if one could not be
+if that is installed; the times of the fastest of a few runs are stored and drawn. Prints a line for each picture. The status is 1 if one could not be
 drawn; without Chromium, or without a library that was built from these sources, its picture is left as it is.
 """
 import os
@@ -10,7 +10,7 @@ import subprocess
 import tempfile
 from dataclasses import dataclass
 
-from . import dag_programs, library, repository, running, timeline
+from . import dag_programs, library, plots, repository, running, timeline
 from .browser import Browser, program
 from .profiles import Profile
 from .repository import text_of
@@ -41,7 +41,7 @@ PICTURES = {
 
 
 # the picture of Cholesky, the order of its matrix and of its tiles, and the numbers of threads and of runs
-CHOLESKY, ORDER, TILE, THREADS, RUNS = "docs/figures/cholesky.svg", 2048, 256, 4, 9
+CHOLESKY, ORDER, TILE, THREADS, RUNS = "cholesky", 2048, 256, 4, 9
 # the page, its trace, its size, and where the pointer is on it
 PAGE, SIZE, PLACE = "docs/figures/a-page.png", (1000, 500), (420, 310)
 TRACE = "tools/data/statuses/samples/0-draw-a-run-of-some-hundred-events"
@@ -79,12 +79,12 @@ def events_of_cholesky(library_folder, folder):
 
 
 def draw_cholesky(library_folder):
-    """Draws a run of Cholesky; returns whether that worked."""
+    """Stores the times of a run of Cholesky, and draws it; returns whether that worked."""
     with tempfile.TemporaryDirectory() as folder:
         text = events_of_cholesky(library_folder, folder)
     if text:
-        running.write(CHOLESKY, timeline.picture(text, ORDER // TILE))
-    return bool(text)
+        running.write(timeline.PATH, timeline.rows_of(text, ORDER // TILE))
+    return bool(text) and plots.write([CHOLESKY]) == 0
 
 
 def draw_optional(path, missing, draw):
@@ -115,5 +115,5 @@ def run(options):
     no_browser = "" if program() else "Chromium is missing (tools/page-packages prints the packages)"
     is_well &= draw_optional(PAGE, no_browser, lambda: draw_page(options.samples))
     no_library = "" if options.library else library.reason_not_built()
-    is_well &= draw_optional(CHOLESKY, no_library and f"{no_library} (make lib builds it)", lambda: draw_cholesky(options.library or "lib"))
+    is_well &= draw_optional(path_of(CHOLESKY), no_library and f"{no_library} (make lib builds it)", lambda: draw_cholesky(options.library or "lib"))
     return 0 if is_well else 1

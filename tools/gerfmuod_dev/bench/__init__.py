@@ -23,7 +23,7 @@ import sys
 import tempfile
 import time
 
-from .. import running
+from .. import plots, running
 from . import document, figures, origin, rows, tables
 from .cases import MEASUREMENTS, PROGRAMS
 from .measuring import Bench
@@ -102,13 +102,15 @@ def measure_all(options, names, folder):
 
 
 def draw():
-    figures.write()
+    """Draws the plots and writes the tables; returns the exit status."""
+    faults = plots.write(figures.PLOTS)
     document.write()
+    return 1 if faults else 0
 
 
 def check():
     tally = running.Tally()
-    figures.check(tally)
+    plots.check(tally, figures.PLOTS)
     document.check(tally)
     return tally.end()
 
@@ -130,5 +132,5 @@ def run(options):
         with tempfile.TemporaryDirectory() as folder:
             measure_all(options, names, folder)
     if options.draw or options.write:
-        draw()
+        return draw()
     return 0

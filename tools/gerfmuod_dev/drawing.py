@@ -1,0 +1,195 @@
+"""Draws a plot with matplotlib: reads it as JSON from standard input, and writes it to the file that is named, as SVG or PNG.
+
+`plots.py` runs this file with an interpreter that has matplotlib. The file reads no other input, so its text and the JSON determine
+the plot.
+"""
+import json
+import sys
+
+import matplotlib
+
+matplotlib.use("svg" if sys.argv[1:2] and sys.argv[1].endswith(".svg") else "agg")
+from matplotlib import pyplot, ticker  # noqa: E402 (the backend is chosen first)
+
+# colours that can be distinguished without telling red from green
+COLOURS = ["#1f6fb2", "#d9822b", "#2e8b57", "#8e5ba6", "#777777"]
+MARKERS = "os^Dv"
+STYLE = {
+    "svg.hashsalt": "gerfmuod", "font.size": 9, "axes.titlesize": 10, "axes.titleweight": "bold", "axes.spines.top": False,
+    "axes.spines.right": False, "axes.prop_cycle": matplotlib.cycler(color=COLOURS), "legend.frameon": False,
+}
+PLAIN = ticker.FuncFormatter(lambda value, _: f"{value:,g}")
+
+
+def set_ticks(axis, values):
+    """Sets the ticks of a logarithmic axis: at 1, 2 and 5 times a power of ten, or closer if the values are."""
+    digits = (1, 2, 5) if max(values) > 10 * min(values) else (1, 1.5, 2, 3, 4, 6, 8)
+    axis.set_major_locator(ticker.LogLocator(subs=digits, numticks=20))
+    axis.set_major_formatter(PLAIN)
+    axis.set_minor_locator(ticker.NullLocator())
+
+
+def with_legend(figure, axis):
+    """Puts the names above the axes of a figure, and returns it."""
+    figure.legend(*axis.get_legend_handles_labels(), loc="upper left", ncol=6)
+    figure.tight_layout(rect=(0, 0, 1, 1 - 0.27 / figure.get_figheight()))
+    return figure
+
+
+def draw_lines(plot):
+    """Lines, in a panel for each title: `lines` has for each name a list of points."""
+    panels = plot["panels"]
+    figure, axes = pyplot.subplots(1, len(panels), squeeze=False, figsize=(max(8.2, 4.4 * len(panels)), 3.6))
+    for axis, panel in zip(axes[0], panels):
+        for name, points, marker in zip(plot["names"], panel["lines"], MARKERS):
+            axis.plot([x for x, _ in points], [y for _, y in points], marker=marker, markersize=4.5, linewidth=1.4, label=name)
+        axis.set(title=panel["title"], xlabel=plot["x"], ylabel=plot["y"])
+        points = [point for line in panel["lines"] for point in line]
+        if plot["is_log_y"]:
+            axis.set_yscale("log")
+            set_ticks(axis.yaxis, [y for _, y in points])
+        else:
+            axis.set_ylim(bottom=0)
+        if plot["places"]:
+            axis.set_xticks(range(len(plot["places"])), plot["places"])
+        else:
+            axis.set_xscale("log")
+            set_ticks(axis.xaxis, [x for x, _ in points])
+        axis.grid(True, axis="y", color="#e4e4e4")
+    return with_legend(figure, axes[0][0])
+
+
+def draw_bars(plot):
+    """Groups of bars: `groups` has for each label the values of all names. The bar of a bound is hollow, with its sign above it."""
+    figure, axis = pyplot.subplots(figsize=(max(8.2, 0.95 * len(plot["groups"])), 3.6))
+    width = 0.84 / len(plot["names"])
+    for place, (name, colour) in enumerate(zip(plot["names"], COLOURS)):
+        for group, (_, values) in enumerate(plot["groups"]):
+            if values[place] is not None:
+                sign, value = values[place]
+                left = group + (place + 0.5) * width - 0.42
+                axis.bar(left, value, width * 0.9, color="none" if sign else colour, edgecolor=colour, linewidth=0.8)
+                axis.annotate(sign, (left, value), ha="center", va="bottom", color=colour)
+        axis.bar(0, 0, color=colour, label=name)
+    axis.set_xticks(range(len(plot["groups"])), [label for label, _ in plot["groups"]])
+    axis.set_ylabel(plot["y"])
+    axis.yaxis.set_major_formatter(PLAIN)
+    axis.margins(x=0.01)
+    axis.grid(True, axis="y", color="#e4e4e4")
+    axis.set_axisbelow(True)
+    return with_legend(figure, axis)
+
+
+def draw_threads(plot):
+    """A run: a row for each thread, a bar for each body in the colour of its kind, framed if it is on the critical path."""
+    figure, axis = pyplot.subplots(figsize=(9.6, 0.9 + 0.45 * plot["threads"]))
+    for thread, kind, begin, length, is_critical in sorted(plot["bodies"], key=lambda body: body[4]):
+        colour, frame = COLOURS[plot["names"].index(kind)], "#111111" if is_critical else "none"
+        axis.barh(thread, length, 0.76, left=begin, color=colour, edgecolor=frame, linewidth=1.2)
+    for name, colour in zip(plot["names"], COLOURS):
+        axis.barh(1, 0, color=colour, label=name)
+    axis.barh(1, 0, color="none", edgecolor="#111111", label="on the critical path")
+    axis.set_yticks(range(1, plot["threads"] + 1), [f"thread {number}" for number in range(1, plot["threads"] + 1)])
+    axis.invert_yaxis()
+    axis.set_xlim(0, plot["elapsed"])
+    axis.set_xlabel(f"milliseconds ({plot['title']})")
+    return with_legend(figure, axis)
+
+
+class Waves:
+    """Draws the steps of a script, one per column: each node is a line, thick while something is pending there."""
+
+    CHANGES = {"insert": 1, "open": 1, "recv": 1, "done": -1, "close": -1, "ready": -1, "end": -1}
+
+    def __init__(self, plot):
+        self.nodes, self.steps = plot["nodes"], plot["steps"]
+        self.figure, self.axis = pyplot.subplots(figsize=(0.36 * len(self.steps) + 1, 0.95 * self.nodes + 1.4), layout="constrained")
+        self.pending, self.since = [1] * self.nodes, [-0.5] * self.nodes
+        self.sent, self.received, self.sent_at = [0] * self.nodes, [0] * self.nodes, {}
+        self.wave, self.visits, self.sums = 0, [], []
+
+    @property
+    def colour(self):
+        return ["#c0392b", "#1f6fb2", "#2e8b57"][(self.wave - 1) % 3]
+
+    def arrow(self, start, end, colour, style="-"):
+        shape = {"arrowstyle": "-|>", "color": colour, "linestyle": style, "shrinkA": 0, "shrinkB": 2, "linewidth": 1.1}
+        self.axis.annotate("", end, start, arrowprops=shape)
+
+    def label(self, x, y, text, **style):
+        box = {"facecolor": "white", "edgecolor": "none", "pad": 0.6}
+        self.axis.text(x, y, text, ha="center", va="center", fontsize=7.5, bbox=box, **style)
+
+    def thick(self, node, end):
+        self.axis.plot([self.since[node], end], [node, node], color="#444444", linewidth=4.5, solid_capstyle="butt", zorder=2)
+
+    def take(self, x, name, numbers):
+        if name in self.CHANGES:
+            node, before = numbers[0], self.pending[numbers[0]]
+            self.pending[node] += self.CHANGES[name]
+            if before > 0 and self.pending[node] == 0:
+                self.thick(node, x)
+            elif before == 0:
+                self.since[node] = x
+        if name == "send":
+            self.sent[numbers[0]] += 1
+            self.sent_at[numbers[2]] = x, numbers[0]
+        elif name == "recv":
+            self.received[numbers[0]] += 1
+            start = self.sent_at[numbers[1]]
+            self.arrow(start, (x, numbers[0]), "#111111")
+            side = -0.95 if start[1] > numbers[0] else 0.95
+            self.label((start[0] + x) / 2 + side, (start[1] + numbers[0]) / 2, f"message {numbers[1]}", fontweight="bold")
+        elif name == "start":
+            self.wave, self.visits, self.sums = self.wave + 1, [], [*self.sums, [0, 0]]
+            self.label(x, -0.22, f"wave {self.wave}", color=self.colour, fontweight="bold")
+        elif name in ("down", "up"):
+            pair = [((numbers[0] - 1) // 2), numbers[0]][:: 1 if name == "down" else -1]
+            self.arrow((x, pair[0]), (x, pair[1]), self.colour, "--")
+        elif name == "give":
+            self.give(x, numbers[0])
+        elif name == "judge":
+            sums = self.sums[-1]
+            has_ended = len({*sums, *(self.sums[-2] if self.wave > 1 else [None])}) == 1
+            text = f"{f'ended {self.wave - 1}' if has_ended else 'not'}\nsum {sums[0]}, {sums[1]}"
+            self.label(x, -0.55, text, color=self.colour, fontweight="bold")
+
+    def give(self, x, node):
+        self.visits.append((node, x))
+        self.sums[-1] = [self.sums[-1][0] + self.sent[node], self.sums[-1][1] + self.received[node]]
+        self.axis.plot([x], [node], "o", color=self.colour, markersize=7, zorder=4)
+        self.label(x, node + 0.25, f"{self.sent[node]}, {self.received[node]}", color=self.colour)
+        if len(self.visits) == self.nodes:
+            visits = sorted(self.visits)
+            self.axis.plot([x for _, x in visits], [node for node, _ in visits], color=self.colour, linewidth=5, alpha=0.22, zorder=1)
+
+    def draw(self):
+        end = len(self.steps)
+        for x, (name, *numbers) in enumerate(self.steps):
+            self.axis.axvline(x, color="#eeeeee", zorder=0)
+            self.take(x, name, [int(number) for number in numbers])
+        for node in range(self.nodes):
+            if self.pending[node] > 0:
+                self.thick(node, end)
+            self.axis.plot([-0.5, end], [node, node], color="#444444", linewidth=1, zorder=2)
+        self.axis.set_xticks(range(end), [" ".join(step) for step in self.steps], rotation=60, ha="right", rotation_mode="anchor")
+        self.axis.set_yticks(range(self.nodes), [f"node {node}" for node in range(self.nodes)])
+        self.axis.set(xlim=(-0.6, end), ylim=(self.nodes - 0.55, -0.8))
+        self.axis.tick_params(length=0)
+        for spine in self.axis.spines.values():
+            spine.set_visible(False)
+        return self.figure
+
+
+KINDS = {"lines": draw_lines, "bars": draw_bars, "threads": draw_threads, "waves": lambda plot: Waves(plot).draw()}
+
+
+def main():
+    plot = json.load(sys.stdin)
+    with matplotlib.rc_context(STYLE):
+        figure = KINDS[plot["kind"]](plot)
+        figure.savefig(sys.argv[1], metadata={"Date": None, "Creator": None} if sys.argv[1].endswith(".svg") else None, dpi=110)
+
+
+if __name__ == "__main__":
+    main()

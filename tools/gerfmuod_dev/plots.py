@@ -1,0 +1,117 @@
+"""Draws the plots of docs/figures with matplotlib, and the map of the crates with graphviz.
+
+Plots of measurements are drawn from the rows of docs/measurements, the run of Cholesky from cholesky-run.csv there, the waves from a
+stored script, and the map from crates.txt and the table of docs/ARCHITECTURE.md. A file ends with a digest of what it shows and of
+the code that draws it; `make test` compares these digests, without matplotlib and graphviz, and so does --check. `tools/bench-packages`
+prints the packages. The status is 1 if a plot could not be drawn: a package is missing, or a row of its measurement is impossible.
+"""
+import functools
+import hashlib
+import json
+import os
+import re
+import shutil
+import subprocess
+import sys
+from xml.dom import minidom
+
+from . import crate_map, repository, running, timeline
+from .bench import figures
+from .repository import text_of
+
+DRAWING = f"{os.path.dirname(os.path.abspath(__file__))}/drawing.py"
+SCRIPT = f"{repository.TOP}/crates/tp_examples/data/a-message-overtakes-the-wave"
+DIGEST = re.compile(r"<!-- digest of its inputs: (\w+) -->")
+PACKAGES = "apt-get install $(tools/bench-packages)"
+
+
+def waves():
+    """Returns the steps of the stored script of a message that overtakes a wave."""
+    head, *steps = [line.split() for line in text_of(SCRIPT).splitlines()]
+    return {"kind": "waves", "nodes": int(head[1]), "steps": steps}
+
+
+# each plot with a function that returns what it shows, or nothing; the map is text for `dot`
+PLOTS = {
+    **{name: functools.partial(figures.plot_of, name) for name in figures.PLOTS},
+    "cholesky": timeline.plot,
+    "message-overtakes-wave": waves,
+    "crates": crate_map.graph,
+}
+
+
+def digest_of(plot):
+    """Returns the digest of a plot and of the code that draws it."""
+    text = plot if isinstance(plot, str) else json.dumps(plot, sort_keys=True) + text_of(DRAWING)
+    return hashlib.sha256(text.encode()).hexdigest()[:32]
+
+
+@functools.lru_cache()
+def interpreter():
+    """Returns an interpreter of Python that has matplotlib."""
+    for path in (sys.executable, "/usr/bin/python3"):
+        if subprocess.run([path, "-c", "import matplotlib"], capture_output=True).returncode == 0:
+            return path
+    raise FileNotFoundError(f"no matplotlib: {PACKAGES}")
+
+
+def drawn(plot, path):
+    """Draws a plot into a file."""
+    if not isinstance(plot, str):
+        subprocess.run([interpreter(), DRAWING, path], input=json.dumps(plot), text=True, check=True)
+        return
+    if not shutil.which("dot"):
+        raise FileNotFoundError(f"no graphviz: {PACKAGES}")
+    # (tred removes the arrows that others imply)
+    graph = subprocess.run(["tred"], input=plot, stdout=subprocess.PIPE, text=True, check=True).stdout
+    subprocess.run(["dot", f"-T{path[-3:]}", "-o", path], input=graph, text=True, check=True)
+
+
+def write(names=PLOTS):
+    """Draws these plots; returns how many could not be drawn, and prints why."""
+    faults = 0
+    for name in names:
+        path = figures.path_of(name)
+        try:
+            plot = PLOTS[name]()
+            if plot:
+                drawn(plot, path)
+                with open(path, "a", encoding="utf-8") as file:
+                    file.write(f"<!-- digest of its inputs: {digest_of(plot)} -->\n")
+        except (figures.Impossible, FileNotFoundError, subprocess.CalledProcessError) as error:
+            faults += 1
+            print(f"{name} is not drawn: {error}", file=sys.stderr)
+    return faults
+
+
+def check(tally, names=PLOTS):
+    """Judges whether each plot is drawn from what is stored now. A plot of impossible rows must not be there."""
+    for name in names:
+        text, path = text_of(figures.path_of(name), ""), os.path.relpath(figures.path_of(name), repository.TOP)
+        try:
+            plot = PLOTS[name]()
+        except figures.Impossible as error:
+            print(f"warning: {path} is not drawn: {error}")
+            plot = None
+        if plot:
+            minidom.parseString(text or "<nothing/>")
+        is_well = DIGEST.findall(text) == ([digest_of(plot)] if plot else [])
+        tally.judge(is_well and bool(text) == bool(plot), f"{path} is not drawn from what is stored: tools/dev plot {name}")
+
+
+def arguments(parser):
+    parser.add_argument("names", nargs="*", metavar="NAME", help=f"all by default: {', '.join(PLOTS)}")
+    parser.add_argument("--check", action="store_true", help="draw nothing: compare the digests of the files with what is stored")
+
+
+def run(options):
+    unknown = [name for name in options.names if name not in PLOTS]
+    if unknown:
+        options.parser.error(f"no plot: {' '.join(unknown)}")
+    repository.go_to_top()
+    names = options.names or list(PLOTS)
+    if not options.check:
+        return 1 if write(names) else 0
+    tally = running.Tally()
+    check(tally, names)
+    return tally.end()
