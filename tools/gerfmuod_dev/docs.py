@@ -2,11 +2,11 @@
 
 - the list of docs/measurements/out-of-memory.md has each public call that can run out of memory, and no other
 - each block of code in docs/RUNNING-A-POOL.md and docs/PROVING-A-POOL.md is part of the file that the line above it names
-- each relative link of README.md, CONTRIBUTING.md, bench/README.md, docs/*.md, docs/guarantees and docs/measurements leads to
+- each relative link of README.md, CONTRIBUTING.md, bench/README.md, docs/*.md and docs/measurements/*.md leads to
   a file, and to a heading if it names one
 - README.md has at most 130 lines, and none of over 120 columns: only warnings, unless --strict is given
 - the table of docs/ARCHITECTURE.md has the groups of crates.txt, and the plots are drawn from what is stored (`tools/dev plot`)
-- docs/guarantees is what tools/dev proved writes from the contracts, and docs/PROVED.md names only calls and clauses that exist
+- docs/PROVED.md names only calls and clauses that exist
 
 Prints each difference, and a line for each kind of check. The last line is `N passed, M failed`; the status is 1 if one
 failed.
@@ -68,7 +68,7 @@ def exists(path, link):
 
 
 def check_links(tally):
-    pages = sorted(path for folder in ("docs", "docs/guarantees", "docs/measurements") for path in glob.glob(f"{folder}/*.md"))
+    pages = sorted(path for folder in ("docs", "docs/measurements") for path in glob.glob(f"{folder}/*.md"))
     documents = [path for path in ("README.md", "CONTRIBUTING.md", "bench/README.md", *pages) if os.path.exists(path)]
     links = [(path, link) for path in documents for link in links_of(path)]
     dead = [(path, link) for path, link in links if not exists(path, link)]

@@ -1,15 +1,15 @@
-"""Writes docs/guarantees: which contract each public call has, as the code of crates/ states it.
+"""Writes out/guarantees: which contract each public call has, as the code of crates/ states it.
 
 Each crate that has public calls gets a page: its types with what each of their values keeps, its calls with the names of their clauses
 and the first sentence of their docstring, and its laws (theorems as calls without arguments). README.md there lists the pages in the
-order of crates.txt. Prints how many pages it wrote.
+order of crates.txt. Prints how many pages it wrote. They are not part of the repository.
 
---check writes nothing. It prints each page that differs from what this command would write, each call, type or clause that docs/PROVED.md
-names and the code does not have, and each such call or type that another document names. The last line is `N passed, M failed`; the
-status is 1 if one failed. `tools/dev docs` checks the same.
+--check writes nothing. It prints each call, type or clause that docs/PROVED.md names and the code does not have, and each such call or
+type that another document names. The last line is `N passed, M failed`; the status is 1 if one failed. `tools/dev docs` checks the same.
 """
 import os
 import re
+import shutil
 import textwrap
 
 from . import citations, repository
@@ -17,9 +17,9 @@ from .contracts import contracts_of, sentence_of
 from .repository import text_of
 from .running import Tally
 
-FOLDER = "docs/guarantees"
+FOLDER = "out/guarantees"
 COLUMNS = 120
-NOTE = "<!-- Written by `tools/dev proved` from the code of crates/; `make test` compares it. -->"
+NOTE = "<!-- Written by `tools/dev proved` from the code of crates/. -->"
 # a definition that an invariant uses, and where a file of code takes definitions from
 DEFINITION = re.compile(r"\b(?:Is|Are|Has|Keeps|Shares)[A-Z]\w*")
 IMPORT = re.compile(r"ghost use Rattle\.(\w+)\.specs\.(\w+)\.\{([^}]*)\};")
@@ -30,8 +30,8 @@ INDEX = """\
 {note}
 
 Each public call of the libraries is on the page of its crate, with the names of its clauses. The claims in prose are in
-[PROVED](../PROVED.md), which cites the same clauses; the definitions that clauses use are in
-[DEFINITIONS](../DEFINITIONS.md).
+[PROVED](../../docs/PROVED.md), which cites the same clauses; the definitions that clauses use are in
+[DEFINITIONS](../../docs/DEFINITIONS.md).
 
 ## How to read a page
 
@@ -174,24 +174,18 @@ def pages():
 
 
 def check(tally):
-    """Compares docs/guarantees and the names in docs/PROVED.md with the code."""
-    expected = pages()
-    differing = [path for path, text in expected.items() if text_of(path, "") != text]
-    differing += [path for path in repository.files_in(FOLDER) if path not in expected]
-    tally.passes(len(expected) - len(differing))
-    for path in differing:
-        tally.fails(f"{path} is not what the code says: run tools/dev proved")
-    print(f"{FOLDER}: {counted(len(expected), 'page')}, {len(differing)} of them different from the code")
+    """Compares the names in docs/PROVED.md with the code, and judges whether the pages can be written and name files that exist."""
+    for path, text in pages().items():
+        missing = [link for link in re.findall(r"\]\(\.\./\.\./([^)#]+)", text) if not os.path.exists(link)]
+        tally.judge(not missing, f"{path} names what does not exist: {', '.join(missing)}")
     citations.check(tally)
 
 
 def write():
-    """Writes the pages, and removes those of crates that have no public call."""
+    """Writes the pages, and no others remain."""
     expected = pages()
-    os.makedirs(FOLDER, exist_ok=True)
-    for path in repository.files_in(FOLDER):
-        if path not in expected:
-            os.remove(path)
+    shutil.rmtree(FOLDER, ignore_errors=True)
+    os.makedirs(FOLDER)
     for path, text in expected.items():
         with open(path, "w", encoding="utf-8") as file:
             file.write(text)
@@ -199,7 +193,7 @@ def write():
 
 
 def arguments(parser):
-    parser.add_argument("--check", action="store_true", help="write nothing: compare the pages and docs/PROVED.md with the code")
+    parser.add_argument("--check", action="store_true", help="write nothing: compare docs/PROVED.md with the code")
 
 
 def run(options):
