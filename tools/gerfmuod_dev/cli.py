@@ -78,6 +78,7 @@ def parser_of_all():
 
 def main(arguments=None):
     options, unknown = parser_of_all().parse_known_args(arguments)
+    options.subcommands = [*COMMANDS, "limits"]
     if unknown:
         options.parser.error(f"unknown: {' '.join(unknown)}")
     return options.run(options)

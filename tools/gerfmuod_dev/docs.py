@@ -2,8 +2,10 @@
 
 - the list of docs/measurements/out-of-memory.md has each public call that can run out of memory, and no other
 - each block of code in docs/RUNNING-A-POOL.md and docs/PROVING-A-POOL.md is part of the file that the line above it names
-- each relative link of README.md, CONTRIBUTING.md, bench/README.md, docs/*.md and docs/measurements/*.md leads to
+- each relative link of README.md, CONTRIBUTING.md, CHANGELOG.md, bench/README.md and docs leads to
   a file, and to a heading if it names one
+- a count in a document, such as `23<!-- files crates/gerfmuod/proofs/**/Proof.antt -->`, is the number of these files
+- each subcommand of `tools/dev` and each target of `make` that a document names exists
 - README.md has at most 130 lines, and none of over 120 columns: only warnings, unless --strict is given
 - the table of docs/ARCHITECTURE.md has the groups of crates.txt, and the plots are drawn from what is stored (`tools/dev plot`)
 - docs/PROVED.md names only calls and clauses that exist
@@ -26,6 +28,7 @@ BLOCK = re.compile(r"(?:`(crates/[^`\n]+)`:\n\n)?```(\w+)\n(.*?\n)```\n", re.S)
 CODE = re.compile(r"^ *```.*?^ *```[^\n]*$|`[^`\n]*`", re.S | re.M)
 LINK = re.compile(r'\]\(<?([^()\s>]+)>?(?:\s+"[^"]*")?\)|^ *\[[^\]\n]+\]: *(\S+)|\b(?:src|srcset|href)="([^"]+)"', re.M)
 ELSEWHERE = re.compile(r"[a-z][a-z0-9+.-]*:|//", re.I)
+COUNT = re.compile(r"(\d+)<!-- files (\S+) -->")
 MOST_COLUMNS, MOST_LINES = 120, 130
 
 
@@ -68,14 +71,37 @@ def exists(path, link):
 
 
 def check_links(tally):
-    pages = sorted(path for folder in ("docs", "docs/measurements") for path in glob.glob(f"{folder}/*.md"))
-    documents = [path for path in ("README.md", "CONTRIBUTING.md", "bench/README.md", *pages) if os.path.exists(path)]
-    links = [(path, link) for path in documents for link in links_of(path)]
+    links = [(path, link) for path in documents() for link in links_of(path)]
     dead = [(path, link) for path, link in links if not exists(path, link)]
     tally.passes(len(links) - len(dead))
     for path, link in dead:
         tally.fails(f"{path}: there is no {link}")
-    print(f"{len(documents)} documents: {len(links)} links to places of the repository, {len(dead)} of them dead")
+    print(f"{len(documents())} documents: {len(links)} links to places of the repository, {len(dead)} of them dead")
+
+
+def documents():
+    """Returns the paths of the documents of the repository."""
+    paths = [path for folder in ("docs", "docs/measurements") for path in glob.glob(f"{folder}/*.md")]
+    return ["README.md", "CONTRIBUTING.md", "CHANGELOG.md", "bench/README.md", *sorted(paths)]
+
+
+def check_counts(tally):
+    """Compares each count of files with the repository."""
+    for page in documents():
+        for number, pattern in COUNT.findall(text_of(page)):
+            files = len(glob.glob(pattern, recursive=True))
+            tally.judge(files == int(number), f"{page}: {pattern} are {files} files, and not {number}")
+
+
+def check_commands(tally, subcommands):
+    """Judges whether each command that a document names exists; CHANGELOG.md also names those of its day."""
+    targets = set(re.findall(r"^([a-z]+):", text_of("Makefile"), re.M))
+    for page in documents():
+        if page != "CHANGELOG.md":
+            text = text_of(page)
+            unknown = set(re.findall(r"tools/dev ([a-z][a-z-]*)", text)) - subcommands
+            unknown |= set(re.findall(r"(?:`|^    )make ([a-z]+)", text, re.M)) - targets
+            tally.judge(not unknown, f"{page}: no such command: {', '.join(sorted(unknown))}")
 
 
 def check_readme(tally, is_strict):
@@ -107,6 +133,8 @@ def run(options):
     for page in GUIDE:
         check_page(page, tally)
     check_links(tally)
+    check_counts(tally)
+    check_commands(tally, set(options.subcommands))
     check_readme(tally, options.strict)
     crate_map.check(tally)
     plots.check(tally, [name for name in plots.PLOTS if name not in figures.PLOTS])
