@@ -67,13 +67,24 @@ def drawn(plot, path):
     subprocess.run(["dot", f"-T{path[-3:]}", "-o", path], input=graph, text=True, check=True)
 
 
+def plot_of(name, path):
+    """Returns what a plot shows; if that is nothing, removes the plot."""
+    plot = None
+    try:
+        plot = PLOTS[name]()
+    finally:
+        if not plot and os.path.exists(path):
+            os.remove(path)
+    return plot
+
+
 def write(names=PLOTS):
-    """Draws these plots; returns how many could not be drawn, and prints why."""
+    """Draws these plots; returns how many could not be drawn, and prints why. One of no rows, or of impossible ones, is removed."""
     faults = 0
     for name in names:
         path = figures.path_of(name)
         try:
-            plot = PLOTS[name]()
+            plot = plot_of(name, path)
             if plot:
                 drawn(plot, path)
                 with open(path, "a", encoding="utf-8") as file:
