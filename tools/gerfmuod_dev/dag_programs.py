@@ -218,7 +218,7 @@ def check_texts(tally, build, folder):
     # (what follows the summary is the time of the run as the program prints it)
     own = result.out.decode().partition("runtime\n")[2].splitlines()[: len(rows)]
     tally.judge(are_near(numbers_of(own), numbers_of(rows)), f"the summary of the library: {own}, of tools/dev summary: {rows}")
-    title = re.search(r"<text [^>]*bold[^>]*>([^<]*)", timeline.picture(text, 8))[1]
+    title = timeline.plot(timeline.rows_of(text, 8))["title"]
     critical = Profile(text).about["critical_path_us"] / 1000
     tally.judge(title.endswith(f"the critical path: {critical:.1f} ms"), f"the timeline: {title}; the file: {critical} ms")
     if browser.program():

@@ -54,9 +54,9 @@ def rows_of(events, tiles):
     return text.getvalue()
 
 
-def plot():
-    """Returns what the plot of the stored run shows, in milliseconds."""
-    _, first, *rows = csv.reader(text_of(PATH).splitlines())
+def plot(text=None):
+    """Returns what the plot of a run shows, in milliseconds: of the rows of a text, or of the stored ones."""
+    _, first, *rows = csv.reader((text or text_of(PATH)).splitlines())
     threads, count, elapsed = int(first[0]), int(first[1]), float(first[4]) / 1000
     # n tiles in a row have n (n + 1) (n + 2) / 6 tasks
     tiles = next(tiles for tiles in range(1, count + 1) if math.comb(tiles + 2, 3) == count)
