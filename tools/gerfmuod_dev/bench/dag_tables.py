@@ -24,11 +24,12 @@ def by_case(rows, text_of):
 
 
 def milliseconds(row):
-    return f"{row.milliseconds:.1f}"
+    return tables.with_quartiles(row) if row.nodes * row.workers > 1 else f"{row.milliseconds:.1f}"
 
 
 def nanoseconds(row):
-    return f"{row.milliseconds * 1e6 / row.units:,.0f}"
+    median, lower, upper = (time * 1e6 / row.units for time in (row.milliseconds, row.lower_quartile, row.upper_quartile))
+    return f"{median:,.0f} ({lower:,.0f}–{upper:,.0f})" if row.nodes * row.workers > 1 else f"{median:,.0f}"
 
 
 def instructions(row):
