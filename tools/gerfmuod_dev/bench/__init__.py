@@ -53,7 +53,6 @@ def arguments(parser):
     parser.add_argument("--load", type=int, metavar="N", help="N busy processes at the same time, instead of none")
     parser.add_argument("--instructions", action="store_true", help="count instructions in the quick form too")
     parser.add_argument("--only", default="", metavar="WORD", help="only cases whose name has the word in it")
-    parser.add_argument("--csv", metavar="FILE", help="write the rows to this file too, but those of processes")
     parser.add_argument("--anyway", action="store_true", help="store rows of a machine that was not at rest, marked")
     stored = parser.add_mutually_exclusive_group()
     stored.add_argument("--write", action="store_true", help="store the rows in docs, and do what --draw does")
@@ -64,7 +63,7 @@ def arguments(parser):
 def measures(options):
     """Whether the options ask to measure something."""
     has_numbers = options.rounds is not None or options.load is not None
-    return has_numbers or any([options.measurements, options.full, options.quick, options.instructions, options.only, options.csv])
+    return has_numbers or any([options.measurements, options.full, options.quick, options.instructions, options.only])
 
 
 def loads(options, name):
@@ -112,7 +111,7 @@ def wait_for_rest(names):
 
 def measure_all(options, names, folder):
     """Measures, prints, and stores; returns the exit status."""
-    all_rows, peers, load_average = [], Peers(folder), conditions.load_average()
+    peers, load_average = Peers(folder), conditions.load_average()
     if options.write and not options.anyway and (faults := conditions.faults(load_average)):
         sys.exit(f"nothing is measured: {faults}")
     form, stored = "full" if options.full else "quick", []
@@ -123,13 +122,10 @@ def measure_all(options, names, folder):
             print(f"{name}: no case has {options.only!r} in its name", file=sys.stderr)
             continue
         its_origin = origin.origin_of(name, form, found, time.monotonic() - from_time, load_average, watch.others())
-        parts = [f"## {name}", *tables.plain(name, found), tables.of(name, found), tables.of_origins([its_origin]), ""]
+        parts = [f"## {name}", rows.text_of(found, rows.kind_of(name)), tables.of(name, found), tables.of_origins([its_origin]), ""]
         print("\n\n".join(parts), flush=True)
-        all_rows += found if rows.kind_of(name) is rows.Row else []
         if options.write and store(name, found, its_origin, options.anyway):
             stored.append(name)
-    if options.csv:
-        rows.write(options.csv, all_rows)
     if stored:
         wait_for_rest(stored)
     return 1 if options.write and len(stored) < len(names) else 0

@@ -2,7 +2,7 @@
 import dataclasses
 
 from ..repository import TOP
-from . import inputs, patterns, processes
+from . import inputs, processes
 from .dag import dag
 from .measuring import Candidate, Case, by_workers, measure
 
@@ -28,13 +28,20 @@ LIBRARY_STEPS = 999_999
 GRID_WIDTH, GRID_STEPS = 16, 100
 GRID_TASKS = GRID_WIDTH * GRID_STEPS
 GRID_PLACES = [(1, 1), (1, 4), (2, 2), (4, 1)]
+PATTERNS_OF_TASKS = [
+    "trivial", "no_comm", "stencil", "stencil_periodic", "dom", "tree", "fft", "nearest", "spread", "random_nearest",
+    "all_to_all",
+]
+QUICK_PATTERNS = ["stencil", "spread"]
+# the options of those patterns that have some
+PATTERN_OPTIONS = {
+    "nearest": ["--radius", "2"], "spread": ["--seed", "0"], "random_nearest": ["--radius", "2", "--seed", "0"],
+}
 # iterations of the kernel in a task, and which of these sizes one worker has, and four workers
 ITERATIONS = [50 * 2**power for power in range(11)]
 ALONE, TOGETHER = ITERATIONS[:8], ITERATIONS[3:]
 # how many the one task has by which an iteration is timed
 KERNEL_ITERATIONS = 20_000_000
-# up to how many the output is computed in Python too
-FEW_ITERATIONS = 400
 
 
 def there(*candidates):
@@ -120,17 +127,15 @@ def kernel(bench):
 
 
 def grid(bench, pattern, iterations, places):
-    few = iterations <= FEW_ITERATIONS
-    output = patterns.output_of(pattern, GRID_WIDTH, GRID_STEPS, iterations) if few else None
-    case = Case("patterns", f"{pattern}, {iterations:,} iterations", "task", GRID_TASKS, output=output)
-    arguments = [pattern, str(GRID_WIDTH), str(GRID_STEPS), str(iterations), *patterns.OPTIONS.get(pattern, [])]
+    case = Case("patterns", f"{pattern}, {iterations:,} iterations", "task", GRID_TASKS)
+    arguments = [pattern, str(GRID_WIDTH), str(GRID_STEPS), str(iterations), *PATTERN_OPTIONS.get(pattern, [])]
     return measure(bench, case, grid_programs(bench, arguments, places))
 
 
 def grids(bench):
     """`patterns` on grids of Task Bench, with tasks of many sizes."""
     bench = dataclasses.replace(bench, counts=False)
-    names = [name for name in (patterns.QUICK if bench.is_quick else patterns.NAMES) if chosen(bench, name)]
+    names = [name for name in (QUICK_PATTERNS if bench.is_quick else PATTERNS_OF_TASKS) if chosen(bench, name)]
     if names:
         yield from kernel(bench)
     for name in names:

@@ -1,6 +1,5 @@
 """Measures programs that do the same work."""
 import contextlib
-import functools
 import os
 import re
 import shutil
@@ -20,17 +19,13 @@ TIMED = ["run", "patterns", "body", "rod"]
 
 @dataclass(frozen=True)
 class Case:
-    """What all programs of a comparison have to do: a number of units of work, on an input.
-
-    `output` is what they have to print, without their messages, if it was computed independently.
-    """
+    """What all programs of a comparison have to do: a number of units of work, on an input."""
 
     measurement: str
     name: str
     unit: str
     units: int
     stdin: str = os.devnull
-    output: list = None
 
 
 @dataclass(frozen=True)
@@ -104,11 +99,11 @@ def output_of(command, case):
 
 
 def compare(case, candidates):
-    """Exits with status 1 if the output of a program is not that of the case, or that of the first program.
+    """Exits with status 1 if the output of a program is not that of the first program.
 
     The first program at the same number of nodes that prints its messages says how many there are.
     """
-    expected, sent = case.output, {}
+    expected, sent = None, {}
     for candidate in candidates:
         for command in filter(None, [[*candidate.command, *timing(case, 2)], candidate.counted]):
             output, messages = output_of(command, case)
@@ -145,22 +140,18 @@ CACHEGRIND = (
     ["valgrind", "--tool=cachegrind", "--cache-sim=no", f"--cachegrind-out-file={os.devnull}"],
     rb"I +refs: +([\d,]+)",
 )
-PERF = ["perf", "stat", "-x", ";", "-e", "instructions:u"], rb"^(\d+);"
 
 
-@functools.lru_cache(maxsize=None)
 def counter():
     """Returns the name of the program that counts instructions here; an empty text if there is none."""
-    if shutil.which("valgrind"):
-        return "cachegrind"
-    return "perf stat" if re.search(PERF[1], running.run([*PERF[0], "true"]).err, re.M) else ""
+    return "cachegrind" if shutil.which("valgrind") else ""
 
 
 def instructions(candidate, case):
     """Returns the instructions of the whole process at one run, or None if they cannot be counted."""
     if not counter():
         return None
-    command, form = CACHEGRIND if counter() == "cachegrind" else PERF
+    command, form = CACHEGRIND
     found = re.search(form, running.run([*command, *(candidate.counted or candidate.command)], case.stdin).err, re.M)
     return int(found[1].replace(b",", b"")) if found else None
 

@@ -1,6 +1,6 @@
 """Finds rows that cannot be: no series that has one is stored, and `tools/dev bench --check` fails if a stored row is one."""
-from . import metg, patterns
-from .cases import ALONE, TOGETHER
+from . import metg
+from .cases import ALONE, PATTERNS_OF_TASKS, TOGETHER
 from .tables import bodies
 
 # the part of the machine's time that kernels take, at most: more than 1 by what a processor's speed varies
@@ -33,7 +33,7 @@ def of_bodies(rows):
 def missing(rows):
     """Yields the sizes of tasks that a full series of `patterns` has and these rows have not."""
     places = dict.fromkeys((row.program, row.nodes, row.workers) for row in rows if metg.pattern_of(row.case))
-    for pattern in patterns.NAMES:
+    for pattern in PATTERNS_OF_TASKS:
         for program, nodes, workers in places:
             due, has = len(ALONE if nodes * workers == 1 else TOGETHER), len(metg.curve(rows, pattern, program, nodes, workers))
             if has != due:

@@ -399,21 +399,6 @@ def of(measurement, rows):
     return TABLES[measurement](rows)
 
 
-def plain(measurement, rows):
-    """Returns all rows, for the screen; none of the detectors, whose tables have all."""
-    if measurement == "processes":
-        return []
-    lines = []
-    for row in rows:
-        numbers = [row.processor_milliseconds, row.context_switches, row.page_faults, row.MiB, each_unit(row)]
-        forms = ["{:.2f}", "{:.0f}", "{:.0f}", "{:.1f}", "{:,.0f}"]
-        quartiles = f"{row.lower_quartile:.2f} to {row.upper_quartile:.2f}"
-        first = [row.case, row.program, row.where, str(row.load), f"{row.milliseconds:.2f}", quartiles]
-        lines.append([*first, *(cell(number, form) for number, form in zip(numbers, forms))])
-    head = ["Case", "Program", "at", "load", "ms", "quartiles", "processor ms", "switches", "faults", "MiB"]
-    return [table([*head, f"instructions a {rows[0].unit}"], lines)]
-
-
 def of_origins(origins):
     """Returns the table of the day, the commit and the machine of each measurement."""
     shown = ["date", "commit", "form", "rounds", "seconds", "load_average", "others", "seconds_to_rest", "marked"]

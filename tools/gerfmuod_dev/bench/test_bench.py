@@ -37,7 +37,7 @@ def test_impossible_rows_have_names():
 
 
 def test_missing_sizes_have_names():
-    rows = [KERNEL, *(row(f"{name}, {count} iterations", 99, 4) for name in soundness.patterns.NAMES for count in soundness.TOGETHER)]
+    rows = [KERNEL, *(row(f"{name}, {count} iterations", 99, 4) for name in soundness.PATTERNS_OF_TASKS for count in soundness.TOGETHER)]
     assert list(soundness.missing(rows)) == []
     assert list(soundness.missing(rows[:-1])) == ["all_to_all, patterns, 1 by 4: 7 of 8 sizes of tasks"]
 
