@@ -34,7 +34,11 @@ from .peers import Peers
 # how often each program runs on each case; if it times its runs, in how many processes, and with how many runs in each
 ROUNDS = {"quick": 3, "full": 15}
 PROCESSES = {"quick": 2, "full": 5}
-RUNS = {"quick": 3, "full": 4}
+RUNS = {"quick": 3, "full": 5}
+
+
+class ImpossibleRow(Exception):
+    """A series has a row that cannot be: the series fails."""
 
 
 def measurement(name):
@@ -84,7 +88,7 @@ def measured(options, name, folder, peers):
         for row in MEASUREMENTS[name](bench):
             found.append(row)
             if reasons := soundness.impossible(name, found):
-                sys.exit(f"{name}: no series: {'; '.join(reasons)}")
+                raise ImpossibleRow("; ".join(reasons))
     path = f"{folder}/rows.csv"
     kind = rows.kind_of(name)
     rows.write(path, found, kind)
@@ -114,21 +118,26 @@ def measure_all(options, names, folder):
     peers, load_average = Peers(folder), conditions.load_average()
     if options.write and not options.anyway and (faults := conditions.faults(load_average)):
         sys.exit(f"nothing is measured: {faults}")
-    form, stored = "full" if options.full else "quick", []
+    form, stored, failed = "full" if options.full else "quick", [], []
     for name in names:
         from_time, watch = time.monotonic(), conditions.Watch()
-        found = measured(options, name, folder, peers)
+        try:
+            found = measured(options, name, folder, peers)
+        except ImpossibleRow as error:
+            print(f"{name} FAILED: {error}", file=sys.stderr, flush=True)
+            failed.append(name)
+            continue
         if not found:
             print(f"{name}: no case has {options.only!r} in its name", file=sys.stderr)
             continue
         its_origin = origin.origin_of(name, form, found, time.monotonic() - from_time, load_average, watch.others())
         parts = [f"## {name}", rows.text_of(found, rows.kind_of(name)), tables.of(name, found), tables.of_origins([its_origin]), ""]
         print("\n\n".join(parts), flush=True)
-        if options.write and store(name, found, its_origin, options.anyway):
-            stored.append(name)
+        if options.write:
+            (stored if store(name, found, its_origin, options.anyway) else failed).append(name)
     if stored:
         wait_for_rest(stored)
-    return 1 if options.write and len(stored) < len(names) else 0
+    return 1 if failed else 0
 
 
 def draw():
