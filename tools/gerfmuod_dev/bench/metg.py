@@ -39,6 +39,12 @@ class Metg:
         return f"{self.bound} {spelt(self.microseconds)}".strip()
 
 
+def spelt_by_quartiles(curve_of):
+    """Returns METG(50%) by the medians of the times, and by their lower and their upper quartiles."""
+    sizes = [metg(curve_of(time)) for time in ("milliseconds", "lower_quartile", "upper_quartile")]
+    return f"{sizes[0]} ({sizes[1]}–{sizes[2]})" if all(sizes) else ""
+
+
 def pattern_of(case):
     """Returns the pattern of a case; an empty text for the cases of one task."""
     name = case.split(", ")[0]

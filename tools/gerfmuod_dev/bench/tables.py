@@ -101,17 +101,20 @@ def ratio_of(median, lower, upper):
     """Returns the function that spells the ratio of two rows with its quartiles, or that their quartiles overlap."""
 
     def spelt_ratio(tp, other):
-        least, most = (ratio(getattr(tp, one), getattr(other, two)) for one, two in ((lower, upper), (upper, lower)))
-        if least is None or most is None:
-            return ""
-        if least <= 1 <= most:
-            return NO_DIFFERENCE
-        return f"{ratio(getattr(tp, median), getattr(other, median)):.2f} ({least:.2f}–{most:.2f})"
+        pairs = (median, median), (lower, upper), (upper, lower)
+        ratios = [ratio(getattr(tp, own), getattr(other, its)) for own, its in pairs]
+        return ratio_text(*ratios) if all(ratios) else ""
 
     return spelt_ratio
 
 
 NO_DIFFERENCE = "no difference seen"
+
+
+def ratio_text(middle, least, most):
+    return NO_DIFFERENCE if least <= 1 <= most else f"{middle:.2f} ({least:.2f}–{most:.2f})"
+
+
 TIME = ratio_of("milliseconds", "lower_quartile", "upper_quartile")
 PROCESSOR_TIME = ratio_of("processor_milliseconds", "processor_lower_quartile", "processor_upper_quartile")
 
@@ -157,8 +160,7 @@ def iterations(rows):
 
 def size_with_quartiles(rows, pattern, column):
     """Returns METG(50%) by the medians of the times, and by their lower and their upper quartiles."""
-    sizes = [metg.metg(metg.curve(rows, pattern, *column, time)) for time in ("milliseconds", "lower_quartile", "upper_quartile")]
-    return f"{sizes[0]} ({sizes[1]}–{sizes[2]})" if all(sizes) else ""
+    return metg.spelt_by_quartiles(lambda time: metg.curve(rows, pattern, *column, time))
 
 
 def smallest_tasks(rows, places):
@@ -226,8 +228,7 @@ class Body:
     def spelt(self, place):
         if place not in self.speed_ups:
             return ""
-        low, high = self.quartiles[place]
-        return f"{self.speed_ups[place]:.2f} ({low:.2f}–{high:.2f})"
+        return ratio_text(self.speed_ups[place], *self.quartiles[place])
 
 
 def body_of(block, rows):
