@@ -23,7 +23,6 @@ import argparse
 import os
 import sys
 import tempfile
-import time
 
 from .. import running
 from . import conditions, document, figures, origin, rows, soundness, tables, test_bench
@@ -120,7 +119,7 @@ def measure_all(options, names, folder):
         sys.exit(f"nothing is measured: {faults}")
     form, stored, failed = "full" if options.full else "quick", [], []
     for name in names:
-        from_time, watch = time.monotonic(), conditions.Watch()
+        start = conditions.now()
         try:
             found = measured(options, name, folder, peers)
         except ImpossibleRow as error:
@@ -130,7 +129,8 @@ def measure_all(options, names, folder):
         if not found:
             print(f"{name}: no case has {options.only!r} in its name", file=sys.stderr)
             continue
-        its_origin = origin.origin_of(name, form, found, time.monotonic() - from_time, load_average, watch.others())
+        end = conditions.now()
+        its_origin = origin.origin_of(name, form, found, end[0] - start[0], load_average, conditions.others(start, end))
         parts = [f"## {name}", rows.text_of(found, rows.kind_of(name)), tables.of(name, found), tables.of_origins([its_origin]), ""]
         print("\n\n".join(parts), flush=True)
         if options.write:

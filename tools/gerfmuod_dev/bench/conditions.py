@@ -16,27 +16,13 @@ def used(line):
     return (user + nice + system + interrupts + soft_interrupts + stolen) / os.sysconf("SC_CLK_TCK")
 
 
-def own():
-    """Returns the seconds of processor time of this process and of all programs that it ran to their end."""
-    return sum(os.times()[:4])
-
-
-class Watch:
-    """Measures what other programs use from now on."""
-
-    def __init__(self):
-        self.start = self.now()
-
-    @staticmethod
-    def now():
-        return time.monotonic(), used(text_of("/proc/stat")), own()
-
-    def others(self):
-        """Returns how many processors others used on average."""
-        return others(self.start, self.now())
+def now():
+    """Returns seconds: of a clock, of all processor time, and of that of this process and the programs that it ran to the end."""
+    return time.monotonic(), used(text_of("/proc/stat")), sum(os.times()[:4])
 
 
 def others(start, end):
+    """Returns how many processors other programs used on average."""
     seconds, all_used, own_used = (after - before for before, after in zip(start, end))
     return round(max(all_used - own_used, 0.0) / seconds, 2)
 

@@ -100,8 +100,9 @@ def by_places(rows, cell_of):
 def ratio_of(median, lower, upper):
     """Returns the function that spells the ratio of two rows with its quartiles, or that their quartiles overlap."""
 
+    pairs = (median, median), (lower, upper), (upper, lower)
+
     def spelt_ratio(tp, other):
-        pairs = (median, median), (lower, upper), (upper, lower)
         ratios = [ratio(getattr(tp, own), getattr(other, its)) for own, its in pairs]
         return ratio_text(*ratios) if all(ratios) else ""
 
@@ -152,12 +153,6 @@ def more_of_pools(rows):
 # ---- patterns
 
 
-def iterations(rows):
-    """Returns the time of an iteration of the kernel in each program."""
-    lines = [[program, cell(nanoseconds)] for program, nanoseconds in metg.kernels(rows).items()]
-    return table(["Program", "nanoseconds an iteration"], lines)
-
-
 def size_with_quartiles(rows, pattern, column):
     """Returns METG(50%) by the medians of the times, and by their lower and their upper quartiles."""
     return metg.spelt_by_quartiles(lambda time: metg.curve(rows, pattern, *column, time))
@@ -181,7 +176,9 @@ def grids(rows):
 
 
 def kernels(rows):
-    return f"One worker at one task of many iterations:\n\n{iterations(rows)}"
+    """Returns the time of an iteration of the kernel in each program."""
+    lines = [[program, cell(nanoseconds)] for program, nanoseconds in metg.kernels(rows).items()]
+    return "One worker at one task of many iterations:\n\n" + table(["Program", "nanoseconds an iteration"], lines)
 
 
 # ---- rods and products
