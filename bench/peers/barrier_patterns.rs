@@ -1,11 +1,13 @@
 //! A grid of Task Bench by threads that have a range of the columns each, and wait for each other after each row:
-//! `barrier_patterns PATTERN WIDTH STEPS ITERATIONS [--nodes N] [--workers W] [--radius K] [--seed S]`.
+//! `barrier_patterns PATTERN WIDTH STEPS ITERATIONS [--nodes N] [--workers W] [--radius K] [--seed S] [--timing RUNS]`.
 
 mod patterns;
+mod timing;
 
 use patterns::{Grid, checksum, made, option};
 use std::sync::atomic::{AtomicU64, AtomicUsize, Ordering};
 use std::{hint, thread};
+use timing::timed;
 
 /// How many turns a thread spins before it gives its processor away at each.
 const SPINS: u32 = 1000;
@@ -70,9 +72,11 @@ fn run(grid: &Grid, threads: u32) -> Vec<u64> {
 
 fn main() -> Result<(), String> {
     let words: Vec<String> = std::env::args().skip(1).collect();
-    let grid = Grid::of_words(&words)?;
     let threads = option(&words, "--nodes", 1)? * option(&words, "--workers", 1)?;
-    let sum = checksum(run(&grid, threads).into_iter());
-    println!("checksum {sum}\ntasks {}\nended", grid.width * grid.steps);
+    let ((row, tasks), times) = timed(&words, || {
+        let grid = Grid::of_words(&words)?;
+        Ok::<_, String>((run(&grid, threads), grid.width * grid.steps))
+    })?;
+    print!("checksum {}\ntasks {tasks}\nended\n{times}", checksum(row.into_iter()));
     Ok(())
 }

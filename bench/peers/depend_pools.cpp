@@ -1,6 +1,7 @@
-// A sample pool by OpenMP's tasks with `depend`, made by one thread: depend_pools POOL [--nodes N] [--workers W].
+// A sample pool by OpenMP's tasks with `depend`, made by one thread: depend_pools POOL [--nodes N] [--workers W]
+// [--timing RUNS].
 #include "sample_pools.hpp"
-#include "words.hpp"
+#include "timing.hpp"
 
 #include <omp.h>
 
@@ -32,10 +33,19 @@ static uint32_t task_at(const Pool &pool, uint32_t turn) {
 int main(int count, char **words) {
     if (count < 2) return 1;
     const Pool pool = pool_of(words[1]);
-    std::vector<int64_t> cells(pool.cells());
     omp_set_num_threads(threads_of(count, words));
+    // the threads exist before a time begins
+#pragma omp parallel
+    {
+    }
+    Times times(count, words);
+    while (times.again()) {
+        std::vector<int64_t> cells(pool.cells());
 #pragma omp parallel
 #pragma omp single
-    for (uint32_t turn = 0; turn < pool.tasks(); turn++) make(pool, cells.data(), task_at(pool, turn));
-    pool.print(cells);
+        for (uint32_t turn = 0; turn < pool.tasks(); turn++) make(pool, cells.data(), task_at(pool, turn));
+        times.end();
+        if (times.is_last()) pool.print(cells);
+    }
+    times.print();
 }

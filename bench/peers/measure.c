@@ -1,4 +1,5 @@
-/* Runs a program and tells what it took: `measure PROGRAM WORDS..`. Its output is dropped, its complaints go through.
+/* Runs a program and prints what it took: `measure [--output] PROGRAM ARGUMENTS..`. Its output is dropped, unless --output
+ * asks for it; its standard error goes through.
  *
  * Written are nanoseconds, KiB of memory at most, the status as wait tells it, nanoseconds of processor (user and system),
  * context switches and page faults, a line each. A small process does that, since what a child had as memory at most
@@ -6,6 +7,7 @@
 #define _GNU_SOURCE
 #include <fcntl.h>
 #include <stdio.h>
+#include <string.h>
 #include <sys/resource.h>
 #include <sys/wait.h>
 #include <time.h>
@@ -20,13 +22,14 @@ static long long now(void) {
 }
 
 int main(int count, char **words) {
-    if (count < 2) return 2;
+    int shows = count > 1 && strcmp(words[1], "--output") == 0;
+    if (count < 2 + shows) return 2;
     long long from = now();
     pid_t child = fork();
     if (child < 0) return 1;
     if (child == 0) {
-        dup2(open("/dev/null", O_WRONLY), 1);
-        execvp(words[1], words + 1);
+        if (!shows) dup2(open("/dev/null", O_WRONLY), 1);
+        execvp(words[1 + shows], words + 1 + shows);
         _exit(127);
     }
     int status = 0;

@@ -1,13 +1,16 @@
-//! A rod of cells, a number a line: `rod STEPS BLOCK [--nodes N] [--workers W] [--threads] < CELLS`.
+//! A rod of cells, a number a line: `rod STEPS BLOCK [--nodes N] [--workers W] [--threads] [--timing RUNS] < CELLS`.
 //!
 //! At each step a cell becomes the sum of a third of itself and of each neighbour, each cut towards 0; beyond the ends there
 //! is 0. Without `--threads` it is one plain loop, and BLOCK, N and W count for nothing. With it N times W threads have a
 //! part of the rod each, and wait for each other at a barrier after each step.
 
+mod timing;
+
 use std::io::{self, Read, Write};
 use std::sync::atomic::{AtomicI64, Ordering::Relaxed};
 use std::sync::Barrier;
 use std::thread;
+use timing::timed;
 
 fn mixed(left: i64, own: i64, right: i64) -> i64 {
     left / 3 + own / 3 + right / 3
@@ -71,15 +74,17 @@ fn main() -> Result<(), Box<dyn std::error::Error>> {
     let mut text = String::new();
     io::stdin().read_to_string(&mut text)?;
     let cells = text.lines().map(str::parse).collect::<Result<Vec<i64>, _>>()?;
-    let cells = if words.iter().any(|it| it == "--threads") {
-        by_threads(cells, steps, option(&words, "--nodes") * option(&words, "--workers"))
-    } else {
-        by_one(cells, steps)
-    };
+    let threads = option(&words, "--nodes") * option(&words, "--workers");
+    let has_threads = words.iter().any(|it| it == "--threads");
+    let (cells, times) = timed(&words, || {
+        let cells = cells.clone();
+        Ok::<_, io::Error>(if has_threads { by_threads(cells, steps, threads) } else { by_one(cells, steps) })
+    })?;
     let mut out = Vec::with_capacity(text.len());
     for cell in &cells {
         writeln!(out, "{cell}")?;
     }
+    out.extend_from_slice(times.as_bytes());
     io::stdout().write_all(&out)?;
     Ok(())
 }

@@ -1,6 +1,6 @@
 //! The command line: a subcommand for each sample.
 
-use crate::help::{HEAT_HELP, PATTERNS_HELP, PRODUCT_HELP, RELAX_HELP, SAMPLES_HELP};
+use crate::help::{HEAT_HELP, PATTERNS_HELP, POOL_HELP, PRODUCT_HELP, RELAX_HELP, SAMPLES_HELP};
 use clap::{Arg, ArgAction, Command, value_parser};
 use std::alloc::{AllocError, Global};
 use tp_shell::{VERSION, with_counts};
@@ -20,6 +20,7 @@ pub(crate) fn samples_command<'a>(alloc: Global) -> Result<Command<'a>, AllocErr
         .subcommand(product_command(alloc)?)?
         .subcommand(relax_command(alloc)?)?
         .subcommand(patterns_command(alloc)?)?
+        .subcommand(pool_command(alloc)?)?
         .subcommand(draw)
 }
 
@@ -81,13 +82,27 @@ pub(crate) fn patterns_command<'a>(alloc: Global) -> Result<Command<'a>, AllocEr
         .arg(list)?
         .arg(radius)?
         .arg(seed)?;
-    with_counts(alloc, command)?.arg(profile_option(alloc))
+    with_counts(alloc, command)?
+        .arg(timing_option(alloc).conflicts_with("profile")?)?
+        .arg(profile_option(alloc))
+}
+
+fn pool_command<'a>(alloc: Global) -> Result<Command<'a>, AllocError> {
+    let spec = Arg::new(alloc, "SPEC").required(true).help(
+        "The sample pool, as `tp run` takes it, for example product:64:4:0",
+    );
+    let command = Command::new(alloc, "pool")
+        .about("Runs a sample pool of `tp run`, several times if its time is to be printed")
+        .after_help(POOL_HELP)
+        .arg(spec)?;
+    with_counts(alloc, command)?.arg(timing_option(alloc))
 }
 
 /// Returns the command with the options of a run over what is read.
 fn with_shown<'a>(alloc: Global, command: Command<'a>) -> Result<Command<'a>, AllocError> {
     with_counts(alloc, command)?
         .arg(quiet_flag(alloc))?
+        .arg(timing_option(alloc).conflicts_with("profile")?)?
         .arg(profile_option(alloc))
 }
 
@@ -120,6 +135,14 @@ fn quiet_flag<'a>(alloc: Global) -> Arg<'a> {
         .long("quiet")
         .action(ArgAction::SetTrue)
         .help("Shows no prompt and no progress on a terminal")
+}
+
+fn timing_option<'a>(alloc: Global) -> Arg<'a> {
+    Arg::new(alloc, "timing")
+        .long("timing")
+        .value_name("RUNS")
+        .value_parser(value_parser!(u32).range(1..))
+        .help("Runs this number of times, and prints the nanoseconds of each run after the result")
 }
 
 fn profile_option<'a>(alloc: Global) -> Arg<'a> {

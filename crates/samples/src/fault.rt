@@ -19,6 +19,8 @@ pub(crate) enum Fault {
     NotUtf8,
     #[error("PATTERN is none of those that `samples patterns --list` names")]
     NoPattern,
+    #[error("SPEC is no sample pool; `tp run --help` describes them")]
+    NoPool,
     #[error("the input cannot be read as text")]
     Unreadable,
     #[error("the output cannot be written")]
@@ -85,7 +87,7 @@ impl Fault {
         ensures { (1 ≤ result) × (result ≤ 3) }
     {
         match self {
-            Fault::Arguments(_) | Fault::NotUtf8 | Fault::NoPattern => 1,
+            Fault::Arguments(_) | Fault::NotUtf8 | Fault::NoPattern | Fault::NoPool => 1,
             Fault::Unreadable | Fault::Unwritten | Fault::NoProfile => 1,
             Fault::Input(_) => 2,
             Fault::Overflow | Fault::LongRun | Fault::Refused(_) | Fault::Memory(_) => 3,

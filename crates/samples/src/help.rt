@@ -72,6 +72,18 @@ The exit status is
      2 more, or 3 before the first step, and each message to another node takes 3;
   3  if the run is refused or an allocation fails.";
 
+pub(crate) static POOL_HELP: &str =
+    "The table of the pool's result is printed, and then the number of tasks, the number of
+messages, and `ended`, as `tp run SPEC` prints them.
+
+An example:
+  samples pool wavefront:64:64:0 --workers 4 --timing 5
+
+The exit status is
+  0  if these lines were printed;
+  1  if the arguments are wrong, or the output cannot be written;
+  3  if the run is refused or an allocation fails.";
+
 pub(crate) static PATTERNS_HELP: &str =
     "The tasks are STEPS rows of WIDTH columns. The pattern says which columns of a
 row feed a column of the next row. A task adds its inputs, its column and 1, and

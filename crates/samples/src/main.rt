@@ -1,5 +1,5 @@
-//! The program `samples`: pools of threads over data that it reads, grids of tasks by pattern, and pictures of runs and
-//! graphs.
+//! The program `samples`: pools of threads over data that it reads, grids of tasks by pattern, sample pools, and
+//! pictures of runs and graphs.
 #![tactic(auto)]
 
 mod command;
@@ -8,10 +8,12 @@ mod help;
 mod lines;
 mod matrices;
 mod patterns;
+mod pools;
 mod request;
 mod runs;
 mod shell;
 mod tiles;
+mod times;
 mod watched;
 
 use crate::fault::{Fault, status_of};

@@ -4,6 +4,7 @@ ghost use Rattle.tp_work.specs.Outcomes.{IsWithinLimits};
 
 use crate::fault::Fault;
 use crate::request::PatternGrid;
+use crate::times::Times;
 use crate::watched::{Watch, run_pool_watched};
 use pool_kernels::{FeedTable, GridRun, KernelGrid, RunFault, last_row, run_grid};
 use pool_patterns::{Pattern, Stirring, checksum};
@@ -20,9 +21,11 @@ pub(crate) fn pattern_text<R: Threads + Wait + Sync + Clock>(
     asked: PatternGrid,
     config: Config,
     watch: Watch,
-) -> Result<String, Fault>
+    times: &mut Times,
+) -> Result<Vec<u8>, Fault>
     requires { IsWithinLimits config }
 {
+    times.begin(rt);
     let Some(pattern) = asked.pattern() else {
         return Err(Fault::NoPattern);
     };
@@ -33,9 +36,11 @@ pub(crate) fn pattern_text<R: Threads + Wait + Sync + Clock>(
         Some(_) => run_timed(rt, alloc, &grid, config, watch)?,
         None => run_grid(rt, alloc, &grid, config)?,
     };
+    times.end(rt)?;
     let sum = checksum(&run.row);
     let (tasks, messages) = (run.outcome.tasks, run.outcome.messages);
-    Ok(format!(in alloc; "checksum {sum}\ntasks {tasks}\nmessages {messages}\nended\n")?)
+    let text = format!(in alloc; "checksum {sum}\ntasks {tasks}\nmessages {messages}\nended\n")?;
+    Ok(text.into_bytes())
 }
 
 /// Runs a grid with its tasks timed.

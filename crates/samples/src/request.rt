@@ -21,6 +21,8 @@ pub(crate) struct Request<'a> {
     pub(crate) is_quiet: bool,
     /// The file for the profile.
     pub(crate) file: Option<&'a str>,
+    /// How often to run, if the times are to be printed.
+    pub(crate) runs: Option<u32>,
 }
 
 #[derive(Clone, Copy)]
@@ -31,6 +33,8 @@ pub(crate) enum Work<'a> {
     Pattern(PatternGrid<'a>),
     /// The names of the patterns.
     Names,
+    /// A run of the sample pool that is specified.
+    Pool(&'a str),
 }
 
 /// A run over what is read: `block` counts cells, `side` and `rows` count rows.
@@ -82,6 +86,7 @@ fn request_of<'a>(work: Work<'a>, matches: &ArgMatches<'a>) -> Request<'a>
         config: config_of(matches),
         is_quiet: matches.get_flag("quiet"),
         file: matches.get_str("profile"),
+        runs: matches.get_one("timing"),
     }
 }
 
@@ -98,6 +103,7 @@ fn work_of<'a>(name: &str, matches: &ArgMatches<'a>) -> Option<Work<'a>> {
             steps: matches.get_one("STEPS")?,
             rows: matches.get_one("ROWS_A_BLOCK")?,
         })),
+        "pool" => Some(Work::Pool(matches.get_str("SPEC")?)),
         _ if matches.get_flag("list") => Some(Work::Names),
         _ => Some(Work::Pattern(PatternGrid {
             name: matches.get_str("PATTERN")?,

@@ -7,9 +7,11 @@ use crate::fault::{Fault, InputFault};
 use crate::lines::{numbers_of, rows_of, text_of};
 use crate::matrices::matrices_of;
 use crate::patterns::{NAMES, pattern_text};
+use crate::pools::pool_text;
 use crate::request::{Request, Sample, Work, requested};
 use crate::runs;
 use crate::tiles::tiled_order;
+use crate::times::Times;
 use crate::watched::Watch;
 use std::alloc::Global;
 use std::io::Write;
@@ -45,24 +47,37 @@ pub(crate) fn answer<
         config,
         is_quiet,
         file,
+        runs,
     } = request;
     match work {
-        Work::Names => written(out, NAMES.as_bytes()),
-        Work::Pattern(grid) => {
+        Work::Names | Work::Pattern(_) | Work::Pool(_) => {
             let profile = Profile::new(alloc, rt, file, u64::MAX);
             let watch = Watch {
                 progress: None,
                 log: profile.log(),
             };
-            let text = pattern_text(rt, alloc, grid, config, watch)?;
-            written(out, text.as_bytes())?;
+            let text = text_of_runs(rt, alloc, work, config, "", watch, runs)?;
+            written(out, &text)?;
             profiled(rt, alloc, &profile, config, true)
         }
         Work::Sample(sample) => {
-            let mut screen = if is_quiet { None } else { screen };
+            let mut screen = if is_quiet || runs.is_some() {
+                None
+            } else {
+                screen
+            };
             let bytes = bytes_of(alloc, sample, input, &mut screen)?;
             let profile = Profile::new(alloc, rt, file, u64::MAX);
-            let text = text_of_input(rt, alloc, sample, config, &bytes, profile.log(), screen)?;
+            let text = text_of_input(
+                rt,
+                alloc,
+                sample,
+                config,
+                &bytes,
+                profile.log(),
+                screen,
+                runs,
+            )?;
             written(out, &text)?;
             profiled(rt, alloc, &profile, config, sample.has_tasks())
         }
@@ -111,9 +126,11 @@ fn text_of_input<R: Threads + Wait + Sync + Clock, W: Write + Send + Drop>(
     bytes: &[u8],
     log: Option<&Log>,
     screen: Option<Screen<W>>,
+    runs: Option<u32>,
 ) -> Result<Vec<u8>, Fault>
     requires { IsWithinLimits config }
 {
+    let work = Work::Sample(sample);
     let Ok(text) = str::from_utf8(bytes) else {
         return Err(Fault::Unreadable);
     };
@@ -122,7 +139,7 @@ fn text_of_input<R: Threads + Wait + Sync + Clock, W: Write + Send + Drop>(
             progress: None,
             log,
         };
-        return sample.run(rt, alloc, config, text, watch);
+        return text_of_runs(rt, alloc, work, config, text, watch, runs);
     };
     let progress = Progress::new();
     let counts = &progress;
@@ -138,9 +155,61 @@ fn text_of_input<R: Threads + Wait + Sync + Clock, W: Write + Send + Drop>(
                 progress: Some(counts),
                 log,
             };
-            sample.run(rt, alloc, config, text, watch)
+            text_of_runs(rt, alloc, work, config, text, watch, None)
         },
     )
+}
+
+/// Returns the text of a run. If `runs` is a number, there are that many runs, and the time of each is a line below the
+/// text of the last.
+fn text_of_runs<R: Threads + Wait + Sync + Clock>(
+    rt: &R,
+    alloc: Global,
+    work: Work,
+    config: Config,
+    input: &str,
+    watch: Watch,
+    runs: Option<u32>,
+) -> Result<Vec<u8>, Fault>
+    requires { IsWithinLimits config }
+{
+    let mut times = Times::new(alloc);
+    let mut text = work.run(rt, alloc, config, input, watch, &mut times)?;
+    let Some(runs) = runs else {
+        return Ok(text);
+    };
+    for _ in 1..runs {
+        text = work.run(rt, alloc, config, input, watch, &mut times)?;
+    }
+    text.extend_from_slice(times.lines())?;
+    Ok(text)
+}
+
+impl Work<'_> {
+    /// Runs once, and returns the result as text. The time is that of the run: neither of reading a text nor of writing
+    /// one.
+    fn run<R: Threads + Wait + Sync + Clock>(
+        self,
+        rt: &R,
+        alloc: Global,
+        config: Config,
+        input: &str,
+        watch: Watch,
+        times: &mut Times,
+    ) -> Result<Vec<u8>, Fault>
+        requires { IsWithinLimits config }
+    {
+        match self {
+            Work::Pattern(grid) => pattern_text(rt, alloc, grid, config, watch, times),
+            Work::Pool(spec) => pool_text(rt, alloc, spec, config, watch, times),
+            Work::Sample(sample) => sample.run(rt, alloc, config, input, watch, times),
+            Work::Names => {
+                let mut text = Vec::new(alloc);
+                text.extend_from_slice(NAMES.as_bytes())?;
+                Ok(text)
+            }
+        }
+    }
 }
 
 impl Sample {
@@ -172,20 +241,25 @@ impl Sample {
         config: Config,
         text: &str,
         watch: Watch,
+        times: &mut Times,
     ) -> Result<Vec<u8>, Fault>
         requires { IsWithinLimits config }
     {
         match self {
             Sample::Heat { steps, block } => {
                 let cells = numbers_of(alloc, text)?;
+                times.begin(rt);
                 let rod = runs::heat(rt, alloc, cells, block, steps, config, watch)?;
+                times.end(rt)?;
                 Ok(text_of(alloc, 1, &rod)?)
             }
             Sample::Product { side } => {
                 let matrices = matrices_of(alloc, text)?;
                 let order = tiled_order(matrices.order, side, config.nodes)?;
                 let (left, right) = (&matrices.left, &matrices.right);
+                times.begin(rt);
                 let product = runs::product(rt, alloc, left, right, order, side, config, watch)?;
+                times.end(rt)?;
                 Ok(text_of(alloc, matrices.order, &product)?)
             }
             Sample::Relax { steps, rows } => {
@@ -195,7 +269,9 @@ impl Sample {
                     return Err(Fault::Input(InputFault::LargeBlocks));
                 };
                 let cells = grid.numbers;
+                times.begin(rt);
                 let made = runs::relax(rt, alloc, cells, columns, rows, steps, config, watch)?;
+                times.end(rt)?;
                 Ok(text_of(alloc, width, &made)?)
             }
         }

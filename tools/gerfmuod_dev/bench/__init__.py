@@ -14,40 +14,49 @@
 
 Without a name all of them. Before anything is timed the outputs of all programs are compared; the status is 1 if one
 differs. Then all run once in each round, and it prints the medians of the rounds: all rows, and the tables of
-docs/PERFORMANCE.md; what begins is printed on standard error. `make` and `make lib` build what is measured;
-bench/README.md says what the others need and how to read the numbers.
+docs/PERFORMANCE.md; what begins is printed on standard error. `front` names the three measurements of README's table. A
+series that has an impossible row fails, and --write stores none that began on a machine with other work, or next to which
+others worked. `make` and `make lib` build what is measured; bench/README.md says what the others need and how to read the
+numbers.
 """
 import argparse
 import os
 import sys
 import tempfile
-import time
 
 from .. import plots, running
-from . import document, figures, origin, rows, tables
-from .cases import MEASUREMENTS, PROGRAMS
-from .measuring import Bench
+from . import conditions, document, figures, origin, rows, soundness, tables, test_bench
+from .cases import FRONT, MEASUREMENTS, PROGRAMS
+from .measuring import TIMED, Bench
 from .peers import Peers
 
+# how often each program runs on each case; if it times its runs, in how many processes, and with how many runs in each
 ROUNDS = {"quick": 3, "full": 15}
+PROCESSES = {"quick": 2, "full": 5}
+RUNS = {"quick": 3, "full": 5}
+
+
+class ImpossibleRow(Exception):
+    """A series has a row that cannot be: the series fails."""
 
 
 def measurement(name):
-    if name not in MEASUREMENTS:
-        raise argparse.ArgumentTypeError(f"there is no {name}; there are {', '.join(MEASUREMENTS)}")
+    if name not in ("front", *MEASUREMENTS):
+        raise argparse.ArgumentTypeError(f"there is no {name}; there are front, {', '.join(MEASUREMENTS)}")
     return name
 
 
 def arguments(parser):
-    parser.add_argument("measurements", nargs="*", metavar="NAME", type=measurement, help=", ".join(MEASUREMENTS))
+    parser.add_argument("measurements", nargs="*", metavar="NAME", type=measurement, help=", ".join(["front", *MEASUREMENTS]))
     form = parser.add_mutually_exclusive_group()
-    form.add_argument("--quick", action="store_true", help=f"few cases, {ROUNDS['quick']} rounds: the default")
-    form.add_argument("--full", action="store_true", help=f"all cases, {ROUNDS['full']} rounds, instructions, load")
+    for name, what in (("quick", ": the default"), ("full", ", instructions, load")):
+        rounds = f"{ROUNDS[name]} rounds, or {PROCESSES[name]} of {RUNS[name]} timed runs"
+        form.add_argument(f"--{name}", action="store_true", help=f"{'few' if name == 'quick' else 'all'} cases, {rounds}{what}")
     parser.add_argument("--rounds", type=int, metavar="N", help="how often each program runs on each case")
     parser.add_argument("--load", type=int, metavar="N", help="N busy processes at the same time, instead of none")
     parser.add_argument("--instructions", action="store_true", help="count instructions in the quick form too")
     parser.add_argument("--only", default="", metavar="WORD", help="only cases whose name has the word in it")
-    parser.add_argument("--csv", metavar="FILE", help="write the rows to this file too, but those of processes")
+    parser.add_argument("--anyway", action="store_true", help="store rows of a machine that was not at rest, marked")
     stored = parser.add_mutually_exclusive_group()
     stored.add_argument("--write", action="store_true", help="store the rows in docs, and do what --draw does")
     stored.add_argument("--draw", action="store_true", help="measure nothing: draw plots and tables from the stored rows")
@@ -57,7 +66,7 @@ def arguments(parser):
 def measures(options):
     """Whether the options ask to measure something."""
     has_numbers = options.rounds is not None or options.load is not None
-    return has_numbers or any([options.measurements, options.full, options.quick, options.instructions, options.only, options.csv])
+    return has_numbers or any([options.measurements, options.full, options.quick, options.instructions, options.only])
 
 
 def loads(options, name):
@@ -72,33 +81,63 @@ def measured(options, name, folder, peers):
     form = "full" if options.full else "quick"
     found = []
     for load in loads(options, name):
-        rounds = options.rounds or ROUNDS[form]
+        rounds = options.rounds or (PROCESSES if name in TIMED else ROUNDS)[form]
         counts = options.full or options.instructions
-        bench = Bench(peers, folder, rounds, load, counts, form == "quick", options.only)
-        found += MEASUREMENTS[name](bench)
+        bench = Bench(peers, folder, rounds, RUNS[form], load, counts, form == "quick", options.only)
+        for row in MEASUREMENTS[name](bench):
+            found.append(row)
+            if reasons := soundness.impossible(name, found):
+                raise ImpossibleRow("; ".join(reasons))
     path = f"{folder}/rows.csv"
     kind = rows.kind_of(name)
     rows.write(path, found, kind)
     return rows.read(path, kind)
 
 
+def store(name, found, its_origin, is_anyway):
+    """Stores the rows of a measurement, if the machine was at rest. Returns whether it did."""
+    faults = conditions.faults(its_origin.load_average, its_origin.others)
+    if faults:
+        print(f"{name}: {'marked' if is_anyway else 'not stored'}: {faults}", file=sys.stderr, flush=True)
+    if faults and not is_anyway:
+        return False
+    rows.keep(name, found, its_origin._replace(marked=faults))
+    return True
+
+
+def wait_for_rest(names):
+    """Waits until the machine is at rest after a series, and notes how long that took."""
+    print("waits until the load average has fallen", file=sys.stderr, flush=True)
+    seconds, known = conditions.seconds_to_rest(), rows.origins()
+    rows.keep_origins({name: known[name]._replace(seconds_to_rest=seconds) for name in names})
+
+
 def measure_all(options, names, folder):
-    all_rows, peers = [], Peers(folder)
-    form = "full" if options.full else "quick"
+    """Measures, prints, and stores; returns the exit status."""
+    peers, load_average = Peers(folder), conditions.load_average()
+    if options.write and not options.anyway and (faults := conditions.faults(load_average)):
+        sys.exit(f"nothing is measured: {faults}")
+    form, stored, failed = "full" if options.full else "quick", [], []
     for name in names:
-        from_time, load_average = time.monotonic(), origin.load_average()
-        found = measured(options, name, folder, peers)
+        start = conditions.now()
+        try:
+            found = measured(options, name, folder, peers)
+        except ImpossibleRow as error:
+            print(f"{name} FAILED: {error}", file=sys.stderr, flush=True)
+            failed.append(name)
+            continue
         if not found:
             print(f"{name}: no case has {options.only!r} in its name", file=sys.stderr)
             continue
-        its_origin = origin.origin_of(name, form, found, time.monotonic() - from_time, load_average)
-        parts = [f"## {name}", *tables.plain(name, found), tables.of(name, found), tables.of_origins([its_origin]), ""]
+        end = conditions.now()
+        its_origin = origin.origin_of(name, form, found, end[0] - start[0], load_average, conditions.others(start, end))
+        parts = [f"## {name}", rows.text_of(found, rows.kind_of(name)), tables.of(name, found), tables.of_origins([its_origin]), ""]
         print("\n\n".join(parts), flush=True)
-        all_rows += found if rows.kind_of(name) is rows.Row else []
         if options.write:
-            rows.keep(name, found, its_origin)
-    if options.csv:
-        rows.write(options.csv, all_rows)
+            (stored if store(name, found, its_origin, options.anyway) else failed).append(name)
+    if stored:
+        wait_for_rest(stored)
+    return 1 if failed else 0
 
 
 def draw():
@@ -110,6 +149,13 @@ def draw():
 
 def check():
     tally = running.Tally()
+    for name, test in vars(test_bench).items():
+        if name.startswith("test_"):
+            try:
+                test()
+                tally.passes()
+            except AssertionError as error:
+                tally.fails(f"{name}, line {error.__traceback__.tb_next.tb_lineno} of test_bench.py")
     plots.check(tally, figures.PLOTS)
     document.check(tally)
     return tally.end()
@@ -122,15 +168,19 @@ def run(options):
         options.parser.error("--write stores whole measurements: not with --only")
     if options.rounds is not None and options.rounds < 1 or options.load is not None and options.load < 0:
         options.parser.error("--rounds is 1 or more, --load 0 or more")
+    if options.anyway and not options.write:
+        options.parser.error("--anyway is for --write")
+    status = 0
     if options.check:
         return check()
     if not options.draw:
-        names = [name for name in MEASUREMENTS if name in (options.measurements or MEASUREMENTS)]
-        missing = [path for path in dict.fromkeys(PROGRAMS[name] for name in names) if not os.path.isfile(path)]
+        asked = {*(options.measurements or MEASUREMENTS), *(FRONT if "front" in options.measurements else [])}
+        names = [name for name in MEASUREMENTS if name in asked]
+        missing = [path for path in dict.fromkeys(path for name in names for path in PROGRAMS[name]) if not os.path.isfile(path)]
         if missing:
             sys.exit(f"missing: {' '.join(missing)}: `make` and `make lib` build them")
         with tempfile.TemporaryDirectory() as folder:
-            measure_all(options, names, folder)
+            status = measure_all(options, names, folder)
     if options.draw or options.write:
-        return draw()
-    return 0
+        status = draw() or status
+    return status

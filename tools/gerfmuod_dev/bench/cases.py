@@ -2,17 +2,19 @@
 import dataclasses
 
 from ..repository import TOP
-from . import inputs, patterns, processes
+from . import inputs, processes
 from .dag import dag
 from .measuring import Candidate, Case, by_workers, measure
 
 TP, SAMPLES = f"{TOP}/bin/tp", f"{TOP}/bin/samples"
-HEAT, PRODUCT, PATTERNS = ([SAMPLES, name] for name in ("heat", "product", "patterns"))
+HEAT, PRODUCT, PATTERNS, POOL = ([SAMPLES, name] for name in ("heat", "product", "patterns", "pool"))
 ARCHIVE = f"{TOP}/lib/libgerfmuod.a"
+# the measurements of the table of README, which are one series
+FRONT = ["run", "body", "rod"]
 # what each measurement measures
 PROGRAMS = {
-    "sim": TP, "audit": TP, "run": TP, "patterns": SAMPLES, "rod": SAMPLES, "body": SAMPLES, "product": SAMPLES,
-    "library": ARCHIVE, "dag": ARCHIVE, "processes": ARCHIVE,
+    "sim": [TP], "audit": [TP], "run": [TP, SAMPLES], "patterns": [SAMPLES], "rod": [SAMPLES], "body": [SAMPLES],
+    "product": [SAMPLES], "library": [ARCHIVE], "dag": [ARCHIVE], "processes": [ARCHIVE],
 }
 
 TASKS = {"product:64:4:0": 4_096, "wavefront:64:64:0": 4_096, "reduce:1024:0": 2_047, "product:64:1:0": 262_144}
@@ -26,13 +28,20 @@ LIBRARY_STEPS = 999_999
 GRID_WIDTH, GRID_STEPS = 16, 100
 GRID_TASKS = GRID_WIDTH * GRID_STEPS
 GRID_PLACES = [(1, 1), (1, 4), (2, 2), (4, 1)]
+PATTERNS_OF_TASKS = [
+    "trivial", "no_comm", "stencil", "stencil_periodic", "dom", "tree", "fft", "nearest", "spread", "random_nearest",
+    "all_to_all",
+]
+QUICK_PATTERNS = ["stencil", "spread"]
+# the options of those patterns that have some
+PATTERN_OPTIONS = {
+    "nearest": ["--radius", "2"], "spread": ["--seed", "0"], "random_nearest": ["--radius", "2", "--seed", "0"],
+}
 # iterations of the kernel in a task, and which of these sizes one worker has, and four workers
 ITERATIONS = [50 * 2**power for power in range(11)]
 ALONE, TOGETHER = ITERATIONS[:8], ITERATIONS[3:]
 # how many the one task has by which an iteration is timed
 KERNEL_ITERATIONS = 20_000_000
-# up to how many the output is computed in Python too
-FEW_ITERATIONS = 400
 
 
 def there(*candidates):
@@ -78,7 +87,10 @@ def audit(bench):
 
 
 def run(bench):
-    """`tp run`, at nodes by workers, compared with the other runtimes and with the tasks in sequence."""
+    """The pools of `tp run`, at nodes by workers, compared with the other runtimes and with the tasks in sequence.
+
+    The runs that are timed are those of `samples pool`, which calls the same function; instructions are those of `tp run`.
+    """
     peers = bench.peers
     for pool, tasks in TASKS.items():
         # the last pool has too many events at two nodes and more
@@ -86,7 +98,7 @@ def run(bench):
         places = [place for place in places if not bench.is_quick or place in [(1, 1), (2, 2), (8, 8)]]
         for place in places if chosen(bench, pool) else []:
             candidates = there(
-                *by_workers("tp", [TP, "run", pool], [place]),
+                *by_workers("tp", [*POOL, pool], [place], [TP, "run", pool]),
                 *by_workers("runtime by hand", [peers.rust("runtime", "runtime/main.rs"), pool], [place]),
                 *by_workers("oneTBB flow graph", [peers.flow_graph("flow_graph_pools"), pool], [place]),
                 *by_workers("OpenMP tasks", [peers.depend("depend_pools"), pool], [place]),
@@ -109,32 +121,27 @@ def grid_programs(bench, arguments, places):
 
 
 def kernel(bench):
-    """A task of no iterations and one of many: their difference is the time of the iterations."""
-    for iterations in (0, KERNEL_ITERATIONS):
-        candidates = grid_programs(bench, ["no_comm", "1", "1", str(iterations)], GRID_PLACES[:1])
-        yield from measure(bench, Case("patterns", f"one task, {iterations:,} iterations", "task", 1), candidates)
+    """One task of so many iterations that all else takes less than a hundredth of its time."""
+    candidates = grid_programs(bench, ["no_comm", "1", "1", str(KERNEL_ITERATIONS)], GRID_PLACES[:1])
+    return measure(bench, Case("patterns", f"one task, {KERNEL_ITERATIONS:,} iterations", "task", 1), candidates)
 
 
-def grid(bench, pattern, steps, iterations, places):
-    size = f"{iterations:,} iterations" if steps > 1 else "one step"
-    few = iterations <= FEW_ITERATIONS
-    output = patterns.output_of(pattern, GRID_WIDTH, steps, iterations) if few else None
-    case = Case("patterns", f"{pattern}, {size}", "task", GRID_WIDTH * steps, output=output)
-    arguments = [pattern, str(GRID_WIDTH), str(steps), str(iterations), *patterns.OPTIONS.get(pattern, [])]
+def grid(bench, pattern, iterations, places):
+    case = Case("patterns", f"{pattern}, {iterations:,} iterations", "task", GRID_TASKS)
+    arguments = [pattern, str(GRID_WIDTH), str(GRID_STEPS), str(iterations), *PATTERN_OPTIONS.get(pattern, [])]
     return measure(bench, case, grid_programs(bench, arguments, places))
 
 
 def grids(bench):
-    """`patterns` on grids of Task Bench, with tasks of many sizes, and with one step for the start and the end alone."""
+    """`patterns` on grids of Task Bench, with tasks of many sizes."""
     bench = dataclasses.replace(bench, counts=False)
-    names = [name for name in (patterns.QUICK if bench.is_quick else patterns.NAMES) if chosen(bench, name)]
+    names = [name for name in (QUICK_PATTERNS if bench.is_quick else PATTERNS_OF_TASKS) if chosen(bench, name)]
     if names:
         yield from kernel(bench)
     for name in names:
-        yield from grid(bench, name, 1, 0, GRID_PLACES)
         for iterations in ITERATIONS[::2] if bench.is_quick else ITERATIONS:
             places = [place for place in GRID_PLACES if iterations in (ALONE if place == (1, 1) else TOGETHER)]
-            yield from grid(bench, name, GRID_STEPS, iterations, places)
+            yield from grid(bench, name, iterations, places)
 
 
 def rod_peers(bench, arguments, places):
@@ -145,34 +152,30 @@ def rod_peers(bench, arguments, places):
 
 
 def rod(bench):
-    """`heat` on a rod of cells, including reading and printing, which a run of no steps measures alone."""
+    """`heat` on a rod of cells."""
     loop = bench.peers.rust("rod", "rod.rs")
-    for cells, block, steps in [RODS[0][:2] + (0,), *(RODS[-1:] if bench.is_quick else RODS)]:
+    for cells, block, steps in RODS[-1:] if bench.is_quick else RODS:
         name = f"{cells:,} cells in blocks of {block:,}, {steps} steps"
         if not chosen(bench, name):
             continue
         path = bench.file(f"cells-{cells}", lambda out, cells=cells: inputs.write_cells(out, cells))
         arguments = [str(steps), str(block)]
-        places = ROD_PLACES if steps else ROD_PLACES[:1]
-        candidates = [*by_workers("heat", [*HEAT, *arguments], places), Candidate("plain loop", [loop, *arguments])]
-        if steps:
-            candidates += by_workers("threads and a barrier", [loop, *arguments, "--threads"], places)
-        candidates += rod_peers(bench, arguments, places)
+        candidates = [*by_workers("heat", [*HEAT, *arguments], ROD_PLACES), Candidate("plain loop", [loop, *arguments])]
+        candidates += by_workers("threads and a barrier", [loop, *arguments, "--threads"], ROD_PLACES)
+        candidates += rod_peers(bench, arguments, ROD_PLACES)
         yield from measure(bench, Case("rod", name, "cell", cells, path), there(*candidates))
 
 
 def body(bench):
-    """`heat` in blocks of many sizes, after one step and after many: the difference is the bodies and their scheduling."""
+    """`heat` in blocks of many sizes."""
     path = bench.file(f"cells-{BODY_CELLS}", lambda out: inputs.write_cells(out, BODY_CELLS))
     for block in BODIES[::2] if bench.is_quick else BODIES:
-        for count in (1, BODY_STEPS + 1):
-            arguments = [str(count), str(block)]
-            name = f"blocks of {block:,}, {count} steps"
-            if chosen(bench, name):
-                candidates = by_workers("heat", [*HEAT, *arguments], [(1, 1), (1, 4), (2, 2), (4, 1)])
-                candidates += rod_peers(bench, arguments, [(1, 1), (1, 4)])
-                case = Case("body", name, "body", -(-BODY_CELLS // block) * count, path)
-                yield from measure(dataclasses.replace(bench, counts=False), case, there(*candidates))
+        arguments = [str(BODY_STEPS), str(block)]
+        name = f"blocks of {block:,}, {BODY_STEPS} steps"
+        if chosen(bench, name):
+            candidates = by_workers("heat", [*HEAT, *arguments], GRID_PLACES) + rod_peers(bench, arguments, GRID_PLACES[:2])
+            case = Case("body", name, "body", -(-BODY_CELLS // block) * BODY_STEPS, path)
+            yield from measure(dataclasses.replace(bench, counts=False), case, there(*candidates))
 
 
 def product(bench):

@@ -4,29 +4,22 @@ Each program measures all configurations of one process in turn, in each round, 
 method; a first round is not counted. Peers that need a process of their own run between. A program that cannot be
 compiled is named and left out.
 """
-import functools
 import os
 import re
 import shutil
-import statistics
 import subprocess
 import sys
 from dataclasses import dataclass, field, replace
 
 from .. import running, shared_object
 from ..repository import TOP
-from .measuring import CACHEGRIND, busy_processes
+from .measuring import CACHEGRIND, busy_processes, quartiles
+from .peers import Peers
 from .rows import Row
 
 SOURCES = f"{TOP}/capi/dag"
 C = ("gcc", "-std=gnu11", "-O2", "-fopenmp", f"-I{TOP}/capi")
 CPP = ("g++", "-std=c++17", "-O2")
-# what a program needs besides its compiler
-NEEDED = {
-    "cholesky": "OpenBLAS (Debian's libopenblas-dev)",
-    "cholesky_starpu": "StarPU (libstarpu-dev) and OpenBLAS",
-    "grain_tbb": "oneTBB (libtbb-dev)",
-}
 WORKERS = 4
 # how many rounds a process does before the next process runs
 ROUNDS_IN_TURN = 5
@@ -84,43 +77,28 @@ class Times:
     milliseconds: list
 
 
-class Programs:
-    """The compiled programs. Each is compiled at its first use, and is None if that fails, which is printed once."""
+class Programs(Peers):
+    """The compiled programs of capi/dag."""
 
     def __init__(self, folder):
-        self.folder = folder
-        self.team = shared_object.compile_team(folder)
-
-    @functools.lru_cache(maxsize=None)
-    def program(self, name, compiler, source, libraries):
-        path = f"{self.folder}/dag_{name}"
-        reason = f"{compiler[0]} is not installed"
-        if shutil.which(compiler[0]):
-            own = [self.team, f"-L{TOP}/lib", "-lgerfmuod"] if compiler[0] == "gcc" else []
-            command = [*compiler, f"{SOURCES}/{source}", "-o", path, *own, "-pthread", *libraries]
-            result = subprocess.run(command, capture_output=True, text=True)
-            if result.returncode == 0:
-                return path
-            needs = f", and needs {NEEDED[name]}" if name in NEEDED else ""
-            reason = f"it does not compile{needs}: {(result.stderr.splitlines() or ['?'])[0]}"
-        print(f"{source} is left out: {reason}", file=sys.stderr)
-        return None
+        super().__init__(folder, SOURCES)
+        self.over = shared_object.compile_team(folder), f"-L{TOP}/lib", "-lgerfmuod", "-pthread"
 
     def own(self, name):
-        return self.program(name, C, f"{name}.c", ("-lm",))
+        return self.program(name, C, f"{name}.c", (*self.over, "-lm"))
 
     def cholesky(self):
-        return self.program("cholesky", (*C, "-DHAVE_BLAS"), "cholesky.c", ("-lopenblas", "-lm"))
+        return self.program("cholesky", (*C, "-DHAVE_BLAS"), "cholesky.c", (*self.over, "-lopenblas", "-lm"))
 
     def starpu(self):
         output = running.run(["pkg-config", "--cflags", "--libs", "starpu-1.3"]).out
         options = output.decode().split()
         libraries = [option for option in options if option.startswith("-l")]
         compiler = (*C, "-DHAVE_BLAS", "-DHAVE_STARPU", *(option for option in options if option not in libraries))
-        return self.program("cholesky_starpu", compiler, "cholesky.c", ("-lopenblas", "-lm", *libraries))
+        return self.program("cholesky_starpu", compiler, "cholesky.c", (*self.over, "-lopenblas", "-lm", *libraries))
 
     def tbb(self):
-        return self.program("grain_tbb", CPP, "peers/grain_tbb.cpp", ("-ltbb",))
+        return self.program("grain_tbb", CPP, "peers/grain_tbb.cpp", ("-pthread", "-ltbb"))
 
 
 def times_of(process, rounds):
@@ -138,9 +116,9 @@ def times_of(process, rounds):
 def row_of(bench, case, way, times, counted):
     """Returns the row of a way, with its instructions if they were counted."""
     numbers = sorted(times.milliseconds)
-    lower, _, upper = statistics.quantiles(numbers, n=4, method="inclusive") if len(numbers) > 1 else numbers * 3
+    lower, median, upper = quartiles(numbers)
     return Row(
-        "dag", case, "task", times.tasks, way.program, way.nodes, way.workers, bench.load, len(numbers), statistics.median(numbers),
+        "dag", case, "task", times.tasks, way.program, way.nodes, way.workers, bench.load, len(numbers), median,
         lower, upper, numbers[int(0.9 * (len(numbers) - 1))], None, None, None, None, counted,
     )
 

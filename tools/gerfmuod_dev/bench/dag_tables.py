@@ -2,7 +2,7 @@
 import re
 
 from . import tables
-from .metg import Point, metg
+from .metg import Point, spelt_by_quartiles
 
 BODY = re.compile(r"(\w+), bodies of ([\d.]+) us$")
 WORKERS = 4
@@ -24,38 +24,41 @@ def by_case(rows, text_of):
 
 
 def milliseconds(row):
-    return f"{row.milliseconds:.1f}"
+    return tables.with_quartiles(row) if row.nodes * row.workers > 1 else f"{row.milliseconds:.1f}"
 
 
 def nanoseconds(row):
-    return f"{row.milliseconds * 1e6 / row.units:,.0f}"
+    median, lower, upper = (time * 1e6 / row.units for time in (row.milliseconds, row.lower_quartile, row.upper_quartile))
+    return f"{median:,.0f} ({lower:,.0f}–{upper:,.0f})" if row.nodes * row.workers > 1 else f"{median:,.0f}"
 
 
 def instructions(row):
     return f"{row.instructions / row.units:,.0f}"
 
 
-def points_by_shape(rows):
-    """Returns the points of each program with four workers, by shape and by column."""
+def points_by_shape(rows, time):
+    """Returns the points of each program with four workers, by shape and by column; a quartile can stand for the time."""
     found = {}
     for row in rows:
         shape = BODY.match(row.case)[1]
         kernel = next(other.milliseconds for other in rows if other.case == row.case and other.program == "one after the other")
         if row.nodes * row.workers == WORKERS:
-            point = Point(row.milliseconds * 1000 * WORKERS / row.units, kernel * 1000 / row.units)
+            point = Point(getattr(row, time) * 1000 * WORKERS / row.units, kernel * 1000 / row.units)
             found.setdefault(shape, {}).setdefault(column_of(row), []).append(point)
     return found
 
 
 def efficiencies(rows):
     """Returns a table of METG(50%) of each program with four workers, in microseconds, with a line for each shape."""
-    found = points_by_shape(rows)
+    found = points_by_shape(rows, "milliseconds")
     columns = list(dict.fromkeys(column for points in found.values() for column in points))
-    lines = []
-    for shape, points in found.items():
-        ordered = (sorted(points.get(column, []), key=lambda point: point.kernel) for column in columns)
-        lines.append([shape, *(str(metg(own)) for own in ordered)])
-    return tables.table(["", *columns], lines)
+
+    def size(shape, column):
+        return spelt_by_quartiles(
+            lambda time: sorted(points_by_shape(rows, time)[shape].get(column, []), key=lambda point: point.kernel)
+        )
+
+    return tables.table(["", *columns], [[shape, *(size(shape, column) for column in columns)] for shape in found])
 
 
 def table(rows):

@@ -3,8 +3,10 @@ import re
 
 from ..repository import TOP, text_of
 from . import figures, tables
-from .cases import MEASUREMENTS
+from .cases import FRONT, MEASUREMENTS
+from .measuring import TIMED
 from .rows import kept, origins
+from .soundness import impossible, missing
 
 DETAILS = "docs/measurements/details.md"
 PAGES = "docs/PERFORMANCE.md", DETAILS, "README.md"
@@ -20,19 +22,35 @@ PLOT_TITLES = {
 }
 
 
+def refusal_of(measurements, folder):
+    """Returns what a page says in place of a table of these measurements; an empty text if they have one.
+
+    No table outside of docs/measurements is drawn from rows that are marked, and none from rows of several series.
+    """
+    command, known = f"tools/dev bench {' '.join(measurements)} --full --write", origins()
+    if not all(map(kept, measurements)):
+        return f"Not measured: `{command}` does it."
+    found = [known[name] for name in measurements if name in known]
+    if folder and any(origin.marked for origin in found):
+        return f"Measured next to other programs, so there is no table: `{command}` at rest."
+    if len({(origin.date, origin.commit) for origin in found}) > 1:
+        return f"Not measured in one series: `{command}` does it."
+    return ""
+
+
 def block(name, folder="measurements/"):
     """Returns what is between the marks of a measurement, or of the table of all of them; its rows are in a folder next to the page."""
     if name == "origins":
         known = origins()
         return tables.of_origins([known[name] for name in MEASUREMENTS if name in known]) if known else "Nothing is stored yet."
+    measurement, more = MORE.get(name, (name, None))
+    if refusal := refusal_of(FRONT if name == "front" else [measurement], folder):
+        return refusal
     if name == "front":
-        return tables.front(kept("run"), kept("body"), kept("rod"))
-    if name in MORE:
-        measurement, more = MORE[name]
-        return f"{more(kept(measurement))}\n\nAll rows: [{measurement}.csv]({folder}{measurement}.csv)."
-    rows = kept(name)
-    if not rows:
-        return f"Not kept yet: `tools/dev bench {name} --full --write` does it."
+        return tables.front(*map(kept, FRONT))
+    rows = kept(measurement)
+    if more:
+        return f"{more(rows)}\n\nAll rows: [{measurement}.csv]({folder}{measurement}.csv)."
     pictures = "figures/" if folder else "../figures/"
     plots = [f"![{PLOT_TITLES[plot]}]({pictures}{plot}.svg)" for plot in figures.of(name)]
     return "\n\n".join([tables.of(name, rows), *plots, f"All rows: [{name}.csv]({folder}{name}.csv)."])
@@ -56,6 +74,13 @@ def write():
 
 
 def check(tally):
+    known = origins()
+    for name in TIMED:
+        reasons = impossible(name, kept(name))
+        reasons += list(missing(kept(name))) if name == "patterns" and name in known and known[name].form == "full" else []
+        tally.judge(not reasons, f"{name}.csv: {'; '.join(reasons)}")
+    for name, origin in known.items():
+        tally.judge(not origin.marked, f"{name}.csv: its rows are marked, so pages have no table of them: {origin.marked}")
     names = [found[2] for page in PAGES for found in BLOCK.finditer(text_of(f"{TOP}/{page}"))]
     for name in ["origins", "front", *MORE, *MEASUREMENTS]:
         tally.judge(names.count(name) == 1, f"{' and '.join(PAGES)} have {names.count(name)} blocks for {name}")

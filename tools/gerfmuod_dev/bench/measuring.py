@@ -1,6 +1,5 @@
 """Measures programs that do the same work."""
 import contextlib
-import functools
 import os
 import re
 import shutil
@@ -14,51 +13,58 @@ from .rows import Row
 
 # the measurements whose programs may print how many messages they sent
 WITH_MESSAGES = ["run", "patterns"]
+# the measurements whose programs run several times in a process, and time each run themselves: the option `--timing RUNS`
+TIMED = ["run", "patterns", "body", "rod"]
 
 
 @dataclass(frozen=True)
 class Case:
-    """What all programs of a comparison have to do: a number of units of work, on an input.
-
-    `output` is what they have to print, without their messages, if it was computed independently.
-    """
+    """What all programs of a comparison have to do: a number of units of work, on an input."""
 
     measurement: str
     name: str
     unit: str
     units: int
     stdin: str = os.devnull
-    output: list = None
 
 
 @dataclass(frozen=True)
 class Candidate:
-    """A program of a comparison with its command, and the nodes and workers that it uses."""
+    """A program of a comparison with its command, and the nodes and workers that it uses.
+
+    `counted` is the command whose instructions are counted, if it is another one: its output has to be the same.
+    """
 
     program: str
     command: list
     nodes: int = 1
     workers: int = 1
+    counted: list = None
 
 
 @dataclass(frozen=True)
 class Cost:
-    """The cost of a run: nanoseconds, nanoseconds of processor, context switches, page faults, KiB."""
+    """The cost of a process: nanoseconds, nanoseconds of processor, context switches, page faults, KiB.
 
-    time: int
-    processor: int
-    switches: int
-    faults: int
-    memory: int
+    If the process timed its runs, these are the numbers of one run, and `time` is that of the first.
+    """
+
+    time: float
+    processor: float
+    switches: float
+    faults: float
+    memory: float
 
 
 @dataclass(frozen=True)
 class Bench:
-    """How programs are measured: the peers, a folder for files, the rounds, the busy processes that run too, which cases."""
+    """How programs are measured: the peers, a folder for files, the rounds, how many runs a process makes in a round if it
+    times them, the busy processes that run too, which cases."""
 
     peers: object
     folder: str
     rounds: int
+    runs: int
     load: int
     counts: bool
     is_quick: bool
@@ -73,81 +79,100 @@ class Bench:
         return path
 
 
-def by_workers(program, command, configurations):
+def by_workers(program, command, configurations, counted=None):
     """Returns a candidate for each number of nodes and workers."""
-    return [
-        Candidate(program, [*command, "--nodes", str(nodes), "--workers", str(workers)], nodes, workers)
-        for nodes, workers in configurations
-    ]
+    candidates = []
+    for nodes, workers in configurations:
+        options = ["--nodes", str(nodes), "--workers", str(workers)]
+        candidates.append(Candidate(program, [*command, *options], nodes, workers, counted and [*counted, *options]))
+    return candidates
 
 
-def output_of(candidate, case):
-    """Returns the lines that the program prints, and its messages apart, because some programs send none."""
-    result = running.run(candidate.command, case.stdin)
+def output_of(command, case):
+    """Returns the lines that a program prints, and its messages apart, because some programs send none."""
+    result = running.run(command, case.stdin)
     if result.status:
-        raise SystemExit(f"{' '.join(candidate.command)}: {result.description()}")
-    lines = result.out.splitlines(keepends=True)
+        raise SystemExit(f"{' '.join(command)}: {result.description()}")
+    lines = [line for line in result.out.splitlines(keepends=True) if not line.startswith(b"nanoseconds ")]
     messages = [line for line in lines if line.startswith(b"messages ")] if case.measurement in WITH_MESSAGES else []
     return [line for line in lines if line not in messages], messages
 
 
 def compare(case, candidates):
-    """Exits with status 1 if the output of a program is not that of the case, or that of the first program.
+    """Exits with status 1 if the output of a program is not that of the first program.
 
     The first program at the same number of nodes that prints its messages says how many there are.
     """
-    expected, sent = case.output, {}
+    expected, sent = None, {}
     for candidate in candidates:
-        output, messages = output_of(candidate, case)
-        expected = expected or output
-        if output != expected or messages and messages != sent.setdefault(candidate.nodes, messages):
-            raise SystemExit(f"{case.measurement}, {case.name}: another output: {' '.join(candidate.command)}")
+        for command in filter(None, [[*candidate.command, *timing(case, 2)], candidate.counted]):
+            output, messages = output_of(command, case)
+            expected = expected or output
+            if output != expected or messages and messages != sent.setdefault(candidate.nodes, messages):
+                raise SystemExit(f"{case.measurement}, {case.name}: another output: {' '.join(command)}")
+
+
+def timing(case, runs):
+    """Returns the option with which the programs of a case make this number of runs and time them, if they can."""
+    return ["--timing", str(runs)] if case.measurement in TIMED else []
 
 
 def cost_of(bench, candidate, case):
-    """Runs a program once, and returns what it cost."""
+    """Runs a program in a process. Returns what that cost, and the nanoseconds of those runs whose time counts."""
+    is_timed = case.measurement in TIMED
+    command = [bench.peers.measure, *["--output"] * is_timed, *candidate.command, *timing(case, bench.runs)]
     with open(case.stdin, "rb") as stdin:
-        command = [bench.peers.measure, *candidate.command]
         output = subprocess.run(command, stdin=stdin, stdout=subprocess.PIPE, stderr=subprocess.DEVNULL, text=True).stdout
-    numbers = dict(re.findall(r"^(\w+) (\d+)$", output, re.M))
+    numbers = dict(re.findall(r"^([a-z]+) (\d+)$", output, re.M))
     if numbers.get("status") != "0":
         raise SystemExit(f"{' '.join(candidate.command)}: wait returns {numbers.get('status')}")
-    return Cost(*(int(numbers[field.name]) for field in fields(Cost)))
+    cost = Cost(*(int(numbers[field.name]) for field in fields(Cost)))
+    if not is_timed:
+        return cost, [cost.time]
+    first, *others = map(int, re.findall(r"^nanoseconds (\d+)$", output, re.M))
+    if len(others) != bench.runs - 1:
+        raise SystemExit(f"{' '.join(command)}: {len(others) + 1} times of {bench.runs} runs")
+    runs = bench.runs
+    return Cost(first, cost.processor / runs, cost.switches / runs, cost.faults / runs, cost.memory), others
 
 
 CACHEGRIND = (
     ["valgrind", "--tool=cachegrind", "--cache-sim=no", f"--cachegrind-out-file={os.devnull}"],
     rb"I +refs: +([\d,]+)",
 )
-PERF = ["perf", "stat", "-x", ";", "-e", "instructions:u"], rb"^(\d+);"
 
 
-@functools.lru_cache(maxsize=None)
 def counter():
     """Returns the name of the program that counts instructions here; an empty text if there is none."""
-    if shutil.which("valgrind"):
-        return "cachegrind"
-    return "perf stat" if re.search(PERF[1], running.run([*PERF[0], "true"]).err, re.M) else ""
+    return "cachegrind" if shutil.which("valgrind") else ""
 
 
 def instructions(candidate, case):
-    """Returns the instructions of the whole process, or None if they cannot be counted."""
+    """Returns the instructions of the whole process at one run, or None if they cannot be counted."""
     if not counter():
         return None
-    command, form = CACHEGRIND if counter() == "cachegrind" else PERF
-    found = re.search(form, running.run([*command, *candidate.command], case.stdin).err, re.M)
+    command, form = CACHEGRIND
+    found = re.search(form, running.run([*command, *(candidate.counted or candidate.command)], case.stdin).err, re.M)
     return int(found[1].replace(b",", b"")) if found else None
 
 
-def row_of(case, candidate, bench, costs, counted):
-    """Returns the row of a program: the medians of its costs."""
-    times = sorted(cost.time / 1e6 for cost in costs)
+def quartiles(numbers):
+    """Returns the lower quartile, the median and the upper quartile."""
+    return statistics.quantiles(numbers, n=4, method="inclusive") if len(numbers) > 1 else numbers * 3
+
+
+def row_of(case, candidate, bench, measured, counted):
+    """Returns the row of a program: the medians of its times and costs."""
+    costs = [cost for cost, _ in measured]
+    times = sorted(time / 1e6 for _, own in measured for time in own)
     median = Cost(*map(statistics.median, zip(*map(astuple, costs))))
-    lower, _, upper = statistics.quantiles(times, n=4, method="inclusive") if len(times) > 1 else times * 3
+    lower, middle, upper = quartiles(times)
+    processor = quartiles([cost.processor / 1e6 for cost in costs])
+    own = (bench.runs, median.time / 1e6) if case.measurement in TIMED else (None, None)
     return Row(
         case.measurement, case.name, case.unit, case.units, candidate.program, candidate.nodes, candidate.workers,
-        bench.load, len(costs), median.time / 1e6, lower, upper, times[int(0.9 * (len(times) - 1))],
-        median.processor / 1e6, float(median.switches), float(median.faults), median.memory / 1024, counted,
+        bench.load, len(costs), middle, lower, upper, times[int(0.9 * (len(times) - 1))],
+        processor[1], float(median.switches), float(median.faults), median.memory / 1024, counted, *own, processor[0], processor[2],
     )
 
 
@@ -156,16 +181,16 @@ def measure(bench, case, candidates):
     places = ", ".join(dict.fromkeys(f"{candidate.nodes} by {candidate.workers}" for candidate in candidates))
     print(f"{case.measurement}: {case.name}, {places}", file=sys.stderr, flush=True)
     compare(case, candidates)
-    costs = [[] for _ in candidates]
+    measured = [[] for _ in candidates]
     with busy_processes(bench.load):
         for _ in range(bench.rounds):
-            for candidate, own_costs in zip(candidates, costs):
-                own_costs.append(cost_of(bench, candidate, case))
+            for candidate, own in zip(candidates, measured):
+                own.append(cost_of(bench, candidate, case))
     rows = []
-    for candidate, own_costs in zip(candidates, costs):
+    for candidate, own in zip(candidates, measured):
         is_counted = bench.counts and not bench.load and candidate.nodes * candidate.workers == 1
         counted = instructions(candidate, case) if is_counted else None
-        rows.append(row_of(case, candidate, bench, own_costs, counted))
+        rows.append(row_of(case, candidate, bench, own, counted))
     return rows
 
 

@@ -2,11 +2,9 @@
 
 The part of the machine that works at kernels is the sequential time of all tasks' kernels, by the time of an iteration of
 that program, divided by the workers and by the time of the run. A task's size is the time of the run times the workers,
-divided by the tasks, so it includes the runtime's overhead.
+divided by the tasks, so it includes the runtime's overhead. All times are those that the programs take of their own runs.
 """
 from dataclasses import dataclass
-
-from .cases import GRID_TASKS, KERNEL_ITERATIONS
 
 
 @dataclass(frozen=True)
@@ -26,6 +24,10 @@ class Point:
         return self.task - 2 * self.kernel
 
 
+def spelt(microseconds):
+    return f"{microseconds:.0f}" if microseconds >= 100 else f"{microseconds:.1f}" if microseconds >= 10 else f"{microseconds:.2f}"
+
+
 @dataclass(frozen=True)
 class Metg:
     """Microseconds of the smallest task; the bound is `under` or `over` if no measured size is on the other side, or empty."""
@@ -34,8 +36,13 @@ class Metg:
     microseconds: float
 
     def __str__(self):
-        form = "{:.0f}" if self.microseconds >= 100 else "{:.1f}" if self.microseconds >= 10 else "{:.2f}"
-        return f"{self.bound} {form.format(self.microseconds)}".strip()
+        return f"{self.bound} {spelt(self.microseconds)}".strip()
+
+
+def spelt_by_quartiles(curve_of):
+    """Returns METG(50%) by the medians of the times, and by their lower and their upper quartiles."""
+    sizes = [metg(curve_of(time)) for time in ("milliseconds", "lower_quartile", "upper_quartile")]
+    return f"{sizes[0]} ({sizes[1]}–{sizes[2]})" if all(sizes) else ""
 
 
 def pattern_of(case):
@@ -49,35 +56,27 @@ def patterns_of(rows):
 
 
 def iterations_of(case):
-    """Returns the iterations of each task of a case; None if its name does not have them."""
-    size = case.split(", ")[1]
-    return int(size.split()[0].replace(",", "")) if size.endswith(" iterations") else None
+    """Returns the iterations of each task of a case."""
+    return int(case.split(", ")[1].split()[0].replace(",", ""))
 
 
 def kernels(rows):
-    """Returns the nanoseconds of one iteration by program: those of a task of many, without those of a task of none."""
-    times = {(row.program, iterations_of(row.case)): row.milliseconds for row in rows if not pattern_of(row.case)}
-    return {
-        program: (milliseconds - times[program, 0]) * 1e6 / iterations
-        for (program, iterations), milliseconds in times.items()
-        if iterations == KERNEL_ITERATIONS and (program, 0) in times
-    }
+    """Returns the nanoseconds of one iteration by program: those of one task of many."""
+    return {row.program: row.milliseconds * 1e6 / iterations_of(row.case) for row in rows if not pattern_of(row.case)}
 
 
-def curve(rows, pattern, program, nodes, workers):
-    """Returns the sizes of tasks that were measured, the smallest first, without the time of a run of one step."""
+def point_of(row, each, time="milliseconds"):
+    """Returns the size of the tasks of a row, if an iteration takes `each` nanoseconds; a quartile can stand for its time."""
+    task = getattr(row, time) * 1000 * row.nodes * row.workers / row.units
+    return Point(task, iterations_of(row.case) * each / 1000)
+
+
+def curve(rows, pattern, program, nodes, workers, time="milliseconds"):
+    """Returns the sizes of tasks that were measured, the smallest first."""
     each = kernels(rows).get(program)
     own = [row for row in rows if (row.program, row.nodes, row.workers) == (program, nodes, workers)]
     own = [row for row in own if pattern_of(row.case) == pattern]
-    start = next((row.milliseconds for row in own if iterations_of(row.case) is None), None)
-    if each is None or start is None:
-        return []
-    points = []
-    for row in own:
-        iterations = iterations_of(row.case)
-        if iterations is not None:
-            task = (row.milliseconds - start) * 1000 * nodes * workers / GRID_TASKS
-            points.append(Point(task, iterations * each / 1000))
+    points = [point_of(row, each, time) for row in own] if each else []
     return sorted(points, key=lambda point: point.kernel)
 
 

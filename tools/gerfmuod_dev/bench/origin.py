@@ -1,5 +1,4 @@
 """The machine, the commit and the time of a measurement."""
-import os
 import platform
 import re
 import subprocess
@@ -28,7 +27,7 @@ def processor():
     return names[0] if names else platform.machine()
 
 
-def origin_of(measurement, form, rows, seconds, load_average):
+def origin_of(measurement, form, rows, seconds, load_average, others):
     counted_by = counter() if any(row.instructions for row in rows) else ""
     memory = re.search(r"^MemTotal: +(\d+)", text_of("/proc/meminfo", ""), re.M)
     gibibytes = int(memory[1]) / 2**20 if memory else 0.0
@@ -37,8 +36,5 @@ def origin_of(measurement, form, rows, seconds, load_average):
         measurement, time.strftime("%Y-%m-%d"), commit(), form, rows[0].rounds, round(seconds), load_average,
         processor(), processors(), gibibytes, f"{platform.system()} {platform.release()}",
         "; ".join(re.sub(r" *\([^)]*\)", "", compiler) for compiler in compilers if compiler), counted_by,
+        others,
     )
-
-
-def load_average():
-    return round(os.getloadavg()[0], 1)

@@ -11,21 +11,24 @@ SOURCES = f"{TOP}/bench/peers"
 RUST = ["rustc", "--edition", "2024", "-C", "opt-level=3"]
 CPP = ["g++", "-std=c++17", "-O2"]
 # the package that a program needs besides its compiler
-NEEDED = {"-ltbb": "oneTBB (Debian's libtbb-dev)", "-fopenmp": "OpenMP (GCC's libgomp)"}
+NEEDED = {
+    "-ltbb": "oneTBB (Debian's libtbb-dev)", "-fopenmp": "OpenMP (GCC's libgomp)", "-lopenblas": "OpenBLAS (libopenblas-dev)",
+    "-DHAVE_STARPU": "StarPU (libstarpu-dev)",
+}
 
 
 class Peers:
     """The compiled programs. Each is compiled at its first use, and is None if that fails, which is printed once."""
 
-    def __init__(self, folder):
-        self.folder = folder
+    def __init__(self, folder, sources=SOURCES):
+        self.folder, self.sources = folder, sources
 
     @functools.lru_cache(maxsize=None)
     def program(self, name, compiler, source, libraries=()):
         path = f"{self.folder}/{name}"
         reason = f"{compiler[0]} is not installed"
         if shutil.which(compiler[0]):
-            command = [*compiler, "-o", path, f"{SOURCES}/{source}", *libraries]
+            command = [*compiler, "-o", path, f"{self.sources}/{source}", *libraries]
             result = subprocess.run(command, capture_output=True, text=True)
             if result.returncode == 0:
                 return path

@@ -13,7 +13,9 @@ class Row(NamedTuple):
     """A program on a case, with its nodes and workers; `load` is the number of busy processes that ran at the same time.
 
     A number that was not measured is None. `milliseconds` is the median of the rounds, as are processor time, context
-    switches, page faults and memory.
+    switches, page faults and memory. If `runs` is not None, each process made that many runs and timed them itself:
+    `milliseconds` is the median of all runs but the first of each process, whose median is `first_milliseconds`, and
+    processor time, switches and faults are those of a process divided by its runs.
     """
 
     measurement: str
@@ -34,6 +36,10 @@ class Row(NamedTuple):
     page_faults: float
     MiB: float
     instructions: int
+    runs: int = None
+    first_milliseconds: float = None
+    processor_lower_quartile: float = None
+    processor_upper_quartile: float = None
 
     @property
     def where(self):
@@ -65,7 +71,12 @@ class ProcessRow(NamedTuple):
 
 
 class Origin(NamedTuple):
-    """When and where a measurement was made, and how long it took."""
+    """When and where a measurement was made, how long it took, and whether the machine was at rest.
+
+    The load average is that before the series; `others` is how many processors other programs used during the measurement;
+    `seconds_to_rest` is how long the load average took to fall again after the series, None if too long. `marked` says why
+    the rows are not to be trusted, if they were stored all the same.
+    """
 
     measurement: str
     date: str
@@ -80,6 +91,9 @@ class Origin(NamedTuple):
     system: str
     compilers: str
     instructions_by: str
+    others: float = None
+    seconds_to_rest: int = None
+    marked: str = ""
 
 
 def named(kind):
@@ -107,12 +121,12 @@ def value_of(text, kind):
 
 
 def read(path, kind=Row):
-    """Returns the rows of a file; none if it does not exist."""
+    """Returns the rows of a file; none if it does not exist. Columns of the end may be missing."""
     if not os.path.exists(path):
         return []
     with open(path, encoding="utf-8", newline="") as text:
         first, *lines = csv.reader(text)
-    if first != named(kind):
+    if first != named(kind)[: len(first)]:
         raise SystemExit(f"{path}: its columns are not {','.join(named(kind))}")
     kinds = [kind.__annotations__[field] for field in kind._fields]
     try:
@@ -148,5 +162,8 @@ def origins():
 def keep(measurement, rows, origin):
     """Stores the rows of a measurement in docs, instead of those that were there."""
     write(path_of(measurement), rows, kind_of(measurement))
-    all_origins = {**origins(), measurement: origin}
-    write(f"{FOLDER}/origins.csv", all_origins.values(), Origin)
+    keep_origins({measurement: origin})
+
+
+def keep_origins(some):
+    write(f"{FOLDER}/origins.csv", {**origins(), **some}.values(), Origin)

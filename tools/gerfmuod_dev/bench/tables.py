@@ -24,6 +24,16 @@ def cell(number, form="{:.2f}"):
     return "" if number is None else form.format(number)
 
 
+def with_quartiles(row, form="{:.1f}"):
+    """Returns the time of a row with its quartiles."""
+    return f"{form.format(row.milliseconds)} ({form.format(row.lower_quartile)}–{form.format(row.upper_quartile)})" if row else ""
+
+
+def overlap(one, other):
+    """Whether the quartiles of two times do not tell which one is less."""
+    return one.lower_quartile <= other.upper_quartile and other.lower_quartile <= one.upper_quartile
+
+
 def each_unit(row):
     """Returns the instructions of a unit of work, or None if they were not counted."""
     return ratio(row.instructions, row.units) if row else None
@@ -87,8 +97,27 @@ def by_places(rows, cell_of):
     return table(["Pool", *spelt(places)], lines)
 
 
-def ratio_of(name):
-    return lambda tp, other: cell(ratio(getattr(tp, name), getattr(other, name)))
+def ratio_of(median, lower, upper):
+    """Returns the function that spells the ratio of two rows with its quartiles, or that their quartiles overlap."""
+
+    pairs = (median, median), (lower, upper), (upper, lower)
+
+    def spelt_ratio(tp, other):
+        ratios = [ratio(getattr(tp, own), getattr(other, its)) for own, its in pairs]
+        return ratio_text(*ratios) if all(ratios) else ""
+
+    return spelt_ratio
+
+
+NO_DIFFERENCE = "no difference seen"
+
+
+def ratio_text(middle, least, most):
+    return NO_DIFFERENCE if least <= 1 <= most else f"{middle:.2f} ({least:.2f}–{most:.2f})"
+
+
+TIME = ratio_of("milliseconds", "lower_quartile", "upper_quartile")
+PROCESSOR_TIME = ratio_of("processor_milliseconds", "processor_lower_quartile", "processor_upper_quartile")
 
 
 def switches(tp, other):
@@ -96,13 +125,13 @@ def switches(tp, other):
 
 
 def times(rows, busy=""):
-    return [f"Time of tp by that of the runtime by hand{busy}:", by_places(rows, ratio_of("milliseconds"))]
+    return [f"Time of a run of tp by that of the runtime by hand{busy}:", by_places(rows, TIME)]
 
 
 def processors(rows, busy=""):
     return [
-        f"Processor time of tp by that of the runtime by hand{busy}:",
-        by_places(rows, ratio_of("processor_milliseconds")),
+        f"Processor time of a run of tp by that of the runtime by hand{busy}, with a part of the process's start:",
+        by_places(rows, PROCESSOR_TIME),
         f"Context switches a task, of tp and of the runtime by hand{busy}:",
         by_places(rows, switches),
     ]
@@ -124,10 +153,9 @@ def more_of_pools(rows):
 # ---- patterns
 
 
-def iterations(rows):
-    """Returns the time of an iteration of the kernel in each program."""
-    lines = [[program, cell(nanoseconds)] for program, nanoseconds in metg.kernels(rows).items()]
-    return table(["Program", "nanoseconds an iteration"], lines)
+def size_with_quartiles(rows, pattern, column):
+    """Returns METG(50%) by the medians of the times, and by their lower and their upper quartiles."""
+    return metg.spelt_by_quartiles(lambda time: metg.curve(rows, pattern, *column, time))
 
 
 def smallest_tasks(rows, places):
@@ -137,8 +165,7 @@ def smallest_tasks(rows, places):
     columns = [(name, *place) for name in programs for place in places if (name, *place) in measured]
     lines = []
     for pattern in metg.patterns_of(rows):
-        sizes = [metg.metg(metg.curve(rows, pattern, *column)) for column in columns]
-        lines.append([pattern, *("" if size is None else str(size) for size in sizes)])
+        lines.append([pattern, *(size_with_quartiles(rows, pattern, column) for column in columns)])
     heads = [f"{name}, {nodes} by {workers}" if len(places) > 1 else name for name, nodes, workers in columns]
     return table(["Pattern", *heads], lines)
 
@@ -149,7 +176,9 @@ def grids(rows):
 
 
 def kernels(rows):
-    return f"One worker at one task of many iterations:\n\n{iterations(rows)}"
+    """Returns the time of an iteration of the kernel in each program."""
+    lines = [[program, cell(nanoseconds)] for program, nanoseconds in metg.kernels(rows).items()]
+    return "One worker at one task of many iterations:\n\n" + table(["Program", "nanoseconds an iteration"], lines)
 
 
 # ---- rods and products
@@ -164,9 +193,9 @@ def milliseconds(rows, places):
             own = [row for row in rows if (row.case, row.program) == (case, program)]
             here = [found(own, nodes=nodes, workers=workers) for nodes, workers in places]
             counted = next(filter(None, map(each_unit, own)), None)
-            times = [cell(row and row.milliseconds, "{:.1f}") for row in here]
-            lines.append([program, *times, f"{own[-1].MiB:.0f}", cell(counted, "{:.1f}")])
-        head = ["Milliseconds of the whole process", *spelt(places), "MiB", f"instructions a {rows[0].unit}"]
+            lines.append([program, *map(with_quartiles, here), f"{own[-1].MiB:.0f}", cell(counted, "{:.1f}")])
+        whose = "a run" if rows[0].runs else "the whole process"
+        head = [f"Milliseconds of {whose} (quartiles)", *spelt(places), "MiB", f"instructions a {rows[0].unit}"]
         parts += [f"{case[0].upper()}{case[1:]}:", table(head, lines)]
     return "\n\n".join(parts)
 
@@ -186,25 +215,28 @@ BODY_PLACES = [("heat", 1, 4), ("heat", 2, 2), ("heat", 4, 1), ("oneTBB flow gra
 
 @dataclass(frozen=True)
 class Body:
-    """A size of blocks: microseconds of a body with one worker by program, and the speed-up at each place."""
+    """A size of blocks: microseconds of a body with one worker by program, and at each place the speed-up and its quartiles."""
 
     block: str
     microseconds: dict
     speed_ups: dict
+    quartiles: dict
+
+    def spelt(self, place):
+        if place not in self.speed_ups:
+            return ""
+        return ratio_text(self.speed_ups[place], *self.quartiles[place])
 
 
 def body_of(block, rows):
-    """Returns the difference of a run of one step and a run of many; an empty one if there is only one of them."""
-    few, many = min(row.units for row in rows), max(row.units for row in rows)
-    times = {}
+    alone = {row.program: row for row in rows if row.nodes * row.workers == 1}
+    speed_ups, quartiles = {}, {}
     for row in rows:
-        place = row.program, row.nodes, row.workers
-        times[place] = times.get(place, 0.0) + (row.milliseconds if row.units == many else -row.milliseconds)
-    # a difference that is only noise says nothing of the bodies
-    times = {place: time for place, time in times.items() if time > 0 and few < many}
-    alone = {name: time for (name, nodes, workers), time in times.items() if nodes * workers == 1}
-    lengths = {name: time * 1000 / (many - few) for name, time in alone.items()}
-    return Body(block, lengths, {place: alone[place[0]] / time for place, time in times.items() if place[0] in alone})
+        if row.program in alone:
+            place, one = (row.program, row.nodes, row.workers), alone[row.program]
+            speed_ups[place] = one.milliseconds / row.milliseconds
+            quartiles[place] = one.lower_quartile / row.upper_quartile, one.upper_quartile / row.lower_quartile
+    return Body(block, {name: row.milliseconds * 1000 / row.units for name, row in alone.items()}, speed_ups, quartiles)
 
 
 def bodies(rows):
@@ -215,26 +247,28 @@ def bodies(rows):
 
 
 def twice_as_fast(sizes, place):
-    """Returns the microseconds of the smallest body from which on all that were measured are twice as fast at a place."""
-    length = None
-    for size in reversed(sizes):
-        if size.speed_ups.get(place, 0) < 2:
-            break
-        length = size.microseconds[place[0]]
-    return cell(length, "{:.1f}") or "none"
+    """Returns the microseconds of the smallest body from which on all that were measured are twice as fast at a place.
+
+    If smaller ones are twice as fast too, but not all up to this one, that is said.
+    """
+    length, smaller = None, list(sizes)
+    while smaller and smaller[-1].speed_ups.get(place, 0) >= 2:
+        length = smaller.pop().microseconds[place[0]]
+    some = ", and some below" * any(size.speed_ups.get(place, 0) >= 2 for size in smaller)
+    return f"{length:.1f}{some}" if length else f"none{some.replace('below', 'sizes')}"
 
 
 def body(rows):
     sizes = bodies(rows)
     lines = []
     for size in sizes:
-        faster = [cell(size.speed_ups.get(place)) for place in BODY_PLACES]
+        faster = [size.spelt(place) for place in BODY_PLACES]
         lines.append([size.block, cell(size.microseconds.get("heat"), "{:.1f}"), *faster])
     lines.append(["twice as fast from", "", *(twice_as_fast(sizes, place) for place in BODY_PLACES)])
     names = [f"{name}, {nodes} by {workers}" for name, nodes, workers in BODY_PLACES]
     title = (
-        "How many times as fast as one worker of the same program. The last line has, in microseconds of that\n"
-        "program's body, the length from which on all that were measured are at least twice as fast:"
+        "How many times as fast as one worker of the same program (quartiles). The last line has, in microseconds of\n"
+        "that program's body, the length from which on all that were measured are at least twice as fast:"
     )
     return f"{title}\n\n{table(['Cells of a block', 'microseconds of a body', *names], lines)}"
 
@@ -246,31 +280,47 @@ FRONT = {
     "Gerfmuod": ("tp", "heat"),
     "unverified Rust, same design": ("runtime by hand", None),
     "oneTBB": ("oneTBB flow graph", "oneTBB flow graph"),
-    "OpenMP": ("OpenMP tasks", "OpenMP tasks"),
-    "no runtime, 1 thread": ("one after the other", "plain loop"),
+    "OpenMP tasks": ("OpenMP tasks", "OpenMP tasks"),
+    "threads and a barrier": (None, "threads and a barrier"),
+    "a loop, 1 thread": ("one after the other", "plain loop"),
 }
-FRONT_RODS = {
-    "Rod: 640,000 cells, blocks of 10,000, 100 steps, 4 workers, ms": ("640,000 cells in blocks of 10,000, 100 steps", 4),
-    "The same without a step: input and output alone, 1 worker, ms": ("640,000 cells in blocks of 10,000, 0 steps", 1),
-    "Rod: 64,000 cells, blocks of 100, 100 steps, 4 workers, ms": ("64,000 cells in blocks of 100, 100 steps", 4),
-}
+WITHOUT_RUNTIME = list(FRONT)[-2:]
+
+
+def front_line(head, rows, form):
+    """Returns a line of times: those are bold that the quartiles do not tell from the least one."""
+    best = min(filter(None, rows), key=lambda row: row.milliseconds)
+    cells = [with_quartiles(row, form) for row in rows]
+    return [head, *(f"**{text}**" if row and overlap(row, best) else text for row, text in zip(rows, cells))]
+
+
+def front_rows(all_rows, case, place, names):
+    """Returns the row of each program; the loop has one thread at each place."""
+    here = [found(all_rows, case=case, program=name, nodes=place[0], workers=place[1]) for name in names]
+    return [*here[:-1], found(all_rows, case=case, program=names[-1], nodes=1, workers=1)]
 
 
 def front(runs, body_rows, rod_rows):
-    """Returns the table of README: some rows of three measurements."""
-    lines = []
+    """Returns the table of README: some rows of three measurements, and where threads or a loop are better than a runtime."""
+    lines, without = [], []
+    pools, rods = ([names[order] for names in FRONT.values()] for order in (0, 1))
     for pool in ("wavefront:64:64:0", "reduce:1024:0"):
-        alone = [row for row in rest(runs) if (row.case, row.nodes, row.workers) == (pool, 1, 1)]
-        counts = [cell(each_unit(found(alone, program=name)), "{:,.0f}") for name, _ in FRONT.values()]
-        lines.append([f"Instructions per task, `{pool}`, 1 worker", *counts])
+        counts = [each_unit(row) for row in front_rows(rest(runs), pool, (1, 1), pools)]
+        least = min(filter(None, counts), default=None)
+        cells = [f"**{count:,.0f}**" if count == least else cell(count, "{:,.0f}") for count in counts]
+        lines.append([f"Instructions per task, `{pool}`, 1 worker", *cells])
     sizes = bodies(body_rows)
-    least = [twice_as_fast(sizes, (name, 1, 4)) if (name, 1, 4) in BODY_PLACES else "" for _, name in FRONT.values()]
+    least = [twice_as_fast(sizes, (name, 1, 4)) if (name, 1, 4) in BODY_PLACES else "" for name in rods]
     lines.append(["Shortest body that 4 workers run at least twice as fast as 1, µs", *least])
-    for head, (case, workers) in FRONT_RODS.items():
-        here = [found(rod_rows, case=case, program=name, nodes=1, workers=workers) for _, name in FRONT.values()]
-        here[-1] = found(rod_rows, case=case, program="plain loop", nodes=1, workers=1)
-        lines.append([head, *(cell(row and row.milliseconds, "{:.1f}") for row in here)])
-    return table(["On four cores", *FRONT], lines)
+    cases = [(f"`{pool}`", front_rows(rest(runs), pool, (1, 4), pools), "{:.2f}") for pool in ("wavefront:64:64:0", "reduce:1024:0")]
+    cases += [(case, front_rows(rod_rows, case, (1, 4), rods), "{:.1f}") for case in dict.fromkeys(row.case for row in rod_rows)]
+    for case, here, form in cases:
+        lines.append(front_line(f"{'' if case[0] == '`' else 'Rod: '}{case}, 4 workers, ms", here, form))
+        best = min(range(len(here)), key=lambda place: here[place].milliseconds if here[place] else float("inf"))
+        if list(FRONT)[best] in WITHOUT_RUNTIME:
+            without.append(f"{case} ({list(FRONT)[best]})")
+    parts = [table(["On four cores, a run (quartiles)", *FRONT], lines)]
+    return "\n\n".join(parts + [f"No runtime pays, with four workers, for {'; '.join(without)}."] * bool(without))
 
 
 # ---- the library
@@ -306,7 +356,8 @@ def by_processes(rows, head, cell_of):
 
 def times_and_messages(row):
     messages = cell(row.control_messages, "{:,.0f}") or "not counted"
-    return f"{row.microseconds:,.1f}; {messages}; {row.waves:,.0f}"
+    quartiles = f"({row.lower_quartile:,.1f}–{row.upper_quartile:,.1f})"
+    return f"{row.microseconds:,.1f} {quartiles}; {messages}; {row.waves:,.0f}"
 
 
 def steps_and_messages(row):
@@ -317,7 +368,8 @@ def detectors(rows):
     parts = []
     for case in dict.fromkeys(row.case for row in rows if row.microseconds is not None):
         parts += [
-            f"{case[0].upper()}{case[1:]}, by processes: microseconds to the last process that knows the end; control messages; "
+            f"{case[0].upper()}{case[1:]}, by processes: microseconds to the last process that knows the end (quartiles); "
+            "control messages; "
             "waves, rounds of the token, reductions:",
             by_processes([row for row in rows if row.case == case], "Detector", times_and_messages),
         ]
@@ -345,27 +397,17 @@ def of(measurement, rows):
     return TABLES[measurement](rows)
 
 
-def plain(measurement, rows):
-    """Returns all rows, for the screen; none of the detectors, whose tables have all."""
-    if measurement == "processes":
-        return []
-    lines = []
-    for row in rows:
-        numbers = [row.processor_milliseconds, row.context_switches, row.page_faults, row.MiB, each_unit(row)]
-        forms = ["{:.2f}", "{:.0f}", "{:.0f}", "{:.1f}", "{:,.0f}"]
-        quartiles = f"{row.lower_quartile:.2f} to {row.upper_quartile:.2f}"
-        first = [row.case, row.program, row.where, str(row.load), f"{row.milliseconds:.2f}", quartiles]
-        lines.append([*first, *(cell(number, form) for number, form in zip(numbers, forms))])
-    head = ["Case", "Program", "at", "load", "ms", "quartiles", "processor ms", "switches", "faults", "MiB"]
-    return [table([*head, f"instructions a {rows[0].unit}"], lines)]
-
-
 def of_origins(origins):
     """Returns the table of the day, the commit and the machine of each measurement."""
-    shown = ["date", "commit", "form", "rounds", "seconds", "load_average"]
-    lines = [[f"`{origin.measurement}`", *(str(getattr(origin, name)) for name in shown)] for origin in origins]
+    shown = ["date", "commit", "form", "rounds", "seconds", "load_average", "others", "seconds_to_rest", "marked"]
+    shown = [name for name in shown if any(getattr(origin, name) not in (None, "") for origin in origins)]
+    lines = []
+    for origin in origins:
+        values = (getattr(origin, name) for name in shown)
+        lines.append([f"`{origin.measurement}`", *("" if value is None else str(value) for value in values)])
     parts = [table(["Measurement", *(name.replace("_", " ") for name in shown)], lines)]
-    for machine in dict.fromkeys(tuple(origin)[Origin._fields.index("processor") :] for origin in origins):
+    fields = [Origin._fields.index(name) for name in ("processor", "others")]
+    for machine in dict.fromkeys(tuple(origin)[fields[0] : fields[1]] for origin in origins):
         name, processors, memory, system, compilers, counter = machine
         counts = f"; instructions by {counter}" if counter else ""
         parts.append(f"{name}, {processors} processors, {memory:.0f} GiB; {system};\n{compilers}{counts}.")

@@ -27,7 +27,7 @@ CONTRACT = re.compile(r"\s*(?:ensures|requires)\b[^{]*(?={)")
 TOKEN = re.compile(r'"((?:\\.|[^"\\])*)"|(\d[\d_]*)|(\w+!?(?:::(?:<[^>]*>|\w+))*)|(\.\.=?|\S)', re.S)
 ESCAPES = {"n": "\n", "t": "\t", '"': '"', "\\": "\\", "'": "'"}
 # calls of clap that change nothing that `--help` prints of these command lines
-IGNORED = ("value_parser", "hide_possible_values", "subcommand_required", "bin_name")
+IGNORED = ("value_parser", "hide_possible_values", "subcommand_required", "bin_name", "conflicts_with")
 HELP_OF_HELP = "Print this message or the help of the given subcommand(s)"
 
 

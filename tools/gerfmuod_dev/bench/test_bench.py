@@ -1,0 +1,70 @@
+"""Tests of what decides whether rows are stored and what tables say; `tools/dev bench --check` and pytest run them."""
+from . import conditions, metg, soundness, tables
+from .rows import Row
+
+
+def row(case, milliseconds, workers=1, measurement="patterns", units=1600, spread=0.1):
+    """Returns a row of the program `patterns` at one node."""
+    quartiles = milliseconds * (1 - spread), milliseconds * (1 + spread)
+    return Row(measurement, case, "task", units, "patterns", 1, workers, 0, 5, milliseconds, *quartiles, *[None] * 6)
+
+
+# an iteration takes 2 ns, so 1,600 tasks of 1,000 iterations take 3.2 ms alone
+KERNEL = row("one task, 20,000,000 iterations", 40, units=1)
+
+
+def test_efficiency_is_kernels_by_the_time_of_all_workers():
+    slow, fast = (row(f"stencil, {count} iterations", time, 4) for count, time in (("1,000", 3.2), ("10,000", 10)))
+    points = metg.curve([KERNEL, fast, slow], "stencil", "patterns", 1, 4)
+    assert [round(point.efficiency, 2) for point in points] == [0.25, 0.8]
+    assert [round(point.task, 1) for point in points] == [8, 25]
+
+
+def test_metg_is_interpolated_and_has_bounds():
+    less, more = metg.Point(5, 2), metg.Point(9, 5)
+    assert metg.metg([less, more]) == metg.Metg("", 7)
+    assert metg.metg([less]) == metg.Metg("over", 5) and metg.metg([more]) == metg.Metg("under", 9)
+    # a larger task that uses less than half counts, and a smaller one that uses more does not
+    assert metg.metg([metg.Point(1, 0.9), metg.Point(20, 5)]) == metg.Metg("over", 20)
+
+
+def test_impossible_rows_have_names():
+    assert soundness.impossible("patterns", [KERNEL, row("stencil, 1,000 iterations", 0.77, 4)]) == []
+    for time in (0.76, 0.0, -0.1, float("nan")):
+        reasons = soundness.impossible("patterns", [KERNEL, row("stencil, 1,000 iterations", time, 4)])
+        assert len(reasons) == 1 and reasons[0].startswith("stencil, 1,000 iterations, patterns, 1 by 4: ")
+    assert soundness.impossible("patterns", [row("stencil, 1,000 iterations", 3, 4)])
+
+
+def test_missing_sizes_have_names():
+    rows = [KERNEL, *(row(f"{name}, {count} iterations", 99, 4) for name in soundness.PATTERNS_OF_TASKS for count in soundness.TOGETHER)]
+    assert list(soundness.missing(rows)) == []
+    assert list(soundness.missing(rows[:-1])) == ["all_to_all, patterns, 1 by 4: 7 of 8 sizes of tasks"]
+
+
+def test_speed_up_is_not_more_than_the_workers():
+    alone, four = row("blocks of 100, 100 steps", 41, 1, "body"), row("blocks of 100, 100 steps", 10, 4, "body")
+    assert soundness.impossible("body", [alone, four]) == []
+    assert len(soundness.impossible("body", [alone._replace(milliseconds=42.5), four])) == 1
+
+
+def test_smallest_body_is_named_only_if_all_larger_ones_are_fast():
+    place = "heat", 1, 4
+    bodies = [tables.Body("", {"heat": length}, {place: speed_up}, {}) for length, speed_up in ((1, 1.0), (2, 2.1), (3, 1.9), (4, 2.5))]
+    assert tables.twice_as_fast(bodies, place) == "4.0, and some below"
+    assert tables.twice_as_fast(bodies[:3], place) == "none, and some sizes"
+    assert tables.twice_as_fast(bodies[:1], place) == "none" and tables.twice_as_fast(bodies[3:], place) == "4.0"
+
+
+def test_ratio_is_not_printed_if_quartiles_overlap():
+    assert tables.TIME(row("", 1.0), row("", 1.1)) == tables.NO_DIFFERENCE
+    assert tables.TIME(row("", 1.0), row("", 2.0)) == "0.50 (0.41–0.61)"
+
+
+def test_conditions():
+    line = "cpu  100 10 200 9999 9999 5 5 80 7 7"
+    ticks = conditions.os.sysconf("SC_CLK_TCK")
+    assert conditions.used(line) == 400 / ticks
+    assert conditions.others((0, 10, 1), (100, 60, 31)) == 0.2 and conditions.others((0, 0, 0), (1, 1, 2)) == 0
+    assert conditions.faults(0.5, 0.15) == "" and "load average" in conditions.faults(0.51, 0.15)
+    assert "others used 0.16 processors" in conditions.faults(0.5, 0.16)
