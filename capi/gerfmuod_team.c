@@ -1,9 +1,9 @@
 /* gerfmuod_team.c: a pool of gerfmuod_dag.h with a lock and threads that wait. C over pthreads, not proved.
  *
- * One mutex protects the pool, every field and what the threads record of a run (gerfmuod_profile.h): no other operation is
- * atomic. A thread that finds no task first polls a counter of its node, if there is a processor for it, and then sleeps on a
- * condition variable of its node. News of a node, from a task that is done or from outside, raises its counter and wakes one of
- * its threads. A thread that finds the lock held retries it with exponential backoff before it blocks. */
+ * One mutex protects the pool, every field and what the threads record of a run (gerfmuod_profile.h); no atomic operation is
+ * used. A thread that finds no task first polls a counter of its node, if there is a processor for it, and then sleeps on a
+ * condition variable of its node. News of a node, from a task that is done or from outside, raises its counter and wakes one
+ * of its threads. A thread that finds the lock held retries it with exponential backoff before it blocks. */
 #ifndef _GNU_SOURCE
 #define _GNU_SOURCE /* sched_getaffinity */
 #endif
@@ -18,8 +18,8 @@
 #include <string.h>
 #include <unistd.h>
 
-/* The pauses of the processor between the polls of a thread in one turn before it sleeps: 20 to 100 microseconds. Each poll takes
- * the lock, so the pauses before it grow. */
+/* The pauses of the processor between the polls of a thread in one turn before it sleeps: 20 to 100 microseconds. Each poll
+ * takes the lock, so the pauses grow. */
 enum { SPINS = 2000, FIRST_POLL = 16, MOST_POLL = 128, ALL_NODES = (1 << GERFMUOD_DAG_MAX_NODES) - 1 };
 
 /* How often a contended lock is retried before the thread blocks, and the pauses of the processor before the first retry and,
@@ -411,14 +411,24 @@ static inline ALWAYS_INLINE void report_done(struct profile *profile, gerfmuod_t
     tell(team, answer.news, false);
 }
 
+/* A turn at a node that does not exist. If it reports a task, the tasks after that one would wait for ever, so it ends the team. */
+static NOINLINE uint32_t refuse_node(gerfmuod_team *team, uint32_t done) {
+    if (done == GERFMUOD_DAG_NONE || team->is_over) return refuse(team, GERFMUOD_DAG_NO_NODE, done);
+    return fail(team, GERFMUOD_DAG_NO_NODE, done);
+}
+
 /* A turn, which is compiled twice: with the profile of a team that records, and with NULL. */
 static inline ALWAYS_INLINE gerfmuod_dag_answer turn_with(struct profile *profile, gerfmuod_team *team, uint32_t node, uint32_t done) {
+    gerfmuod_dag_answer answer = {0, 0, 0, 0};
     struct turn turn = {profile ? ticks_now(profile) : 0, 0};
     acquire(team);
     if (profile && done != GERFMUOD_DAG_NONE) profile_end_body(profile, done, turn.begun);
-    if (node >= team->nodes) fail(team, GERFMUOD_DAG_NO_NODE, done);
-    else if (done != GERFMUOD_DAG_NONE && !team->fault) report_done(profile, team, node, done);
-    gerfmuod_dag_answer answer = take(team, node, &turn.waited);
+    if (node < team->nodes) {
+        if (done != GERFMUOD_DAG_NONE && !team->fault) report_done(profile, team, node, done);
+        answer = take(team, node, &turn.waited);
+    } else {
+        answer.refused = refuse_node(team, done);
+    }
     if (profile) profile_end_turn(profile, node, task_of(answer), turn);
     release(team);
     return answer;
