@@ -7,6 +7,7 @@
 - README.md has at most 130 lines, and none of over 120 columns: only warnings, unless --strict is given
 - the pictures are those that tools/pictures.py draws (its --check)
 - docs/guarantees is what tools/dev proved writes from the contracts, and docs/PROVED.md names only calls and clauses that exist
+- the runtime and the library's C code use no atomic operation
 
 Prints each difference, and a line for each kind of check. The last line is `N passed, M failed`; the status is 1 if one
 failed.
@@ -18,7 +19,7 @@ import subprocess
 import sys
 from urllib.parse import unquote
 
-from . import memory_table, proved, repository
+from . import atomics, memory_table, proved, repository
 from .repository import text_of
 from .running import Tally
 
@@ -121,4 +122,5 @@ def run(options):
     check_readme(tally, options.strict)
     check_pictures(tally)
     proved.check(tally)
+    atomics.check(tally)
     return tally.end()
