@@ -1,14 +1,15 @@
 /* gerfmuod_profile.h: the times of a team's run, a part of gerfmuod_team.c: what its threads record, and the texts about it.
  *
- * Each thread writes into a ring of its own, so recording takes no lock. A turn reads a clock when it begins, which ends the
- * body before it; when it finds no task; and when it ends. If the kernel derives CLOCK_MONOTONIC from the time stamp counter of
- * x86-64, that clock is the counter itself, which is faster to read. Two readings of both, at the start of the run and when
- * its texts are written, convert ticks to nanoseconds. */
+ * Each thread writes into a ring of its own, and every call is made while the team's lock is held, except those that read a
+ * clock. A turn reads a clock before it takes the lock, which ends the body before it; when it finds no task; and when it ends.
+ * If the kernel derives CLOCK_MONOTONIC from the time stamp counter of x86-64, that clock is the counter itself, which is faster
+ * to read. Two readings of both, at the start of the run and when its texts are written, convert ticks to nanoseconds. */
 #ifndef GERFMUOD_PROFILE_H
 #define GERFMUOD_PROFILE_H
 #include "gerfmuod_dag.h"
 
 #include <inttypes.h>
+#include <pthread.h>
 #include <stdbool.h>
 #include <stdio.h>
 #include <stdlib.h>
@@ -25,9 +26,8 @@ struct slice {
     uint32_t task, node;
 };
 
-/* Of one thread. Only this thread writes it, and others read it after the run; `owner` alone is also read meanwhile. */
+/* What one thread did. */
 struct ring {
-    const void *owner;      /* the address of a variable of the thread; NULL until it claims the ring */
     uint64_t first, last;   /* when its first turn began, or 0; its newest time */
     uint64_t begun;         /* when its body began, if one runs */
     uint64_t bodies, waits; /* sums of ticks, also of slices that are lost */
@@ -38,6 +38,12 @@ struct ring {
     uint32_t backwards;     /* how often the clock was before the last time, which was taken instead */
     bool has_left;          /* a turn returned no task */
     struct slice kept[];
+};
+
+/* A ring, and the thread that claimed it in this run. */
+struct place {
+    pthread_t owner;
+    struct ring *ring;
 };
 
 /* A task and an input, as they were described. */
@@ -56,12 +62,11 @@ struct instant {
 
 /* Of a team that records. */
 struct profile {
-    uint64_t run;         /* another number for each run of each team; 0 before the first */
+    bool has_counter;     /* ticks are those of the time stamp counter; else they are nanoseconds */
     uint32_t most;        /* the number of slices that a ring keeps */
     uint32_t threads;     /* the number of rings */
-    uint32_t claimed;     /* the number of threads that asked for a ring in this run */
-    bool has_counter;     /* ticks are those of the time stamp counter; else they are nanoseconds */
-    struct ring **rings;
+    uint32_t claimed;     /* the number of those that a thread has claimed in this run */
+    struct place *places; /* the rings, those that are claimed first */
     struct described *tasks;
     struct edge *edges;   /* in the order in which the pool numbers inputs, whose numbers are those of messages */
     size_t task_count, task_room, edge_count, edge_room;
@@ -154,9 +159,9 @@ static NOINLINE void profile_describe(struct profile *profile, uint32_t node, ui
 /* ---- opening and closing */
 
 static void profile_close_rings(struct profile *profile) {
-    for (uint32_t w = 0; w < profile->threads; w++) free(profile->rings[w]);
-    free(profile->rings);
-    profile->rings = NULL;
+    for (uint32_t w = 0; w < profile->threads; w++) free(profile->places[w].ring);
+    free(profile->places);
+    profile->places = NULL;
     profile->threads = 0;
 }
 
@@ -179,63 +184,46 @@ static struct profile *profile_open(uint32_t most) {
 static bool profile_open_rings(struct profile *profile, uint32_t threads) {
     if (profile->threads == threads) return true;
     profile_close_rings(profile);
-    profile->rings = calloc(threads, sizeof *profile->rings);
-    for (; profile->rings && profile->threads < threads; profile->threads++) {
+    profile->places = calloc(threads, sizeof *profile->places);
+    for (; profile->places && profile->threads < threads; profile->threads++) {
         struct ring *ring = malloc(sizeof *ring + profile->most * sizeof(struct slice));
         if (!ring) break;
-        profile->rings[profile->threads] = ring;
+        profile->places[profile->threads].ring = ring;
     }
-    if (profile->threads == threads && profile->rings) return true;
+    if (profile->threads == threads && profile->places) return true;
     profile_close_rings(profile);
     return false;
 }
 
 /* A run begins: its threads claim the rings anew. */
 static void profile_start(struct profile *profile) {
-    static uint64_t runs;
-    for (size_t t = 0; profile->run && t < profile->task_count; t++) profile->tasks[t].is_done = false;
+    for (size_t t = 0; t < profile->task_count; t++) profile->tasks[t].is_done = false;
     profile->start = instant_now(profile);
     for (uint32_t w = 0; w < profile->threads; w++)
-        *profile->rings[w] = (struct ring){.last = profile->start.ticks, .running = GERFMUOD_DAG_NONE};
+        *profile->places[w].ring = (struct ring){.last = profile->start.ticks, .running = GERFMUOD_DAG_NONE};
     profile->claimed = 0;
     profile->over = 0;
-    profile->run = __atomic_add_fetch(&runs, 1, __ATOMIC_RELAXED);
 }
 
 /* ---- recording */
 
-/* The ring of this thread in the run that it last saw; NULL if that run has too few. */
-static __thread struct {
-    uint64_t run;
-    struct ring *ring;
-} here;
-
-/* Returns the ring that this thread has claimed in this run, or NULL: a body may have used another team. */
-static NOINLINE struct ring *find_ring(struct profile *profile) {
-    uint32_t claimed = __atomic_load_n(&profile->claimed, __ATOMIC_RELAXED);
-    for (uint32_t w = 0; w < claimed && w < profile->threads; w++) {
-        struct ring *ring = profile->rings[w];
-        if (__atomic_load_n(&ring->owner, __ATOMIC_RELAXED) != &here) continue;
-        here.run = profile->run, here.ring = ring;
-        return ring;
-    }
+/* Returns the ring that this thread has claimed in this run, or NULL. */
+static struct ring *find_ring(const struct profile *profile) {
+    for (uint32_t w = 0; w < profile->claimed; w++)
+        if (pthread_equal(profile->places[w].owner, pthread_self())) return profile->places[w].ring;
     return NULL;
 }
 
-/* The same, and claims a ring if it has none. Returns NULL if there are more threads than the start announced. */
+/* Claims a ring for this thread. Returns NULL if there are more threads than the start announced. */
 static NOINLINE struct ring *claim_ring(struct profile *profile) {
-    struct ring *ring = find_ring(profile);
-    if (ring) return ring;
-    uint32_t claimed = __atomic_fetch_add(&profile->claimed, 1, __ATOMIC_RELAXED);
-    if (claimed < profile->threads) ring = profile->rings[claimed];
-    if (ring) __atomic_store_n(&ring->owner, &here, __ATOMIC_RELAXED);
-    here.run = profile->run, here.ring = ring;
-    return ring;
+    if (profile->claimed == profile->threads) return NULL;
+    struct place *place = &profile->places[profile->claimed++];
+    place->owner = pthread_self();
+    return place->ring;
 }
 
-/* Returns the time, which is not before the last one of this thread. */
-static inline uint64_t ring_time(const struct profile *profile, struct ring *ring) {
-    uint64_t now = ticks_now(profile);
+/* Returns the time, but not one before the last of this thread. */
+static inline uint64_t ring_time(struct ring *ring, uint64_t now) {
     if (now < ring->last) now = ring->last, ring->backwards++;
     return ring->last = now;
 }
@@ -246,29 +234,30 @@ static inline void ring_keep(const struct profile *profile, struct ring *ring, s
     ring->slices++;
 }
 
-/* The body of a task has ended in this thread. */
-static inline void profile_end_body(struct profile *profile, uint32_t task) {
-    struct ring *ring = here.run == profile->run ? here.ring : find_ring(profile);
+/* The body of a task has ended in this thread at this time. */
+static inline void profile_end_body(struct profile *profile, uint32_t task, uint64_t now) {
+    struct ring *ring = find_ring(profile);
     if (!ring || ring->running != task) return;
-    uint64_t now = ring_time(profile, ring);
+    now = ring_time(ring, now);
     ring->bodies += now - ring->begun;
     ring->tasks++;
     ring->running = GERFMUOD_DAG_NONE;
     ring_keep(profile, ring, (struct slice){ring->begun, now, task, ring->node});
 }
 
-/* What a turn that records has read: when it began, if it ended no body; and since when it waited, if it did; else 0. */
+/* What a turn that records has read: when it began, which ended the body before it; and since when it waited, or 0. */
 struct turn {
     uint64_t begun, waited;
 };
 
 /* A turn ends, and returns a task or GERFMUOD_DAG_NONE. */
 static inline void profile_end_turn(struct profile *profile, uint32_t node, uint32_t task, struct turn turn) {
-    struct ring *ring = here.run == profile->run ? here.ring : claim_ring(profile);
+    struct ring *ring = find_ring(profile);
+    if (!ring) ring = claim_ring(profile);
     if (!ring || ring->has_left) return;
     bool is_first = !ring->first; /* it may have begun before the start */
     if (is_first) ring->first = ring->last = turn.begun > ring->last ? turn.begun : ring->last;
-    uint64_t before = ring->last, now = ring_time(profile, ring);
+    uint64_t before = ring->last, now = ring_time(ring, ticks_now(profile));
     if (turn.waited) {
         if (turn.waited < before) turn.waited = before, ring->backwards += !is_first;
         if (turn.waited > now) turn.waited = now, ring->backwards++;
@@ -324,7 +313,7 @@ static void find_tasks(const struct profile *profile, struct times *times) {
     const struct slice *slice;
     for (size_t t = 0; t < profile->task_count; t++) times->tasks[t].thread = GERFMUOD_DAG_NONE;
     for (uint32_t w = 0; w < profile->threads; w++) {
-        const struct ring *ring = profile->rings[w];
+        const struct ring *ring = profile->places[w].ring;
         uint32_t number = 0;
         uint64_t last = since_start(profile, times, ring->last);
         if (last > times->elapsed) times->elapsed = last;
@@ -390,7 +379,7 @@ static void write_slice(FILE *file, const struct profile *profile, const struct 
 }
 
 static void write_thread(FILE *file, const struct profile *profile, const struct times *times, uint32_t thread) {
-    const struct ring *ring = profile->rings[thread];
+    const struct ring *ring = profile->places[thread].ring;
     const struct slice *slice;
     fprintf(file, ",\n{\"ph\":\"M\",\"pid\":1,\"tid\":%u,\"name\":\"thread_name\",\"args\":{\"name\":\"thread %u\"}}",
             (unsigned)thread + 1, (unsigned)thread);
@@ -427,7 +416,7 @@ static uint64_t time_of(const struct ring *ring) { return ring->first ? ring->la
 static uint64_t runtime_of(const struct ring *ring) { return time_of(ring) - ring->bodies - ring->waits; }
 
 static void write_worker(FILE *file, const struct profile *profile, const struct times *times, uint32_t thread) {
-    const struct ring *ring = profile->rings[thread];
+    const struct ring *ring = profile->places[thread].ring;
     uint32_t oldest, kept = kept_in(profile, ring, &oldest);
     fprintf(file, "%s\n{\"thread\":%u,\"tasks\":%u", thread ? "," : "", (unsigned)thread, (unsigned)ring->tasks);
     write_time(file, "first_turn_us", since_start(profile, times, ring->first));
@@ -464,7 +453,7 @@ static void write_share(FILE *file, uint64_t part, uint64_t all) {
 static void profile_summarize(FILE *file, const struct profile *profile, const struct times *times) {
     fprintf(file, "thread    tasks    bodies   waiting   runtime\n");
     for (uint32_t w = 0; w < profile->threads; w++) {
-        const struct ring *ring = profile->rings[w];
+        const struct ring *ring = profile->places[w].ring;
         uint64_t all = time_of(ring);
         fprintf(file, "%6u %8u", (unsigned)w, (unsigned)ring->tasks);
         write_share(file, ring->bodies, all);

@@ -1,9 +1,9 @@
 /* gerfmuod_team.c: a pool of gerfmuod_dag.h with a lock and threads that wait. C over pthreads, not proved.
  *
- * One mutex protects the pool and every field; what a thread records of a run is its own (gerfmuod_profile.h). A thread that
- * finds no task first spins on a counter of its node, if there is a processor for it, and then sleeps on a condition variable
- * of its node. News of a node, from a task that is done or from outside, raises its counter and wakes one of its threads. A
- * thread that finds the lock held retries it with exponential backoff before it blocks. */
+ * One mutex protects the pool, every field and what the threads record of a run (gerfmuod_profile.h); no atomic operation is
+ * used. A thread that finds no task first polls a counter of its node, if there is a processor for it, and then sleeps on a
+ * condition variable of its node. News of a node, from a task that is done or from outside, raises its counter and wakes one
+ * of its threads. A thread that finds the lock held retries it with exponential backoff before it blocks. */
 #ifndef _GNU_SOURCE
 #define _GNU_SOURCE /* sched_getaffinity */
 #endif
@@ -18,8 +18,9 @@
 #include <string.h>
 #include <unistd.h>
 
-/* The number of polls of a thread in one turn before it sleeps: 20 to 100 microseconds. */
-enum { SPINS = 2000, ALL_NODES = (1 << GERFMUOD_DAG_MAX_NODES) - 1 };
+/* The pauses of the processor between the polls of a thread in one turn before it sleeps: 20 to 100 microseconds. Each poll
+ * takes the lock, so the pauses grow. */
+enum { SPINS = 2000, FIRST_POLL = 16, MOST_POLL = 128, ALL_NODES = (1 << GERFMUOD_DAG_MAX_NODES) - 1 };
 
 /* How often a contended lock is retried before the thread blocks, and the pauses of the processor before the first retry and,
  * doubled each time, at most: up to 60 microseconds in all. A turn mostly holds the lock for less than half a microsecond;
@@ -36,16 +37,15 @@ struct gerfmuod_team {
     uint32_t sleeping[GERFMUOD_DAG_MAX_NODES];
     uint32_t first_task[GERFMUOD_DAG_MAX_NODES]; /* of each node, or GERFMUOD_DAG_NONE */
     uint32_t nodes, tasks, processors;
-    uint32_t threads;           /* 0 until a run is started; also read without the lock */
+    uint32_t threads;           /* 0 until a run is started */
     uint32_t fault, at;         /* the refusal that ends every turn, and the task of the last refusal */
     uint32_t executing;         /* tasks that were returned and are not done */
     uint32_t waiting, spinning; /* threads that wait, and those of them that spin */
     bool is_complete; /* the pool was started: a new task is held until it is released */
     bool is_traced, is_over, is_in_run;
     uint32_t waves; /* of a run that is over */
-    struct profile *profile; /* NULL unless the team records */
-    char apart[64]; /* keeps the counters that spinning threads read off the cache lines above */
-    uint32_t version[GERFMUOD_DAG_MAX_NODES]; /* incremented at news; read without the lock */
+    struct profile *profile; /* NULL unless the team records; the same in all turns */
+    uint32_t version[GERFMUOD_DAG_MAX_NODES]; /* incremented at news */
 };
 
 /* ---- the lock */
@@ -58,17 +58,27 @@ static inline void pause_processor(void) {
 #endif
 }
 
-/* Retries the lock, and blocks in the end. With more threads than processors the one that holds it may not be running, and a
- * thread that spins would keep it from that. */
-static NOINLINE void acquire_contended(gerfmuod_team *team) {
-    uint32_t pauses = FIRST_PAUSES, tries = TRIES;
-    if (__atomic_load_n(&team->threads, __ATOMIC_RELAXED) > team->processors) tries = 0;
-    for (; tries > 0; tries--) {
-        for (uint32_t i = 0; i < pauses; i++) pause_processor();
-        if (!pthread_mutex_trylock(&team->lock)) return;
+static void pause_for(uint32_t pauses) {
+    for (; pauses > 0; pauses--) pause_processor();
+}
+
+/* Retries the lock. Returns whether this thread got it. */
+static bool retry(gerfmuod_team *team) {
+    uint32_t pauses = FIRST_PAUSES;
+    for (uint32_t tries = TRIES; tries > 0; tries--) {
+        pause_for(pauses);
+        if (!pthread_mutex_trylock(&team->lock)) return true;
         if (pauses < MOST_PAUSES) pauses *= 2;
     }
-    pthread_mutex_lock(&team->lock);
+    return false;
+}
+
+/* Retries the lock, and blocks in the end. With more threads than processors the one that holds it may not be running, and a
+ * thread that retries would keep it from that: so a thread remembers how it was when it last contended for a lock. */
+static NOINLINE void acquire_contended(gerfmuod_team *team) {
+    static __thread bool is_crowded;
+    if (is_crowded || !retry(team)) pthread_mutex_lock(&team->lock);
+    is_crowded = team->threads > team->processors;
 }
 
 static inline void acquire(gerfmuod_team *team) {
@@ -88,20 +98,35 @@ static uint32_t processors(void) {
     return online > 0 ? (uint32_t)online : 1;
 }
 
+static void close_conditions(gerfmuod_team *team, uint32_t count) {
+    while (count > 0) pthread_cond_destroy(&team->news[--count]);
+}
+
+/* Initializes the lock and the condition variables. Returns whether that succeeded; if not, none of them is left. */
+static bool open_lock(gerfmuod_team *team) {
+    if (pthread_mutex_init(&team->lock, NULL)) return false;
+    uint32_t count = 0;
+    while (count < GERFMUOD_DAG_MAX_NODES && !pthread_cond_init(&team->news[count], NULL)) count++;
+    if (count == GERFMUOD_DAG_MAX_NODES) return true;
+    close_conditions(team, count);
+    pthread_mutex_destroy(&team->lock);
+    return false;
+}
+
 static uint32_t open_team(gerfmuod_team **opened, uint32_t nodes, bool is_traced) {
     *opened = NULL;
     gerfmuod_team *team = calloc(1, sizeof *team);
     if (!team) return GERFMUOD_DAG_NO_MEMORY;
     uint32_t refused = is_traced ? gerfmuod_dag_open(&team->dag, nodes) : gerfmuod_dag_open_untraced(&team->dag, nodes);
+    if (!refused && !open_lock(team)) {
+        gerfmuod_dag_close(&team->dag);
+        refused = GERFMUOD_DAG_NO_MEMORY;
+    }
     if (refused) {
         free(team);
         return refused;
     }
-    pthread_mutex_init(&team->lock, NULL);
-    for (uint32_t i = 0; i < GERFMUOD_DAG_MAX_NODES; i++) {
-        pthread_cond_init(&team->news[i], NULL);
-        team->first_task[i] = GERFMUOD_DAG_NONE;
-    }
+    for (uint32_t i = 0; i < GERFMUOD_DAG_MAX_NODES; i++) team->first_task[i] = GERFMUOD_DAG_NONE;
     team->nodes = nodes;
     team->processors = processors();
     team->at = GERFMUOD_DAG_NONE;
@@ -118,8 +143,8 @@ void gerfmuod_team_close(gerfmuod_team *team) {
     if (!team) return;
     gerfmuod_dag_close(&team->dag);
     profile_close(team->profile);
+    close_conditions(team, GERFMUOD_DAG_MAX_NODES);
     pthread_mutex_destroy(&team->lock);
-    for (uint32_t i = 0; i < GERFMUOD_DAG_MAX_NODES; i++) pthread_cond_destroy(&team->news[i]);
     free(team);
 }
 
@@ -127,7 +152,7 @@ void gerfmuod_team_close(gerfmuod_team *team) {
 static void wake(gerfmuod_team *team, uint32_t nodes, bool wake_all) {
     for (uint32_t i = 0; nodes >> i; i++) {
         if (!(nodes >> i & 1)) continue;
-        __atomic_fetch_add(&team->version[i], 1, __ATOMIC_RELAXED);
+        team->version[i]++;
         if (team->sleeping[i] && wake_all) pthread_cond_broadcast(&team->news[i]);
         else if (team->sleeping[i]) pthread_cond_signal(&team->news[i]);
     }
@@ -296,7 +321,7 @@ static uint32_t start(gerfmuod_team *team, uint32_t threads) {
     if (!team->is_complete) refused = gerfmuod_dag_start(&team->dag).refused;
     if (refused) return refuse(team, refused, GERFMUOD_DAG_NONE);
     team->is_complete = true;
-    __atomic_store_n(&team->threads, threads, __ATOMIC_RELAXED);
+    team->threads = threads;
     if (team->profile) profile_start(team->profile);
     tell(team, ALL_NODES, true);
     return GERFMUOD_DAG_OK;
@@ -316,21 +341,22 @@ static void sleep_until_news(gerfmuod_team *team, uint32_t node) {
     team->sleeping[node]--;
 }
 
-/* Polls until there is news, without the lock. Returns the number of polls that are left. */
+/* Polls until there is news, and releases the lock between polls. Returns the number of pauses that are left. */
 static uint32_t spin_until_news(gerfmuod_team *team, uint32_t node, uint32_t spins) {
-    uint32_t seen = __atomic_load_n(&team->version[node], __ATOMIC_RELAXED);
+    uint32_t seen = team->version[node], pauses = FIRST_POLL;
     team->spinning++;
-    release(team);
-    while (spins > 0 && __atomic_load_n(&team->version[node], __ATOMIC_RELAXED) == seen) {
-        pause_processor();
-        spins--;
+    while (spins > 0 && team->version[node] == seen) {
+        release(team);
+        pause_for(pauses);
+        spins -= pauses < spins ? pauses : spins;
+        if (pauses < MOST_POLL) pauses *= 2;
+        acquire(team);
     }
-    acquire(team);
     team->spinning--;
     return spins;
 }
 
-/* Waits for news at a node: spins if polls are left and a processor is idle. Returns the number of polls that are left. */
+/* Waits for news at a node: polls if pauses are left and a processor is idle. Returns the number of pauses that are left. */
 static uint32_t wait_for_news(gerfmuod_team *team, uint32_t node, uint32_t spins, uint64_t *waited_from) {
     if (team->profile && !*waited_from) *waited_from = ticks_now(team->profile);
     team->waiting++;
@@ -373,27 +399,38 @@ static uint32_t task_of(gerfmuod_dag_answer answer) {
     return !answer.refused && answer.told == GERFMUOD_DAG_RUN ? answer.number : GERFMUOD_DAG_NONE;
 }
 
+/* A task was run at a node. */
+static inline ALWAYS_INLINE void report_done(struct profile *profile, gerfmuod_team *team, uint32_t node, uint32_t task) {
+    gerfmuod_dag_answer answer = gerfmuod_dag_done(&team->dag, node, task);
+    if (answer.refused) {
+        fail(team, answer.refused, task);
+        return;
+    }
+    team->executing--;
+    if (profile) profile->tasks[task].is_done = true;
+    tell(team, answer.news, false);
+}
+
+/* A turn at a node that does not exist. If it reports a task, the tasks after that one would wait for ever, so it ends the team. */
+static NOINLINE uint32_t refuse_node(gerfmuod_team *team, uint32_t done) {
+    if (done == GERFMUOD_DAG_NONE || team->is_over) return refuse(team, GERFMUOD_DAG_NO_NODE, done);
+    return fail(team, GERFMUOD_DAG_NO_NODE, done);
+}
+
 /* A turn, which is compiled twice: with the profile of a team that records, and with NULL. */
 static inline ALWAYS_INLINE gerfmuod_dag_answer turn_with(struct profile *profile, gerfmuod_team *team, uint32_t node, uint32_t done) {
-    gerfmuod_dag_answer answer = {GERFMUOD_DAG_NO_NODE, 0, 0, 0};
-    struct turn turn = {0, 0};
-    if (profile && done == GERFMUOD_DAG_NONE) turn.begun = ticks_now(profile);
-    else if (profile) profile_end_body(profile, done);
+    gerfmuod_dag_answer answer = {0, 0, 0, 0};
+    struct turn turn = {profile ? ticks_now(profile) : 0, 0};
     acquire(team);
+    if (profile && done != GERFMUOD_DAG_NONE) profile_end_body(profile, done, turn.begun);
     if (node < team->nodes) {
-        if (done != GERFMUOD_DAG_NONE && !team->fault) {
-            answer = gerfmuod_dag_done(&team->dag, node, done);
-            if (answer.refused) fail(team, answer.refused, done);
-            else {
-                team->executing--;
-                if (profile) profile->tasks[done].is_done = true;
-                tell(team, answer.news, false);
-            }
-        }
+        if (done != GERFMUOD_DAG_NONE && !team->fault) report_done(profile, team, node, done);
         answer = take(team, node, &turn.waited);
+    } else {
+        answer.refused = refuse_node(team, done);
     }
+    if (profile) profile_end_turn(profile, node, task_of(answer), turn);
     release(team);
-    if (profile && node < team->nodes) profile_end_turn(profile, node, task_of(answer), turn);
     return answer;
 }
 
@@ -406,8 +443,10 @@ gerfmuod_dag_answer gerfmuod_team_turn(gerfmuod_team *team, uint32_t node, uint3
 }
 
 void gerfmuod_team_stop(gerfmuod_team *team, uint32_t task) {
-    if (task != GERFMUOD_DAG_NONE && team->profile) profile_end_body(team->profile, task);
+    struct profile *profile = task == GERFMUOD_DAG_NONE ? NULL : team->profile;
+    uint64_t now = profile ? ticks_now(profile) : 0;
     acquire(team);
+    if (profile) profile_end_body(profile, task, now);
     if (!team->is_over) fail(team, GERFMUOD_TEAM_STOPPED, task);
     release(team);
 }
@@ -464,7 +503,7 @@ static uint32_t run_workers(gerfmuod_team *team, struct run *run, struct worker 
     release(team);
     if (!refused) run_tasks(run, 0);
     for (uint32_t w = 1; w < begun; w++) pthread_join(workers[w].thread, NULL);
-    return refused ? refused : team->fault;
+    return refused;
 }
 
 uint32_t gerfmuod_team_run(gerfmuod_team *team, uint32_t threads, gerfmuod_team_body body, void *context) {
@@ -475,16 +514,16 @@ uint32_t gerfmuod_team_run(gerfmuod_team *team, uint32_t threads, gerfmuod_team_
     release(team);
     if (refused) return refused;
     struct worker *workers = calloc(threads, sizeof *workers);
-    if (workers) {
-        pthread_cond_init(&run.gate, NULL);
+    if (workers && !pthread_cond_init(&run.gate, NULL)) {
         refused = run_workers(team, &run, workers, threads);
         pthread_cond_destroy(&run.gate);
-        free(workers);
     } else {
         refused = GERFMUOD_DAG_NO_MEMORY;
     }
+    free(workers);
     acquire(team);
     team->is_in_run = false;
+    if (!refused) refused = team->fault;
     release(team);
     return refused;
 }
@@ -495,7 +534,7 @@ uint32_t gerfmuod_team_again(gerfmuod_team *team) {
     /* a thread that waits is in a turn of the run that ended */
     if (!refused && (team->is_in_run || team->waiting)) refused = refuse(team, GERFMUOD_TEAM_RUNNING, GERFMUOD_DAG_NONE);
     if (!refused) refused = result_of(team, gerfmuod_dag_again(&team->dag), GERFMUOD_DAG_NONE);
-    if (!refused) __atomic_store_n(&team->threads, 0, __ATOMIC_RELAXED), team->is_over = false;
+    if (!refused) team->threads = 0, team->is_over = false;
     release(team);
     return refused;
 }
@@ -514,6 +553,8 @@ uint32_t gerfmuod_team_record(gerfmuod_team *team, uint32_t slices) {
     acquire(team);
     uint32_t refused = check_description(team);
     if (!refused && team->tasks) refused = refuse(team, GERFMUOD_DAG_WRONG_LIFE, GERFMUOD_DAG_NONE);
+    /* a thread that waits is in a turn, which records or does not */
+    if (!refused && team->waiting) refused = refuse(team, GERFMUOD_TEAM_RUNNING, GERFMUOD_DAG_NONE);
     if (!refused) {
         struct profile *profile = slices ? profile_open(slices) : NULL;
         if (slices && !profile) refused = refuse(team, GERFMUOD_DAG_NO_MEMORY, GERFMUOD_DAG_NONE);

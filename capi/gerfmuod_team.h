@@ -124,10 +124,10 @@ size_t gerfmuod_team_trace(gerfmuod_team *team, char *room, size_t length);
 /* ---- what a run spent its time on */
 
 /* Records each later run: when each body begins and ends and on which thread, and when threads wait. A thread writes into memory
- * of its own, without a lock, and keeps its newest `slices` bodies and waits, of 24 bytes each. 0 ends recording. While a team
- * records, its graph takes 3 bytes more for a task and 8 for an input, and a run is also refused as NO_MEMORY if there is no
- * memory for the slices. Refused, and nothing changes: the reason that ends every turn; WRONG_LIFE if the team has a task or was
- * started; NO_MEMORY. */
+ * of its own, while it holds the team's lock, and keeps its newest `slices` bodies and waits, of 24 bytes each. 0 ends recording.
+ * While a team records, its graph takes 3 bytes more for a task and 8 for an input, and a run is also refused as NO_MEMORY if
+ * there is no memory for the slices. No other thread may be in a call on the team. Refused, and nothing changes: the reason that
+ * ends every turn; WRONG_LIFE if the team has a task or was started; RUNNING if a turn waits for the start; NO_MEMORY. */
 uint32_t gerfmuod_team_record(gerfmuod_team *team, uint32_t slices);
 
 /* Writes the last run in Chrome's trace event format, JSON for viewers of timelines: a track for
@@ -155,7 +155,7 @@ uint32_t gerfmuod_team_start(gerfmuod_team *team, uint32_t threads);
 
 /* One turn of a thread: reports the task that it ran as done (or GERFMUOD_DAG_NONE: none), and takes the next one. Waits
  * until the node has a task or the pool is over, so `told` is GERFMUOD_DAG_RUN or OVER. After a refusal every later turn
- * is refused too: the thread has to leave. */
+ * is refused too: the thread has to leave. Only NO_NODE (there is no such node) of a turn that reports no task changes nothing. */
 gerfmuod_dag_answer gerfmuod_team_turn(gerfmuod_team *team, uint32_t node, uint32_t done);
 
 /* Stops the team because of a task (or GERFMUOD_DAG_NONE): each turn, also one that waits, is then refused as STOPPED. */

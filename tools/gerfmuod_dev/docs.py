@@ -9,6 +9,7 @@
 - README.md has at most 130 lines, and none of over 120 columns: only warnings, unless --strict is given
 - the table of docs/ARCHITECTURE.md has the groups of crates.txt, and the plots are drawn from what is stored (`tools/dev plot`)
 - docs/PROVED.md names only calls and clauses that exist
+- the runtime and the library's C code use no atomic operation
 
 Prints each difference, and a line for each kind of check. The last line is `N passed, M failed`; the status is 1 if one
 failed.
@@ -18,7 +19,7 @@ import os
 import re
 from urllib.parse import unquote
 
-from . import crate_map, memory_table, plots, proved, repository
+from . import atomics, crate_map, memory_table, plots, proved, repository
 from .bench import figures
 from .repository import text_of
 from .running import Tally
@@ -139,4 +140,5 @@ def run(options):
     crate_map.check(tally)
     plots.check(tally, [name for name in plots.PLOTS if name not in figures.PLOTS])
     proved.check(tally)
+    atomics.check(tally)
     return tally.end()

@@ -7,8 +7,7 @@ mod tree;
 
 use crate::member::{Content, Fault, Mailbox, Member, Totals};
 use std::alloc::{AllocError, Global};
-use std::sync::Wait;
-use std::sync::atomic::{AtomicBool, Ordering};
+use std::sync::{Mutex, Wait};
 use std::thread::{JoinHandle, SpawnError, Threads};
 use std::time::Clock;
 use std::{io, thread};
@@ -64,7 +63,7 @@ fn run_threads<R: Threads + Wait + Clock + Sync>(
     processes: u32,
     mailboxes: &[Mailbox],
 ) -> Result<Totals, Fault> {
-    let has_failed = AtomicBool::new(false);
+    let has_failed = Mutex::new(false);
     let failed = &has_failed;
     let mut members = Vec::new(alloc);
     for number in 0..processes {
@@ -74,13 +73,13 @@ fn run_threads<R: Threads + Wait + Clock + Sync>(
         let mut handles = Vec::new(alloc);
         for member in members {
             if keep(&mut handles, scope.spawn(move || member.run())).is_err() {
-                failed.store(true, Ordering::SeqCst);
+                *failed.lock(rt) = true;
                 break;
             }
         }
         totals_of(rt, handles)
     })?;
-    if has_failed.load(Ordering::SeqCst) {
+    if has_failed.into_inner() {
         return Err(Fault::NoMemory);
     }
     Ok(totals)

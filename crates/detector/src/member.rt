@@ -3,8 +3,7 @@
 use crate::tree::Task;
 use crossbeam_channel::{Receiver, Sender};
 use std::alloc::{AllocError, AllocFailed, Global};
-use std::sync::Wait;
-use std::sync::atomic::{AtomicBool, Ordering};
+use std::sync::{Mutex, Wait};
 use std::time::{Clock, Duration};
 use tp_process::{ControlMessage, Next, Process, Refusal};
 
@@ -107,7 +106,7 @@ pub struct Member<'a, R> {
     processes: u32,
     mailboxes: &'a [Mailbox],
     /// A process has given up.
-    has_failed: &'a AtomicBool,
+    has_failed: &'a Mutex<bool>,
     process: Process,
     waiting: Vec<Task>,
     /// Messages of the next epoch.
@@ -125,7 +124,7 @@ impl<'a, R: Wait + Clock> Member<'a, R> {
         number: u32,
         processes: u32,
         mailboxes: &'a [Mailbox],
-        has_failed: &'a AtomicBool,
+        has_failed: &'a Mutex<bool>,
     ) -> Result<Self, Fault> {
         Ok(Member {
             rt,
@@ -144,7 +143,7 @@ impl<'a, R: Wait + Clock> Member<'a, R> {
     pub fn run(mut self) -> Result<Totals, Fault> {
         let ended = self.run_epochs();
         if ended.is_err() {
-            self.has_failed.store(true, Ordering::SeqCst);
+            *self.has_failed.lock(self.rt) = true;
         }
         ended?;
         Ok(self.totals)
@@ -185,7 +184,7 @@ impl<'a, R: Wait + Clock> Member<'a, R> {
     /// Receives a message, or runs a task. If there is neither and `may_wait` is set, waits for a message for a short
     /// time.
     fn proceed(&mut self, may_wait: bool) -> Result<(), Fault> {
-        if self.has_failed.load(Ordering::SeqCst) {
+        if *self.has_failed.lock(self.rt) {
             return Err(Fault::Stopped);
         }
         let mailbox = find_mailbox(self.mailboxes, u64::from(self.number))?;

@@ -89,7 +89,7 @@ fn written<O: Write>(out: &mut O, text: &[u8]) -> Result<(), Fault> {
 }
 
 /// Writes the profile of a run that has ended, if one is asked for.
-fn profiled<R: Clock + Files>(
+fn profiled<R: Clock + Files + Wait>(
     rt: &R,
     alloc: Global,
     profile: &Profile,

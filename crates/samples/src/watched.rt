@@ -25,13 +25,13 @@ pub(crate) struct Watch<'a> {
 }
 
 /// A stencil whose blocks are timed. It does not learn which block it computes, so all are recorded as task 0 of node 0.
-struct TimedBlocks<'a, S: Copy, C> {
+struct TimedBlocks<'a, S: Copy, R> {
     inner: S,
-    clock: &'a C,
+    rt: &'a R,
     log: &'a Log,
 }
 
-impl<'a, S: Copy, C> Clone for TimedBlocks<'a, S, C> {
+impl<'a, S: Copy, R> Clone for TimedBlocks<'a, S, R> {
     ghost is_clone = { λ x y. y.inner ≡ x.inner };
 
     ghost is_infallible = { λ _. ⊤ };
@@ -39,15 +39,15 @@ impl<'a, S: Copy, C> Clone for TimedBlocks<'a, S, C> {
     fn clone(&self) -> Result<Self, AllocError> {
         Ok(TimedBlocks {
             inner: self.inner,
-            clock: self.clock,
+            rt: self.rt,
             log: self.log,
         })
     }
 }
 
-impl<'a, S: Copy, C> Copy for TimedBlocks<'a, S, C> {}
+impl<'a, S: Copy, R> Copy for TimedBlocks<'a, S, R> {}
 
-impl<'a, S: Stencil, C: Clock + Sync> Stencil for TimedBlocks<'a, S, C> {
+impl<'a, S: Stencil, R: Clock + Wait + Sync> Stencil for TimedBlocks<'a, S, R> {
     ghost step = { λ t. S.step t.inner };
 
     ghost next = { λ t. S.next t.inner };
@@ -74,9 +74,9 @@ impl<'a, S: Stencil, C: Clock + Sync> Stencil for TimedBlocks<'a, S, C> {
         own: &[i64],
         behind: &[i64],
     ) -> Result<Vec<i64>, AllocError> {
-        let begin = self.log.now(self.clock);
+        let begin = self.log.now(self.rt);
         let made = self.inner.next(alloc, before, own, behind);
-        self.log.record(self.clock, 0, 0, begin);
+        self.log.record(self.rt, 0, 0, begin);
         made
     }
 }
@@ -103,7 +103,7 @@ pub(crate) fn run_in_parts_watched<S: Stencil, R: Threads + Wait + Sync + Clock>
     };
     let timed = TimedBlocks {
         inner: stencil,
-        clock: rt,
+        rt,
         log,
     };
     let made = run_in_parts_counted(rt, alloc, timed, cells, size, steps, config, progress)?;

@@ -1,9 +1,10 @@
 //! The times of a run as Chrome's trace events in JSON, which viewers of timelines read.
-use crate::log::{Body, Log};
+use crate::log::{Bodies, Body, Log};
 use crate::tracks::Tracks;
 use std::alloc::{AllocError, Global};
 use std::fmt;
 use std::rt::Clock;
+use std::sync::Wait;
 use tp_base::MAX_NODES;
 
 /// About how often at most the number of bodies done is written for a node.
@@ -32,37 +33,31 @@ impl fmt::Display for Micros {
 }
 
 /// Returns the events of a run that has just ended, as one JSON object. Refused if an allocation fails.
-pub(crate) fn events_of<C: Clock>(
+pub(crate) fn events_of<R: Clock + Wait>(
     alloc: Global,
-    clock: &C,
+    rt: &R,
     log: &Log,
     run: Run,
 ) -> Result<String, AllocError> {
-    let elapsed = log.now(clock);
-    let bodies = log.bodies(alloc)?;
+    let elapsed = log.now(rt);
+    let bodies = log.bodies(rt, alloc)?;
     let mut text = String::new(alloc);
-    push_head(&mut text, log, &bodies, run, elapsed)?;
+    push_head(&mut text, &bodies, run, elapsed)?;
     let nodes = if run.has_tasks { run.nodes } else { 1 };
     for node in 0..nodes.min(MAX_NODES) {
-        push_bodies(alloc, &mut text, &bodies, node, run.has_tasks)?;
-        push_counts(alloc, &mut text, &bodies, node)?;
+        push_bodies(alloc, &mut text, &bodies.kept, node, run.has_tasks)?;
+        push_counts(alloc, &mut text, &bodies.kept, node)?;
     }
     text.push_str("\n]}\n")?;
     Ok(text)
 }
 
 /// Appends what the file says of the whole run, and an event at its end.
-fn push_head(
-    text: &mut String,
-    log: &Log,
-    bodies: &[Body],
-    run: Run,
-    elapsed: u64,
-) -> Result<(), AllocError> {
-    let (nodes, workers, count) = (run.nodes, run.workers, log.count());
-    let lost = count.saturating_sub(bodies.len() as u64);
+fn push_head(text: &mut String, bodies: &Bodies, run: Run, elapsed: u64) -> Result<(), AllocError> {
+    let (nodes, workers, count) = (run.nodes, run.workers, bodies.count);
+    let lost = count.saturating_sub(bodies.kept.len() as u64);
     let mut all: u64 = 0;
-    for body in bodies {
+    for body in &bodies.kept {
         all = all.saturating_add(body.length());
     }
     let (elapsed, all) = (Micros(elapsed), Micros(all));
@@ -92,7 +87,7 @@ fn push_bodies(
     let process = u64::from(node) + 1;
     let mut tracks = Tracks::new(alloc);
     for body in bodies {
-        if body.node == u64::from(node) {
+        if body.node == node {
             let thread = tracks.take(body.begin, body.end)?.saturating_add(1);
             let (begin, length) = (Micros(body.begin), Micros(body.length()));
             write!(
@@ -114,7 +109,7 @@ fn push_bodies(
 }
 
 /// Appends the last fields of a body's slice.
-fn push_what(text: &mut String, task: u64, has_tasks: bool) -> Result<(), AllocError> {
+fn push_what(text: &mut String, task: u32, has_tasks: bool) -> Result<(), AllocError> {
     if has_tasks {
         write!(
             text,
@@ -149,7 +144,7 @@ fn push_counts(
     let process = u64::from(node) + 1;
     let mut ends = Vec::new(alloc);
     for body in bodies {
-        if body.node == u64::from(node) {
+        if body.node == node {
             ends.push(body.end)?;
         }
     }

@@ -1,7 +1,7 @@
-//! The log of a run: which body ran when. The threads that run bodies write it without a lock.
+//! The log of a run: which body ran when. The threads that run bodies write it under one lock.
 use std::alloc::{AllocError, Global};
 use std::rt::Clock;
-use std::sync::atomic::{AtomicU64, Ordering};
+use std::sync::{Mutex, Wait};
 use std::time::Duration;
 
 /// The most bodies that a log keeps. The events of one run suffice for fewer.
@@ -11,28 +11,34 @@ const MOST: u64 = 350_000;
 #[derive(Drop)]
 pub struct Log {
     start: Duration,
-    bodies: Vec<Entry>,
-    /// The number of all bodies that were recorded.
-    count: AtomicU64,
+    /// One lock suffices: it is held for one write, and a node's own locks are held for longer.
+    ring: Mutex<Ring>,
 }
 
-/// A place for a body. Its numbers are written one by one: after a run that has more bodies than places, two threads
-/// may have written the same place at the same time.
+/// The newest bodies, each at its number modulo the number of places.
 #[derive(Drop)]
-struct Entry {
-    node: AtomicU64,
-    task: AtomicU64,
-    begin: AtomicU64,
-    end: AtomicU64,
+struct Ring {
+    bodies: Vec<Body>,
+    /// The number of all bodies that were recorded.
+    count: u64,
 }
 
 /// A body that ran.
 #[derive(Clone, Copy, Debug, PartialEq, Eq)]
 pub(crate) struct Body {
-    pub(crate) node: u64,
-    pub(crate) task: u64,
+    pub(crate) node: u32,
+    pub(crate) task: u32,
     pub(crate) begin: u64,
     pub(crate) end: u64,
+}
+
+/// The bodies of a log.
+#[derive(Drop)]
+pub(crate) struct Bodies {
+    /// The number of all bodies that were recorded.
+    pub(crate) count: u64,
+    /// Those that were kept, in the order in which they began.
+    pub(crate) kept: Vec<Body>,
 }
 
 impl Body {
@@ -46,19 +52,10 @@ impl Log {
     /// Returns a log for a run of this many bodies, whose time begins now. If there are more than 350,000, it keeps the
     /// newest of them.
     pub(crate) fn new<C: Clock>(alloc: Global, clock: &C, bodies: u64) -> Result<Log, AllocError> {
-        let mut entries = Vec::new(alloc);
-        for _ in 0..bodies.min(MOST) {
-            entries.push(Entry {
-                node: AtomicU64::new(0),
-                task: AtomicU64::new(0),
-                begin: AtomicU64::new(0),
-                end: AtomicU64::new(0),
-            })?;
-        }
+        let ring = Ring::new(alloc, bodies.min(MOST))?;
         Ok(Log {
             start: clock.monotonic().unwrap_or(Duration::ZERO),
-            bodies: entries,
-            count: AtomicU64::new(0),
+            ring: Mutex::new(ring),
         })
     }
 
@@ -73,49 +70,62 @@ impl Log {
 
     /// Records that the body of a task has run at a node, and that it has ended now.
     #[inline]
-    pub fn record<C: Clock>(&self, clock: &C, node: u32, task: u32, begin: u64) {
-        let end = self.now(clock);
+    pub fn record<R: Clock + Wait>(&self, rt: &R, node: u32, task: u32, begin: u64) {
+        let end = self.now(rt).max(begin);
+        self.ring.lock(rt).push(Body {
+            node,
+            task,
+            begin,
+            end,
+        });
+    }
+
+    /// Returns what was recorded.
+    pub(crate) fn bodies<R: Wait>(&self, rt: &R, alloc: Global) -> Result<Bodies, AllocError> {
+        self.ring.lock(rt).bodies(alloc)
+    }
+}
+
+impl Ring {
+    fn new(alloc: Global, places: u64) -> Result<Ring, AllocError> {
+        let mut bodies = Vec::new(alloc);
+        for _ in 0..places {
+            bodies.push(Body {
+                node: 0,
+                task: 0,
+                begin: 0,
+                end: 0,
+            })?;
+        }
+        Ok(Ring { bodies, count: 0 })
+    }
+
+    /// Stores a body in the place of the oldest.
+    #[inline]
+    fn push(&mut self, body: Body) {
         let places = self.bodies.len() as u64;
         if places == 0 {
             return;
         }
-        let place = self.count.fetch_add(1, Ordering::SeqCst) % places;
-        if let Some(entry) = self.bodies.get(place as usize) {
-            entry.node.store(u64::from(node), Ordering::SeqCst);
-            entry.task.store(u64::from(task), Ordering::SeqCst);
-            entry.begin.store(begin, Ordering::SeqCst);
-            entry.end.store(end, Ordering::SeqCst);
+        let place = self.count % places;
+        if let Some(oldest) = self.bodies.get_mut(place as usize) {
+            *oldest = body;
         }
+        self.count = self.count.saturating_add(1);
     }
 
-    /// Returns the number of all bodies that were recorded.
-    pub(crate) fn count(&self) -> u64 {
-        self.count.load(Ordering::SeqCst)
-    }
-
-    /// Returns the bodies that were kept, in the order in which they began.
-    pub(crate) fn bodies(&self, alloc: Global) -> Result<Vec<Body>, AllocError> {
-        let count = self.count();
-        let mut bodies = Vec::new(alloc);
-        for (place, entry) in self.bodies.iter().enumerate() {
-            if (place as u64) < count {
-                bodies.push(entry.body())?;
+    fn bodies(&self, alloc: Global) -> Result<Bodies, AllocError> {
+        let mut kept = Vec::new(alloc);
+        for (place, body) in self.bodies.iter().enumerate() {
+            if (place as u64) < self.count {
+                kept.push(*body)?;
             }
         }
-        bodies.sort_unstable_by_key(|body| body.begin);
-        Ok(bodies)
-    }
-}
-
-impl Entry {
-    fn body(&self) -> Body {
-        let begin = self.begin.load(Ordering::SeqCst);
-        Body {
-            node: self.node.load(Ordering::SeqCst),
-            task: self.task.load(Ordering::SeqCst),
-            begin,
-            end: self.end.load(Ordering::SeqCst).max(begin),
-        }
+        kept.sort_unstable_by_key(|body| body.begin);
+        Ok(Bodies {
+            count: self.count,
+            kept,
+        })
     }
 }
 

@@ -5,6 +5,7 @@ use std::alloc::Global;
 use std::fs;
 use std::io::{self, ErrorKind};
 use std::rt::{Clock, Files};
+use std::sync::Wait;
 
 /// The profile of a run, if one is asked for.
 #[derive(Drop)]
@@ -31,7 +32,12 @@ impl<'a> Profile<'a> {
 
     /// Writes the file, if one is asked for, after the run has ended. Refused if the file cannot be created or written,
     /// and if an allocation failed; after a failed write the file may have a part of the text.
-    pub fn write<R: Clock + Files>(&self, rt: &R, alloc: Global, run: Run) -> io::Result<()> {
+    pub fn write<R: Clock + Files + Wait>(
+        &self,
+        rt: &R,
+        alloc: Global,
+        run: Run,
+    ) -> io::Result<()> {
         let Some(path) = self.path else {
             return Ok(());
         };

@@ -4,34 +4,35 @@ ghost use Rattle.std.specs.Prelude.{◌≡◌, ⊤};
 use crate::log::Log;
 use std::alloc::{AllocError, Global};
 use std::rt::Clock;
+use std::sync::Wait;
 use tp_base::{MAX_NODES, NodeId, Refusal, TaskId};
 use tp_graph::{Graph, Value};
 
 /// A graph whose bodies are timed; it has the same meaning as the inner graph.
-pub struct Timed<'a, T: Copy, C> {
+pub struct Timed<'a, T: Copy, R> {
     /// The graph.
     pub inner: T,
     /// The number of nodes of the run.
     nodes: u32,
-    clock: &'a C,
+    rt: &'a R,
     log: &'a Log,
 }
 
-impl<'a, T: Copy, C> Timed<'a, T, C> {
+impl<'a, T: Copy, R> Timed<'a, T, R> {
     /// Returns the graph with its bodies timed, for a run on this many nodes.
-    pub fn new(inner: T, nodes: u32, clock: &'a C, log: &'a Log) -> Self
+    pub fn new(inner: T, nodes: u32, rt: &'a R, log: &'a Log) -> Self
         ensures { result.inner ≡ inner }
     {
         Timed {
             inner,
             nodes,
-            clock,
+            rt,
             log,
         }
     }
 }
 
-impl<'a, T: Copy, C> Clone for Timed<'a, T, C> {
+impl<'a, T: Copy, R> Clone for Timed<'a, T, R> {
     ghost is_clone = { λ x y. y.inner ≡ x.inner };
 
     ghost is_infallible = { λ _. ⊤ };
@@ -40,15 +41,15 @@ impl<'a, T: Copy, C> Clone for Timed<'a, T, C> {
         Ok(Timed {
             inner: self.inner,
             nodes: self.nodes,
-            clock: self.clock,
+            rt: self.rt,
             log: self.log,
         })
     }
 }
 
-impl<'a, T: Copy, C> Copy for Timed<'a, T, C> {}
+impl<'a, T: Copy, R> Copy for Timed<'a, T, R> {}
 
-impl<'a, G: Graph, C: Clock + Sync> Graph for Timed<'a, G, C> {
+impl<'a, G: Graph, R: Clock + Wait + Sync> Graph for Timed<'a, G, R> {
     ghost meaning = { λ t. G.meaning t.inner };
 
     ghost lawful = { λ t. G.lawful t.inner };
@@ -91,10 +92,10 @@ impl<'a, G: Graph, C: Clock + Sync> Graph for Timed<'a, G, C> {
     /// Runs the graph's own body, and then records its times.
     #[inline]
     fn body(&self, alloc: Global, task: TaskId, inputs: &[Value]) -> Result<Value, Refusal> {
-        let begin = self.log.now(self.clock);
+        let begin = self.log.now(self.rt);
         let made = self.inner.body(alloc, task, inputs);
         let node = self.inner.home(task, self.nodes.clamp(1, MAX_NODES));
-        self.log.record(self.clock, node.0, task.0, begin);
+        self.log.record(self.rt, node.0, task.0, begin);
         made
     }
 }
