@@ -4,7 +4,7 @@ They work on the repository that they are in, from whatever folder they are call
 """
 import argparse
 
-from . import bench, build, capi, dag_programs, demo, docs, drawn, gate_times, lanes, library, limits, lines
+from . import bench, build, capi, checks, dag_programs, demo, docs, drawn, gate_times, lanes, library, limits, lines
 from . import mpi, mutants, new_pool, pages, proved, soak, summary, tries, words
 from .limits import cuts, generations, hostile_numbers, live, memory, pictures, progress, random_texts, reasons
 from .limits import refuse, refuse_tests, stacks, strange
@@ -13,6 +13,7 @@ from .shipping import completion, dist, installing, manual, package
 COMMANDS = {
     "build": build,
     "lib": library,
+    "test": checks,
     "capi": capi,
     "dag": dag_programs,
     "mpi": mpi,

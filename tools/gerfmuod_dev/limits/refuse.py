@@ -7,7 +7,8 @@ all allocations from there on failing. Each time it has to print its whole outpu
 were refused. The last line is `N passed, M failed`; the status is 1 if one failed, or if a command was never refused.
 Needs a C compiler.
 
-With --quick it tries a few commands, each with one allocation failing at a time, and nothing if a program is not built.
+With --quick it tries a few commands, each with one allocation failing at a time. The programs of bin/ have to be built from these
+sources.
 """
 import os
 import tempfile
@@ -140,20 +141,18 @@ def commands_of_samples(samples, folder):
 def arguments(parser):
     for name in PROGRAMS:
         running.program_argument(parser, name)
-    parser.add_argument("--quick", action="store_true", help="a few commands, if the programs are built: the form of make test")
+    parser.add_argument("--quick", action="store_true", help="a few commands: the form of make test")
 
 
 def run(options):
     programs = [getattr(options, name) for name in PROGRAMS]
-    if options.quick and not all(map(os.path.isfile, programs)):
-        print("Allocations that fail in turn were not tried: that needs `make`.")
-        return 0
     running.require(*programs)
     tally = running.Tally()
     with tempfile.TemporaryDirectory() as folder:
         library = running.preload_library("refuse", folder)
         if not library:
-            return 1
+            tally.skips("allocations that fail in turn", "gcc")
+            return tally.end()
         refusing = Refusing(folder, library)
         for command in (*commands_of_tp(options.tp, folder), *commands_of_samples(options.samples, folder)):
             if not options.quick:
