@@ -101,7 +101,8 @@ def report(parts):
     print("\n" + ROW.format("part", "minutes", "passed", "failed", "skipped"))
     print("\n".join(part.row for part in parts))
     lacking = collections.Counter(package for part in parts for package in SKIPPED.findall(part.output))
-    print("Skipped for lack of " + ", ".join(f"{package}: {count}" for package, count in lacking.most_common()) if lacking else "Nothing was skipped.")
+    skipped = ", ".join(f"{package} ({count})" for package, count in lacking.most_common())
+    print(f"Skipped for lack of packages: {skipped}" if lacking else "Nothing was skipped.")
     failing = [part.name for part in parts if part.counts[1]]
     if failing:
         print(f"FAILED: {' '.join(failing)}")

@@ -6,8 +6,8 @@ import argparse
 
 from . import bench, build, capi, checks, dag_programs, demo, docs, drawn, gate_times, lanes, library, limits, lines
 from . import mpi, mutants, new_pool, pages, proved, soak, summary, tries, words
-from .limits import cuts, generations, hostile_numbers, live, memory, pictures, progress, random_texts, reasons
-from .limits import refuse, refuse_tests, stacks, strange
+from .limits import cuts, hostile_numbers, live, memory, pictures, progress, random_texts, reasons
+from .limits import refuse, refuse_tests, strange
 from .shipping import completion, dist, installing, manual, package
 
 COMMANDS = {
@@ -43,9 +43,7 @@ LIMITS = {
     "refuse-tests": refuse_tests,
     "memory": memory,
     "live": live,
-    "stacks": stacks,
     "hostile-numbers": hostile_numbers,
-    "generations": generations,
     "pictures": pictures,
     "strange": strange,
     "progress": progress,

@@ -51,17 +51,20 @@ def programs(is_full):
     sorted_by = ", 0 parts without one; sorted as by qsort"
     # the second run has more parts than a pool has room for
     spawn = [Run(["1500000", "4", "1", "4", "8"], 0, sorted_by), Run(["2500000", "2", "1", "4"], 0, "349522 tasks")]
+    small_jacobi = [["32", "16", "3", "1", "2x2", "2x2:1"]]
     small_grain = [[shape, "200", "1", "1", "3x1"] for shape in SHAPES]
     ways = ["loop", "1x1", "1x4", "2x2", "8x1"]
     grains = [*ways[:-1], "2x2t", "8x1"]
     # a graph of so many steps of Jacobi, run again and again
     repeated = ["1x4:1", "2x2:2", "4x1:5"]
     return [
+        # (these find a broken library soon)
+        Program("capi/dag/refusals.c", C, [Run([], 0, ", 0 not as they should be")], [["quick"]]),
+        Program("capi/dag/fuzz.c", C, fuzz, [["20000"]]),
         Program("capi/dag/first.c", C, [Run([], 0, "3.844231")], [[]], ["-lm"]),
         Program("capi/dag/first.cpp", CPP, [Run([], 0, "3.844231")], [[]]),
         Program("capi/dag/exceptions.cpp", CPP, [Run([], 0, "\nas it should be")], [[]]),
-        Program("capi/dag/refusals.c", C, [Run([], 0, ", 0 not as they should be")], [["quick"]]),
-        Program("capi/dag/jacobi.c", C, [Run(["128", "16", "20", "1", *repeated, *ways], 0, "8x1 1280")], [["32", "16", "3", "1", "2x2", "2x2:1"]]),
+        Program("capi/dag/jacobi.c", C, [Run(["128", "16", "20", "1", *repeated, *ways], 0, "8x1 1280")], small_jacobi),
         Program("capi/dag/cholesky.c", C, [Run(["256", "32", "1", *ways, "whole:1"], 0, "8x1 120")], [["64", "16", "1", "2x2"]], ["-lm"]),
         Program("capi/dag/recursion.c", C, [Run(["100000", "500", "1", *ways], 0, "8x1 511")], [["2000", "100", "1", "2x2"]]),
         Program("capi/dag/grain.c", C, [Run([shape, "5000", "10", "1", *grains], 0, "8x1 5000") for shape in SHAPES], small_grain),
@@ -76,7 +79,6 @@ def programs(is_full):
         Program("capi/dag/storm.c", [*C, *ADDRESS], storm[:1]),
         Program("capi/dag/profiles.c", [*C, TEST_CLOCK], [Run([], 0, ", 0 not as they should be")], [[]]),
         Program("capi/dag/profiles.c", [*C, TEST_CLOCK, *ADDRESS], [Run([], 0, ", 0 not as they should be")]),
-        Program("capi/dag/fuzz.c", C, fuzz, [["20000"]]),
         Program("capi/dag/fuzz.c", [*C, *ADDRESS], [Run([str(calls)], 0, "as the model says")]),
         Program("capi/dag/refusals.c", [*C, *ADDRESS], [Run([], 0, ", 0 not as they should be")]),
     ]

@@ -81,7 +81,8 @@ def program_argument(parser, name="tp"):
 def require(*programs):
     """Exits with status 1 if one of the programs is missing, or is one of bin/ that was built from other sources."""
     for program in programs:
-        reasons = [built.reason_not_built(name) for name, (_, path) in built.RESULTS.items() if os.path.abspath(program) == f"{TOP}/{path}"]
+        own = [name for name, (_, path) in built.RESULTS.items() if os.path.abspath(program) == f"{TOP}/{path}"]
+        reasons = [built.reason_not_built(name) for name in own]
         if not os.path.isfile(program) or not os.access(program, os.X_OK):
             reasons = [f"{program} is not a program"]
         if any(reasons):

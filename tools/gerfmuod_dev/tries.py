@@ -107,17 +107,16 @@ def run_built(program, cases, name):
     return result.status, (result.out + result.err).decode(errors="replace")
 
 
-def run_unproved(program, cases):
-    """Runs a program unproved on the cases of a folder; returns the status and the output of each that ended, by its name."""
-    output, _ = rt_try(program, "--seconds", SECONDS, "--cases", os.path.abspath(cases))
+def results_in(output):
+    """Returns the status and the output of each case that ended, by its name, from what `rt try --cases` printed."""
     found = re.findall(r"^== (\S+)\n(.*?)^case=\1 run=ended status=(\d+)", output, re.M | re.S)
     return {name: (int(status), text) for name, text, status in found}
 
 
 def run_cases(program, cases):
-    """Runs a program on the cases of a folder, and returns the same: the built program, if it is of these sources."""
+    """Runs a program on the cases of a folder, and returns the same: the built program, or unproved if it is not of these sources."""
     if built.reason_not_built(program):
-        return run_unproved(program, cases)
+        return results_in(rt_try(program, "--seconds", SECONDS, "--cases", os.path.abspath(cases))[0])
     names = case_names(cases)
     return dict(zip(names, running.in_parallel(names, lambda name: run_built(program, cases, name))))
 
