@@ -176,14 +176,6 @@ def compiled(program, folder):
     return path
 
 
-def run_all(tally, folder):
-    """Runs everything with the built library."""
-    check_symbols(tally)
-    run_programs(tally, PROGRAMS, command_of, folder)
-    check_page(tally, folder)
-    mpi.run_quick(tally, folder)
-
-
 def run_fuzz(folder):
     """Runs the long form of the fuzz."""
     tally, runs = Tally(), fuzz_runs(ALL_CALLS, range(1, SEEDS + 1))
@@ -244,5 +236,8 @@ def run(options):
         tally.fails(f"{reason}: no program of capi/ was linked and run. make lib builds it")
     else:
         with tempfile.TemporaryDirectory() as folder:
-            run_all(tally, folder)
+            check_symbols(tally)
+            run_programs(tally, PROGRAMS, command_of, folder)
+            check_page(tally, folder)
+            mpi.run_quick(tally, folder)
     return tally.end()

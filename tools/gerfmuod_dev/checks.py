@@ -6,6 +6,7 @@ parts with their minutes and counts, what was skipped for lack of which package,
 status is 1 if a test failed or a part did not end within its time limit.
 """
 import collections
+import contextlib
 import os
 import re
 import signal
@@ -13,7 +14,7 @@ import subprocess
 import threading
 import time
 from concurrent.futures import ThreadPoolExecutor, as_completed
-from dataclasses import dataclass, field
+from dataclasses import dataclass
 
 from . import repository
 
@@ -36,6 +37,8 @@ LIMIT, LIMIT_OF_GATE = 30, 175
 COUNTS = re.compile(r"^(\d+) passed, (\d+) failed", re.M)
 SKIPPED = re.compile(r"^SKIPPED for lack of (.*?): ", re.M)
 ROW = "{:<10} {:>8} {:>8} {:>8} {:>8}"
+# the processes of the parts that run
+RUNNING = set()
 
 
 @dataclass
@@ -45,11 +48,7 @@ class Part:
     name: str
     output: str
     seconds: float
-    counts: list = field(default_factory=list)
-
-    @property
-    def row(self):
-        return ROW.format(self.name, f"{self.seconds / 60:.1f}", *self.counts)
+    counts: list
 
 
 def counts_of(output, status):
@@ -57,6 +56,14 @@ def counts_of(output, status):
     found = COUNTS.findall(output)
     passed, failed = map(int, found[-1]) if found else (0, 1)
     return [passed, max(failed, int(status != 0)), len(SKIPPED.findall(output))]
+
+
+def end_all(number, _):
+    """Ends the parts that run, and this program."""
+    for process in list(RUNNING):
+        with contextlib.suppress(ProcessLookupError):
+            os.killpg(process.pid, signal.SIGKILL)
+    os._exit(128 + number)
 
 
 def run_part(name, command, minutes, is_shown):
@@ -67,12 +74,14 @@ def run_part(name, command, minutes, is_shown):
         timer = threading.Timer(60 * minutes, os.killpg, (process.pid, signal.SIGKILL))
         timer.daemon = True
         timer.start()
+        RUNNING.add(process)
         for line in process.stdout:
             lines.append(line)
             if is_shown:
                 print(line, end="", flush=True)
         has_ended = timer.is_alive()
         timer.cancel()
+        RUNNING.discard(process)
     if not has_ended:
         lines.append(f"FAILED: {name} did not end within {minutes} minutes\n")
     output = "".join(lines)
@@ -99,7 +108,7 @@ def run_tests():
 def report(parts):
     """Prints the table and the closing line; returns the exit status."""
     print("\n" + ROW.format("part", "minutes", "passed", "failed", "skipped"))
-    print("\n".join(part.row for part in parts))
+    print("\n".join(ROW.format(part.name, f"{part.seconds / 60:.1f}", *part.counts) for part in parts))
     lacking = collections.Counter(package for part in parts for package in SKIPPED.findall(part.output))
     skipped = ", ".join(f"{package} ({count})" for package, count in lacking.most_common())
     print(f"Skipped for lack of packages: {skipped}" if lacking else "Nothing was skipped.")
@@ -116,4 +125,6 @@ def arguments(parser):
 
 
 def run(options):
+    for number in (signal.SIGINT, signal.SIGTERM):
+        signal.signal(number, end_all)
     return report([*(run_gate() if options.gate else ()), *run_tests()])

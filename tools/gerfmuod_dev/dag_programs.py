@@ -254,17 +254,6 @@ def arguments(parser):
     parser.add_argument("--full", action="store_true", help=form)
 
 
-def run_all(tally, library_folder, is_full):
-    """Runs the programs with the library of a folder."""
-    with tempfile.TemporaryDirectory() as folder:
-        build = Build(library_folder, folder)
-        run_c(tally, build, is_full)
-        run_profiles(tally, build, is_full)
-        run_blas(tally, build)
-        run_fortran(tally, build)
-        run_python(tally, library_folder, folder)
-
-
 def run(options):
     repository.go_to_top()
     tally = Tally()
@@ -274,6 +263,12 @@ def run(options):
     reason = "" if options.library else library.reason_not_built()
     if reason:
         tally.fails(f"{reason}: no program of capi/dag was linked and run. make lib builds it")
-    else:
-        run_all(tally, options.library or "lib", options.full)
+        return tally.end()
+    with tempfile.TemporaryDirectory() as folder:
+        build = Build(options.library or "lib", folder)
+        run_c(tally, build, options.full)
+        run_profiles(tally, build, options.full)
+        run_blas(tally, build)
+        run_fortran(tally, build)
+        run_python(tally, options.library or "lib", folder)
     return tally.end()

@@ -1,6 +1,5 @@
 """Runs built programs, each with a time limit, compares their results, and counts the cases that pass."""
 import os
-import re
 import shutil
 import subprocess
 import sys
@@ -114,16 +113,6 @@ def in_parallel(items, action):
     """Yields what the action returns for each item, in their order; as many run at a time as there are processors."""
     with ThreadPoolExecutor(processors()) as pool:
         yield from pool.map(action, items)
-
-
-def has_traces(program):
-    """Whether the program has the option `run --trace`."""
-    return b"--trace" in run([program, "run", "--help"]).out
-
-
-def has_pools(program):
-    """Whether the program has the subcommand `pools`."""
-    return re.search(rb"^ *pools ", run([program, "--help"]).out, re.M) is not None
 
 
 def preload_library(name, folder):

@@ -1,7 +1,7 @@
 """Runs every test, every program, and the cases of the programs, and compares what they print.
 
-The tests and programs are runs of `rt try`, which proves nothing: `make gate` does. The cases run with bin/tp and bin/samples if
-these were built from these sources, which takes seconds, and else with `rt try`, which takes minutes. Prints a line for the tests
+They are runs of `rt try`, which proves nothing: `make gate` does. `tp` and `samples` and their cases run with bin/tp and bin/samples
+if these were built from these sources, which takes seconds instead of minutes. Prints a line for the tests
 of a crate, one for a program, one for its cases, whose exit statuses are compared and whose outputs are compared if they are
 stored, and one for the pictures of docs/figures that `samples draw` draws; if something failed, prints the output too. With
 --write, what the cases print is stored instead of compared. The last line is `N passed, M failed, K skipped`, each test, program
@@ -73,15 +73,20 @@ def difference(expected, output):
 
 
 def try_program(crate):
+    """Runs a program on its stored input and files: the built one, if it is of these sources."""
     folder = f"crates/{crate}"
     command, data = ["rt", "try", "--seconds", SECONDS], f"{folder}/data"
-    for name in sorted(os.listdir(data)) if os.path.isdir(data) else []:
-        command += ["--data", f"{name}={os.path.abspath(f'{data}/{name}')}"]
-    command += ["--", *text_of(f"{folder}/args", "").splitlines()]
-    result = subprocess.run(command, cwd=folder, input=text_of(f"{folder}/stdin", ""), capture_output=True, text=True)
-    expected, status = text_of(f"{folder}/stdout", ""), int(text_of(f"{folder}/status", "") or 0)
-    is_well = result.stdout == expected and result.returncode == status
-    details = f"status {result.returncode}, expected {status}\n{difference(expected, result.stdout)}{result.stderr}"
+    files = [f"{data}/{name}" for name in sorted(os.listdir(data))] if os.path.isdir(data) else []
+    for path in files:
+        command += ["--data", f"{os.path.basename(path)}={os.path.abspath(path)}"]
+    arguments_of, stdin = text_of(f"{folder}/args", "").splitlines(), text_of(f"{folder}/stdin", "").encode()
+    if is_built(crate):
+        result = run_built(crate, stdin, arguments_of, files)
+    else:
+        result = running.run([*command, "--", *arguments_of], stdin, cwd=folder, timeout=2 * int(SECONDS))
+    expected, status, out = text_of(f"{folder}/stdout", ""), int(text_of(f"{folder}/status", "") or 0), result.out.decode()
+    is_well = out == expected and result.status == status
+    details = f"status {result.status}, expected {status}\n{difference(expected, out)}{result.err.decode(errors='replace')}"
     line = f"{crate}: the program {'printed what is stored' if is_well else 'FAILED'}"
     return Outcome(line, int(is_well), int(not is_well), details)
 
@@ -98,12 +103,22 @@ def case_names(cases):
     return sorted(name for name in os.listdir(cases) if not name.endswith(".args"))
 
 
-def run_built(program, cases, name):
-    """Runs a built program on a case, in a folder of its own and without an environment, as `rt try` does."""
-    arguments_of = text_of(f"{cases}/{name}.args", "").splitlines()
+def is_built(program):
+    return program in built.RESULTS and not built.reason_not_built(program)
+
+
+def run_built(program, stdin, arguments_of, files=()):
+    """Runs a built program in a folder of its own, with copies of these files and without an environment, as `rt try` does."""
     with tempfile.TemporaryDirectory() as folder:
+        for path in files:
+            shutil.copy(path, folder)
         options = {"executable": f"{repository.TOP}/bin/{program}", "cwd": folder, "env": {}}
-        result = running.run(["program", *arguments_of], f"{cases}/{name}", **options)
+        return running.run(["program", *arguments_of], stdin, **options)
+
+
+def run_case(program, cases, name):
+    """Runs a built program on a case; returns its status, and its output with what it printed on standard error after it."""
+    result = run_built(program, f"{cases}/{name}", text_of(f"{cases}/{name}.args", "").splitlines())
     return result.status, (result.out + result.err).decode(errors="replace")
 
 
@@ -115,10 +130,10 @@ def results_in(output):
 
 def run_cases(program, cases):
     """Runs a program on the cases of a folder, and returns the same: the built program, or unproved if it is not of these sources."""
-    if built.reason_not_built(program):
+    if not is_built(program):
         return results_in(rt_try(program, "--seconds", SECONDS, "--cases", os.path.abspath(cases))[0])
     names = case_names(cases)
-    return dict(zip(names, running.in_parallel(names, lambda name: run_built(program, cases, name))))
+    return dict(zip(names, running.in_parallel(names, lambda name: run_case(program, cases, name))))
 
 
 def stored_outputs(path):
@@ -176,7 +191,7 @@ def try_pictures(crate):
 def groups_of_cases(crate):
     """Returns the cases of a program in groups that are tried at the same time: one group, if the built program runs them."""
     names = case_names(f"{STATUSES}/{crate}")
-    count = repository.lanes(repository.MEMORY_OF_A_TRIAL) if built.reason_not_built(crate) else 1
+    count = 1 if is_built(crate) else repository.lanes(repository.MEMORY_OF_A_TRIAL)
     return [names[first::count] for first in range(count)]
 
 

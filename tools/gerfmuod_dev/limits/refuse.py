@@ -93,12 +93,10 @@ def commands_of_tp(tp, folder):
         "run product:8:2:0, three nodes with two workers": "run product:8:2:0 --nodes 3 --workers 2",
         "run wavefront:40:30:0, one node": "run wavefront:40:30:0",
         "run reduce:4:0 --generations 3, two nodes": "run reduce:4:0 --generations 3 --nodes 2",
+        "run reduce:64:0 --trace": "run reduce:64:0 --trace",
+        "pools reduce:4:0 wavefront:2:3:0": "pools reduce:4:0 wavefront:2:3:0",
+        "help": "--help",
     }
-    if running.has_traces(tp):
-        runs["run reduce:64:0 --trace"] = "run reduce:64:0 --trace"
-    if running.has_pools(tp):
-        runs["pools reduce:4:0 wavefront:2:3:0"] = "pools reduce:4:0 wavefront:2:3:0"
-    runs["help"] = "--help"
     for name, arguments_of in runs.items():
         yield Command(name, [tp, *arguments_of.split()])
 
