@@ -1,7 +1,8 @@
 # make          proves the programs with all that they use, and builds them: bin/tp and bin/samples (half an hour on four
 #               cores the first time); tp comes first, and `make bin/tp` builds nothing else
 # make demo     two runs of the program, without proofs (a minute)
-# make test     every test and every program, without proofs (some minutes)
+# make test     every test and every program, without proofs: those in C, C++, Fortran and Python with the library of
+#               `make lib`, and the cases of the programs with those of `make` (some minutes; see docs/GATE.md)
 # make mpi      tree search with the detector for distributed programs, and Cholesky with a task graph in each process, over
 #               Open MPI, up to 16 processes (a few minutes)
 # make gate     the gate: every proof from scratch, its mutants, each test, each program (see docs/GATE.md; ANEW=1: nothing
@@ -53,16 +54,7 @@ demo:
 	@tools/dev demo
 
 test:
-	@tools/dev try
-	@tools/dev pages
-	@tools/dev limits strange --quick
-	@tools/dev limits refuse --quick
-	@tools/dev capi
-	@tools/dev dag
-	@tools/dev package
-	@tools/dev docs
-	@tools/dev bench --check
-	@tools/dev mutants --stale
+	@tools/dev test
 
 mpi: lib/libgerfmuod.a
 	@tools/dev mpi

@@ -1,11 +1,12 @@
 /* refusals.c: tests each refusal of a pool and of a team, and the state after a refused call. Prints a line for each that
- * differs from gerfmuod_dag.h and gerfmuod_team.h; the exit status is 1 if there is one.
+ * differs from gerfmuod_dag.h and gerfmuod_team.h; the exit status is 1 if there is one, and 124 if a team did not end.
  *
  *   refusals [quick]     quick: without what is too large
  */
 #define _POSIX_C_SOURCE 200809L
 #include "gerfmuod.h"
 #include "gerfmuod_team.h"
+#include "limit.h"
 #include <pthread.h>
 #include <stdbool.h>
 #include <stdio.h>
@@ -39,6 +40,12 @@ static void check_not_open(gerfmuod_dag *dag) {
     check("close without a pool", gerfmuod_dag_close(dag).refused, GERFMUOD_DAG_NO_POOL);
 }
 
+/* Closes a pool that is open, whatever its state. */
+static void close_pool(gerfmuod_dag *dag) {
+    check("close", gerfmuod_dag_close(dag).refused, GERFMUOD_DAG_OK);
+    check_not_open(dag);
+}
+
 static void check_description(void) {
     gerfmuod_dag dag;
     const uint32_t counts[] = {0, 9, UINT32_MAX};
@@ -59,8 +66,7 @@ static void check_description(void) {
     check("the second task", gerfmuod_dag_task(&dag, 1, 0).number, 1);
     check("its input", gerfmuod_dag_input(&dag, 0).refused, GERFMUOD_DAG_OK);
     check("the same input again", gerfmuod_dag_input(&dag, 0).refused, GERFMUOD_DAG_OK);
-    check("close", gerfmuod_dag_close(&dag).refused, GERFMUOD_DAG_OK);
-    check_not_open(&dag);
+    close_pool(&dag);
 }
 
 static void check_run(void) {
@@ -98,7 +104,7 @@ static void check_run(void) {
     check("input after the end", gerfmuod_dag_input(&dag, 0).refused, GERFMUOD_DAG_WRONG_LIFE);
     check("done after the end", gerfmuod_dag_done(&dag, 1, 1).refused, GERFMUOD_DAG_WRONG_LIFE);
     check("no such step", gerfmuod_dag_step(&dag, UINT32_MAX).kind, 255);
-    gerfmuod_dag_close(&dag);
+    close_pool(&dag);
 }
 
 /* Inputs from outside, before the start and after it. Task 1, at node 1, waits for task 0 at node 0. */
@@ -141,7 +147,7 @@ static void check_outside(void) {
     check("over", gerfmuod_dag_next(&dag, 0).told, GERFMUOD_DAG_OVER);
     check("outside after the end", gerfmuod_dag_outside(&dag, 1).refused, GERFMUOD_DAG_WRONG_LIFE);
     check("release after the end", gerfmuod_dag_release(&dag, 1).refused, GERFMUOD_DAG_WRONG_LIFE);
-    gerfmuod_dag_close(&dag);
+    close_pool(&dag);
     gerfmuod_dag_open(&dag, 1);
     gerfmuod_dag_task(&dag, 0, 0);
     check("outside", gerfmuod_dag_outside(&dag, 0).refused, GERFMUOD_DAG_OK);
@@ -149,7 +155,7 @@ static void check_outside(void) {
     gerfmuod_dag_start(&dag);
     check("a task that was released before the start", gerfmuod_dag_next(&dag, 0).told, GERFMUOD_DAG_RUN);
     check("is returned once", gerfmuod_dag_next(&dag, 0).told, GERFMUOD_DAG_WAIT);
-    gerfmuod_dag_close(&dag);
+    close_pool(&dag);
 }
 
 /* The same graph three times: task 1, at node 1, waits for task 0 at node 0. */
@@ -186,7 +192,7 @@ static void check_again(void) {
         check("the steps are those of one run", steps[run], steps[0]);
         check("again", gerfmuod_dag_again(&dag).refused, GERFMUOD_DAG_OK);
     }
-    gerfmuod_dag_close(&dag);
+    close_pool(&dag);
 }
 
 /* Tasks that are added after the start. Task 0 adds tasks 1 and 2, at its own node; the other node has none. */
@@ -228,7 +234,7 @@ static void check_growth(void) {
     check("over", gerfmuod_dag_next(&dag, 0).told, GERFMUOD_DAG_OVER);
     check("task after the end", gerfmuod_dag_task(&dag, 0, 0).refused, GERFMUOD_DAG_ENDED);
     check("a graph that grew is not run again", gerfmuod_dag_again(&dag).refused, GERFMUOD_DAG_WRONG_LIFE);
-    gerfmuod_dag_close(&dag);
+    close_pool(&dag);
 }
 
 /* Returns how many tasks are returned before the pool is over or waits. Each is done at once. */
@@ -264,7 +270,7 @@ static void check_growth_limits(void) {
     check("release", gerfmuod_dag_release(&dag, tasks - 1).refused, GERFMUOD_DAG_OK);
     check("all of them run", run_all(&dag, 2), tasks);
     check("to the end", gerfmuod_dag_next(&dag, 1).told, GERFMUOD_DAG_OVER);
-    gerfmuod_dag_close(&dag);
+    close_pool(&dag);
 }
 
 /* A pool that is not traced runs more tasks than a traced one has steps for, twice. */
@@ -283,7 +289,7 @@ static void check_untraced_limits(void) {
     check("again", gerfmuod_dag_again(&dag).refused, GERFMUOD_DAG_OK);
     check("all of them run again", run_all(&dag, 2), tasks);
     check("no step is kept again", gerfmuod_dag_step(&dag, 0).kind, 255);
-    gerfmuod_dag_close(&dag);
+    close_pool(&dag);
 }
 
 /* The library writes only to the memory of the pool. */
@@ -301,7 +307,7 @@ static void check_size(void) {
     for (uint32_t t = 0; t < 100; t++) gerfmuod_dag_done(&memory.dag, t % 8, gerfmuod_dag_next(&memory.dag, t % 8).number);
     check("100 tasks at 8 nodes", gerfmuod_dag_next(&memory.dag, 7).told, GERFMUOD_DAG_OVER);
     check("once more", gerfmuod_dag_again(&memory.dag).refused, GERFMUOD_DAG_OK);
-    gerfmuod_dag_close(&memory.dag);
+    close_pool(&memory.dag);
     for (int i = 0; i < 16; i++) is_well &= memory.before[i] == 0x5a5a5a5a5a5a5a5a && memory.after[i] == 0x5a5a5a5a5a5a5a5a;
     check("what lies round a pool stays", is_well, true);
 }
@@ -315,13 +321,70 @@ static void check_limits(void) {
     check("a graph of 349,000 tasks", gerfmuod_dag_start(&dag).refused, GERFMUOD_DAG_OK);
     while ((answer = gerfmuod_dag_next(&dag, 0)).told == GERFMUOD_DAG_RUN) gerfmuod_dag_done(&dag, 0, answer.number);
     check("runs to its end", answer.told, GERFMUOD_DAG_OVER);
-    gerfmuod_dag_close(&dag);
+    close_pool(&dag);
     gerfmuod_dag_open(&dag, 1);
     while (tasks <= GERFMUOD_DAG_MAX_STEPS && !(answer = gerfmuod_dag_task(&dag, 0, 0)).refused) tasks++;
     check("too many tasks", answer.refused, GERFMUOD_DAG_HISTORY_FULL);
     check("a graph that needs too many steps", gerfmuod_dag_start(&dag).refused, GERFMUOD_DAG_HISTORY_FULL);
     check("none of it runs", gerfmuod_dag_next(&dag, 0).refused, GERFMUOD_DAG_WRONG_LIFE);
-    gerfmuod_dag_close(&dag);
+    close_pool(&dag);
+}
+
+/* Starts a traced graph of which all tasks but the first are at the last node, and its newest task gets messages from the first one. Each
+ * task and each message takes 3 steps, each node 10. A graph that has too many is refused as a whole, before any of it runs. */
+static void check_room(uint32_t nodes, uint32_t tasks, uint32_t messages) {
+    gerfmuod_dag dag;
+    bool fits = 3 * (tasks + messages) + 10 * nodes <= GERFMUOD_DAG_MAX_STEPS;
+    check("open", gerfmuod_dag_open(&dag, nodes), GERFMUOD_DAG_OK);
+    for (uint32_t t = 0; t < tasks; t++) gerfmuod_dag_task(&dag, t ? nodes - 1 : 0, 0);
+    for (uint32_t m = 0; m < messages; m++) gerfmuod_dag_input(&dag, 0);
+    for (int tries = 0; tries < 2 && !fits; tries++) {
+        gerfmuod_dag_answer answer = gerfmuod_dag_start(&dag);
+        check("start of a graph without room", answer.refused, GERFMUOD_DAG_HISTORY_FULL);
+        check("the limit", answer.number, GERFMUOD_DAG_MAX_STEPS);
+        check("none of it runs", gerfmuod_dag_next(&dag, 0).refused, GERFMUOD_DAG_WRONG_LIFE);
+    }
+    if (fits) {
+        check("start of a graph that fits", gerfmuod_dag_start(&dag).refused, GERFMUOD_DAG_OK);
+        check("all of it runs", run_all(&dag, nodes), tasks);
+        check("to the end", gerfmuod_dag_next(&dag, 0).told, GERFMUOD_DAG_OVER);
+    }
+    close_pool(&dag);
+}
+
+/* Of the tasks that are ready at a node, those of a lower class are returned first: in each run, and of those that become ready in it. */
+static void check_classes(void) {
+    static const uint32_t classes[] = {3, 1, 0, 2, 1, 3, 0, 2, 0, 3};
+    gerfmuod_dag dag;
+    const uint32_t count = sizeof classes / sizeof *classes;
+    gerfmuod_dag_open(&dag, 2);
+    for (uint32_t t = 0; t < 2 * count; t++) gerfmuod_dag_task(&dag, t % 2, classes[t / 2]);
+    for (uint32_t t = 2 * count; t < 3 * count; t++) { /* these wait for the first task at node 0 */
+        gerfmuod_dag_task(&dag, 0, classes[t - 2 * count]);
+        gerfmuod_dag_input(&dag, 0);
+    }
+    gerfmuod_dag_start(&dag);
+    for (int run = 0; run < 3; run++) {
+        for (uint32_t node = 0; node < 2; node++)
+            for (uint32_t k = 0, last = 0; k < count; k++) {
+                gerfmuod_dag_answer answer = gerfmuod_dag_next(&dag, node);
+                check("a ready task", answer.told, GERFMUOD_DAG_RUN);
+                check("none of a higher class is returned before", classes[answer.number / 2 % count] >= last, 1);
+                check("news if there are more", answer.news, k + 1 < count ? 1u << node : 0);
+                last = classes[answer.number / 2 % count];
+            }
+        for (uint32_t t = 0; t < 2 * count; t++) gerfmuod_dag_done(&dag, t % 2, t);
+        for (uint32_t k = 0, last = 0; k < count; k++) {
+            gerfmuod_dag_answer answer = gerfmuod_dag_next(&dag, 0);
+            check("a task that waited", answer.told, GERFMUOD_DAG_RUN);
+            check("of the lowest class", classes[answer.number - 2 * count] >= last, 1);
+            last = classes[answer.number - 2 * count];
+            gerfmuod_dag_done(&dag, 0, answer.number);
+        }
+        check("over", gerfmuod_dag_next(&dag, 1).told, GERFMUOD_DAG_OVER);
+        check("again", gerfmuod_dag_again(&dag).refused, GERFMUOD_DAG_OK);
+    }
+    close_pool(&dag);
 }
 
 static void check_outside_limit(void) {
@@ -338,7 +401,7 @@ static void check_outside_limit(void) {
     check("no news before the last one", inputs, 1);
     check("news", gerfmuod_dag_release(&dag, 0).news, 1);
     check("and its task", gerfmuod_dag_next(&dag, 0).told, GERFMUOD_DAG_RUN);
-    gerfmuod_dag_close(&dag);
+    close_pool(&dag);
 }
 
 /* ---- the team */
@@ -347,6 +410,25 @@ static int count_body(void *context, uint32_t task) {
     (void)task;
     __atomic_fetch_add((uint32_t *)context, 1, __ATOMIC_RELAXED);
     return 0;
+}
+
+/* A chain of tasks, each at another node than the one before: each has to wake the thread of the next node. */
+static void check_wake_ups(void) {
+    enum { LENGTH = 500, NODES = 4 };
+    gerfmuod_team *team;
+    limit_time();
+    for (uint32_t threads = NODES; threads <= 2 * NODES; threads += NODES) {
+        uint32_t ran = 0;
+        gerfmuod_team_open(&team, NODES);
+        for (uint32_t t = 0; t < LENGTH; t++) {
+            uint32_t before = t - 1;
+            gerfmuod_team_task(team, t % NODES, 0, &before, t > 0, NULL);
+        }
+        check("a chain from node to node", gerfmuod_team_run(team, threads, count_body, &ran), GERFMUOD_DAG_OK);
+        check("each task runs", ran, LENGTH);
+        gerfmuod_team_close(team);
+    }
+    limit_time();
 }
 
 static void check_team_limits(void) {
@@ -659,15 +741,31 @@ static void check_names(void) {
     check("a name of no refusal", strcmp(gerfmuod_team_name(1000), "Unknown") != 0, 0);
 }
 
+/* What is too large for a quick run. */
+static void check_large(void) {
+    void (*const checks[])(void) = {check_limits, check_outside_limit, check_growth_limits, check_untraced_limits, check_team_limits,
+                                    check_untraced_team};
+    for (size_t k = 0; k < sizeof checks / sizeof *checks; k++) limit_time(), checks[k]();
+    for (uint32_t above = 0; above < 2; above++) { /* a graph at the limit, and one above it */
+        limit_time();
+        check_room(1, 349522 + above, 0);
+        check_room(2, 2, 349516 + above);
+        check_room(8, 100, 349398 + above);
+    }
+}
+
 int main(int argc, char **argv) {
     (void)argv;
+    limit_time();
     check_description();
     check_run();
     check_outside();
     check_again();
     check_growth();
     check_size();
-    if (argc == 1) check_limits(), check_outside_limit(), check_growth_limits(), check_untraced_limits(), check_team_limits(), check_untraced_team();
+    check_classes();
+    check_wake_ups();
+    if (argc == 1) check_large();
     check_team_description();
     check_team_run();
     check_team_again();

@@ -9,10 +9,11 @@
  * Some rounds have a body that fails. One more thread releases the inputs from outside in random order, before the start and
  * after it. Every tenth graph is one task and then tasks that run on all threads at the same time. Of every third graph only
  * the beginning is described: its bodies make the other tasks. Many graphs run again, with gerfmuod_team_again. If the
- * library has gerfmuod_audit, it judges the trace of each run. The exit status is 1 if a check failed. */
+ * library has gerfmuod_audit, it judges the trace of each run. The exit status is 1 if a check failed, and 124 if a round did not end. */
 #define _POSIX_C_SOURCE 200809L
 #include "gerfmuod.h"
 #include "gerfmuod_team.h"
+#include "limit.h"
 #include "timing.h"
 #include <pthread.h>
 #include <sched.h>
@@ -233,6 +234,7 @@ static bool run_is_well(uint32_t round, uint32_t run) {
 
 static bool round_is_well(uint32_t round) {
     meeting = 0;
+    limit_time();
     clear_run();
     if (round % 10 == 0 && !is_early) draw_meeting();
     else draw_graph();

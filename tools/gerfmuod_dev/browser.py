@@ -18,6 +18,13 @@ def program():
     return next((path for path in map(shutil.which, NAMES) if path), None)
 
 
+def is_here(tally, what):
+    """Whether Chromium is installed. If it is not, counts what is not tried; `tools/page-packages` prints the packages."""
+    if not program():
+        tally.skips(what, NAMES[0])
+    return bool(program())
+
+
 class Browser:
     """A page in Chromium, of this size in pixels; `errors` has what the page reported as an error."""
 

@@ -15,11 +15,11 @@ import time
 from concurrent.futures import FIRST_COMPLETED, ThreadPoolExecutor, wait
 from dataclasses import dataclass
 
-from . import repository
+from . import built, repository
 from .rooms import rooms
 
 PROGRAMS = ["tp", "samples"]
-# the crates that are built for programs in other languages, into lib/
+# the crates that are built for programs in other languages
 LIBRARIES = ["gerfmuod"]
 # a further job of a check loads all libraries again, which does not pay off for fewer lines
 LINES_OF_A_JOB = 500
@@ -56,13 +56,8 @@ def prove(crate, room, jobs):
         stderr=subprocess.STDOUT,
         text=True,
     )
-    if crate.name in PROGRAMS and not result.returncode:
-        os.makedirs("bin", exist_ok=True)
-        # (the copy is newer than the sources, for make)
-        shutil.copy(f"{room}/crates/{crate.name}/out/{crate.name}", f"bin/{crate.name}")
-    if crate.name in LIBRARIES and not result.returncode:
-        os.makedirs("lib", exist_ok=True)
-        shutil.copy2(f"{room}/crates/{crate.name}/out/lib{crate.name}.a", f"lib/lib{crate.name}.a")
+    if crate.name in built.RESULTS and not result.returncode:
+        built.take(crate.name, room)
     return not result.returncode, result.stdout
 
 

@@ -5,8 +5,8 @@ lib/libgerfmuod.a is there and was built from these sources (`make lib` builds i
 the shared object define with what the headers declare. Then each program is linked with it and run, and most of those in C and
 C++ once more under valgrind: the fuzz of random calls under AddressSanitizer and UndefinedBehaviorSanitizer, a program without
 a lock under ThreadSanitizer. The table that capi/damages.c prints is compared with docs/OTHER-RUNTIMES.md, whose first program
-runs, too. The programs of capi/mpi run if mpicc and mpirun are installed. It names what is not installed, and skips it. The
-last line is `N passed, M failed`; the status is 1 if one failed.
+runs, too. The programs of capi/mpi run if mpicc and mpirun are installed. It skips what is not installed, and counts that. The
+last line is `N passed, M failed, K skipped`; the status is 1 if one failed, or if there is no such library.
 
 With --full only the fuzz runs, in its long form. With --bench it runs no program, but measures and prints what a step costs:
 instructions, which valgrind counts at two numbers of steps, memory, nanoseconds, locks, and the depth of the stack.
@@ -17,10 +17,9 @@ import shutil
 import subprocess
 import sys
 import tempfile
-from dataclasses import dataclass
 
 from . import library, mpi, repository, shared_object
-from .c_programs import ADDRESS, FAILURE, THREAD, VALGRIND, WARNINGS, Run, check_sources, has_sanitizer, judge, output_of, start
+from .c_programs import ADDRESS, CC, CXX, FAILURE, THREAD, WARNINGS, Program, Run, check_sources, judge, output_of, run_programs, start
 from .repository import text_of
 from .running import Tally, write
 from .shipping import generated
@@ -34,7 +33,7 @@ CALLS, ALL_CALLS = 1_000_000, 20_000_000
 SEEDS = 4
 # a header that another one includes in its middle
 INCLUDED = ("capi/gerfmuod_tsan.h",)
-C11 = ["gcc", "-std=c11", *WARNINGS, "-O2"]
+C99, C11 = ([CC, f"-std={standard}", *WARNINGS, "-O2"] for standard in ("c99", "c11"))
 WRAPPED = ["-Wl,--wrap=malloc,--wrap=realloc"]
 ALL_WRAPPED = ["-Wl,--wrap=malloc,--wrap=realloc,--wrap=free"]
 PAGE = "docs/OTHER-RUNTIMES.md"
@@ -42,43 +41,29 @@ PAGE = "docs/OTHER-RUNTIMES.md"
 KINDS = ("tasks", "messages", "makers", "sparse", "large", "hashed")
 
 
-@dataclass(frozen=True)
-class Program:
-    """A source of capi/, the command that compiles it, its runs, and the arguments of one more run under valgrind, if any."""
-
-    name: str
-    compiler: list
-    runs: list
-    checked: list = None
-
-    @property
-    def sanitizer(self):
-        return [option for option in self.compiler if option in (*ADDRESS, *THREAD)]
-
-
 def fuzz_runs(calls, seeds):
     return [Run([str(calls), str(seed)], 0, "as the model says") for seed in seeds]
 
 
 PROGRAMS = [
-    Program("two_waves.c", C11, [Run([], 0, "two generations")], []),
-    Program("texts.c", ["gcc", "-std=c99", *WARNINGS, "-O2"], [Run([], 0, "as they should be")], []),
-    Program("limits.c", C11, [Run([], 0, "as they should be")]),
-    Program("reentrant.c", [*C11, "-g", *ALL_WRAPPED], [Run([], 0, "calls from inside of a call: refused")], []),
-    Program("fuzz.c", [*C11, "-g", *ADDRESS, *WRAPPED], fuzz_runs(CALLS, [1])),
+    Program("capi/two_waves.c", C11, [Run([], 0, "two generations")], [[]]),
+    Program("capi/texts.c", C99, [Run([], 0, "as they should be")], [[]]),
+    Program("capi/limits.c", C11, [Run([], 0, "as they should be")]),
+    Program("capi/reentrant.c", [*C11, "-g", *ALL_WRAPPED], [Run([], 0, "calls from inside of a call: refused")], [[]]),
+    Program("capi/fuzz.c", [*C11, "-g", *ADDRESS, *WRAPPED], fuzz_runs(CALLS, [1])),
     Program(
-        "fuzz.c",
+        "capi/fuzz.c",
         [*C11, "-g", *WRAPPED],
         [Run(["100000", "2", "forgets"], 1, "not as the model says"), Run(["100000", "2", "early"], 1, "not as the model says")],
-        ["20000", "3"],
+        [["20000", "3"]],
     ),
     Program(
-        "out_of_memory.c",
+        "capi/out_of_memory.c",
         [*C11, *WRAPPED],
         [Run([], 0, "as it should be"), *(Run([fault], 1, "check failed") for fault in ("takes", "changes", "lies", "forgets"))],
     ),
     Program(
-        "unlocked.c",
+        "capi/unlocked.c",
         [*C11, "-g", "-pthread", *THREAD],
         [
             *(Run([call], 0, " 0 not as they should be") for call in ("step", "settle", "read")),
@@ -86,25 +71,25 @@ PROGRAMS = [
         ],
     ),
     Program(
-        "pool.cpp",
-        ["g++", "-std=c++17", *WARNINGS, "-O2", "-pthread"],
+        "capi/pool.cpp",
+        [CXX, "-std=c++17", *WARNINGS, "-O2", "-pthread"],
         [
             Run([], 0, "ended: 381 tasks, 378 messages"),
             Run(["twice"], 3, "refused 10 NoMessage: no such message is under way to that node"),
             Run(["late"], 3, "receipt of message 40 at node"),
             Run(["early"], 3, "judged not"),
         ],
-        [],
+        [[]],
     ),
     Program(
-        "layout.c",
-        ["gcc", "-std=c99", *WARNINGS, "-O2"],
+        "capi/layout.c",
+        C99,
         [Run([], 0, ", 0 failed"), Run(["swapped"], 98, "or another struct")],
-        [],
+        [[]],
     ),
     Program(
-        "storm.c",
-        ["gcc", "-std=c11", *WARNINGS, "-O2"],
+        "capi/storm.c",
+        C11,
         [
             Run(["8", "20"], 0, " 0 EARLY"),
             Run(["1", "200"], 0, " 0 EARLY"),
@@ -119,11 +104,11 @@ PROGRAMS = [
             Run(["8", "20", "uncounted"], 2, "20 SILENT"),
             Run(["8", "50", "twice"], 2, "twice: "),
         ],
-        ["8", "20"],
+        [["8", "20"]],
     ),
     Program(
-        "epochs.c",
-        ["gcc", "-std=c11", *WARNINGS, "-O2"],
+        "capi/epochs.c",
+        C11,
         [
             Run(["3", "4", "20"], 0, " 0 EARLY"),
             Run(["1", "8", "100"], 0, " 0 EARLY"),
@@ -133,11 +118,11 @@ PROGRAMS = [
             Run(["8", "8", "5", "unmarked"], 1, "unmarked: "),
             Run(["8", "8", "5", "dropped"], 2, " 0 EARLY"),
         ],
-        ["3", "4", "20"],
+        [["3", "4", "20"]],
     ),
     Program(
-        "threads.c",
-        ["gcc", "-std=c11", *WARNINGS, "-O2", "-pthread"],
+        "capi/threads.c",
+        [*C11, "-pthread"],
         [
             Run([], 0, "64 threads, 3 epochs: right"),
             Run(["1", "3"], 0, "right"),
@@ -146,8 +131,8 @@ PROGRAMS = [
             Run(["64", "1", "uncounted"], 2, ""),
         ],
     ),
-    Program("ring.rs", ["rustc", "--edition", "2024", "-O"], [Run([], 0, "ended: 1608 messages, none was left")]),
-    Program("two_waves.f90", ["gfortran", "-std=f2018", "-Wall", "-Wextra", "-O2"], [Run([], 0, "ended with wave 1")]),
+    Program("capi/ring.rs", ["rustc", "--edition", "2024", "-O"], [Run([], 0, "ended: 1608 messages, none was left")]),
+    Program("capi/two_waves.f90", ["gfortran", "-std=f2018", "-Wall", "-Wextra", "-O2"], [Run([], 0, "ended with wave 1")]),
 ]
 
 
@@ -168,73 +153,35 @@ def check_symbols(tally):
 
 def check_page(tally, folder):
     """Compares the table that damages.c prints with that of the page, and runs the page's program."""
-    result = start([compile_program(Program("damages.c", C11, []), folder)])
-    table = result.out.decode() if result and not result.status else ""
+    result = start([compiled(Program("capi/damages.c", C11, []), folder)])
+    table = result.out.decode() if not result.status else ""
     tally.judge(table and table in text_of(PAGE), f"capi/damages.c fails, or {PAGE} has another table than\n{table}")
-    source, path = f"{folder}/first.c", f"{folder}/first"
-    write(source, re.search(r"^```c\n(#include .*?)^```$", text_of(PAGE), re.S | re.M)[1])
-    output_of([*C11, source, "-o", path, "-Icapi", *LINK])
-    judge(tally, [path], Run([], 0, "none: the call was not refused"))
+    source = write(f"{folder}/first.c", re.search(r"^```c\n(#include .*?)^```$", text_of(PAGE), re.S | re.M)[1])
+    judge(tally, [compiled(Program(source, C11, []), folder)], Run([], 0, "none: the call was not refused"))
     print(f"{PAGE}: its table, which capi/damages.c prints, and its program")
 
 
-def compile_program(program, folder):
-    """Links a program with the library; returns its path in the folder."""
-    path = f"{folder}/{program.name.replace('.', '_')}"
-    command = [*program.compiler, f"capi/{program.name}", "-o", path]
-    if program.name.endswith(".rs"):
-        command += ["-L", "native=lib", "-l", "static=gerfmuod"]
-    elif program.name.endswith(".f90"):
-        command += ["-J", folder, *LINK]
-    else:
-        command += ["-Icapi", *LINK]
-    output_of(command)
+def command_of(program, path):
+    """Returns the command that links a program with the library."""
+    command = [*program.compiler, program.source, "-o", path]
+    if program.source.endswith(".rs"):
+        return [*command, "-L", "native=lib", "-l", "static=gerfmuod"]
+    return [*command, *(["-J", os.path.dirname(path)] if program.source.endswith(".f90") else ["-Icapi"]), *LINK]
+
+
+def compiled(program, folder):
+    """Links a program with the library, and returns its path in the folder."""
+    path = f"{folder}/{os.path.basename(program.source).replace('.', '_')}"
+    output_of(command_of(program, path))
     return path
-
-
-def run_program(tally, program, folder, has_valgrind):
-    """Compiles a program and does its runs; prints how many there were."""
-    before, path = tally.failed, compile_program(program, folder)
-    for expected in program.runs:
-        judge(tally, [path, *expected.arguments], expected)
-    is_checked = program.checked is not None and has_valgrind
-    if is_checked:
-        judge(tally, [*VALGRIND, path, *program.checked], Run([], 0, ""))
-    count = f"{len(program.runs)} run{'s' * (len(program.runs) != 1)}"
-    options = "".join(f" {option}" for option in program.sanitizer[:1])
-    more = ", one more under valgrind" * is_checked
-    print(f"capi/{program.name}{options}: {count}{more}{', FAILED' * (tally.failed > before)}", flush=True)
-
-
-def run_programs(tally, programs, folder):
-    has_valgrind = bool(shutil.which("valgrind"))
-    if not has_valgrind:
-        print("valgrind is not installed: no program runs under it")
-    is_available = {tuple(options): has_sanitizer(options, folder) for options in (ADDRESS, THREAD)}
-    for program in programs:
-        if not shutil.which(program.compiler[0]):
-            print(f"{program.compiler[0]} is not installed: capi/{program.name} is skipped")
-        elif is_available.get(tuple(program.sanitizer), True):
-            run_program(tally, program, folder, has_valgrind)
-        else:
-            print(f"{' '.join(program.sanitizer)}: not on this machine, capi/{program.name} does not run under it")
-
-
-def run_all(tally, folder):
-    """Runs everything with the built library."""
-    check_symbols(tally)
-    run_programs(tally, PROGRAMS, folder)
-    check_page(tally, folder)
-    mpi.run_quick(tally, folder)
 
 
 def run_fuzz(folder):
     """Runs the long form of the fuzz."""
-    tally = Tally()
-    seeds = range(1, SEEDS + 1)
-    for options in ([*ADDRESS], []):
-        program = Program("fuzz.c", [*C11, "-g", *options, *WRAPPED], fuzz_runs(ALL_CALLS, seeds))
-        run_programs(tally, [program], folder)
+    tally, runs = Tally(), fuzz_runs(ALL_CALLS, range(1, SEEDS + 1))
+    tally.seconds *= 10
+    programs = [Program("capi/fuzz.c", [*C11, "-g", *options, *WRAPPED], runs) for options in (ADDRESS, [])]
+    run_programs(tally, programs, command_of, folder)
     return tally.end()
 
 
@@ -252,7 +199,7 @@ def memory(program, kind, steps):
 
 def bench(folder):
     """Measures what a step costs, and prints it."""
-    program = compile_program(Program("bench.c", [*C11, "-pthread"], []), folder)
+    program = compiled(Program("capi/bench.c", [*C11, "-pthread"], []), folder)
     print(f"{STEPS:,} steps at 8 nodes, called from C:")
     for kind in KINDS:
         if shutil.which("valgrind"):
@@ -286,8 +233,11 @@ def run(options):
     check_sources(tally, sources)
     print("the headers and programs of capi/: checked as C99, C11 and C++17")
     if reason:
-        print(f"{reason}: no program of capi/ was linked and run. make lib builds it")
+        tally.fails(f"{reason}: no program of capi/ was linked and run. make lib builds it")
     else:
         with tempfile.TemporaryDirectory() as folder:
-            run_all(tally, folder)
+            check_symbols(tally)
+            run_programs(tally, PROGRAMS, command_of, folder)
+            check_page(tally, folder)
+            mpi.run_quick(tally, folder)
     return tally.end()

@@ -4,15 +4,16 @@ They work on the repository that they are in, from whatever folder they are call
 """
 import argparse
 
-from . import bench, build, capi, dag_programs, demo, docs, drawn, lanes, library, limits, lines
+from . import bench, build, capi, checks, dag_programs, demo, docs, drawn, lanes, library, limits, lines
 from . import mpi, mutants, new_pool, pages, plots, proved, soak, summary, tries
-from .limits import cuts, generations, hostile_numbers, live, memory, pictures, progress, random_texts, reasons
-from .limits import refuse, refuse_tests, stacks, strange
+from .limits import cuts, hostile_numbers, live, memory, pictures, progress, random_texts, reasons
+from .limits import refuse, refuse_tests, strange
 from .shipping import completion, dist, installing, manual, package
 
 COMMANDS = {
     "build": build,
     "lib": library,
+    "test": checks,
     "capi": capi,
     "dag": dag_programs,
     "mpi": mpi,
@@ -41,9 +42,7 @@ LIMITS = {
     "refuse-tests": refuse_tests,
     "memory": memory,
     "live": live,
-    "stacks": stacks,
     "hostile-numbers": hostile_numbers,
-    "generations": generations,
     "pictures": pictures,
     "strange": strange,
     "progress": progress,

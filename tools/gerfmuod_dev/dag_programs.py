@@ -1,10 +1,11 @@
 """Compiles and runs the programs of task graphs: capi/dag in C, C++ and Fortran, and the Python package.
 
-They are linked with lib/libgerfmuod.a, if it is there and was built from these sources (`make lib` builds it), or with the
-library of another folder. The fuzz of random calls runs under AddressSanitizer and UndefinedBehaviorSanitizer, random
+They are linked with lib/libgerfmuod.a, which has to be of these sources (`make lib` builds it), or with the library of another
+folder. The fuzz of random calls runs under AddressSanitizer and UndefinedBehaviorSanitizer, random
 graphs on threads also under ThreadSanitizer, and each program once under valgrind. Programs with a fault must fail. What
-teams record of their runs is compared with the traces. It names what is not on this machine, and skips it;
-`tools/bench-packages` prints the packages. The last line is `N passed, M failed`; the status is 1 if one failed.
+teams record of their runs is compared with the traces. It skips what is not installed, and counts that;
+`tools/bench-packages` prints the packages. The last line is `N passed, M failed, K skipped`; the status is 1 if one failed, or
+if there is no such library.
 """
 import dataclasses
 import os
@@ -12,15 +13,15 @@ import re
 import shutil
 import sys
 import tempfile
-from dataclasses import dataclass
 
 from . import browser, library, profiles, repository, shared_object, summary, timeline, viewer
-from .c_programs import ADDRESS, THREAD, VALGRIND, WARNINGS, Run, check_sources, has_sanitizer, judge, start, succeeds
+from .c_programs import ADDRESS, CC, CXX, THREAD, WARNINGS, Program, Run
+from .c_programs import check_sources, compiles, has_sanitizer, judge, run_programs, start, succeeds
 from .profiles import Profile
-from .running import Tally, short, write
+from .running import Tally
 
-C = ["gcc", "-std=c11", *WARNINGS, "-O2", "-g"]
-CPP = ["g++", "-std=c++17", *WARNINGS, "-O2"]
+C = [CC, "-std=c11", *WARNINGS, "-O2", "-g"]
+CPP = [CXX, "-std=c++17", *WARNINGS, "-O2"]
 FORTRAN = ["gfortran", "-std=f2018", "-Wall", "-Wextra", "-Wno-unused-dummy-argument", "-Werror", "-O2", "-fopenmp"]
 TEST_CLOCK = "-DGERFMUOD_PROFILE_TICKS=test_ticks"
 WRAPPED = ["-Wl,--wrap=malloc,--wrap=calloc,--wrap=realloc,--wrap=free,--wrap=pthread_create"]
@@ -37,26 +38,8 @@ PROFILED, LONG_PROFILED = 40, 400
 FUZZ_FAULTS = ["forgets", "loses", "holds"]
 
 
-@dataclass(frozen=True)
-class Program:
-    """A source of capi/dag, the compiler with its options, the libraries that follow them, and its runs.
-
-    `small` has the arguments of further runs, under valgrind and as a build with ThreadSanitizer.
-    """
-
-    source: str
-    compiler: list
-    libraries: list
-    runs: list
-    small: list
-
-    @property
-    def sanitizer(self):
-        return [option for option in self.compiler if option in (*ADDRESS, *THREAD)]
-
-
-CHOLESKY = Program("cholesky.c", C, ["-lm"], [], [])
-CHOLESKY_OVER_BLAS = Program("cholesky.c", [*C, "-DHAVE_BLAS"], ["-lopenblas", "-lm"], [], [])
+CHOLESKY = Program("capi/dag/cholesky.c", C, [], [], ["-lm"])
+CHOLESKY_OVER_BLAS = Program("capi/dag/cholesky.c", [*C, "-DHAVE_BLAS"], [], [], ["-lopenblas", "-lm"])
 
 
 def programs(is_full):
@@ -68,34 +51,36 @@ def programs(is_full):
     sorted_by = ", 0 parts without one; sorted as by qsort"
     # the second run has more parts than a pool has room for
     spawn = [Run(["1500000", "4", "1", "4", "8"], 0, sorted_by), Run(["2500000", "2", "1", "4"], 0, "349522 tasks")]
+    small_jacobi = [["32", "16", "3", "1", "2x2", "2x2:1"]]
     small_grain = [[shape, "200", "1", "1", "3x1"] for shape in SHAPES]
     ways = ["loop", "1x1", "1x4", "2x2", "8x1"]
     grains = [*ways[:-1], "2x2t", "8x1"]
     # a graph of so many steps of Jacobi, run again and again
     repeated = ["1x4:1", "2x2:2", "4x1:5"]
     return [
-        Program("first.c", C, ["-lm"], [Run([], 0, "3.844231")], [[]]),
-        Program("first.cpp", CPP, [], [Run([], 0, "3.844231")], [[]]),
-        Program("exceptions.cpp", CPP, [], [Run([], 0, "\nas it should be")], [[]]),
-        Program("refusals.c", C, [], [Run([], 0, ", 0 not as they should be")], [["quick"]]),
-        Program("jacobi.c", C, [], [Run(["128", "16", "20", "1", *repeated, *ways], 0, "8x1 1280")], [["32", "16", "3", "1", "2x2", "2x2:1"]]),
-        Program("cholesky.c", C, ["-lm"], [Run(["256", "32", "1", *ways, "whole:1"], 0, "8x1 120")], [["64", "16", "1", "2x2"]]),
-        Program("recursion.c", C, [], [Run(["100000", "500", "1", *ways], 0, "8x1 511")], [["2000", "100", "1", "2x2"]]),
-        Program("grain.c", C, [], [Run([shape, "5000", "10", "1", *grains], 0, "8x1 5000") for shape in SHAPES], small_grain),
-        Program("outside.c", C, [], outside, [["30", "4", "2"]]),
-        Program("spawn.c", C, [], spawn, [["20000", "4", "1", "4"]]),
-        Program("growth.c", C, [], [Run(["6000000", "500", "4"], 0, "6000000 tasks, each ran once")], [["3000", "0", "1", "4"]]),
-        Program("fibonacci.cpp", CPP, [], [Run(["20", "4"], 0, "6765, 32837 tasks; a loop: 6765")], [["12", "3"]]),
-        Program("failures.c", C, WRAPPED, [Run([], 0, ", 0 not as they should be")], []),
-        Program("failures.c", [*C, *ADDRESS], WRAPPED, [Run([], 0, ", 0 not as they should be")], []),
-        Program("storm.c", C, [], storm, [["10"]]),
-        Program("storm.c", [*C, *THREAD], [], storm[:1], []),
-        Program("storm.c", [*C, *ADDRESS], [], storm[:1], []),
-        Program("profiles.c", [*C, TEST_CLOCK], [], [Run([], 0, ", 0 not as they should be")], [[]]),
-        Program("profiles.c", [*C, TEST_CLOCK, *ADDRESS], [], [Run([], 0, ", 0 not as they should be")], []),
-        Program("fuzz.c", C, [], fuzz, [["20000"]]),
-        Program("fuzz.c", [*C, *ADDRESS], [], [Run([str(calls)], 0, "as the model says")], []),
-        Program("refusals.c", [*C, *ADDRESS], [], [Run([], 0, ", 0 not as they should be")], []),
+        # (these find a broken library soon)
+        Program("capi/dag/refusals.c", C, [Run([], 0, ", 0 not as they should be")], [["quick"]]),
+        Program("capi/dag/fuzz.c", C, fuzz, [["20000"]]),
+        Program("capi/dag/first.c", C, [Run([], 0, "3.844231")], [[]], ["-lm"]),
+        Program("capi/dag/first.cpp", CPP, [Run([], 0, "3.844231")], [[]]),
+        Program("capi/dag/exceptions.cpp", CPP, [Run([], 0, "\nas it should be")], [[]]),
+        Program("capi/dag/jacobi.c", C, [Run(["128", "16", "20", "1", *repeated, *ways], 0, "8x1 1280")], small_jacobi),
+        Program("capi/dag/cholesky.c", C, [Run(["256", "32", "1", *ways, "whole:1"], 0, "8x1 120")], [["64", "16", "1", "2x2"]], ["-lm"]),
+        Program("capi/dag/recursion.c", C, [Run(["100000", "500", "1", *ways], 0, "8x1 511")], [["2000", "100", "1", "2x2"]]),
+        Program("capi/dag/grain.c", C, [Run([shape, "5000", "10", "1", *grains], 0, "8x1 5000") for shape in SHAPES], small_grain),
+        Program("capi/dag/outside.c", C, outside, [["30", "4", "2"]]),
+        Program("capi/dag/spawn.c", C, spawn, [["20000", "4", "1", "4"]]),
+        Program("capi/dag/growth.c", C, [Run(["6000000", "500", "4"], 0, "6000000 tasks, each ran once")], [["3000", "0", "1", "4"]]),
+        Program("capi/dag/fibonacci.cpp", CPP, [Run(["20", "4"], 0, "6765, 32837 tasks; a loop: 6765")], [["12", "3"]]),
+        Program("capi/dag/failures.c", C, [Run([], 0, ", 0 not as they should be")], [], WRAPPED),
+        Program("capi/dag/failures.c", [*C, *ADDRESS], [Run([], 0, ", 0 not as they should be")], [], WRAPPED),
+        Program("capi/dag/storm.c", C, storm, [["10"]]),
+        Program("capi/dag/storm.c", [*C, *THREAD], storm[:1]),
+        Program("capi/dag/storm.c", [*C, *ADDRESS], storm[:1]),
+        Program("capi/dag/profiles.c", [*C, TEST_CLOCK], [Run([], 0, ", 0 not as they should be")], [[]]),
+        Program("capi/dag/profiles.c", [*C, TEST_CLOCK, *ADDRESS], [Run([], 0, ", 0 not as they should be")]),
+        Program("capi/dag/fuzz.c", [*C, *ADDRESS], [Run([str(calls)], 0, "as the model says")]),
+        Program("capi/dag/refusals.c", [*C, *ADDRESS], [Run([], 0, ", 0 not as they should be")]),
     ]
 
 
@@ -115,14 +100,6 @@ def check_page(tally):
     print(f"{PAGE}: {len(blocks)} blocks of code, each part of a file")
 
 
-def compiles(tally, command):
-    """Runs a compiler, and counts and returns whether it succeeds."""
-    result = start(command)
-    has_compiled = result is not None and result.status == 0
-    tally.judge(has_compiled, f"{' '.join(command)}: {short(result.out, 2000) if result else 'did not end'}")
-    return has_compiled
-
-
 class Build:
     """Compiles programs in a folder, and links them with the library of another one."""
 
@@ -133,28 +110,12 @@ class Build:
     def command(self, program, path):
         """Returns the command line. A program in C is compiled with the team, so that a sanitizer checks the team too."""
         team = shared_object.TEAM if program.source.endswith(".c") else shared_object.compile_team(self.folder)
-        return [*program.compiler, "-Icapi", f"capi/dag/{program.source}", team, "-o", path, *self.link, *program.libraries]
+        return [*program.compiler, "-Icapi", program.source, team, "-o", path, *self.link, *program.libraries]
 
     def compile(self, program, tally):
         """Returns the path of the compiled program; None if it does not compile."""
         path = tempfile.mkdtemp(dir=self.folder) + "/program"
         return path if compiles(tally, self.command(program, path)) else None
-
-
-def run_program(tally, build, program, has_valgrind):
-    """Compiles a program and does its runs; prints how many there were."""
-    before, path = tally.failed, build.compile(program, tally)
-    if path is None:
-        return
-    checked = program.small if has_valgrind else []
-    for expected in program.runs:
-        judge(tally, [path, *expected.arguments], expected)
-    for arguments in checked:
-        judge(tally, [*VALGRIND, path, *arguments], Run([], 0, ""))
-    count = f"{len(program.runs)} run{'s' * (len(program.runs) != 1)}"
-    options = "".join(f" {option}" for option in program.sanitizer if option.startswith("-fsanitize"))
-    more = f", {len(checked)} more under valgrind" if checked else ""
-    print(f"capi/dag/{program.source}{options}: {count}{more}{', FAILED' * (tally.failed > before)}", flush=True)
 
 
 def with_threads_checked(program):
@@ -165,18 +126,9 @@ def with_threads_checked(program):
 
 def run_c(tally, build, is_full):
     """Runs the programs in C and C++."""
-    has_valgrind = bool(shutil.which("valgrind"))
-    if not has_valgrind:
-        print("valgrind is not installed: no program runs under it")
-    is_available = {tuple(options): has_sanitizer(options, build.folder) for options in (ADDRESS, THREAD)}
-    for options in (key for key, is_here in is_available.items() if not is_here):
-        print(f"{' '.join(options)}: not on this machine, so no program runs under it")
     own = programs(is_full)
-    for program in [*own, *(with_threads_checked(program) for program in own if program.small)]:
-        if not shutil.which(program.compiler[0]):
-            print(f"{program.compiler[0]} is not installed: capi/dag/{program.source} is skipped")
-        elif is_available.get(tuple(program.sanitizer), True):
-            run_program(tally, build, program, has_valgrind)
+    threads_checked = [with_threads_checked(program) for program in own if program.small]
+    run_programs(tally, [*own, *threads_checked], build.command, build.folder)
 
 
 def check_profiles(tally, folder):
@@ -211,7 +163,7 @@ def check_texts(tally, build, folder):
     path, file = build.compile(CHOLESKY, tally), f"{folder}/cholesky.json"
     result = path and start([path, "--profile", file, "256", "32", "1", "1x4"])
     if not result or result.status:
-        tally.fails(f"cholesky --profile: {short(result.out, 2000) if result else 'did not end'}")
+        tally.fails(f"cholesky --profile: {result and result.description(2000)}")
         return
     text = repository.text_of(file)
     rows = summary.summary(text)[1:]
@@ -221,7 +173,7 @@ def check_texts(tally, build, folder):
     title = timeline.plot(timeline.rows_of(text, 8))["title"]
     critical = Profile(text).about["critical_path_us"] / 1000
     tally.judge(title.endswith(f"the critical path: {critical:.1f} ms"), f"the timeline: {title}; the file: {critical} ms")
-    if browser.program():
+    if browser.is_here(tally, "the times of Cholesky in its DevTools"):
         with browser.Browser() as chromium:
             viewer.check(tally, chromium, {"cholesky --profile": text})
 
@@ -231,11 +183,11 @@ def run_profiles(tally, build, is_full):
     rounds = str(LONG_PROFILED if is_full else PROFILED)
     folder = tempfile.mkdtemp(dir=build.folder)
     own = [
-        (Program("storm.c", C, [], [], []), [rounds, "1", folder], f"{rounds} rounds"),
-        (Program("grain.c", C, [], [], []), ["--profile", f"{folder}/grain.json", "three", "5000", "10", "1", "2x2"], "critical path"),
+        (Program("capi/dag/storm.c", C, []), [rounds, "1", folder], f"{rounds} rounds"),
+        (Program("capi/dag/grain.c", C, []), ["--profile", f"{folder}/grain.json", "three", "5000", "10", "1", "2x2"], "critical path"),
     ]
     if has_sanitizer(THREAD, build.folder):
-        own.append((Program("storm.c", [*C, *THREAD], [], [], []), [rounds, "2", folder], f"{rounds} rounds"))
+        own.append((Program("capi/dag/storm.c", [*C, *THREAD], []), [rounds, "2", folder], f"{rounds} rounds"))
     check_texts(tally, build, folder)
     count = check_profiles(tally, folder)
     for program, arguments, output in own:
@@ -251,7 +203,7 @@ def run_blas(tally, build):
     """Runs Cholesky over OpenBLAS, if that is installed."""
     path = f"{build.folder}/blas"
     if not succeeds(build.command(CHOLESKY_OVER_BLAS, path)):
-        print("OpenBLAS is not installed: cholesky.c ran with plain kernels alone")
+        tally.skips("cholesky.c over OpenBLAS", "libopenblas-dev")
         return
     environment = {**os.environ, "OPENBLAS_NUM_THREADS": "1"}
     judge(tally, [path, "512", "64", "1", "1x4", "2x2", "whole:1"], Run([], 0, "2x2 120"), env=environment)
@@ -260,10 +212,9 @@ def run_blas(tally, build):
 
 def run_fortran(tally, build):
     """Runs the programs in Fortran."""
-    if not shutil.which("gfortran"):
-        print("gfortran is not installed: the programs in Fortran are skipped")
-        return
     for name, output in (("first", "3.844231"), ("sums", "threads of OpenMP:  1.644918442"), ("spawn", "1.644918442, 1023 tasks")):
+        if not tally.has("gfortran", f"capi/dag/{name}.f90"):
+            continue
         path = f"{build.folder}/{name}_f90"
         team = shared_object.compile_team(build.folder)
         command = [*FORTRAN, "-J", build.folder, "capi/gerfmuod.f90", f"capi/dag/{name}.f90", team, "-o", path, *build.link]
@@ -293,7 +244,7 @@ def run_python(tally, library_folder, folder):
     if with_numpy:
         judge(tally, [with_numpy, "python/examples/cholesky.py", "512", "64", "4"], Run([], 0, "120 tasks"), env=environment)
     else:
-        print("numpy and scipy are not installed: python/examples/cholesky.py is skipped")
+        tally.skips("python/examples/cholesky.py", "python3-numpy and python3-scipy")
     print(f"{shared_object.SONAME} and the Python package: its tests and {3 if with_numpy else 2} examples")
 
 
@@ -301,20 +252,6 @@ def arguments(parser):
     parser.add_argument("--library", metavar="FOLDER", help="use libgerfmuod.a of this folder, whatever it was built from")
     form = f"the long form: {ALL_CALLS:,} calls of the fuzz, {LONG_STORM:,} random graphs"
     parser.add_argument("--full", action="store_true", help=form)
-
-
-def run_all(tally, library_folder, is_full):
-    """Runs the programs with the library of a folder, if it has task graphs."""
-    if "gerfmuod_dag_open" not in shared_object.symbols(f"{library_folder}/libgerfmuod.a"):
-        print(f"{library_folder}/libgerfmuod.a has no task graphs: no program was run")
-        return
-    with tempfile.TemporaryDirectory() as folder:
-        build = Build(library_folder, folder)
-        run_c(tally, build, is_full)
-        run_profiles(tally, build, is_full)
-        run_blas(tally, build)
-        run_fortran(tally, build)
-        run_python(tally, library_folder, folder)
 
 
 def run(options):
@@ -325,7 +262,13 @@ def run(options):
     check_page(tally)
     reason = "" if options.library else library.reason_not_built()
     if reason:
-        print(f"{reason}: no program of capi/dag was linked and run. make lib builds it")
-    else:
-        run_all(tally, options.library or "lib", options.full)
+        tally.fails(f"{reason}: no program of capi/dag was linked and run. make lib builds it")
+        return tally.end()
+    with tempfile.TemporaryDirectory() as folder:
+        build = Build(options.library or "lib", folder)
+        run_c(tally, build, options.full)
+        run_profiles(tally, build, options.full)
+        run_blas(tally, build)
+        run_fortran(tally, build)
+        run_python(tally, options.library or "lib", folder)
     return tally.end()

@@ -6,8 +6,8 @@ has to miss nodes or not to end, which shows that the check can fail. The events
 checked. mpi_cholesky.c factors a matrix, each process with a
 task graph of its own, and compares the factors with those of the whole matrix, over OpenBLAS if it is installed; it has a
 fault, too. With --quick trees and matrix are small, and the processes at most 4. Needs mpicc and mpirun of Open MPI
-(`tools/mpi-packages` prints the packages); if one is missing, says so, and with --quick that is no failure. The last line
-is `N passed, M failed`; the status is 1 if one failed.
+(`tools/mpi-packages` prints the packages); with --quick, what is missing is skipped, and counted. The last line is `N passed,
+M failed, K skipped`; the status is 1 if one failed.
 """
 import os
 import shutil
@@ -32,6 +32,7 @@ CHOLESKY_FAULT = "early"
 # the hand-written detectors, with which `tools/dev bench processes` compares the proved one
 PEERS = ["hand", "safra", "reductions"]
 SEEDS = 5
+COMMANDS = ("mpicc", "mpirun")
 
 
 @dataclass(frozen=True)
@@ -49,7 +50,7 @@ FULL = Size(["T1", "T3"], ["1024", "64"], [1, 2, 4, 8, 16])
 
 def missing():
     """Returns the commands that are not installed, as a text."""
-    return " and ".join(name for name in ("mpicc", "mpirun") if not shutil.which(name))
+    return " and ".join(name for name in COMMANDS if not shutil.which(name))
 
 
 def command_of(program, processes, arguments, seconds):
@@ -64,7 +65,7 @@ def environment():
 def run_processes(program, processes, arguments, seconds):
     """Runs a program with this number of processes, with its standard error in its output."""
     command = command_of(program, processes, arguments, seconds)
-    return running.run(command, stderr=subprocess.STDOUT, env=environment())
+    return running.run(command, stderr=subprocess.STDOUT, env=environment(), timeout=seconds + running.SECONDS)
 
 
 def judge_processes(tally, program, processes, arguments):
@@ -95,11 +96,11 @@ def compile_program(name, folder):
     return f"{folder}/{name}"
 
 
-def compile_cholesky(folder):
+def compile_cholesky(tally, folder):
     """Links mpi_cholesky.c with OpenBLAS if that is installed, else with plain kernels; returns its path in the folder."""
     path = f"{folder}/mpi_cholesky"
     if running.run([*COMPILER, "capi/mpi/mpi_cholesky.c", "-o", path, *LINK, *BLAS], cwd=TOP).status:
-        print("OpenBLAS is not installed: mpi_cholesky.c runs with plain kernels")
+        tally.skips("mpi_cholesky.c over OpenBLAS, which runs with plain kernels", "libopenblas-dev")
         compile_program("mpi_cholesky", folder)
     return path
 
@@ -122,7 +123,7 @@ def run_searches(tally, folder, size):
 
 def run_cholesky(tally, folder, size):
     """Factors a matrix with each number of processes, of 2 threads each, and a small one with the fault."""
-    program = compile_cholesky(folder)
+    program = compile_cholesky(tally, folder)
     for processes in size.counts:
         judge_processes(tally, program, processes, [*size.matrix, "2"])
     arguments = [*QUICK.matrix, "2", CHOLESKY_FAULT]
@@ -136,10 +137,8 @@ def run_programs(tally, folder, size):
 
 
 def run_quick(tally, folder):
-    if missing():
-        print(f"{missing()}: not installed, so no program of capi/mpi was run. tools/mpi-packages prints the packages")
-        return
-    run_programs(tally, folder, QUICK)
+    if all(tally.has(name, "the programs of capi/mpi") for name in COMMANDS):
+        run_programs(tally, folder, QUICK)
 
 
 def arguments(parser):

@@ -20,7 +20,7 @@ import subprocess
 import threading
 from concurrent.futures import ThreadPoolExecutor
 
-from . import mutant_files, repository, together, visible
+from . import mutant_files, repository, running, together, visible
 from .build import prove_all, renew
 from .mutant_files import Fault, mutants_of
 from .repository import files_in, text_of
@@ -310,13 +310,13 @@ def is_readable(name):
 
 def print_stale(crates):
     """Prints the mutants that cannot be applied, the crates whose mutants have to be tried anew, and how many mutants there are;
-    returns whether there is nothing to do."""
-    faults = [line for name in crates for line in faults_of(name)]
-    print("".join(f"{line}\n" for line in faults), end="")
+    returns the exit status."""
+    tally = running.Tally()
+    for line in (line for name in crates for line in faults_of(name)):
+        tally.fails(line)
     having = {name: crate for name, crate in crates.items() if is_readable(name)}
-    stale = [name for name, crate in having.items() if not is_current(crate)]
-    for name in stale:
-        print(f"{name} changed since its mutants were tried: make mutants")
+    for name, crate in having.items():
+        tally.judge(is_current(crate), f"{name} changed since its mutants were tried: make mutants")
     others = [name for name, crate in having.items() if logic(note_of(crate, "by")) != logic(toolchain())]
     if others:
         print(f"Tried with another prover than this one, which `make mutants ALL=1` would ask: {' '.join(others)}")
@@ -325,7 +325,7 @@ def print_stale(crates):
     elsewhere = sum(len(mutant_files.file_of(name).mutants) for name in having)
     most = "" if mutants <= MOST_MUTANTS and in_crates <= MOST_CRATES else f" (at most {MOST_MUTANTS} in {MOST_CRATES} is the rule)"
     print(f"The gate has {mutants} mutants in {in_crates} crates{most}; {elsewhere} more are in crates/*/mutants.")
-    return not stale and not faults
+    return tally.end()
 
 
 def arguments(parser):
@@ -351,7 +351,7 @@ def run(options):
     crates = repository.crates()
     try:
         if options.stale:
-            return 0 if print_stale(crates) else 1
+            return print_stale(crates)
         having = {name: crate for name, crate in crates.items() if mutants_of(name)}
         wanted = list(dict.fromkeys(options.redigest or options.names))
         names = wanted or [name for name, crate in having.items() if options.all or not is_current(crate)]

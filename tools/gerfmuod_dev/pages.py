@@ -1,4 +1,4 @@
-"""Tries the trace events and the page that `samples draw run` writes, and the times of runs, unproved.
+"""Tries the trace events and the page that `samples draw run` writes, and the times of runs.
 
 Has the program write 40 random runs as events. Each file has to be as the Trace Event Format says (event_format.py); each
 task, message and wave of the trace has to be in it once, and its events have to be those of a second writer
@@ -7,7 +7,7 @@ counters that rise to the numbers of the run (run_profiles.py), and `tools/dev s
 installed (`tools/page-packages` prints the packages), opens the page of a run of 100,000 events in it, zooms, moves, searches,
 and holds the pointer over a task, a message and a wave, in light and dark colours, and opens the pages of the short runs;
 none may report an error. A viewer of Chromium's DevTools has to find the slices of all files (viewer.py). The last line is
-`N passed, M failed`; the status is 1 if one failed.
+`N passed, M failed, K skipped`; the status is 1 if one failed.
 """
 import collections
 import io
@@ -18,7 +18,7 @@ import tempfile
 
 from . import event_format, repository, run_profiles, running, tries, viewer
 from .bench import inputs
-from .browser import Browser, program
+from .browser import Browser, is_here
 from .limits.random_texts import random_steps, sound_trace
 from .trace_events import events_of
 
@@ -45,7 +45,7 @@ def traces():
 def written(texts, folder):
     """Runs the program: it writes each trace as events, and one as a page, and the times of runs into a folder.
 
-    Returns what it printed of each trace, and all that rt printed.
+    Returns what it printed of each trace, and the results of all runs.
     """
     with tempfile.TemporaryDirectory() as cases:
         forms = {**dict.fromkeys(texts, "events"), PAGE: "html"}
@@ -53,12 +53,8 @@ def written(texts, folder):
             running.write(f"{cases}/{name}", texts.get(name, EMPTY))
             running.write(f"{cases}/{name}.args", ["draw", "run", "--format", form])
         run_profiles.write_cases("samples", cases, folder)
-        output, _ = tries.rt_try("samples", "--seconds", tries.SECONDS, "--cases", cases)
-    found = dict(re.findall(r"^== (\S+)\n(.*?)^case=\1 run=ended status=0", output, re.M | re.S))
-    found = {name: text for name, text in found.items() if name in forms}
-    if len(found) != len(forms):
-        print(output)
-    return found, output
+        results = tries.run_cases("samples", cases)
+    return {name: results[name][1] for name in forms if results.get(name, (None,))[0] == 0}, results
 
 
 def things_of(trace):
@@ -226,16 +222,14 @@ def run(options):
     tally = running.Tally()
     texts = traces()
     with tempfile.TemporaryDirectory() as folder:
-        outputs, output = written(texts, folder)
+        outputs, results = written(texts, folder)
         check_events(tally, texts, outputs)
-        profiles = run_profiles.check(tally, folder, output)
-    if not program():
-        print("Chromium is missing (tools/page-packages prints the packages): the page was not tried.")
-    elif PAGE in outputs:
+        profiles = run_profiles.check(tally, folder, results)
+    if PAGE not in outputs:
+        tally.fails("the program wrote no page")
+    elif is_here(tally, "the page"):
         page = outputs.pop(PAGE)
         check_page(tally, page, texts.values())
         with Browser() as browser:
             viewer.check(tally, browser, {**outputs, **profiles})
-    else:
-        tally.fails("the program wrote no page")
     return tally.end()

@@ -1,5 +1,6 @@
 """The repository: its folder, the crates of crates.txt, and how many processes may run at the same time."""
 import functools
+import hashlib
 import os
 import re
 
@@ -7,8 +8,8 @@ TOP = os.path.dirname(os.path.dirname(os.path.dirname(os.path.realpath(__file__)
 # KB that a check of the prover needs, and that an unproved build of the whole program needs, with a margin
 MEMORY_OF_A_CHECK = 4_000_000
 MEMORY_OF_A_TRIAL = 2_500_000
-# the folders of a crate that have no source: what is built, mutants, and what a program reads
-NO_SOURCES = ("out", "must-fail", "data")
+# the folders of a crate that have its code, definitions and proofs
+SOURCES = ("src", "specs", "proofs")
 
 
 def go_to_top():
@@ -36,14 +37,15 @@ class Crate:
     def __init__(self, name, below):
         self.name, self.below = name, below
 
+    def sources(self, top=TOP):
+        """Returns the paths of its code, definitions and proofs below `top`."""
+        files = [path for part in SOURCES for path in files_in(f"{top}/crates/{self.name}/{part}")]
+        return [path[len(top) + 1 :] for path in files if path.endswith((".rt", ".antt"))]
+
     @functools.cached_property
     def lines(self):
         """The number of its lines of code, definitions and proofs."""
-        count = 0
-        for path, folders, files in os.walk(f"{TOP}/crates/{self.name}"):
-            folders[:] = [name for name in folders if name not in NO_SOURCES]
-            count += sum(text_of(f"{path}/{name}").count("\n") for name in files if name.endswith((".rt", ".antt")))
-        return count
+        return sum(text_of(f"{TOP}/{path}").count("\n") for path in self.sources())
 
     @property
     def is_program(self):
@@ -62,6 +64,15 @@ def crates(names=None):
             found.add(name)
             left += below[name]
     return {name: Crate(name, needs) for name, needs in below.items() if name in found}
+
+
+def digest(names, top=TOP):
+    """Returns a hash of the sources of these crates and of all below them, in this folder or in a copy of the repository."""
+    result = hashlib.sha256()
+    for crate in crates(names).values():
+        for path in crate.sources(top):
+            result.update(f"{path}\n{text_of(f'{top}/{path}')}".encode())
+    return result.hexdigest()
 
 
 def groups():

@@ -1,4 +1,4 @@
-"""Copies of the repository in which crates are proved at the same time. What was proved there is kept for the next time."""
+"""Copies of the repository in which crates are proved at the same time. One of them is kept for the next time."""
 import contextlib
 import fcntl
 import hashlib
@@ -32,4 +32,9 @@ def rooms():
         copies = [f"{top}/{number}" for number in range(repository.lanes(repository.MEMORY_OF_A_CHECK))]
         for copy in copies:
             update(copy)
-        yield top, copies
+        try:
+            yield top, copies
+        finally:
+            # (the first one has all that was proved, and rt finds it there)
+            for copy in copies[1:]:
+                shutil.rmtree(copy, ignore_errors=True)

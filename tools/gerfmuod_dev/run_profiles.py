@@ -50,11 +50,11 @@ def write_cases(program, cases, folder):
             running.write(f"{cases}/{name}.args", [*case.arguments, "--profile", path])
 
 
-def output_of_tp(folder):
-    """Runs the cases of `tp`; returns what rt printed."""
+def results_of_tp(folder):
+    """Runs the cases of `tp`; returns the status and the output of each."""
     with tempfile.TemporaryDirectory() as cases:
         write_cases("tp", cases, folder)
-        return tries.rt_try("tp", "--seconds", tries.SECONDS, "--cases", cases)[0]
+        return tries.run_cases("tp", cases)
 
 
 def track_faults(slices):
@@ -109,17 +109,14 @@ def faults(text, case):
     return found
 
 
-def check(tally, folder, output):
-    """Checks what the runs have written to a folder, after those of `samples`, whose output is given; returns the texts by case."""
-    # (what rt says of a case; what the case printed may be long)
-    outputs = {"samples": output, "tp": output_of_tp(folder)}
-    outputs = {program: "\n".join(re.findall(r"^case=.*", text, re.M)) for program, text in outputs.items()}
+def check(tally, folder, results):
+    """Checks what the runs have written to a folder, after those of `samples`, whose results are given; returns the texts by case."""
+    results = {**results, **results_of_tp(folder)}
     texts = {name: repository.text_of(f"{folder}/{name}") for name in sorted(os.listdir(folder))}
     for name, case in CASES.items():
         found = faults(texts[name], case) if name in texts else ["no file"]
-        tally.judge(not found, f"--profile of {name}: {found[:3]}\n{outputs[case.program]}")
-    for name, case in UNWRITTEN.items():
-        output = outputs[case.program]
-        tally.judge(f"case={name} run=ended status=1" in output, f"{name}: no status 1 for {NOWHERE}\n{output}")
+        tally.judge(not found, f"--profile of {name}: {found[:3]}, {str(results.get(name))[:1000]}")
+    for name in UNWRITTEN:
+        tally.judge(results.get(name, (None,))[0] == 1, f"{name}: no status 1 for {NOWHERE}: {results.get(name)}")
     print(f"{len(CASES)} runs with times", flush=True)
     return texts

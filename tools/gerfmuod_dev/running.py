@@ -1,15 +1,20 @@
-"""Runs built programs, compares their results, and counts the cases that pass."""
+"""Runs built programs, each with a time limit, compares their results, and counts the cases that pass."""
 import os
-import re
+import shutil
 import subprocess
 import sys
 from concurrent.futures import ThreadPoolExecutor
 from dataclasses import dataclass
 
+from . import built
 from .repository import TOP, processors
 
-# the status that a shell gives a program that cannot be started
-NOT_STARTED = 126
+# the statuses that a shell gives a program that cannot be started, and `timeout` one that does not end
+NOT_STARTED, NOT_ENDED = 126, 124
+# the time limit of a run, under a sanitizer and on a loaded machine too
+SECONDS = 300
+# the package of Debian that has a command, if it has another name
+PACKAGES = {"c++": "g++", "cc": "gcc", "clang++": "clang", "dot": "graphviz", "mpicc": "libopenmpi-dev", "mpirun": "openmpi-bin"}
 
 
 @dataclass(frozen=True)
@@ -25,10 +30,11 @@ class Result:
 
 
 class Tally:
-    """Counts the cases that passed and failed, and prints each that fails at once."""
+    """Counts the cases that passed, failed and were skipped, and prints each that fails or is skipped at once."""
 
     def __init__(self):
-        self.passed = self.failed = 0
+        self.passed = self.failed = self.skipped = 0
+        self.seconds = SECONDS
 
     def passes(self, count=1):
         self.passed += count
@@ -43,9 +49,21 @@ class Tally:
         else:
             self.fails(reason)
 
+    def skips(self, what, package):
+        """Counts a case that is not tried, and prints what would have to be installed for it."""
+        self.skipped += 1
+        print(f"SKIPPED for lack of {package}: {what}", flush=True)
+
+    def has(self, command, what):
+        """Whether a command is installed. If it is not, counts what is not tried."""
+        is_here = bool(shutil.which(command))
+        if not is_here:
+            self.skips(what, PACKAGES.get(command, command))
+        return is_here
+
     def end(self):
         """Prints the last line and returns the exit status."""
-        print(f"{self.passed} passed, {self.failed} failed")
+        print(f"{self.passed} passed, {self.failed} failed, {self.skipped} skipped")
         return 1 if self.failed else 0
 
 
@@ -60,20 +78,27 @@ def program_argument(parser, name="tp"):
 
 
 def require(*programs):
-    """Exits with status 1 if one of the programs is missing."""
+    """Exits with status 1 if one of the programs is missing, or is one of bin/ that was built from other sources."""
     for program in programs:
+        own = [name for name, (_, path) in built.RESULTS.items() if os.path.abspath(program) == f"{TOP}/{path}"]
+        reasons = [built.reason_not_built(name) for name in own]
         if not os.path.isfile(program) or not os.access(program, os.X_OK):
-            sys.exit(f"{program} is not a program: `make` builds the repository's own")
+            reasons = [f"{program} is not a program"]
+        if any(reasons):
+            sys.exit(f"{reasons[0]}: `make` builds the repository's own")
 
 
 def run(command, stdin=os.devnull, **options):
-    """Runs a command; its input is the file of that name, or the bytes themselves."""
+    """Runs a command; its input is the file of that name, or the bytes themselves. After SECONDS it is ended."""
     file = None if isinstance(stdin, bytes) else os.open(stdin, os.O_RDONLY)
     source = {"input": stdin} if file is None else {"stdin": file}
+    streams = {"stdout": subprocess.PIPE, "stderr": subprocess.PIPE}
     try:
-        process = subprocess.run(command, **{"stdout": subprocess.PIPE, "stderr": subprocess.PIPE, **source, **options})
+        process = subprocess.run(command, **{**streams, "timeout": SECONDS, **source, **options})
     except OSError as error:
         return Result(NOT_STARTED, b"", f"{error}\n".encode())
+    except subprocess.TimeoutExpired as error:
+        return Result(NOT_ENDED, error.stdout or b"", f"it did not end within {error.timeout:.0f} seconds\n".encode())
     finally:
         if file is not None:
             os.close(file)
@@ -88,16 +113,6 @@ def in_parallel(items, action):
     """Yields what the action returns for each item, in their order; as many run at a time as there are processors."""
     with ThreadPoolExecutor(processors()) as pool:
         yield from pool.map(action, items)
-
-
-def has_traces(program):
-    """Whether the program has the option `run --trace`."""
-    return b"--trace" in run([program, "run", "--help"]).out
-
-
-def has_pools(program):
-    """Whether the program has the subcommand `pools`."""
-    return re.search(rb"^ *pools ", run([program, "--help"]).out, re.M) is not None
 
 
 def preload_library(name, folder):

@@ -4,8 +4,7 @@ A run's table, its number of tasks and its end have to be those of one node with
 its trace, which has to be audited as sound, with each task done, each message received, and the end announced. The
 short soak runs three pools at 8 nodes with 8 workers each, and prints a line for each pool. The long one (--long)
 chooses at random among six pools, 1 to 8 nodes and 1 to 8 workers each, for --seconds; its last line has the number of
-runs. It leaves traces out if the program has none. At the first run that differs, prints it on standard error and ends
-with status 1.
+runs. At the first run that differs, prints it on standard error and ends with status 1.
 """
 import os
 import random
@@ -89,9 +88,9 @@ def short_soak(program, runs, trace):
 
 def long_soak(program, seconds, seed, trace):
     print(f"seed {seed}", flush=True)
-    generator, has_traces = random.Random(seed), running.has_traces(program)
+    generator = random.Random(seed)
     expected = {pool: expected_of(program, pool) for pool in LONG}
-    runs = audits = 0
+    runs = 0
     end = time.monotonic() + seconds
     while time.monotonic() < end:
         pool, nodes, workers = generator.choice(LONG), generator.randint(1, 8), generator.randint(1, 8)
@@ -100,13 +99,11 @@ def long_soak(program, seconds, seed, trace):
         case = f"{pool} at {nodes} nodes with {workers} workers, run {runs}"
         if output != expected[pool].output:
             raise Differs(f"{case}, differs:\n{output}")
-        if has_traces:
-            if not is_sound(audit(program, pool, nodes, workers, trace), expected[pool].tasks):
-                path = f"unsound-trace-of-run-{runs}"
-                shutil.copy(trace, path)
-                raise Differs(f"{case}: its trace is not sound; it is stored as {path}")
-            audits += 1
-    print(f"{runs} runs in {seconds} seconds, all alike; {audits} traces audited, all sound and ended")
+        if not is_sound(audit(program, pool, nodes, workers, trace), expected[pool].tasks):
+            path = f"unsound-trace-of-run-{runs}"
+            shutil.copy(trace, path)
+            raise Differs(f"{case}: its trace is not sound; it is stored as {path}")
+    print(f"{runs} runs in {seconds} seconds, all alike; a trace of each pool was audited, all sound and ended")
 
 
 def arguments(parser):

@@ -1,11 +1,13 @@
-"""Runs every test and every program unproved.
+"""Runs every test, every program, and the cases of the programs, and compares what they print.
 
-They are runs of `rt try`; the output of a program is compared with the stored one. It proves nothing: `make gate` does.
-Prints a line for the tests of a crate, one for a program, one for its cases, whose exit statuses are compared and whose
-outputs are compared if they are stored, and one for the pictures of docs/figures that `samples draw` draws; if something
-failed, prints the output too. With --write, what the cases print is stored instead of compared. The last line is `N
-passed, M failed`, each test, program and case counted; the status is 1 if one failed.
+They are runs of `rt try`, which proves nothing: `make gate` does. `tp` and `samples` and their cases run with bin/tp and bin/samples
+if these were built from these sources, which takes seconds instead of minutes. Prints a line for the tests
+of a crate, one for a program, one for its cases, whose exit statuses are compared and whose outputs are compared if they are
+stored, and one for the pictures of docs/figures that `samples draw` draws; if something failed, prints the output too. With
+--write, what the cases print is stored instead of compared. The last line is `N passed, M failed, K skipped`, each test, program
+and case counted; the status is 1 if one failed.
 """
+import difflib
 import functools
 import hashlib
 import os
@@ -16,7 +18,7 @@ import tempfile
 from concurrent.futures import ThreadPoolExecutor
 from dataclasses import dataclass
 
-from . import repository, version
+from . import built, repository, running, version
 from .drawn import PICTURES, path_of
 from .repository import text_of
 
@@ -67,22 +69,24 @@ def try_tests(crate):
 
 
 def difference(expected, output):
-    with tempfile.NamedTemporaryFile("w", suffix=".expected") as file:
-        file.write(expected)
-        file.flush()
-        return subprocess.run(["diff", file.name, "-"], input=output, capture_output=True, text=True).stdout
+    return "\n".join(difflib.unified_diff(expected.splitlines(), output.splitlines(), "expected", "printed", lineterm=""))
 
 
 def try_program(crate):
+    """Runs a program on its stored input and files: the built one, if it is of these sources."""
     folder = f"crates/{crate}"
     command, data = ["rt", "try", "--seconds", SECONDS], f"{folder}/data"
-    for name in sorted(os.listdir(data)) if os.path.isdir(data) else []:
-        command += ["--data", f"{name}={os.path.abspath(f'{data}/{name}')}"]
-    command += ["--", *text_of(f"{folder}/args", "").splitlines()]
-    result = subprocess.run(command, cwd=folder, input=text_of(f"{folder}/stdin", ""), capture_output=True, text=True)
-    expected, status = text_of(f"{folder}/stdout", ""), int(text_of(f"{folder}/status", "") or 0)
-    is_well = result.stdout == expected and result.returncode == status
-    details = f"status {result.returncode}, expected {status}\n{difference(expected, result.stdout)}{result.stderr}"
+    files = [f"{data}/{name}" for name in sorted(os.listdir(data))] if os.path.isdir(data) else []
+    for path in files:
+        command += ["--data", f"{os.path.basename(path)}={os.path.abspath(path)}"]
+    arguments_of, stdin = text_of(f"{folder}/args", "").splitlines(), text_of(f"{folder}/stdin", "").encode()
+    if is_built(crate):
+        result = run_built(crate, stdin, arguments_of, files)
+    else:
+        result = running.run([*command, "--", *arguments_of], stdin, cwd=folder, timeout=2 * int(SECONDS))
+    expected, status, out = text_of(f"{folder}/stdout", ""), int(text_of(f"{folder}/status", "") or 0), result.out.decode()
+    is_well = out == expected and result.status == status
+    details = f"status {result.status}, expected {status}\n{difference(expected, out)}{result.err.decode(errors='replace')}"
     line = f"{crate}: the program {'printed what is stored' if is_well else 'FAILED'}"
     return Outcome(line, int(is_well), int(not is_well), details)
 
@@ -94,9 +98,42 @@ def stored(text):
     return f"({len(text)} bytes of SHA-256 {hashlib.sha256(text.encode()).hexdigest()})\n"
 
 
-def outputs_in(output):
-    """Returns what each case printed, as it is stored, by its name."""
-    return {name: stored(text) for name, text in re.findall(r"^== (\S+)\n(.*?)^case=\1 ", output, re.M | re.S)}
+def case_names(cases):
+    """Returns the names of the cases of a folder: each is an input, next to which may be the arguments, one a line."""
+    return sorted(name for name in os.listdir(cases) if not name.endswith(".args"))
+
+
+def is_built(program):
+    return program in built.RESULTS and not built.reason_not_built(program)
+
+
+def run_built(program, stdin, arguments_of, files=()):
+    """Runs a built program in a folder of its own, with copies of these files and without an environment, as `rt try` does."""
+    with tempfile.TemporaryDirectory() as folder:
+        for path in files:
+            shutil.copy(path, folder)
+        options = {"executable": f"{repository.TOP}/bin/{program}", "cwd": folder, "env": {}}
+        return running.run(["program", *arguments_of], stdin, **options)
+
+
+def run_case(program, cases, name):
+    """Runs a built program on a case; returns its status, and its output with what it printed on standard error after it."""
+    result = run_built(program, f"{cases}/{name}", text_of(f"{cases}/{name}.args", "").splitlines())
+    return result.status, (result.out + result.err).decode(errors="replace")
+
+
+def results_in(output):
+    """Returns the status and the output of each case that ended, by its name, from what `rt try --cases` printed."""
+    found = re.findall(r"^== (\S+)\n(.*?)^case=\1 run=ended status=(\d+)", output, re.M | re.S)
+    return {name: (int(status), text) for name, text, status in found}
+
+
+def run_cases(program, cases):
+    """Runs a program on the cases of a folder, and returns the same: the built program, or unproved if it is not of these sources."""
+    if not is_built(program):
+        return results_in(rt_try(program, "--seconds", SECONDS, "--cases", os.path.abspath(cases))[0])
+    names = case_names(cases)
+    return dict(zip(names, running.in_parallel(names, lambda name: run_case(program, cases, name))))
 
 
 def stored_outputs(path):
@@ -114,22 +151,28 @@ def is_rejected(name, text):
     return result.returncode != 0 or result.stderr != ""
 
 
-def try_cases(crate, writes=False):
-    """Runs the program on each of its cases, and compares the exit statuses, and the outputs if they are stored."""
+def try_cases(crate, names):
+    """Runs the program on some of its cases, and compares the exit statuses, and the outputs if they are stored."""
     cases, path = f"{STATUSES}/{crate}", f"{OUTPUTS}/{crate}"
-    output, _ = rt_try(crate, "--seconds", SECONDS, "--cases", f"../../{cases}")
-    names = {name for name in os.listdir(cases) if not name.endswith(".args")}
-    statuses, printed = dict(re.findall(r"^case=(\S+) .*?\bstatus=(\d+)", output, re.M)), outputs_in(output)
-    if writes:
-        with open(path, "w", encoding="utf-8") as file:
-            file.write("".join(f"== {name}\n{printed[name]}" for name in sorted(printed)))
-    expected = stored_outputs(path) if os.path.exists(path) else printed
-    differing = {name for name in names if statuses.get(name) != name[0] or name not in printed or printed[name] != expected.get(name)}
-    differing |= {name for name in names if is_rejected(name, printed.get(name, ""))}
-    details = "".join(f"{name}: expected\n{expected.get(name)}but printed\n{printed.get(name)}" for name in sorted(differing))
-    passed = len(names) - len(differing)
-    line = f"{crate}: {passed} of {len(names)} cases ended{' and printed' if expected is not printed else ''} as expected"
-    return Outcome(line, passed, len(differing), output + details)
+    with tempfile.TemporaryDirectory() as folder:
+        for name in (*names, *(f"{name}.args" for name in names)):
+            if os.path.exists(f"{cases}/{name}"):
+                shutil.copy(f"{cases}/{name}", folder)
+        results = run_cases(crate, folder)
+    expected, details = stored_outputs(path) if os.path.exists(path) else {}, []
+    for name in names:
+        status, text = results.get(name, (None, ""))
+        has_text = not expected or stored(text) == expected.get(name)
+        if f"{status}" != name[0] or not has_text or is_rejected(name, text):
+            details.append(f"{name}: status {status}, {difference(expected.get(name, ''), stored(text))}\n")
+    line = f"{crate}: {len(names) - len(details)} of {len(names)} cases ended{' and printed' if expected else ''} as expected"
+    return Outcome(line, len(names) - len(details), len(details), "".join(details))
+
+
+def write_cases(crate):
+    """Stores what the program prints on each of its cases."""
+    results = run_cases(crate, f"{STATUSES}/{crate}")
+    running.write(f"{OUTPUTS}/{crate}", "".join(f"== {name}\n{stored(text)}" for name, (_, text) in sorted(results.items())))
 
 
 def try_pictures(crate):
@@ -137,23 +180,29 @@ def try_pictures(crate):
     with tempfile.TemporaryDirectory() as cases:
         for name, picture in PICTURES.items():
             shutil.copy(picture.trace, f"{cases}/{name}")
-            shutil.copy(path_of(name), f"{cases}/{name}.stdout")
-            with open(f"{cases}/{name}.args", "w", encoding="utf-8") as file:
-                file.write("\n".join(["draw", *picture.arguments]) + "\n")
-        output, _ = rt_try(crate, "--seconds", SECONDS, "--cases", cases)
-    ends = dict(re.findall(r"^case=(\S+) (.*)$", output, re.M))
-    passed = sum(f"status={picture.status}" in ends.get(name, "") and "output=expected" in ends[name] for name, picture in PICTURES.items())
-    return Outcome(f"{crate}: {passed} of {len(PICTURES)} pictures are as in docs/figures", passed, len(PICTURES) - passed, output)
+            running.write(f"{cases}/{name}.args", ["draw", *picture.arguments])
+        results = run_cases(crate, cases)
+    expected = {name: (picture.status, text_of(path_of(name))) for name, picture in PICTURES.items()}
+    differing = [name for name in PICTURES if results.get(name) != expected[name]]
+    passed = len(PICTURES) - len(differing)
+    return Outcome(f"{crate}: {passed} of {len(PICTURES)} pictures are as in docs/figures", passed, len(differing), " ".join(differing))
 
 
-def jobs_of(crates, writes):
+def groups_of_cases(crate):
+    """Returns the cases of a program in groups that are tried at the same time: one group, if the built program runs them."""
+    names = case_names(f"{STATUSES}/{crate}")
+    count = 1 if is_built(crate) else repository.lanes(repository.MEMORY_OF_A_TRIAL)
+    return [names[first::count] for first in range(count)]
+
+
+def jobs_of(crates):
     for crate in crates:
         if has_tests(crate):
             yield functools.partial(try_tests, crate)
         if os.path.exists(f"crates/{crate}/src/main.rt"):
             yield functools.partial(try_program, crate)
         if os.path.isdir(f"{STATUSES}/{crate}"):
-            yield functools.partial(try_cases, crate, writes)
+            yield from (functools.partial(try_cases, crate, names) for names in groups_of_cases(crate))
         if crate == "samples":
             yield functools.partial(try_pictures, crate)
 
@@ -171,16 +220,15 @@ def run(options):
         options.parser.error(f"no crate of crates.txt: {' '.join(unknown)}")
     if options.write and not options.crates:
         options.parser.error("--write needs the names of crates")
-    jobs = list(jobs_of(options.crates or crates, options.write))
-    print(f"Runs {len(jobs)} tests, programs and sets of cases unproved: some minutes.", flush=True)
-    passed = failed = 0
+    for crate in options.crates if options.write else ():
+        write_cases(crate)
+    jobs, tally = list(jobs_of(options.crates or crates)), running.Tally()
     # the crates at the top take longest
     with ThreadPoolExecutor(repository.lanes(repository.MEMORY_OF_A_TRIAL)) as pool:
         for outcome in pool.map(lambda job: job(), reversed(jobs)):
             print(outcome.line, flush=True)
+            tally.passes(outcome.passed)
+            tally.failed += outcome.failed
             if outcome.failed:
-                print(outcome.details, flush=True)
-            passed, failed = passed + outcome.passed, failed + outcome.failed
-    print("These runs were unproved: `make gate` proves every crate.")
-    print(f"{passed} passed, {failed} failed")
-    return 1 if failed else 0
+                print(f"FAILED: {outcome.line}\n{outcome.details}", flush=True)
+    return tally.end()

@@ -9,7 +9,6 @@ import os
 import resource
 import tempfile
 from dataclasses import dataclass
-from typing import Callable
 
 from .. import running
 from .out_of_memory import is_refused, is_whole
@@ -21,20 +20,12 @@ LIMITS = 50
 
 @dataclass(frozen=True)
 class Command:
-    """A command with its name, how its limit grows, its input, and its arguments."""
+    """A command with its name, by how many KB or percent its limit grows, its input, and its arguments."""
 
     name: str
-    next_limit: Callable
+    growth: tuple
     stdin: str
     arguments: str
-
-
-def by_kb(step):
-    return lambda limit: limit + step
-
-
-def by_percent(step):
-    return lambda limit: limit + limit * step // 100
 
 
 def run_at(limit, command, stdin):
@@ -55,7 +46,7 @@ def try_limits(tally, program, command):
             whole.append(limit)
         else:
             tally.fails(f"{name} at {limit} KB: {result.description()}")
-        limit = command.next_limit(limit)
+        limit += command.growth[0] + limit * command.growth[1] // 100
     tally.passes(len(refused) + len(whole))
     last, first = max(refused, default=0), min(whole, default=0)
     print(f"{name}: refused {len(refused)} times, up to {last} KB; whole {len(whole)} times, from {first} KB on", flush=True)
@@ -69,20 +60,18 @@ def steps():
         yield f"send {number % 8} {(number + 1) % 8} {number}"
 
 
-def commands(program, folder):
+def commands(folder):
     script = running.write(f"{folder}/script", ["nodes 8", *steps()])
     trace = running.write(f"{folder}/trace", ["trace 1", "nodes 8", *steps()])
-    yield Command("sim, 240,000 steps", by_kb(700), script, "sim")
-    yield Command("audit, 240,000 steps", by_kb(700), trace, "audit")
-    yield Command("run product:64:2:0, one node, one worker", by_percent(8), os.devnull, "run product:64:2:0")
+    yield Command("sim, 240,000 steps", (700, 0), script, "sim")
+    yield Command("audit, 240,000 steps", (700, 0), trace, "audit")
+    yield Command("run product:64:2:0, one node, one worker", (0, 8), os.devnull, "run product:64:2:0")
     wavefront = "run wavefront:64:64:0 --nodes 2 --workers 2"
-    yield Command("run wavefront:64:64:0, two nodes with two workers", by_percent(8), os.devnull, wavefront)
+    yield Command("run wavefront:64:64:0, two nodes with two workers", (0, 8), os.devnull, wavefront)
     reduce = "run reduce:64:0 --nodes 8 --workers 8"
-    yield Command("run reduce:64:0, eight nodes with eight workers", by_percent(12), os.devnull, reduce)
-    if running.has_traces(program):
-        yield Command("run reduce:1024:0 --trace, one node, one worker", by_percent(8), os.devnull, "run reduce:1024:0 --trace")
-    if running.has_pools(program):
-        yield Command("pools product:32:2:0 reduce:256:0", by_percent(12), os.devnull, "pools product:32:2:0 reduce:256:0")
+    yield Command("run reduce:64:0, eight nodes with eight workers", (0, 12), os.devnull, reduce)
+    yield Command("run reduce:1024:0 --trace, one node, one worker", (0, 8), os.devnull, "run reduce:1024:0 --trace")
+    yield Command("pools product:32:2:0 reduce:256:0", (0, 12), os.devnull, "pools product:32:2:0 reduce:256:0")
 
 
 def arguments(parser):
@@ -93,6 +82,6 @@ def run(options):
     running.require(options.tp)
     tally = running.Tally()
     with tempfile.TemporaryDirectory() as folder:
-        for command in commands(options.tp, folder):
+        for command in commands(folder):
             try_limits(tally, options.tp, command)
     return tally.end()

@@ -7,7 +7,8 @@ all allocations from there on failing. Each time it has to print its whole outpu
 were refused. The last line is `N passed, M failed`; the status is 1 if one failed, or if a command was never refused.
 Needs a C compiler.
 
-With --quick it tries a few commands, each with one allocation failing at a time, and nothing if a program is not built.
+With --quick it tries a few commands, each with one allocation failing at a time. The programs of bin/ have to be built from these
+sources.
 """
 import os
 import tempfile
@@ -92,12 +93,10 @@ def commands_of_tp(tp, folder):
         "run product:8:2:0, three nodes with two workers": "run product:8:2:0 --nodes 3 --workers 2",
         "run wavefront:40:30:0, one node": "run wavefront:40:30:0",
         "run reduce:4:0 --generations 3, two nodes": "run reduce:4:0 --generations 3 --nodes 2",
+        "run reduce:64:0 --trace": "run reduce:64:0 --trace",
+        "pools reduce:4:0 wavefront:2:3:0": "pools reduce:4:0 wavefront:2:3:0",
+        "help": "--help",
     }
-    if running.has_traces(tp):
-        runs["run reduce:64:0 --trace"] = "run reduce:64:0 --trace"
-    if running.has_pools(tp):
-        runs["pools reduce:4:0 wavefront:2:3:0"] = "pools reduce:4:0 wavefront:2:3:0"
-    runs["help"] = "--help"
     for name, arguments_of in runs.items():
         yield Command(name, [tp, *arguments_of.split()])
 
@@ -140,20 +139,18 @@ def commands_of_samples(samples, folder):
 def arguments(parser):
     for name in PROGRAMS:
         running.program_argument(parser, name)
-    parser.add_argument("--quick", action="store_true", help="a few commands, if the programs are built: the form of make test")
+    parser.add_argument("--quick", action="store_true", help="a few commands: the form of make test")
 
 
 def run(options):
     programs = [getattr(options, name) for name in PROGRAMS]
-    if options.quick and not all(map(os.path.isfile, programs)):
-        print("Allocations that fail in turn were not tried: that needs `make`.")
-        return 0
     running.require(*programs)
     tally = running.Tally()
     with tempfile.TemporaryDirectory() as folder:
         library = running.preload_library("refuse", folder)
         if not library:
-            return 1
+            tally.skips("allocations that fail in turn", "gcc")
+            return tally.end()
         refusing = Refusing(folder, library)
         for command in (*commands_of_tp(options.tp, folder), *commands_of_samples(options.samples, folder)):
             if not options.quick:

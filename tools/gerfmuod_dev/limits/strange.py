@@ -5,7 +5,7 @@ not text, and the system refuses more threads (which is tried as root alone). Ea
 and at most one line on standard error. Prints each case that ends differently. The last line is `N passed, M failed`; the
 status is 1 if one failed. The interrupted reads need a C compiler.
 
-With --quick it tries the interrupted reads and the pools of many events alone, and nothing if the program is not built.
+With --quick it tries the interrupted reads and the pools of many events alone. bin/tp has to be built from these sources.
 """
 import dataclasses
 import os
@@ -79,7 +79,7 @@ def try_interrupted(trial, script):
     """Each read is interrupted: after 67,108,864 of them the program gives up."""
     library = running.preload_library("interrupted", trial.folder)
     if not library:
-        print("no C compiler: reads that are interrupted forever were not tried")
+        trial.tally.skips("reads that are interrupted forever", "gcc")
         return
     for command in TEXTS:
         environment = {**os.environ, "LD_PRELOAD": library}
@@ -182,7 +182,7 @@ def try_arguments_and_pools(trial):
 def try_threads(trial):
     """A system that refuses more threads: a run starts 64. The limit does not bind root, so another user runs the program."""
     if os.geteuid() or not shutil.which("setpriv") or not shutil.which("prlimit"):
-        print("Threads that cannot be started were not tried: that needs root, setpriv and prlimit.")
+        trial.tally.skips("threads that cannot be started", "root or util-linux")
         return
     other_user = ["setpriv", "--reuid=61234", "--regid=61234", "--clear-groups"]
     # the first thread counts: the start of the second, third .. 65th fails
@@ -194,13 +194,10 @@ def try_threads(trial):
 
 def arguments(parser):
     running.program_argument(parser)
-    parser.add_argument("--quick", action="store_true", help="a few cases, if the program is built: the form of make test")
+    parser.add_argument("--quick", action="store_true", help="a few cases: the form of make test")
 
 
 def run(options):
-    if options.quick and not os.path.isfile(options.tp):
-        print("Reads that are always interrupted were not tried: that needs `make`.")
-        return 0
     running.require(options.tp)
     with tempfile.TemporaryDirectory() as folder:
         trial = Trial(options.tp, folder)

@@ -1,9 +1,7 @@
 """Checks what is generated for an installation: the version, the command lines, the manual, and the completion for bash."""
-import os
 import re
-import shutil
 
-from .. import running, tries, version
+from .. import built, running, tries, version
 from ..repository import text_of
 from ..running import short
 from . import command_lines, completion, header_pages, manual
@@ -29,12 +27,6 @@ def check_versions(tally):
     tally.judge(not differing, f"{version.PLACE} has the version {version.version()}, and another one is in {' '.join(differing)}")
 
 
-def is_current(name):
-    """Whether a program is built, and newer than the sources of its command line."""
-    sources = [path for _, paths in command_lines.SOURCES.values() for path in paths]
-    return os.path.exists(f"bin/{name}") and os.path.getmtime(f"bin/{name}") >= max(os.path.getmtime(path) for path in sources)
-
-
 def check_help(tally):
     """Compares the command lines that the manual is generated from with what `--help` prints."""
     stored = {text for name, text in tries.stored_outputs(f"{tries.OUTPUTS}/samples").items() if "-help" in name}
@@ -42,11 +34,11 @@ def check_help(tally):
     texts = {names: command_lines.help_of(names, command) for names, command in generated}
     for text in stored:
         tally.judge(text in texts.values(), f"{tries.OUTPUTS}/samples: no command line has this help: {text[:300]}")
-    built = [names for names in texts if is_current(names[0])]
-    for names in built:
+    current = [names for names in texts if not built.reason_not_built(names[0])]
+    for names in current:
         output = running.run([f"bin/{names[0]}", *names[1:], "--help"]).out.decode()
         tally.judge(output == texts[names], f"{' '.join(names)} --help: the manual has another text: {texts[names]}")
-    print(f"{len(texts)} command lines: {len(stored)} as the stored help, {len(built)} as the built programs print it")
+    print(f"{len(texts)} command lines: {len(stored)} as the stored help, {len(current)} as the built programs print it")
 
 
 def declared():
@@ -60,8 +52,7 @@ def check_manual(tally):
     pages = manual.pages()
     of_functions = sorted(path for path, page in pages.items() if page.startswith(".so "))
     tally.judge(of_functions == [f"man3/{name}.3" for name in declared()], f"the headers declare other functions than {of_functions}")
-    if not shutil.which("groff"):
-        print("groff is not installed: no page of the manual was laid out")
+    if not tally.has("groff", "the layout of the manual"):
         return
     for path, page in pages.items():
         if not page.startswith(".so "):
@@ -72,8 +63,7 @@ def check_manual(tally):
 
 def check_completion(tally):
     """Has bash complete arguments."""
-    if not shutil.which("bash"):
-        print("bash is not installed: its completion was not tried")
+    if not tally.has("bash", "its completion"):
         return
     scripts = completion.scripts()
     for line, expected in COMPLETED:

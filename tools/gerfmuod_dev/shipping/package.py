@@ -1,6 +1,7 @@
 """Installs into temporary folders and checks what is there: `make test`.
 
-It uses the built programs and the library, or placeholders for what is not built from these sources. It compares
+It uses the built programs and the library, and placeholders for what is not built from these sources, which then fails. It
+compares
 - the version in each source that repeats it;
 - the command lines that the manual is generated from, with what `--help` prints: the stored outputs of samples, and
   programs that are newer than their sources;
@@ -11,7 +12,7 @@ It uses the built programs and the library, or placeholders for what is not buil
 - with the built library, its programs in C, C++, Fortran, Rust and Python with nothing but the installed files;
 - what `make uninstall` leaves: nothing;
 - the tarball of `make dist` with the committed files.
-It names what is not on this machine, and skips it. The last line is `N passed, M failed`; the status is 1 if one failed.
+It skips what is not installed, and counts that. The last line is `N passed, M failed, K skipped`; the status is 1 if one failed.
 """
 import compileall
 import os
@@ -106,8 +107,7 @@ def check_links(tally, tree):
 
 def check_pkg_config(tally, tree, folder):
     """Compares what pkg-config prints, and runs programs that are compiled with it."""
-    if not shutil.which("pkg-config"):
-        print("pkg-config is not installed: skipped")
+    if not tally.has("pkg-config", "what it prints"):
         return
     environment, top = tree.environment(), tree.destination
     flags = f"-I{top}{tree.at['INCLUDEDIR']} -L{top}{tree.at['LIBDIR']} -lgerfmuod -pthread"
@@ -124,7 +124,8 @@ def check_pkg_config(tally, tree, folder):
     for kind, compiler, is_shared in (("c", "cc", True), ("c", "cc -static", False), ("cpp", "c++ -std=c++17", True)):
         path, static = f"{folder}/by_pkg_config", " --static" * (not is_shared)
         line = f"{compiler} {PROJECT}/version.{kind} -o {path} $(pkg-config{static} --cflags --libs gerfmuod)"
-        if shutil.which(compiler.split()[0]) and check(tally, running.run(["sh", "-c", line], env=environment), line):
+        is_here = tally.has(compiler.split()[0], f"version.{kind} by pkg-config")
+        if is_here and check(tally, running.run(["sh", "-c", line], env=environment), line):
             check_program(tally, path, is_shared, env=environment)
     print("programs with pkg-config: shared and static in C, shared in C++")
 
@@ -138,8 +139,7 @@ def check_program(tally, path, is_shared, **options):
 
 def check_cmake(tally, tree, folder):
     """Configures, builds and runs a project over the installed package, which is not at its prefix."""
-    if not shutil.which("cmake") or not shutil.which("c++"):
-        print("cmake or a compiler for C++ is not installed: the package for CMake was not tried")
+    if not tally.has("cmake", "the package for it") or not tally.has("c++", "the package for CMake"):
         return
     build = tempfile.mkdtemp(dir=folder)
     major, minor, patch = version.parts()
@@ -178,8 +178,7 @@ def check_examples(tally, tree, folder):
     """Compiles and runs programs of the installed documents."""
     environment = {**tree.environment(), "PYTHONPATH": tree.path("PYTHONDIR"), "PYTHONDONTWRITEBYTECODE": "1"}
     for compiler, line, expected in examples(tree, folder):
-        if not shutil.which(compiler):
-            print(f"{compiler} is not installed: skipped")
+        if not tally.has(compiler, line):
             continue
         result = running.run(["sh", "-c", line], env=environment)
         tally.judge(not result.status and expected.encode() in result.out, f"{line}: {short(result.out + result.err, 2000)}")
@@ -214,10 +213,10 @@ def check_tree(tally, tree, folder, reason):
     if tree.at["PREFIX"] == PREFIX:
         check_files(tally, tree)
         check_links(tally, tree)
-    if shutil.which("cc"):
+    if tally.has("cc", "programs over the installed package"):
         check_pkg_config(tally, tree, folder)
         check_cmake(tally, tree, folder)
-        if not reason:
+        if not reason and tally.has("pkg-config", "the installed examples"):
             check_examples(tally, tree, folder)
     check_uninstall(tally, tree)
 
@@ -225,7 +224,7 @@ def check_tree(tally, tree, folder, reason):
 def check_dist(tally, folder):
     """Compares the files of the tarball with the committed ones, and runs make and a tool in it."""
     if not os.path.exists(".git"):
-        print("this is no repository of git: make dist was not tried")
+        tally.skips("make dist", "a repository of git")
         return
     with tarfile.open(dist.pack(folder)) as tarball:
         files = sorted(member.name for member in tarball.getmembers() if not member.isdir())
@@ -253,14 +252,12 @@ def run(options):
     tally = Tally()
     with tempfile.TemporaryDirectory() as folder:
         built = f"{folder}/built"
-        reason = placeholders.build(built, bool(shutil.which("cc")))
+        reason, of_programs = placeholders.build(built, bool(shutil.which("cc")))
         if options.write:
             write_list(folder, built)
             return 0
-        if not shutil.which("cc"):
-            print("cc is not installed: no program is compiled")
-        if reason:
-            print(f"{reason}: a placeholder is installed, and no example is run. make lib builds the library")
+        for text in (reason, *of_programs):
+            tally.judge(not text, f"{text}: a placeholder is installed. make and make lib build it")
         generated.check(tally)
         for name, variables in (("usual", {"PREFIX": PREFIX}), ("other", OTHER)):
             check_tree(tally, Tree(f"{folder}/{name}", variables, built), folder, reason)

@@ -3,7 +3,7 @@ import os
 import shutil
 import subprocess
 
-from .. import library, shared_object
+from .. import built, library, shared_object
 from ..running import write
 from ..version import version
 from . import layout
@@ -27,17 +27,16 @@ def compiled(folder):
 
 
 def build(folder, has_compiler):
-    """Fills a folder; returns why the library in it is a placeholder, or an empty text."""
+    """Fills a folder; returns why the library in it is a placeholder, or an empty text, and the same of each such program."""
     for path in (*layout.PROGRAMS, library.ARCHIVE, library.SHARED):
         os.makedirs(os.path.dirname(f"{folder}/{path}"), exist_ok=True)
-    for path in layout.PROGRAMS:
-        if os.path.exists(path):
-            shutil.copy2(path, f"{folder}/{path}")
-        else:
+    reasons = {path: built.reason_not_built(os.path.basename(path)) for path in layout.PROGRAMS}
+    for path, reason in reasons.items():
+        if reason:
             program(f"{folder}/{path}", os.path.basename(path))
+        else:
+            shutil.copy2(path, f"{folder}/{path}")
     reason = library.reason_not_built()
-    if not reason and not os.path.exists(library.SHARED):
-        reason = f"{library.SHARED} is not there"
     if not reason:
         shutil.copytree("lib", f"{folder}/lib", dirs_exist_ok=True)
     elif has_compiler:
@@ -45,4 +44,4 @@ def build(folder, has_compiler):
     else:
         for path in (library.ARCHIVE, library.SHARED):
             write(f"{folder}/{path}", "no library\n")
-    return reason
+    return reason, [*filter(None, reasons.values())]

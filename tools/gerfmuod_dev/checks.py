@@ -1,0 +1,130 @@
+"""Runs the parts of `make test` side by side, and prints what each comes to; with --gate the form of .ci/run.
+
+With --gate the gate runs first. The library and the programs are then built from what it proved, and the tests run with them.
+Otherwise they run with what is in bin/ and lib/. The output of a part is printed when it ends. The last lines are a table of the
+parts with their minutes and counts, what was skipped for lack of which package, and `N passed, M failed, K skipped` over all. The
+status is 1 if a test failed or a part did not end within its time limit.
+"""
+import collections
+import contextlib
+import os
+import re
+import signal
+import subprocess
+import threading
+import time
+from concurrent.futures import ThreadPoolExecutor, as_completed
+from dataclasses import dataclass
+
+from . import repository
+
+# the arguments of tools/dev for each part; those that take longest begin first
+PARTS = {
+    "dag": ["dag"],
+    "try": ["try"],
+    "capi": ["capi"],
+    "pages": ["pages"],
+    "package": ["package"],
+    "strange": ["limits", "strange", "--quick"],
+    "refuse": ["limits", "refuse", "--quick"],
+    "docs": ["docs"],
+    "bench": ["bench", "--check"],
+    "mutants": ["mutants", "--stale"],
+}
+TOOLS = f"{repository.TOP}/tools/dev"
+# the time limits of a part in minutes: one of the tests, and one of the gate, which may take most of three hours
+LIMIT, LIMIT_OF_GATE = 30, 175
+COUNTS = re.compile(r"^(\d+) passed, (\d+) failed", re.M)
+SKIPPED = re.compile(r"^SKIPPED for lack of (.*?): ", re.M)
+ROW = "{:<10} {:>8} {:>8} {:>8} {:>8}"
+# the processes of the parts that run
+RUNNING = set()
+
+
+@dataclass
+class Part:
+    """A part that has run: its name, its output, its seconds, and how many cases passed, failed and were skipped."""
+
+    name: str
+    output: str
+    seconds: float
+    counts: list
+
+
+def counts_of(output, status):
+    """Returns what the closing line of a part counts. A part without such a line, or with a status that it does not explain, failed."""
+    found = COUNTS.findall(output)
+    passed, failed = map(int, found[-1]) if found else (0, 1)
+    return [passed, max(failed, int(status != 0)), len(SKIPPED.findall(output))]
+
+
+def end_all(number, _):
+    """Ends the parts that run, and this program."""
+    for process in list(RUNNING):
+        with contextlib.suppress(ProcessLookupError):
+            os.killpg(process.pid, signal.SIGKILL)
+    os._exit(128 + number)
+
+
+def run_part(name, command, minutes, is_shown):
+    """Runs a part, and ends it and the processes below it at its time limit. Shows its output while it runs, or when it has ended."""
+    began, lines = time.monotonic(), []
+    streams = {"stdin": subprocess.DEVNULL, "stdout": subprocess.PIPE, "stderr": subprocess.STDOUT}
+    with subprocess.Popen(command, cwd=repository.TOP, text=True, errors="replace", start_new_session=True, **streams) as process:
+        timer = threading.Timer(60 * minutes, os.killpg, (process.pid, signal.SIGKILL))
+        timer.daemon = True
+        timer.start()
+        RUNNING.add(process)
+        for line in process.stdout:
+            lines.append(line)
+            if is_shown:
+                print(line, end="", flush=True)
+        has_ended = timer.is_alive()
+        timer.cancel()
+        RUNNING.discard(process)
+    if not has_ended:
+        lines.append(f"FAILED: {name} did not end within {minutes} minutes\n")
+    output = "".join(lines)
+    return Part(name, output, time.monotonic() - began, counts_of(output, process.returncode))
+
+
+def run_gate():
+    """Yields the gate, and then the library and the programs, which are built from what it has proved."""
+    began, lanes = time.time(), repository.lanes(repository.MEMORY_OF_A_CHECK)
+    yield run_part("gate", ["env", f"RT_JOBS={lanes}", "rt", "ci"], LIMIT_OF_GATE, True)
+    yield run_part("lib", [TOOLS, "lib", "--since", str(began)], LIMIT, True)
+
+
+def run_tests():
+    """Yields each part of the tests when it ends, and shows its output."""
+    with ThreadPoolExecutor(repository.processors()) as pool:
+        parts = [pool.submit(run_part, name, [TOOLS, *arguments_of], LIMIT, False) for name, arguments_of in PARTS.items()]
+        for ended in as_completed(parts):
+            part = ended.result()
+            print(f"== {part.name}\n{part.output}", end="", flush=True)
+            yield part
+
+
+def report(parts):
+    """Prints the table and the closing line; returns the exit status."""
+    print("\n" + ROW.format("part", "minutes", "passed", "failed", "skipped"))
+    print("\n".join(ROW.format(part.name, f"{part.seconds / 60:.1f}", *part.counts) for part in parts))
+    lacking = collections.Counter(package for part in parts for package in SKIPPED.findall(part.output))
+    skipped = ", ".join(f"{package} ({count})" for package, count in lacking.most_common())
+    print(f"Skipped for lack of packages: {skipped}" if lacking else "Nothing was skipped.")
+    failing = [part.name for part in parts if part.counts[1]]
+    if failing:
+        print(f"FAILED: {' '.join(failing)}")
+    passed, failed, skipped = map(sum, zip(*(part.counts for part in parts)))
+    print(f"{passed} passed, {failed} failed, {skipped} skipped")
+    return 1 if failed else 0
+
+
+def arguments(parser):
+    parser.add_argument("--gate", action="store_true", help="the gate first, and then the tests with what it proved")
+
+
+def run(options):
+    for number in (signal.SIGINT, signal.SIGTERM):
+        signal.signal(number, end_all)
+    return report([*(run_gate() if options.gate else ()), *run_tests()])
