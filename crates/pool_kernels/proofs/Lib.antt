@@ -14,3 +14,5 @@ pub mod PairedRows
 pub mod Sound
 pub mod Numbers
 pub mod Sums
+pub mod Patterns
+pub mod Parts

@@ -14,3 +14,6 @@ pub mod Digits
 pub mod Pairs
 pub mod Plans
 pub mod Marks
+pub mod Stirrings
+pub mod Patterns
+pub mod Transforms

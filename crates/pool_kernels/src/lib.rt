@@ -4,7 +4,10 @@
 //! A [`Relation`] says which columns of a row feed which of the next, and a [`Kernel`] what a task computes from its
 //! row, its column and the values that feed it. A [`FeedTable`] is computed from a relation once; a [`KernelGrid`],
 //! which borrows the table, is the graph of both, and [`run_grid`] runs it on threads. [`run_kernel`] does all of this.
-//! [`Butterfly`] is a relation for transforms.
+//! [`Butterfly`] is a relation for transforms, and [`transformed`] the fast Walsh-Hadamard transform over it.
+//!
+//! Task Bench's patterns (E. Slaughter and others, "Task Bench: A Parameterized Benchmark for Evaluating Parallel Runtime
+//! Performance", 2020) are relations, too: a [`Pattern`]; [`Stirring`] is the kernel of its tasks.
 #![tactic(auto)]
 
 mod blocks;
@@ -21,12 +24,18 @@ mod laws;
 mod noting;
 mod pair_run;
 mod pairing;
+mod pattern;
 mod plan;
+mod relating;
 mod relation;
+mod row;
 mod run;
 mod spots;
+mod stirring;
+mod sums;
 mod table;
 mod table_fault;
+mod transform;
 mod values;
 
 pub use blocks::PairedBlocks;
@@ -41,10 +50,15 @@ pub use kernel::Kernel;
 pub use laws::{cells_are_values, grid_events_are_counted, sound_graphs_are_lawful};
 pub use pair_run::run_pairs;
 pub use pairing::Pairing;
+pub use pattern::Pattern;
 pub use plan::{Plan, PlanOf};
 pub use pool_blocks::joined;
 pub use relation::Relation;
+pub use row::checksum;
 pub use run::{GridRun, run_grid, run_kernel};
+pub use stirring::Stirring;
+pub use sums::SumOrDifference;
 pub use table::FeedTable;
 pub use table_fault::TableFault;
+pub use transform::transformed;
 pub use values::{number_at, value_by};

@@ -7,7 +7,7 @@ use crate::request::PatternGrid;
 use crate::times::Times;
 use crate::watched::{Watch, run_pool_watched};
 use pool_kernels::{FeedTable, GridRun, KernelGrid, RunFault, last_row, run_grid};
-use pool_patterns::{Pattern, Stirring, checksum};
+use pool_kernels::{Pattern, Stirring, checksum};
 use std::alloc::Global;
 use std::rt::Clock;
 use std::sync::Wait;

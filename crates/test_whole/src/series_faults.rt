@@ -3,7 +3,7 @@
 
 use pool_kernels::{FeedTable, KernelGrid};
 use pool_matrix::Product;
-use pool_patterns::{Pattern, Stirring};
+use pool_kernels::{Pattern, Stirring};
 use pool_samples::Reduce;
 use std::alloc::Global;
 use std::sync::Wait;

@@ -1,7 +1,7 @@
 //! The pairing of the transform.
-ghost use Rattle.pool_transform.specs.Transforms.{summed};
+ghost use Rattle.pool_kernels.specs.Transforms.{summed};
 
-use pool_kernels::Pairing;
+use crate::pairing::Pairing;
 
 /// The first number of a pair becomes the sum of both, the second their difference.
 #[derive(Clone, Copy, Debug, PartialEq, Eq)]

@@ -1,7 +1,7 @@
 use Rattle.std.proofs.Common.{◌≡◌, ◌≤◌, ◌*◌, ◌+◌, drop, Some}
 use Rattle.tp_graph.specs.Values.{then_some}
-use Rattle.pool_patterns.specs.Kernels.{total_of}
-use Rattle.pool_patterns.proofs.kernel.total_of.Given as goal
+use Rattle.pool_kernels.specs.Stirrings.{total_of}
+use Rattle.pool_kernels.proofs.stirring.total_of.Given as goal
 
 abbrev pub invariant-loop-i : goal.invariant-loop-i
 invariant-loop-i l = record {

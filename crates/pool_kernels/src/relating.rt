@@ -1,11 +1,11 @@
 //! The relation of each of Task Bench's patterns, and its period.
 ghost use Rattle.std.specs.Prelude.{◌≡◌, ◌≤◌, ◌<◌, ◌^◌};
 ghost use Rattle.pool_kernels.specs.Grids.{AreSizes};
-ghost use Rattle.pool_patterns.specs.Relations.{doublings, fifth, is_drawn, period_of, relates};
+ghost use Rattle.pool_kernels.specs.Patterns.{doublings, fifth, is_drawn, period_of, relates};
 
-use crate::kernel::stirred;
 use crate::pattern::Pattern;
-use pool_kernels::Relation;
+use crate::relation::Relation;
+use crate::stirring::stirred;
 
 impl Relation for Pattern {
     ghost relation = { relates };
@@ -35,7 +35,7 @@ impl Relation for Pattern {
         }
     }
 
-    #[tactic(auto, using(crate::proofs::Relations::comes_again))]
+    #[tactic(auto, using(crate::proofs::Patterns::comes_again))]
     fn period(&self, width: u32, steps: u32) -> u32 {
         period_of(*self, width, steps)
     }

@@ -1,9 +1,9 @@
 //! The kernel of the tasks, which is arithmetic on numbers below 2^31.
 ghost use Rattle.std.specs.Prelude.{◌≡◌, ◌<◌, ◌≤◌, MatchResult, Some, None, length};
 ghost use Rattle.tp_base.specs.declared.Refusal.TheVariants.{BodyFailed};
-ghost use Rattle.pool_patterns.specs.Kernels.{made, number_of, stir, stir_rule, stirred, total_of};
+ghost use Rattle.pool_kernels.specs.Stirrings.{made, number_of, stir, stir_rule, stirred, total_of};
 
-use pool_kernels::Kernel;
+use crate::kernel::Kernel;
 use std::alloc::Global;
 use tp_base::Refusal;
 use tp_graph::Value;
@@ -41,7 +41,7 @@ pub(crate) fn stirred(x: u64) -> u64
 }
 
 /// Returns the result of `iterations` iterations.
-#[tactic(auto, using(crate::proofs::Relations::stir_more))]
+#[tactic(auto, using(crate::proofs::Patterns::stir_more))]
 fn stir(x: u64, iterations: u64) -> u64
     requires { x < 2147483648 }
     ensures same { result ≡ stir iterations x }

@@ -11,7 +11,7 @@ use Rattle.pool_kernels.proofs.Sums.{sum_neg, sum_same, sum_split}
 use Rattle.pool_kernels.specs.Digits.{digit, without}
 use Rattle.pool_kernels.specs.Pairs.{after, paired}
 use Rattle.pool_kernels.specs.Sums.{sum_to}
-use Rattle.pool_transform.specs.Transforms.{summed, term, transform, turned}
+use Rattle.pool_kernels.specs.Transforms.{summed, term, transform, turned}
 
 bits : (b c : ℕ) → b < 2 → c < 2 → count_ones (bit_and b c) ≡ b * c
 unfolding count_ones

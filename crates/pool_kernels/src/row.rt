@@ -1,6 +1,6 @@
 //! The checksum of a row.
 ghost use Rattle.std.specs.Prelude.{◌≡◌, ◌<◌};
-ghost use Rattle.pool_patterns.specs.Kernels.{checksum};
+ghost use Rattle.pool_kernels.specs.Stirrings.{checksum};
 
 /// Returns the checksum of a row of numbers that are 0 or more: their sum mod 2 ^ 31.
 pub fn checksum(row: &[i64]) -> u64

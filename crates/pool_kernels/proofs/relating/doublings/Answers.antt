@@ -1,6 +1,6 @@
 use Rattle.std.proofs.Common.{◌≡◌, max, arith, rules}
-use Rattle.pool_patterns.proofs.Relations.{doublings_are}
-use Rattle.pool_patterns.proofs.relating.doublings.Goals as goal
+use Rattle.pool_kernels.proofs.Patterns.{doublings_are}
+use Rattle.pool_kernels.proofs.relating.doublings.Goals as goal
 
 pub returns-clause-same : goal.returns-clause-same
 returns-clause-same c =

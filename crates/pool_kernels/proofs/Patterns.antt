@@ -8,11 +8,11 @@ use Rattle.std.proofs.lemmas.Nat.{pow_below}
 use Rattle.pool_kernels.proofs.More.{suc_false, suc_true}
 use Rattle.pool_kernels.specs.Grids.{ComesAgain}
 use Rattle.pool_kernels.specs.Ranks.{rank}
-use Rattle.pool_patterns.specs.Kernels.{stir, stirred}
-use Rattle.pool_patterns.specs.Relations.{doublings, fifth, period_of, relates}
-use Rattle.pool_patterns.specs.declared.pattern.Pattern.{Pattern}
-use Rattle.pool_patterns.specs.declared.pattern.Pattern.TheVariants.{Trivial, NoComm, Stencil, StencilPeriodic, Dom, Tree, Fft, AllToAll}
-use Rattle.pool_patterns.specs.declared.pattern.Pattern.TheVariants.{Nearest, Spread, RandomNearest}
+use Rattle.pool_kernels.specs.Stirrings.{stir, stirred}
+use Rattle.pool_kernels.specs.Patterns.{doublings, fifth, period_of, relates}
+use Rattle.pool_kernels.specs.declared.pattern.Pattern.{Pattern}
+use Rattle.pool_kernels.specs.declared.pattern.Pattern.TheVariants.{Trivial, NoComm, Stencil, StencilPeriodic, Dom, Tree, Fft, AllToAll}
+use Rattle.pool_kernels.specs.declared.pattern.Pattern.TheVariants.{Nearest, Spread, RandomNearest}
 
 power_le : (i j : ℕ) → i ≤ j → 2 ^ i ≤ 2 ^ j
 power_le i j h =

@@ -1,6 +1,6 @@
 use Rattle.std.proofs.Common.{◌+◌, ◌∙◌}
-use Rattle.pool_transform.proofs.Parts.{all_parts}
-use Rattle.pool_transform.proofs.run.transformed.Goals as goal
+use Rattle.pool_kernels.proofs.Parts.{all_parts}
+use Rattle.pool_kernels.proofs.transform.transformed.Goals as goal
 
 pub returns-in-Ok-clause-made : goal.returns-in-Ok-clause-made
 returns-in-Ok-clause-made g c =

@@ -3,11 +3,13 @@ ghost use Rattle.std.specs.Prelude.{◌≡◌, ◌+◌, ◌^◌, IfErr, IfOk};
 ghost use Rattle.pool_kernels.specs.Digits.{butterfly};
 ghost use Rattle.pool_kernels.specs.RunFaults.{IsGridFault};
 ghost use Rattle.pool_kernels.specs.Pairs.{pair_rule};
-ghost use Rattle.pool_transform.specs.Transforms.{summed, transform};
+ghost use Rattle.pool_kernels.specs.Transforms.{summed, transform};
 ghost use Rattle.tp_work.specs.Outcomes.{IsWithinLimits};
 
+use crate::blocks::PairedBlocks;
+use crate::fault::GridFault;
+use crate::pair_run::run_pairs;
 use crate::sums::SumOrDifference;
-use pool_kernels::{GridFault, PairedBlocks, run_pairs};
 use std::alloc::Global;
 use std::sync::Wait;
 use std::thread::Threads;

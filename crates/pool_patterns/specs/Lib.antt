@@ -1,2 +1,0 @@
-pub mod Kernels
-pub mod Relations
