@@ -341,16 +341,21 @@ static void sleep_until_news(gerfmuod_team *team, uint32_t node) {
     team->sleeping[node]--;
 }
 
-/* Polls until there is news, and releases the lock between polls. Returns the number of pauses that are left. */
+/* Polls until there is news: a poll takes the lock if it is free, looks at the counter and releases the lock. Returns the number
+ * of pauses that are left. */
 static uint32_t spin_until_news(gerfmuod_team *team, uint32_t node, uint32_t spins) {
     uint32_t seen = team->version[node], pauses = FIRST_POLL;
     team->spinning++;
     while (spins > 0 && team->version[node] == seen) {
+        bool has_lock = false;
         release(team);
-        pause_for(pauses);
-        spins -= pauses < spins ? pauses : spins;
-        if (pauses < MOST_POLL) pauses *= 2;
-        acquire(team);
+        while (spins > 0 && !has_lock) {
+            pause_for(pauses);
+            spins -= pauses < spins ? pauses : spins;
+            if (pauses < MOST_POLL) pauses *= 2;
+            has_lock = !pthread_mutex_trylock(&team->lock);
+        }
+        if (!has_lock) acquire(team);
     }
     team->spinning--;
     return spins;
