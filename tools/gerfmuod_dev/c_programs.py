@@ -113,7 +113,8 @@ def run_program(tally, program, path):
         judge(tally, [*VALGRIND, path, *arguments], Run([], 0, ""))
     options = "".join(f" {option}" for option in program.sanitizer[:1])
     more = f", {len(checked)} more under valgrind" if checked else ""
-    print(f"{program.source}{options}: {len(program.runs)} runs{more}{', FAILED' * (tally.failed > before)}", flush=True)
+    count = f"{len(program.runs)} run{'s' * (len(program.runs) != 1)}"
+    print(f"{program.source}{options}: {count}{more}{', FAILED' * (tally.failed > before)}", flush=True)
 
 
 def run_programs(tally, programs, command_of, folder):

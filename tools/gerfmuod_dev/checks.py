@@ -32,8 +32,8 @@ PARTS = {
     "mutants": ["mutants", "--stale"],
 }
 TOOLS = f"{repository.TOP}/tools/dev"
-# the time limits of a part in minutes: one of the tests, and one of the gate, which may take most of three hours
-LIMIT, LIMIT_OF_GATE = 30, 175
+# the time limits in minutes: of a part of the tests, and of the gate, which leaves them time within three hours
+LIMIT, LIMIT_OF_GATE = 30, 150
 COUNTS = re.compile(r"^(\d+) passed, (\d+) failed", re.M)
 SKIPPED = re.compile(r"^SKIPPED for lack of (.*?): ", re.M)
 ROW = "{:<10} {:>8} {:>8} {:>8} {:>8}"

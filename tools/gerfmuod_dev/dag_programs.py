@@ -264,6 +264,7 @@ def run(options):
     if reason:
         tally.fails(f"{reason}: no program of capi/dag was linked and run. make lib builds it")
         return tally.end()
+    tally.seconds *= 10 if options.full else 1
     with tempfile.TemporaryDirectory() as folder:
         build = Build(options.library or "lib", folder)
         run_c(tally, build, options.full)
