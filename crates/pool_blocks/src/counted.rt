@@ -14,7 +14,7 @@ use std::sync::Wait;
 use std::thread::Threads;
 use tp_work::{Config, Counted, Plan, Progress};
 
-impl<'a, S: Stencil> Stencil for Counted<'a, S> {
+impl<'a, S: Stencil, R: Wait + Sync> Stencil for Counted<'a, S, R> {
     ghost step = { λ c. S.step c.inner };
 
     ghost next = { λ c. S.next c.inner };
@@ -42,7 +42,7 @@ impl<'a, S: Stencil> Stencil for Counted<'a, S> {
         behind: &[i64],
     ) -> Result<Vec<i64>, AllocError> {
         let made = self.inner.next(alloc, before, own, behind);
-        self.progress.count();
+        self.count();
         made
     }
 }
@@ -91,14 +91,21 @@ fn run_in_parts_told<S: Stencil, R: Threads + Wait + Sync>(
         (IsPartFault config.nodes config.workers (S.takes stencil) (S.step stencil) (S.next stencil)
         cells.items size steps) }
 {
-    begin_steps(progress, cells.len(), size, steps, config.nodes);
-    let counted = Counted::new(stencil, progress);
+    begin_steps(rt, progress, cells.len(), size, steps, config.nodes);
+    let counted = Counted::new(rt, stencil, progress);
     run_in_parts(rt, alloc, counted, cells, size, steps, config)
 }
 
 /// Sets the plan: this many steps of `cells` cells in blocks of `size`, in parts of as many steps as one run takes at
 /// `nodes` nodes.
-fn begin_steps(progress: &Progress, cells: usize, size: u32, steps: u64, nodes: u32) {
+fn begin_steps<R: Wait>(
+    rt: &R,
+    progress: &Progress,
+    cells: usize,
+    size: u32,
+    steps: u64,
+    nodes: u32,
+) {
     let Some(part) = steps_at_once(cells as u64, size, nodes) else {
         return;
     };
@@ -106,5 +113,5 @@ fn begin_steps(progress: &Progress, cells: usize, size: u32, steps: u64, nodes: 
         return;
     }
     let tasks = (cells as u64).div_ceil(u64::from(size));
-    progress.begin(Plan { tasks, steps, part });
+    progress.begin(rt, Plan { tasks, steps, part });
 }

@@ -45,14 +45,14 @@ fn each_block_after_a_step_is_counted_once(rt: HostRuntime) -> Result<(), Fail> 
     );
     assert!(rt; made.is_ok());
     assert_eq!(rt;
-        progress.plan(),
+        progress.plan(&rt),
         Plan {
             tasks: 3,
             steps: 7,
             part: 52_631
         }
     );
-    assert_eq!(rt; progress.done(), 21);
+    assert_eq!(rt; progress.done(&rt), 21);
     Ok(())
 }
 
@@ -74,13 +74,13 @@ fn each_task_is_counted_once_while_a_terminal_is_told(rt: HostRuntime) -> Result
     });
     assert!(rt; is_made);
     assert_eq!(rt;
-        progress.plan(),
+        progress.plan(rt),
         Plan {
             tasks: 24,
             steps: 1,
             part: 1
         }
     );
-    assert_eq!(rt; progress.done(), 24);
+    assert_eq!(rt; progress.done(rt), 24);
     Ok(())
 }

@@ -113,8 +113,8 @@ fn series_told<G: Graph, R: Threads + Wait + Sync>(
     ensures fault { IfErr result (IsSeriesFault plan.config.nodes (G.meaning graph) plan.generations) }
 {
     let tasks = u64::from(graph.tasks()).saturating_mul(u64::from(plan.generations));
-    progress.begin(tp_work::Plan::of_tasks(tasks));
-    let counted = Counted::new(graph, progress);
+    progress.begin(rt, tp_work::Plan::of_tasks(tasks));
+    let counted = Counted::new(rt, graph, progress);
     run_generations(rt, alloc, counted, plan.config, &OpenGate, plan.generations)
 }
 

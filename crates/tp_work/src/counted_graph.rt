@@ -3,28 +3,42 @@ ghost use Rattle.std.specs.Prelude.{◌≡◌, ⊤};
 
 use crate::progress::Progress;
 use std::alloc::{AllocError, Global};
+use std::sync::Wait;
 use tp_base::{NodeId, Refusal, TaskId};
 use tp_graph::{Graph, Value};
 
 /// A graph whose finished bodies are counted; it has the same meaning as the inner graph. (The crate pool_blocks counts
 /// stencils with it too.)
-pub struct Counted<'a, T: Copy> {
+pub struct Counted<'a, T: Copy, R> {
     /// The graph.
     pub inner: T,
     /// The counter.
-    pub progress: &'a Progress,
+    progress: &'a Progress,
+    rt: &'a R,
 }
 
-impl<'a, T: Copy> Counted<'a, T> {
+impl<'a, T: Copy, R> Counted<'a, T, R> {
     /// Returns the graph with its finished bodies counted.
-    pub fn new(inner: T, progress: &'a Progress) -> Self
+    pub fn new(rt: &'a R, inner: T, progress: &'a Progress) -> Self
         ensures { result.inner ≡ inner }
     {
-        Counted { inner, progress }
+        Counted {
+            inner,
+            progress,
+            rt,
+        }
     }
 }
 
-impl<'a, T: Copy> Clone for Counted<'a, T> {
+impl<'a, T: Copy, R: Wait> Counted<'a, T, R> {
+    /// Counts a task as done.
+    #[inline]
+    pub fn count(&self) {
+        self.progress.count(self.rt);
+    }
+}
+
+impl<'a, T: Copy, R> Clone for Counted<'a, T, R> {
     ghost is_clone = { λ x y. y.inner ≡ x.inner };
 
     ghost is_infallible = { λ _. ⊤ };
@@ -33,13 +47,14 @@ impl<'a, T: Copy> Clone for Counted<'a, T> {
         Ok(Counted {
             inner: self.inner,
             progress: self.progress,
+            rt: self.rt,
         })
     }
 }
 
-impl<'a, T: Copy> Copy for Counted<'a, T> {}
+impl<'a, T: Copy, R> Copy for Counted<'a, T, R> {}
 
-impl<'a, G: Graph> Graph for Counted<'a, G> {
+impl<'a, G: Graph, R: Wait + Sync> Graph for Counted<'a, G, R> {
     ghost meaning = { λ c. G.meaning c.inner };
 
     ghost lawful = { λ c. G.lawful c.inner };
@@ -83,7 +98,7 @@ impl<'a, G: Graph> Graph for Counted<'a, G> {
     #[inline]
     fn body(&self, alloc: Global, task: TaskId, inputs: &[Value]) -> Result<Value, Refusal> {
         let made = self.inner.body(alloc, task, inputs);
-        self.progress.count();
+        self.count();
         made
     }
 }

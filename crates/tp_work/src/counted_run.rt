@@ -44,7 +44,7 @@ fn run_pool_told<G: Graph, R: Threads + Wait + Sync>(
     ensures outcome { IfOk result (IsOutcome config.nodes config.workers (G.meaning graph)) }
     ensures fault { IfErr result (IsFault config.nodes (G.meaning graph)) }
 {
-    progress.begin(Plan::of_tasks(u64::from(graph.tasks())));
-    let counted = Counted::new(graph, progress);
+    progress.begin(rt, Plan::of_tasks(u64::from(graph.tasks())));
+    let counted = Counted::new(rt, graph, progress);
     run_pool(rt, alloc, counted, config, &OpenGate)
 }

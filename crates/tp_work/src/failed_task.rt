@@ -1,35 +1,32 @@
-//! The task of a run whose body failed first, which workers note outside all locks.
-use std::sync::atomic::{AtomicU64, Ordering};
+//! The task of a run whose body failed first.
+use crate::backoff::lock_leaf;
+use std::sync::{Mutex, Wait};
 use tp_base::TaskId;
 
-/// The task whose body failed first, if one did. No contract depends on it.
+/// The task whose body failed first, if one did. Its lock is a leaf. No contract depends on it.
 #[derive(Drop)]
 pub(crate) struct FailedTask {
-    /// The number of the task plus 1, and 0 if no body failed.
-    number: AtomicU64,
+    task: Mutex<Option<TaskId>>,
 }
 
 impl FailedTask {
     pub const fn new() -> Self {
         FailedTask {
-            number: AtomicU64::new(0),
+            task: Mutex::new(None),
         }
     }
 
     /// Notes a task whose body failed, unless one was noted before.
-    pub fn note(&self, task: TaskId) {
-        let number = u64::from(task.0) + 1;
-        let _ = self
-            .number
-            .compare_exchange(0, number, Ordering::SeqCst, Ordering::SeqCst);
+    pub fn note<R: Wait>(&self, rt: &R, task: TaskId) {
+        let mut first = lock_leaf(rt, &self.task);
+        if first.is_none() {
+            *first = Some(task);
+        }
     }
 
     /// Returns the task that was noted first, if one was.
-    pub fn task(&self) -> Option<TaskId> {
-        let number = self.number.load(Ordering::SeqCst).checked_sub(1)?;
-        match u32::try_from(number) {
-            Ok(task) => Some(TaskId(task)),
-            Err(_) => None,
-        }
+    pub fn into_task(self) -> Option<TaskId> {
+        let FailedTask { task } = self;
+        task.into_inner()
     }
 }

@@ -2,18 +2,20 @@
 //! whatever the scheduling of threads; nothing says that a run ends.
 #![tactic(auto)]
 
+mod backoff;
 mod config;
 mod counted_graph;
 mod counted_run;
-mod crowd;
 mod failed_task;
 mod gate;
 mod gathered;
+mod hints;
 mod lives;
 mod locks;
+mod node_set;
 mod once;
 mod ordered;
-mod parker;
+mod oversubscription;
 mod progress;
 mod progress_line;
 mod run;

@@ -5,156 +5,49 @@ ghost use Rattle.tp_work.specs.Places as places;
 ghost use Rattle.tp_work.specs.Places.{AreInOrder, AreLinksInOrder, AreOf};
 ghost use Rattle.tp_work.specs.Outcomes.{IsMisplaced};
 
-use crate::crowd::Crowd;
-use crate::parker::Parker;
+use crate::backoff::{lock_between_naps, lock_contended, lock_with_backoff};
+use crate::hints::{KnownHints, NodeHints};
+use crate::oversubscription::Oversubscription;
 use crate::run_queue::RunQueue;
 use std::alloc::{AllocError, Global};
-use std::hint::spin_loop;
-use std::sync::atomic::{AtomicBool, AtomicU64, Ordering};
 use std::sync::{Mutex, MutexGuard, Wait};
-use std::time::Duration;
 use tp_base::{NodeId, Refusal};
 use tp_board::{Board, Ended, Ledgers};
 use tp_graph::{Comparable, Graph, is_same};
 use tp_node::{Node, Pool, PoolLink};
 
-/// The locks of a pool. To avoid deadlock they are acquired in this order: a node's, a link's, the board's; the token's
-/// is acquired alone. The atomics next to them are hints, which save acquiring a lock; no contract depends on them.
+/// The locks of a pool. To avoid deadlock they are acquired in this order: a node's, a link's, the board's, and then one
+/// leaf: a node's hints, the oversubscription, the failed task or the progress. The token's is acquired alone.
 #[derive(Drop)]
 pub(crate) struct Locks<G: Graph, K: Ledgers> {
     /// The nodes, in rising order.
-    pub node_slots: Vec<NodeSlot<RunQueue<G, K>>>,
+    pub node_slots: Vec<NodeSlot<G, K>>,
     /// The links, by sender and then by receiver.
-    pub link_slots: Vec<LinkSlot<G, K>>,
+    pub link_slots: Vec<Mutex<PoolLink<G, K>>>,
     /// The board.
     pub board: Mutex<Board<K>>,
     /// The termination token, once termination was announced to each node.
     pub token: Mutex<Option<Ended<K>>>,
     /// How many workers are awake.
-    pub crowd: Crowd,
-    /// The number of control steps.
-    pub control_steps: AtomicU64,
-    /// Whether a fault was set, or termination was announced to each node.
-    pub is_stopped: AtomicBool,
+    pub oversubscription: Oversubscription,
 }
 
-/// The slot of a node: its lock, with the hints and the parker of the node.
+/// The slot of a node: its lock, and its hints, which save acquiring that lock; no contract depends on them.
 #[derive(Drop)]
-pub(crate) struct NodeSlot<D> {
+pub(crate) struct NodeSlot<G: Graph, K: Ledgers> {
     /// The node, and the work that waits there.
-    pub run_queue: Mutex<D>,
-    /// The number of tasks that wait there for a worker: ready ones, and begun ones.
-    pub waiting: AtomicU64,
-    /// The number of messages on the links to the node.
-    pub mail: AtomicU64,
-    /// Where its idle workers sleep.
-    pub parker: Parker,
+    pub locked: Mutex<LockedNode<G, K>>,
+    /// What its idle workers poll, and where they sleep.
+    pub hints: NodeHints,
 }
 
-impl<D> NodeSlot<D> {
-    /// Stores the number of tasks that wait for a worker. Most turns leave it the same, and write nothing.
-    #[inline(always)]
-    pub fn tell_waiting(&self, waiting: u64) {
-        if self.waiting.load(Ordering::SeqCst) != waiting {
-            self.waiting.store(waiting, Ordering::SeqCst);
-        }
-    }
-
-    /// Returns whether a task waits for a worker.
-    #[inline(always)]
-    pub fn has_waiting(&self) -> bool {
-        self.waiting.load(Ordering::SeqCst) > 0
-    }
-
-    /// Returns whether there is a message for the node.
-    #[inline(always)]
-    pub fn has_mail(&self) -> bool {
-        self.mail.load(Ordering::SeqCst) > 0
-    }
-}
-
-/// The slot of a link: its lock, with a hint.
+/// What a node's lock protects.
 #[derive(Drop)]
-pub(crate) struct LinkSlot<G: Graph, K: Ledgers> {
-    /// The link.
-    pub pool_link: Mutex<PoolLink<G, K>>,
-    /// The number of messages on it.
-    pub length: AtomicU64,
-}
-
-/// How often a contended lock is retried, each time after a backoff, before the thread blocks. A lock is mostly free
-/// before that, and blocking and being woken costs more. docs/measurements/locks.md has the measurements.
-const TRIES: u32 = 12;
-
-/// The first backoff, in spins. Each further one is twice as long: a retry takes the cache line away from the thread
-/// that holds the lock, and with it the data next to the lock.
-const FIRST_SPINS: u32 = 32;
-
-/// The longest backoff, in spins. Until it is reached, a backoff is as long as all before it together and one first
-/// backoff.
-const MOST_SPINS: u32 = 1024;
-
-/// The most naps of a worker that waits for its node's lock, before it blocks.
-const NAPS: u32 = 36;
-
-/// The length of a nap, in microseconds.
-const NAP: u64 = 50;
-
-/// Acquires a lock. If it is contended, the thread retries it with exponential backoff, and then blocks as std does. It
-/// does not yield: a yielding thread would wait for all others that want its processor, and many of them would keep the
-/// processor from the thread that holds the lock.
-#[inline(always)]
-pub(crate) fn lock_soon<'l, T, R: Wait>(rt: &R, lock: &'l Mutex<T>) -> MutexGuard<'l, T> {
-    match lock.try_lock() {
-        Some(guard) => guard,
-        None => lock_later(rt, lock),
-    }
-}
-
-/// Acquires a lock that was contended.
-#[cold]
-#[inline(never)]
-fn lock_later<'l, T, R: Wait>(rt: &R, lock: &'l Mutex<T>) -> MutexGuard<'l, T> {
-    match retry(lock) {
-        Some(guard) => guard,
-        None => lock.lock(rt),
-    }
-}
-
-/// Acquires a lock that was contended, with naps before the thread blocks. If the lock is not free after all backoffs,
-/// several threads want it all the time. If one of them naps, the others have enough to do, and no thread has to wake
-/// it.
-#[cold]
-#[inline(never)]
-fn lock_between_naps<'l, T, R: Wait>(rt: &R, lock: &'l Mutex<T>) -> MutexGuard<'l, T> {
-    if let Some(guard) = retry(lock) {
-        return guard;
-    }
-    // Nothing changes this word, so each nap ends when its time is over.
-    let word = AtomicU64::new(0);
-    for _ in 0..NAPS {
-        word.park_timeout(rt, 0, Duration::from_micros(NAP));
-        if let Some(guard) = lock.try_lock() {
-            return guard;
-        }
-    }
-    lock.lock(rt)
-}
-
-/// Retries a contended lock with exponential backoff.
-#[inline(always)]
-fn retry<T>(lock: &Mutex<T>) -> Option<MutexGuard<'_, T>> {
-    let mut spins = FIRST_SPINS;
-    for _ in 0..TRIES {
-        for _ in 0..spins {
-            spin_loop();
-        }
-        if let Some(guard) = lock.try_lock() {
-            return Some(guard);
-        }
-        spins = spins.saturating_mul(2).min(MOST_SPINS);
-    }
-    None
+pub(crate) struct LockedNode<G: Graph, K: Ledgers> {
+    /// The node, and the work that waits there.
+    pub run_queue: RunQueue<G, K>,
+    /// What its workers know about its hints.
+    pub known: KnownHints,
 }
 
 /// Empty lists with room for the parts of a pool, as they are or under locks.
@@ -182,8 +75,8 @@ impl<G: Graph, K: Ledgers> Locks<G, K> {
     pub fn new(
         alloc: Global,
         pool: Pool<G, K>,
-        crowd: Crowd,
-        room: Room<NodeSlot<RunQueue<G, K>>, LinkSlot<G, K>>,
+        oversubscription: Oversubscription,
+        room: Room<NodeSlot<G, K>, Mutex<PoolLink<G, K>>>,
     ) -> Self
         requires nodes { (room.nodes.items ≡ []) × (vec_len pool.nodes ≤ vec_capacity room.nodes) }
         requires links { (room.links.items ≡ []) × (vec_len pool.links ≤ vec_capacity room.links) }
@@ -206,9 +99,7 @@ impl<G: Graph, K: Ledgers> Locks<G, K> {
             link_slots,
             board: Mutex::new(board),
             token: Mutex::new(None),
-            crowd,
-            control_steps: AtomicU64::new(0),
-            is_stopped: AtomicBool::new(false),
+            oversubscription,
         }
     }
 
@@ -218,61 +109,52 @@ impl<G: Graph, K: Ledgers> Locks<G, K> {
     pub fn lock_node<'l, R: Wait>(
         &self,
         rt: &R,
-        node_slot: &'l NodeSlot<RunQueue<G, K>>,
-    ) -> MutexGuard<'l, RunQueue<G, K>> {
-        match node_slot.run_queue.try_lock() {
+        node_slot: &'l NodeSlot<G, K>,
+    ) -> MutexGuard<'l, LockedNode<G, K>> {
+        match node_slot.locked.try_lock() {
             Some(guard) => guard,
-            None if self.crowd.has_surplus() => lock_later(rt, &node_slot.run_queue),
-            None => lock_between_naps(rt, &node_slot.run_queue),
+            None if self.oversubscription.has_surplus() => lock_contended(rt, &node_slot.locked),
+            None => lock_between_naps(rt, &node_slot.locked),
         }
     }
 
-    /// Stops all workers, including those that sleep.
-    pub fn stop(&self) {
-        self.is_stopped.store(true, Ordering::SeqCst);
+    /// Stops all workers, including those that sleep. The caller holds none of the locks.
+    pub fn stop<R: Wait>(&self, rt: &R) {
         for node_slot in &self.node_slots {
-            node_slot.parker.ring_all();
+            lock_with_backoff(rt, &node_slot.locked).known.is_stopped = true;
+            node_slot.hints.stop(rt);
         }
     }
 
-    /// Wakes a worker of a node that has work, unless each processor has a worker that is awake, and the node too.
-    #[inline(always)]
-    pub fn wake(&self, node_slot: &NodeSlot<RunQueue<G, K>>) {
-        if node_slot.parker.sleepers() > 0 {
-            self.wake_sleeper(node_slot);
-        }
-    }
-
-    #[cold]
-    #[inline(never)]
-    fn wake_sleeper(&self, node_slot: &NodeSlot<RunQueue<G, K>>) {
-        if self.crowd.may_wake(node_slot.parker.sleepers()) {
-            node_slot.parker.ring();
-        }
+    /// Adds a node that has sent messages to the hints of the receiving node, and wakes a worker there unless each
+    /// processor has a worker that is awake, and that node too.
+    pub fn report_messages<R: Wait>(&self, rt: &R, from: NodeId, node_slot: &NodeSlot<G, K>) {
+        let least = self.oversubscription.least_sleepers();
+        node_slot.hints.add_sender(rt, from, least);
     }
 
     /// Wakes workers of nodes that have work, before a worker sleeps: while each processor had a worker that was awake,
     /// none was woken for that work.
-    pub fn wake_elsewhere(&self) {
-        if !self.crowd.has_surplus() {
-            return;
-        }
+    pub fn wake_elsewhere<R: Wait>(&self, rt: &R) {
         for node_slot in &self.node_slots {
-            if node_slot.has_waiting() || node_slot.has_mail() {
-                self.wake(node_slot);
-            }
+            let least = self.oversubscription.least_sleepers();
+            node_slot.hints.wake_for_work(rt, least);
         }
     }
 
-    /// Wakes a worker at the parent and the children of a node in the tree of the waves: a control step of one may
-    /// enable one of the other.
-    pub fn ring_beside(&self, node: NodeId) {
+    /// Counts a control step of a node there, and at the parent and the children of the node in the tree of the waves: it
+    /// enables steps of these nodes only. Wakes a worker at each of them but the node itself, where the caller goes on.
+    pub fn wake_tree_neighbours<R: Wait>(&self, rt: &R, node: NodeId) {
         let place = node.0 as usize;
-        for beside in [place.saturating_sub(1) / 2, 2 * place + 1, 2 * place + 2] {
-            if beside != place
-                && let Some(node_slot) = self.node_slots.get(beside)
-            {
-                node_slot.parker.ring();
+        for near in [
+            place,
+            place.saturating_sub(1) / 2,
+            2 * place + 1,
+            2 * place + 2,
+        ] {
+            let least = if near == place { u32::MAX } else { 1 };
+            if let Some(node_slot) = self.node_slots.get(near) {
+                node_slot.hints.add_control_step(rt, least);
             }
         }
     }
@@ -290,9 +172,7 @@ impl<G: Graph, K: Ledgers> Locks<G, K> {
             link_slots,
             board,
             token,
-            crowd: _,
-            control_steps: _,
-            is_stopped: _,
+            oversubscription: _,
         } = self;
         let Room {
             mut nodes,
@@ -313,7 +193,7 @@ impl<G: Graph, K: Ledgers> Locks<G, K> {
 pub(crate) fn lock_pool<G: Graph, K: Ledgers>(
     alloc: Global,
     pool: Pool<G, K>,
-    crowd: Crowd,
+    oversubscription: Oversubscription,
 ) -> Result<(Locks<G, K>, Room<Node<G, K>, PoolLink<G, K>>), Refusal>
     ensures nodes { IfOk result (λ r. (vec_len r.0.node_slots ≡ vec_len pool.nodes) × (r.1.nodes.items ≡ [])
         × (vec_len r.0.node_slots ≤ vec_capacity r.1.nodes)) }
@@ -322,7 +202,7 @@ pub(crate) fn lock_pool<G: Graph, K: Ledgers>(
     ensures refusal { IfErr result (λ e. e ≡ NoMemory) }
 {
     let (locked, room) = two_rooms(alloc, pool.nodes.len(), pool.links.len())?;
-    Ok((Locks::new(alloc, pool, crowd, locked), room))
+    Ok((Locks::new(alloc, pool, oversubscription, locked), room))
 }
 
 /// Reserves room for this many nodes and links, twice.
@@ -345,57 +225,52 @@ fn two_rooms<S: Drop, L: Drop, N: Drop, W: Drop>(
 fn lock_nodes<G: Graph, K: Ledgers>(
     alloc: Global,
     nodes: Vec<Node<G, K>>,
-    node_slots: &mut Vec<NodeSlot<RunQueue<G, K>>>,
+    node_slots: &mut Vec<NodeSlot<G, K>>,
 )
     requires { (node_slots.old.items ≡ []) × (vec_len nodes ≤ vec_capacity node_slots.old) }
     ensures { vec_len node_slots.new ≡ vec_len nodes }
 {
     for node in nodes {
         node_slots.push_reserved(NodeSlot {
-            run_queue: Mutex::new(RunQueue::new(alloc, node)),
-            waiting: AtomicU64::new(0),
-            mail: AtomicU64::new(0),
-            parker: Parker::new(),
+            locked: Mutex::new(LockedNode {
+                run_queue: RunQueue::new(alloc, node),
+                known: KnownHints::new(),
+            }),
+            hints: NodeHints::new(),
         });
     }
 }
 
 fn lock_links<G: Graph, K: Ledgers>(
     links: Vec<PoolLink<G, K>>,
-    link_slots: &mut Vec<LinkSlot<G, K>>,
+    link_slots: &mut Vec<Mutex<PoolLink<G, K>>>,
 )
     requires { (link_slots.old.items ≡ []) × (vec_len links ≤ vec_capacity link_slots.old) }
     ensures { vec_len link_slots.new ≡ vec_len links }
 {
     for pool_link in links {
-        link_slots.push_reserved(LinkSlot {
-            pool_link: Mutex::new(pool_link),
-            length: AtomicU64::new(0),
-        });
+        link_slots.push_reserved(Mutex::new(pool_link));
     }
 }
 
-fn unlock_nodes<G: Graph, K: Ledgers>(
-    node_slots: Vec<NodeSlot<RunQueue<G, K>>>,
-    nodes: &mut Vec<Node<G, K>>,
-)
+fn unlock_nodes<G: Graph, K: Ledgers>(node_slots: Vec<NodeSlot<G, K>>, nodes: &mut Vec<Node<G, K>>)
     requires { (nodes.old.items ≡ []) × (vec_len node_slots ≤ vec_capacity nodes.old) }
     ensures { vec_len nodes.new ≡ vec_len node_slots }
 {
     for node_slot in node_slots {
-        nodes.push_reserved(node_slot.run_queue.into_inner().into_node());
+        nodes.push_reserved(node_slot.locked.into_inner().run_queue.into_node());
     }
 }
 
 fn unlock_links<G: Graph, K: Ledgers>(
-    link_slots: Vec<LinkSlot<G, K>>,
+    link_slots: Vec<Mutex<PoolLink<G, K>>>,
     links: &mut Vec<PoolLink<G, K>>,
 )
     requires { (links.old.items ≡ []) × (vec_len link_slots ≤ vec_capacity links.old) }
     ensures { vec_len links.new ≡ vec_len link_slots }
 {
     for link_slot in link_slots {
-        links.push_reserved(link_slot.pool_link.into_inner());
+        links.push_reserved(link_slot.into_inner());
     }
 }
 

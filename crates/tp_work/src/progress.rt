@@ -1,6 +1,6 @@
-//! The progress of a run, which is counted outside all locks.
-use std::sync::Wait;
-use std::sync::atomic::{AtomicU64, Ordering};
+//! The progress of a run, which has a lock of its own.
+use crate::backoff::lock_leaf;
+use std::sync::{Condvar, Mutex, Wait};
 use std::time::Duration;
 
 /// How long the thread that shows the progress sleeps between two lines, in milliseconds.
@@ -28,71 +28,78 @@ impl Plan {
     }
 }
 
-/// The progress of a run: its plan, and how many of its tasks are done. The tasks are counted outside all locks. No
-/// contract depends on these numbers.
+/// The progress of a run: its plan, and how many of its tasks are done. Its lock is a leaf. No contract depends on these
+/// numbers.
 #[derive(Drop)]
 pub struct Progress {
-    tasks: AtomicU64,
-    steps: AtomicU64,
-    part: AtomicU64,
-    done: AtomicU64,
-    /// 1 once the run has ended. The thread that shows the progress sleeps on this word.
-    ended: AtomicU64,
+    state: Mutex<State>,
+    /// Where the thread that shows the progress sleeps until the run has ended.
+    ended: Condvar,
+}
+
+/// What the lock of a progress protects.
+#[derive(Drop)]
+struct State {
+    plan: Plan,
+    done: u64,
+    has_ended: bool,
 }
 
 impl Progress {
     /// Returns the progress of a run without a plan.
     pub const fn new() -> Self {
         Progress {
-            tasks: AtomicU64::new(0),
-            steps: AtomicU64::new(0),
-            part: AtomicU64::new(0),
-            done: AtomicU64::new(0),
-            ended: AtomicU64::new(0),
+            state: Mutex::new(State {
+                plan: Plan {
+                    tasks: 0,
+                    steps: 0,
+                    part: 0,
+                },
+                done: 0,
+                has_ended: false,
+            }),
+            ended: Condvar::new(),
         }
     }
 
     /// Sets the plan of the run.
-    pub fn begin(&self, plan: Plan) {
-        self.tasks.store(plan.tasks, Ordering::SeqCst);
-        self.part.store(plan.part, Ordering::SeqCst);
-        self.steps.store(plan.steps, Ordering::SeqCst);
+    pub fn begin<R: Wait>(&self, rt: &R, plan: Plan) {
+        lock_leaf(rt, &self.state).plan = plan;
     }
 
     /// Counts one more task as done.
     #[inline]
-    pub fn count(&self) {
-        self.done.fetch_add(1, Ordering::SeqCst);
+    pub fn count<R: Wait>(&self, rt: &R) {
+        let mut state = lock_leaf(rt, &self.state);
+        state.done = state.done.saturating_add(1);
     }
 
     /// Records that the run has ended.
-    pub(crate) fn end(&self) {
-        self.ended.store(1, Ordering::SeqCst);
-        self.ended.wake_all();
+    pub(crate) fn end<R: Wait>(&self, rt: &R) {
+        lock_leaf(rt, &self.state).has_ended = true;
+        self.ended.notify_all();
     }
 
-    /// Sleeps until the run has ended, or for half a second.
-    pub(crate) fn rest<R: Wait>(&self, rt: &R) {
-        self.ended.park_timeout(rt, 0, Duration::from_millis(REST));
-    }
-
-    pub(crate) fn has_ended(&self) -> bool {
-        self.ended.load(Ordering::SeqCst) != 0
+    /// Sleeps until the run has ended, or for half a second. Returns whether it has ended.
+    pub(crate) fn rest<R: Wait>(&self, rt: &R) -> bool {
+        let state = lock_leaf(rt, &self.state);
+        if state.has_ended {
+            return true;
+        }
+        let notifications = self.ended.notifications();
+        drop(state);
+        self.ended
+            .sleep(rt, notifications, Duration::from_millis(REST));
+        lock_leaf(rt, &self.state).has_ended
     }
 
     /// Returns the plan of the run, which is empty if none was set.
-    pub fn plan(&self) -> Plan {
-        // The field that is written last is read first, so that a half-written plan is never used.
-        let steps = self.steps.load(Ordering::SeqCst);
-        Plan {
-            tasks: self.tasks.load(Ordering::SeqCst),
-            steps,
-            part: self.part.load(Ordering::SeqCst),
-        }
+    pub fn plan<R: Wait>(&self, rt: &R) -> Plan {
+        lock_leaf(rt, &self.state).plan
     }
 
     /// Returns the number of tasks done.
-    pub fn done(&self) -> u64 {
-        self.done.load(Ordering::SeqCst)
+    pub fn done<R: Wait>(&self, rt: &R) -> u64 {
+        lock_leaf(rt, &self.state).done
     }
 }

@@ -48,7 +48,7 @@ pub fn run_pool<G: Graph, A: Gate, R: Threads + Wait + Sync>(
     match run_only::<G, Brand, Brand, A, R>(rt, alloc, graph, config, gate, &failed, blanks) {
         Ok(outcome) => Ok(outcome),
         Err(fault) => Err(Fault {
-            failed: failed.task(),
+            failed: failed.into_task(),
             ..fault
         }),
     }

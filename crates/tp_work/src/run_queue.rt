@@ -16,9 +16,9 @@ use tp_board::{Board, Ledgers};
 use tp_graph::Graph;
 use tp_node::{Node, Work};
 
-/// How the ready tasks of a node are divided among its workers.
+/// How many of a node's ready tasks a worker begins in one critical section: its share of them, within limits.
 #[derive(Clone, Copy)]
-pub(crate) struct Share {
+pub(crate) struct BatchSize {
     // The number of workers at the node.
     workers: u32,
     // The most tasks that begin in one critical section.
@@ -27,8 +27,8 @@ pub(crate) struct Share {
     ghost few: { (1 ≤ most) × (most ≤ 8) },
 }
 
-impl Share {
-    /// Returns the share of a worker: up to 8 tasks begin at a time, as a batch, so that the board's lock is acquired
+impl BatchSize {
+    /// Returns that of a pool: up to 8 tasks begin at a time, as a batch, so that the board's lock is acquired
     /// less often. The only worker of a pool with one node begins one at a time.
     pub fn new(nodes: u32, workers: u32) -> Self
         requires { 1 ≤ workers }
@@ -36,7 +36,7 @@ impl Share {
         ensures alone { (nodes ≡ 1) × (workers ≡ 1) → result.most ≡ 1 }
         ensures several { (nodes ≢ 1) ⊎ (workers ≢ 1) → result.most ≡ 8 }
     {
-        Share {
+        BatchSize {
             workers,
             most: if nodes == 1 && workers == 1 { 1 } else { 8 },
         }
@@ -149,7 +149,7 @@ impl<G: Graph, K: Ledgers> RunQueue<G, K> {
     pub(crate) fn begin(
         &mut self,
         board: &mut Board<K>,
-        share: Share,
+        batch_size: BatchSize,
         begun: &mut Option<Work<G>>,
     ) -> Result<(), Refusal>
         requires empty { self.old.begun ≡ [] }
@@ -162,7 +162,7 @@ impl<G: Graph, K: Ledgers> RunQueue<G, K> {
         ensures refused { OnErr result (Appends [] board.old board.new × (self.new ≡ self.old) × (begun.new ≡ begun.old)) }
         ensures full { board.old.limit ≡ 1048576 → length board.old.history < 1048576 → IfErr result (λ e. e ≡ NoMemory) }
     {
-        let share = share.of_ready(self.node.counts().ready, board.len());
+        let share = batch_size.of_ready(self.node.counts().ready, board.len());
         *begun = self.node.begin(board)?;
         if share > 1 {
             self.begin_more(board, share - 1);

@@ -14,12 +14,12 @@ ghost use Rattle.tp_work.specs.Places.{IsWhole};
 ghost use Rattle.tp_work.specs.Reports.{IsEnd, IsReportOf, told_of_end};
 
 use crate::config::{Config, Fault};
-use crate::crowd::Crowd;
 use crate::failed_task::FailedTask;
 use crate::gate::Gate;
 use crate::gathered::{Report, count_told, finish};
 use crate::locks::{Locks, check_places, lock_pool};
-use crate::run_queue::Share;
+use crate::oversubscription::Oversubscription;
+use crate::run_queue::BatchSize;
 use crate::worker::{Worker, set_fault};
 use std::alloc::{AllocError, Global};
 use std::sync::Wait;
@@ -94,8 +94,8 @@ impl<G: Comparable, A: Gate, R: Threads + Wait + Sync> Runner<'_, G, A, R> {
         ensures refusal { IfErr result (λ e. e ≡ NoMemory) }
     {
         let surplus = self.surplus();
-        let crowd = Crowd::new(self.config.workers, surplus);
-        let (locks, room) = lock_pool(self.alloc, pool, crowd)?;
+        let oversubscription = Oversubscription::new(self.config.workers, surplus);
+        let (locks, room) = lock_pool(self.alloc, pool, oversubscription)?;
         let answers = self.run_workers(&locks, surplus);
         let (mut pool, token) = locks.into_pool(room);
         tell_fault(&mut pool.board, answers.refusal);
@@ -141,7 +141,8 @@ impl<G: Comparable, A: Gate, R: Threads + Wait + Sync> Runner<'_, G, A, R> {
             alloc: self.alloc,
             graph: self.graph,
             place: NodeId(0),
-            share: Share::new(self.config.nodes, self.config.workers),
+            batch_size: BatchSize::new(self.config.nodes, self.config.workers),
+            is_alone: self.config.workers == 1,
             idle_turns: self.config.idle_turns,
             is_spare: false,
             locks,

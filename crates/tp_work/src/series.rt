@@ -84,7 +84,7 @@ pub fn run_generations<G: Graph, A: Gate, R: Threads + Wait + Sync>(
     ) {
         Ok(series) => Ok(series),
         Err(fault) => Err(Fault {
-            failed: failed.task(),
+            failed: failed.into_task(),
             ..fault
         }),
     }

@@ -28,18 +28,18 @@ pub fn watched<R: Threads + Wait + Sync, W: Write + Send + Drop, T, F: FnOnce() 
         move || -> T
             requires { F.pre work }
             ensures { F.post work result }
-        { worked(progress, work) },
+        { worked(rt, progress, work) },
     );
     made
 }
 
 /// Calls the work, and records that it has ended.
-fn worked<T, F: FnOnce() -> T>(progress: &Progress, work: F) -> T
+fn worked<R: Wait, T, F: FnOnce() -> T>(rt: &R, progress: &Progress, work: F) -> T
     requires { F.pre work }
     ensures { F.post work result }
 {
     let made = work();
-    progress.end();
+    progress.end(rt);
     made
 }
 
@@ -52,11 +52,10 @@ fn tell<R: Wait, W: Write + Drop>(
 ) {
     let mut is_told = false;
     for _ in rt.forever() {
-        progress.rest(rt);
-        if progress.has_ended() {
+        if progress.rest(rt) {
             break;
         }
-        if tell_once(alloc, &mut screen, progress) {
+        if tell_once(rt, alloc, &mut screen, progress) {
             is_told = true;
         }
     }
@@ -67,12 +66,17 @@ fn tell<R: Wait, W: Write + Drop>(
 
 /// Shows once how far a run is, if there is a plan and the allocation of the line succeeds. Returns whether it was
 /// shown.
-fn tell_once<W: Write>(alloc: Global, screen: &mut Screen<W>, progress: &Progress) -> bool {
-    let plan = progress.plan();
+fn tell_once<R: Wait, W: Write>(
+    rt: &R,
+    alloc: Global,
+    screen: &mut Screen<W>,
+    progress: &Progress,
+) -> bool {
+    let plan = progress.plan(rt);
     if plan.steps == 0 {
         return false;
     }
-    match line_of(alloc, plan, progress.done()) {
+    match line_of(alloc, plan, progress.done(rt)) {
         Ok(line) => {
             screen.write(&line);
             true

@@ -5,14 +5,15 @@ ghost use Rattle.std.specs.Prelude.{◌≡◌, IfOk, None, OnOk, Some, if◌then
 mod passing;
 mod receiving;
 
+use crate::backoff::lock_with_backoff;
 use crate::failed_task::FailedTask;
 use crate::gate::Gate;
-use crate::locks::{Locks, NodeSlot, lock_soon};
-use crate::run_queue::{RunQueue, Share};
+use crate::hints::KnownHints;
+use crate::locks::{Locks, NodeSlot};
+use crate::run_queue::{BatchSize, RunQueue};
 use std::alloc::{AllocError, Global};
 use std::hint::spin_loop;
 use std::sync::Wait;
-use std::sync::atomic::Ordering;
 use tp_base::{MAX_NODES, NodeId, Refusal};
 use tp_board::{Board, Ended, Ledgers};
 use tp_graph::{Comparable, Graph, Value, is_same};
@@ -27,10 +28,10 @@ const SEEDS_IN_A_HOLD: u32 = 64;
 
 /// How often an idle worker polls the hints before its first sleep, with a short spin before each poll. A message or a
 /// task mostly comes before that. docs/measurements/locks.md has the measurements.
-const LOOKS: u32 = 300;
+const MAX_POLLS: u32 = 40;
 
-/// The length of that spin: the polls must not slow down the threads that write the hints.
-const SPINS_BEFORE_A_LOOK: u32 = 4;
+/// The length of that spin: a poll holds the hints for a moment, and must not slow down the threads that write them.
+const SPINS_BEFORE_A_POLL: u32 = 32;
 
 /// A worker of a node, with what it shares with the others.
 #[derive(Drop)]
@@ -39,8 +40,10 @@ pub(crate) struct Worker<'a, G: Graph, K: Ledgers, A: Gate, R: Wait> {
     pub alloc: Global,
     pub graph: G,
     pub place: NodeId,
-    /// How it divides its node's ready tasks with the other workers there.
-    pub share: Share,
+    /// How many of its node's ready tasks it begins at a time.
+    pub batch_size: BatchSize,
+    /// Whether it is the only worker of its node.
+    pub is_alone: bool,
     pub idle_turns: u32,
     /// Whether it sleeps at first, because each processor and each node has a worker that started before it.
     pub is_spare: bool,
@@ -66,15 +69,19 @@ enum WorkerTurn<K: Ledgers> {
     /// Something was done.
     Moved,
     /// A task is in flight. It began in this turn, or before and waited for a worker.
-    Begun,
+    Begun {
+        /// Whether another worker was marked as woken and has to be notified.
+        wakes: bool,
+    },
     /// Termination was detected.
     Over(Ended<K>),
     /// A fault was set, or termination was announced.
     Stop,
 }
 
-/// What a worker observed when its node could make no control step: the number of control steps, and whether the node
-/// was idle. Which step is enabled depends on nothing else, so while both are the same the worker need not try again.
+/// What a worker observed when its node could make no control step: the number of control steps of the node and its
+/// neighbours in the tree of the waves, and whether the node was idle. Which step is enabled depends on nothing else, so
+/// while both are the same the worker need not try again.
 #[derive(Clone, Copy, PartialEq, Eq)]
 struct Seen {
     control_steps: u64,
@@ -89,7 +96,8 @@ impl<'a, G: Comparable, K: Ledgers, A: Gate, R: Wait> Worker<'a, G, K, A, R> {
             alloc: self.alloc,
             graph: self.graph,
             place,
-            share: self.share,
+            batch_size: self.batch_size,
+            is_alone: self.is_alone,
             idle_turns: self.idle_turns,
             is_spare,
             locks: self.locks,
@@ -120,7 +128,7 @@ impl<'a, G: Comparable, K: Ledgers, A: Gate, R: Wait> Worker<'a, G, K, A, R> {
         let ended = self.work_at(node_slot, &mut in_flight);
         // A task whose body failed is still in flight.
         if let (Err(Refusal::BodyFailed), Some(work)) = (&ended, &in_flight.begun) {
-            self.failed.note(work.task());
+            self.failed.note(self.rt, work.task());
         }
         ended
     }
@@ -129,7 +137,7 @@ impl<'a, G: Comparable, K: Ledgers, A: Gate, R: Wait> Worker<'a, G, K, A, R> {
     /// drop it.
     fn work_at(
         &self,
-        node_slot: &NodeSlot<RunQueue<G, K>>,
+        node_slot: &NodeSlot<G, K>,
         in_flight: &mut InFlight<G>,
     ) -> Result<(), Refusal> {
         let mut idle = 0u32;
@@ -147,9 +155,9 @@ impl<'a, G: Comparable, K: Ledgers, A: Gate, R: Wait> Worker<'a, G, K, A, R> {
                     self.rest(node_slot, seen, idle);
                 }
                 WorkerTurn::Moved => idle = 0,
-                WorkerTurn::Begun => {
-                    if node_slot.has_waiting() {
-                        self.locks.wake(node_slot);
+                WorkerTurn::Begun { wakes } => {
+                    if wakes {
+                        node_slot.hints.notify();
                     }
                     self.perform(in_flight, idle)?;
                     idle = 0;
@@ -164,14 +172,10 @@ impl<'a, G: Comparable, K: Ledgers, A: Gate, R: Wait> Worker<'a, G, K, A, R> {
     /// Sleeps before the first turn: until the worker is woken, at most for the longest time of a sleep.
     #[cold]
     #[inline(never)]
-    fn sleep_at_start(&self, node_slot: &NodeSlot<RunQueue<G, K>>) {
-        let heard = node_slot.parker.listen();
-        self.locks.crowd.add_sleeper();
-        if !self.locks.is_stopped.load(Ordering::SeqCst) {
-            node_slot.parker.sleep(self.rt, heard, u32::MAX);
-        }
-        self.locks.crowd.remove_sleeper();
-        node_slot.parker.get_up();
+    fn sleep_at_start(&self, node_slot: &NodeSlot<G, K>) {
+        self.locks.oversubscription.add_sleeper(self.rt);
+        node_slot.hints.sleep_at_start(self.rt);
+        self.locks.oversubscription.remove_sleeper(self.rt);
     }
 
     /// After the first idle turn in a row, polls the hints; after each further one, sleeps unless the hints show
@@ -179,39 +183,23 @@ impl<'a, G: Comparable, K: Ledgers, A: Gate, R: Wait> Worker<'a, G, K, A, R> {
     /// processor from another worker.
     #[cold]
     #[inline(never)]
-    fn rest(&self, node_slot: &NodeSlot<RunQueue<G, K>>, seen: Option<Seen>, idle: u32) {
-        if idle == 1 && !self.locks.crowd.has_surplus() {
-            self.look_around(node_slot, seen);
-            return;
-        }
-        let heard = node_slot.parker.listen();
-        self.locks.crowd.add_sleeper();
-        if !self.is_wanted(node_slot, seen) {
-            self.locks.wake_elsewhere();
-            node_slot.parker.sleep(self.rt, heard, idle);
-        }
-        self.locks.crowd.remove_sleeper();
-        node_slot.parker.get_up();
-    }
-
-    fn look_around(&self, node_slot: &NodeSlot<RunQueue<G, K>>, seen: Option<Seen>) {
-        for _ in 0..LOOKS {
-            spin();
-            if self.is_wanted(node_slot, seen) {
-                return;
+    fn rest(&self, node_slot: &NodeSlot<G, K>, seen: Option<Seen>, idle: u32) {
+        let control_steps = match seen {
+            Some(seen) => Some(seen.control_steps),
+            None => None,
+        };
+        if !self.locks.oversubscription.has_surplus() {
+            if idle == 1 {
+                poll_hints(node_slot, control_steps);
+            } else {
+                node_slot.hints.sleep(self.rt, control_steps, idle);
             }
+        } else if !node_slot.hints.poll(control_steps) {
+            self.locks.oversubscription.add_sleeper(self.rt);
+            self.locks.wake_elsewhere(self.rt);
+            node_slot.hints.sleep(self.rt, control_steps, idle);
+            self.locks.oversubscription.remove_sleeper(self.rt);
         }
-    }
-
-    /// Returns whether the hints show a stop, a task that waits, a message, or a control step since the worker last
-    /// tried one.
-    fn is_wanted(&self, node_slot: &NodeSlot<RunQueue<G, K>>, seen: Option<Seen>) -> bool {
-        if node_slot.has_waiting() || node_slot.has_mail() {
-            return true;
-        }
-        let control_steps = self.locks.control_steps.load(Ordering::SeqCst);
-        self.locks.is_stopped.load(Ordering::SeqCst)
-            || !seen.is_some_and(|seen| seen.control_steps == control_steps)
     }
 
     /// Passes on what the worker's last task computed, and takes a turn, all in one critical section of the node's
@@ -219,15 +207,24 @@ impl<'a, G: Comparable, K: Ledgers, A: Gate, R: Wait> Worker<'a, G, K, A, R> {
     #[inline(always)]
     fn turn(
         &self,
-        node_slot: &NodeSlot<RunQueue<G, K>>,
+        node_slot: &NodeSlot<G, K>,
         in_flight: &mut InFlight<G>,
         idle: u32,
         seen: &mut Option<Seen>,
     ) -> Result<WorkerTurn<K>, Refusal> {
         // It is dropped after the lock, which is acquired later: it may have many numbers.
         let mut spent = None;
-        let mut run_queue = self.locks.lock_node(self.rt, node_slot);
-        self.turn_at(&mut run_queue, node_slot, in_flight, idle, seen, &mut spent)
+        let mut locked = self.locks.lock_node(self.rt, node_slot);
+        let locked = &mut *locked;
+        self.turn_at(
+            &mut locked.run_queue,
+            &mut locked.known,
+            node_slot,
+            in_flight,
+            idle,
+            seen,
+            &mut spent,
+        )
     }
 
     /// Passes on what the worker's last task computed, and takes a turn of the node. A copy of a value that the graph
@@ -236,7 +233,8 @@ impl<'a, G: Comparable, K: Ledgers, A: Gate, R: Wait> Worker<'a, G, K, A, R> {
     fn turn_at(
         &self,
         run_queue: &mut RunQueue<G, K>,
-        node_slot: &NodeSlot<RunQueue<G, K>>,
+        known: &mut KnownHints,
+        node_slot: &NodeSlot<G, K>,
         in_flight: &mut InFlight<G>,
         idle: u32,
         seen: &mut Option<Seen>,
@@ -247,7 +245,7 @@ impl<'a, G: Comparable, K: Ledgers, A: Gate, R: Wait> Worker<'a, G, K, A, R> {
             *spent = unkept(finished)?;
             self.pass_on(&mut run_queue.node, &mut in_flight.finished)?;
         }
-        if self.locks.is_stopped.load(Ordering::SeqCst) {
+        if known.is_stopped {
             return Ok(WorkerTurn::Stop);
         }
         if !self.gate.inside(self.place) {
@@ -255,8 +253,8 @@ impl<'a, G: Comparable, K: Ledgers, A: Gate, R: Wait> Worker<'a, G, K, A, R> {
         }
         match run_queue.node.state() {
             TaskpoolState::Terminated => Ok(WorkerTurn::Stop),
-            TaskpoolState::NotReady => self.open(&mut run_queue.node, node_slot),
-            _ => self.go_on(run_queue, node_slot, in_flight, seen),
+            TaskpoolState::NotReady => self.open(&mut run_queue.node, known, node_slot),
+            _ => self.go_on(run_queue, known, node_slot, in_flight, seen),
         }
     }
 
@@ -264,15 +262,16 @@ impl<'a, G: Comparable, K: Ledgers, A: Gate, R: Wait> Worker<'a, G, K, A, R> {
     fn open(
         &self,
         here: &mut Node<G, K>,
-        node_slot: &NodeSlot<RunQueue<G, K>>,
+        known: &mut KnownHints,
+        node_slot: &NodeSlot<G, K>,
     ) -> Result<WorkerTurn<K>, Refusal>
         ensures { here.new.graph ≡ here.old.graph }
     {
-        let mut board = lock_soon(self.rt, &self.locks.board);
+        let mut board = lock_with_backoff(self.rt, &self.locks.board);
         let opened = open_tasks(here, &mut board);
         drop(board);
-        node_slot.tell_waiting(here.counts().ready as u64);
         opened?;
+        self.store_waiting_hint(known, node_slot, here.counts().ready > 0, false);
         Ok(WorkerTurn::Moved)
     }
 
@@ -282,24 +281,71 @@ impl<'a, G: Comparable, K: Ledgers, A: Gate, R: Wait> Worker<'a, G, K, A, R> {
     fn go_on(
         &self,
         run_queue: &mut RunQueue<G, K>,
-        node_slot: &NodeSlot<RunQueue<G, K>>,
+        known: &mut KnownHints,
+        node_slot: &NodeSlot<G, K>,
         in_flight: &mut InFlight<G>,
         seen: &mut Option<Seen>,
     ) -> Result<WorkerTurn<K>, Refusal> {
-        let took = node_slot.has_mail() && self.receive_some(&mut run_queue.node, node_slot)?;
-        let waiting = run_queue.waiting();
-        if took && (waiting == 0 || !self.may_go_on()?) {
-            node_slot.tell_waiting(waiting);
-            return Ok(WorkerTurn::Moved);
+        if run_queue.node.nodes() > 1 {
+            node_slot.hints.take_senders(self.rt, &mut known.senders);
         }
-        node_slot.tell_waiting(waiting.saturating_sub(1));
+        let took = !known.senders.is_empty()
+            && self.receive_some(&mut run_queue.node, &mut known.senders)?;
+        let waiting = run_queue.waiting();
+        if took {
+            if waiting == 0 {
+                let has_waiting = !known.senders.is_empty();
+                self.store_waiting_hint(known, node_slot, has_waiting, false);
+                return Ok(WorkerTurn::Moved);
+            }
+            self.may_go_on()?;
+        }
+        let has_waiting = waiting > 1 || !known.senders.is_empty();
+        let wakes = self.store_waiting_hint(known, node_slot, has_waiting, waiting > 1);
         if waiting > 0 {
             self.next_work(run_queue, &mut in_flight.begun)?;
             if in_flight.begun.is_some() {
-                return Ok(WorkerTurn::Begun);
+                return Ok(WorkerTurn::Begun { wakes });
             }
         }
-        self.control(&mut run_queue.node, seen)
+        self.control(&mut run_queue.node, node_slot, seen)
+    }
+
+    /// Stores whether work waits at the node for a worker, unless the hints say so already. If a worker is to be woken
+    /// for it and one sleeps, marks it as woken. Returns whether the caller has to notify it, after it has released the
+    /// node's lock. If the worker is the only one of its node, no thread reads that hint.
+    #[inline(always)]
+    fn store_waiting_hint(
+        &self,
+        known: &mut KnownHints,
+        node_slot: &NodeSlot<G, K>,
+        has_waiting: bool,
+        wakes: bool,
+    ) -> bool {
+        if self.is_alone
+            || known.are_stored(has_waiting, self.locks.oversubscription.has_surplus())
+        {
+            return false;
+        }
+        self.store_changed_hint(known, node_slot, has_waiting, wakes)
+    }
+
+    #[inline(never)]
+    fn store_changed_hint(
+        &self,
+        known: &mut KnownHints,
+        node_slot: &NodeSlot<G, K>,
+        has_waiting: bool,
+        wakes: bool,
+    ) -> bool {
+        let least = if wakes {
+            self.locks.oversubscription.least_sleepers()
+        } else {
+            u32::MAX
+        };
+        let (sleepers, wakes) = node_slot.hints.store_waiting(self.rt, has_waiting, least);
+        known.note_stored(has_waiting, sleepers);
+        wakes
     }
 
     /// Takes the next work of the run queue in flight. If none waits there, the worker's share of the ready tasks
@@ -313,20 +359,22 @@ impl<'a, G: Comparable, K: Ledgers, A: Gate, R: Wait> Worker<'a, G, K, A, R> {
         if run_queue.take(begun) {
             return Ok(());
         }
-        let mut board = lock_soon(self.rt, &self.locks.board);
-        run_queue.begin(&mut board, self.share, begun)
+        let mut board = lock_with_backoff(self.rt, &self.locks.board);
+        run_queue.begin(&mut board, self.batch_size, begun)
     }
 
     /// Makes a control step, if one is enabled for the node.
     fn control(
         &self,
         here: &mut Node<G, K>,
+        node_slot: &NodeSlot<G, K>,
         seen: &mut Option<Seen>,
     ) -> Result<WorkerTurn<K>, Refusal>
         ensures { here.new ≡ here.old }
     {
+        // The steps are counted after the board is released, so a step that comes after this try changes the number.
         let now = Some(Seen {
-            control_steps: self.locks.control_steps.load(Ordering::SeqCst),
+            control_steps: node_slot.hints.control_steps(self.rt),
             is_idle: here.pending() == 0,
         });
         if *seen == now {
@@ -338,8 +386,7 @@ impl<'a, G: Comparable, K: Ledgers, A: Gate, R: Wait> Worker<'a, G, K, A, R> {
                 Ok(WorkerTurn::Idle)
             }
             ControlTurn::Moved => {
-                self.locks.control_steps.fetch_add(1, Ordering::SeqCst);
-                self.locks.ring_beside(self.place);
+                self.locks.wake_tree_neighbours(self.rt, self.place);
                 Ok(WorkerTurn::Moved)
             }
             ControlTurn::Over(ended) => Ok(WorkerTurn::Over(ended)),
@@ -350,7 +397,7 @@ impl<'a, G: Comparable, K: Ledgers, A: Gate, R: Wait> Worker<'a, G, K, A, R> {
     fn control_turn(&self, here: &mut Node<G, K>) -> Result<ControlTurn<K>, Refusal>
         ensures { here.new ≡ here.old }
     {
-        let mut board = lock_soon(self.rt, &self.locks.board);
+        let mut board = lock_with_backoff(self.rt, &self.locks.board);
         here.control_turn(&mut board)
     }
 
@@ -376,22 +423,22 @@ impl<'a, G: Comparable, K: Ledgers, A: Gate, R: Wait> Worker<'a, G, K, A, R> {
             };
             self.announce_at(node_slot, NodeId(place), &mut ended)?;
         }
-        *lock_soon(self.rt, &self.locks.token) = Some(ended);
-        self.locks.stop();
+        *lock_with_backoff(self.rt, &self.locks.token) = Some(ended);
+        self.locks.stop(self.rt);
         Ok(())
     }
 
     fn announce_at(
         &self,
-        node_slot: &NodeSlot<RunQueue<G, K>>,
+        node_slot: &NodeSlot<G, K>,
         place: NodeId,
         ended: &mut Ended<K>,
     ) -> Result<(), Refusal> {
-        let mut run_queue = lock_soon(self.rt, &node_slot.run_queue);
-        let checked = check_node(&run_queue.node, place, &self.graph);
+        let mut locked = lock_with_backoff(self.rt, &node_slot.locked);
+        let checked = check_node(&locked.run_queue.node, place, &self.graph);
         if checked.is_ok() {
-            let mut board = lock_soon(self.rt, &self.locks.board);
-            tell_end(&mut run_queue, ended, &mut board);
+            let mut board = lock_with_backoff(self.rt, &self.locks.board);
+            tell_end(&mut locked.run_queue, ended, &mut board);
         }
         checked
     }
@@ -406,11 +453,16 @@ fn tell_end<G: Graph, K: Ledgers>(
     run_queue.node.quiet_under(ended, board);
 }
 
-/// Spins for a short time, and keeps the processor.
-#[inline(always)]
-fn spin() {
-    for _ in 0..SPINS_BEFORE_A_LOOK {
-        spin_loop();
+/// Polls the hints of a node until they show something that a turn may do, for a limited time in which the thread keeps
+/// the processor.
+fn poll_hints<G: Graph, K: Ledgers>(node_slot: &NodeSlot<G, K>, control_steps: Option<u64>) {
+    for _ in 0..MAX_POLLS {
+        for _ in 0..SPINS_BEFORE_A_POLL {
+            spin_loop();
+        }
+        if node_slot.hints.poll(control_steps) {
+            return;
+        }
     }
 }
 
@@ -466,5 +518,5 @@ pub(crate) fn set_fault<G: Graph, K: Ledgers, R: Wait>(
     refusal: Refusal,
 ) {
     locks.board.lock(rt).set_fault(refusal);
-    locks.stop();
+    locks.stop(rt);
 }

@@ -4,22 +4,22 @@ ghost use Rattle.tp_node.specs.Feeds as feeds;
 ghost use Rattle.tp_node.specs.Feeds.{HasFeed};
 ghost use Rattle.tp_work.specs.Feeds.{GoesTo, IsFarther, IsSameNode};
 
+use crate::backoff::lock_with_backoff;
 use crate::gate::Gate;
-use crate::locks::{NodeSlot, check_pool_link, link_place, lock_soon};
-use crate::run_queue::RunQueue;
+use crate::locks::{NodeSlot, check_pool_link, link_place};
 use crate::worker::Worker;
-use std::sync::atomic::Ordering;
 use std::sync::{MutexGuard, Wait};
 use tp_base::{NodeId, Refusal};
 use tp_board::{Board, Ledgers};
 use tp_graph::{Comparable, Graph, is_same};
 use tp_node::{Finished, Node, PoolLink};
 
-/// What passing on a task's feeds leaves: the guard of the board's lock, and the node to wake after it is released.
+/// What passing on a task's feeds leaves: the guard of the board's lock, and the node to which messages were sent that
+/// are to be reported after it is released.
 #[derive(Drop)]
 struct Passed<'a, G: Graph, K: Ledgers> {
     board: MutexGuard<'a, Board<K>>,
-    told: Option<&'a NodeSlot<RunQueue<G, K>>>,
+    receiver: Option<&'a NodeSlot<G, K>>,
 }
 
 impl<'a, G: Comparable, K: Ledgers, A: Gate, R: Wait> Worker<'a, G, K, A, R> {
@@ -40,14 +40,18 @@ impl<'a, G: Comparable, K: Ledgers, A: Gate, R: Wait> Worker<'a, G, K, A, R> {
         if !is_same(&finished.graph(), &self.graph) {
             return Err(Refusal::Stranger);
         }
-        let Passed { mut board, told } = self.pass_feeds(here, finished)?;
+        let Passed {
+            mut board,
+            receiver,
+        } = self.pass_feeds(here, finished)?;
         let Some(finished) = in_flight.take() else {
             return Ok(());
         };
         let done = record_done(here, &mut board, finished);
         drop(board);
-        if let Some(node_slot) = told {
-            self.locks.wake(node_slot);
+        if let Some(node_slot) = receiver {
+            self.locks
+                .report_messages(self.rt, here.number(), node_slot);
         }
         done
     }
@@ -67,39 +71,41 @@ impl<'a, G: Comparable, K: Ledgers, A: Gate, R: Wait> Worker<'a, G, K, A, R> {
         let mut next = next_home(finished, here.nodes());
         while let Some(home) = next {
             if home == here.number() {
-                let mut board = lock_soon(self.rt, &self.locks.board);
+                let mut board = lock_with_backoff(self.rt, &self.locks.board);
                 next = feed_here(here, &mut board, finished)?;
                 if next.is_none() {
-                    return Ok(Passed { board, told: None });
+                    return Ok(Passed {
+                        board,
+                        receiver: None,
+                    });
                 }
                 continue;
             }
             let Some(there) = self.locks.node_slots.get(home.0 as usize) else {
                 return Err(Refusal::NoNode);
             };
-            let mut board = self.send(here, there, home, finished)?;
+            let mut board = self.send(here, home, finished)?;
             next = feed_on(here, &mut board, finished)?;
             if next.is_none() {
                 return Ok(Passed {
                     board,
-                    told: Some(there),
+                    receiver: Some(there),
                 });
             }
             drop(board);
-            self.locks.wake(there);
+            self.locks.report_messages(self.rt, here.number(), there);
         }
         Ok(Passed {
-            board: lock_soon(self.rt, &self.locks.board),
-            told: None,
+            board: lock_with_backoff(self.rt, &self.locks.board),
+            receiver: None,
         })
     }
 
     /// Sends the next feed to another node, and those after it as long as they go to the same node. Returns the guard
-    /// of the board's lock, which is still held; the caller wakes that node after releasing it.
+    /// of the board's lock, which is still held; the caller reports the messages after releasing it.
     fn send(
         &self,
         here: &mut Node<G, K>,
-        there: &NodeSlot<RunQueue<G, K>>,
         to: NodeId,
         finished: &mut Finished<G>,
     ) -> Result<MutexGuard<'a, Board<K>>, Refusal>
@@ -114,16 +120,9 @@ impl<'a, G: Comparable, K: Ledgers, A: Gate, R: Wait> Worker<'a, G, K, A, R> {
         let Some(link_slot) = self.locks.link_slots.get(link_place(number.0, to.0, nodes)) else {
             return Err(Refusal::NoNode);
         };
-        let mut pool_link = lock_soon(self.rt, &link_slot.pool_link);
-        let mut board = lock_soon(self.rt, &self.locks.board);
-        let before = finished.fed();
+        let mut pool_link = lock_with_backoff(self.rt, link_slot);
+        let mut board = lock_with_backoff(self.rt, &self.locks.board);
         send_row(here, &mut pool_link, &mut board, to, finished)?;
-        link_slot
-            .length
-            .store(pool_link.len() as u64, Ordering::SeqCst);
-        there
-            .mail
-            .fetch_add((finished.fed() - before) as u64, Ordering::SeqCst);
         Ok(board)
     }
 }

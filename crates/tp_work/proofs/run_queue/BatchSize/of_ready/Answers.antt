@@ -1,5 +1,5 @@
 use Rattle.std.proofs.Common.{rules}
-use Rattle.tp_work.proofs.run_queue.Share.of_ready.Goals as goal
+use Rattle.tp_work.proofs.run_queue.BatchSize.of_ready.Goals as goal
 
 pub returns-clause-places : goal.returns-clause-places
 returns-clause-places c = search rules
