@@ -6,8 +6,9 @@ use crate::fault::Fault;
 use crate::request::PatternGrid;
 use crate::times::Times;
 use crate::watched::{Watch, run_pool_watched};
-use pool_kernels::{FeedTable, GridRun, KernelGrid, RunFault, last_row, run_grid};
-use pool_kernels::{Pattern, Stirring, checksum};
+use pool_kernels::{
+    FeedTable, GridRun, KernelGrid, Pattern, RunFault, Stirring, checksum, last_row, run_grid,
+};
 use std::alloc::Global;
 use std::rt::Clock;
 use std::sync::Wait;

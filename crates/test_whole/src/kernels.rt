@@ -2,8 +2,7 @@
 
 ghost use Rattle.std.specs.Prelude.{◌≤◌, ◌==◌, ℕ, None, if◌then◌else◌, true};
 
-use pool_kernels::{GraphFault, PairedBlocks, Plan, check_plan};
-use pool_kernels::{SumOrDifference, transformed};
+use pool_kernels::{GraphFault, PairedBlocks, Plan, SumOrDifference, check_plan, transformed};
 use std::alloc::Global;
 use std::sync::Wait;
 use std::test::Fail;

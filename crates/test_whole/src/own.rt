@@ -3,8 +3,7 @@
 ghost use Rattle.std.specs.Prelude.{◌+◌, ◌==◌, ◌||◌};
 
 use crate::patterns::numbers;
-use pool_kernels::{FeedTable, KernelGrid, Relation};
-use pool_kernels::Stirring;
+use pool_kernels::{FeedTable, KernelGrid, Relation, Stirring};
 use std::test::Fail;
 
 /// Each column is fed by itself and by the one opposite, counted from the other end.

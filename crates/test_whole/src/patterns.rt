@@ -3,8 +3,7 @@
 ghost use Rattle.std.specs.Prelude.{◌≡◌, ◌<◌};
 ghost use Rattle.pool_kernels.specs.Grids.{AreSizes};
 
-use pool_kernels::{FeedTable, KernelGrid, Relation};
-use pool_kernels::{Pattern, Stirring};
+use pool_kernels::{FeedTable, KernelGrid, Pattern, Relation, Stirring};
 use std::alloc::{AllocError, Global};
 use std::test::Fail;
 use tp_base::Refusal;

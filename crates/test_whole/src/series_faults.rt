@@ -1,9 +1,8 @@
 //! Series of generations that end with a fault although there is enough memory: the fault, and what its report has. All
 //! run at one node with one worker, so that the numbers are the same each time.
 
-use pool_kernels::{FeedTable, KernelGrid};
+use pool_kernels::{FeedTable, KernelGrid, Pattern, Stirring};
 use pool_matrix::Product;
-use pool_kernels::{Pattern, Stirring};
 use pool_samples::Reduce;
 use std::alloc::Global;
 use std::sync::Wait;

@@ -5,7 +5,7 @@ use std::thread::Parker;
 use std::time::Duration;
 
 /// How often a contended lock is retried, each time after a backoff, before the thread blocks. A lock is mostly free
-/// before that, and blocking and being woken costs more. docs/measurements/locks.md has the measurements.
+/// before that, and blocking and being woken costs more. docs/measurements/experiments.md has the measurements.
 const TRIES: u32 = 12;
 
 /// The first backoff, in spins. Each further one is twice as long: a retry takes the cache line away from the thread

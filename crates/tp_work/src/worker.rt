@@ -27,7 +27,7 @@ const MESSAGES_IN_A_HOLD: u32 = 8;
 const SEEDS_IN_A_HOLD: u32 = 64;
 
 /// How often an idle worker polls the hints before its first sleep, with a short spin before each poll. A message or a
-/// task mostly comes before that. docs/measurements/locks.md has the measurements.
+/// task mostly comes before that. docs/measurements/experiments.md has the measurements.
 const MAX_POLLS: u32 = 40;
 
 /// The length of that spin: a poll holds the hints for a moment, and must not slow down the threads that write them.
