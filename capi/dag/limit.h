@@ -5,7 +5,7 @@
 #include <stdio.h>
 #include <unistd.h>
 
-enum { SECONDS_OF_A_HANG = 60, STATUS_OF_A_HANG = 124 /* as `timeout` has it */ };
+enum { SECONDS_OF_A_HANG = 200, STATUS_OF_A_HANG = 124 /* as `timeout` has it */ };
 
 static void report_hang(int number) {
     static const char text[] = "it did not end within its time limit: a thread waits for news that does not come\n";

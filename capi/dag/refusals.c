@@ -414,7 +414,7 @@ static int count_body(void *context, uint32_t task) {
 
 /* A chain of tasks, each at another node than the one before: each has to wake the thread of the next node. */
 static void check_wake_ups(void) {
-    enum { LENGTH = 500, NODES = 4 };
+    enum { LENGTH = 200, NODES = 4 };
     gerfmuod_team *team;
     limit_time();
     for (uint32_t threads = NODES; threads <= 2 * NODES; threads += NODES) {

@@ -175,6 +175,12 @@ def write_cases(crate):
     running.write(f"{OUTPUTS}/{crate}", "".join(f"== {name}\n{stored(text)}" for name, (_, text) in sorted(results.items())))
 
 
+def is_drawn(name, expected, status, text):
+    """Whether a run ended with the expected status and printed a picture; if it stopped at a fault, it printed a line after it."""
+    picture = text_of(path_of(name))
+    return status == expected and text.startswith(picture) and (status != 0 or text == picture)
+
+
 def try_pictures(crate):
     """Has the program draw each picture of the documents."""
     with tempfile.TemporaryDirectory() as cases:
@@ -182,8 +188,7 @@ def try_pictures(crate):
             shutil.copy(picture.trace, f"{cases}/{name}")
             running.write(f"{cases}/{name}.args", ["draw", *picture.arguments])
         results = run_cases(crate, cases)
-    expected = {name: (picture.status, text_of(path_of(name))) for name, picture in PICTURES.items()}
-    differing = [name for name in PICTURES if results.get(name) != expected[name]]
+    differing = [name for name, picture in PICTURES.items() if not is_drawn(name, picture.status, *results.get(name, (None, "")))]
     passed = len(PICTURES) - len(differing)
     return Outcome(f"{crate}: {passed} of {len(PICTURES)} pictures are as in docs/figures", passed, len(differing), " ".join(differing))
 
