@@ -9,7 +9,7 @@ ghost use Rattle.tp_work.specs.Outcomes.{IsWithinLimits};
 use crate::blocks::PairedBlocks;
 use crate::fault::GridFault;
 use crate::pair_run::run_pairs;
-use crate::sums::SumOrDifference;
+use crate::sum_or_difference::SumOrDifference;
 use std::alloc::Global;
 use std::sync::Wait;
 use std::thread::Threads;
