@@ -77,6 +77,8 @@ def programs(is_full):
         Program("capi/dag/storm.c", C, storm, [["10"]]),
         Program("capi/dag/storm.c", [*C, *THREAD], storm[:1]),
         Program("capi/dag/storm.c", [*C, *ADDRESS], storm[:1]),
+        Program("capi/dag/overlaps.c", C, [Run([], 0, ", 0 not as they should be")], [[]]),
+        Program("capi/dag/overlaps.c", [*C, *ADDRESS], [Run([], 0, ", 0 not as they should be")]),
         Program("capi/dag/profiles.c", [*C, TEST_CLOCK], [Run([], 0, ", 0 not as they should be")], [[]]),
         Program("capi/dag/profiles.c", [*C, TEST_CLOCK, *ADDRESS], [Run([], 0, ", 0 not as they should be")]),
         Program("capi/dag/fuzz.c", [*C, *ADDRESS], [Run([str(calls)], 0, "as the model says")]),
