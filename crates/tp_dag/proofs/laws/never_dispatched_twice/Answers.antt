@@ -1,0 +1,5 @@
+use Rattle.tp_dag.proofs.Runs.{never_twice}
+use Rattle.tp_dag.proofs.laws.never_dispatched_twice.Goals as goal
+
+pub returns : goal.returns
+returns c = never_twice

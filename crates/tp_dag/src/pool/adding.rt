@@ -1,0 +1,258 @@
+//! The calls that describe the graph: tasks, their inputs, and inputs from outside.
+ghost use Rattle.std.specs.Prelude.{◌&&◌, ◌==◌, ◌≡◌, ◌≤◌, ◌<◌, ◌+◌, ◌-◌, ◌⊎◌, ℕ};
+ghost use Rattle.std.specs.Prelude.{length, IfOk, IfErr, IfSome, IfNone, OnOk, OnErr, IsTrue, IsFalse};
+ghost use Rattle.std.specs.Prelude.{slice_get, true, false, Ok, Err, Some, None, nat_lt};
+ghost use Rattle.tp_base.specs.declared.limits.TheConstants.{MAX_STEPS};
+ghost use Rattle.tp_base.specs.Checks.{first_refusal};
+ghost use Rattle.tp_dag.specs.declared.entry.Stage.TheVariants as stage;
+ghost use Rattle.tp_dag.specs.declared.limits.TheConstants.{MAX_INPUTS, MAX_TASKS, MAX_OUTSIDE};
+ghost use Rattle.tp_dag.specs.State.{is_ready_now};
+ghost use Rattle.tp_dag.specs.Calls.{task_checks, input_checks, outside_checks, release_checks, with_task, with_input, MayHaveInput};
+ghost use Rattle.tp_dag.specs.Calls.{Becomes, one_more, one_less, MayWait, Awaits, lacks_steps};
+
+use crate::counts::{add_if, and_zero, both, either, one_if, take_if};
+use crate::entry::{Link, Stage, Task, is_done, is_fresh};
+use crate::events::make_room;
+use crate::limits::{MAX_INPUTS, MAX_OUTSIDE, MAX_TASKS};
+use crate::pool::Pool;
+use tp_base::{MAX_STEPS, Refusal};
+
+impl Pool {
+    /// Adds a task of a class 0, which is dispatched first, to 3, and returns its number, which is how many tasks there were before it.
+    ///
+    /// After `start`, a body that runs may add tasks. Such a task is held: it waits for one input from outside, so that no thread can
+    /// dispatch it half described. Its maker calls `input` for each task that it reads, and then `release`.
+    ///
+    /// Refused, and nothing changes: `BadSpec` if the class is above 3; `HistoryFull` with 134,217,728 if there are so many tasks;
+    /// `HistoryFull` with 1,048,576 if the pool is traced and was started, and its trace would have more steps, which are 3 a task and 10;
+    /// `NoMemory`.
+    pub fn task(&mut self, class: u32) -> Result<u32, Refusal>
+        ensures ok { IfOk result (λ t. (t ≡ length self.old.tasks) × (self.new ≡ with_task class self.old)) }
+        ensures err { OnErr result (self.new ≡ self.old) }
+        ensures checks { IfSome (first_refusal (task_checks self.old class)) (λ r. result ≡ Err r) }
+        ensures exact { IfErr result (λ r. (first_refusal (task_checks self.old class) ≡ Some r) ⊎ (r ≡ Refusal.NoMemory)) }
+    {
+        if class > 3 {
+            return Err(Refusal::BadSpec);
+        }
+        if self.tasks.len() >= MAX_TASKS as usize {
+            return Err(Refusal::HistoryFull(MAX_TASKS));
+        }
+        if self.started && self.lacks_steps(self.tasks.len() + 1) {
+            return Err(Refusal::HistoryFull(MAX_STEPS));
+        }
+        self.add_task(class as u8)
+    }
+
+    // adds a task, if memory can be had
+    fn add_task(&mut self, class: u8) -> Result<u32, Refusal>
+        requires class { class < 4 }
+        requires few { length self.old.tasks < MAX_TASKS }
+        requires fits { IsFalse (self.old.started && lacks_steps self.old (length self.old.tasks + 1)) }
+        ensures ok { IfOk result (λ t. (t ≡ length self.old.tasks) × (self.new ≡ with_task class self.old)) }
+        ensures err { OnErr result (self.new ≡ self.old) }
+        ensures exact { IfErr result (λ r. r ≡ Refusal.NoMemory) }
+    {
+        self.tasks.reserve(1)?;
+        let number = self.tasks.len() as u32;
+        let traced = both(self.started, self.traced);
+        make_room(&mut self.events, traced, self.left + 1)?;
+        self.queues.add_task()?;
+        let awaited = one_if(self.started);
+        add_if(&mut self.ready, class, !self.started);
+        self.left += 1;
+        self.awaiting += awaited;
+        self.grown = either(self.grown, self.started);
+        self.tasks.push_reserved(Task {
+            class,
+            stage: Stage::Fresh,
+            missing: awaited,
+            outside: awaited,
+            inputs: 0,
+            outputs: 0,
+        });
+        Ok(number)
+    }
+
+    /// Lets the newest task read what task `source` makes, which was added before it. After `start` the newest task still has to wait for
+    /// something.
+    ///
+    /// Refused, and nothing changes: `NoTask` if there is no newest task or `source` is not below its number; `WrongLife` if it was
+    /// dispatched, or if the pool was started and it is ready, since it may be dispatched at any time; `HistoryFull` with 536,870,912 if
+    /// there are so many inputs; `NoMemory`.
+    pub fn input(&mut self, source: u32) -> Result<(), Refusal>
+        ensures ok { OnOk result (self.new ≡ with_input source self.old) }
+        ensures err { OnErr result (self.new ≡ self.old) }
+        ensures checks { IfSome (first_refusal (input_checks self.old source)) (λ r. result ≡ Err r) }
+        ensures exact { IfErr result (λ r. (first_refusal (input_checks self.old source) ≡ Some r) ⊎ (r ≡ Refusal.NoMemory)) }
+    {
+        if let Some(refusal) = self.input_refusal(source) {
+            return Err(refusal);
+        }
+        self.add_link(source)
+    }
+
+    // the first check of `input` that holds
+    fn input_refusal(&self, source: u32) -> Option<Refusal>
+        ensures refusal { result ≡ first_refusal (input_checks self.now source) }
+        ensures few { IfNone result (MayHaveInput source self.now) }
+    {
+        let count = self.tasks.len();
+        if source as usize + 1 >= count {
+            return Some(Refusal::NoTask);
+        }
+        let target = self.tasks[count - 1];
+        if !is_fresh(target.stage) {
+            return Some(Refusal::WrongLife);
+        }
+        if self.started && self.is_ready_at(count - 1) {
+            return Some(Refusal::WrongLife);
+        }
+        if self.links.len() >= MAX_INPUTS as usize {
+            return Some(Refusal::HistoryFull(MAX_INPUTS));
+        }
+        None
+    }
+
+    // whether a task is ready
+    #[inline]
+    fn is_ready_at(&self, task: usize) -> bool
+        ensures { result ≡ is_ready_now self.now task }
+    {
+        match self.tasks.get(task) {
+            Some(&found) => and_zero(is_fresh(found.stage), found.missing),
+            None => false,
+        }
+    }
+
+    fn add_link(&mut self, source: u32) -> Result<(), Refusal>
+        requires { MayHaveInput source self.old }
+        ensures ok { OnOk result (self.new ≡ with_input source self.old) }
+        ensures err { OnErr result (self.new ≡ self.old) }
+        ensures exact { IfErr result (λ r. r ≡ Refusal.NoMemory) }
+    {
+        self.links.reserve(1)?;
+        let newest = self.tasks.len() - 1;
+        let target = self.tasks[newest];
+        let from = self.tasks[source as usize];
+        let open = !is_done(from.stage);
+        take_if(
+            &mut self.ready,
+            target.class,
+            and_zero(open, target.missing),
+        );
+        self.grown = either(self.grown, self.started);
+        self.tasks[newest] = Task {
+            missing: target.missing + one_if(open),
+            inputs: target.inputs + 1,
+            ..target
+        };
+        self.tasks[source as usize] = Task {
+            outputs: self.links.len() as u32 + 1,
+            ..from
+        };
+        self.links.push_reserved(Link {
+            source,
+            target: newest as u32,
+            older: from.outputs,
+        });
+        Ok(())
+    }
+
+    /// Lets a task that was not dispatched wait for one more input from outside in this run, which the caller reports by `release`.
+    ///
+    /// Refused, and nothing changes: `NoTask`; `WrongLife` if the task was dispatched, or if the pool was started and the task is ready,
+    /// since it may be dispatched at any time; `HistoryFull` with 1,048,576 if it waits for so many inputs from outside.
+    pub fn outside(&mut self, task: u32) -> Result<(), Refusal>
+        ensures ok { OnOk result (Becomes task one_more self.old self.new) }
+        ensures err { OnErr result (self.new ≡ self.old) }
+        ensures checks { IfSome (first_refusal (outside_checks self.old task)) (λ r. result ≡ Err r) }
+        ensures exact { IfErr result (λ r. first_refusal (outside_checks self.old task) ≡ Some r) }
+    {
+        if let Some(refusal) = self.outside_refusal(task) {
+            return Err(refusal);
+        }
+        self.add_outside(task);
+        Ok(())
+    }
+
+    // the first check of `outside` that holds
+    fn outside_refusal(&self, task: u32) -> Option<Refusal>
+        ensures refusal { result ≡ first_refusal (outside_checks self.now task) }
+        ensures waits { IfNone result (MayWait task self.now) }
+    {
+        let Some(&found) = self.tasks.get(task as usize) else {
+            return Some(Refusal::NoTask);
+        };
+        if !is_fresh(found.stage) {
+            return Some(Refusal::WrongLife);
+        }
+        if self.started && self.is_ready_at(task as usize) {
+            return Some(Refusal::WrongLife);
+        }
+        if found.outside >= MAX_OUTSIDE {
+            return Some(Refusal::HistoryFull(MAX_OUTSIDE));
+        }
+        None
+    }
+
+    fn add_outside(&mut self, task: u32)
+        requires { MayWait task self.old }
+        ensures { Becomes task one_more self.old self.new }
+    {
+        let was = self.tasks[task as usize];
+        take_if(&mut self.ready, was.class, and_zero(true, was.missing));
+        self.awaiting += one_if(was.outside == 0);
+        self.tasks[task as usize] = Task {
+            missing: was.missing + 1,
+            outside: was.outside + 1,
+            ..was
+        };
+    }
+
+    /// Reports that one input from outside is there for which a task waits.
+    ///
+    /// Refused, and nothing changes: `NoTask`; `WrongLife` if the task waits for no input from outside.
+    pub fn release(&mut self, task: u32) -> Result<(), Refusal>
+        ensures ok { OnOk result (Becomes task one_less self.old self.new) }
+        ensures err { OnErr result (self.new ≡ self.old) }
+        ensures checks { IfSome (first_refusal (release_checks self.old task)) (λ r. result ≡ Err r) }
+        ensures exact { IfErr result (λ r. first_refusal (release_checks self.old task) ≡ Some r) }
+    {
+        if let Some(refusal) = self.release_refusal(task) {
+            return Err(refusal);
+        }
+        self.take_outside(task);
+        Ok(())
+    }
+
+    // the first check of `release` that holds
+    fn release_refusal(&self, task: u32) -> Option<Refusal>
+        ensures refusal { result ≡ first_refusal (release_checks self.now task) }
+        ensures awaits { IfNone result (Awaits task self.now) }
+    {
+        let Some(&found) = self.tasks.get(task as usize) else {
+            return Some(Refusal::NoTask);
+        };
+        if found.outside == 0 {
+            return Some(Refusal::WrongLife);
+        }
+        None
+    }
+
+    fn take_outside(&mut self, task: u32)
+        requires { Awaits task self.old }
+        ensures { Becomes task one_less self.old self.new }
+    {
+        let was = self.tasks[task as usize];
+        let last = was.missing == 1;
+        add_if(&mut self.ready, was.class, last);
+        self.awaiting -= one_if(was.outside == 1);
+        self.tasks[task as usize] = Task {
+            missing: was.missing - 1,
+            outside: was.outside - 1,
+            ..was
+        };
+        self.queues.push_if(was.class, task, both(last, self.started));
+    }
+}
