@@ -108,7 +108,7 @@ pub at_task : {first now : PoolState} (g : Graph) (n k : ℕ) → AddingTasks g 
     → k ≡ n
 at_task {first} {now} g n k i z e =
     let l = described_long g n first in let s : length now.tasks ≡ length (described g n first).tasks = ap
-        (λ (a : PoolState). length a.tasks) i.state in
+    (λ (a : PoolState). length a.tasks) i.state in
     omega (arith, l, s, z, e)
 
 -- the next task has a fault, or memory ran out
@@ -157,8 +157,14 @@ empty_is p now same i st none =
     ∙ (ap (λ (b : Bool). record (state_of p) { started = false; grown = b }) g
     ∙ (ap (λ (xs : List Event). record (state_of p) { started = false; grown = false; kept = kept_of p.traced xs }) es
     ∙ (ap (λ (xs : List Entry). record (state_of p) { started = false; grown = false; kept = kept_of p.traced []; tasks = xs }) ts
-    ∙ (ap (λ (xs : List Link). record (state_of p) { started = false; grown = false; kept = kept_of p.traced []; tasks = []; inputs = map
-        input_of xs }) ls
+    ∙ (ap (λ (xs : List Link). record (state_of p) {
+      started = false;
+      grown = false;
+      kept = kept_of p.traced [];
+      tasks = [];
+      inputs = map
+          input_of xs;
+    }) ls
     ∙ kept_is p.traced))))) ∙ same
   where
     no_links : (xs : List Link) → ((k : ℕ) (e : Link) → slice_get xs k ≡ Some e → ⊥) → xs ≡ []

@@ -73,7 +73,7 @@ module _ (a : PoolState) (t : ℕ) where
       subst (λ (o : Option Entry). IsTrue (is_ready_entry a t o)) (sym r.is)
       (both (is_fresh r.task.stage) (r.task.outside == 0) (count_where (keeps_waiting a.tasks t) a.inputs == 0) (ap is_fresh r.fresh)
       (is_zero r.task.outside r.outside) (is_zero _ (count_zero (keeps_waiting a.tasks t) a.inputs
-          (λ k i h. free k i h (same_or i.target t)))))
+      (λ k i h. free k i h (same_or i.target t)))))
     where
       off : (b d : Bool) → d ≡ true → one (b && not d) ≡ 0
       off true true h = refl
@@ -113,7 +113,7 @@ first_all test [] = refl
 first_all test (x ∷ xs) =
     let long : length (x ∷ xs) ≡ suc (length xs) = omega arith in
     let e : count_first test (x ∷ xs) (length (x ∷ xs)) ≡ count_first test (x ∷ xs) (suc (length xs)) = ap (count_first test
-        (x ∷ xs)) long in
+    (x ∷ xs)) long in
     let c = first_cons test x xs (length xs) in let r = first_all test xs in let n = count_next test x xs in omega (arith, e, c, r, n)
 
 next_below : (f : ℕ → Bool) (n : ℕ) → count_below f (suc n) ≡ count_below f n + one (f n)
@@ -155,7 +155,7 @@ pub test_ready : (a : PoolState) {ts : List Task} {ls : List Link} (t : ℕ) (x 
 test_ready a {ts} {ls} t x f is =
     ap (is_ready_entry (shown a ts ls) t) (map_get entry_of ts t x is)
     ∙ ap (λ (b : Bool). is_fresh x.stage && b)
-        (lacks _ _ x.outside x.missing (waiting_count ts ls t) (f.counted t x is).missing)
+    (lacks _ _ x.outside x.missing (waiting_count ts ls t) (f.counted t x is).missing)
   where
     lacks : (n k o g : ℕ) → n ≡ k → g ≡ k + o + 0 → ((o == 0) && (n == 0)) ≡ (g == 0)
     lacks n k o g e h = grind (arith, nat_tests, e, h)

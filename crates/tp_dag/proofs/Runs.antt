@@ -39,8 +39,8 @@ pub told : (F : Option Entry → ℕ) (t : ℕ) (up down : Call → Bool) → Is
 told F t up down i [] a h = (let n = i.none in let e : F (slice_get a.tasks t) ≡ F None = ap F (no_task a.tasks t h) in omega (arith, n, e))
 told F t up down i (c ∷ calls) b h =
     elim (is_repeats c) as (λ r. is_repeats c ≡ r
-        → F (slice_get b.tasks t) + count_where down (if r then [] else c ∷ this_run calls)
-        ≡ count_where up (if r then [] else c ∷ this_run calls)) [
+    → F (slice_get b.tasks t) + count_where down (if r then [] else c ∷ this_run calls)
+    ≡ count_where up (if r then [] else c ∷ this_run calls)) [
       | true ↦ (λ e. let z = again c h.0 b h.1.1 e in omega (arith, z))
       | false ↦ (λ e. let r = told F t up down i calls h.0 h.1.0 in let s = i.step c h.0 b h.1.1 e in
           let d = count_next down c (this_run calls) in let u = count_next up c (this_run calls) in omega (arith, r, s, d, u))

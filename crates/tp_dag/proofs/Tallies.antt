@@ -76,7 +76,7 @@ pub some_running : {l r w : ℕ} (ts : List Task) (t : ℕ) (x : Task) → AreTa
     → x.stage ≡ stage.Running → 1 ≤ r
 some_running ts t x i is h =
     let s = count_some is_dispatched (map entry_of ts) t (entry_of x) (map_get entry_of ts t x is) (ap
-        (λ (g : Stage). one (is_running g)) h) in
+    (λ (g : Stage). one (is_running g)) h) in
     let u = i.runs in omega (arith, s, u)
 
 not_zero : (n : ℕ) → 1 ≤ n → one (not (n == 0)) ≡ 1

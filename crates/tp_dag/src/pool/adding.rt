@@ -253,6 +253,7 @@ impl Pool {
             outside: was.outside - 1,
             ..was
         };
-        self.queues.push_if(was.class, task, both(last, self.started));
+        self.queues
+            .push_if(was.class, task, both(last, self.started));
     }
 }

@@ -72,12 +72,7 @@ impl Pool {
     }
 
     // the first check of `describe` that holds
-    fn describe_refusal(
-        &self,
-        classes: &[u8],
-        offsets: &[u32],
-        inputs: &[u32],
-    ) -> Option<Refusal>
+    fn describe_refusal(&self, classes: &[u8], offsets: &[u32], inputs: &[u32]) -> Option<Refusal>
         ensures refusal { result ≡ first_refusal (describe_checks
             (record { classes = classes.now; offsets = offsets.now; inputs = inputs.now }) self.now) }
         ensures started { IfNone result (IsFalse self.now.started) }

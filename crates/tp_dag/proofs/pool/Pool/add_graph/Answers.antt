@@ -14,4 +14,4 @@ pub loop-t-preserved : goal.loop-t-preserved
 loop-t-preserved c =
     let g : Graph = record { classes = c.args.classes.now; offsets = c.args.offsets.now; inputs = c.args.inputs.now } in
     task_at g c.loop-t.t c.class_of-class.result c.loop-t.invariant c.class_of-class.ensures c.in_default.ensures.none
-        c.in_default.ensures.ok
+    c.in_default.ensures.ok
