@@ -1,6 +1,5 @@
 -- A whole graph, task by task and input by input.
-use Rattle.std.proofs.Common.{arith, ◌+◌, ◌<◌, ◌≤◌, ◌⊎◌, ℕ, zero, suc, ◌≡◌, List}
-use Rattle.std.proofs.Common.{[], ◌∷◌, length, map, drop, Bool, true, false, IsFalse}
+use Rattle.std.proofs.Common.{arith, ◌+◌, ◌<◌, ◌≤◌, ◌⊎◌, ℕ, zero, suc, ◌≡◌, List, [], ◌∷◌, length, map, drop, Bool, true, false, IsFalse}
 use Rattle.std.proofs.Common.{Option, Some, None, Result, Ok, Err, IfSome, refl, ap, subst, sym, ◌∙◌, drop-cons, inl, inr}
 use Rattle.std.specs.Prelude.{slice_get, if◌then◌else◌}
 use Rattle.std.specs.List.{slice_index_or}
@@ -14,57 +13,15 @@ use Rattle.tp_dag.specs.declared.entry.Link.{Link}
 use Rattle.tp_dag.specs.declared.pool.Pool.TheInside.{Inside}
 use Rattle.tp_dag.specs.State.{PoolState, Entry}
 use Rattle.tp_dag.specs.Calls.{input_checks, with_input, with_task}
-use Rattle.tp_dag.specs.Describing.{Graph, with_inputs, with_next, described, either_refusal, inputs_refusal, fault_of}
-use Rattle.tp_dag.specs.Describing.{class_of, from_of, inputs_of, next_fault, IsFirstFault}
+use Rattle.tp_dag.specs.Describing.{Graph, with_inputs, with_next, described, either_refusal, inputs_refusal, fault_of, class_of, from_of}
+use Rattle.tp_dag.specs.Describing.{inputs_of, next_fault, IsFirstFault}
 use Rattle.tp_dag.specs.Kept.{IsPool, state_of, entry_of, input_of, kept_of}
 use Rattle.tp_dag.proofs.Lists.{map_long}
-
--- a call that was accepted passed its checks
-pub not_refused : {A : Type 0} {x : A} (o : Option Refusal) (res : Result A Refusal) → IfSome o (λ r. res ≡ Err r) → res ≡ Ok x → o ≡ None
-not_refused None res h e = refl
-not_refused (Some r) res h e = cc
 
 -- ---- inputs
 pub record AddingInputs (ss : List ℕ) (k : ℕ) (first now : PoolState) : Type 0 where
   pub state : with_inputs (drop k ss) now ≡ with_inputs ss first
   pub refusal : inputs_refusal (drop k ss) now ≡ inputs_refusal ss first
-
-pub adding_first : (ss : List ℕ) (a : PoolState) → AddingInputs ss 0 a a
-adding_first ss a = record { state = refl; refusal = refl }
-
-pub adding_step : {ss : List ℕ} {first now : PoolState} (k d : ℕ) (new : PoolState) → AddingInputs ss k first now → k < length ss
-    → first_refusal (input_checks now (slice_index_or ss k d)) ≡ None → new ≡ with_input (slice_index_or ss k d) now
-    → AddingInputs ss (k + 1) first new
-adding_step {ss} {first} {now} k d new i l free e =
-    let s = slice_index_or ss k d in
-    let c : drop k ss ≡ s ∷ drop (suc k) ss = drop-cons ss k d l in
-    let one : k + 1 ≡ suc k = omega arith in
-    subst (λ (n : ℕ). AddingInputs ss n first new) (sym one) (record {
-      state = ap (with_inputs (drop (suc k) ss)) e ∙ (ap (λ (xs : List ℕ). with_inputs xs now) (sym c) ∙ i.state);
-      refusal = ap (inputs_refusal (drop (suc k) ss)) e
-          ∙ (ap (λ (o : Option Refusal). either_refusal o (inputs_refusal (drop (suc k) ss) (with_input s now))) (sym free)
-          ∙ (ap (λ (xs : List ℕ). inputs_refusal xs now) (sym c) ∙ i.refusal));
-    })
-
-pub adding_refused : {ss : List ℕ} {first now : PoolState} (k d : ℕ) (r : Refusal) → AddingInputs ss k first now → k < length ss
-    → first_refusal (input_checks now (slice_index_or ss k d)) ≡ Some r → inputs_refusal ss first ≡ Some r
-adding_refused {ss} {first} {now} k d r i l h =
-    let s = slice_index_or ss k d in
-    let c : drop k ss ≡ s ∷ drop (suc k) ss = drop-cons ss k d l in
-    sym i.refusal ∙ (ap (λ (xs : List ℕ). inputs_refusal xs now) c
-    ∙ ap (λ (o : Option Refusal). either_refusal o (inputs_refusal (drop (suc k) ss) (with_input s now))) h)
-
-pub adding_done : {ss : List ℕ} {first now : PoolState} (k : ℕ) → AddingInputs ss k first now → length ss ≤ k
-    → (now ≡ with_inputs ss first) × (inputs_refusal ss first ≡ None)
-adding_done {ss} {first} {now} k i l =
-    let c = past ss k l in
-    (sym (ap (λ (xs : List ℕ). with_inputs xs now) c) ∙ i.state, sym i.refusal ∙ ap (λ (xs : List ℕ). inputs_refusal xs now) c)
-  where
-    past : (xs : List ℕ) (n : ℕ) → length xs ≤ n → drop n xs ≡ []
-    past [] zero m = refl
-    past [] (suc n) m = refl
-    past (x ∷ xs) zero m = absurd (omega (arith, m))
-    past (x ∷ xs) (suc n) m = past xs n (omega (arith, m))
 
 -- ---- tasks
 inputs_long : (ss : List ℕ) (a : PoolState) → length (with_inputs ss a).tasks ≡ length a.tasks
@@ -73,8 +30,7 @@ inputs_long (s ∷ ss) a = inputs_long ss (with_input s a)
 
 described_long : (g : Graph) (n : ℕ) (a : PoolState) → length (described g n a).tasks ≡ length a.tasks + n
 described_long g zero a = omega arith
-described_long g (suc n) a =
-    let r = described_long g n a in
+described_long g (suc n) a = let r = described_long g n a in
     let i = inputs_long (inputs_of g n) (with_task (class_of g n) (described g n a)) in
     let p = length_push (described g n a).tasks (record {
       class = class_of g n;
@@ -86,13 +42,9 @@ pub record AddingTasks (g : Graph) (n : ℕ) (first now : PoolState) : Type 0 wh
   pub state : now ≡ described g n first
   pub none : (u : ℕ) → u < n → fault_of g u first ≡ None
 
-pub tasks_first : (g : Graph) (a : PoolState) → AddingTasks g 0 a a
-tasks_first g a = record { state = refl; none = λ u l. absurd (omega (arith, l)) }
-
-pub tasks_step : {first now : PoolState} (g : Graph) (n : ℕ) (new : PoolState) → AddingTasks g n first now
+tasks_step : {first now : PoolState} (g : Graph) (n : ℕ) (new : PoolState) → AddingTasks g n first now
     → fault_of g n first ≡ None → new ≡ with_next g n now → AddingTasks g (n + 1) first new
-tasks_step {first} {now} g n new i free e =
-    let one : n + 1 ≡ suc n = omega arith in
+tasks_step {first} {now} g n new i free e = let one : n + 1 ≡ suc n = omega arith in
     subst (λ (k : ℕ). AddingTasks g k first new) (sym one) (record {
       state = e ∙ ap (with_next g n) i.state;
       none = λ u l. elim (last_or u) [
@@ -106,10 +58,8 @@ tasks_step {first} {now} g n new i free e =
 
 pub at_task : {first now : PoolState} (g : Graph) (n k : ℕ) → AddingTasks g n first now → length first.tasks ≡ 0 → k ≡ length now.tasks
     → k ≡ n
-at_task {first} {now} g n k i z e =
-    let l = described_long g n first in let s : length now.tasks ≡ length (described g n first).tasks = ap
-    (λ (a : PoolState). length a.tasks) i.state in
-    omega (arith, l, s, z, e)
+at_task {first} {now} g n k i z e = let l = described_long g n first in let s : length now.tasks ≡ length (described g n first).tasks = ap
+    (λ (a : PoolState). length a.tasks) i.state in omega (arith, l, s, z, e)
 
 -- the next task has a fault, or memory ran out
 pub fault_at : {first now : PoolState} (g : Graph) (n k class : ℕ) (r : Refusal) → AddingTasks g n first now → length first.tasks ≡ 0
@@ -145,15 +95,12 @@ empty traced = record { started = false; grown = false; kept = if traced then So
 
 pub empty_is : (p : Inside) (now : PoolState) → state_of p ≡ now → IsPool p → IsFalse now.started → length now.tasks ≡ 0
     → empty p.traced ≡ now
-empty_is p now same i st none =
-    let s : p.started ≡ false = ap (λ (a : PoolState). a.started) same ∙ st in
+empty_is p now same i st none = let s : p.started ≡ false = ap (λ (a : PoolState). a.started) same ∙ st in
     let g : p.grown ≡ false = i.settled s in
     let z : length (map entry_of p.tasks.items) ≡ 0 = ap (λ (a : PoolState). length a.tasks) same ∙ none in
-    let m = map_long entry_of p.tasks.items in
-    let ts = empty_list (map entry_of p.tasks.items) z in
+    let m = map_long entry_of p.tasks.items in let ts = empty_list (map entry_of p.tasks.items) z in
     let ls = no_links p.links.items (λ k e h. let w = (i.holds.facts.linked k e h).within in absurd (omega (arith, w, m, z))) in
-    let es = empty_list p.events.items (i.room.idle s).1 in
-    sym (ap (λ (b : Bool). record (state_of p) { started = b }) s
+    let es = empty_list p.events.items (i.room.idle s).1 in sym (ap (λ (b : Bool). record (state_of p) { started = b }) s
     ∙ (ap (λ (b : Bool). record (state_of p) { started = false; grown = b }) g
     ∙ (ap (λ (xs : List Event). record (state_of p) { started = false; grown = false; kept = kept_of p.traced xs }) es
     ∙ (ap (λ (xs : List Entry). record (state_of p) { started = false; grown = false; kept = kept_of p.traced []; tasks = xs }) ts
@@ -164,8 +111,7 @@ empty_is p now same i st none =
       tasks = [];
       inputs = map
           input_of xs;
-    }) ls
-    ∙ kept_is p.traced))))) ∙ same
+    }) ls ∙ kept_is p.traced))))) ∙ same
   where
     no_links : (xs : List Link) → ((k : ℕ) (e : Link) → slice_get xs k ≡ Some e → ⊥) → xs ≡ []
     no_links [] h = refl

@@ -1,6 +1,6 @@
 //! A task that is done passes on to the tasks that read it.
-ghost use Rattle.std.specs.Prelude.{◌≡◌, ◌<◌, IsTrue, length, map, slice_get};
-ghost use Rattle.tp_dag.specs.Kept.{is_ready, AreCounts, Facts, Owing, owed, newest, done_at, entry_of, LacksSome, TakesInput};
+ghost use Rattle.std.specs.Prelude.{◌≡◌, map};
+ghost use Rattle.tp_dag.specs.Kept.{is_ready, AreCounts, Facts, MayPassOn, entry_of, LacksSome, TakesInput};
 
 use crate::counts::add_if;
 use crate::entry::{Link, Task};
@@ -31,11 +31,7 @@ pub(crate) fn pass_on(
     task: u32,
     outputs: u32,
 )
-    requires place { task < length tasks.old }
-    requires done { IsTrue (done_at (slice_get tasks.old task)) }
-    requires newest { outputs ≡ newest task links.now (length links.now) }
-    requires owing { Owing (owed task links.now (length links.now)) tasks.old links.now }
-    requires ready { AreCounts is_ready tasks.old ready.old }
+    requires { MayPassOn task outputs tasks.old links.now ready.old }
     ensures facts { Facts tasks.new links.now }
     ensures ready { AreCounts is_ready tasks.new ready.new }
     ensures same { map entry_of tasks.new ≡ map entry_of tasks.old }

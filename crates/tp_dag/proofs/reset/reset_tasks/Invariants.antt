@@ -1,4 +1,4 @@
-use Rattle.tp_dag.proofs.Again.{Resetting}
+use Rattle.tp_dag.proofs.Changes.{Resetting}
 use Rattle.tp_dag.proofs.reset.reset_tasks.Given as goal
 
 abbrev pub invariant-loop-t : goal.invariant-loop-t

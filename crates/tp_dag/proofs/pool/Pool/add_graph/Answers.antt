@@ -11,7 +11,6 @@ returns-in-Err-clause-exact c =
     c.tasks-task.ensures c.class_of-class.ensures l c.in-Err.ensures.exact
 
 pub loop-t-preserved : goal.loop-t-preserved
-loop-t-preserved c =
-    let g : Graph = record { classes = c.args.classes.now; offsets = c.args.offsets.now; inputs = c.args.inputs.now } in
+loop-t-preserved c = let g : Graph = record { classes = c.args.classes.now; offsets = c.args.offsets.now; inputs = c.args.inputs.now } in
     task_at g c.loop-t.t c.class_of-class.result c.loop-t.invariant c.class_of-class.ensures c.in_default.ensures.none
     c.in_default.ensures.ok

@@ -1,21 +1,53 @@
--- Sequences of calls: how far a task is, by the calls of this run.
-use Rattle.std.proofs.Common.{arith, ◌+◌, ◌≤◌, ◌≢◌, ℕ, zero, suc, ◌≡◌}
-use Rattle.std.proofs.Common.{List, [], ◌∷◌, ◌++◌, length, map, Bool, true, false}
-use Rattle.std.proofs.Common.{Option, Some, None, refl, ap, subst, sym, ◌∙◌, inl, inr}
+-- The theorems: about all states of a pool, and about all sequences of calls.
+use Rattle.std.proofs.Common.{arith, ◌<◌, ℕ, zero, suc, ◌≡◌, length, Some, refl, ◌+◌, ◌≤◌, ◌≢◌, List, [], ◌∷◌, ◌++◌, map, Bool, true, false}
+use Rattle.std.proofs.Common.{Option, None, ap, subst, sym, ◌∙◌, inl, inr}
 use Rattle.std.specs.Prelude.{slice_get, ◌==◌, ◌&&◌, not, if◌then◌else◌}
-use Rattle.std.proofs.Math.ListN.{set}
-use Rattle.std.proofs.lemmas.Bool.Decides.{nat_tests}
 use Rattle.tp_dag.specs.declared.entry.Stage.{Stage}
 use Rattle.tp_dag.specs.declared.entry.Stage.TheVariants as stage
-use Rattle.tp_dag.specs.State.{PoolState, Entry, is_done, is_fresh, is_done_at, count_where}
+use Rattle.tp_dag.specs.State.{PoolState, Entry, IsAt, IsReady, IsOver, IsConsistent, is_done, is_fresh, is_done_at, count_where}
+use Rattle.tp_dag.specs.Laws.{NeverSilent, Call, Leads, Lead, this_run, is_repeats, dispatches, reports, expects, releases, times}
+use Rattle.tp_dag.specs.Laws.{NeverTwice, AfterItsInputs}
+use Rattle.tp_dag.proofs.Lists.{at_below, set_here, set_there, get_push, same_or, count_next}
+use Rattle.tp_dag.proofs.Ready.{got_below}
+use Rattle.std.proofs.Math.ListN.{set}
+use Rattle.std.proofs.lemmas.Bool.Decides.{nat_tests}
 use Rattle.tp_dag.specs.Calls.{one_less, Becomes, GoesTo, outside_at}
-use Rattle.tp_dag.specs.Laws.{Call, Leads, Lead, this_run, is_repeats, dispatches}
-use Rattle.tp_dag.specs.Laws.{reports, expects, releases, times, NeverTwice, AfterItsInputs}
 use Rattle.tp_dag.specs.Laws.Call.{Adds, Links, Expects, Releases, Starts, Dispatches, Reports, Repeats}
 use Rattle.tp_dag.specs.Kept.{one}
-use Rattle.tp_dag.proofs.Lists.{set_here, set_there, get_push}
-use Rattle.tp_dag.proofs.Counting.{same_or, count_next}
 
+-- ==== If nothing runs, nothing is awaited and nothing is ready, all is done: by the numbers of the tasks.
+module _ (a : PoolState) (c : IsConsistent a) (runs : (t : ℕ) → IsAt stage.Running t a → ⊥)
+    (awaited : (t : ℕ) (x : Entry) → slice_get a.tasks t ≡ Some x → x.outside ≡ 0) (ready : (t : ℕ) → IsReady t a → ⊥) where
+  by_stage : (t : ℕ) (x : Entry) → slice_get a.tasks t ≡ Some x → ((u : ℕ) → u < t → IsAt stage.Done u a) → (s : Stage) → x.stage ≡ s
+      → x.stage ≡ stage.Done
+  by_stage t x is before stage.Done e = e
+  by_stage t x is before stage.Running e = absurd (runs t (record { task = x; is = is; stage = e }))
+  by_stage t x is before stage.Fresh e = absurd (ready t (record {
+    task = x;
+    is = is;
+    fresh = e;
+    outside = awaited t x is;
+    inputs = λ s r. before s (c.lower r.0 _ r.1).0;
+  }))
+
+  below : (n t : ℕ) → t < n → t < length a.tasks → IsAt stage.Done t a
+  below zero t l inside = absurd (omega (arith, l))
+  below (suc n) t l inside = let x = at_below a.tasks t inside in record {
+        task = x.0;
+        is = x.1;
+        stage = by_stage t x.0 x.1 (λ u m. below n u (omega (arith, l, m)) (omega (arith, m, inside))) x.0.stage refl;
+      }
+
+  over : IsOver a
+  over t x is = by_stage t x is (λ u m. below t u m (inside u t x m is)) x.stage refl
+    where
+      inside : (u t : ℕ) (x : Entry) → u < t → slice_get a.tasks t ≡ Some x → u < length a.tasks
+      inside u t x m is = let l = got_below a.tasks t x is in omega (arith, m, l)
+
+pub never_silent : NeverSilent
+never_silent a c runs awaited ready = over a c runs awaited ready
+
+-- ==== Sequences of calls: how far a task is, by the calls of this run.
 -- A number that each call changes as these two tests say, and that is 0 for a task that does not exist or is as described.
 pub record IsTold (F : Option Entry → ℕ) (t : ℕ) (up down : Call → Bool) : Type 0 where
   pub none : F None ≡ 0
@@ -37,8 +69,7 @@ new_task F (x ∷ xs) (suc t) n f = new_task F xs t n f
 pub told : (F : Option Entry → ℕ) (t : ℕ) (up down : Call → Bool) → IsTold F t up down → (calls : List Call) (a : PoolState) → Lead calls a
     → F (slice_get a.tasks t) + times down calls ≡ times up calls
 told F t up down i [] a h = (let n = i.none in let e : F (slice_get a.tasks t) ≡ F None = ap F (no_task a.tasks t h) in omega (arith, n, e))
-told F t up down i (c ∷ calls) b h =
-    elim (is_repeats c) as (λ r. is_repeats c ≡ r
+told F t up down i (c ∷ calls) b h = elim (is_repeats c) as (λ r. is_repeats c ≡ r
     → F (slice_get b.tasks t) + count_where down (if r then [] else c ∷ this_run calls)
     ≡ count_where up (if r then [] else c ∷ this_run calls)) [
       | true ↦ (λ e. let z = again c h.0 b h.1.1 e in omega (arith, z))
@@ -132,8 +163,7 @@ quiet F u t a b x y is e h =
 -- one more, by the call that the test finds
 more : (F : Option Entry → ℕ) (u t : ℕ) (a b : PoolState) (x y : Entry) → slice_get a.tasks u ≡ Some x → b.tasks ≡ set a.tasks u y
     → F (Some y) ≡ F (Some x) + 1 → F (slice_get b.tasks t) + 0 ≡ F (slice_get a.tasks t) + one (u == t)
-more F u t a b x y is e h =
-    let g : F (Some y) + one false ≡ F (Some x) + one true = omega (arith, h) in
+more F u t a b x y is e h = let g : F (Some y) + one false ≡ F (Some x) + one true = omega (arith, h) in
     let w = written F u t a b x y true false is e g in let z = and_none (u == t) in let q = and_all (u == t) in omega (arith, w, z, q)
 
 -- ---- whether a task was dispatched
@@ -152,8 +182,7 @@ told_begun t = record { none = refl; fresh = λ class. refl; step = step }
   where
     step : (c : Call) (a b : PoolState) → Leads c a b → is_repeats c ≡ false
         → begun_at (slice_get b.tasks t) + one (no_call c) ≡ begun_at (slice_get a.tasks t) + one (dispatches t c)
-    step (Adds u held) a b l e =
-        let w = added begun_at u t a b _ false l.0 (ap (λ (x : PoolState). x.tasks) l.2.1) refl refl in
+    step (Adds u held) a b l e = let w = added begun_at u t a b _ false l.0 (ap (λ (x : PoolState). x.tasks) l.2.1) refl refl in
         let z = and_none (u == t) in omega (arith, w, z)
     step (Links s) a b l e = same_number begun_at t a b (ap (λ (x : PoolState). x.tasks) l)
     step (Expects u) a b l e = quiet begun_at u t a b l.1.was _ l.1.is (becomes l.1) refl
@@ -176,8 +205,7 @@ told_ended t = record { none = refl; fresh = λ class. refl; step = step }
   where
     step : (c : Call) (a b : PoolState) → Leads c a b → is_repeats c ≡ false
         → ended_at (slice_get b.tasks t) + one (no_call c) ≡ ended_at (slice_get a.tasks t) + one (reports t c)
-    step (Adds u held) a b l e =
-        let w = added ended_at u t a b _ false l.0 (ap (λ (x : PoolState). x.tasks) l.2.1) refl refl in
+    step (Adds u held) a b l e = let w = added ended_at u t a b _ false l.0 (ap (λ (x : PoolState). x.tasks) l.2.1) refl refl in
         let z = and_none (u == t) in omega (arith, w, z)
     step (Links s) a b l e = same_number ended_at t a b (ap (λ (x : PoolState). x.tasks) l)
     step (Expects u) a b l e = quiet ended_at u t a b l.1.was _ l.1.is (becomes l.1) refl
@@ -203,9 +231,7 @@ told_outside t = record { none = refl; fresh = λ class. refl; step = step }
         omega (arith, w)
     step (Links s) a b l e = same_number outside_at t a b (ap (λ (x : PoolState). x.tasks) l)
     step (Expects u) a b l e = more outside_at u t a b l.1.was _ l.1.is (becomes l.1) refl
-    step (Releases u) a b l e =
-        let o : l.0.task.outside ≡ l.1.was.outside = ap outside_at (sym l.0.is ∙ l.1.is) in
-        let s = l.0.some in
+    step (Releases u) a b l e = let o : l.0.task.outside ≡ l.1.was.outside = ap outside_at (sym l.0.is ∙ l.1.is) in let s = l.0.some in
         let g : outside_at (Some (one_less l.1.was)) + one true ≡ outside_at (Some l.1.was) + one false = omega (arith, o, s) in
         let w = written outside_at u t a b l.1.was _ false true l.1.is (becomes l.1) g in
         let z = and_none (u == t) in let q = and_all (u == t) in omega (arith, w, z, q)
@@ -232,15 +258,13 @@ begun_few (Some x) = by_stage x.stage
     by_stage stage.Done = omega arith
 
 pub never_twice : NeverTwice
-never_twice calls a t h =
-    let r = told begun_at t (dispatches t) no_call (told_begun t) calls a h in
+never_twice calls a t h = let r = told begun_at t (dispatches t) no_call (told_begun t) calls a h in
     let n = never_counts calls in let f = begun_few (slice_get a.tasks t) in omega (arith, r, n, f)
 
 pub after_its_inputs : AfterItsInputs
 after_its_inputs calls a b t h d = record {
   inputs = λ s r.
-      let at = d.lowest.ready.inputs s r in
-      let e : ended_at (slice_get a.tasks s) ≡ 1 = ap ended_at at.is ∙ ap stage_ended at.stage in
+      let at = d.lowest.ready.inputs s r in let e : ended_at (slice_get a.tasks s) ≡ 1 = ap ended_at at.is ∙ ap stage_ended at.stage in
       let q = told ended_at s (reports s) no_call (told_ended s) calls a h in let n = never_counts calls in omega (arith, e, q, n);
   outside = (let o = d.lowest.ready.outside in
       let e : outside_at (slice_get a.tasks t) ≡ d.lowest.ready.task.outside = ap outside_at d.lowest.ready.is in
