@@ -91,11 +91,11 @@ pub added : {ts : List Task} {ls : List Link} {rs : List ℕ} (class : ℕ) (hel
     → Holds (ts ++ new_task class (if held then 1 else 0) ∷ []) ls (set rs class (slice_index_or rs class 0 + (if
     (not held) then 1 else 0)))
 added {ts} {ls} {rs} class held i few l = let y : Task = new_task class (if held then 1 else 0) in record {
-      facts = facts_push y i.facts few l (held_few held) refl refl refl refl;
-      counts = counts_push class (slice_index_or rs class 0 + (if (not held) then 1 else 0)) y i.counts l
-          (λ n o. one_else class n (may_begin y) (λ g. o (sym g)))
-          (let a = one_here class (may_begin y) in let b = begins_if class held in omega (arith, a, b));
-    }
+  facts = facts_push y i.facts few l (held_few held) refl refl refl refl;
+  counts = counts_push class (slice_index_or rs class 0 + (if (not held) then 1 else 0)) y i.counts l
+      (λ n o. one_else class n (may_begin y) (λ g. o (sym g)))
+      (let a = one_here class (may_begin y) in let b = begins_if class held in omega (arith, a, b));
+}
 
 pub ready_few : {ts : List Task} {ls : List Link} {rs : List ℕ} (class : ℕ) → Holds ts ls rs → class < 4
     → slice_index_or rs class 0 ≤ MAX_TASKS
@@ -271,20 +271,20 @@ pub more_holds : {ts : List Task} {ls : List Link} {rs : List ℕ} (t : ℕ) (x 
     → x.stage ≡ stage.Fresh → x.outside < MAX_OUTSIDE → b ≡ (true && (x.missing == 0))
     → Holds (set ts t (more x)) ls (set rs x.class (slice_index_or rs x.class 0 - (if b then 1 else 0)))
 more_holds {ts} {ls} {rs} t x b i is fresh few e = let c = i.facts.counted t x is in record {
-      facts = owing_set t x (more x) i.facts is refl (λ u n. refl) (record {
-        class = c.class;
-        few = omega (arith, few);
-        missing = (let m = c.missing in omega (arith, m));
-        inputs = c.inputs;
-        outputs = c.outputs;
-        begun = never x.stage fresh;
-      });
-      counts = ready_set t (slice_index_or rs x.class 0 - (if b then 1 else 0)) x (more x) i.counts is c.class refl
-          (let w = fresh_begins x fresh in let v = fresh_begins (more x) fresh in let z = no x.missing in
-          let q : one b ≡ one (x.missing == 0) = ap one e in let p = one_if b in let u = one_if (x.missing == 0) in
-          let o = one_less (x.missing == 0) (slice_index_or rs x.class 0)
-          (λ h. some_ready t x i.counts is c.class (begins x fresh (zero_from x.missing h))) in omega (arith, w, v, z, o, q, p, u));
-    }
+  facts = owing_set t x (more x) i.facts is refl (λ u n. refl) (record {
+    class = c.class;
+    few = omega (arith, few);
+    missing = (let m = c.missing in omega (arith, m));
+    inputs = c.inputs;
+    outputs = c.outputs;
+    begun = never x.stage fresh;
+  });
+  counts = ready_set t (slice_index_or rs x.class 0 - (if b then 1 else 0)) x (more x) i.counts is c.class refl
+      (let w = fresh_begins x fresh in let v = fresh_begins (more x) fresh in let z = no x.missing in
+      let q : one b ≡ one (x.missing == 0) = ap one e in let p = one_if b in let u = one_if (x.missing == 0) in
+      let o = one_less (x.missing == 0) (slice_index_or rs x.class 0)
+      (λ h. some_ready t x i.counts is c.class (begins x fresh (zero_from x.missing h))) in omega (arith, w, v, z, o, q, p, u));
+}
   where
     no : (m : ℕ) → one ((m + 1) == 0) ≡ 0
     no m = grind (arith, nat_tests)

@@ -33,10 +33,10 @@ module _ (a : PoolState) (c : IsConsistent a) (runs : (t : ℕ) → IsAt stage.R
   below : (n t : ℕ) → t < n → t < length a.tasks → IsAt stage.Done t a
   below zero t l inside = absurd (omega (arith, l))
   below (suc n) t l inside = let x = at_below a.tasks t inside in record {
-        task = x.0;
-        is = x.1;
-        stage = by_stage t x.0 x.1 (λ u m. below n u (omega (arith, l, m)) (omega (arith, m, inside))) x.0.stage refl;
-      }
+    task = x.0;
+    is = x.1;
+    stage = by_stage t x.0 x.1 (λ u m. below n u (omega (arith, l, m)) (omega (arith, m, inside))) x.0.stage refl;
+  }
 
   over : IsOver a
   over t x is = by_stage t x is (λ u m. below t u m (inside u t x m is)) x.stage refl
