@@ -14,8 +14,8 @@ use Rattle.tp_dag.specs.declared.pool.Pool.TheInside.{Inside}
 use Rattle.tp_dag.specs.State.{PoolState, Entry, IsReady, is_done, IsAt, is_fresh, is_running, count_where, is_unfinished, is_dispatched}
 use Rattle.tp_dag.specs.State.{is_awaiting}
 use Rattle.tp_dag.specs.Calls.{GoesTo, with_event, Becomes, MayWait, Awaits, as_described, is_over, no_events}
-use Rattle.tp_dag.specs.Kept.{MayPassOn, one, Holds, IsPool, state_of, entry_of, kept_of, blocks, done_at, is_from_to, owed, is_ready, IsCounted}
-use Rattle.tp_dag.specs.Kept.{Owing, Facts, AreCounts, is_into, AreTallied, as_new}
+use Rattle.tp_dag.specs.Kept.{MayPassOn, one, Holds, IsPool, state_of, entry_of, kept_of, blocks, done_at, is_from_to, owed, is_ready}
+use Rattle.tp_dag.specs.Kept.{IsCounted, Owing, Facts, AreCounts, is_into, AreTallied, as_new}
 use Rattle.tp_dag.proofs.Lists.{map_write, map_get, map_long, counts_push, counts_few, map_got, set_apart, set_here, set_there, same_or}
 use Rattle.tp_dag.proofs.Lists.{first_sum, map_same, count_next, first_same}
 use Rattle.tp_dag.proofs.Tasks.{at, ready_set, some_ready, begins, may_begin, owing_set, one_here, one_else, facts_push, ready_same}
