@@ -1,6 +1,7 @@
 -- The calls of a pool: the checks of each, in their order, and what each does.
 use Rattle.std.specs.Prelude.{ℕ, ◌+◌, ◌-◌, ◌≡◌, ◌<◌, ◌≤◌, ◌&&◌, ◌||◌, ◌==◌, List, [], ◌∷◌, ◌++◌, Bool, false, not, length, map}
 use Rattle.std.specs.Prelude.{slice_get, slice_set, IsTrue, Option, Some, None, nat_le, nat_lt, if◌then◌else◌}
+use Rattle.std.specs.List.{list_all}
 use Rattle.tp_base.specs.declared.limits.TheConstants.{MAX_STEPS}
 use Rattle.tp_base.specs.declared.refusal.Refusal.TheVariants as refusal
 use Rattle.tp_base.specs.Checks.{Check}
@@ -167,4 +168,22 @@ as_described a = record a {
   started = false;
   kept = no_events a.kept;
   tasks = map (λ (x : Entry). record { class = x.class; stage = stage.Fresh; outside = 0 }) a.tasks;
+}
+
+-- the checks of `spawn`
+abbrev pub spawn_checks : PoolState → ℕ → List ℕ → ℕ → List Check
+spawn_checks a class inputs outside =
+    (nat_lt 3 class, refusal.BadSpec)
+    ∷ (not (list_all (λ s. nat_lt s (length a.tasks)) inputs), refusal.NoTask)
+    ∷ (nat_lt MAX_OUTSIDE outside, refusal.HistoryFull MAX_OUTSIDE)
+    ∷ (nat_le MAX_TASKS (length a.tasks), refusal.HistoryFull MAX_TASKS)
+    ∷ (nat_lt MAX_INPUTS (length a.inputs + length inputs), refusal.HistoryFull MAX_INPUTS)
+    ∷ (a.started && lacks_steps a (length a.tasks + 1), refusal.HistoryFull MAX_STEPS) ∷ []
+
+-- `spawn`: a task with these inputs, which waits for so many inputs from outside.
+abbrev pub with_spawned : ℕ → List ℕ → ℕ → PoolState → PoolState
+with_spawned class inputs outside a = record a {
+  grown = a.grown || a.started;
+  tasks = a.tasks ++ record { class = class; stage = stage.Fresh; outside = outside } ∷ [];
+  inputs = a.inputs ++ map (λ s. record { source = s; target = length a.tasks }) inputs;
 }
