@@ -5,7 +5,7 @@ They work on the repository that they are in, from whatever folder they are call
 import argparse
 
 from . import bench, build, capi, dag_programs, demo, docs, drawn, gate_times, lanes, library, limits, lines
-from . import mpi, mutants, new_pool, pages, proved, soak, summary, tries, words
+from . import mpi, mpi_check, mutants, new_pool, pages, proved, soak, summary, tries, words
 from .limits import cuts, generations, hostile_numbers, live, memory, pictures, progress, random_texts, reasons
 from .limits import refuse, refuse_tests, stacks, strange
 from .shipping import completion, dist, installing, manual, package
@@ -16,6 +16,7 @@ COMMANDS = {
     "capi": capi,
     "dag": dag_programs,
     "mpi": mpi,
+    "mpi-check": mpi_check,
     "demo": demo,
     "try": tries,
     "pages": pages,

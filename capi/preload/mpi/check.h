@@ -161,6 +161,7 @@ void notice_send(struct comm *comm, int to, struct notice notice);
 void notice_take(const struct notice *notice, int source);
 void announce_message(struct comm *comm, int to, int tag, int64_t bytes, const void *place, uint32_t number);
 void consume(struct comm *comm, int from, int tag);
+void notices_filter(int (*is_kept)(struct comm *comm, struct peer *peer, struct message *message));
 
 /* synchronous.c */
 void synchronous_begin(struct request *request);
@@ -168,6 +169,7 @@ void synchronous_end(struct request *request);
 void synchronous_matched(uint32_t number, int is_matched);
 void synchronous_tell(struct comm *comm, const struct notice *notice, int source, int is_matched);
 void synchronous_settle(struct comm *comm);
+int is_taken(const struct comm *comm, const struct peer *peer, const struct message *message);
 
 /* matching.c */
 void posted_add(struct request *request);
@@ -209,6 +211,9 @@ void meeting_tell_ranks(const struct need *need, int call, int count, const int 
 void meeting_wait(struct need *need, const char *name, const void *place);
 int meeting_track(int result, struct need *need, const char *name, const void *place, MPI_Request *handle);
 void meeting_mismatch(struct comm *comm, uint32_t number, int from, int call);
+
+/* lost.c */
+void lost_verify(void);
 
 /* report.c */
 void report_deadlock(const struct wait *wait);

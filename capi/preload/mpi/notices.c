@@ -112,6 +112,23 @@ void consume(struct comm *comm, int from, int tag) {
     if (comm->synchronous) synchronous_settle(comm);
 }
 
+/* After the end: forgets the messages that are not to be kept. */
+void notices_filter(int (*is_kept)(struct comm *comm, struct peer *peer, struct message *message)) {
+    for (struct comm *comm = comm_each(NULL); comm; comm = comm_each(comm))
+        for (int rank = 0; rank < comm->peer_count; rank++) {
+            struct message **at = &comm->peers[rank].first;
+            while (*at) {
+                struct message *message = *at;
+                if (is_kept(comm, &comm->peers[rank], message)) {
+                    at = &message->next;
+                } else {
+                    *at = message->next;
+                    free(message);
+                }
+            }
+        }
+}
+
 static void arrived(struct comm *comm, const struct notice *notice) {
     struct peer *peer = comm_peer(comm, notice->from);
     if (notice->number > peer->arrived) {

@@ -4,7 +4,9 @@
 #include <dlfcn.h>
 #include <link.h>
 #include <stdio.h>
+#include <stdlib.h>
 #include <string.h>
+#include <unistd.h>
 #include <unwind.h>
 
 struct walk {
@@ -45,6 +47,7 @@ static int ask_addr2line(const char *file, uintptr_t address, char *room, size_t
     FILE *pipe;
     int length = snprintf(command, sizeof command, "addr2line -f -e '%s' 0x%zx 2>/dev/null", file, (size_t)address - 1);
     if (length < 0 || (size_t)length >= sizeof command || strchr(file, '\'')) return 0;
+    unsetenv("LD_PRELOAD"); /* addr2line needs no MPI */
     pipe = popen(command, "r");
     if (!pipe) return 0;
     if (!fgets(function, sizeof function, pipe) || !fgets(line, sizeof line, pipe)) function[0] = 0;
@@ -58,6 +61,13 @@ static int ask_addr2line(const char *file, uintptr_t address, char *room, size_t
     return 1;
 }
 
+static const char *own_path(void) {
+    static char path[512];
+    ssize_t length = readlink("/proc/self/exe", path, sizeof path - 1);
+    path[length > 0 ? length : 0] = 0;
+    return path;
+}
+
 void place_text(const void *address, char *room, size_t size) {
     Dl_info about;
     struct link_map *map = NULL;
@@ -65,7 +75,7 @@ void place_text(const void *address, char *room, size_t size) {
     snprintf(room, size, "%p", address);
     if (!address || !dladdr1(address, &about, (void **)&map, RTLD_DL_LINKMAP) || !about.dli_fname) return;
     offset = (uintptr_t)address - (map ? map->l_addr : (uintptr_t)about.dli_fbase);
-    if (ask_addr2line(map && !map->l_name[0] ? "/proc/self/exe" : about.dli_fname, offset, room, size)) return;
+    if (ask_addr2line(map && !map->l_name[0] ? own_path() : about.dli_fname, offset, room, size)) return;
     snprintf(room, size, "%s+0x%zx%s%s", base_name(about.dli_fname), (size_t)offset, about.dli_sname ? " in " : "",
              about.dli_sname ? about.dli_sname : "");
 }

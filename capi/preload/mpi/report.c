@@ -126,6 +126,7 @@ static int unreceived(const struct comm **comms, const struct message **messages
     for (struct comm *comm = comm_each(NULL); comm; comm = comm_each(comm))
         for (int rank = 0; rank < comm->peer_count; rank++)
             for (const struct message *m = comm->peers[rank].first; m; m = m->next) {
+                if (is_taken(comm, &comm->peers[rank], m)) continue;
                 if (count == most) {
                     ++*left;
                     continue;
@@ -200,6 +201,7 @@ int report_lost(void) {
     struct account a = {0};
     uint64_t mine[3], sums[3];
     char head[200];
+    lost_verify();
     add_all_unreceived(&a, "LOST: ");
     mine[0] = (uint64_t)a.lost_count;
     mine[1] = checker.notices;
@@ -208,9 +210,6 @@ int report_lost(void) {
     snprintf(head, sizeof head, "%llu messages lost (%llu notices, %llu waves, %llu control messages, %d ranks, %.3f s)",
              (unsigned long long)sums[0], (unsigned long long)sums[1], (unsigned long long)detector_waves(),
              (unsigned long long)sums[2], checker.all, seconds() - checker.begin);
-    if (sums[0] || checker.has_report || checker.json_path) {
-        if (sums[0] || checker.has_report) publish(sums[0] ? "lost" : "ended", head, &a, NULL);
-        else publish("ended", head, &a, NULL);
-    }
+    if (sums[0] || checker.has_report || checker.json_path) publish(sums[0] ? "lost" : "ended", head, &a, NULL);
     return sums[0] > 0;
 }

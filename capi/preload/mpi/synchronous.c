@@ -52,13 +52,18 @@ static int count_before(const struct peer *peer, const struct message *message) 
     return count;
 }
 
+/* Whether a receive that is posted, and has not ended here, may take this message. */
+int is_taken(const struct comm *comm, const struct peer *peer, const struct message *message) {
+    return may_be_taken(comm, &message->notice, count_before(peer, message));
+}
+
 /* Informs the synchronous senders of a communicator after its posted receives or announced messages have changed. */
 void synchronous_settle(struct comm *comm) {
     for (int rank = 0; rank < comm->peer_count; rank++)
         for (struct message *m = comm->peers[rank].first; m; m = m->next) {
             int is_matched;
             if (!m->notice.number) continue;
-            is_matched = may_be_taken(comm, &m->notice, count_before(&comm->peers[rank], m));
+            is_matched = is_taken(comm, &comm->peers[rank], m);
             if (is_matched == m->is_matched) continue;
             m->is_matched = is_matched;
             synchronous_tell(comm, &m->notice, m->source, is_matched);
