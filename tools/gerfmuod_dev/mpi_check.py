@@ -87,7 +87,7 @@ WRONG = [
     Case("wrong", "barrier", (waits(0, "MPI_Barrier", "rank LAST, in collective call 1", "barrier"),)),
     Case("wrong", "cycle", (waits(0, "MPI_Recv", "message from LAST, tag 5", "cycle"),)),
     Case("wrong", "wait", (waits(0, "MPI_Waitall", "message from 1, tag 1", "two_receives"),)),
-    Case("wrong", "answer", (waits(1, "MPI_Recv", "message from 0, tag 2", "second_answer"), r"rank 0 has not received 4 bytes from rank"), 3),
+    Case("wrong", "answer", (waits(r"\d+", "MPI_Recv", "message from 0, tag 2", "second_answer"), r"rank 0 has not received 4 bytes from rank"), 3),
     Case("wrong", "wildcard", (waits(0, "MPI_Recv", "message from any, tag any", "wildcard"),)),
     Case("wrong", "probe", (waits(0, "MPI_Probe", "message from 1, tag 3", "probe"), "from rank 1, tag 4")),
     Case("wrong", "mprobe", (waits(0, "MPI_Mprobe", "message from 1, tag any", "matched_probe"),)),
@@ -100,15 +100,15 @@ WRONG = [
     Case("wrong", "ibarrier", (waits(0, "MPI_Wait", "rank LAST, in collective call 1", "nonblocking_barrier"),)),
     Case("wrong", "cancel", (waits(0, "MPI_Recv", "message from 1, tag 2", "cancelled"),)),
     Case("wrong", "ssend", (waits(0, "MPI_Ssend", "receive of 1, tag 6", "synchronous"),)),
-    Case("wrong", "reduce", (waits(0, "MPI_Reduce", "rank LAST, in collective call 1", "reduction"),)),
-    Case("wrong", "neighbours", (waits(0, "MPI_Neighbor_alltoall", "rank LAST, in collective call 1", "neighbours"),)),
+    Case("wrong", "reduce", (waits(0, "MPI_Reduce", "rank LAST, in collective call 1", "reduction"),), 2, "abort"),
+    Case("wrong", "neighbours", (waits(0, "MPI_Neighbor_alltoall", "rank LAST, in collective call 1", "neighbours"),), 2, "abort"),
     Case("wrong", "heads", (waits(0, "MPI_Send", "receive of 1, tag 9", "heads"),), 2, "sync"),
 ]
 MODES = (
     "ring synchronous master requests persistent probes collectives communicators cancelled intercommunicator files slow"
 ).split()
 RIGHT = [Case("right", mode) for mode in MODES]
-VERDICT = re.compile(r"DEADLOCK|LOST|MISMATCH|no verdict|bug of this library|without MPI_Finalize")
+VERDICT = re.compile(r"DEADLOCK|UNSAFE|LOST|MISMATCH|no verdict|bug of this library|without MPI_Finalize")
 
 
 def library_path(folder, mpi):
@@ -143,9 +143,9 @@ def compile_programs(mpi, folder):
 def output(mpi, count, program, variables):
     """Runs a program; returns what it prints, or None if it does not end."""
     environment = {**os.environ, **ROOT}
-    command = ["timeout", "-s", "KILL", str(SECONDS), *mpi.command(count, program, variables)]
+    command = ["timeout", "-k", "5", str(SECONDS), *mpi.command(count, program, variables)]
     result = running.run(command, stderr=subprocess.STDOUT, env=environment)
-    return None if result.status == 137 else result.out.decode(errors="replace")
+    return None if result.status in (124, 137) else result.out.decode(errors="replace")
 
 
 def judge(tally, mpi, path, paths, case, count):

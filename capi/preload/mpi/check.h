@@ -103,7 +103,7 @@ struct wait {
     struct request **requests; /* NULL: one that this library does not know, which may always end */
     struct comm *comm;         /* of a probe */
     int from, tag;
-    const struct need *need;
+    const struct need *need; /* of a collective call: without these ranks it cannot end, in any MPI */
     int can_end, is_judged;
     unsigned rounds;
 };
@@ -111,7 +111,7 @@ struct wait {
 struct checker {
     int is_on;
     int is_blind; /* something was not seen: this rank is never idle again, and no verdict is printed */
-    int is_sync, has_report, lost_status;
+    int is_sync, is_strict, has_report, lost_status;
     const char *json_path;
     int me, all;     /* in MPI_COMM_WORLD */
     MPI_Comm own;    /* notices and control messages */
@@ -177,6 +177,7 @@ void posted_remove(struct request *request);
 int matches(int from, int tag, const struct notice *notice);
 int can_end(const struct wait *wait);
 int has_arrived(const struct need *need, int rank);
+int meeting_can_end(const struct need *need);
 
 /* requests.c */
 struct request *request_new(enum request_kind kind, struct comm *comm, const char *call, const void *place);
@@ -198,7 +199,6 @@ void comm_track_as(MPI_Comm handle, uint64_t id);
 const char *comm_name(const struct comm *comm, char *room, size_t size);
 
 /* meeting.c: collective calls */
-enum whom { NOBODY, EVERYBODY, ROOT, ABOVE };
 struct need need_all(int has_data);
 struct need need_one(struct comm *comm, int rank, int has_data);
 struct need need_none(void);
@@ -206,8 +206,6 @@ struct need need_below(struct comm *comm, int has_data);
 struct need need_counts(struct comm *comm, const int *counts, const MPI_Datatype *types, int has_one_type);
 struct need need_ranks(int count, int *ranks);
 void meeting_begin(struct comm *comm, struct need *need, int call, int root);
-void meeting_tell(const struct need *need, int call, int root, enum whom whom);
-void meeting_tell_ranks(const struct need *need, int call, int count, const int *ranks);
 void meeting_wait(struct need *need, const char *name, const void *place);
 int meeting_track(int result, struct need *need, const char *name, const void *place, MPI_Request *handle);
 void meeting_mismatch(struct comm *comm, uint32_t number, int from, int call);
@@ -216,6 +214,6 @@ void meeting_mismatch(struct comm *comm, uint32_t number, int from, int call);
 void lost_verify(void);
 
 /* report.c */
-void report_deadlock(const struct wait *wait);
+void report_deadlock(const struct wait *wait, int is_unsafe);
 int report_lost(void);
 #endif

@@ -1,18 +1,17 @@
 /* collectives.c: collective calls, blocking and nonblocking. Each is announced, and then made as the program makes it.
  *
- * A blocking call first waits for the ranks without whose data it cannot end; MPI_Barrier, for all. So a rank that waits
- * is idle until they have announced the call. */
+ * What a rank needs are the ranks whose data come to it. A barrier needs all. */
 #include "wrapper.h"
 
 #define BARE(...) __VA_ARGS__
 
-/* COLLECTIVE(Name, name, ranks that are told, root, what it needs, parameters, arguments) */
-#define COLLECTIVE(name, small, whom, root, needs, parameters, arguments)                                     \
+/* COLLECTIVE(Name, name, root, what it needs, parameters, arguments) */
+#define COLLECTIVE(name, small, root, needs, parameters, arguments)                                           \
     int MPI_##name(BARE parameters) {                                                                         \
         struct comm *c = comm_of(comm);                                                                       \
         ENTER;                                                                                                \
         if (!c) return PMPI_##name(BARE arguments);                                                           \
-        meet(c, needs, CALL_##name, root, whom, "MPI_" #name, CALLER);                                        \
+        meet(c, needs, CALL_##name, root, "MPI_" #name, CALLER);                                              \
         int result = PMPI_##name(BARE arguments);                                                             \
         detector_glance();                                                                                    \
         return result;                                                                                        \
@@ -24,7 +23,6 @@
         if (!c) return PMPI_I##small(BARE arguments, handle);                                                 \
         need = needs;                                                                                         \
         meeting_begin(c, &need, CALL_##name + CALL_NONBLOCKING, root);                                        \
-        meeting_tell(&need, CALL_##name + CALL_NONBLOCKING, root, whom);                                      \
         return meeting_track(PMPI_I##small(BARE arguments, handle), &need, "MPI_I" #small, CALLER, handle);   \
     }
 
@@ -37,64 +35,61 @@ static struct need counts_to_root(struct comm *comm, int root, const int *counts
     return comm->rank == root ? need_counts(comm, counts, &type, 1) : need_none();
 }
 
-/* The root tells all others that it has come; other ranks tell nobody. */
-#define AS_ROOT(root) (c->rank == (root) ? EVERYBODY : NOBODY)
+COLLECTIVE(Barrier, barrier, -1, need_all(1), (MPI_Comm comm), (comm))
 
-COLLECTIVE(Barrier, barrier, EVERYBODY, -1, need_all(1), (MPI_Comm comm), (comm))
-
-COLLECTIVE(Bcast, bcast, AS_ROOT(root), root, from_root(c, root, bytes_of(n, t)),
+COLLECTIVE(Bcast, bcast, root, from_root(c, root, bytes_of(n, t)),
            (void *b, int n, MPI_Datatype t, int root, MPI_Comm comm), (b, n, t, root, comm))
 
-COLLECTIVE(Gather, gather, ROOT, root, to_root(c, root, c->rank == root ? bytes_of(m, u) : 0),
+COLLECTIVE(Gather, gather, root, to_root(c, root, c->rank == root ? bytes_of(m, u) : 0),
            (const void *b, int n, MPI_Datatype t, void *d, int m, MPI_Datatype u, int root, MPI_Comm comm),
            (b, n, t, d, m, u, root, comm))
 
-COLLECTIVE(Gatherv, gatherv, ROOT, root, counts_to_root(c, root, m, u),
+COLLECTIVE(Gatherv, gatherv, root, counts_to_root(c, root, m, u),
            (const void *b, int n, MPI_Datatype t, void *d, const int *m, const int *at, MPI_Datatype u, int root, MPI_Comm comm),
            (b, n, t, d, m, at, u, root, comm))
 
-COLLECTIVE(Scatter, scatter, AS_ROOT(root), root, from_root(c, root, c->rank == root ? 0 : bytes_of(m, u)),
+COLLECTIVE(Scatter, scatter, root, from_root(c, root, c->rank == root ? 0 : bytes_of(m, u)),
            (const void *b, int n, MPI_Datatype t, void *d, int m, MPI_Datatype u, int root, MPI_Comm comm),
            (b, n, t, d, m, u, root, comm))
 
-COLLECTIVE(Scatterv, scatterv, AS_ROOT(root), root, from_root(c, root, c->rank == root ? 0 : bytes_of(m, u)),
+COLLECTIVE(Scatterv, scatterv, root, from_root(c, root, c->rank == root ? 0 : bytes_of(m, u)),
            (const void *b, const int *n, const int *at, MPI_Datatype t, void *d, int m, MPI_Datatype u, int root, MPI_Comm comm),
            (b, n, at, t, d, m, u, root, comm))
 
-COLLECTIVE(Allgather, allgather, EVERYBODY, -1, need_all(bytes_of(m, u) > 0),
+COLLECTIVE(Allgather, allgather, -1, need_all(bytes_of(m, u) > 0),
            (const void *b, int n, MPI_Datatype t, void *d, int m, MPI_Datatype u, MPI_Comm comm), (b, n, t, d, m, u, comm))
 
-COLLECTIVE(Allgatherv, allgatherv, EVERYBODY, -1, need_counts(c, m, &u, 1),
+COLLECTIVE(Allgatherv, allgatherv, -1, need_counts(c, m, &u, 1),
            (const void *b, int n, MPI_Datatype t, void *d, const int *m, const int *at, MPI_Datatype u, MPI_Comm comm),
            (b, n, t, d, m, at, u, comm))
 
-COLLECTIVE(Alltoall, alltoall, EVERYBODY, -1, need_all(bytes_of(m, u) > 0),
+COLLECTIVE(Alltoall, alltoall, -1, need_all(bytes_of(m, u) > 0),
            (const void *b, int n, MPI_Datatype t, void *d, int m, MPI_Datatype u, MPI_Comm comm), (b, n, t, d, m, u, comm))
 
-COLLECTIVE(Alltoallv, alltoallv, EVERYBODY, -1, need_counts(c, m, &u, 1),
+COLLECTIVE(Alltoallv, alltoallv, -1, need_counts(c, m, &u, 1),
            (const void *b, const int *n, const int *from, MPI_Datatype t, void *d, const int *m, const int *at, MPI_Datatype u,
             MPI_Comm comm),
            (b, n, from, t, d, m, at, u, comm))
 
-COLLECTIVE(Alltoallw, alltoallw, EVERYBODY, -1, need_counts(c, m, u, 0),
+COLLECTIVE(Alltoallw, alltoallw, -1, need_counts(c, m, u, 0),
            (const void *b, const int *n, const int *from, const MPI_Datatype *t, void *d, const int *m, const int *at,
             const MPI_Datatype *u, MPI_Comm comm),
            (b, n, from, t, d, m, at, u, comm))
 
-COLLECTIVE(Reduce, reduce, ROOT, root, to_root(c, root, bytes_of(n, t)),
+COLLECTIVE(Reduce, reduce, root, to_root(c, root, bytes_of(n, t)),
            (const void *b, void *d, int n, MPI_Datatype t, MPI_Op o, int root, MPI_Comm comm), (b, d, n, t, o, root, comm))
 
-COLLECTIVE(Allreduce, allreduce, EVERYBODY, -1, need_all(bytes_of(n, t) > 0),
+COLLECTIVE(Allreduce, allreduce, -1, need_all(bytes_of(n, t) > 0),
            (const void *b, void *d, int n, MPI_Datatype t, MPI_Op o, MPI_Comm comm), (b, d, n, t, o, comm))
 
-COLLECTIVE(Reduce_scatter, reduce_scatter, EVERYBODY, -1, need_all(bytes_of(n[c->rank], t) > 0),
+COLLECTIVE(Reduce_scatter, reduce_scatter, -1, need_all(bytes_of(n[c->rank], t) > 0),
            (const void *b, void *d, const int *n, MPI_Datatype t, MPI_Op o, MPI_Comm comm), (b, d, n, t, o, comm))
 
-COLLECTIVE(Reduce_scatter_block, reduce_scatter_block, EVERYBODY, -1, need_all(bytes_of(n, t) > 0),
+COLLECTIVE(Reduce_scatter_block, reduce_scatter_block, -1, need_all(bytes_of(n, t) > 0),
            (const void *b, void *d, int n, MPI_Datatype t, MPI_Op o, MPI_Comm comm), (b, d, n, t, o, comm))
 
-COLLECTIVE(Scan, scan, ABOVE, -1, need_below(c, bytes_of(n, t) > 0),
+COLLECTIVE(Scan, scan, -1, need_below(c, bytes_of(n, t) > 0),
            (const void *b, void *d, int n, MPI_Datatype t, MPI_Op o, MPI_Comm comm), (b, d, n, t, o, comm))
 
-COLLECTIVE(Exscan, exscan, ABOVE, -1, need_below(c, bytes_of(n, t) > 0),
+COLLECTIVE(Exscan, exscan, -1, need_below(c, bytes_of(n, t) > 0),
            (const void *b, void *d, int n, MPI_Datatype t, MPI_Op o, MPI_Comm comm), (b, d, n, t, o, comm))

@@ -7,7 +7,7 @@
         struct comm *old = comm_of(comm);                                                                   \
         int result;                                                                                         \
         ENTER;                                                                                              \
-        if (old) meet(old, need_all(1), CALL_##name, -1, EVERYBODY, "MPI_" #name, CALLER);                  \
+        if (old) meet(old, need_all(1), CALL_##name, -1, "MPI_" #name, CALLER);                             \
         result = PMPI_##name arguments;                                                                     \
         if (result == MPI_SUCCESS) comm_track(*made);                                                       \
         return result;                                                                                      \
@@ -68,7 +68,6 @@ int MPI_Comm_idup(MPI_Comm comm, MPI_Comm *made, MPI_Request *handle) {
     ENTER;
     if (!old) return PMPI_Comm_idup(comm, made, handle);
     meeting_begin(old, &need, CALL_Comm_idup, -1);
-    meeting_tell(&need, CALL_Comm_idup, -1, EVERYBODY);
     result = meeting_track(PMPI_Comm_idup(comm, made, handle), &need, "MPI_Comm_idup", CALLER, handle);
     if (result == MPI_SUCCESS) {
         struct request *request = request_find(*handle);

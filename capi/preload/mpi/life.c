@@ -12,6 +12,7 @@ static pid_t process_id;
 static int read_option(const char *option) {
     if (!strcmp(option, "off")) return 0;
     if (!strcmp(option, "sync")) checker.is_sync = 1;
+    else if (!strcmp(option, "abort")) checker.is_strict = 1;
     else if (!strcmp(option, "report")) checker.has_report = 1;
     else if (!strncmp(option, "status=", 7)) checker.lost_status = atoi(option + 7);
     else if (!strncmp(option, "json=", 5)) checker.json_path = strdup(option + 5);

@@ -62,13 +62,19 @@ int has_arrived(const struct need *need, int rank) {
     return rank < need->comm->peer_count && need->comm->peers[rank].arrived >= need->number;
 }
 
-static int meeting_can_end(const struct need *need) {
+int meeting_can_end(const struct need *need) {
     int all = need->count < 0 ? need->comm->size : need->count;
     for (int n = 0; n < all; n++) {
         int rank = need->count < 0 ? n : need->ranks ? need->ranks[n] : need->one;
         if (rank != need->comm->rank && !has_arrived(need, rank)) return 0;
     }
     return 1;
+}
+
+/* A blocking collective call waits here for all, as the standard allows. */
+static int have_all_arrived(const struct need *need) {
+    struct need all = {.comm = need->comm, .number = need->number, .count = -1};
+    return meeting_can_end(&all);
 }
 
 static int request_can_end(const struct request *request) {
@@ -90,7 +96,7 @@ int can_end(const struct wait *wait) {
     case WAIT_ALL:
     case WAIT_ANY: return requests_can_end(wait);
     case WAIT_PROBE: return may_receive(wait->comm, wait->from, wait->tag, NULL);
-    case WAIT_MEETING: return meeting_can_end(wait->need);
+    case WAIT_MEETING: return have_all_arrived(wait->need);
     default: return 0;
     }
 }

@@ -1,7 +1,9 @@
 /* meeting.c: who has come to a collective call, and who must come before it can end.
  *
- * Each rank numbers the collective calls of a communicator, in the order that is the same at all ranks, and announces a call
- * to the ranks that wait for it. By default a rank waits only for ranks whose data it needs. */
+ * Each rank numbers the collective calls of a communicator, in the order that is the same at all ranks, and announces each to
+ * all others. A blocking call waits for all of them, which the standard allows. A `need` has those without whose data the
+ * call cannot end in any MPI. If ENDED comes while a rank has all that it needs, the program is not deadlocked for certain, but
+ * it relies on what MPI does not guarantee: then all ranks are let go. */
 #include "check.h"
 #include <stdio.h>
 #include <stdlib.h>
@@ -44,7 +46,13 @@ void meeting_mismatch(struct comm *comm, uint32_t number, int from, int call) {
             comm_name(comm, name, sizeof name), comm->world[comm->rank], comm->world[from]);
 }
 
-/* Numbers the call. In the mode `sync` each rank waits for all, as the standard allows. */
+static void tell_others(const struct need *need, int code) {
+    struct notice notice = {.kind = NOTICE_ARRIVED, .number = need->number, .call = code};
+    for (int n = 0; n < need->comm->size; n++)
+        if (n != need->comm->rank) notice_send(need->comm, n, notice);
+}
+
+/* Numbers the call, and announces it. In the mode `sync` no call can end before all have come. */
 void meeting_begin(struct comm *comm, struct need *need, int call, int root) {
     need->comm = comm;
     need->number = ++comm->collectives;
@@ -52,31 +60,14 @@ void meeting_begin(struct comm *comm, struct need *need, int call, int root) {
     if (checker.is_sync) need->count = -1;
     for (int n = 0; n < comm->peer_count; n++)
         if (comm->peers[n].arrived == need->number) meeting_mismatch(comm, need->number, n, comm->peers[n].call);
+    tell_others(need, call_code(call, root));
 }
 
-static void tell(const struct need *need, int code, int rank) {
-    struct notice notice = {.kind = NOTICE_ARRIVED, .number = need->number, .call = code};
-    if (rank != need->comm->rank) notice_send(need->comm, rank, notice);
-}
-
-void meeting_tell(const struct need *need, int call, int root, enum whom whom) {
-    struct comm *comm = need->comm;
-    int code = call_code(call, root), first = whom == ABOVE ? comm->rank + 1 : 0;
-    if (checker.is_sync) whom = EVERYBODY;
-    if (whom == ROOT) tell(need, code, root);
-    if (whom == EVERYBODY || whom == ABOVE)
-        for (int n = checker.is_sync ? 0 : first; n < comm->size; n++) tell(need, code, n);
-}
-
-void meeting_tell_ranks(const struct need *need, int call, int count, const int *ranks) {
-    for (int n = 0; n < count; n++) tell(need, call_code(call, -1), ranks[n]);
-}
-
-/* Waits until all that this rank needs have come; then the program's call is made as it is. */
+/* Waits until all have come, and then the program's call is made as it is. */
 void meeting_wait(struct need *need, const char *name, const void *place) {
     struct wait wait = {.kind = WAIT_MEETING, .call = name, .place = place, .need = need};
     while (detector_poll()) {}
-    while (!can_end(&wait)) detector_rest(&wait);
+    while (!checker.is_blind && !can_end(&wait)) detector_rest(&wait);
     detector_resume();
     free(need->ranks);
     need->ranks = NULL;

@@ -1,4 +1,4 @@
-/* neighbours.c: neighbourhood collective calls. A rank waits for its sources, and tells its destinations. */
+/* neighbours.c: neighbourhood collective calls. A rank needs the data of its sources. */
 #include "wrapper.h"
 #include <stdlib.h>
 
@@ -59,19 +59,14 @@ enum { ONE_COUNT = 1, ONE_TYPE = 2 };
 static struct need meet_neighbours(struct comm *comm, int call, const int *counts, const MPI_Datatype *types, int is_one) {
     struct neighbours all = {0};
     struct need need;
-    int kind, kept, known = 0;
+    int kind;
     PMPI_Topo_test(comm->handle, &kind);
     if (kind == MPI_CART) cartesian(&all, comm->handle);
     else if (kind == MPI_GRAPH) graph(&all, comm->handle, comm->rank);
     else if (kind == MPI_DIST_GRAPH) distributed_graph(&all, comm->handle);
     else room_for(&all, 0, 0);
-    kept = keep_sources(&all, comm->rank, counts, types, is_one);
-    need = need_ranks(kept, all.sources);
+    need = need_ranks(keep_sources(&all, comm->rank, counts, types, is_one), all.sources);
     meeting_begin(comm, &need, call, -1);
-    need.count = kept; /* in the mode `sync`, too: only neighbours tell each other */
-    for (int n = 0; n < all.out; n++)
-        if (all.destinations[n] >= 0) all.destinations[known++] = all.destinations[n];
-    meeting_tell_ranks(&need, call, known, all.destinations);
     free(all.destinations);
     return need;
 }

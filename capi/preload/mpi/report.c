@@ -101,7 +101,7 @@ static void add_wait(struct account *a, const struct wait *wait) {
         return;
     }
     if (wait->kind == WAIT_PROBE) add_partner(a, "message", wait->comm, "from", wait->from, wait->tag);
-    if (wait->kind == WAIT_MEETING) add_missing(a, wait->need);
+    if (wait->kind == WAIT_MEETING) add_missing(a, &(struct need){.comm = wait->need->comm, .number = wait->need->number, .count = -1});
     if (wait->kind == WAIT_FINALIZE) text_add(&a->rows, "the other ranks");
     end_row(a, wait->place);
 }
@@ -188,13 +188,15 @@ static void publish(const char *verdict, const char *head, const struct account 
     text_free(&table);
 }
 
-void report_deadlock(const struct wait *wait) {
+void report_deadlock(const struct wait *wait, int is_unsafe) {
     struct account a = {0};
     char head[200];
     add_wait(&a, wait);
     add_all_unreceived(&a, "");
-    snprintf(head, sizeof head, "DEADLOCK: %d ranks wait, and no message is in flight that could end a call", checker.all);
-    publish("deadlock", head, &a, wait);
+    snprintf(head, sizeof head, "%s: %d ranks wait, and no message is in flight that could end a call%s",
+             is_unsafe ? "UNSAFE" : "DEADLOCK", checker.all,
+             is_unsafe ? ", unless a collective call ends before all its ranks come, as MPI does not guarantee" : "");
+    publish(is_unsafe ? "unsafe" : "deadlock", head, &a, wait);
 }
 
 int report_lost(void) {

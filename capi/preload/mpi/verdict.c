@@ -6,7 +6,7 @@
 #include <stdlib.h>
 #include <string.h>
 
-enum { FINALIZING, LEAVING, DEBTS, UNSEEN, STATES };
+enum { FINALIZING, DEBTS, UNSEEN, UNSAFE, STATES };
 static const double CONFIRMATION_SECONDS = 0.2;
 enum { DEADLOCK_STATUS = 86 };
 
@@ -19,9 +19,9 @@ int is_over(void) { return step == OVER; }
 
 static void begin_agreement(const struct wait *wait) {
     states[FINALIZING] = wait->kind == WAIT_FINALIZE;
-    states[LEAVING] = wait->kind == WAIT_EXIT;
     states[DEBTS] = checker.debts > 0;
     states[UNSEEN] = checker.unseen > 0;
+    states[UNSAFE] = wait->kind == WAIT_MEETING && meeting_can_end(wait->need);
     PMPI_Iallreduce(states, sums, STATES, MPI_INT, MPI_SUM, checker.report, &agreement);
     step = AGREEING;
 }
@@ -54,8 +54,12 @@ void conclude(const struct wait *wait) {
     case GATHERING:
         PMPI_Test(&agreement, &is_done, MPI_STATUS_IGNORE);
         if (!is_done) break;
-        report_deadlock(wait);
+        report_deadlock(wait, sums[UNSAFE] > 0);
         PMPI_Barrier(checker.report); /* rank 0 has printed */
+        if (sums[UNSAFE] && !checker.is_strict) {
+            checker.is_blind = 1; /* all ranks make their calls now, and MPI shows what follows */
+            break;
+        }
         PMPI_Abort(MPI_COMM_WORLD, DEADLOCK_STATUS);
         exit(DEADLOCK_STATUS);
     case OVER: break;

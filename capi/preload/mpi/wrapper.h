@@ -27,9 +27,8 @@ static inline int64_t bytes_of(int count, MPI_Datatype type) {
     return (int64_t)count * size;
 }
 
-static inline void meet(struct comm *comm, struct need need, int call, int root, enum whom whom, const char *name, const void *place) {
+static inline void meet(struct comm *comm, struct need need, int call, int root, const char *name, const void *place) {
     meeting_begin(comm, &need, call, root);
-    meeting_tell(&need, call, root, whom);
     meeting_wait(&need, name, place);
 }
 
