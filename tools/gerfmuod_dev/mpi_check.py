@@ -26,6 +26,7 @@ FOLDER = "capi/preload/mpi"
 OPTIONS = ["-std=gnu11", "-O2", "-Wall", "-Wextra", "-Werror", "-Wno-stringop-overflow", "-Icapi"]
 LINK = ["-Llib", "-Wl,-Bstatic", "-lgerfmuod", "-Wl,-Bdynamic", "-ldl", "-Wl,-z,defs"]
 EXPORTS = f"-Wl,--version-script={FOLDER}/mpi_check.map"
+FORTRAN_OPTIONS = ["-g", "-w", "-fallow-argument-mismatch"]
 SECONDS = 120
 # functions of MPI-3.1 by which a message is sent or received, or that are collective, by the words of their names
 SENDS = re.compile(
@@ -108,6 +109,14 @@ MODES = (
     "ring synchronous master requests persistent probes collectives communicators cancelled intercommunicator files slow"
 ).split()
 RIGHT = [Case("right", mode) for mode in MODES]
+FORTRAN = [
+    case
+    for name in ("fortran", "fortran_2008")
+    for case in (
+        Case(name, "right"),
+        Case(name, "wrong", (waits(0, "MPI_Recv", "message from 1, tag 8", r"\w+"), "from rank 1, tag 7")),
+    )
+]
 VERDICT = re.compile(r"DEADLOCK|UNSAFE|LOST|MISMATCH|no verdict|bug of this library|without MPI_Finalize")
 
 
@@ -134,9 +143,9 @@ def compile_programs(mpi, folder):
     for name in ("wrong", "right", "cost"):
         paths[name] = f"{folder}/{name}_{mpi.compiler}"
         output_of([mpi.compiler, *OPTIONS, "-O1", "-g", f"{FOLDER}/programs/{name}.c", "-o", paths[name]])
-    if shutil.which(mpi.fortran):
-        paths["fortran"] = f"{folder}/fortran_{mpi.compiler}"
-        output_of([mpi.fortran, "-g", "-w", "-fallow-argument-mismatch", f"{FOLDER}/programs/fortran.f90", "-o", paths["fortran"]])
+    for name in ("fortran", "fortran_2008") if shutil.which(mpi.fortran) else ():
+        paths[name] = f"{folder}/{name}_{mpi.compiler}"
+        output_of([mpi.fortran, *FORTRAN_OPTIONS, f"{FOLDER}/programs/{name}.f90", "-J", folder, "-o", paths[name]])
     return paths
 
 
@@ -170,12 +179,6 @@ def judge_all(tally, mpi, path, paths, options):
             repeats = options.repeat or ((20 if case.expected else 100) if options.full else 1)
             for _ in range(repeats if count >= case.least else 0):
                 judge(tally, mpi, path, paths, case, count)
-
-
-FORTRAN = [
-    Case("fortran", "right"),
-    Case("fortran", "wrong", (waits(0, "MPI_Recv", "message from 1, tag 8", r"\w+"), "from rank 1, tag 7")),
-]
 
 
 def judge_names(tally, mpi, path):

@@ -1,7 +1,8 @@
-/* fortran.c: programs in Fortran. MPICH's Fortran library calls the MPI_ functions, so this library sees its calls.
+/* fortran.c: programs in Fortran. Their calls come through a library of MPI that calls functions in C.
  *
- * That of Open MPI calls the PMPI_ functions. Here the addresses of these in its table of imported functions are replaced by
- * the addresses of the MPI_ functions of this library. */
+ * For the module mpi, that of MPICH calls MPI_ functions, which this library sees. For mpi_f08 it calls some PMPI_ functions, and
+ * that of Open MPI calls only these. Here their addresses in the table of imported functions are replaced by the addresses of
+ * the MPI_ functions of this library. */
 #define _GNU_SOURCE
 #include "check.h"
 #include <dlfcn.h>
@@ -77,7 +78,9 @@ static void replace_imports(const struct dl_phdr_info *info, const ElfW(Dyn) *dy
     }
 }
 
-static int is_open_mpi_binding(const char *name) { return strstr(name, "libmpi_mpifh") || strstr(name, "libmpi_usempi"); }
+static int is_binding(const char *name) {
+    return strstr(name, "libmpi_mpifh") || strstr(name, "libmpi_usempi") || strstr(name, "libmpichfort");
+}
 
 static void note_range(const struct dl_phdr_info *info) {
     for (int n = 0; n < info->dlpi_phnum && binding_count < MOST_BINDINGS; n++) {
@@ -91,9 +94,9 @@ static void note_range(const struct dl_phdr_info *info) {
 static int visit(struct dl_phdr_info *info, size_t size, void *data) {
     (void)size;
     (void)data;
-    if (!is_open_mpi_binding(info->dlpi_name) && !strstr(info->dlpi_name, "libmpichfort")) return 0;
+    if (!is_binding(info->dlpi_name)) return 0;
     note_range(info);
-    for (int n = 0; is_open_mpi_binding(info->dlpi_name) && n < info->dlpi_phnum; n++)
+    for (int n = 0; n < info->dlpi_phnum; n++)
         if (info->dlpi_phdr[n].p_type == PT_DYNAMIC)
             replace_imports(info, (const void *)(info->dlpi_addr + info->dlpi_phdr[n].p_vaddr));
     return 0;
