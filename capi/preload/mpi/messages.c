@@ -106,7 +106,8 @@ int MPI_Recv(void *to, int count, MPI_Datatype type, int from, int tag, MPI_Comm
 }
 
 /* Sends and receives, and waits for both. */
-static int exchange(const struct envelope *sent, const void *from, const struct envelope *received, void *to, MPI_Status *status) {
+static int exchange(const struct envelope *sent, const void *from, const struct envelope *received, void *to,
+                    MPI_Status *status) {
     struct request *requests[2];
     struct wait wait = {.kind = WAIT_ALL, .call = sent->call, .place = sent->place};
     MPI_Request handles[2];

@@ -101,13 +101,17 @@ static void add_wait(struct account *a, const struct wait *wait) {
         return;
     }
     if (wait->kind == WAIT_PROBE) add_partner(a, "message", wait->comm, "from", wait->from, wait->tag);
-    if (wait->kind == WAIT_MEETING) add_missing(a, &(struct need){.comm = wait->need->comm, .number = wait->need->number, .count = -1});
+    if (wait->kind == WAIT_MEETING) {
+        struct need all = {.comm = wait->need->comm, .number = wait->need->number, .count = -1};
+        add_missing(a, &all);
+    }
     if (wait->kind == WAIT_FINALIZE) text_add(&a->rows, "the other ranks");
     end_row(a, wait->place);
 }
 
 /* A message that was announced to this rank and not received. */
-static void add_unreceived(struct account *a, const char *head, const struct comm *comm, const struct message *m, const char *place) {
+static void add_unreceived(struct account *a, const char *head, const struct comm *comm, const struct message *m,
+                           const char *place) {
     char name[MPI_MAX_OBJECT_NAME];
     int source = m->source;
     comm_name(comm, name, sizeof name);
@@ -169,7 +173,8 @@ static struct text rank_in_json(const struct account *a, const struct wait *wait
         text_add(&json, ",\"place\":");
         text_json(&json, place);
     }
-    text_add(&json, ",\"waits\":[%s],\"unreceived\":[%s]}", a->waits.bytes ? a->waits.bytes : "", a->lost.bytes ? a->lost.bytes : "");
+    text_add(&json, ",\"waits\":[%s],\"unreceived\":[%s]}", a->waits.bytes ? a->waits.bytes : "",
+             a->lost.bytes ? a->lost.bytes : "");
     return json;
 }
 

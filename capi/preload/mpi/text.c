@@ -100,7 +100,8 @@ static void scale(int *numbers, int factor) {
 /* The addresses go to their ranks, and the texts come back, in the order of ranks and then of the questions. */
 void ask_places(int count, const int *ranks, const uint64_t *addresses, char (*texts)[PLACE_SIZE]) {
     size_t size = sizeof(int) * (size_t)checker.all;
-    int *out = allocate(size), *out_at = allocate(size), *in = allocate(size), *in_at = allocate(size), *next = allocate(size), all;
+    int *out = allocate(size), *out_at = allocate(size), *in = allocate(size), *in_at = allocate(size), all;
+    int *next = allocate(size);
     uint64_t *sorted = allocate(sizeof *sorted * (size_t)(count + 1)), *asked;
     char (*found)[PLACE_SIZE], (*back)[PLACE_SIZE] = allocate(sizeof *back * (size_t)(count + 1));
     for (int n = 0; n < count; n++) out[ranks[n]]++;

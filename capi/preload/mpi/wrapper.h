@@ -44,6 +44,7 @@ struct envelope {
     MPI_Comm comm;
 };
 typedef int send_function(const void *, int, MPI_Datatype, int, int, MPI_Comm, MPI_Request *);
-int start_send(const struct envelope *envelope, const void *from, send_function *send, struct request **request, MPI_Request *handle);
+int start_send(const struct envelope *envelope, const void *from, send_function *send, struct request **request,
+               MPI_Request *handle);
 int start_receive(const struct envelope *envelope, void *to, struct request **request, MPI_Request *handle);
 #endif
