@@ -4,7 +4,7 @@
  * the program sends is announced. If a call ends all the same, its rank does not come to the barrier, so nothing is printed. */
 #include "check.h"
 #include <stdlib.h>
-#include <string.h>
+#include <time.h>
 
 enum { FINALIZING, DEBTS, UNSEEN, UNSAFE, STATES };
 static const double CONFIRMATION_SECONDS = 0.2;
@@ -60,6 +60,7 @@ void conclude(const struct wait *wait) {
             checker.is_blind = 1; /* all ranks make their calls now, and MPI shows what follows */
             break;
         }
+        nanosleep(&(struct timespec){1, 0}, NULL); /* mpirun drops at an abort what it has not passed on yet */
         PMPI_Abort(MPI_COMM_WORLD, DEADLOCK_STATUS);
         exit(DEADLOCK_STATUS);
     case OVER: break;
