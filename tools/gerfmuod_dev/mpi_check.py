@@ -36,7 +36,7 @@ SENDS = re.compile(
     r"|(Cart|Graph|Dist_graph)_create(_adjacent)?|Cart_sub|Intercomm_(create|merge)|Init(_thread)?|Finalize)"
 )
 LOCAL = re.compile(r"MPI_Reduce_local")
-PERSISTENT_COLLECTIVE = re.compile(r"\w+_init$")
+PERSISTENT_COLLECTIVE = re.compile(r"\w+(_init|_c|idup_with_info)$")  # and other names of MPI 4
 
 
 @dataclass(frozen=True)
