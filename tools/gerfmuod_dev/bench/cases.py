@@ -121,7 +121,7 @@ def grid_programs(bench, arguments, places):
 
 
 def kernel(bench):
-    """One task of so many iterations that all else takes less than a hundredth of its time."""
+    """One task whose iterations take at least 100 times as long as all else."""
     candidates = grid_programs(bench, ["no_comm", "1", "1", str(KERNEL_ITERATIONS)], GRID_PLACES[:1])
     return measure(bench, Case("patterns", f"one task, {KERNEL_ITERATIONS:,} iterations", "task", 1), candidates)
 

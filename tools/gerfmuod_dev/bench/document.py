@@ -23,7 +23,7 @@ PLOT_TITLES = {
 
 
 def refusal_of(measurements, folder):
-    """Returns what a page says in place of a table of these measurements; an empty text if they have one.
+    """Returns what a page says instead of a table of these measurements; an empty text if they have one.
 
     No table outside of docs/measurements is drawn from rows that are marked, and none from rows of several series.
     """
