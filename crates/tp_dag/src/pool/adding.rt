@@ -1,220 +1,259 @@
-//! The calls that add tasks and inputs, before the start and after it.
-ghost use Rattle.std.specs.Prelude.{◌≡◌, ◌≢◌, ◌<◌, ◌≤◌, ◌+◌, ◌⊎◌, ℕ, length, IfOk, IfErr, IfSome, IfNone, OnOk, OnErr, IsTrue, IsFalse};
-ghost use Rattle.std.specs.Prelude.{slice_get, true, Err, Some};
+//! The calls that describe the graph: tasks, their inputs, and inputs from outside.
+ghost use Rattle.std.specs.Prelude.{◌&&◌, ◌==◌, ◌≡◌, ◌≤◌, ◌<◌, ◌+◌, ◌-◌, ◌⊎◌, ℕ};
+ghost use Rattle.std.specs.Prelude.{length, IfOk, IfErr, IfSome, IfNone, OnOk, OnErr, IsTrue, IsFalse};
+ghost use Rattle.std.specs.Prelude.{slice_get, true, false, Ok, Err, Some, None, nat_lt};
 ghost use Rattle.tp_base.specs.declared.limits.TheConstants.{MAX_STEPS};
 ghost use Rattle.tp_base.specs.Checks.{first_refusal};
-ghost use Rattle.tp_dag.specs.declared.limits.TheConstants.{MAX_INPUTS, MAX_TASKS};
 ghost use Rattle.tp_dag.specs.declared.entry.Stage.TheVariants as stage;
-ghost use Rattle.tp_dag.specs.State.{IsTaskAdded, IsInputAdded, IsFinished, IsInactive, MayWait, extends, task_checks, input_checks};
-ghost use Rattle.tp_dag.specs.Journal.{keeps, is_of_room};
-ghost use Rattle.tp_dag.specs.Kept.{extend};
+ghost use Rattle.tp_dag.specs.declared.limits.TheConstants.{MAX_INPUTS, MAX_TASKS, MAX_OUTSIDE};
+ghost use Rattle.tp_dag.specs.State.{is_ready_now};
+ghost use Rattle.tp_dag.specs.Calls.{task_checks, input_checks, outside_checks, release_checks, with_task, with_input, MayHaveInput};
+ghost use Rattle.tp_dag.specs.Calls.{Becomes, one_more, one_less, MayWait, Awaits, lacks_steps};
 
-use crate::choice::{STEPS_EACH, may_begin, steps_of_input};
-use crate::entry::{Progress, Stage};
-use crate::limits::{MAX_INPUTS, MAX_TASKS};
+use crate::counts::{add_if, and_zero, both, either, one_if, take_if};
+use crate::entry::{Link, Stage, Task, is_done, is_fresh};
+use crate::events::make_room;
+use crate::limits::{MAX_INPUTS, MAX_OUTSIDE, MAX_TASKS};
 use crate::pool::Pool;
-use tp_base::{Inputs, MAX_STEPS, NodeId, Refusal, Step, TaskId};
-
-/// The progress of a pool after one more task or input.
-fn extended(progress: Progress) -> Progress
-    ensures { result ≡ extend progress }
-{
-    Progress {
-        extended: progress.extended || progress.started,
-        ..progress
-    }
-}
+use tp_base::{MAX_STEPS, Refusal};
 
 impl Pool {
-    /// Adds a task at a node, of a class 0 (which is dispatched first) to 3, that waits for no input so far. Its number is how many
-    /// tasks there were before it.
+    /// Adds a task of a class 0, which is dispatched first, to 3, and returns its number, which is how many tasks there were before it.
     ///
-    /// After `start`, a body that runs may add tasks. Such a task is held: it waits for one input from outside, so that no thread can be
-    /// handed it half described. Its maker calls `input` for each task that it waits for, and then `release`. These calls need not be in
-    /// one critical section. But `input` is about the newest task: if several threads add tasks, each holds a lock of its own making from
-    /// `task` to its last `input`.
+    /// After `start`, a body that runs may add tasks. Such a task is held: it waits for one input from outside, so that no thread can
+    /// dispatch it half described. Its maker calls `input` for each task that it reads, and then `release`.
     ///
-    /// Refused, and nothing changes: `NoNode`; `BadSpec` if the class is above 3; `HistoryFull` if there are 134,217,728 tasks; `Ended` if
-    /// `next` has returned `Finished`; `HistoryFull` if steps are kept, the pool was started and it has fewer than 3 steps left; `Inactive`
-    /// if nothing is pending at the node: `start` has begun there (also one that was refused memory later), and each task of the node is
-    /// done; `NoMemory`; `HistoryFull` if 1,048,576 steps are kept. A running task is pending at its own node.
-    pub fn task(&mut self, node: u32, class: u32) -> Result<u32, Refusal>
-        ensures checks { IfSome (first_refusal (task_checks self.old node class)) (λ r. result ≡ Err r) }
-        ensures ok { IfOk result (λ t. IsTaskAdded node class t self.old self.new) }
+    /// Refused, and nothing changes: `BadSpec` if the class is above 3; `HistoryFull` with 134,217,728 if there are so many tasks;
+    /// `HistoryFull` with 1,048,576 if the pool is traced and was started, and its trace would have more steps, which are 3 a task and 10;
+    /// `NoMemory`.
+    pub fn task(&mut self, class: u32) -> Result<u32, Refusal>
+        ensures ok { IfOk result (λ t. (t ≡ length self.old.tasks) × (self.new ≡ with_task class self.old)) }
         ensures err { OnErr result (self.new ≡ self.old) }
-        ensures exact { IfErr result (λ r. (first_refusal (task_checks self.old node class) ≡ Some r)
-            ⊎ ((r ≡ Refusal.Ended) × IsFinished self.old)
-            ⊎ ((r ≡ Refusal.HistoryFull MAX_STEPS) × IsTrue self.old.started × IsTrue (keeps self.old.journal))
-            ⊎ ((r ≡ Refusal.Inactive) × IsInactive node self.old) ⊎ (r ≡ Refusal.NoMemory)
-            ⊎ IsTrue (is_of_room self.old.journal r)) }
+        ensures checks { IfSome (first_refusal (task_checks self.old class)) (λ r. result ≡ Err r) }
+        ensures exact { IfErr result (λ r. (first_refusal (task_checks self.old class) ≡ Some r) ⊎ (r ≡ Refusal.NoMemory)) }
     {
-        if let Some(refusal) = self.task_refusal(node, class) {
-            return Err(refusal);
-        }
-        let Some(inputs) = Inputs::new(0) else {
+        if class > 3 {
             return Err(Refusal::BadSpec);
-        };
-        if self.is_over() {
-            return Err(Refusal::Ended);
         }
-        if !self.has_spare(STEPS_EACH) {
+        if self.tasks.len() >= MAX_TASKS as usize {
+            return Err(Refusal::HistoryFull(MAX_TASKS));
+        }
+        if self.started && self.lacks_steps(self.tasks.len() + 1) {
             return Err(Refusal::HistoryFull(MAX_STEPS));
         }
-        let number = self.board.task_count();
-        self.board.known();
-        if !self.journal.is_active(node) {
-            return Err(Refusal::Inactive);
-        }
-        self.board.reserve_task()?;
-        self.hints.add_task()?;
-        self.journal.record(
-            node,
-            Step::Insert(NodeId(node), TaskId(number as u32), inputs),
-        )?;
-        self.spare_steps = self.spare_steps.saturating_sub(STEPS_EACH);
-        self.progress = extended(self.progress);
-        Ok(self.board.add_task(node, class, self.progress.started))
+        self.add_task(class as u8)
     }
 
-    // the first check of `task` that holds
-    fn task_refusal(&self, node: u32, class: u32) -> Option<Refusal>
-        ensures refusal { result ≡ first_refusal (task_checks self.now node class) }
-        ensures within { IfNone result (node < self.now.nodes) }
-        ensures few { IfNone result (length self.now.tasks < MAX_TASKS) }
-    {
-        if node >= self.nodes {
-            return Some(Refusal::NoNode);
-        }
-        if class > 3 {
-            return Some(Refusal::BadSpec);
-        }
-        if self.board.task_count() >= MAX_TASKS as usize {
-            return Some(Refusal::HistoryFull(MAX_TASKS));
-        }
-        None
-    }
-
-    /// Lets the newest task wait for task `source`, which was added before it. If the source is done, there is nothing to wait for: the
-    /// input is not recorded.
-    ///
-    /// Refused, and nothing changes: `NoTask` if there is no newest task or `source` is not below its number; `HistoryFull` if there are
-    /// 536,870,912 inputs; `WrongLife` if the newest task was dispatched, or if the pool was started and the task lacks nothing, since it
-    /// may be dispatched at any time; `HistoryFull` if steps are kept, the pool was started and has fewer than 3 steps left, and the input
-    /// is from another node; `NoMemory`.
-    pub fn input(&mut self, source: u32) -> Result<(), Refusal>
-        ensures checks { IfSome (first_refusal (input_checks self.old source)) (λ r. result ≡ Err r) }
-        ensures ok { OnOk result (slice_get self.old.stages source ≢ Some stage.Done → IsInputAdded source self.old self.new) }
-        ensures done { OnOk result (slice_get self.old.stages source ≡ Some stage.Done
-            → self.new ≡ record self.old { extended = extends self.old }) }
-        ensures waits { OnOk result ((t : ℕ) → t + 1 ≡ length self.old.tasks → MayWait t self.old) }
+    // adds a task, if memory can be had
+    fn add_task(&mut self, class: u8) -> Result<u32, Refusal>
+        requires class { class < 4 }
+        requires few { length self.old.tasks < MAX_TASKS }
+        requires fits { IsFalse (self.old.started && lacks_steps self.old (length self.old.tasks + 1)) }
+        ensures ok { IfOk result (λ t. (t ≡ length self.old.tasks) × (self.new ≡ with_task class self.old)) }
         ensures err { OnErr result (self.new ≡ self.old) }
-        ensures exact { IfErr result (λ r. (first_refusal (input_checks self.old source) ≡ Some r)
-            ⊎ ((r ≡ Refusal.WrongLife) × ((t : ℕ) → t + 1 ≡ length self.old.tasks → MayWait t self.old → ⊥))
-            ⊎ ((r ≡ Refusal.HistoryFull MAX_STEPS) × IsTrue self.old.started × IsTrue (keeps self.old.journal)) ⊎ (r ≡ Refusal.NoMemory)) }
+        ensures exact { IfErr result (λ r. r ≡ Refusal.NoMemory) }
+    {
+        self.tasks.reserve(1)?;
+        let number = self.tasks.len() as u32;
+        let traced = both(self.started, self.traced);
+        make_room(&mut self.events, traced, self.left + 1)?;
+        self.queues.add_task()?;
+        let awaited = one_if(self.started);
+        add_if(&mut self.ready, class, !self.started);
+        self.left += 1;
+        self.awaiting += awaited;
+        self.grown = either(self.grown, self.started);
+        self.tasks.push_reserved(Task {
+            class,
+            stage: Stage::Fresh,
+            missing: awaited,
+            outside: awaited,
+            inputs: 0,
+            outputs: 0,
+        });
+        Ok(number)
+    }
+
+    /// Lets the newest task read what task `source` makes, which was added before it. After `start` the newest task still has to wait for
+    /// something.
+    ///
+    /// Refused, and nothing changes: `NoTask` if there is no newest task or `source` is not below its number; `WrongLife` if it was
+    /// dispatched, or if the pool was started and it is ready, since it may be dispatched at any time; `HistoryFull` with 536,870,912 if
+    /// there are so many inputs; `NoMemory`.
+    pub fn input(&mut self, source: u32) -> Result<(), Refusal>
+        ensures ok { OnOk result (self.new ≡ with_input source self.old) }
+        ensures err { OnErr result (self.new ≡ self.old) }
+        ensures checks { IfSome (first_refusal (input_checks self.old source)) (λ r. result ≡ Err r) }
+        ensures exact { IfErr result (λ r. (first_refusal (input_checks self.old source) ≡ Some r) ⊎ (r ≡ Refusal.NoMemory)) }
     {
         if let Some(refusal) = self.input_refusal(source) {
             return Err(refusal);
         }
-        let newest = self.newest();
-        if !self.may_wait(newest) {
-            return Err(Refusal::WrongLife);
-        }
-        if self.is_done(source) {
-            self.extend();
-            return Ok(());
-        }
-        self.add_input(source, newest)
+        self.add_link(source)
     }
 
     // the first check of `input` that holds
     fn input_refusal(&self, source: u32) -> Option<Refusal>
         ensures refusal { result ≡ first_refusal (input_checks self.now source) }
-        ensures before { IfNone result (source + 1 < length self.now.tasks) }
-        ensures few { IfNone result (length self.now.inputs < MAX_INPUTS) }
+        ensures few { IfNone result (MayHaveInput source self.now) }
     {
-        if source as usize + 1 >= self.board.task_count() {
+        let count = self.tasks.len();
+        if source as usize + 1 >= count {
             return Some(Refusal::NoTask);
         }
-        if self.board.edge_count() >= MAX_INPUTS as usize {
+        let target = self.tasks[count - 1];
+        if !is_fresh(target.stage) {
+            return Some(Refusal::WrongLife);
+        }
+        if self.started && self.is_ready_at(count - 1) {
+            return Some(Refusal::WrongLife);
+        }
+        if self.links.len() >= MAX_INPUTS as usize {
             return Some(Refusal::HistoryFull(MAX_INPUTS));
         }
         None
     }
 
-    fn newest(&self) -> u32
-        requires { 1 ≤ length self.now.tasks }
-        ensures { result + 1 ≡ length self.now.tasks }
+    // whether a task is ready
+    #[inline]
+    fn is_ready_at(&self, task: usize) -> bool
+        ensures { result ≡ is_ready_now self.now task }
     {
-        self.board.known();
-        (self.board.task_count() - 1) as u32
-    }
-
-    // whether a task may get one more input
-    fn may_wait(&self, task: u32) -> bool
-        ensures yes { IsTrue result → MayWait task self.now }
-        ensures no { IsFalse result → MayWait task self.now → ⊥ }
-    {
-        let Some(found) = self.board.task(task) else {
-            return false;
-        };
-        self.board.known();
-        match found.stage {
-            Stage::Fresh => !may_begin(self.progress.started, found.missing),
-            _ => false,
+        match self.tasks.get(task) {
+            Some(&found) => and_zero(is_fresh(found.stage), found.missing),
+            None => false,
         }
     }
 
-    fn is_done(&self, task: u32) -> bool
-        ensures yes { IsTrue result → slice_get self.now.stages task ≡ Some stage.Done }
-        ensures no { IsFalse result → slice_get self.now.stages task ≢ Some stage.Done }
-    {
-        let Some(found) = self.board.task(task) else {
-            return false;
-        };
-        match found.stage {
-            Stage::Done => true,
-            _ => false,
-        }
-    }
-
-    fn extend(&mut self)
-        ensures { self.new ≡ record self.old { extended = extends self.old } }
-    {
-        self.progress = extended(self.progress);
-    }
-
-    // lets the newest task wait for a task that is not done
-    fn add_input(&mut self, source: u32, target: u32) -> Result<(), Refusal>
-        requires newest { target + 1 ≡ length self.old.tasks }
-        requires before { source < target }
-        requires few { length self.old.inputs < MAX_INPUTS }
-        requires fresh { slice_get self.old.stages target ≡ Some stage.Fresh }
-        requires not_done { slice_get self.old.stages source ≢ Some stage.Done }
-        ensures ok { OnOk result (IsInputAdded source self.old self.new) }
+    fn add_link(&mut self, source: u32) -> Result<(), Refusal>
+        requires { MayHaveInput source self.old }
+        ensures ok { OnOk result (self.new ≡ with_input source self.old) }
         ensures err { OnErr result (self.new ≡ self.old) }
-        ensures exact { IfErr result (λ r. ((r ≡ Refusal.HistoryFull MAX_STEPS) × IsTrue self.old.started × IsTrue (keeps self.old.journal))
-            ⊎ (r ≡ Refusal.NoMemory)) }
+        ensures exact { IfErr result (λ r. r ≡ Refusal.NoMemory) }
     {
-        let steps = steps_of_input(&self.board, source, target);
-        if !self.has_spare(steps) {
-            return Err(Refusal::HistoryFull(MAX_STEPS));
-        }
-        let input = self.board.edge_count() as u32;
-        self.board.known();
-        self.board.reserve_edge()?;
-        self.hints.add_input()?;
-        self.board.add_edge(source, target);
-        self.hints.add_output(source, input);
-        self.spare_steps = self.spare_steps.saturating_sub(steps);
-        self.progress = extended(self.progress);
+        self.links.reserve(1)?;
+        let newest = self.tasks.len() - 1;
+        let target = self.tasks[newest];
+        let from = self.tasks[source as usize];
+        let open = !is_done(from.stage);
+        take_if(
+            &mut self.ready,
+            target.class,
+            and_zero(open, target.missing),
+        );
+        self.grown = either(self.grown, self.started);
+        self.tasks[newest] = Task {
+            missing: target.missing + one_if(open),
+            inputs: target.inputs + 1,
+            ..target
+        };
+        self.tasks[source as usize] = Task {
+            outputs: self.links.len() as u32 + 1,
+            ..from
+        };
+        self.links.push_reserved(Link {
+            source,
+            target: newest as u32,
+            older: from.outputs,
+        });
         Ok(())
     }
 
-    // whether there are steps for one more task or input; before the start, `start` counts them
-    fn has_spare(&self, steps: usize) -> bool
-        ensures started { IsFalse result → IsTrue self.now.started }
-        ensures kept { IsFalse result → IsTrue (keeps self.now.journal) }
+    /// Lets a task that was not dispatched wait for one more input from outside in this run, which the caller reports by `release`.
+    ///
+    /// Refused, and nothing changes: `NoTask`; `WrongLife` if the task was dispatched, or if the pool was started and the task is ready,
+    /// since it may be dispatched at any time; `HistoryFull` with 1,048,576 if it waits for so many inputs from outside.
+    pub fn outside(&mut self, task: u32) -> Result<(), Refusal>
+        ensures ok { OnOk result (Becomes task one_more self.old self.new) }
+        ensures err { OnErr result (self.new ≡ self.old) }
+        ensures checks { IfSome (first_refusal (outside_checks self.old task)) (λ r. result ≡ Err r) }
+        ensures exact { IfErr result (λ r. first_refusal (outside_checks self.old task) ≡ Some r) }
     {
-        !self.progress.started || !self.keeps_steps || steps <= self.spare_steps
+        if let Some(refusal) = self.outside_refusal(task) {
+            return Err(refusal);
+        }
+        self.add_outside(task);
+        Ok(())
+    }
+
+    // the first check of `outside` that holds
+    fn outside_refusal(&self, task: u32) -> Option<Refusal>
+        ensures refusal { result ≡ first_refusal (outside_checks self.now task) }
+        ensures waits { IfNone result (MayWait task self.now) }
+    {
+        let Some(&found) = self.tasks.get(task as usize) else {
+            return Some(Refusal::NoTask);
+        };
+        if !is_fresh(found.stage) {
+            return Some(Refusal::WrongLife);
+        }
+        if self.started && self.is_ready_at(task as usize) {
+            return Some(Refusal::WrongLife);
+        }
+        if found.outside >= MAX_OUTSIDE {
+            return Some(Refusal::HistoryFull(MAX_OUTSIDE));
+        }
+        None
+    }
+
+    fn add_outside(&mut self, task: u32)
+        requires { MayWait task self.old }
+        ensures { Becomes task one_more self.old self.new }
+    {
+        let was = self.tasks[task as usize];
+        take_if(&mut self.ready, was.class, and_zero(true, was.missing));
+        self.awaiting += one_if(was.outside == 0);
+        self.tasks[task as usize] = Task {
+            missing: was.missing + 1,
+            outside: was.outside + 1,
+            ..was
+        };
+    }
+
+    /// Reports that one input from outside is there for which a task waits.
+    ///
+    /// Refused, and nothing changes: `NoTask`; `WrongLife` if the task waits for no input from outside.
+    pub fn release(&mut self, task: u32) -> Result<(), Refusal>
+        ensures ok { OnOk result (Becomes task one_less self.old self.new) }
+        ensures err { OnErr result (self.new ≡ self.old) }
+        ensures checks { IfSome (first_refusal (release_checks self.old task)) (λ r. result ≡ Err r) }
+        ensures exact { IfErr result (λ r. first_refusal (release_checks self.old task) ≡ Some r) }
+    {
+        if let Some(refusal) = self.release_refusal(task) {
+            return Err(refusal);
+        }
+        self.take_outside(task);
+        Ok(())
+    }
+
+    // the first check of `release` that holds
+    fn release_refusal(&self, task: u32) -> Option<Refusal>
+        ensures refusal { result ≡ first_refusal (release_checks self.now task) }
+        ensures awaits { IfNone result (Awaits task self.now) }
+    {
+        let Some(&found) = self.tasks.get(task as usize) else {
+            return Some(Refusal::NoTask);
+        };
+        if found.outside == 0 {
+            return Some(Refusal::WrongLife);
+        }
+        None
+    }
+
+    fn take_outside(&mut self, task: u32)
+        requires { Awaits task self.old }
+        ensures { Becomes task one_less self.old self.new }
+    {
+        let was = self.tasks[task as usize];
+        let last = was.missing == 1;
+        add_if(&mut self.ready, was.class, last);
+        self.awaiting -= one_if(was.outside == 1);
+        self.tasks[task as usize] = Task {
+            missing: was.missing - 1,
+            outside: was.outside - 1,
+            ..was
+        };
+        self.queues
+            .push_if(was.class, task, both(last, self.started));
     }
 }

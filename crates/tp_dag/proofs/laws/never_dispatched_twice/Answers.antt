@@ -1,5 +1,5 @@
-use Rattle.tp_dag.proofs.Dispatching.{never_dispatched_twice}
+use Rattle.tp_dag.proofs.Theorems.{never_twice}
 use Rattle.tp_dag.proofs.laws.never_dispatched_twice.Goals as goal
 
 pub returns : goal.returns
-returns c = never_dispatched_twice
+returns c = never_twice

@@ -1,6 +1,5 @@
-use Rattle.tp_dag.specs.Resets.{uncounted}
-use Rattle.tp_dag.specs.Resets.{AreWritten}
+use Rattle.tp_dag.proofs.Changes.{Resetting}
 use Rattle.tp_dag.proofs.reset.reset_tasks.Given as goal
 
 abbrev pub invariant-loop-t : goal.invariant-loop-t
-invariant-loop-t l = AreWritten uncounted l.t l.initial.tasks l.tasks
+invariant-loop-t l = Resetting l.fn.tasks l.tasks l.ready l.t

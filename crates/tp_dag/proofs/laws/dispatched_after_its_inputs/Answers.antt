@@ -1,0 +1,5 @@
+use Rattle.tp_dag.proofs.Theorems.{after_its_inputs}
+use Rattle.tp_dag.proofs.laws.dispatched_after_its_inputs.Goals as goal
+
+pub returns : goal.returns
+returns c = after_its_inputs

@@ -1,0 +1,4 @@
+pub mod Refusing
+pub mod Tasks
+pub mod Waking
+pub mod Counted

@@ -1,0 +1,280 @@
+//! The team: its calls. Each is made under one lock of the caller.
+ghost use Rattle.std.specs.Prelude.{◌≡◌, ◌≤◌, ◌+◌, ◌-◌, ◌⊎◌, ℕ, length, Ok, Err, Some, None, IfOk, OnOk, OnErr, IfErr, IfSome, IsTrue, true, false};
+ghost use Rattle.tp_base.specs.declared.refusal.Refusal.TheVariants as refusal;
+ghost use Rattle.tp_dag.specs.State.{is_traced, ready_tasks};
+ghost use Rattle.tp_dag.specs.Calls as dag;
+ghost use Rattle.tp_dag.specs.Calls.{Becomes, one_more, one_less};
+ghost use Rattle.tp_team.specs.declared.refusal.TeamRefusal.TheVariants as team;
+ghost use Rattle.tp_team.specs.State.{LosesNoWakeUp, Settles};
+ghost use Rattle.tp_team.specs.Calls.{first, of_pool, fault_check, describe_checks, record_checks, start_checks, again_checks, spawn_checks};
+ghost use Rattle.tp_team.specs.Calls.{opened, Changes, with_pool, repeated, Starts, Stops, TakesTurn};
+ghost use Rattle.tp_team.specs.Laws.{NeverStuck};
+
+use crate::refusal::{Fault, TeamRefusal};
+use crate::state::State;
+use crate::turn::{Arrival, Reply, Spawned};
+use crate::waiting::Waiting;
+use std::alloc::Global;
+use std::marker::Model;
+use tp_base::Refusal;
+use tp_dag::{Event, Pool, never_silent};
+
+/// A pool of tasks and the threads that run them.
+#[derive(Drop)]
+pub struct Team {
+    state: State,
+}
+
+impl Model for Team {
+    ghost use Rattle.tp_team.specs.declared.state.State.{State};
+    ghost use Rattle.tp_team.specs.State.{LosesNoWakeUp};
+
+    ghost Value = { State };
+
+    ghost view = { λ t. t.state };
+
+    ghost invariant = { λ t. LosesNoWakeUp t.state };
+}
+
+impl Team {
+    /// A team with an empty graph, on a machine that runs this number of threads at once. It takes no memory.
+    pub fn open(alloc: Global, traced: bool, processors: u32) -> Team
+        ensures { result ≡ opened traced processors }
+    {
+        Team {
+            state: State {
+                pool: Pool::new(alloc, traced),
+                processors,
+                threads: 0,
+                waiting: Waiting::none(),
+                fault: None,
+            },
+        }
+    }
+
+    /// What holds between any two calls, in whatever order they are made.
+    pub fn known(&self)
+        ensures wake_ups { LosesNoWakeUp self.now }
+        ensures never_stuck { NeverStuck self.now }
+    {
+        let _ready = self.state.has_ready();
+        self.state.pool.known();
+        never_silent();
+    }
+
+    /// Describes one more task of a class 0 to 3. Returns its number.
+    ///
+    /// Refused, and nothing changes: the fault; `WrongLife` if a run was started; `BadSpec` if the class is above 3; `HistoryFull` if
+    /// there are as many tasks as may be; `NoMemory`.
+    pub fn task(&mut self, class: u32) -> Result<u32, TeamRefusal>
+        ensures ok { IfOk result (λ t. (t ≡ length self.old.pool.tasks) × (self.new ≡ with_pool (dag.with_task class self.old.pool) self.old)) }
+        ensures err { OnErr result (self.new ≡ self.old) }
+        ensures checks { IfSome (first (describe_checks self.old (of_pool (dag.task_checks self.old.pool class)))) (λ r. result ≡ Err r) }
+        ensures exact { IfErr result (λ r. (first (describe_checks self.old (of_pool (dag.task_checks self.old.pool class))) ≡ Some r)
+            ⊎ (r ≡ team.Pool refusal.NoMemory)) }
+    {
+        if let Some(refusal) = self.state.describe_refusal() {
+            return Err(refusal);
+        }
+        let task = self.state.pool.task(class)?;
+        Ok(task)
+    }
+
+    /// Lets the newest task read what an earlier one makes.
+    ///
+    /// Refused, and nothing changes: the fault; `WrongLife` if a run was started; `NoTask` if the source is not an earlier task;
+    /// `HistoryFull` if there are as many inputs as may be; `NoMemory`.
+    pub fn input(&mut self, source: u32) -> Result<(), TeamRefusal>
+        ensures ok { OnOk result (self.new ≡ with_pool (dag.with_input source self.old.pool) self.old) }
+        ensures err { OnErr result (self.new ≡ self.old) }
+        ensures checks { IfSome (first (describe_checks self.old (of_pool (dag.input_checks self.old.pool source)))) (λ r. result ≡ Err r) }
+        ensures exact { IfErr result (λ r. (first (describe_checks self.old (of_pool (dag.input_checks self.old.pool source))) ≡ Some r)
+            ⊎ (r ≡ team.Pool refusal.NoMemory)) }
+    {
+        if let Some(refusal) = self.state.describe_refusal() {
+            return Err(refusal);
+        }
+        self.state.pool.input(source)?;
+        Ok(())
+    }
+
+    /// Whether the caller may begin or end to record times: no thread can be in a turn then.
+    ///
+    /// Refused: the fault; `Running` if a turn has not returned or a task runs; `WrongLife` if a run was started.
+    pub fn may_record(&self) -> Result<(), TeamRefusal>
+        ensures checks { IfSome (first (record_checks self.now)) (λ r. result ≡ Err r) }
+        ensures exact { IfErr result (λ r. first (record_checks self.now) ≡ Some r) }
+    {
+        if let Some(refusal) = self.state.again_refusal() {
+            return Err(refusal);
+        }
+        if self.state.pool.is_started() {
+            return Err(TeamRefusal::Pool(Refusal::WrongLife));
+        }
+        Ok(())
+    }
+
+    /// Starts a run on this number of threads. Returns how many sleeping threads are to be signalled: all.
+    ///
+    /// Refused, and nothing changes: the fault; in a run `Running` if a turn has not returned or a task runs, else `Ended` if all tasks
+    /// are done, else `WrongLife`; `NoThread` if there are to be 0; and of a traced pool `HistoryFull` or `NoMemory`.
+    pub fn start(&mut self, threads: u32) -> Result<u32, TeamRefusal>
+        ensures ok { IfOk result (λ signals. Starts threads self.old self.new signals) }
+        ensures err { OnErr result (self.new ≡ self.old) }
+        ensures checks { IfSome (first (start_checks self.old threads (of_pool (dag.start_checks self.old.pool)))) (λ r. result ≡ Err r) }
+        ensures exact { IfErr result (λ r. (first (start_checks self.old threads (of_pool (dag.start_checks self.old.pool))) ≡ Some r)
+            ⊎ ((r ≡ team.Pool refusal.NoMemory) × IsTrue (is_traced self.old.pool))) }
+    {
+        if let Some(refusal) = self.state.start_refusal(threads) {
+            return Err(refusal);
+        }
+        self.state.pool.start()?;
+        let signals = self.state.waiting.sleeping;
+        self.state.waiting = self.state.waiting.signalled_by(signals);
+        self.state.threads = threads;
+        Ok(signals)
+    }
+
+    /// One turn of a thread: it comes back if it spun or slept, reports the task that it ran (`None`: none), and is told what to do next.
+    /// It may be told to spin if `polls` is not 0 and the machine has a processor for each thread of the run.
+    ///
+    /// A task that does not run ends the team: the fault is then the pool's `NoTask` or `WrongLife`, with that task. A thread that has to
+    /// wait is refused as `HistoryFull` if `MAX_THREADS` wait.
+    pub fn turn(&mut self, arrival: Arrival, done: Option<u32>, polls: u32) -> Reply
+        ensures { TakesTurn arrival done polls self.old self.new result }
+    {
+        self.state.waiting = self.state.waiting.without(arrival);
+        self.state.report(done);
+        let turn = self.state.decide(polls);
+        let signals = self.state.settle();
+        Reply { turn, signals }
+    }
+
+    /// Ends the team because of a task, or of none: each later turn is refused as `Stopped`. Once there is a fault, and once all tasks
+    /// are done, nothing changes. Returns how many sleeping threads are to be signalled.
+    pub fn stop(&mut self, task: Option<u32>) -> u32
+        ensures { Stops task self.old self.new result }
+    {
+        let _ended = self.state.stop(task);
+        self.state.settle()
+    }
+
+    /// The same graph once more: `start` may be called again.
+    ///
+    /// Refused, and nothing changes: the fault; `Running` if a turn has not returned or a task runs; `WrongLife` if not all tasks of a
+    /// run are done, or if tasks were added in it.
+    pub fn again(&mut self) -> Result<(), TeamRefusal>
+        ensures ok { OnOk result (self.new ≡ repeated self.old) }
+        ensures err { OnErr result (self.new ≡ self.old) }
+        ensures checks { IfSome (first (again_checks self.old (of_pool (dag.again_checks self.old.pool)))) (λ r. result ≡ Err r) }
+        ensures exact { IfErr result (λ r. first (again_checks self.old (of_pool (dag.again_checks self.old.pool))) ≡ Some r) }
+    {
+        if let Some(refusal) = self.state.again_refusal() {
+            return Err(refusal);
+        }
+        self.state.pool.again()?;
+        self.state.threads = 0;
+        Ok(())
+    }
+
+    /// One more input from outside for a task. Returns how many sleeping threads are to be signalled.
+    ///
+    /// Refused, and nothing changes: the fault; and as the pool's `outside`.
+    pub fn outside(&mut self, task: u32) -> Result<u32, TeamRefusal>
+        ensures ok { IfOk result (λ signals. Changes (Becomes task one_more) self.old self.new signals) }
+        ensures err { OnErr result (self.new ≡ self.old) }
+        ensures checks { IfSome (first (fault_check self.old.fault (of_pool (dag.outside_checks self.old.pool task)))) (λ r. result ≡ Err r) }
+        ensures exact { IfErr result (λ r. first (fault_check self.old.fault (of_pool (dag.outside_checks self.old.pool task))) ≡ Some r) }
+    {
+        if let Some(fault) = self.state.fault {
+            return Err(fault.refusal);
+        }
+        match self.state.pool.outside(task) {
+            Ok(()) => Ok(self.state.settle()),
+            Err(refusal) => Err(TeamRefusal::Pool(refusal)),
+        }
+    }
+
+    /// One input from outside of a task is there. Returns how many sleeping threads are to be signalled.
+    ///
+    /// Refused, and nothing changes: the fault; and as the pool's `release`.
+    pub fn release(&mut self, task: u32) -> Result<u32, TeamRefusal>
+        ensures ok { IfOk result (λ signals. Changes (Becomes task one_less) self.old self.new signals) }
+        ensures err { OnErr result (self.new ≡ self.old) }
+        ensures checks { IfSome (first (fault_check self.old.fault (of_pool (dag.release_checks self.old.pool task)))) (λ r. result ≡ Err r) }
+        ensures exact { IfErr result (λ r. first (fault_check self.old.fault (of_pool (dag.release_checks self.old.pool task))) ≡ Some r) }
+    {
+        if let Some(fault) = self.state.fault {
+            return Err(fault.refusal);
+        }
+        match self.state.pool.release(task) {
+            Ok(()) => Ok(self.state.settle()),
+            Err(refusal) => Err(TeamRefusal::Pool(refusal)),
+        }
+    }
+
+    /// One more task of a class 0 to 3, before a run or in it, which reads what these earlier tasks make and waits for so many inputs
+    /// from outside: all of it, or nothing. Before the lock is released, no thread can be told to run it. Returns its number, and how many
+    /// sleeping threads are to be signalled.
+    ///
+    /// Refused, and nothing changes: the fault; `Ended` if all tasks of a run are done; and as the pool's `spawn`.
+    pub fn spawn(
+        &mut self,
+        class: u32,
+        inputs: &[u32],
+        outside: u32,
+    ) -> Result<Spawned, TeamRefusal>
+        ensures task { IfOk result (λ s. s.task ≡ length self.old.pool.tasks) }
+        ensures ok { IfOk result (λ s. Settles (with_pool (dag.with_spawned class inputs.now outside self.old.pool) self.old) self.new s.signals) }
+        ensures err { OnErr result (self.new ≡ self.old) }
+        ensures checks { IfSome (first (spawn_checks self.old (of_pool (dag.spawn_checks self.old.pool class inputs.now outside)))) (λ r. result ≡ Err r) }
+        ensures exact { IfErr result (λ r. (first (spawn_checks self.old (of_pool (dag.spawn_checks self.old.pool class inputs.now outside))) ≡ Some r)
+            ⊎ (r ≡ team.Pool refusal.NoMemory)) }
+    {
+        if let Some(refusal) = self.state.spawn_refusal() {
+            return Err(refusal);
+        }
+        match self.state.pool.spawn(class, inputs, outside) {
+            Ok(task) => Ok(Spawned {
+                task,
+                signals: self.state.settle(),
+            }),
+            Err(refusal) => Err(TeamRefusal::Pool(refusal)),
+        }
+    }
+
+    /// Returns the number of tasks.
+    pub fn tasks(&self) -> u32
+        ensures { result ≡ length self.now.pool.tasks }
+    {
+        self.state.pool.tasks()
+    }
+
+    /// Returns the number of ready tasks: a thread that spins polls whether it is 0.
+    pub fn ready(&self) -> u32
+        ensures { result ≡ ready_tasks self.now.pool }
+    {
+        self.state.pool.ready()
+    }
+
+    /// Returns event number `k` of this run, the oldest being 0, if the team is traced and has as many.
+    pub fn event(&self, k: u32) -> Option<Event>
+        ensures { result ≡ dag.event_at self.now.pool.kept k }
+    {
+        self.state.pool.event(k)
+    }
+
+    /// The fault that ends each turn.
+    pub fn fault(&self) -> Option<Fault>
+        ensures { result ≡ self.now.fault }
+    {
+        self.state.fault
+    }
+
+    /// The threads in turns that have not returned.
+    pub fn waiting(&self) -> Waiting
+        ensures { result ≡ self.now.waiting }
+    {
+        self.state.waiting
+    }
+}
