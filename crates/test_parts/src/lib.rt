@@ -11,6 +11,5 @@ mod dags;
 mod memory;
 #[cfg(test)]
 mod processes;
-mod recorders;
 #[cfg(test)]
 mod slots;

@@ -13,7 +13,4 @@ pub mod Reached
 pub mod Settled
 pub mod Advancing
 pub mod ToTheEnd
-pub mod Recording
-pub mod RecorderKept
-pub mod RecorderSettling
 pub mod Makers

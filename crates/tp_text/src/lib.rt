@@ -27,7 +27,6 @@ pub use laws::{
     audits_are_determined, readings_are_determined, runs_of_one_generation, scripts_are_determined,
     texts_are_determined, traces_are_determined, traces_are_read_back,
 };
-pub use pool_samples::print_table;
 pub use reading::{Reading, Trace, read_trace};
 pub use recount::audit;
 pub use simulation::sim;
