@@ -8,12 +8,12 @@ use Rattle.tp_dag.specs.State.{PoolState, Entry, IsAt, IsReady, IsOver, IsConsis
 use Rattle.tp_dag.specs.Laws.{NeverSilent, Call, Leads, Lead, this_run, is_repeats, dispatches, reports, expects, releases, times}
 use Rattle.tp_dag.specs.Laws.{NeverTwice, AfterItsInputs}
 use Rattle.tp_dag.proofs.Lists.{at_below, set_here, set_there, get_push, same_or, count_next}
-use Rattle.tp_dag.proofs.Ready.{got_below}
+use Rattle.tp_dag.proofs.Lists.{got_below}
 use Rattle.std.proofs.Math.ListN.{set}
 use Rattle.std.proofs.lemmas.Bool.Decides.{nat_tests}
 use Rattle.tp_dag.specs.Calls.{one_less, Becomes, GoesTo, outside_at}
 use Rattle.tp_dag.specs.Laws.Call.{Adds, Links, Expects, Releases, Starts, Dispatches, Reports, Repeats}
-use Rattle.tp_dag.specs.Kept.{one}
+use Rattle.tp_dag.specs.Counted.{one}
 
 -- ==== If nothing runs, nothing is awaited and nothing is ready, all is done: by the numbers of the tasks.
 module _ (a : PoolState) (c : IsConsistent a) (runs : (t : ℕ) → IsAt stage.Running t a → ⊥)

@@ -4,5 +4,5 @@ use Rattle.tp_dag.proofs.Inputs.{Linking}
 use Rattle.tp_dag.proofs.links.add_links.Given as goal
 
 abbrev pub invariant-loop-source : goal.invariant-loop-source
-invariant-loop-source l = Linking l.target l.sources (drop l.source-index l.sources) l.fn.tasks.items l.tasks.items l.fn.links.items
-    l.links.items l.ready (vec_capacity l.links)
+invariant-loop-source l = Linking l.target l.sources (drop l.source-index l.sources) l.fn.tasks l.tasks l.fn.links.items l.links.items
+    (vec_capacity l.links)
