@@ -1,24 +1,14 @@
 -- A task begins, is done, waits for an input from outside more or less, or is as it was described.
-use Rattle.std.proofs.Common.{arith, ℕ, zero, suc, ◌≡◌, List, [], ◌∷◌, map, IsTrue, IsFalse, Option, Some, refl, ap, subst, sym, ◌∙◌, ◌+◌, ◌<◌}
-use Rattle.std.proofs.Common.{◌≤◌, length, Bool, true, false, ◌≢◌, length-set, inl, inr}
-use Rattle.std.specs.Prelude.{slice_get, ◌&&◌, not, ◌==◌}
-use Rattle.std.proofs.Math.ListN.{set}
-use Rattle.tp_dag.specs.declared.entry.Task.{Task}
-use Rattle.tp_dag.specs.declared.entry.Link.{Link}
-use Rattle.tp_dag.specs.declared.entry.Stage.{Stage}
-use Rattle.tp_dag.specs.declared.entry.Event.{Event}
+use Rattle.tp_dag.proofs.Words.{arith, ℕ, zero, suc, ◌≡◌, List, [], ◌∷◌, map, IsTrue, IsFalse, Option, Some, refl, ap, subst, sym, ◌∙◌, ◌+◌}
+use Rattle.tp_dag.proofs.Words.{◌<◌, ◌≤◌, length, Bool, true, false, ◌≢◌, length-set, inl, inr, slice_get, ◌&&◌, not, ◌==◌, set, Task, Link}
+use Rattle.tp_dag.proofs.Words.{Stage, Event, Inside, PoolState, Entry, IsReady, is_done, IsAt, is_fresh, is_running, GoesTo, with_event}
+use Rattle.tp_dag.proofs.Words.{Becomes, Awaits, as_described, no_events, one, entry_of, as_new, MayPassOn, HasRoom, state_of, kept_of}
+use Rattle.tp_dag.proofs.Words.{blocks, done_at, is_from_to, owed, IsCounted, Owing, Facts, is_into, MAX_TASKS, MAX_OUTSIDE, nat_tests}
 use Rattle.tp_dag.specs.declared.entry.Stage.TheVariants as stage
-use Rattle.tp_dag.specs.declared.pool.Pool.TheInside.{Inside}
-use Rattle.tp_dag.specs.State.{PoolState, Entry, IsReady, is_done, IsAt, is_fresh, is_running}
-use Rattle.tp_dag.specs.Calls.{GoesTo, with_event, Becomes, Awaits, as_described, no_events}
-use Rattle.tp_dag.specs.Counted.{one, entry_of, as_new}
-use Rattle.tp_dag.specs.Kept.{MayPassOn, HasRoom, state_of, kept_of, blocks, done_at, is_from_to, owed, IsCounted, Owing, Facts, is_into}
 use Rattle.tp_dag.proofs.Lists.{map_write, map_get, map_long, map_got, set_apart, set_here, set_there, same_or, some_same, got_below}
 use Rattle.tp_dag.proofs.Lists.{first_sum, first_same}
 use Rattle.tp_dag.proofs.Facts.{at, owing_set}
 use Rattle.tp_dag.proofs.Ready.{ready_lacks}
-use Rattle.tp_dag.specs.declared.limits.TheConstants.{MAX_TASKS, MAX_OUTSIDE}
-use Rattle.std.proofs.lemmas.Bool.Decides.{nat_tests}
 
 -- ==== What a contract says of a task, and what is stored of it.
 pub place_at : (p : Inside) {now : PoolState} (t : ℕ) (e : Entry) → state_of p ≡ now → slice_get now.tasks t ≡ Some e → t < length p.tasks

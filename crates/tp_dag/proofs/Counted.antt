@@ -1,16 +1,9 @@
 -- The numbers that are kept of tasks stay right when a task is written or added.
-use Rattle.std.proofs.Common.{arith, ◌+◌, ◌<◌, ◌≤◌, ◌≢◌, ℕ, zero, suc, ◌≡◌, List, [], ◌∷◌, ◌++◌, length, map, Bool, true, false}
-use Rattle.std.proofs.Common.{Some, refl, ap, subst, sym, ◌∙◌, inl, inr, length-set}
-use Rattle.std.specs.Prelude.{slice_get, ◌==◌, ◌&&◌}
-use Rattle.std.specs.List.{slice_index_or}
-use Rattle.std.proofs.Math.ListN.{set}
-use Rattle.std.proofs.lemmas.Bool.Decides.{nat_tests}
-use Rattle.std.proofs.lemmas.List.{get_or-set_same, get_or-set_other}
-use Rattle.tp_dag.specs.declared.limits.TheConstants.{MAX_TASKS}
-use Rattle.tp_dag.specs.declared.entry.Task.{Task}
+use Rattle.tp_dag.proofs.Words.{arith, ◌+◌, ◌<◌, ◌≤◌, ◌≢◌, ℕ, zero, suc, ◌≡◌, List, [], ◌∷◌, ◌++◌, length, map, Bool, true, false, Some}
+use Rattle.tp_dag.proofs.Words.{refl, ap, subst, sym, ◌∙◌, inl, inr, length-set, slice_get, ◌==◌, ◌&&◌, slice_index_or, set, nat_tests}
+use Rattle.tp_dag.proofs.Words.{get_or-set_same, get_or-set_other, MAX_TASKS, Task, Entry, count_where, is_unfinished, is_dispatched}
+use Rattle.tp_dag.proofs.Words.{is_awaiting, one, may_begin, is_ready, entry_of, as_new, MayMove, HasClass, AreCounts, AreCounted}
 use Rattle.tp_dag.specs.declared.tasks.Tasks.TheInside.{Inside}
-use Rattle.tp_dag.specs.State.{Entry, count_where, is_unfinished, is_dispatched, is_awaiting}
-use Rattle.tp_dag.specs.Counted.{one, may_begin, is_ready, entry_of, as_new, MayMove, HasClass, AreCounts, AreCounted}
 use Rattle.tp_dag.proofs.Lists.{map_get, map_write, map_push, map_long, count_set, count_push, count_few, count_some, same_or}
 use Rattle.tp_dag.proofs.Lists.{set_apart, last_cases, map_same, got_below}
 

@@ -1,20 +1,11 @@
 -- A whole graph, task by task and input by input.
-use Rattle.std.proofs.Common.{arith, ◌+◌, ◌<◌, ◌≤◌, ◌⊎◌, ℕ, zero, suc, ◌≡◌, List, [], ◌∷◌, length, map, drop, Bool, true, false, IsFalse}
-use Rattle.std.proofs.Common.{Some, None, refl, ap, subst, sym, ◌∙◌, inl, inr}
-use Rattle.std.specs.Prelude.{slice_get, if◌then◌else◌}
-use Rattle.std.proofs.lemmas.List.{length_push}
-use Rattle.tp_base.specs.declared.refusal.Refusal.{Refusal}
+use Rattle.tp_dag.proofs.Words.{arith, ◌+◌, ◌<◌, ◌≤◌, ◌⊎◌, ℕ, zero, suc, ◌≡◌, List, [], ◌∷◌, length, map, drop, Bool, true, false, IsFalse}
+use Rattle.tp_dag.proofs.Words.{Some, None, refl, ap, subst, sym, ◌∙◌, inl, inr, slice_get, if◌then◌else◌, length_push, Refusal, Event}
+use Rattle.tp_dag.proofs.Words.{Link, Inside, PoolState, Entry, with_input, with_task, Graph, with_inputs, with_next, described}
+use Rattle.tp_dag.proofs.Words.{inputs_refusal, fault_of, class_of, from_of, inputs_of, next_fault, IsFirstFault, entry_of, IsPool}
+use Rattle.tp_dag.proofs.Words.{state_of, input_of, kept_of}
 use Rattle.tp_base.specs.declared.refusal.Refusal.TheVariants as refusal
-use Rattle.tp_dag.specs.declared.entry.Event.{Event}
 use Rattle.tp_dag.specs.declared.entry.Stage.TheVariants as stage
-use Rattle.tp_dag.specs.declared.entry.Link.{Link}
-use Rattle.tp_dag.specs.declared.pool.Pool.TheInside.{Inside}
-use Rattle.tp_dag.specs.State.{PoolState, Entry}
-use Rattle.tp_dag.specs.Calls.{with_input, with_task}
-use Rattle.tp_dag.specs.Describing.{Graph, with_inputs, with_next, described, inputs_refusal, fault_of, class_of, from_of}
-use Rattle.tp_dag.specs.Describing.{inputs_of, next_fault, IsFirstFault}
-use Rattle.tp_dag.specs.Counted.{entry_of}
-use Rattle.tp_dag.specs.Kept.{IsPool, state_of, input_of, kept_of}
 use Rattle.tp_dag.proofs.Lists.{map_long}
 
 -- ---- inputs

@@ -1,25 +1,13 @@
 -- What is true of the tasks and inputs of a pool, and of the room for events, stays true when a task is written or added.
-use Rattle.std.proofs.Common.{arith, ◌+◌, ◌<◌, ◌≤◌, ℕ, ◌≡◌, ◌≢◌, List, Bool, true, false, IsTrue, Some, refl, ap, sym, ◌∙◌, zero, suc}
-use Rattle.std.proofs.Common.{[], ◌∷◌, ◌++◌, length, length-set, Option, None, subst, inl, inr, ◌*◌, map, IsFalse}
-use Rattle.std.specs.Prelude.{slice_get, ◌==◌, ◌&&◌, not, ◌||◌, nat_lt}
-use Rattle.std.proofs.Math.ListN.{set}
-use Rattle.std.proofs.lemmas.Bool.Decides.{nat_tests}
-use Rattle.tp_dag.specs.declared.entry.Task.{Task}
+use Rattle.tp_dag.proofs.Words.{arith, ◌+◌, ◌<◌, ◌≤◌, ℕ, ◌≡◌, ◌≢◌, List, Bool, true, false, IsTrue, Some, refl, ap, sym, ◌∙◌, zero, suc, []}
+use Rattle.tp_dag.proofs.Words.{◌∷◌, ◌++◌, length, length-set, Option, None, subst, inl, inr, ◌*◌, map, IsFalse, slice_get, ◌==◌, ◌&&◌, not}
+use Rattle.tp_dag.proofs.Words.{◌||◌, nat_lt, set, nat_tests, Task, is_fresh, is_done, PoolState, Entry, count_where, is_unfinished}
+use Rattle.tp_dag.proofs.Words.{steps_of_trace, one, entry_of, may_begin, newest, done_at, blocks, is_into, IsCounted, Owing, Facts}
+use Rattle.tp_dag.proofs.Words.{kept_of, state_of, HasRoom, events_of, to_come, length_push, MAX_TASKS, MAX_OUTSIDE, Link, Stage, is_some}
+use Rattle.tp_dag.proofs.Words.{MAX_STEPS, Event, Inside, lacks_steps}
 use Rattle.tp_dag.specs.declared.entry.Stage.TheVariants as stage
-use Rattle.tp_dag.specs.State.{is_fresh, is_done, PoolState, Entry, count_where, is_unfinished, steps_of_trace}
-use Rattle.tp_dag.specs.Counted.{one, entry_of, may_begin}
-use Rattle.tp_dag.specs.Kept.{newest, done_at, blocks, is_into, IsCounted, Owing, Facts, kept_of, state_of, HasRoom, events_of, to_come}
 use Rattle.tp_dag.proofs.Lists.{set_apart, set_there, set_here, last_cases, get_push, past_end, some_same}
 use Rattle.tp_dag.proofs.Lists.{same_or, first_same, first_zero, map_get, map_write, map_push, map_long, count_next}
-use Rattle.std.proofs.lemmas.List.{length_push}
-use Rattle.tp_dag.specs.declared.limits.TheConstants.{MAX_TASKS, MAX_OUTSIDE}
-use Rattle.tp_dag.specs.declared.entry.Link.{Link}
-use Rattle.tp_dag.specs.declared.entry.Stage.{Stage}
-use Rattle.std.specs.Option.{is_some}
-use Rattle.tp_base.specs.declared.limits.TheConstants.{MAX_STEPS}
-use Rattle.tp_dag.specs.declared.entry.Event.{Event}
-use Rattle.tp_dag.specs.declared.pool.Pool.TheInside.{Inside}
-use Rattle.tp_dag.specs.Calls.{lacks_steps}
 
 -- ==== A task that lacks nothing may begin.
 abbrev pub at : Stage → Task → Task

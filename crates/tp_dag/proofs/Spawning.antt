@@ -1,20 +1,10 @@
 -- A task or an input is added to a pool: what is true of its parts, and what readers see then.
-use Rattle.std.proofs.Common.{arith, ◌+◌, ◌-◌, ◌<◌, ◌≤◌, ℕ, ◌≡◌, List, [], ◌∷◌, ◌++◌, length, map, Bool, IsTrue, refl, ap}
-use Rattle.std.proofs.Common.{subst, sym, ◌∙◌, inl, inr}
-use Rattle.std.specs.Prelude.{slice_get, ◌||◌, ◌&&◌, IsFalse, if◌then◌else◌, nat_lt}
-use Rattle.std.specs.List.{list_all}
-use Rattle.std.proofs.lemmas.Bool.Decides.{nat_tests}
-use Rattle.std.proofs.lemmas.List.{append-nil}
-use Rattle.tp_dag.specs.declared.entry.Task.{Task}
-use Rattle.tp_dag.specs.declared.entry.Link.{Link}
-use Rattle.tp_dag.specs.declared.pool.Pool.TheInside.{Inside}
-use Rattle.tp_dag.specs.State.{PoolState, Entry, Input}
-use Rattle.tp_dag.specs.Calls.{MayHaveInput, MaySpawn, with_input, with_spawned, with_task, lacks_steps, is_fresh_at}
+use Rattle.tp_dag.proofs.Words.{arith, ◌+◌, ◌-◌, ◌<◌, ◌≤◌, ℕ, ◌≡◌, List, [], ◌∷◌, ◌++◌, length, map, Bool, IsTrue, refl, ap, subst, sym}
+use Rattle.tp_dag.proofs.Words.{◌∙◌, inl, inr, slice_get, ◌||◌, ◌&&◌, IsFalse, if◌then◌else◌, nat_lt, list_all, nat_tests, append-nil, Task}
+use Rattle.tp_dag.proofs.Words.{Link, Inside, PoolState, Entry, Input, MayHaveInput, MaySpawn, with_input, with_spawned, with_task}
+use Rattle.tp_dag.proofs.Words.{lacks_steps, is_fresh_at, MAX_TASKS, entry_of, Facts, MayLink, Linked, state_of, input_of}
 use Rattle.tp_dag.proofs.Inputs.{bit_few}
-use Rattle.tp_dag.specs.declared.limits.TheConstants.{MAX_TASKS}
 use Rattle.tp_dag.specs.declared.entry.Stage.TheVariants as stage
-use Rattle.tp_dag.specs.Counted.{entry_of}
-use Rattle.tp_dag.specs.Kept.{Facts, MayLink, Linked, state_of, input_of}
 use Rattle.tp_dag.proofs.Lists.{map_long, map_get, map_push, at_below, get_push}
 use Rattle.tp_dag.proofs.Ready.{fresh_stage}
 use Rattle.tp_dag.proofs.Facts.{facts_push}

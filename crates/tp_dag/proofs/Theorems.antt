@@ -1,19 +1,13 @@
 -- The theorems: about all states of a pool, and about all sequences of calls.
-use Rattle.std.proofs.Common.{arith, ◌<◌, ℕ, zero, suc, ◌≡◌, length, Some, refl, ◌+◌, ◌≤◌, ◌≢◌, List, [], ◌∷◌, ◌++◌, map, Bool, true, false}
-use Rattle.std.proofs.Common.{Option, None, ap, subst, sym, ◌∙◌, inl, inr}
-use Rattle.std.specs.Prelude.{slice_get, ◌==◌, ◌&&◌, not, if◌then◌else◌}
-use Rattle.tp_dag.specs.declared.entry.Stage.{Stage}
+use Rattle.tp_dag.proofs.Words.{arith, ◌<◌, ℕ, zero, suc, ◌≡◌, length, Some, refl, ◌+◌, ◌≤◌, ◌≢◌, List, [], ◌∷◌, ◌++◌, map, Bool, true}
+use Rattle.tp_dag.proofs.Words.{false, Option, None, ap, subst, sym, ◌∙◌, inl, inr, slice_get, ◌==◌, ◌&&◌, not, if◌then◌else◌, Stage}
+use Rattle.tp_dag.proofs.Words.{PoolState, Entry, IsAt, IsReady, IsOver, IsConsistent, is_done, is_fresh, is_done_at, NeverSilent, Call}
+use Rattle.tp_dag.proofs.Words.{Leads, Lead, is_repeats, about, dispatched, reported, expected, released, weight, times, NeverTwice}
+use Rattle.tp_dag.proofs.Words.{AfterItsInputs, set, nat_tests, outside_at, Adds, Spawns, Links, Expects, Releases, Starts, Dispatches}
+use Rattle.tp_dag.proofs.Words.{Reports, Repeats, one}
 use Rattle.tp_dag.specs.declared.entry.Stage.TheVariants as stage
-use Rattle.tp_dag.specs.State.{PoolState, Entry, IsAt, IsReady, IsOver, IsConsistent, is_done, is_fresh, is_done_at}
-use Rattle.tp_dag.specs.Laws.{NeverSilent, Call, Leads, Lead, is_repeats, about, dispatched, reported, expected, released, weight, times}
-use Rattle.tp_dag.specs.Laws.{NeverTwice, AfterItsInputs}
 use Rattle.tp_dag.proofs.Lists.{at_below, set_here, set_there, get_push, past_end, same_or}
 use Rattle.tp_dag.proofs.Lists.{got_below}
-use Rattle.std.proofs.Math.ListN.{set}
-use Rattle.std.proofs.lemmas.Bool.Decides.{nat_tests}
-use Rattle.tp_dag.specs.Calls.{outside_at}
-use Rattle.tp_dag.specs.Laws.Call.{Adds, Spawns, Links, Expects, Releases, Starts, Dispatches, Reports, Repeats}
-use Rattle.tp_dag.specs.Counted.{one}
 
 -- ==== If nothing runs, nothing is awaited and nothing is ready, all is done: by the numbers of the tasks.
 module _ (a : PoolState) (c : IsConsistent a) (runs : (t : ℕ) → IsAt stage.Running t a → ⊥)

@@ -1,6 +1,5 @@
-use Rattle.std.proofs.Common.{arith}
-use Rattle.std.specs.Prelude.{not}
-use Rattle.tp_dag.proofs.Inputs.{link_places, link_few, inputs_few, linked_one, bit_few}
+use Rattle.tp_dag.proofs.Words.{arith, not}
+use Rattle.tp_dag.proofs.Lemmas.{link_places, link_few, inputs_few, linked_one, bit_few}
 use Rattle.tp_dag.proofs.links.add_link.Goals as goal
 
 pub at-to-requires : goal.at-to-requires

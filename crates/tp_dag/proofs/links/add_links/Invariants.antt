@@ -1,6 +1,5 @@
-use Rattle.std.proofs.Common.{drop}
-use Rattle.std.specs.Vec.{vec_capacity}
-use Rattle.tp_dag.proofs.Inputs.{Linking}
+use Rattle.tp_dag.proofs.Words.{drop, vec_capacity}
+use Rattle.tp_dag.proofs.Lemmas.{Linking}
 use Rattle.tp_dag.proofs.links.add_links.Given as goal
 
 abbrev pub invariant-loop-source : goal.invariant-loop-source

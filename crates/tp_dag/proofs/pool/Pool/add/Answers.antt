@@ -1,9 +1,5 @@
-use Rattle.std.proofs.Common.{◌∙◌, List, map, length, arith, refl, ap}
-use Rattle.tp_dag.specs.declared.entry.Event.{Event}
-use Rattle.tp_dag.specs.Counted.{entry_of}
-use Rattle.tp_dag.proofs.Changes.{both_true}
-use Rattle.tp_dag.proofs.Facts.{room_same, room_added, fits_more, settled_more}
-use Rattle.tp_dag.proofs.Spawning.{new_task, spawn_may}
+use Rattle.tp_dag.proofs.Words.{◌∙◌, List, map, length, arith, refl, ap, Event, entry_of}
+use Rattle.tp_dag.proofs.Lemmas.{both_true, room_same, room_added, fits_more, settled_more, new_task, spawn_may}
 use Rattle.tp_dag.proofs.pool.Pool.add.Goals as goal
 
 pub add_links-requires : goal.add_links-requires

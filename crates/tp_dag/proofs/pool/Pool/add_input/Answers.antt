@@ -1,5 +1,5 @@
-use Rattle.std.proofs.Common.{◌-◌, arith}
-use Rattle.tp_dag.proofs.Spawning.{input_may, input_state}
+use Rattle.tp_dag.proofs.Words.{◌-◌, arith}
+use Rattle.tp_dag.proofs.Lemmas.{input_may, input_state}
 use Rattle.tp_dag.proofs.pool.Pool.add_input.Goals as goal
 
 pub add_link-requires : goal.add_link-requires

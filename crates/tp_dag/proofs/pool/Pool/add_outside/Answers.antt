@@ -1,10 +1,5 @@
-use Rattle.std.proofs.Common.{◌∙◌, ◌+◌, arith, refl, ap}
-use Rattle.tp_dag.specs.declared.entry.Task.{Task}
-use Rattle.tp_dag.specs.State.{Entry}
-use Rattle.tp_dag.specs.Calls.{one_more}
-use Rattle.tp_dag.proofs.Inputs.{link_few}
-use Rattle.tp_dag.proofs.Facts.{room_set}
-use Rattle.tp_dag.proofs.Changes.{place_at, seen_at, facts_set, becomes_at, fresh_keeps}
+use Rattle.tp_dag.proofs.Words.{◌∙◌, ◌+◌, arith, refl, ap, Task, Entry, one_more}
+use Rattle.tp_dag.proofs.Lemmas.{link_few, room_set, place_at, seen_at, facts_set, becomes_at, fresh_keeps}
 use Rattle.tp_dag.proofs.pool.Pool.add_outside.Goals as goal
 
 pub at-was-requires : goal.at-was-requires

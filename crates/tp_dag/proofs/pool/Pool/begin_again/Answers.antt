@@ -1,9 +1,5 @@
-use Rattle.std.proofs.Common.{◌∙◌, List, length, map, false, ap}
-use Rattle.tp_dag.specs.declared.entry.Event.{Event}
-use Rattle.tp_dag.specs.State.{PoolState}
-use Rattle.tp_dag.specs.Counted.{entry_of}
-use Rattle.tp_dag.specs.Kept.{kept_of, state_of}
-use Rattle.tp_dag.proofs.Changes.{facts_new, room_new, described_again}
+use Rattle.tp_dag.proofs.Words.{◌∙◌, List, length, map, false, ap, Event, PoolState, entry_of, kept_of, state_of}
+use Rattle.tp_dag.proofs.Lemmas.{facts_new, room_new, described_again}
 use Rattle.tp_dag.proofs.pool.Pool.begin_again.Goals as goal
 
 pub invariant_of-self : goal.invariant_of-self

@@ -1,8 +1,5 @@
-use Rattle.std.proofs.Common.{◌≡◌, ◌∙◌, sym, subst}
-use Rattle.std.specs.Prelude.{false}
-use Rattle.tp_dag.specs.State.{PoolState, is_ready_now}
-use Rattle.tp_dag.specs.Kept.{state_of}
-use Rattle.tp_dag.proofs.Ready.{test_ready, test_none}
+use Rattle.tp_dag.proofs.Words.{◌≡◌, ◌∙◌, sym, subst, false, PoolState, is_ready_now, state_of}
+use Rattle.tp_dag.proofs.Lemmas.{test_ready, test_none}
 use Rattle.tp_dag.proofs.pool.Pool.is_ready_at.Goals as goal
 
 pub returns-in-Some : goal.returns-in-Some

@@ -1,7 +1,5 @@
-use Rattle.std.proofs.Common.{arith, ap}
-use Rattle.tp_dag.specs.State.{ready_tasks}
-use Rattle.tp_dag.specs.Kept.{state_of}
-use Rattle.tp_dag.proofs.Ready.{ready_count}
+use Rattle.tp_dag.proofs.Words.{arith, ap, ready_tasks, state_of}
+use Rattle.tp_dag.proofs.Lemmas.{ready_count}
 use Rattle.tp_dag.proofs.pool.Pool.ready.Goals as goal
 
 pub returns : goal.returns

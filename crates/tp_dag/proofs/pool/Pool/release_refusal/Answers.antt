@@ -1,6 +1,5 @@
-use Rattle.std.proofs.Common.{◌≤◌, arith, sym}
-use Rattle.std.proofs.lemmas.Bool.Decides.{nat_tests}
-use Rattle.tp_dag.proofs.Changes.{awaits_if}
+use Rattle.tp_dag.proofs.Words.{◌≤◌, arith, sym, nat_tests}
+use Rattle.tp_dag.proofs.Lemmas.{awaits_if}
 use Rattle.tp_dag.proofs.pool.Pool.release_refusal.Goals as goal
 
 pub returns-clause-awaits : goal.returns-clause-awaits

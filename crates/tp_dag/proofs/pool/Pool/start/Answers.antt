@@ -1,8 +1,5 @@
-use Rattle.std.proofs.Common.{◌∙◌, List, length, map, arith, ap, sym}
-use Rattle.tp_dag.specs.declared.entry.Event.{Event}
-use Rattle.tp_dag.specs.Counted.{entry_of}
-use Rattle.tp_dag.proofs.Lists.{map_long}
-use Rattle.tp_dag.proofs.Facts.{fits_if, to_come_few}
+use Rattle.tp_dag.proofs.Words.{◌∙◌, List, length, map, arith, ap, sym, Event, entry_of}
+use Rattle.tp_dag.proofs.Lemmas.{map_long, fits_if, to_come_few}
 use Rattle.tp_dag.proofs.pool.Pool.start.Goals as goal
 
 pub invariant_of-self-2 : goal.invariant_of-self-2

@@ -1,8 +1,5 @@
-use Rattle.std.proofs.Common.{◌-◌, arith, refl}
-use Rattle.tp_dag.specs.declared.entry.Task.{Task}
-use Rattle.tp_dag.specs.Calls.{one_less}
-use Rattle.tp_dag.proofs.Facts.{room_set}
-use Rattle.tp_dag.proofs.Changes.{place_at, await_at, awaits_fresh, facts_set, becomes_at, fresh_keeps}
+use Rattle.tp_dag.proofs.Words.{◌-◌, arith, refl, Task, one_less}
+use Rattle.tp_dag.proofs.Lemmas.{room_set, place_at, await_at, awaits_fresh, facts_set, becomes_at, fresh_keeps}
 use Rattle.tp_dag.proofs.pool.Pool.take_outside.Goals as goal
 
 pub at-was-requires : goal.at-was-requires

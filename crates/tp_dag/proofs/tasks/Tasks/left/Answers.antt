@@ -1,5 +1,5 @@
-use Rattle.tp_dag.specs.State.{is_unfinished}
-use Rattle.tp_dag.proofs.Counted.{tally_few}
+use Rattle.tp_dag.proofs.Words.{is_unfinished}
+use Rattle.tp_dag.proofs.Lemmas.{tally_few}
 use Rattle.tp_dag.proofs.tasks.Tasks.left.Goals as goal
 
 pub returns-clause-few : goal.returns-clause-few

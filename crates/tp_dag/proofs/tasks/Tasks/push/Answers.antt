@@ -1,9 +1,6 @@
-use Rattle.std.proofs.Common.{◌∙◌, ◌++◌, ◌∷◌, [], List, length, arith, ap, refl}
-use Rattle.std.specs.Prelude.{not}
-use Rattle.std.proofs.lemmas.List.{length_push}
-use Rattle.tp_dag.specs.declared.entry.Task.{Task}
-use Rattle.tp_dag.specs.State.{is_unfinished, is_dispatched, is_awaiting}
-use Rattle.tp_dag.proofs.Counted.{new_may, tally_few, ready_push, tally_push, push_classes, counted_items}
+use Rattle.tp_dag.proofs.Words.{◌∙◌, ◌++◌, ◌∷◌, [], List, length, arith, ap, refl, not, length_push, Task, is_unfinished, is_dispatched}
+use Rattle.tp_dag.proofs.Words.{is_awaiting}
+use Rattle.tp_dag.proofs.Lemmas.{new_may, tally_few, ready_push, tally_push, push_classes, counted_items}
 use Rattle.tp_dag.proofs.tasks.Tasks.push.Goals as goal
 
 pub moved-requires : goal.moved-requires

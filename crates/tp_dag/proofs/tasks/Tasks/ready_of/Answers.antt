@@ -1,4 +1,4 @@
-use Rattle.tp_dag.proofs.Counted.{new_may}
+use Rattle.tp_dag.proofs.Lemmas.{new_may}
 use Rattle.tp_dag.proofs.tasks.Tasks.ready_of.Goals as goal
 
 pub returns-clause-few : goal.returns-clause-few

@@ -1,6 +1,5 @@
-use Rattle.std.proofs.Common.{◌≤◌, length, ap, arith}
-use Rattle.tp_dag.specs.Counted.{TaskList}
-use Rattle.tp_dag.proofs.Counted.{reset_at, reset_all}
+use Rattle.tp_dag.proofs.Words.{◌≤◌, length, ap, arith, TaskList}
+use Rattle.tp_dag.proofs.Lemmas.{reset_at, reset_all}
 use Rattle.tp_dag.proofs.tasks.Tasks.reset.Goals as goal
 
 pub loop-number-preserved : goal.loop-number-preserved

@@ -1,4 +1,4 @@
-use Rattle.tp_dag.proofs.Counted.{Resetting}
+use Rattle.tp_dag.proofs.Lemmas.{Resetting}
 use Rattle.tp_dag.proofs.tasks.Tasks.reset.Given as goal
 
 abbrev pub invariant-loop-number : goal.invariant-loop-number

@@ -1,9 +1,6 @@
-use Rattle.std.proofs.Common.{arith, ap, refl, length-set}
-use Rattle.std.specs.Prelude.{not}
-use Rattle.tp_dag.specs.declared.entry.Task.{Task}
-use Rattle.tp_dag.specs.State.{is_unfinished, is_dispatched, is_awaiting}
-use Rattle.tp_dag.proofs.Lists.{got_below}
-use Rattle.tp_dag.proofs.Counted.{is_at, ready_may, tally_may, ready_set, tally_set, set_classes, counted_items}
+use Rattle.tp_dag.proofs.Words.{arith, ap, refl, length-set, not, Task, is_unfinished, is_dispatched, is_awaiting}
+use Rattle.tp_dag.proofs.Lemmas.{got_below, ready_may, tally_may, ready_set, tally_set, set_classes, counted_items}
+use Rattle.tp_dag.proofs.Counted.{is_at}
 use Rattle.tp_dag.proofs.tasks.Tasks.set.Goals as goal
 
 pub moved-requires : goal.moved-requires
