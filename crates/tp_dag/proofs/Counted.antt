@@ -5,6 +5,8 @@ use Rattle.tp_dag.proofs.Words.{get_or-set_same, get_or-set_other, MAX_TASKS, Ta
 use Rattle.tp_dag.proofs.Words.{is_awaiting, one, may_begin, is_ready, entry_of, as_new, MayMove, HasClass, AreCounts, AreCounted}
 use Rattle.tp_dag.specs.declared.tasks.Tasks.TheInside.{Inside}
 use Rattle.tp_dag.proofs.Lists.{map_get, map_write, map_push, map_long, count_set, count_push, count_few, count_some, same_or}
+use Rattle.tp_dag.proofs.Words.{IsTrue, IsFalse, ◌⊎◌, Option, None, ready_at, NoneOf, ComesFirst, and_parts, IfSome, IfNone}
+use Rattle.tp_dag.proofs.Lists.{find_one, count_none, one_zero}
 use Rattle.tp_dag.proofs.Lists.{set_apart, last_cases, map_same, got_below}
 
 pub one_here : (n m : ℕ) (b : Bool) → n ≡ m → one ((n == m) && b) ≡ one b
@@ -155,3 +157,55 @@ counted_items p e few classes ready left running awaiting = let s = sym e in rec
   running = subst (λ (xs : List Task). p.running ≡ count_where is_dispatched (map entry_of xs)) s running;
   awaiting = subst (λ (xs : List Task). p.awaiting ≡ count_where is_awaiting (map entry_of xs)) s awaiting;
 }
+
+-- ---- the search
+le_or : (n m : ℕ) → (n ≤ m) ⊎ (m < n)
+le_or n m = grind arith
+
+ready_parts : (class : ℕ) (x : Task) → IsTrue (is_ready class x) → (x.class ≡ class) × IsTrue (may_begin x)
+ready_parts class x h = let p = and_parts (x.class == class) (may_begin x) h in (same x.class class p.0, p.1)
+  where
+    same : (a b : ℕ) → IsTrue (a == b) → a ≡ b
+    same a b h = grind (arith, nat_tests, h)
+
+pub not_here : (k : ℕ) (b : Bool) {P : Type 0} → IsFalse ((k == k) && b) → IsTrue b → P
+not_here k true h g = absurd (grind (arith, nat_tests, h))
+not_here k false h g = cc
+
+pub first_of : (ts : List Task) (class : ℕ) (o : Option ℕ) → IfSome o (λ t. IsTrue (ready_at class (slice_get ts t)))
+    → ((k : ℕ) → k < class → NoneOf k ts) → IfSome o (λ t. ComesFirst t ts)
+first_of ts class None h below = h
+first_of ts class (Some t) h below = by_task (slice_get ts t) refl h
+  where
+    by_task : (o : Option Task) → slice_get ts t ≡ o → IsTrue (ready_at class o) → ComesFirst t ts
+    by_task None is g = cc
+    by_task (Some x) is g = let p = ready_parts class x g in record {
+      task = x;
+      is = is;
+      ready = p.1;
+      lowest = λ u y h m. elim (le_or class y.class) [
+        | inl l ↦ (let e = p.0 in omega (arith, e, l))
+        | inr l ↦ not_here y.class (may_begin y) (sym (ap (ready_at y.class) h) ∙ below y.class l u) m
+      ];
+    }
+
+-- none is found only if there is none
+pub found_of : (ts : List Task) (class : ℕ) (P : Type 0) (o : Option ℕ) → IfNone o (NoneOf class ts) → count_where (is_ready class) ts ≢ 0
+    → IfNone o P
+found_of ts class P (Some t) h some = h
+found_of ts class P None h some = let g = find_one (is_ready class) ts some in absurd (no _ g.3 (sym (ap (ready_at class) g.2) ∙ h g.0))
+  where
+    no : (b : Bool) → IsTrue b → IsFalse b → ⊥
+    no b x y = cc
+
+pub none_more : (ts : List Task) (class : ℕ) → ((k : ℕ) → k < class → NoneOf k ts) → count_where (is_ready class) ts ≡ 0
+    → (k : ℕ) → k < class + 1 → NoneOf k ts
+none_more ts class below z k l t = elim (le_or class k) [
+  | inr m ↦ below k m t
+  | inl m ↦ (let e : k ≡ class = omega (arith, l, m) in by_task k e (slice_get ts t) refl)
+]
+  where
+    by_task : (k : ℕ) → k ≡ class → (o : Option Task) → slice_get ts t ≡ o → IsFalse (ready_at k o)
+    by_task k e None is = refl
+    by_task k e (Some x) is = subst (λ (j : ℕ). IsFalse (is_ready j x)) (sym e)
+        (one_zero (is_ready class x) (count_none (is_ready class) ts t x z is))

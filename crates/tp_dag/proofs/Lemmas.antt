@@ -9,7 +9,6 @@ pub use Rattle.tp_dag.proofs.Facts.{room_same, room_added, fits_more, settled_mo
 pub use Rattle.tp_dag.proofs.Inputs.{link_places, link_few, inputs_few, linked_one, bit_few, linking_at, Linking, passing_first, at_hand}
 pub use Rattle.tp_dag.proofs.Inputs.{missing_one, passed, Passing}
 pub use Rattle.tp_dag.proofs.Lists.{got_below, some_same, map_long}
-pub use Rattle.tp_dag.proofs.Ready.{lowest_if, none_if, one_more, over_if, not_over, some_of, zero_of, test_ready, test_none, of_test}
-pub use Rattle.tp_dag.proofs.Ready.{consistent, ready_count, scanned_none, scanned_some}
 pub use Rattle.tp_dag.proofs.Spawning.{new_task, spawn_may, input_may, input_state}
 pub use Rattle.tp_dag.proofs.Theorems.{after_its_inputs, never_twice}
+pub use Rattle.tp_dag.proofs.Ready.{ready_count, test_ready, test_none, consistent, over_if, not_over}

@@ -1,6 +1,6 @@
 -- The theorems: about all states of a pool, and about all sequences of calls.
 use Rattle.tp_dag.proofs.Words.{arith, ◌<◌, ℕ, zero, suc, ◌≡◌, length, Some, refl, ◌+◌, ◌≤◌, ◌≢◌, List, [], ◌∷◌, ◌++◌, map, Bool, true}
-use Rattle.tp_dag.proofs.Words.{false, Option, None, ap, subst, sym, ◌∙◌, inl, inr, slice_get, ◌==◌, ◌&&◌, not, if◌then◌else◌, Stage}
+use Rattle.tp_dag.proofs.Words.{false, Option, None, ap, subst, sym, ◌∙◌, inl, inr, slice_get, ◌==◌, not, if◌then◌else◌, Stage}
 use Rattle.tp_dag.proofs.Words.{PoolState, Entry, IsAt, IsReady, IsOver, IsConsistent, is_done, is_fresh, is_done_at, NeverSilent, Call}
 use Rattle.tp_dag.proofs.Words.{Leads, Lead, is_repeats, about, dispatched, reported, expected, released, weight, times, NeverTwice}
 use Rattle.tp_dag.proofs.Words.{AfterItsInputs, set, nat_tests, outside_at, Adds, Spawns, Links, Expects, Releases, Starts, Dispatches}

@@ -14,7 +14,7 @@ pub use Rattle.std.specs.Vec.{vec_capacity}
 pub use Rattle.tp_base.specs.declared.limits.TheConstants.{MAX_STEPS}
 pub use Rattle.tp_base.specs.declared.refusal.Refusal.{Refusal}
 pub use Rattle.tp_dag.specs.Calls.{GoesTo, with_event, Becomes, Awaits, as_described, no_events, with_input, with_task, lacks_steps}
-pub use Rattle.tp_dag.specs.Calls.{IsReadyOf, IsLowest, MayHaveInput, MaySpawn, with_spawned, is_fresh_at, outside_at, one_more, one_less}
+pub use Rattle.tp_dag.specs.Calls.{IsLowest, MayHaveInput, MaySpawn, with_spawned, is_fresh_at, outside_at, one_more, one_less}
 pub use Rattle.tp_dag.specs.Counted.{one, entry_of, as_new, may_begin, is_ready, MayMove, HasClass, AreCounts, AreCounted, TaskList}
 pub use Rattle.tp_dag.specs.Describing.{Graph, with_inputs, with_next, described, inputs_refusal, fault_of, class_of, from_of, inputs_of}
 pub use Rattle.tp_dag.specs.Describing.{next_fault, IsFirstFault}
@@ -33,3 +33,4 @@ pub use Rattle.tp_dag.specs.declared.entry.Stage.{Stage}
 pub use Rattle.tp_dag.specs.declared.entry.Task.{Task}
 pub use Rattle.tp_dag.specs.declared.limits.TheConstants.{MAX_TASKS, MAX_OUTSIDE, MAX_INPUTS}
 pub use Rattle.tp_dag.specs.declared.pool.Pool.TheInside.{Inside}
+pub use Rattle.tp_dag.specs.Counted.{ready_at, NoneOf, NoneReady, ComesFirst}

@@ -1,5 +1,5 @@
 -- The tasks of a pool as it stores them, and the numbers that it keeps of them.
-use Rattle.std.specs.Prelude.{ℕ, ◌≡◌, ◌<◌, ◌≤◌, ◌==◌, ◌&&◌, List, Bool, true, false, length, map, IsTrue, Some, slice_get}
+use Rattle.std.specs.Prelude.{ℕ, ◌≡◌, ◌<◌, ◌≤◌, ◌==◌, ◌&&◌, List, Bool, true, false, length, map, IsTrue, IsFalse, Option, Some, None, slice_get}
 use Rattle.std.specs.List.{slice_index_or}
 use Rattle.tp_dag.specs.declared.limits.TheConstants.{MAX_TASKS}
 use Rattle.tp_dag.specs.declared.entry.Stage.TheVariants as stage
@@ -23,6 +23,24 @@ may_begin x = is_fresh x.stage && (x.missing == 0)
 
 abbrev pub is_ready : ℕ → Task → Bool
 is_ready class x = (x.class == class) && may_begin x
+
+-- whether this is a ready task of the class
+abbrev pub ready_at : ℕ → Option Task → Bool
+ready_at class (Some x) = is_ready class x
+ready_at class None = false
+
+abbrev pub NoneOf : ℕ → List Task → Type 0
+NoneOf class tasks = (t : ℕ) → IsFalse (ready_at class (slice_get tasks t))
+
+abbrev pub NoneReady : List Task → Type 0
+NoneReady tasks = (class : ℕ) → class < 4 → NoneOf class tasks
+
+-- Task t is ready, and no ready task is of a lower class.
+pub record ComesFirst (t : ℕ) (tasks : List Task) : Type 0 where
+  pub task : Task
+  pub is : slice_get tasks t ≡ Some task
+  pub ready : IsTrue (may_begin task)
+  pub lowest : (u : ℕ) (y : Task) → slice_get tasks u ≡ Some y → IsTrue (may_begin y) → task.class ≤ y.class
 
 -- a task as it was described
 abbrev pub as_new : Task → Task

@@ -5,9 +5,11 @@ ghost use Rattle.std.specs.Prelude.{slice_get, slice_set, Some};
 ghost use Rattle.tp_dag.specs.declared.limits.TheConstants.{MAX_TASKS};
 ghost use Rattle.tp_dag.specs.declared.entry.Stage.TheVariants as stage;
 ghost use Rattle.tp_dag.specs.State.{count_where, is_unfinished, is_dispatched, is_awaiting};
-ghost use Rattle.tp_dag.specs.Counted.{one, may_begin, is_ready, entry_of, as_new, MayMove, HasClass};
+ghost use Rattle.tp_dag.specs.Counted.{one, may_begin, is_ready, entry_of, as_new, ready_at};
+ghost use Rattle.tp_dag.specs.Counted.{MayMove, HasClass, NoneOf, NoneReady, ComesFirst};
 
 use crate::entry::{Stage, Task, is_done, is_fresh, is_running};
+use crate::queues::Queues;
 use std::alloc::{AllocError, Global};
 use std::marker::Model;
 
@@ -41,7 +43,7 @@ pub(crate) fn may_begin(task: Task) -> bool
 
 /// Returns whether a task is ready, and of the class.
 #[inline]
-pub(crate) fn is_ready_task(task: Task, class: u8) -> bool
+fn is_ready_task(task: Task, class: u8) -> bool
     ensures { result ≡ is_ready class task }
 {
     task.class == class && may_begin(task)
@@ -181,15 +183,42 @@ impl Tasks {
         Ok(())
     }
 
-    /// Finds a ready task of the class; it reads all tasks.
-    pub(crate) fn scan(&self, class: u8) -> Option<u32>
-        ensures none { IfNone result ((t : ℕ) (x : _) → slice_get self.now t ≡ Some x → IsFalse (is_ready class x)) }
-        ensures some { IfSome result (λ t. t < length self.now) }
-        ensures ready { IfSome result (λ t. (x : _) → slice_get self.now t ≡ Some x → IsTrue (is_ready class x)) }
+    /// Returns whether a task is ready, and of the class.
+    #[inline]
+    fn is_of(&self, class: u8, number: u32) -> bool
+        ensures { result ≡ ready_at class (slice_get self.now number) }
     {
-        for number in 0..self.items.len() {
-            if is_ready_task(self.items[number], class) {
-                return Some(number as u32);
+        match self.get(number) {
+            Some(task) => is_ready_task(task, class),
+            None => false,
+        }
+    }
+
+    /// Finds a ready task of the class: this one, or else the one of the lowest number.
+    fn find_of(&self, class: u8, first: u32) -> Option<u32>
+        ensures none { IfNone result (NoneOf class self.now) }
+        ensures some { IfSome result (λ t. IsTrue (ready_at class (slice_get self.now t))) }
+    {
+        if self.is_of(class, first) {
+            return Some(first);
+        }
+        for number in 0..self.items.len() as u32 {
+            if self.is_of(class, number) {
+                return Some(number);
+            }
+        }
+        None
+    }
+
+    /// Finds a ready task of the lowest class that has one, and of these the first in the queue.
+    pub(crate) fn find(&self, queues: &mut Queues) -> Option<u32>
+        ensures some { IfSome result (λ t. ComesFirst t self.now) }
+        ensures none { IfNone result (NoneReady self.now) }
+    {
+        for class in 0..4u8 {
+            if self.ready_of(class) != 0 {
+                let first = queues.pop(class);
+                return self.find_of(class, first);
             }
         }
         None
