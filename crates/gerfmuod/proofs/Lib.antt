@@ -1,7 +1,8 @@
 -- The files of this folder.
-pub mod DagAnswers
+pub mod Borrowing
 pub mod Ended
 pub mod Kept
+pub mod Parameters
 pub mod Recording
 pub mod Room
 pub mod Several

@@ -1,4 +1,5 @@
 pub mod Refusing
 pub mod Tasks
 pub mod Waking
-pub mod Counted
+pub mod Threads
+pub mod Once

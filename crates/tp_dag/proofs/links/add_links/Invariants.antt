@@ -1,0 +1,7 @@
+use Rattle.tp_dag.proofs.Words.{drop, vec_capacity}
+use Rattle.tp_dag.proofs.Lemmas.{Linking}
+use Rattle.tp_dag.proofs.links.add_links.Given as goal
+
+abbrev pub invariant-loop-source : goal.invariant-loop-source
+invariant-loop-source l = Linking l.target l.sources (drop l.source-index l.sources) l.fn.tasks l.tasks l.fn.links.items l.links.items
+    (vec_capacity l.links)
