@@ -1,5 +1,5 @@
 -- Over all sequences of calls: a team counts the threads that wait, and loses no wake-up.
-use Rattle.std.proofs.Common.{◌≡◌, ◌≤◌, ◌+◌, ◌-◌, inl, inr, ℕ, true, false, Bool, List, [], ◌∷◌, Option, Some, None, refl, ap, sym, subst}
+use Rattle.std.proofs.Common.{◌≡◌, ◌≤◌, ◌+◌, inl, inr, ℕ, true, false, Bool, [], ◌∷◌, Option, Some, None, refl, ap, sym, subst}
 use Rattle.std.proofs.Common.{◌∙◌, arith}
 use Rattle.std.proofs.lemmas.Bool.Decides.{nat_tests}
 use Rattle.tp_base.specs.Checks.{first_refusal}
@@ -15,11 +15,11 @@ use Rattle.tp_team.specs.declared.turn.Turn.TheVariants as turn
 use Rattle.tp_team.specs.declared.turn.Reply.{Reply}
 use Rattle.tp_team.specs.declared.waiting.Waiting.{Waiting}
 use Rattle.tp_team.specs.declared.state.State.{State}
-use Rattle.tp_team.specs.State.{in_turns, left, needed, signalled_by, LosesNoWakeUp, Settles}
+use Rattle.tp_team.specs.State.{in_turns, left, signalled_by, LosesNoWakeUp, Settles}
 use Rattle.tp_team.specs.Calls.{TakesTurn, Reports, Decides, Starts, stopped_by, came, opened, with_pool}
-use Rattle.tp_team.specs.Laws.{Call, Described, Spawned, Expected, Released, Started, Turned, Stopped, Repeated}
-use Rattle.tp_team.specs.Laws.{LeadTo, WasTold, waits, returns, told, returned, CountsThreads, NeverLosesWakeUp}
-use Rattle.tp_team.proofs.Waking.{needed_few, settled, unstarted, none_sleeps, few_signalled, described_started}
+use Rattle.tp_team.specs.Laws.{Described, Spawned, Expected, Released, Started, Turned, Stopped, Repeated}
+use Rattle.tp_team.specs.Laws.{WasTold, waits, returns, CountsThreads, NeverLosesWakeUp}
+use Rattle.tp_team.proofs.Waking.{needed_few, settled, unstarted, none_sleeps, described_started}
 
 same_waiting : {a b : State} → a ≡ b → a.waiting ≡ b.waiting
 same_waiting e = ap (λ (x : State). x.waiting) e
@@ -60,17 +60,24 @@ after_report P (Some t) a b h same faulty reported = by_fault a.fault refl
 reported_waiting : (done : Option ℕ) (a b : State) → Reports done a b → b.waiting ≡ a.waiting
 reported_waiting done a b h = after_report (λ (x : State). x.waiting ≡ a.waiting) done a b h refl (λ _. refl) (λ _ _ _. refl)
 
+-- the threads are still few
+abbrev StaysFew : Waiting → Waiting → Type 0
+StaysFew v w = in_turns v ≤ MAX_THREADS → in_turns w ≤ MAX_THREADS
+
+same_turns : {v w : Waiting} → w ≡ v → (in_turns w ≡ in_turns v + 0) × StaysFew v w
+same_turns e = (let n = ap in_turns e in (omega (arith, n), λ f. omega (arith, n, f)))
+
 -- a thread that has to wait is counted, and there is room for it
 decided_turns : (polls : ℕ) (u : Turn) (a b : State) → Decides polls u a b
-    → (in_turns b.waiting ≡ in_turns a.waiting + waits u) × (in_turns a.waiting ≤ MAX_THREADS → in_turns b.waiting ≤ MAX_THREADS)
-decided_turns polls (turn.Run t) a b h = (let e = ap in_turns (same_waiting h.becomes) in (omega (arith, e), λ f. omega (arith, e, f)))
-decided_turns polls turn.Over a b h = (let e = ap in_turns (same_waiting h.same) in (omega (arith, e), λ f. omega (arith, e, f)))
+    → (in_turns b.waiting ≡ in_turns a.waiting + waits u) × StaysFew a.waiting b.waiting
+decided_turns polls (turn.Run t) a b h = same_turns (same_waiting h.becomes)
+decided_turns polls turn.Over a b h = same_turns (same_waiting h.same)
 decided_turns polls turn.Spin a b h =
     (let e = ap in_turns (same_waiting h.becomes) in let r = h.room in (omega (arith, e), λ f. omega (arith, e, r)))
 decided_turns polls turn.Sleep a b h =
     (let e = ap in_turns (same_waiting h.becomes) in let r = h.room in (omega (arith, e), λ f. omega (arith, e, r)))
-decided_turns polls (turn.Refused f) a b (inl h) = (let e = ap in_turns (same_waiting h.1) in (omega (arith, e), λ f. omega (arith, e, f)))
-decided_turns polls (turn.Refused f) a b (inr h) = (let e = ap in_turns (same_waiting h.same) in (omega (arith, e), λ f. omega (arith, e, f)))
+decided_turns polls (turn.Refused f) a b (inl h) = same_turns (same_waiting h.1)
+decided_turns polls (turn.Refused f) a b (inr h) = same_turns (same_waiting h.same)
 
 stopped_waiting : (ended : Bool) (task : Option ℕ) (a : State) → (stopped_by ended task a).waiting ≡ a.waiting
 stopped_waiting true task a = refl

@@ -15,6 +15,8 @@ enum Row {
     Again(Result<(), TeamRefusal>),
     Outside(u32, Result<u32, TeamRefusal>),
     Release(u32, Result<u32, TeamRefusal>),
+    /// A task without inputs that waits for so many inputs from outside.
+    Spawn(u32, Result<Spawned, TeamRefusal>),
 }
 
 fn is_right(team: &mut Team, row: Row) -> bool {
@@ -27,6 +29,7 @@ fn is_right(team: &mut Team, row: Row) -> bool {
         Row::Again(result) => team.again() == result,
         Row::Outside(task, result) => team.outside(task) == result,
         Row::Release(task, result) => team.release(task) == result,
+        Row::Spawn(outside, result) => team.spawn(0, &[], outside) == result,
     }
 }
 
@@ -145,33 +148,25 @@ fn asleep(rt: HostRuntime) {
     assert!(rt; are_right(&mut team, &rows[..]));
 }
 
+fn spawned(task: u32, signals: u32) -> Result<Spawned, TeamRefusal> {
+    Ok(Spawned { task, signals })
+}
+
 // a task that is added in a run signals a thread that sleeps, and a graph that grew is not repeated
 #[test]
 fn grown(rt: HostRuntime) {
     let mut team = Team::open(rt.alloc(), false, 1);
-    let first = Spawned {
-        task: 0,
-        signals: 0,
-    };
-    assert!(rt; team.spawn(0, &[], 1) == Ok(first));
     let rows = [
+        Row::Spawn(1, spawned(0, 0)),
         Row::Start(1, Ok(0)),
         Row::Turn(Arrival::New, None, 0, Turn::Sleep, 0),
-    ];
-    assert!(rt; are_right(&mut team, &rows[..]));
-    let second = Spawned {
-        task: 1,
-        signals: 1,
-    };
-    assert!(rt; team.spawn(0, &[1], 0) == Err(TeamRefusal::Pool(Refusal::NoTask)));
-    assert!(rt; team.spawn(0, &[], 0) == Ok(second));
-    let rows = [
+        Row::Spawn(0, spawned(1, 1)),
         Row::Turn(Arrival::Woken, None, 0, Turn::Run(1), 0),
         Row::Release(0, Ok(0)),
         Row::Turn(Arrival::New, Some(1), 0, Turn::Run(0), 0),
         Row::Turn(Arrival::New, Some(0), 0, Turn::Over, 0),
+        Row::Spawn(0, Err(TeamRefusal::Pool(Refusal::Ended))),
         Row::Again(Err(TeamRefusal::Pool(Refusal::WrongLife))),
     ];
     assert!(rt; are_right(&mut team, &rows[..]));
-    assert!(rt; team.spawn(0, &[], 0) == Err(TeamRefusal::Pool(Refusal::Ended)));
 }

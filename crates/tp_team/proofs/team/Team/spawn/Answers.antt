@@ -31,5 +31,5 @@ returns-in-Err-clause-exact c =
     let cs = dag.spawn_checks a.pool c.args.class c.args.inputs.now c.args.outside in
     let clear = own_clear a.fault (has_finished a, team.Pool refusal.Ended) (of_pool cs) (sym c.in_default.is ∙ c.spawn_refusal.ensures) in
     subst (λ (a : State). (first (checks_of c.args.class c.args.inputs.now c.args.outside a) ≡ Some (team.Pool r))
-        ⊎ (team.Pool r ≡ team.Pool refusal.NoMemory))
+    ⊎ (team.Pool r ≡ team.Pool refusal.NoMemory))
     c.self.view_is (pool_exact cs r clear c.in-Err.ensures.exact)
