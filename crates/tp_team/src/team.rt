@@ -211,9 +211,9 @@ impl Team {
         }
     }
 
-    /// One more task of a class 0 to 3, before a run or in it, which reads what these earlier tasks make and waits for so many inputs
-    /// from outside: all of it, or nothing. Before the lock is released, no thread can be told to run it. Returns its number, and how many
-    /// sleeping threads are to be signalled.
+    /// Adds a task of a class 0 to 3, before a run or in it. It reads what the tasks `inputs` make, and waits for `outside` inputs from
+    /// outside. Before the lock is released, no thread can be told to run it. Returns its number, and how many sleeping threads are to be
+    /// signalled.
     ///
     /// Refused, and nothing changes: the fault; `Ended` if all tasks of a run are done; and as the pool's `spawn`.
     pub fn spawn(
