@@ -7,7 +7,6 @@ use Rattle.tp_dag.specs.declared.entry.Stage.TheVariants as stage
 use Rattle.tp_dag.specs.State.{PoolState, Entry, is_fresh}
 use Rattle.tp_dag.specs.Calls.{Becomes, IsReported, IsDispatched, with_task, with_input}
 use Rattle.tp_dag.specs.Describing.{Graph, described, with_inputs, inputs_of, class_of}
-use Rattle.tp_dag.proofs.Lists.{set_here, set_there}
 use Rattle.tp_team.specs.declared.turn.Turn.{Turn}
 use Rattle.tp_team.specs.declared.turn.Turn.TheVariants as turn
 use Rattle.tp_team.specs.declared.state.State.{State}
@@ -46,6 +45,18 @@ set_begun y (z ∷ zs) zero x is e zero = e ∙ sym (ap begun is)
 set_begun y (z ∷ zs) zero x is e (suc t) = refl
 set_begun y (z ∷ zs) (suc u) x is e zero = refl
 set_begun y (z ∷ zs) (suc u) x is e (suc t) = set_begun y zs u x is e t
+
+set_here : (xs : List Entry) (u : ℕ) (x y : Entry) → slice_get xs u ≡ Some x → slice_get (slice_set xs u y) u ≡ Some y
+set_here [] u x y is = cc
+set_here (z ∷ zs) zero x y is = refl
+set_here (z ∷ zs) (suc u) x y is = set_here zs u x y is
+
+set_there : (xs : List Entry) (u t : ℕ) (y : Entry) → t ≢ u → slice_get (slice_set xs u y) t ≡ slice_get xs t
+set_there [] u t y o = refl
+set_there (z ∷ zs) zero zero y o = absurd (o refl)
+set_there (z ∷ zs) zero (suc t) y o = refl
+set_there (z ∷ zs) (suc u) zero y o = refl
+set_there (z ∷ zs) (suc u) (suc t) y o = set_there zs u t y (λ e. o (ap suc e))
 
 anew_begun : (xs : List Entry) (t : ℕ)
     → begun (slice_get (map (λ (x : Entry). record { class = x.class; stage = stage.Fresh; outside = 0 }) xs) t) ≡ false
