@@ -1,21 +1,11 @@
 -- A whole graph, task by task and input by input.
-use Rattle.std.proofs.Common.{arith, ◌+◌, ◌<◌, ◌≤◌, ◌⊎◌, ℕ, zero, suc, ◌≡◌, List, [], ◌∷◌, length, map, drop, Bool, true, false, IsFalse}
-use Rattle.std.proofs.Common.{Option, Some, None, Result, Ok, Err, IfSome, refl, ap, subst, sym, ◌∙◌, drop-cons, inl, inr}
-use Rattle.std.specs.Prelude.{slice_get, if◌then◌else◌}
-use Rattle.std.specs.List.{slice_index_or}
-use Rattle.std.proofs.lemmas.List.{length_push}
-use Rattle.tp_base.specs.declared.refusal.Refusal.{Refusal}
+use Rattle.tp_dag.proofs.Words.{arith, ◌+◌, ◌<◌, ◌≤◌, ◌⊎◌, ℕ, zero, suc, ◌≡◌, List, [], ◌∷◌, length, map, drop, Bool, true, false, IsFalse}
+use Rattle.tp_dag.proofs.Words.{Some, None, refl, ap, subst, sym, ◌∙◌, inl, inr, slice_get, if◌then◌else◌, length_push, Refusal, Event}
+use Rattle.tp_dag.proofs.Words.{Link, Inside, PoolState, Entry, with_input, with_task, Graph, with_inputs, with_next, described}
+use Rattle.tp_dag.proofs.Words.{inputs_refusal, fault_of, class_of, from_of, inputs_of, next_fault, IsFirstFault, entry_of, IsPool}
+use Rattle.tp_dag.proofs.Words.{state_of, input_of, kept_of}
 use Rattle.tp_base.specs.declared.refusal.Refusal.TheVariants as refusal
-use Rattle.tp_base.specs.Checks.{first_refusal}
-use Rattle.tp_dag.specs.declared.entry.Event.{Event}
 use Rattle.tp_dag.specs.declared.entry.Stage.TheVariants as stage
-use Rattle.tp_dag.specs.declared.entry.Link.{Link}
-use Rattle.tp_dag.specs.declared.pool.Pool.TheInside.{Inside}
-use Rattle.tp_dag.specs.State.{PoolState, Entry}
-use Rattle.tp_dag.specs.Calls.{input_checks, with_input, with_task}
-use Rattle.tp_dag.specs.Describing.{Graph, with_inputs, with_next, described, either_refusal, inputs_refusal, fault_of, class_of, from_of}
-use Rattle.tp_dag.specs.Describing.{inputs_of, next_fault, IsFirstFault}
-use Rattle.tp_dag.specs.Kept.{IsPool, state_of, entry_of, input_of, kept_of}
 use Rattle.tp_dag.proofs.Lists.{map_long}
 
 -- ---- inputs
@@ -97,10 +87,10 @@ pub empty_is : (p : Inside) (now : PoolState) → state_of p ≡ now → IsPool 
     → empty p.traced ≡ now
 empty_is p now same i st none = let s : p.started ≡ false = ap (λ (a : PoolState). a.started) same ∙ st in
     let g : p.grown ≡ false = i.settled s in
-    let z : length (map entry_of p.tasks.items) ≡ 0 = ap (λ (a : PoolState). length a.tasks) same ∙ none in
-    let m = map_long entry_of p.tasks.items in let ts = empty_list (map entry_of p.tasks.items) z in
-    let ls = no_links p.links.items (λ k e h. let w = (i.holds.facts.linked k e h).within in absurd (omega (arith, w, m, z))) in
-    let es = empty_list p.events.items (i.room.idle s).1 in sym (ap (λ (b : Bool). record (state_of p) { started = b }) s
+    let z : length (map entry_of p.tasks) ≡ 0 = ap (λ (a : PoolState). length a.tasks) same ∙ none in
+    let m = map_long entry_of p.tasks in let ts = empty_list (map entry_of p.tasks) z in
+    let ls = no_links p.links.items (λ k e h. let w = (i.facts.linked k e h).within in absurd (omega (arith, w, m, z))) in
+    let es = empty_list p.events.items (i.room.none s) in sym (ap (λ (b : Bool). record (state_of p) { started = b }) s
     ∙ (ap (λ (b : Bool). record (state_of p) { started = false; grown = b }) g
     ∙ (ap (λ (xs : List Event). record (state_of p) { started = false; grown = false; kept = kept_of p.traced xs }) es
     ∙ (ap (λ (xs : List Entry). record (state_of p) { started = false; grown = false; kept = kept_of p.traced []; tasks = xs }) ts

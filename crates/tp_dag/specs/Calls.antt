@@ -135,11 +135,7 @@ pub record GoesTo (t : ℕ) (from to : Stage) (e : Event) (old new : PoolState) 
   pub stage : was.stage ≡ from
   pub becomes : new ≡ record old { kept = with_event e old.kept; tasks = slice_set old.tasks t (record was { stage = to }) }
 
--- A ready task of this class; one of the lowest class of which there is one.
-pub record IsReadyOf (class t : ℕ) (a : PoolState) : Type 0 where
-  pub ready : IsReady t a
-  pub of : (x : Entry) → slice_get a.tasks t ≡ Some x → x.class ≡ class
-
+-- A ready task of the lowest class of which there is one.
 pub record IsLowest (t : ℕ) (a : PoolState) : Type 0 where
   pub ready : IsReady t a
   pub lowest : NoneReadyBelow ready.task.class a

@@ -3,34 +3,33 @@ ghost use Rattle.std.specs.Prelude.{◌≡◌, ◌∷◌, []};
 ghost use Rattle.std.specs.Vec.{vec_capacity};
 ghost use Rattle.tp_dag.specs.Kept.{MayLink, Linked};
 
-use crate::counts::{and_zero, one_if, take_if};
+use crate::counts::one_if;
 use crate::entry::{Link, Task, is_done};
+use crate::tasks::Tasks;
 
 /// Lets task `target` read what task `source` makes.
-pub(crate) fn add_link(
-    tasks: &mut Vec<Task>,
-    links: &mut Vec<Link>,
-    ready: &mut [u32; 4],
-    source: u32,
-    target: u32,
-)
-    requires { MayLink target (source ∷ []) tasks.old.items links.old.items ready.old (vec_capacity links.old) }
-    ensures linked { Linked target (source ∷ []) tasks.old.items tasks.new.items links.old.items links.new.items ready.new }
+pub(crate) fn add_link(tasks: &mut Tasks, links: &mut Vec<Link>, source: u32, target: u32)
+    requires { MayLink target (source ∷ []) tasks.old links.old.items (vec_capacity links.old) }
+    ensures linked { Linked target (source ∷ []) tasks.old tasks.new links.old.items links.new.items }
     ensures room { vec_capacity links.new ≡ vec_capacity links.old }
 {
-    let to = tasks[target as usize];
-    let from = tasks[source as usize];
-    let open = !is_done(from.stage);
-    take_if(ready, to.class, and_zero(open, to.missing));
-    tasks[target as usize] = Task {
-        missing: to.missing + one_if(open),
-        inputs: to.inputs + 1,
-        ..to
-    };
-    tasks[source as usize] = Task {
-        outputs: links.len() as u32 + 1,
-        ..from
-    };
+    let to = tasks.at(target);
+    let from = tasks.at(source);
+    tasks.set(
+        target,
+        Task {
+            missing: to.missing + one_if(!is_done(from.stage)),
+            inputs: to.inputs + 1,
+            ..to
+        },
+    );
+    tasks.set(
+        source,
+        Task {
+            outputs: links.len() as u32 + 1,
+            ..from
+        },
+    );
     links.push_reserved(Link {
         source,
         target,
@@ -39,17 +38,11 @@ pub(crate) fn add_link(
 }
 
 /// Lets task `target` read what these tasks make.
-pub(crate) fn add_links(
-    tasks: &mut Vec<Task>,
-    links: &mut Vec<Link>,
-    ready: &mut [u32; 4],
-    sources: &[u32],
-    target: u32,
-)
-    requires { MayLink target sources.now tasks.old.items links.old.items ready.old (vec_capacity links.old) }
-    ensures { Linked target sources.now tasks.old.items tasks.new.items links.old.items links.new.items ready.new }
+pub(crate) fn add_links(tasks: &mut Tasks, links: &mut Vec<Link>, sources: &[u32], target: u32)
+    requires { MayLink target sources.now tasks.old links.old.items (vec_capacity links.old) }
+    ensures { Linked target sources.now tasks.old tasks.new links.old.items links.new.items }
 {
     for source in sources {
-        add_link(tasks, links, ready, *source, target);
+        add_link(tasks, links, *source, target);
     }
 }

@@ -1,6 +1,9 @@
-//! Queues of tasks that became ready, one for each class, first in, first out. The pool checks each task before it dispatches it, so these
-//! calls have no contract.
+//! Queues of tasks that became ready, one for each class, first in, first out. The pool checks each task before it dispatches it, so of these
+//! calls only that for room has a contract.
+ghost use Rattle.std.specs.Prelude.{◌+◌, ◌≤◌, ◌<◌, OnOk};
+ghost use Rattle.std.specs.Vec.{vec_capacity, vec_len};
 
+use crate::tasks::{Tasks, may_begin};
 use std::alloc::{AllocError, Global};
 
 const NONE: u32 = u32::MAX;
@@ -24,15 +27,26 @@ impl Queues {
     }
 
     /// Makes room for more tasks.
-    pub(crate) fn reserve(&mut self, tasks: usize) -> Result<(), AllocError> {
+    pub(crate) fn reserve(&mut self, tasks: usize) -> Result<(), AllocError>
+        ensures { OnOk result (vec_len self.new.next + tasks ≤ vec_capacity self.new.next) }
+    {
         self.next.reserve(tasks)
     }
 
-    /// Adds a task, which is in no queue.
+    /// Adds a task, which is in no queue, and for which room was made.
     #[inline]
-    pub(crate) fn add_task(&mut self) -> Result<(), AllocError> {
-        self.next.push(NONE)?;
-        Ok(())
+    pub(crate) fn add_task(&mut self)
+        requires { vec_len self.old.next < vec_capacity self.old.next }
+    {
+        self.next.push_reserved(NONE);
+    }
+
+    /// Appends each task that lacks nothing to the queue of its class.
+    pub(crate) fn push_ready(&mut self, tasks: &Tasks) {
+        for number in 0..tasks.len() as u32 {
+            let task = tasks.at(number);
+            self.push_if(task.class, number, may_begin(task));
+        }
     }
 
     /// Appends a task to the queue of its class.

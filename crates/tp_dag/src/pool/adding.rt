@@ -10,11 +10,12 @@ ghost use Rattle.tp_dag.specs.State.{is_ready_now};
 ghost use Rattle.tp_dag.specs.Calls.{task_checks, input_checks, outside_checks, release_checks, with_task, with_input, MayHaveInput};
 ghost use Rattle.tp_dag.specs.Calls.{Becomes, one_more, one_less, MayWait, Awaits, lacks_steps};
 
-use crate::counts::{add_if, and_zero, both, either, one_if, take_if};
+use crate::counts::{both, either, one_if};
 use crate::entry::{Task, is_fresh};
 use crate::limits::{MAX_INPUTS, MAX_OUTSIDE, MAX_TASKS};
 use crate::links::add_link;
 use crate::pool::Pool;
+use crate::tasks::may_begin;
 use tp_base::{MAX_STEPS, Refusal};
 
 impl Pool {
@@ -72,11 +73,12 @@ impl Pool {
         if source as usize + 1 >= count {
             return Some(Refusal::NoTask);
         }
-        let target = self.tasks[count - 1];
+        let newest = count as u32 - 1;
+        let target = self.tasks.at(newest);
         if !is_fresh(target.stage) {
             return Some(Refusal::WrongLife);
         }
-        if self.started && self.is_ready_at(count - 1) {
+        if self.started && self.is_ready_at(newest) {
             return Some(Refusal::WrongLife);
         }
         if self.links.len() >= MAX_INPUTS as usize {
@@ -87,11 +89,11 @@ impl Pool {
 
     // whether a task is ready
     #[inline]
-    fn is_ready_at(&self, task: usize) -> bool
+    fn is_ready_at(&self, task: u32) -> bool
         ensures { result ≡ is_ready_now self.now task }
     {
         match self.tasks.get(task) {
-            Some(&found) => and_zero(is_fresh(found.stage), found.missing),
+            Some(found) => may_begin(found),
             None => false,
         }
     }
@@ -104,13 +106,7 @@ impl Pool {
     {
         self.links.reserve(1)?;
         let newest = self.tasks.len() as u32 - 1;
-        add_link(
-            &mut self.tasks,
-            &mut self.links,
-            &mut self.ready,
-            source,
-            newest,
-        );
+        add_link(&mut self.tasks, &mut self.links, source, newest);
         self.grown = either(self.grown, self.started);
         Ok(())
     }
@@ -137,13 +133,13 @@ impl Pool {
         ensures refusal { result ≡ first_refusal (outside_checks self.now task) }
         ensures waits { IfNone result (MayWait task self.now) }
     {
-        let Some(&found) = self.tasks.get(task as usize) else {
+        let Some(found) = self.tasks.get(task) else {
             return Some(Refusal::NoTask);
         };
         if !is_fresh(found.stage) {
             return Some(Refusal::WrongLife);
         }
-        if self.started && self.is_ready_at(task as usize) {
+        if self.started && self.is_ready_at(task) {
             return Some(Refusal::WrongLife);
         }
         if found.outside >= MAX_OUTSIDE {
@@ -156,14 +152,15 @@ impl Pool {
         requires { MayWait task self.old }
         ensures { Becomes task one_more self.old self.new }
     {
-        let was = self.tasks[task as usize];
-        take_if(&mut self.ready, was.class, and_zero(true, was.missing));
-        self.awaiting += one_if(was.outside == 0);
-        self.tasks[task as usize] = Task {
-            missing: was.missing + 1,
-            outside: was.outside + 1,
-            ..was
-        };
+        let was = self.tasks.at(task);
+        self.tasks.set(
+            task,
+            Task {
+                missing: was.missing + 1,
+                outside: was.outside + 1,
+                ..was
+            },
+        );
     }
 
     /// Reports that one input from outside is there for which a task waits.
@@ -187,7 +184,7 @@ impl Pool {
         ensures refusal { result ≡ first_refusal (release_checks self.now task) }
         ensures awaits { IfNone result (Awaits task self.now) }
     {
-        let Some(&found) = self.tasks.get(task as usize) else {
+        let Some(found) = self.tasks.get(task) else {
             return Some(Refusal::NoTask);
         };
         if found.outside == 0 {
@@ -200,16 +197,16 @@ impl Pool {
         requires { Awaits task self.old }
         ensures { Becomes task one_less self.old self.new }
     {
-        let was = self.tasks[task as usize];
-        let last = was.missing == 1;
-        add_if(&mut self.ready, was.class, last);
-        self.awaiting -= one_if(was.outside == 1);
-        self.tasks[task as usize] = Task {
-            missing: was.missing - 1,
-            outside: was.outside - 1,
-            ..was
-        };
-        self.queues
-            .push_if(was.class, task, both(last, self.started));
+        let was = self.tasks.at(task);
+        self.tasks.set(
+            task,
+            Task {
+                missing: was.missing - 1,
+                outside: was.outside - 1,
+                ..was
+            },
+        );
+        let ready = both(self.started, was.missing == 1);
+        self.queues.push_if(was.class, task, ready);
     }
 }

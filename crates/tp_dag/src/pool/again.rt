@@ -4,7 +4,6 @@ ghost use Rattle.tp_base.specs.Checks.{first_refusal};
 ghost use Rattle.tp_dag.specs.Calls.{again_checks, as_described, is_over};
 
 use crate::pool::Pool;
-use crate::reset::reset_tasks;
 use tp_base::Refusal;
 
 impl Pool {
@@ -31,16 +30,12 @@ impl Pool {
     }
 
     fn begin_again(&mut self)
-        requires over { IsTrue (self.old.started && is_over self.old) }
-        requires grown { IsFalse self.old.grown }
+        requires { IsFalse self.old.grown }
         ensures { self.new ≡ as_described self.old }
     {
         self.started = false;
         self.events.clear();
-        self.left = self.tasks.len() as u32;
-        self.running = 0;
-        self.awaiting = 0;
         self.queues.clear();
-        reset_tasks(&mut self.tasks, &mut self.ready);
+        self.tasks.reset();
     }
 }

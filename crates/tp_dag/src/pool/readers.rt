@@ -11,7 +11,6 @@ impl Pool {
     pub fn tasks(&self) -> u32
         ensures { result ≡ length self.now.tasks }
     {
-        self.known();
         self.tasks.len() as u32
     }
 
@@ -19,28 +18,31 @@ impl Pool {
     pub fn ready(&self) -> u32
         ensures { result ≡ ready_tasks self.now }
     {
-        self.ready[0] + self.ready[1] + self.ready[2] + self.ready[3]
+        self.tasks.ready_of(0)
+            + self.tasks.ready_of(1)
+            + self.tasks.ready_of(2)
+            + self.tasks.ready_of(3)
     }
 
     /// Returns the number of tasks that run: dispatched, and not reported done.
     pub fn running(&self) -> u32
         ensures { result ≡ running_tasks self.now }
     {
-        self.running
+        self.tasks.running()
     }
 
     /// Returns the number of tasks that are not done.
     pub fn left(&self) -> u32
         ensures { result ≡ unfinished_tasks self.now }
     {
-        self.left
+        self.tasks.left()
     }
 
     /// Returns whether some task waits for an input from outside.
     pub fn awaits_outside(&self) -> bool
         ensures { result ≡ not (awaiting_tasks self.now == 0) }
     {
-        self.awaiting != 0
+        self.tasks.awaiting() != 0
     }
 
     /// Returns whether the pool was started, and `again` was not called since.
@@ -54,7 +56,7 @@ impl Pool {
     pub fn is_over(&self) -> bool
         ensures { result ≡ (self.now.started && is_over self.now) }
     {
-        self.started && self.left == 0
+        self.started && self.tasks.left() == 0
     }
 
     /// Returns event number `k` of this run, the oldest being 0, if the pool is traced and has as many.

@@ -4,7 +4,7 @@ ghost use Rattle.std.specs.List.{list_all};
 ghost use Rattle.tp_base.specs.Checks.{first_refusal};
 ghost use Rattle.tp_dag.specs.Calls.{spawn_checks, with_spawned, MaySpawn};
 
-use crate::counts::{add_if, both, either, one_if};
+use crate::counts::{both, either};
 use crate::entry::{Stage, Task};
 use crate::events::make_room;
 use crate::limits::{MAX_INPUTS, MAX_OUTSIDE, MAX_TASKS};
@@ -17,14 +17,6 @@ fn all_below(numbers: &[u32], tasks: usize) -> bool
     ensures { result ≡ list_all (λ s. nat_lt s tasks) numbers.now }
 {
     numbers.iter().all(|number| (*number as usize) < tasks)
-}
-
-/// Returns whether the newest task lacks nothing.
-fn lacks_nothing(tasks: &[Task]) -> bool {
-    match tasks.last() {
-        Some(newest) => newest.missing == 0,
-        None => false,
-    }
 }
 
 impl Pool {
@@ -83,32 +75,23 @@ impl Pool {
         ensures err { OnErr result (self.new ≡ self.old) }
         ensures exact { IfErr result (λ r. r ≡ Refusal.NoMemory) }
     {
-        self.tasks.reserve(1)?;
         self.links.reserve(inputs.len())?;
         let traced = both(self.started, self.traced);
-        make_room(&mut self.events, traced, self.left + 1)?;
-        self.queues.add_task()?;
+        make_room(&mut self.events, traced, self.tasks.left() + 1)?;
+        self.queues.reserve(1)?;
         let number = self.tasks.len() as u32;
-        add_if(&mut self.ready, class, outside == 0);
-        self.left += 1;
-        self.awaiting += one_if(outside != 0);
-        self.grown = either(self.grown, self.started);
-        self.tasks.push_reserved(Task {
+        self.tasks.push(Task {
             class,
             stage: Stage::Fresh,
             missing: outside,
             outside,
             inputs: 0,
             outputs: 0,
-        });
-        add_links(
-            &mut self.tasks,
-            &mut self.links,
-            &mut self.ready,
-            inputs,
-            number,
-        );
-        let ready = both(self.started, lacks_nothing(&self.tasks));
+        })?;
+        self.queues.add_task();
+        self.grown = either(self.grown, self.started);
+        add_links(&mut self.tasks, &mut self.links, inputs, number);
+        let ready = both(self.started, self.tasks.is_last_ready());
         self.queues.push_if(class, number, ready);
         Ok(number)
     }

@@ -1,4 +1,4 @@
-use Rattle.tp_dag.proofs.Theorems.{after_its_inputs}
+use Rattle.tp_dag.proofs.Lemmas.{after_its_inputs}
 use Rattle.tp_dag.proofs.laws.dispatched_after_its_inputs.Goals as goal
 
 pub returns : goal.returns

@@ -1,6 +1,5 @@
-use Rattle.std.proofs.Common.{◌+◌, ◌<◌, length, arith}
-use Rattle.tp_dag.specs.Describing.{Graph}
-use Rattle.tp_dag.proofs.Describing.{fault_at, task_at}
+use Rattle.tp_dag.proofs.Words.{◌+◌, ◌<◌, length, arith, Graph}
+use Rattle.tp_dag.proofs.Lemmas.{fault_at, task_at}
 use Rattle.tp_dag.proofs.pool.Pool.add_graph.Goals as goal
 
 pub returns-in-Err-clause-exact : goal.returns-in-Err-clause-exact

@@ -1,4 +1,4 @@
-use Rattle.tp_dag.proofs.Describing.{AddingTasks}
+use Rattle.tp_dag.proofs.Lemmas.{AddingTasks}
 use Rattle.tp_dag.proofs.pool.Pool.add_graph.Given as goal
 
 abbrev pub invariant-loop-t : goal.invariant-loop-t

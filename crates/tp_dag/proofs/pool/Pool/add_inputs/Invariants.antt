@@ -1,4 +1,4 @@
-use Rattle.tp_dag.proofs.Describing.{AddingInputs}
+use Rattle.tp_dag.proofs.Lemmas.{AddingInputs}
 use Rattle.tp_dag.proofs.pool.Pool.add_inputs.Given as goal
 
 abbrev pub invariant-loop-source : goal.invariant-loop-source
