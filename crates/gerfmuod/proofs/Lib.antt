@@ -1,6 +1,7 @@
 -- The files of this folder.
-pub mod DagAnswers
+pub mod Borrowing
 pub mod Ended
+pub mod GraphCalls
 pub mod Kept
 pub mod Recording
 pub mod Room

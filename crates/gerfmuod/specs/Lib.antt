@@ -3,9 +3,9 @@ pub mod Asked
 pub mod Batch
 pub mod Calls
 pub mod CoreSlot
-pub mod Dag
-pub mod DagSlot
 pub mod Events
+pub mod Graph
+pub mod GraphSlot
 pub mod Homes
 pub mod Makers
 pub mod Meanings

@@ -1,14 +1,14 @@
 //! The library for programs in C: the detector (`capi/gerfmuod.h`), the detector of one process of a distributed
-//! program (`capi/gerfmuod_process.h`) and task graphs (`capi/gerfmuod_dag.h`). The headers state what a caller must
+//! program (`capi/gerfmuod_process.h`) and task graphs (`capi/gerfmuod_graph.h`). The headers state what a caller must
 //! ensure.
 #![tactic(auto)]
 
 mod answer;
 mod batch;
 mod calls;
-mod dag;
 mod event;
 mod exports;
+mod graph;
 mod history;
 mod names;
 mod pool;

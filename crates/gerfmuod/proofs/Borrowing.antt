@@ -1,0 +1,42 @@
+-- Shared parts of the proofs of the exported functions that borrow the value at a raw pointer for one call. Assumes `Logic`.
+use Rattle.gerfmuod.proofs.Walks.{◌≡◌, List, [], ◌∷◌, ℕ, Good, Ura, full_share, ent, sep, ex, id⊢, fact, Val, vptr, Logic, sem}
+use Rattle.gerfmuod.proofs.Walks.{Item, Goal, Seq, Step, ‵, ◌$◌, raw, ◌⊛◌, some, later, move, use1, use3, split, fsplit, drop, pick, await, Soaks}
+use Rattle.gerfmuod.proofs.Walks.{RattleType, Ptr, lies_at, block_ptr, layout, Laws, GName, Fml, fsep, fres, flft, flent, lft_new, lft_end, Body}
+use Rattle.gerfmuod.proofs.Walks.{named, SProp, mean, step, heard, lends_ref, ref_back, mem, MutRef, tells, lies_so}
+
+module _ (R : RattleType) {M : Type 1} {𝓤 : Ura M} {𝓛 : Logic 𝓤} {K : Type 0} {Γ : List (Item 𝓤)} {G : Goal 𝓤 𝓛.H} where
+  -- The value at a pointer is lent for a new lifetime: the borrow, the lender's claim, and the lifetime's token.
+  pub lend : K → Soaks G → (b o : ℕ) (n : R.Denot)
+      → ((α : ℕ) (γ : GName) → Seq K 𝓛
+        (‵ ((MutRef (named 0) (α ∷ []) R).own_val (record { ref_ptr = (b, o); ghost_name = γ; now = n }) (vptr b o ∷ []))
+          ∷ ‵ (flent (α ∷ []) (Body (mem R) b o γ)) ∷ ‵ (flft (α ∷ []) full_share) ∷ Γ) G)
+      → Seq K 𝓛 (‵ (lies_at R full_share (block_ptr b o) n) ∷ Γ) G
+  lend t a b o n k =
+      lft_new t a (λ α. move t (1 ∷ []) $
+      use1 𝓛 (later (some (λ (γ : GName).
+      ‵ ((MutRef (named 0) (α ∷ []) R).own_val (record { ref_ptr = (b, o); ghost_name = γ; now = n }) (vptr b o ∷ []))
+      ⊛ ‵ (flent (α ∷ []) (Body (mem R) b o γ)))))
+      (lends_ref 𝓛 R (named 0) (α ∷ []) n b o) $ await t a $ pick t (λ γ. split t $ k α γ))
+
+  -- The call that borrowed it has returned u, and the lifetime ends: the other tokens, the result, and the value, of which the call
+  -- says what it says.
+  pub returned : K → Soaks G → (A : RattleType) → Laws A → {α : ℕ} {γ : GName} (b o : ℕ) {Ws : Type 0} (new : Ws → R.Denot)
+      (Kept Rest : Ws → Fml) (I : Item 𝓤) (Told : A.Denot → R.Denot → Type 0) (v : Val) {P : SProp 𝓤}
+      → ent 𝓤 P (mean 𝓛 (later (some (λ (u : A.Denot). ((‵ (flft (α ∷ []) full_share) ⊛ I) ⊛ ‵ (A.own_val u (v ∷ []))) ⊛
+        some (λ (ws : Ws). ‵ (fsep (fsep (fres γ (R.coded.code (new ws))) (Kept ws)) (Rest ws)) ⊛ raw (fact 𝓤 (Told u (new ws))))))))
+      → ((u : A.Denot) (w : Val) → v ∷ [] ≡ w ∷ [] → Good (layout A) w → Seq K 𝓛 (‵ (A.own_val u (w ∷ [])) ∷ I
+        ∷ raw (ex 𝓤 (λ (y : R.Denot). sep 𝓤 (sem 𝓛 (lies_at R full_share (block_ptr b o) y)) (fact 𝓤 (Told u y)))) ∷ Γ) G)
+      → Seq K 𝓛 (raw P ∷ ‵ (flent (α ∷ []) (Body (mem R) b o γ)) ∷ Γ) G
+  returned t a A laws {α} {γ} b o {Ws} new Kept Rest I Told v is k =
+      use1 𝓛 (later (some (λ (u : A.Denot). ((‵ (flft (α ∷ []) full_share) ⊛ I) ⊛ ‵ (A.own_val u (v ∷ []))) ⊛
+      some (λ (ws : Ws). ‵ (fsep (fsep (fres γ (R.coded.code (new ws))) (Kept ws)) (Rest ws)) ⊛ raw (fact 𝓤 (Told u (new ws))))))) is $
+      await t a $ pick t (λ u. split t $ split t $ split t $ lft_end t a $
+      -- [the lifetime has ended; the other tokens; the result; the call's postcondition; the lender's claim]
+      move t (3 ∷ []) $ pick t (λ ws. split t $ move t (1 ∷ []) $ heard t _ (λ told. fsplit t $ fsplit t $
+      -- [the last value; its borrow; the rest; the lifetime has ended; the other tokens; the result; the lender's claim]
+      move t (3 ∷ 6 ∷ 0 ∷ []) $
+      use3 𝓛 (later (‵ (lies_at R full_share (block_ptr b o) (new ws)))) (ref_back 𝓛 R (α ∷ []) γ (new ws) b o) $ await t a $
+      use1 𝓛 (raw (ex 𝓤 (λ (y : R.Denot). sep 𝓤 (sem 𝓛 (lies_at R full_share (block_ptr b o) y)) (fact 𝓤 (Told u y)))))
+      (lies_so 𝓛 R (block_ptr b o) (Told u) (new ws) told) $
+      -- [the value; its borrow; the rest; the other tokens; the result]
+      move t (1 ∷ []) $ drop t $ move t (1 ∷ []) $ drop t $ move t (2 ∷ 1 ∷ 0 ∷ []) $ tells A laws t u (v ∷ []) (λ w same good. k u w same good))))

@@ -1,0 +1,278 @@
+-- The calls on a task graph as a program in C sees them: for which reason each is refused, what its result is, and what it does. What a
+-- call does to the team of the graph is in the contracts of `tp_team`.
+use Rattle.std.specs.Prelude.{ℕ, ◌+◌, ◌≡◌, ◌<◌, ◌==◌, ◌⊎◌, List, Bool, true, false, not, length, if◌then◌else◌}
+use Rattle.std.specs.Prelude.{Option, Some, None}
+use Rattle.tp_base.specs.declared.Refusal.{Refusal}
+use Rattle.tp_base.specs.declared.Refusal.TheVariants.{HistoryFull, NoMemory, NoPool, BadSpec}
+use Rattle.tp_dag.specs.declared.Event.{Event}
+use Rattle.tp_dag.specs.declared.Event.TheVariants as event
+use Rattle.tp_dag.specs.State.{is_traced, ready_tasks}
+use Rattle.tp_dag.specs.Calls as pool
+use Rattle.tp_dag.specs.Calls.{Becomes, one_more, one_less, event_at, with_spawned}
+use Rattle.tp_dag.specs.Describing.{Graph, IsFirstFault, fault_of}
+use Rattle.tp_team.specs.declared.Arrival.{Arrival}
+use Rattle.tp_team.specs.declared.Arrival.TheVariants.{New, Spun, Woken}
+use Rattle.tp_team.specs.declared.Fault.{Fault}
+use Rattle.tp_team.specs.declared.Reply.{Reply}
+use Rattle.tp_team.specs.declared.State.{State}
+use Rattle.tp_team.specs.declared.TeamRefusal.{TeamRefusal}
+use Rattle.tp_team.specs.declared.TeamRefusal.TheVariants.{Pool}
+use Rattle.tp_team.specs.declared.Turn.{Turn}
+use Rattle.tp_team.specs.declared.Turn.TheVariants.{Run, Spin, Sleep, Over, Refused}
+use Rattle.tp_team.specs.Refusals.{number_of}
+use Rattle.tp_team.specs.State.{Settles}
+use Rattle.tp_team.specs.Calls.{first, of_pool, fault_check, describe_checks, record_checks, start_checks, again_checks, spawn_checks}
+use Rattle.tp_team.specs.Calls.{opened, with_graph, with_pool, repeated, Changes, Starts, Stops, TakesTurn}
+use Rattle.gerfmuod.specs.declared.graph.answer.GraphAnswer.{GraphAnswer}
+use Rattle.gerfmuod.specs.declared.graph.call.Call.{Call}
+use Rattle.gerfmuod.specs.declared.graph.call.Call.TheVariants.{Close, OfTeam}
+use Rattle.gerfmuod.specs.declared.graph.call.TeamCall.{TeamCall}
+use Rattle.gerfmuod.specs.declared.graph.call.TeamCall.TheVariants as call
+
+-- A graph in the caller's memory, and whether it is open.
+pub record GraphState : Type 0 where
+  pub is_open : Bool
+  pub team : State
+
+-- a graph that was opened: traced unless the number is 0
+abbrev pub opened_graph : ℕ → ℕ → GraphState
+opened_graph traced processors = record { is_open = true; team = opened (not (traced == 0)) processors }
+
+-- a graph that was closed: what it allocated was freed
+abbrev pub closed : GraphState
+closed = record { is_open = false; team = opened false 0 }
+
+-- ---- results
+-- the number that no task has
+abbrev pub NO_NUMBER : ℕ
+NO_NUMBER = 4294967295
+
+-- the task of a number, unless no task has it; and back
+abbrev pub task_named : ℕ → Option ℕ
+task_named n = if n == NO_NUMBER then None else Some n
+
+abbrev pub number_or_none : Option ℕ → ℕ
+number_or_none (Some t) = t
+number_or_none None = NO_NUMBER
+
+-- the result of a call that was not refused
+abbrev pub plain : ℕ → ℕ → ℕ → GraphAnswer
+plain next number signals = record { refused = 0; next = next; number = number; signals = signals }
+
+-- the limit that a number would be above
+abbrev pub limit_of_pool : Refusal → ℕ
+limit_of_pool (HistoryFull n) = n
+limit_of_pool _ = 0
+
+abbrev pub limit_of : TeamRefusal → ℕ
+limit_of (Pool r) = limit_of_pool r
+limit_of _ = 0
+
+-- the result of a refused call
+abbrev pub refusal_answer : TeamRefusal → GraphAnswer
+refusal_answer r = record { refused = number_of r; next = 0; number = limit_of r; signals = 0 }
+
+-- the result of a graph that cannot be described, because of a task
+abbrev pub graph_refusal_answer : TeamRefusal → ℕ → GraphAnswer
+graph_refusal_answer r task = record { refused = number_of r; next = 0; number = task; signals = 0 }
+
+-- a fault and its task, with signals
+abbrev pub fault_answer : Fault → ℕ → GraphAnswer
+fault_answer f signals = record { refused = number_of f.refusal; next = 0; number = number_or_none f.task; signals = signals }
+
+-- the result of a turn
+abbrev pub turn_answer : Turn → ℕ → GraphAnswer
+turn_answer (Run t) signals = plain 1 t signals
+turn_answer Spin signals = plain 2 0 signals
+turn_answer Sleep signals = plain 3 0 signals
+turn_answer Over signals = plain 4 0 signals
+turn_answer (Refused f) signals = fault_answer f signals
+
+abbrev pub reply_answer : Reply → GraphAnswer
+reply_answer reply = turn_answer reply.turn reply.signals
+
+-- the fault that ended a graph, if there is one
+abbrev pub found_fault_answer : Option Fault → GraphAnswer
+found_fault_answer (Some f) = fault_answer f 0
+found_fault_answer None = plain 0 0 0
+
+-- an event, if there is one
+abbrev pub event_answer : Option Event → GraphAnswer
+event_answer (Some (event.Begin t)) = plain 1 t 0
+event_answer (Some (event.Done t)) = plain 2 t 0
+event_answer None = plain 0 0 0
+
+-- ---- which call a number is
+abbrev pub call_of : ℕ → Option Call
+call_of n =
+    if n == 0 then Some Close
+    else (if n == 1 then Some (OfTeam call.Start)
+    else (if n == 2 then Some (OfTeam (call.Turn New))
+    else (if n == 3 then Some (OfTeam (call.Turn Spun))
+    else (if n == 4 then Some (OfTeam (call.Turn Woken))
+    else (if n == 5 then Some (OfTeam call.Stop)
+    else (if n == 6 then Some (OfTeam call.Again)
+    else (if n == 7 then Some (OfTeam call.Outside)
+    else (if n == 8 then Some (OfTeam call.Release)
+    else (if n == 9 then Some (OfTeam call.MayRecord)
+    else (if n == 10 then Some (OfTeam call.Fault)
+    else (if n == 11 then Some (OfTeam call.Count)
+    else (if n == 12 then Some (OfTeam call.Event) else None))))))))))))
+
+-- ---- refusals
+-- The call was refused for this reason, and nothing changed.
+pub record IsRefused (r : TeamRefusal) (old : State) (answer : GraphAnswer) (new : State) : Type 0 where
+  pub answer : answer ≡ refusal_answer r
+  pub same : new ≡ old
+
+-- A call that may allocate is also refused if memory ran out.
+abbrev pub MayLackMemory : Bool → State → GraphAnswer → State → Type 0
+MayLackMemory true old answer new = IsRefused (Pool NoMemory) old answer new
+MayLackMemory false old answer new = ⊥
+
+-- The call is refused for the first check that is true, if one is; else it is accepted, or memory ran out.
+abbrev pub IsJudged : Option TeamRefusal → (may_allocate : Bool) → (Accepted : Type 0) → State → GraphAnswer → State → Type 0
+IsJudged (Some r) may_allocate Accepted old answer new = IsRefused r old answer new
+IsJudged None may_allocate Accepted old answer new = Accepted ⊎ MayLackMemory may_allocate old answer new
+
+-- ---- the calls on the team of an open graph
+-- It returns how many threads to signal, and the team changes so.
+abbrev pub Signals : (ℕ → Type 0) → GraphAnswer → Type 0
+Signals Change answer = (signals : ℕ) × (answer ≡ plain 0 0 signals) × Change signals
+
+-- START
+abbrev pub IsStart : ℕ → State → GraphAnswer → State → Type 0
+IsStart threads old answer new =
+    IsJudged (first (start_checks old threads (of_pool (pool.start_checks old.pool)))) (is_traced old.pool)
+    (Signals (λ signals. Starts threads old new signals) answer) old answer new
+
+-- TURN, TURN_SPUN and TURN_WOKEN
+abbrev pub IsTurn : Arrival → ℕ → ℕ → State → GraphAnswer → State → Type 0
+IsTurn arrival done polls old answer new =
+    (reply : Reply) × (answer ≡ reply_answer reply) × TakesTurn arrival (task_named done) polls old new reply
+
+-- STOP
+abbrev pub IsStop : ℕ → State → GraphAnswer → State → Type 0
+IsStop task old answer new = Signals (λ signals. Stops (task_named task) old new signals) answer
+
+-- AGAIN
+abbrev pub IsAgain : State → GraphAnswer → State → Type 0
+IsAgain old answer new =
+    IsJudged (first (again_checks old (of_pool (pool.again_checks old.pool)))) false
+    ((answer ≡ plain 0 0 0) × (new ≡ repeated old)) old answer new
+
+-- OUTSIDE
+abbrev pub IsOutside : ℕ → State → GraphAnswer → State → Type 0
+IsOutside task old answer new =
+    IsJudged (first (fault_check old.fault (of_pool (pool.outside_checks old.pool task)))) false
+    (Signals (λ signals. Changes (Becomes task one_more) old new signals) answer) old answer new
+
+-- RELEASE
+abbrev pub IsRelease : ℕ → State → GraphAnswer → State → Type 0
+IsRelease task old answer new =
+    IsJudged (first (fault_check old.fault (of_pool (pool.release_checks old.pool task)))) false
+    (Signals (λ signals. Changes (Becomes task one_less) old new signals) answer) old answer new
+
+-- MAY_RECORD
+abbrev pub IsMayRecord : State → GraphAnswer → State → Type 0
+IsMayRecord old answer new = IsJudged (first (record_checks old)) false ((answer ≡ plain 0 0 0) × (new ≡ old)) old answer new
+
+-- FAULT
+pub record IsFault (old : State) (answer : GraphAnswer) (new : State) : Type 0 where
+  pub answer : answer ≡ found_fault_answer old.fault
+  pub same : new ≡ old
+
+-- COUNT
+pub record IsCount (old : State) (answer : GraphAnswer) (new : State) : Type 0 where
+  pub answer : answer ≡ plain (ready_tasks old.pool) (length old.pool.tasks) 0
+  pub same : new ≡ old
+
+-- EVENT
+pub record IsEvent (k : ℕ) (old : State) (answer : GraphAnswer) (new : State) : Type 0 where
+  pub answer : answer ≡ event_answer (event_at old.pool.kept k)
+  pub same : new ≡ old
+
+-- each call on a team, with its two arguments
+abbrev pub IsTeamCall : TeamCall → ℕ → ℕ → State → GraphAnswer → State → Type 0
+IsTeamCall call.Start first second old answer new = IsStart first old answer new
+IsTeamCall (call.Turn arrival) first second old answer new = IsTurn arrival first second old answer new
+IsTeamCall call.Stop first second old answer new = IsStop first old answer new
+IsTeamCall call.Again first second old answer new = IsAgain old answer new
+IsTeamCall call.Outside first second old answer new = IsOutside first old answer new
+IsTeamCall call.Release first second old answer new = IsRelease first old answer new
+IsTeamCall call.MayRecord first second old answer new = IsMayRecord old answer new
+IsTeamCall call.Fault first second old answer new = IsFault old answer new
+IsTeamCall call.Count first second old answer new = IsCount old answer new
+IsTeamCall call.Event first second old answer new = IsEvent first old answer new
+
+-- A task that reads these inputs and awaits inputs from outside is added; `number` is its number.
+abbrev pub IsSpawn : ℕ → List ℕ → ℕ → State → GraphAnswer → State → Type 0
+IsSpawn class inputs outside old answer new =
+    IsJudged (first (spawn_checks old (of_pool (pool.spawn_checks old.pool class inputs outside)))) true
+    ((signals : ℕ) × (answer ≡ plain 0 (length old.pool.tasks) signals)
+      × Settles (with_pool (with_spawned class inputs outside old.pool) old) new signals)
+    old answer new
+
+-- The graph cannot be described because of a task, and nothing changed.
+pub record IsRefusedAt (r : TeamRefusal) (task : ℕ) (old : State) (answer : GraphAnswer) (new : State) : Type 0 where
+  pub answer : answer ≡ graph_refusal_answer r task
+  pub same : new ≡ old
+
+-- The whole graph was added: no task has a fault.
+pub record IsDescribed (graph : Graph) (old : State) (answer : GraphAnswer) (new : State) : Type 0 where
+  pub answer : answer ≡ plain 0 0 0
+  pub sound : (t : ℕ) → t + 1 < length graph.offsets → fault_of graph t old.pool ≡ None
+  pub becomes : new ≡ with_graph graph old
+
+-- A graph is refused for the first check of the call that is true, with 0; else it is described, or refused for the first task with a
+-- fault, or memory ran out.
+abbrev pub IsGraphJudged : Option TeamRefusal → Graph → State → GraphAnswer → State → Type 0
+IsGraphJudged (Some r) graph old answer new = IsRefusedAt r 0 old answer new
+IsGraphJudged None graph old answer new =
+    IsDescribed graph old answer new
+    ⊎ ((r : Refusal) × (task : ℕ) × IsFirstFault graph old.pool r task × IsRefusedAt (Pool r) task old answer new)
+    ⊎ ((task : ℕ) × IsRefusedAt (Pool NoMemory) task old answer new)
+
+abbrev pub IsDescribe : Graph → State → GraphAnswer → State → Type 0
+IsDescribe graph old answer new = IsGraphJudged (first (describe_checks graph old)) graph old answer new
+
+-- ---- the exported calls
+-- The call was refused for this reason, and the memory did not change.
+pub record IsRefusedCall (r : Refusal) (old : GraphState) (answer : GraphAnswer) (new : GraphState) : Type 0 where
+  pub answer : answer ≡ refusal_answer (Pool r)
+  pub same : new ≡ old
+
+-- The graph was closed.
+pub record IsClose (answer : GraphAnswer) (new : GraphState) : Type 0 where
+  pub answer : answer ≡ plain 0 0 0
+  pub closed : new ≡ closed
+
+-- The team of the graph changes so, and the graph stays open.
+pub record OfOpen (Call : State → GraphAnswer → State → Type 0) (old : GraphState) (answer : GraphAnswer) (new : GraphState) : Type 0 where
+  pub call : Call old.team answer new.team
+  pub open : new.is_open ≡ true
+
+-- A graph that is not open refuses every call; one that is open takes it.
+abbrev pub IfOpen : Bool → (Taken : Type 0) → GraphState → GraphAnswer → GraphState → Type 0
+IfOpen false Taken old answer new = IsRefusedCall NoPool old answer new
+IfOpen true Taken old answer new = Taken
+
+-- a call of an open graph, or of no number
+abbrev pub IsOpenCall : Option Call → ℕ → ℕ → GraphState → GraphAnswer → GraphState → Type 0
+IsOpenCall None first second old answer new = IsRefusedCall BadSpec old answer new
+IsOpenCall (Some Close) first second old answer new = IsClose answer new
+IsOpenCall (Some (OfTeam c)) first second old answer new = OfOpen (IsTeamCall c first second) old answer new
+
+-- `gerfmuod_graph_call`
+abbrev pub IsGraphCall : GraphState → ℕ → ℕ → ℕ → GraphAnswer → GraphState → Type 0
+IsGraphCall old number first second answer new =
+    IfOpen old.is_open (IsOpenCall (call_of number) first second old answer new) old answer new
+
+-- `gerfmuod_graph_spawn`
+abbrev pub IsSpawnCall : GraphState → ℕ → List ℕ → ℕ → GraphAnswer → GraphState → Type 0
+IsSpawnCall old class inputs outside answer new =
+    IfOpen old.is_open (OfOpen (IsSpawn class inputs outside) old answer new) old answer new
+
+-- `gerfmuod_graph_describe`
+abbrev pub IsDescribeCall : GraphState → Graph → GraphAnswer → GraphState → Type 0
+IsDescribeCall old graph answer new = IfOpen old.is_open (OfOpen (IsDescribe graph) old answer new) old answer new

@@ -1,0 +1,137 @@
+//! The result that each call on a task graph returns to C.
+ghost use Rattle.std.specs.Prelude.{◌≡◌};
+ghost use Rattle.gerfmuod.specs.Graph.{event_answer, fault_answer, found_fault_answer, limit_of, plain, refusal_answer, reply_answer};
+ghost use Rattle.gerfmuod.specs.Graph.{graph_refusal_answer, number_or_none, task_named};
+
+use tp_base::Refusal;
+use tp_dag::Event;
+use tp_team::{Fault, Reply, TeamRefusal, Turn};
+
+/// The number that no task has.
+pub(crate) const NO_NUMBER: u32 = 4_294_967_295;
+
+/// The result of a call on a task graph.
+#[repr(C)]
+#[derive(Clone, Copy, Debug, PartialEq, Eq)]
+pub struct GraphAnswer {
+    /// 0, or the number of the refusal.
+    pub refused: u32,
+    /// Of a turn: 1, run the task `number`; 2, spin; 3, sleep; 4, leave. Else 0, or as the call says.
+    pub next: u32,
+    /// A task or a count, as the call says; if the refusal is `HistoryFull`, the limit that was met. Else 0.
+    pub number: u32,
+    /// The number of sleeping threads to signal.
+    pub signals: u32,
+}
+
+const _: () = prove!(size_of::<GraphAnswer>() == 16);
+
+/// Returns the result of a call that was not refused.
+pub(crate) fn plain(next: u32, number: u32, signals: u32) -> GraphAnswer
+    ensures { result ≡ plain next number signals }
+{
+    GraphAnswer {
+        refused: 0,
+        next,
+        number,
+        signals,
+    }
+}
+
+/// Returns the result of a refused call.
+pub(crate) fn refused(refusal: TeamRefusal) -> GraphAnswer
+    ensures { result ≡ refusal_answer refusal }
+{
+    GraphAnswer {
+        refused: refusal.number(),
+        next: 0,
+        number: limit_of(refusal),
+        signals: 0,
+    }
+}
+
+/// Returns the result of a graph that was refused because of a task.
+pub(crate) fn refused_at(refusal: TeamRefusal, task: u32) -> GraphAnswer
+    ensures { result ≡ graph_refusal_answer refusal task }
+{
+    GraphAnswer {
+        refused: refusal.number(),
+        next: 0,
+        number: task,
+        signals: 0,
+    }
+}
+
+fn limit_of(refusal: TeamRefusal) -> u32
+    ensures { result ≡ limit_of refusal }
+{
+    match refusal {
+        TeamRefusal::Pool(Refusal::HistoryFull(limit)) => limit,
+        _ => 0,
+    }
+}
+
+/// Returns the task of this number, or none if it is the number that no task has.
+pub(crate) fn task_named(number: u32) -> Option<u32>
+    ensures { result ≡ task_named number }
+{
+    if number == NO_NUMBER {
+        None
+    } else {
+        Some(number)
+    }
+}
+
+fn number_or_none(task: Option<u32>) -> u32
+    ensures { result ≡ number_or_none task }
+{
+    match task {
+        Some(number) => number,
+        None => NO_NUMBER,
+    }
+}
+
+fn of_fault(fault: Fault, signals: u32) -> GraphAnswer
+    ensures { result ≡ fault_answer fault signals }
+{
+    GraphAnswer {
+        refused: fault.refusal.number(),
+        next: 0,
+        number: number_or_none(fault.task),
+        signals,
+    }
+}
+
+/// Returns the result of a turn.
+pub(crate) fn of_reply(reply: Reply) -> GraphAnswer
+    ensures { result ≡ reply_answer reply }
+{
+    match reply.turn {
+        Turn::Run(task) => plain(1, task, reply.signals),
+        Turn::Spin => plain(2, 0, reply.signals),
+        Turn::Sleep => plain(3, 0, reply.signals),
+        Turn::Over => plain(4, 0, reply.signals),
+        Turn::Refused(fault) => of_fault(fault, reply.signals),
+    }
+}
+
+/// Returns the fault that ended a graph, if there is one.
+pub(crate) fn of_found_fault(found: Option<Fault>) -> GraphAnswer
+    ensures { result ≡ found_fault_answer found }
+{
+    match found {
+        Some(fault) => of_fault(fault, 0),
+        None => plain(0, 0, 0),
+    }
+}
+
+/// Returns an event, if there is one.
+pub(crate) fn of_event(event: Option<Event>) -> GraphAnswer
+    ensures { result ≡ event_answer event }
+{
+    match event {
+        Some(Event::Begin(task)) => plain(1, task, 0),
+        Some(Event::Done(task)) => plain(2, task, 0),
+        None => plain(0, 0, 0),
+    }
+}

@@ -1,0 +1,68 @@
+//! The content of a `gerfmuod_graph`: a team, and a mark that says whether it is open.
+ghost use Rattle.std.specs.Prelude.{◌≡◌, true};
+ghost use Rattle.gerfmuod.specs.Graph.{closed};
+ghost use Rattle.tp_team.specs.Calls.{opened};
+
+use std::alloc::Global;
+use std::marker::Model;
+use tp_team::Team;
+
+/// The value of `mark` in an open graph: `gerf_dag` in ASCII.
+const MARK: u64 = 0x6765_7266_5f64_6167;
+
+/// The size in bytes of a `gerfmuod_graph` in the header.
+const ROOM: usize = 512;
+
+const _: () = prove!(size_of::<GraphSlot>() <= ROOM);
+
+const _: () = prove!(align_of::<GraphSlot>() <= 8);
+
+/// Compiles only for a type that can be sent to another thread: a program in C may use its graph from any thread.
+fn can_be_sent<T: Send>() {}
+
+/// A graph that is open or not.
+#[derive(Drop)]
+pub(crate) struct GraphSlot {
+    mark: u64,
+    pub(crate) team: Team,
+    alloc: Global,
+}
+
+impl Model for GraphSlot {
+    ghost use Rattle.gerfmuod.specs.Graph.{GraphState};
+
+    ghost Value = { GraphState };
+
+    ghost use Rattle.gerfmuod.specs.GraphSlot.{state_of};
+
+    ghost view = { state_of };
+}
+
+impl GraphSlot {
+    /// Returns an open graph without a task. It allocates nothing.
+    pub(crate) fn open(alloc: Global, traced: bool, processors: u32) -> GraphSlot
+        ensures { result ≡ record { is_open = true; team = opened traced processors } }
+    {
+        can_be_sent::<GraphSlot>();
+        GraphSlot {
+            mark: MARK,
+            team: Team::open(alloc, traced, processors),
+            alloc,
+        }
+    }
+
+    /// Returns whether the graph is open.
+    pub(crate) fn is_open(&self) -> bool
+        ensures { result ≡ self.now.is_open }
+    {
+        self.mark == MARK
+    }
+
+    /// Drops the team, and marks the graph as not open.
+    pub(crate) fn close(&mut self)
+        ensures { self.new ≡ closed }
+    {
+        self.mark = 0;
+        self.team = Team::open(self.alloc, false, 0);
+    }
+}
