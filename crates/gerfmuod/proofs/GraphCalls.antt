@@ -24,9 +24,9 @@ module _ {A : Type 0} where
       → IfSome o (λ x. ◌≡◌ {A = Result A TeamRefusal} (Err r) (Err x)) → (o ≡ Some r) ⊎ ((r ≡ Pool NoMemory) × IsTrue m)
       → a ≡ refusal_answer r → new ≡ old → IsJudged o m P old a new
   refused None m r checks (inl e) is same = absurd (cc)
-  refused None true r checks (inr e) is same = inr (record { answer = is ∙ ap refusal_answer e.0; same = same })
+  refused None true r checks (inr e) is same = inr (record { result = is ∙ ap refusal_answer e.0; same = same })
   refused None false r checks (inr e) is same = absurd (cc)
-  refused (Some x) m r checks exact is same = (let first : r ≡ x = cc in record { answer = is ∙ ap refusal_answer first; same = same })
+  refused (Some x) m r checks exact is same = (let first : r ≡ x = cc in record { result = is ∙ ap refusal_answer first; same = same })
 
 -- The same of a whole graph.
 pub described : (o : Option TeamRefusal) {g : Graph} {old new : State} {a : GraphAnswer}
@@ -41,17 +41,17 @@ pub not_described : (o : Option TeamRefusal) {g : Graph} {old new : State} {a : 
     → a ≡ graph_refusal_answer e.0 e.1 → new ≡ old → IsGraphJudged o g old a new
 not_described None e checks (inl h) is same = absurd (cc)
 not_described None e checks (inr (inl h)) is same =
-    inr (inl (h.0, (e.1, (h.1.1, record { answer = is ∙ ap (λ r. graph_refusal_answer r e.1) h.1.0; same = same }))))
+    inr (inl (h.0, (e.1, (h.1.1, record { result = is ∙ ap (λ r. graph_refusal_answer r e.1) h.1.0; same = same }))))
 not_described None e checks (inr (inr h)) is same =
-    inr (inr (e.1, record { answer = is ∙ ap (λ r. graph_refusal_answer r e.1) h; same = same }))
+    inr (inr (e.1, record { result = is ∙ ap (λ r. graph_refusal_answer r e.1) h; same = same }))
 not_described (Some x) e checks exact is same =
     let first : e ≡ (x, 0) = cc in
-    record { answer = is ∙ ap (λ (p : TeamRefusal × ℕ). graph_refusal_answer p.0 p.1) first; same = same }
+    record { result = is ∙ ap (λ (p : TeamRefusal × ℕ). graph_refusal_answer p.0 p.1) first; same = same }
 
 -- A graph that is not open refuses each call; one that is open takes it.
 pub not_open : (b : Bool) {P : Type 0} {old : GraphState} {a : GraphAnswer} → b ≡ false → a ≡ refusal_answer (Pool NoPool)
     → IfOpen b P old a old
-not_open false e is = record { answer = is; same = refl }
+not_open false e is = record { result = is; same = refl }
 not_open true e is = absurd (cc)
 
 pub if_open : (b : Bool) {P : Type 0} {old new : GraphState} {a : GraphAnswer} → b ≡ true → P → IfOpen b P old a new

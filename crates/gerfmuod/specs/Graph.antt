@@ -122,7 +122,7 @@ call_of n =
 -- ---- refusals
 -- The call was refused for this reason, and nothing changed.
 pub record IsRefused (r : TeamRefusal) (old : State) (answer : GraphAnswer) (new : State) : Type 0 where
-  pub answer : answer ≡ refusal_answer r
+  pub result : answer ≡ refusal_answer r
   pub same : new ≡ old
 
 -- A call that may allocate is also refused if memory ran out.
@@ -179,17 +179,17 @@ IsMayRecord old answer new = IsJudged (first (record_checks old)) false ((answer
 
 -- FAULT
 pub record IsFault (old : State) (answer : GraphAnswer) (new : State) : Type 0 where
-  pub answer : answer ≡ found_fault_answer old.fault
+  pub result : answer ≡ found_fault_answer old.fault
   pub same : new ≡ old
 
 -- COUNT
 pub record IsCount (old : State) (answer : GraphAnswer) (new : State) : Type 0 where
-  pub answer : answer ≡ plain (ready_tasks old.pool) (length old.pool.tasks) 0
+  pub result : answer ≡ plain (ready_tasks old.pool) (length old.pool.tasks) 0
   pub same : new ≡ old
 
 -- EVENT
 pub record IsEvent (k : ℕ) (old : State) (answer : GraphAnswer) (new : State) : Type 0 where
-  pub answer : answer ≡ event_answer (event_at old.pool.kept k)
+  pub result : answer ≡ event_answer (event_at old.pool.kept k)
   pub same : new ≡ old
 
 -- each call on a team, with its two arguments
@@ -215,12 +215,12 @@ IsSpawn class inputs outside old answer new =
 
 -- The graph cannot be described because of a task, and nothing changed.
 pub record IsRefusedAt (r : TeamRefusal) (task : ℕ) (old : State) (answer : GraphAnswer) (new : State) : Type 0 where
-  pub answer : answer ≡ graph_refusal_answer r task
+  pub result : answer ≡ graph_refusal_answer r task
   pub same : new ≡ old
 
 -- The whole graph was added: no task has a fault.
 pub record IsDescribed (graph : Graph) (old : State) (answer : GraphAnswer) (new : State) : Type 0 where
-  pub answer : answer ≡ plain 0 0 0
+  pub result : answer ≡ plain 0 0 0
   pub sound : (t : ℕ) → t + 1 < length graph.offsets → fault_of graph t old.pool ≡ None
   pub becomes : new ≡ with_graph graph old
 
@@ -239,18 +239,18 @@ IsDescribe graph old answer new = IsGraphJudged (first (describe_checks graph ol
 -- ---- the exported calls
 -- The call was refused for this reason, and the memory did not change.
 pub record IsRefusedCall (r : Refusal) (old : GraphState) (answer : GraphAnswer) (new : GraphState) : Type 0 where
-  pub answer : answer ≡ refusal_answer (Pool r)
+  pub result : answer ≡ refusal_answer (Pool r)
   pub same : new ≡ old
 
 -- The graph was closed.
 pub record IsClose (answer : GraphAnswer) (new : GraphState) : Type 0 where
-  pub answer : answer ≡ plain 0 0 0
-  pub closed : new ≡ closed
+  pub result : answer ≡ plain 0 0 0
+  pub becomes : new ≡ closed
 
 -- The team of the graph changes so, and the graph stays open.
 pub record OfOpen (Call : State → GraphAnswer → State → Type 0) (old : GraphState) (answer : GraphAnswer) (new : GraphState) : Type 0 where
-  pub call : Call old.team answer new.team
-  pub open : new.is_open ≡ true
+  pub does : Call old.team answer new.team
+  pub stays : new.is_open ≡ true
 
 -- A graph that is not open refuses every call; one that is open takes it.
 abbrev pub IfOpen : Bool → (Taken : Type 0) → GraphState → GraphAnswer → GraphState → Type 0

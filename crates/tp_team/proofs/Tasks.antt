@@ -1,10 +1,12 @@
 -- The pool's numbers of tasks, and what they mean.
-use Rattle.std.proofs.Common.{◌≡◌, ◌≤◌, ◌<◌, ◌+◌, ℕ, zero, suc, Bool, true, false, List, [], ◌∷◌, Option, Some, None, IsTrue, length, ◌≢◌, subst, refl, ap, sym, ◌∙◌, arith}
+use Rattle.std.proofs.Common.{◌≡◌, ◌≤◌, ◌<◌, ◌+◌, ℕ, zero, suc, Bool, true, false, List, [], ◌∷◌, Option, Some, None, IsTrue, length}
+use Rattle.std.proofs.Common.{◌≢◌, subst, refl, ap, sym, ◌∙◌, arith}
 use Rattle.std.specs.Prelude.{slice_get, nat_lt, ◌&&◌, ◌==◌, ◌↔◌, not, if◌then◌else◌}
 use Rattle.std.proofs.lemmas.Bool.Decides.{nat_tests}
 use Rattle.tp_dag.specs.declared.entry.Stage.{Stage}
 use Rattle.tp_dag.specs.declared.entry.Stage.TheVariants as stage
-use Rattle.tp_dag.specs.State.{PoolState, Entry, IsReady, IsOver, is_done, is_unfinished, count_where, count_below, is_ready_now, ready_tasks}
+use Rattle.tp_dag.specs.State.{PoolState, Entry, IsReady, IsOver, is_done, is_unfinished, count_where, count_below}
+use Rattle.tp_dag.specs.State.{is_ready_now, ready_tasks}
 use Rattle.tp_dag.specs.Laws.{ReadyIsThis}
 use Rattle.tp_dag.specs.Calls.{is_over}
 use Rattle.tp_team.specs.declared.state.State.{State}
@@ -39,9 +41,11 @@ all_done (y ∷ ys) h zero x e =
     (let same : y ≡ x = cc in ap (λ (z : Entry). z.stage) (sym same) ∙ stage_done y.stage (none_left (is_unfinished y) _ h))
 all_done (y ∷ ys) h (suc t) x e = all_done ys (none_more (is_unfinished y) _ h) t x e
 
-pub none_unfinished : (xs : List Entry) → ((t : ℕ) (x : Entry) → slice_get xs t ≡ Some x → x.stage ≡ stage.Done) → count_where is_unfinished xs ≡ 0
+pub none_unfinished : (xs : List Entry) → ((t : ℕ) (x : Entry) → slice_get xs t ≡ Some x → x.stage ≡ stage.Done)
+    → count_where is_unfinished xs ≡ 0
 none_unfinished [] h = refl
-none_unfinished (y ∷ ys) h = both_none (is_unfinished y) _ (done_stage y.stage (h 0 y refl)) (none_unfinished ys (λ t x e. h (suc t) x e))
+none_unfinished (y ∷ ys) h =
+    both_none (is_unfinished y) _ (done_stage y.stage (h 0 y refl)) (none_unfinished ys (λ t x e. h (suc t) x e))
 
 -- ---- some task is ready
 some_below : (test : ℕ → Bool) (n : ℕ) → 1 ≤ count_below test n → (t : ℕ) × (test t ≡ true)
@@ -57,7 +61,8 @@ one_below : (test : ℕ → Bool) (n t : ℕ) → t < n → test t ≡ true → 
 one_below test zero t l e = absurd (omega arith)
 one_below test (suc n) t l e = by_test (test n) refl (λ k. one_below test n t k e)
   where
-    by_test : (b : Bool) → test n ≡ b → (t < n → 1 ≤ count_below test n) → 1 ≤ (if test n then count_below test n + 1 else count_below test n)
+    by_test : (b : Bool) → test n ≡ b → (t < n → 1 ≤ count_below test n)
+        → 1 ≤ (if test n then count_below test n + 1 else count_below test n)
     by_test true f rest = rw f (omega arith)
     by_test false f rest =
         let k : t ≢ n = (λ s. absurd (let g = ap test s in cc)) in
@@ -106,7 +111,8 @@ and_both : (a b : Bool) → a ≡ true → b ≡ true → a && b ≡ true
 and_both true b h k = k
 and_both false b h k = cc
 
-pub finished_test : (a : State) (r : Bool) → r ≡ (a.pool.started && is_over a.pool) → (IsTrue r → HasFinished a) × (HasFinished a → IsTrue r)
+pub finished_test : (a : State) (r : Bool) → r ≡ (a.pool.started && is_over a.pool)
+    → (IsTrue r → HasFinished a) × (HasFinished a → IsTrue r)
 finished_test a r e = (
   λ h. record {
     started = and_left a.pool.started _ (sym e ∙ h);

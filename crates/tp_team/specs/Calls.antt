@@ -1,5 +1,5 @@
 -- The calls of a team: for which reasons each is refused, in their order, and what it does.
-use Rattle.std.specs.Prelude.{ℕ, ◌+◌, ◌≡◌, ◌≤◌, ◌<◌, ◌==◌, ◌&&◌, ◌||◌, ◌⊎◌, ◌↔◌, List, [], ◌∷◌, ◌++◌, Bool, true, false, length}
+use Rattle.std.specs.Prelude.{ℕ, ◌+◌, ◌-◌, ◌≡◌, ◌≤◌, ◌<◌, ◌==◌, ◌&&◌, ◌||◌, ◌⊎◌, ◌↔◌, List, [], ◌∷◌, ◌++◌, Bool, true, false, length}
 use Rattle.std.specs.Prelude.{Option, Some, None, IsTrue, IsSome, IfSome, IfNone, nat_lt, nat_le, slice_get, if◌then◌else◌}
 use Rattle.tp_base.specs.declared.refusal.Refusal.{Refusal}
 use Rattle.tp_base.specs.declared.refusal.Refusal.TheVariants as refusal
@@ -45,8 +45,8 @@ abbrev pub has_finished : State → Bool
 has_finished a = a.pool.started && dag.is_over a.pool
 
 -- The checks of each call. The last ones are the pool's.
-abbrev pub describe_checks : State → List Check → List Check
-describe_checks a pool = fault_check a.fault ((a.pool.started, team.Pool refusal.WrongLife) ∷ pool)
+abbrev pub describe_checks : Graph → State → List Check
+describe_checks g a = fault_check a.fault (of_pool (graph.describe_checks g a.pool))
 
 abbrev pub record_checks : State → List Check
 record_checks a = fault_check a.fault ((is_busy a, team.Running) ∷ (a.pool.started, team.Pool refusal.WrongLife) ∷ [])
@@ -65,12 +65,12 @@ again_checks a pool = fault_check a.fault ((is_busy a, team.Running) ∷ pool)
 abbrev pub spawn_checks : State → List Check → List Check
 spawn_checks a pool = fault_check a.fault ((has_finished a, team.Pool refusal.Ended) ∷ pool)
 
--- Why a whole graph is refused, with the number of a task.
+-- Why a whole graph is refused, with the number of a task: a check of the call, the first fault of the graph, or out of memory.
 abbrev pub IsGraphRefusal : Graph → State → TeamRefusal → ℕ → Type 0
 IsGraphRefusal g a r t =
-    (first (describe_checks a (of_pool (graph.describe_checks g a.pool))) ≡ Some r)
+    (first (describe_checks g a) ≡ Some r)
+    ⊎ ((fault : Refusal) × ((r ≡ team.Pool fault) × IsFirstFault g a.pool fault t))
     ⊎ (r ≡ team.Pool refusal.NoMemory)
-    ⊎ ((fault : Refusal) × (r ≡ team.Pool fault) × IsFirstFault g a.pool fault t)
 
 -- ---- what the calls do
 abbrev pub with_pool : PoolState → State → State
@@ -85,6 +85,10 @@ opened traced processors = record {
   fault = None;
 }
 
+-- the graph, as if its tasks and inputs were added in order
+abbrev pub with_graph : Graph → State → State
+with_graph g a = with_pool (graph.described g (length g.offsets - 1) a.pool) a
+
 abbrev pub repeated : State → State
 repeated a = record a { pool = dag.as_described a.pool; threads = 0 }
 
@@ -96,7 +100,11 @@ pub record Changes (Change : PoolState → PoolState → Type 0) (old new : Stat
 
 pub record Starts (threads : ℕ) (old new : State) (signals : ℕ) : Type 0 where
   pub all : signals ≡ old.waiting.sleeping
-  pub becomes : new ≡ record old { pool = record old.pool { started = true }; threads = threads; waiting = signalled_by signals old.waiting }
+  pub becomes : new ≡ record old {
+    pool = record old.pool { started = true };
+    threads = threads;
+    waiting = signalled_by signals old.waiting;
+  }
 
 -- The first fault stays, and a run that has finished cannot be stopped.
 abbrev pub stopped_by : (ended : Bool) → Option ℕ → State → State
@@ -116,9 +124,11 @@ came arrival a = record a { waiting = left arrival a.waiting }
 pub record ReportsTask (t : ℕ) (old new : State) : Type 0 where
   pub ended : IsSome old.fault → new ≡ old
   pub wrong : old.fault ≡ None
-      → IfSome (base.first_refusal (dag.done_checks old.pool t)) (λ r. new ≡ record old { fault = Some (record { refusal = team.Pool r; task = Some t }) })
+      → IfSome (base.first_refusal (dag.done_checks old.pool t))
+      (λ r. new ≡ record old { fault = Some (record { refusal = team.Pool r; task = Some t }) })
   pub done : old.fault ≡ None
-      → IfNone (base.first_refusal (dag.done_checks old.pool t)) ((pool : PoolState) × IsReported t old.pool pool × (new ≡ with_pool pool old))
+      → IfNone (base.first_refusal (dag.done_checks old.pool t))
+      ((pool : PoolState) × IsReported t old.pool pool × (new ≡ with_pool pool old))
 
 abbrev pub Reports : Option ℕ → State → State → Type 0
 Reports None old new = new ≡ old

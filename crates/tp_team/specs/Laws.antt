@@ -1,15 +1,19 @@
--- What follows from the contracts: a team is never stuck, and it knows how many turns have not returned.
-use Rattle.std.specs.Prelude.{ℕ, ◌+◌, ◌≡◌, ◌≤◌, List, [], ◌∷◌, Bool, Option, Some, IsTrue, slice_get}
+-- What follows from the contracts: a team is never stuck, it knows how many turns have not returned, it loses no wake-up, and it
+-- dispatches each task of a run once.
+use Rattle.std.specs.Prelude.{ℕ, ◌+◌, ◌≡◌, ◌≤◌, ◌==◌, List, [], ◌∷◌, Bool, false, Option, Some, IsTrue, IsFalse, slice_get}
+use Rattle.std.specs.Prelude.{if◌then◌else◌}
 use Rattle.tp_dag.specs.declared.entry.Stage.TheVariants as stage
 use Rattle.tp_dag.specs.State.{PoolState, Entry, IsAt}
+use Rattle.tp_dag.specs.Calls.{Becomes, one_more, one_less, with_spawned}
+use Rattle.tp_dag.specs.Describing.{Graph}
 use Rattle.tp_team.specs.declared.turn.Arrival.{Arrival}
 use Rattle.tp_team.specs.declared.turn.Arrival.TheVariants as arrival
 use Rattle.tp_team.specs.declared.turn.Turn.{Turn}
 use Rattle.tp_team.specs.declared.turn.Turn.TheVariants as turn
 use Rattle.tp_team.specs.declared.turn.Reply.{Reply}
 use Rattle.tp_team.specs.declared.state.State.{State}
-use Rattle.tp_team.specs.State.{HasReady, HasEnded, Settles, in_turns}
-use Rattle.tp_team.specs.Calls.{TakesTurn, Starts, Stops, opened, repeated, with_pool}
+use Rattle.tp_team.specs.State.{HasReady, HasEnded, LosesNoWakeUp, Settles, in_turns}
+use Rattle.tp_team.specs.Calls.{TakesTurn, Starts, Stops, Changes, opened, repeated, with_graph, with_pool}
 
 -- A run is on and has not ended, no task runs, and no task waits for an input from outside.
 pub record IsIdle (a : State) : Type 0 where
@@ -24,15 +28,18 @@ pub record NeverStuck (a : State) : Type 0 where
   pub awake : IsIdle a → 1 ≤ a.waiting.sleeping → 1 ≤ a.waiting.spinning + a.waiting.signalled
 
 -- ---- sequences of calls
+-- An accepted call, and what it returned. A refused call changes nothing.
 pub data Call : Type 0 where
-  Turned : (arrival : Arrival) (done : Option ℕ) (polls : ℕ) (reply : Reply) → Call
+  Described : (graph : Graph) → Call
+  Spawned : (class : ℕ) (inputs : List ℕ) (outside signals : ℕ) → Call
+  -- `outside` and `release`
+  Expected : (task signals : ℕ) → Call
+  Released : (task signals : ℕ) → Call
   Started : (threads signals : ℕ) → Call
+  Turned : (arrival : Arrival) (done : Option ℕ) (polls : ℕ) (reply : Reply) → Call
   Stopped : (task : Option ℕ) (signals : ℕ) → Call
+  -- `again`
   Repeated : Call
-  -- task and input
-  Described : (pool : PoolState) → Call
-  -- outside, release and spawn
-  Changed : (pool : PoolState) (signals : ℕ) → Call
 
 -- A thread that comes back was told to wait.
 abbrev pub WasTold : Arrival → State → Type 0
@@ -40,13 +47,16 @@ WasTold arrival.New a = Unit {0}
 WasTold arrival.Spun a = 1 ≤ a.waiting.spinning
 WasTold arrival.Woken a = 1 ≤ a.waiting.sleeping + a.waiting.signalled
 
+-- What the call's contract says of the states before and after it. A graph is described before the start alone.
 abbrev pub Does : Call → State → State → Type 0
-Does (Turned arrival done polls reply) a b = WasTold arrival a × TakesTurn arrival done polls a b reply
+Does (Described graph) a b = IsFalse a.pool.started × (b ≡ with_graph graph a)
+Does (Spawned class inputs outside signals) a b = Settles (with_pool (with_spawned class inputs outside a.pool) a) b signals
+Does (Expected task signals) a b = Changes (Becomes task one_more) a b signals
+Does (Released task signals) a b = Changes (Becomes task one_less) a b signals
 Does (Started threads signals) a b = Starts threads a b signals
+Does (Turned arrival done polls reply) a b = WasTold arrival a × TakesTurn arrival done polls a b reply
 Does (Stopped task signals) a b = Stops task a b signals
 Does Repeated a b = b ≡ repeated a
-Does (Described pool) a b = b ≡ with_pool pool a
-Does (Changed pool signals) a b = Settles (with_pool pool a) b signals
 
 -- These calls, the newest first, lead to this state.
 abbrev pub LeadTo : Bool → ℕ → List Call → State → Type 0
@@ -79,4 +89,26 @@ returned (_ ∷ past) = returned past
 
 -- The threads that a team counts are those that were told to wait and have not come back.
 abbrev pub CountsThreads : Type 0
-CountsThreads = (traced : Bool) (processors : ℕ) (calls : List Call) (a : State) → LeadTo traced processors calls a → in_turns a.waiting + returned calls ≡ told calls
+CountsThreads = (traced : Bool) (processors : ℕ) (calls : List Call) (a : State) → LeadTo traced processors calls a
+    → in_turns a.waiting + returned calls ≡ told calls
+
+-- If a task is ready in a run, then no thread sleeps, or some thread spins or was signalled. Once the team has ended, each thread that
+-- sleeps was signalled.
+abbrev pub NeverLosesWakeUp : Type 0
+NeverLosesWakeUp = (traced : Bool) (processors : ℕ) (calls : List Call) (a : State) → LeadTo traced processors calls a → LosesNoWakeUp a
+
+abbrev pub runs : ℕ → Turn → Bool
+runs t (turn.Run u) = u == t
+runs t _ = false
+
+-- how many turns of this run, which are those since the last `again`, told their thread to run task t
+abbrev pub dispatches : ℕ → List Call → ℕ
+dispatches t [] = 0
+dispatches t (Repeated ∷ past) = 0
+dispatches t (Turned _ _ _ reply ∷ past) = if runs t reply.turn then dispatches t past + 1 else dispatches t past
+dispatches t (_ ∷ past) = dispatches t past
+
+-- Within a run, no two turns tell a thread to run the same task.
+abbrev pub DispatchesOnce : Type 0
+DispatchesOnce = (traced : Bool) (processors : ℕ) (calls : List Call) (a : State) (t : ℕ) → LeadTo traced processors calls a
+    → dispatches t calls ≤ 1

@@ -9,10 +9,10 @@ mod team;
 mod turn;
 mod waiting;
 
+pub use laws::{counts_threads, dispatched_once, loses_no_wake_up};
 pub use limits::MAX_THREADS;
 pub use refusal::{Fault, TeamRefusal};
 pub use state::State;
 pub use team::Team;
 pub use turn::{Arrival, Reply, Spawned, Turn};
 pub use waiting::Waiting;
-

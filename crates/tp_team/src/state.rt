@@ -1,9 +1,10 @@
 //! A team's parts, and the steps that its calls are made of. Between two steps a wake-up may be missing.
-ghost use Rattle.std.specs.Prelude.{◌&&◌, ◌==◌, ◌≡◌, ◌≤◌, ◌<◌, ◌+◌, ◌↔◌, ◌⊎◌, ◌∷◌, [], ℕ, IsTrue, IsSome, IfSome, IfNone, Some, None, Ok, Err};
+ghost use Rattle.std.specs.Prelude.{◌&&◌, ◌==◌, ◌≡◌, ◌≤◌, ◌<◌, ◌+◌, ◌↔◌, ◌⊎◌, ◌∷◌, [], ℕ, IsTrue};
+ghost use Rattle.std.specs.Prelude.{IsSome, IfSome, IfNone, Some, None, Ok, Err};
 ghost use Rattle.tp_team.specs.declared.limits.TheConstants.{MAX_THREADS};
 ghost use Rattle.tp_team.specs.declared.state.State.{State};
 ghost use Rattle.tp_team.specs.State.{in_turns, HasEnded, HasFinished, HasReady, Settles, LosesNoWakeUp};
-ghost use Rattle.tp_team.specs.Calls.{first, fault_check, describe_checks, again_checks, spawn_checks, start_checks};
+ghost use Rattle.tp_team.specs.Calls.{first, fault_check, again_checks, spawn_checks, start_checks};
 ghost use Rattle.tp_team.specs.Calls.{Reports, Decides, HasToWait, stopped_by, may_spin};
 ghost use Rattle.tp_team.specs.Calls as of_calls;
 
@@ -83,16 +84,6 @@ impl State {
             return Some(refusal);
         }
         None
-    }
-
-    /// Why no graph may be described now.
-    pub(crate) fn describe_refusal(&self) -> Option<TeamRefusal>
-        ensures { result ≡ first (describe_checks self.now []) }
-    {
-        self.fault_or(
-            self.pool.is_started(),
-            TeamRefusal::Pool(Refusal::WrongLife),
-        )
     }
 
     /// Why no run may be prepared now, but for the pool's reasons.

@@ -1,13 +1,16 @@
 //! The team: its calls. Each is made under one lock of the caller.
-ghost use Rattle.std.specs.Prelude.{◌≡◌, ◌≤◌, ◌+◌, ◌-◌, ◌⊎◌, ℕ, length, Ok, Err, Some, None, IfOk, OnOk, OnErr, IfErr, IfSome, IsTrue, true, false};
+ghost use Rattle.std.specs.Prelude.{◌≡◌, ◌≤◌, ◌<◌, ◌+◌, ◌-◌, ◌⊎◌, ℕ, length, Ok, Err, Some, None, IsTrue, true, false};
+ghost use Rattle.std.specs.Prelude.{IfOk, OnOk, OnErr, IfErr, IfSome};
 ghost use Rattle.tp_base.specs.declared.refusal.Refusal.TheVariants as refusal;
 ghost use Rattle.tp_dag.specs.State.{is_traced, ready_tasks};
 ghost use Rattle.tp_dag.specs.Calls as dag;
 ghost use Rattle.tp_dag.specs.Calls.{Becomes, one_more, one_less};
+ghost use Rattle.tp_dag.specs.Describing.{fault_of};
 ghost use Rattle.tp_team.specs.declared.refusal.TeamRefusal.TheVariants as team;
 ghost use Rattle.tp_team.specs.State.{LosesNoWakeUp, Settles};
 ghost use Rattle.tp_team.specs.Calls.{first, of_pool, fault_check, describe_checks, record_checks, start_checks, again_checks, spawn_checks};
-ghost use Rattle.tp_team.specs.Calls.{opened, Changes, with_pool, repeated, Starts, Stops, TakesTurn};
+ghost use Rattle.tp_team.specs.Calls.{IsGraphRefusal};
+ghost use Rattle.tp_team.specs.Calls.{opened, Changes, with_pool, with_graph, repeated, Starts, Stops, TakesTurn};
 ghost use Rattle.tp_team.specs.Laws.{NeverStuck};
 
 use crate::refusal::{Fault, TeamRefusal};
@@ -62,39 +65,32 @@ impl Team {
         never_silent();
     }
 
-    /// Describes one more task of a class 0 to 3. Returns its number.
+    /// Describes a whole graph of `offsets.len() - 1` tasks, as `Pool::describe` does, all of it or nothing.
     ///
-    /// Refused, and nothing changes: the fault; `WrongLife` if a run was started; `BadSpec` if the class is above 3; `HistoryFull` if
-    /// there are as many tasks as may be; `NoMemory`.
-    pub fn task(&mut self, class: u32) -> Result<u32, TeamRefusal>
-        ensures ok { IfOk result (λ t. (t ≡ length self.old.pool.tasks) × (self.new ≡ with_pool (dag.with_task class self.old.pool) self.old)) }
+    /// Refused with the number of a task, and nothing changes: the fault, with 0; `WrongLife` with 0 if the team has tasks or a run was
+    /// started; and as the pool's `describe`.
+    pub fn describe(
+        &mut self,
+        classes: &[u8],
+        offsets: &[u32],
+        inputs: &[u32],
+    ) -> Result<(), (TeamRefusal, u32)>
+        ensures ok { OnOk result (self.new ≡
+            with_graph (record { classes = classes.now; offsets = offsets.now; inputs = inputs.now }) self.old) }
+        ensures none { OnOk result ((t : ℕ) → t + 1 < length offsets.now
+            → fault_of (record { classes = classes.now; offsets = offsets.now; inputs = inputs.now }) t self.old.pool ≡ None) }
         ensures err { OnErr result (self.new ≡ self.old) }
-        ensures checks { IfSome (first (describe_checks self.old (of_pool (dag.task_checks self.old.pool class)))) (λ r. result ≡ Err r) }
-        ensures exact { IfErr result (λ r. (first (describe_checks self.old (of_pool (dag.task_checks self.old.pool class))) ≡ Some r)
-            ⊎ (r ≡ team.Pool refusal.NoMemory)) }
+        ensures checks { IfSome (first (describe_checks
+            (record { classes = classes.now; offsets = offsets.now; inputs = inputs.now }) self.old)) (λ r. result ≡ Err (r, 0)) }
+        ensures exact { IfErr result (λ e. IsGraphRefusal
+            (record { classes = classes.now; offsets = offsets.now; inputs = inputs.now }) self.old e.0 e.1) }
     {
-        if let Some(refusal) = self.state.describe_refusal() {
-            return Err(refusal);
+        if let Some(fault) = self.state.fault {
+            return Err((fault.refusal, 0));
         }
-        let task = self.state.pool.task(class)?;
-        Ok(task)
-    }
-
-    /// Lets the newest task read what an earlier one makes.
-    ///
-    /// Refused, and nothing changes: the fault; `WrongLife` if a run was started; `NoTask` if the source is not an earlier task;
-    /// `HistoryFull` if there are as many inputs as may be; `NoMemory`.
-    pub fn input(&mut self, source: u32) -> Result<(), TeamRefusal>
-        ensures ok { OnOk result (self.new ≡ with_pool (dag.with_input source self.old.pool) self.old) }
-        ensures err { OnErr result (self.new ≡ self.old) }
-        ensures checks { IfSome (first (describe_checks self.old (of_pool (dag.input_checks self.old.pool source)))) (λ r. result ≡ Err r) }
-        ensures exact { IfErr result (λ r. (first (describe_checks self.old (of_pool (dag.input_checks self.old.pool source))) ≡ Some r)
-            ⊎ (r ≡ team.Pool refusal.NoMemory)) }
-    {
-        if let Some(refusal) = self.state.describe_refusal() {
-            return Err(refusal);
+        if let Err((refusal, task)) = self.state.pool.describe(classes, offsets, inputs) {
+            return Err((TeamRefusal::Pool(refusal), task));
         }
-        self.state.pool.input(source)?;
         Ok(())
     }
 
@@ -183,7 +179,8 @@ impl Team {
     pub fn outside(&mut self, task: u32) -> Result<u32, TeamRefusal>
         ensures ok { IfOk result (λ signals. Changes (Becomes task one_more) self.old self.new signals) }
         ensures err { OnErr result (self.new ≡ self.old) }
-        ensures checks { IfSome (first (fault_check self.old.fault (of_pool (dag.outside_checks self.old.pool task)))) (λ r. result ≡ Err r) }
+        ensures checks { IfSome (first (fault_check self.old.fault (of_pool (dag.outside_checks self.old.pool task))))
+            (λ r. result ≡ Err r) }
         ensures exact { IfErr result (λ r. first (fault_check self.old.fault (of_pool (dag.outside_checks self.old.pool task))) ≡ Some r) }
     {
         if let Some(fault) = self.state.fault {
@@ -201,7 +198,8 @@ impl Team {
     pub fn release(&mut self, task: u32) -> Result<u32, TeamRefusal>
         ensures ok { IfOk result (λ signals. Changes (Becomes task one_less) self.old self.new signals) }
         ensures err { OnErr result (self.new ≡ self.old) }
-        ensures checks { IfSome (first (fault_check self.old.fault (of_pool (dag.release_checks self.old.pool task)))) (λ r. result ≡ Err r) }
+        ensures checks { IfSome (first (fault_check self.old.fault (of_pool (dag.release_checks self.old.pool task))))
+            (λ r. result ≡ Err r) }
         ensures exact { IfErr result (λ r. first (fault_check self.old.fault (of_pool (dag.release_checks self.old.pool task))) ≡ Some r) }
     {
         if let Some(fault) = self.state.fault {
@@ -225,10 +223,13 @@ impl Team {
         outside: u32,
     ) -> Result<Spawned, TeamRefusal>
         ensures task { IfOk result (λ s. s.task ≡ length self.old.pool.tasks) }
-        ensures ok { IfOk result (λ s. Settles (with_pool (dag.with_spawned class inputs.now outside self.old.pool) self.old) self.new s.signals) }
+        ensures ok { IfOk result (λ s.
+            Settles (with_pool (dag.with_spawned class inputs.now outside self.old.pool) self.old) self.new s.signals) }
         ensures err { OnErr result (self.new ≡ self.old) }
-        ensures checks { IfSome (first (spawn_checks self.old (of_pool (dag.spawn_checks self.old.pool class inputs.now outside)))) (λ r. result ≡ Err r) }
-        ensures exact { IfErr result (λ r. (first (spawn_checks self.old (of_pool (dag.spawn_checks self.old.pool class inputs.now outside))) ≡ Some r)
+        ensures checks { IfSome (first (spawn_checks self.old (of_pool (dag.spawn_checks self.old.pool class inputs.now outside))))
+            (λ r. result ≡ Err r) }
+        ensures exact { IfErr result (λ r.
+            (first (spawn_checks self.old (of_pool (dag.spawn_checks self.old.pool class inputs.now outside))) ≡ Some r)
             ⊎ (r ≡ team.Pool refusal.NoMemory)) }
     {
         if let Some(refusal) = self.state.spawn_refusal() {

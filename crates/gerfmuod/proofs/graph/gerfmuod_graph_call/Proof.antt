@@ -1,5 +1,5 @@
 -- The proof of `gerfmuod_graph_call`: it borrows the graph for a lifetime that is created for the call.
-use Rattle.gerfmuod.proofs.Walks.{[], ◌∷◌, ◌++◌, ℕ, refl, ap, w32, MutBor, proved, full_share, id⊢, Lft, ftrue, Fml, named, vint, vptr}
+use Rattle.gerfmuod.proofs.Walks.{List, [], ◌∷◌, ◌++◌, refl, ap, w32, MutBor, proved, full_share, id⊢, ftrue, named, Val, vint, vptr}
 use Rattle.gerfmuod.proofs.Walks.{WpFn, tables, ‵, raw, prop, ◌$◌, ◌∵◌, !, qed, done, move, keep, drop, use2, join, regoal, suffices, group}
 use Rattle.gerfmuod.proofs.Walks.{enter, of_opd, addr, stop, no_more, and_then, returns, alloc_all, pass_all, free_all, look_at, get, through}
 use Rattle.gerfmuod.proofs.Walks.{sets, lands_as, u32, yes, Is, uint_Makes, uint_vals, uint_Tells, Ptr, RawPtr, block_ptr, lies_at, in_a_block}
@@ -31,7 +31,7 @@ gerfmuod_graph_call_spec 𝓤 𝓛 𝓜 𝓡 wired =
     (λ κs qs bounds a n are.
     let k = a.1.0 in let i = a.1.1.0 in let j = a.1.1.1.0 in
     let fk = are.1.0.1 in let fi = are.1.1.0.1 in let fj = are.1.1.1.0.1 in
-    let vs = (vint w32 k ∷ [], (vint w32 i ∷ [], (vint w32 j ∷ [], tt))) in
+    let vs : List Val × (List Val × (List Val × Unit {0})) = (vint w32 k ∷ [], (vint w32 i ∷ [], (vint w32 j ∷ [], tt))) in
     let y : Ptr → W.Ghost = λ p. ((κs, qs, bounds, (p, (k, (i, (j, tt)))), (rawptr_vals p, vs)), n) in
     qed 𝓛 (raw (on_entry 𝓛 f.signature κs qs a (y a.0).0.4) ∷ ‵ (lies_at R full_share a.0 n) ∷ []) ∵ drop ! $
     in_a_block ! a.0 (λ p. lies_at R full_share p n) (id⊢ 𝓤 _) (λ b o e.
@@ -58,4 +58,4 @@ gerfmuod_graph_call_spec 𝓤 𝓛 𝓜 𝓡 wired =
     suffices ! _ (ends_at 𝓛 f.ended stayed c (y (block_ptr b o)) w u (tt, (tt, (tt, (tt, tt)))) (tt, (tt, (tt, (tt, tt))))) $
     -- [the result; the tokens, which are none; the graph]
     nothing ! $ nothing ! $ join ! $ nothing ! $ join ! $ nothing ! $ join ! $ nothing ! $ join ! $ move ! (2 ∷ 0 ∷ 1 ∷ []) $
-    group ! 3 $ done !)))))))
+    group ! 3 $ done !))))))

@@ -1,0 +1,38 @@
+use Rattle.std.proofs.Common.{◌-◌, ℕ, List, Err, length, ap, subst, ◌∙◌}
+use Rattle.tp_dag.specs.State.{PoolState}
+use Rattle.tp_dag.specs.Describing as graph
+use Rattle.tp_dag.specs.Describing.{Graph}
+use Rattle.tp_team.specs.declared.refusal.TeamRefusal.{TeamRefusal}
+use Rattle.tp_team.specs.declared.refusal.TeamRefusal.TheVariants as team
+use Rattle.tp_team.specs.declared.state.State.{State}
+use Rattle.tp_team.specs.Calls.{first, of_pool, describe_checks, IsGraphRefusal}
+use Rattle.tp_team.proofs.Refusing.{ObeysAt0, no_fault, none_at_graph, graph_refused, graph_exact}
+use Rattle.tp_team.proofs.Waking.{unstarted, accepted_unstarted, described_started}
+use Rattle.tp_team.proofs.team.Team.describe.Goals as goal
+
+abbrev graph_of : List ℕ → List ℕ → List ℕ → Graph
+graph_of cs os is = record { classes = cs; offsets = os; inputs = is }
+
+pub returns-in-Err-clause-checks : goal.returns-in-Err-clause-checks
+returns-in-Err-clause-checks c =
+    let a = c.self.inside.state in
+    let g = graph_of c.args.classes.now c.args.offsets.now c.args.inputs.now in
+    let cs = graph.describe_checks g a.pool in
+    subst (λ (a : State). ObeysAt0 TeamRefusal (first (describe_checks g a)) (Err (team.Pool c.in-Err.refusal, c.in-Err.task)))
+    c.self.view_is
+    (graph_refused _ cs c.in-Err.refusal c.in-Err.task (no_fault a.fault (of_pool cs) c.in_default.is) c.in-Err.ensures.checks)
+
+pub returns-in-Err-clause-exact : goal.returns-in-Err-clause-exact
+returns-in-Err-clause-exact c =
+    let g = graph_of c.args.classes.now c.args.offsets.now c.args.inputs.now in
+    subst (λ (a : State). IsGraphRefusal g a (team.Pool c.in-Err.refusal) c.in-Err.task)
+    c.self.view_is
+    (graph_exact g c.self.inside.state c.in-Err.refusal c.in-Err.task c.in_default.is c.in-Err.ensures.exact)
+
+pub invariant_of-self-2 : goal.invariant_of-self-2
+invariant_of-self-2 c =
+    let a = c.self.inside.state in
+    let g = graph_of c.args.classes.now c.args.offsets.now c.args.inputs.now in
+    let before = accepted_unstarted g a.pool (none_at_graph _ c.in_default-describe.field-0 c.in_default-describe.ensures.checks) in
+    let now = ap (λ (p : PoolState). p.started) c.in_default-describe.ensures.ok ∙ described_started g (length g.offsets - 1) a.pool ∙ before in
+    unstarted a c.describe.new.self a.threads now c.self.invariant
