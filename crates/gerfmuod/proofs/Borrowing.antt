@@ -2,7 +2,20 @@
 use Rattle.gerfmuod.proofs.Walks.{◌≡◌, List, [], ◌∷◌, ℕ, Good, Ura, full_share, ent, sep, ex, id⊢, fact, Val, vptr, Logic, sem}
 use Rattle.gerfmuod.proofs.Walks.{Item, Goal, Seq, Step, ‵, ◌$◌, raw, ◌⊛◌, some, later, move, use1, use3, split, fsplit, drop, pick, await, Soaks}
 use Rattle.gerfmuod.proofs.Walks.{RattleType, Ptr, lies_at, block_ptr, layout, Laws, GName, Fml, fsep, fres, flft, flent, lft_new, lft_end, Body}
-use Rattle.gerfmuod.proofs.Walks.{named, SProp, mean, step, heard, lends_ref, ref_back, mem, MutRef, tells, lies_so}
+use Rattle.gerfmuod.proofs.Walks.{named, SProp, mean, step, heard, lends_ref, ref_back, mem, MutRef, fbor, tells, lies_so}
+use Rattle.gerfmuod.proofs.Walks.{ftrue, join, nothing, owned, refl, u32, vint, w32, Is, uint_Makes}
+use Rattle.std.proofs.Common.{◌<◌, ◌^◌, zero, suc}
+use denote.Param.Laws.{of_field}
+use denote.Param.Shared.{copy_shared}
+use denote.Struct.Field.{u32-field, usize-field}
+use denote.Struct.Laws.{u32-laws, u32-copy, usize-laws, usize-copy}
+use denote.Builtin.{usize}
+
+pub u32_laws : Laws u32
+u32_laws = of_field u32-field u32-laws refl (copy_shared u32-field u32-copy)
+
+pub usize_laws : Laws usize
+usize_laws = of_field usize-field usize-laws refl (copy_shared usize-field usize-copy)
 
 module _ (R : RattleType) {M : Type 1} {𝓤 : Ura M} {𝓛 : Logic 𝓤} {K : Type 0} {Γ : List (Item 𝓤)} {G : Goal 𝓤 𝓛.H} where
   -- The value at a pointer is lent for a new lifetime: the borrow, the lender's claim, and the lifetime's token.
@@ -18,25 +31,45 @@ module _ (R : RattleType) {M : Type 1} {𝓤 : Ura M} {𝓛 : Logic 𝓤} {K : T
       ⊛ ‵ (flent (α ∷ []) (Body (mem R) b o γ)))))
       (lends_ref 𝓛 R (named 0) (α ∷ []) n b o) $ await t a $ pick t (λ γ. split t $ k α γ))
 
-  -- The call that borrowed it has returned u, and the lifetime ends: the other tokens, the result, and the value, of which the call
-  -- says what it says.
+  -- The call that borrowed it has returned u, and the lifetime ends: the result, the other tokens, the value, of which the call says
+  -- what it says, and what the call left of its other parameters.
   pub returned : K → Soaks G → (A : RattleType) → Laws A → {α : ℕ} {γ : GName} (b o : ℕ) {Ws : Type 0} (new : Ws → R.Denot)
-      (Kept Rest : Ws → Fml) (I : Item 𝓤) (Told : A.Denot → R.Denot → Type 0) (v : Val) {P : SProp 𝓤}
+      (Rest : Ws → Fml) (I : Item 𝓤) (Told : A.Denot → Ws → R.Denot → Type 0) (v : Val) (P : SProp 𝓤)
       → ent 𝓤 P (mean 𝓛 (later (some (λ (u : A.Denot). ((‵ (flft (α ∷ []) full_share) ⊛ I) ⊛ ‵ (A.own_val u (v ∷ []))) ⊛
-        some (λ (ws : Ws). ‵ (fsep (fsep (fres γ (R.coded.code (new ws))) (Kept ws)) (Rest ws)) ⊛ raw (fact 𝓤 (Told u (new ws))))))))
-      → ((u : A.Denot) (w : Val) → v ∷ [] ≡ w ∷ [] → Good (layout A) w → Seq K 𝓛 (‵ (A.own_val u (w ∷ [])) ∷ I
-        ∷ raw (ex 𝓤 (λ (y : R.Denot). sep 𝓤 (sem 𝓛 (lies_at R full_share (block_ptr b o) y)) (fact 𝓤 (Told u y)))) ∷ Γ) G)
+        some (λ (ws : Ws). ‵ (fsep (fsep (fres γ (R.coded.code (new ws))) (fbor (α ∷ []) (Body (mem R) b o γ))) (Rest ws)) ⊛ raw (fact 𝓤 (Told u ws (new ws))))))))
+      → ((u : A.Denot) (ws : Ws) (w : Val) → v ∷ [] ≡ w ∷ [] → Good (layout A) w → Seq K 𝓛 (‵ (A.own_val u (w ∷ [])) ∷ I
+        ∷ raw (ex 𝓤 (λ (y : R.Denot). sep 𝓤 (sem 𝓛 (lies_at R full_share (block_ptr b o) y)) (fact 𝓤 (Told u ws y)))) ∷ ‵ (Rest ws) ∷ Γ) G)
       → Seq K 𝓛 (raw P ∷ ‵ (flent (α ∷ []) (Body (mem R) b o γ)) ∷ Γ) G
-  returned t a A laws {α} {γ} b o {Ws} new Kept Rest I Told v is k =
+  returned t a A laws {α} {γ} b o {Ws} new Rest I Told v P is k =
       use1 𝓛 (later (some (λ (u : A.Denot). ((‵ (flft (α ∷ []) full_share) ⊛ I) ⊛ ‵ (A.own_val u (v ∷ []))) ⊛
-      some (λ (ws : Ws). ‵ (fsep (fsep (fres γ (R.coded.code (new ws))) (Kept ws)) (Rest ws)) ⊛ raw (fact 𝓤 (Told u (new ws))))))) is $
+      some (λ (ws : Ws). ‵ (fsep (fsep (fres γ (R.coded.code (new ws))) (fbor (α ∷ []) (Body (mem R) b o γ))) (Rest ws)) ⊛ raw (fact 𝓤 (Told u ws (new ws))))))) is $
       await t a $ pick t (λ u. split t $ split t $ split t $ lft_end t a $
       -- [the lifetime has ended; the other tokens; the result; the call's postcondition; the lender's claim]
       move t (3 ∷ []) $ pick t (λ ws. split t $ move t (1 ∷ []) $ heard t _ (λ told. fsplit t $ fsplit t $
       -- [the last value; its borrow; the rest; the lifetime has ended; the other tokens; the result; the lender's claim]
       move t (3 ∷ 6 ∷ 0 ∷ []) $
       use3 𝓛 (later (‵ (lies_at R full_share (block_ptr b o) (new ws)))) (ref_back 𝓛 R (α ∷ []) γ (new ws) b o) $ await t a $
-      use1 𝓛 (raw (ex 𝓤 (λ (y : R.Denot). sep 𝓤 (sem 𝓛 (lies_at R full_share (block_ptr b o) y)) (fact 𝓤 (Told u y)))))
-      (lies_so 𝓛 R (block_ptr b o) (Told u) (new ws) told) $
+      use1 𝓛 (raw (ex 𝓤 (λ (y : R.Denot). sep 𝓤 (sem 𝓛 (lies_at R full_share (block_ptr b o) y)) (fact 𝓤 (Told u ws y)))))
+      (lies_so 𝓛 R (block_ptr b o) (Told u ws) (new ws) told) $
       -- [the value; its borrow; the rest; the other tokens; the result]
-      move t (1 ∷ []) $ drop t $ move t (1 ∷ []) $ drop t $ move t (2 ∷ 1 ∷ 0 ∷ []) $ tells A laws t u (v ∷ []) (λ w same good. k u w same good))))
+      move t (1 ∷ []) $ drop t $ move t (3 ∷ 2 ∷ 0 ∷ 1 ∷ []) $ tells A laws t u (v ∷ []) (λ w same good. k u ws w same good))))
+
+module _ {M : Type 1} {𝓤 : Ura M} {𝓛 : Logic 𝓤} {K : Type 0} {Γ : List (Item 𝓤)} {G : Goal 𝓤 𝓛.H} {I : Item 𝓤} where
+  -- One more argument of a call, which is a number.
+  pub number : K → (n : ℕ) → (n < 2 ^ 32) → Step K 𝓛 ((‵ (u32.own_val n (vint w32 n ∷ [])) ⊛ I) ∷ Γ) G (I ∷ Γ) G
+  number t n fits = step (λ s. owned t u32 (Is u32) (uint_Makes 𝓛 w32) n _ (refl, fits) $ join t $ s)
+
+-- What a call leaves of n numbers or shared slices: nothing.
+abbrev pub gone : ℕ → Fml
+gone zero = ftrue
+gone (suc n) = fsep ftrue (gone n)
+
+-- This item with nothing before it, so many times: what n parameters leave.
+abbrev pub after : {M : Type 1} {𝓤 : Ura M} → ℕ → Item 𝓤 → Item 𝓤
+after zero I = I
+after (suc n) I = ‵ ftrue ⊛ after n I
+
+module _ {M : Type 1} {𝓤 : Ura M} {𝓛 : Logic 𝓤} {K : Type 0} {Γ : List (Item 𝓤)} {G : Goal 𝓤 𝓛.H} where
+  pub blanks : K → (n : ℕ) {I : Item 𝓤} → Step K 𝓛 (after n I ∷ Γ) G (I ∷ Γ) G
+  blanks t zero = step (λ s. s)
+  blanks t (suc n) = step (λ s. blanks t n $ nothing t $ join t $ s)

@@ -1,7 +1,6 @@
 -- The files of this folder.
 pub mod Borrowing
 pub mod Ended
-pub mod GraphCalls
 pub mod Kept
 pub mod Recording
 pub mod Room

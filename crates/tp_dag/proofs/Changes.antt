@@ -79,22 +79,13 @@ has_begun p now t x es same is fresh kept = subst (λ (a : PoolState). GoesTo t 
 abbrev pub new_task : ℕ → ℕ → Task
 new_task class m = record { class = class; stage = stage.Fresh; missing = m; outside = m; inputs = 0; outputs = 0 }
 
-begins_if : (class : ℕ) (held : Bool) → one (may_begin (new_task class (if held then 1 else 0))) ≡ (if (not held) then 1 else 0)
-begins_if class true = refl
-begins_if class false = refl
-
-held_few : (held : Bool) → (if held then 1 else 0) ≤ MAX_OUTSIDE
-held_few true = omega arith
-held_few false = omega arith
-
-pub added : {ts : List Task} {ls : List Link} {rs : List ℕ} (class : ℕ) (held : Bool) → Holds ts ls rs → length ts < MAX_TASKS → class < 4
-    → Holds (ts ++ new_task class (if held then 1 else 0) ∷ []) ls (set rs class (slice_index_or rs class 0 + (if
-    (not held) then 1 else 0)))
-added {ts} {ls} {rs} class held i few l = let y : Task = new_task class (if held then 1 else 0) in record {
-  facts = facts_push y i.facts few l (held_few held) refl refl refl refl;
-  counts = counts_push class (slice_index_or rs class 0 + (if (not held) then 1 else 0)) y i.counts l
-      (λ n o. one_else class n (may_begin y) (λ g. o (sym g)))
-      (let a = one_here class (may_begin y) in let b = begins_if class held in omega (arith, a, b));
+pub added : {ts : List Task} {ls : List Link} {rs : List ℕ} (class m : ℕ) → Holds ts ls rs → length ts < MAX_TASKS → class < 4
+    → m ≤ MAX_OUTSIDE → Holds (ts ++ new_task class m ∷ []) ls (set rs class (slice_index_or rs class 0 + (if (m == 0) then 1 else 0)))
+added {ts} {ls} {rs} class m i few l out = let y : Task = new_task class m in record {
+  facts = facts_push y i.facts few l out refl refl refl refl;
+  counts = counts_push class (slice_index_or rs class 0 + (if (m == 0) then 1 else 0)) y i.counts l
+      (λ n o. one_else class n (may_begin y) (λ g. o (sym g))) (let a = one_here class (may_begin y) in let b = one_if (m == 0) in
+      omega (arith, a, b));
 }
 
 pub ready_few : {ts : List Task} {ls : List Link} {rs : List ℕ} (class : ℕ) → Holds ts ls rs → class < 4

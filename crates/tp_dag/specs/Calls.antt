@@ -1,6 +1,6 @@
 -- The calls of a pool: the checks of each, in their order, and what each does.
 use Rattle.std.specs.Prelude.{ℕ, ◌+◌, ◌-◌, ◌≡◌, ◌<◌, ◌≤◌, ◌&&◌, ◌||◌, ◌==◌, List, [], ◌∷◌, ◌++◌, Bool, false, not, length, map}
-use Rattle.std.specs.Prelude.{slice_get, slice_set, IsTrue, Option, Some, None, nat_le, nat_lt, if◌then◌else◌}
+use Rattle.std.specs.Prelude.{slice_get, slice_set, IsTrue, IsFalse, Option, Some, None, nat_le, nat_lt, if◌then◌else◌}
 use Rattle.std.specs.List.{list_all}
 use Rattle.tp_base.specs.declared.limits.TheConstants.{MAX_STEPS}
 use Rattle.tp_base.specs.declared.refusal.Refusal.TheVariants as refusal
@@ -179,6 +179,15 @@ spawn_checks a class inputs outside =
     ∷ (nat_le MAX_TASKS (length a.tasks), refusal.HistoryFull MAX_TASKS)
     ∷ (nat_lt MAX_INPUTS (length a.inputs + length inputs), refusal.HistoryFull MAX_INPUTS)
     ∷ (a.started && lacks_steps a (length a.tasks + 1), refusal.HistoryFull MAX_STEPS) ∷ []
+
+-- none of the checks of `spawn` holds
+pub record MaySpawn (class : ℕ) (inputs : List ℕ) (outside : ℕ) (a : PoolState) : Type 0 where
+  pub few_classes : class < 4
+  pub lower : IsTrue (list_all (λ s. nat_lt s (length a.tasks)) inputs)
+  pub few_outside : outside ≤ MAX_OUTSIDE
+  pub few_tasks : length a.tasks < MAX_TASKS
+  pub few_inputs : length a.inputs + length inputs ≤ MAX_INPUTS
+  pub fits : IsFalse (a.started && lacks_steps a (length a.tasks + 1))
 
 -- `spawn`: a task with these inputs, which waits for so many inputs from outside.
 abbrev pub with_spawned : ℕ → List ℕ → ℕ → PoolState → PoolState

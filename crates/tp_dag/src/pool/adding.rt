@@ -11,9 +11,9 @@ ghost use Rattle.tp_dag.specs.Calls.{task_checks, input_checks, outside_checks, 
 ghost use Rattle.tp_dag.specs.Calls.{Becomes, one_more, one_less, MayWait, Awaits, lacks_steps};
 
 use crate::counts::{add_if, and_zero, both, either, one_if, take_if};
-use crate::entry::{Link, Stage, Task, is_done, is_fresh};
-use crate::events::make_room;
+use crate::entry::{Task, is_fresh};
 use crate::limits::{MAX_INPUTS, MAX_OUTSIDE, MAX_TASKS};
+use crate::links::add_link;
 use crate::pool::Pool;
 use tp_base::{MAX_STEPS, Refusal};
 
@@ -41,37 +41,8 @@ impl Pool {
         if self.started && self.lacks_steps(self.tasks.len() + 1) {
             return Err(Refusal::HistoryFull(MAX_STEPS));
         }
-        self.add_task(class as u8)
-    }
-
-    // adds a task, if memory can be had
-    fn add_task(&mut self, class: u8) -> Result<u32, Refusal>
-        requires class { class < 4 }
-        requires few { length self.old.tasks < MAX_TASKS }
-        requires fits { IsFalse (self.old.started && lacks_steps self.old (length self.old.tasks + 1)) }
-        ensures ok { IfOk result (λ t. (t ≡ length self.old.tasks) × (self.new ≡ with_task class self.old)) }
-        ensures err { OnErr result (self.new ≡ self.old) }
-        ensures exact { IfErr result (λ r. r ≡ Refusal.NoMemory) }
-    {
-        self.tasks.reserve(1)?;
-        let number = self.tasks.len() as u32;
-        let traced = both(self.started, self.traced);
-        make_room(&mut self.events, traced, self.left + 1)?;
-        self.queues.add_task()?;
-        let awaited = one_if(self.started);
-        add_if(&mut self.ready, class, !self.started);
-        self.left += 1;
-        self.awaiting += awaited;
-        self.grown = either(self.grown, self.started);
-        self.tasks.push_reserved(Task {
-            class,
-            stage: Stage::Fresh,
-            missing: awaited,
-            outside: awaited,
-            inputs: 0,
-            outputs: 0,
-        });
-        Ok(number)
+        let held = one_if(self.started);
+        self.add(class as u8, &[], held)
     }
 
     /// Lets the newest task read what task `source` makes, which was added before it. After `start` the newest task still has to wait for
@@ -89,7 +60,7 @@ impl Pool {
         if let Some(refusal) = self.input_refusal(source) {
             return Err(refusal);
         }
-        self.add_link(source)
+        self.add_input(source)
     }
 
     // the first check of `input` that holds
@@ -125,37 +96,22 @@ impl Pool {
         }
     }
 
-    fn add_link(&mut self, source: u32) -> Result<(), Refusal>
+    fn add_input(&mut self, source: u32) -> Result<(), Refusal>
         requires { MayHaveInput source self.old }
         ensures ok { OnOk result (self.new ≡ with_input source self.old) }
         ensures err { OnErr result (self.new ≡ self.old) }
         ensures exact { IfErr result (λ r. r ≡ Refusal.NoMemory) }
     {
         self.links.reserve(1)?;
-        let newest = self.tasks.len() - 1;
-        let target = self.tasks[newest];
-        let from = self.tasks[source as usize];
-        let open = !is_done(from.stage);
-        take_if(
+        let newest = self.tasks.len() as u32 - 1;
+        add_link(
+            &mut self.tasks,
+            &mut self.links,
             &mut self.ready,
-            target.class,
-            and_zero(open, target.missing),
+            source,
+            newest,
         );
         self.grown = either(self.grown, self.started);
-        self.tasks[newest] = Task {
-            missing: target.missing + one_if(open),
-            inputs: target.inputs + 1,
-            ..target
-        };
-        self.tasks[source as usize] = Task {
-            outputs: self.links.len() as u32 + 1,
-            ..from
-        };
-        self.links.push_reserved(Link {
-            source,
-            target: newest as u32,
-            older: from.outputs,
-        });
         Ok(())
     }
 

@@ -1,30 +1,59 @@
-//! STUB of the call that adds a task with its inputs, all or nothing.
-ghost use Rattle.std.specs.Prelude.{◌&&◌, ◌==◌, ◌≡◌, ◌≤◌, ◌<◌, ◌+◌, ◌-◌, ◌⊎◌, ℕ, length, IfOk, IfErr, IfSome, IfNone, OnOk, OnErr, IsTrue, IsFalse};
-ghost use Rattle.std.specs.Prelude.{Ok, Err, Some, None, nat_lt};
+//! The call that adds a task with its inputs, all or nothing. `task` is the same without inputs.
+ghost use Rattle.std.specs.Prelude.{◌≡◌, ◌⊎◌, length, IfOk, IfErr, IfSome, IfNone, OnErr, Err, Some, nat_lt};
 ghost use Rattle.std.specs.List.{list_all};
 ghost use Rattle.tp_base.specs.Checks.{first_refusal};
-ghost use Rattle.tp_dag.specs.Calls.{spawn_checks, with_spawned};
+ghost use Rattle.tp_dag.specs.Calls.{spawn_checks, with_spawned, MaySpawn};
 
+use crate::counts::{add_if, both, either, one_if};
+use crate::entry::{Stage, Task};
+use crate::events::make_room;
 use crate::limits::{MAX_INPUTS, MAX_OUTSIDE, MAX_TASKS};
+use crate::links::add_links;
 use crate::pool::Pool;
 use tp_base::{MAX_STEPS, Refusal};
 
+/// Returns whether each number is that of a task, if there are so many.
+fn all_below(numbers: &[u32], tasks: usize) -> bool
+    ensures { result ≡ list_all (λ s. nat_lt s tasks) numbers.now }
+{
+    numbers.iter().all(|number| (*number as usize) < tasks)
+}
+
+/// Returns whether the newest task lacks nothing.
+fn lacks_nothing(tasks: &[Task]) -> bool {
+    match tasks.last() {
+        Some(newest) => newest.missing == 0,
+        None => false,
+    }
+}
+
 impl Pool {
-    /// STUB
+    /// Adds a task of a class 0, which is dispatched first, to 3, which reads what these earlier tasks make, and which waits for so many
+    /// inputs from outside in this run. Returns its number, which is how many tasks there were before it.
+    ///
+    /// It may be called before and after `start`. A task that waits for nothing is ready at once: after `start` it is in the queue of its
+    /// class. An input that is listed twice counts twice, and one from a task that is done is there.
+    ///
+    /// Refused, and nothing changes, with the first of these: `BadSpec` if the class is above 3; `NoTask` if an input is not the number of
+    /// a task; `HistoryFull` with 1,048,576 if it would wait for more inputs from outside; `HistoryFull` with 134,217,728 if there are so
+    /// many tasks; `HistoryFull` with 536,870,912 if there would be more inputs; `HistoryFull` with 1,048,576 if the pool is traced and
+    /// was started, and its trace would have more steps, which are 3 a task and 10; `NoMemory`.
     pub fn spawn(&mut self, class: u32, inputs: &[u32], outside: u32) -> Result<u32, Refusal>
         ensures ok { IfOk result (λ t. (t ≡ length self.old.tasks) × (self.new ≡ with_spawned class inputs.now outside self.old)) }
         ensures err { OnErr result (self.new ≡ self.old) }
         ensures checks { IfSome (first_refusal (spawn_checks self.old class inputs.now outside)) (λ r. result ≡ Err r) }
         ensures exact { IfErr result (λ r. (first_refusal (spawn_checks self.old class inputs.now outside) ≡ Some r) ⊎ (r ≡ Refusal.NoMemory)) }
     {
-        match self.spawn_refusal(class, inputs, outside) {
-            Some(refusal) => Err(refusal),
-            None => Err(Refusal::NoMemory),
+        if let Some(refusal) = self.spawn_refusal(class, inputs, outside) {
+            return Err(refusal);
         }
+        self.add(class as u8, inputs, outside)
     }
 
+    // the first check of `spawn` that holds
     fn spawn_refusal(&self, class: u32, inputs: &[u32], outside: u32) -> Option<Refusal>
-        ensures { result ≡ first_refusal (spawn_checks self.now class inputs.now outside) }
+        ensures refusal { result ≡ first_refusal (spawn_checks self.now class inputs.now outside) }
+        ensures may { IfNone result (MaySpawn class inputs.now outside self.now) }
     {
         if class > 3 {
             return Some(Refusal::BadSpec);
@@ -46,10 +75,41 @@ impl Pool {
         }
         None
     }
-}
 
-fn all_below(inputs: &[u32], tasks: usize) -> bool
-    ensures { result ≡ list_all (λ s. nat_lt s tasks) inputs.now }
-{
-    inputs.iter().all(|s| (*s as usize) < tasks)
+    // adds a task, if memory can be had; all of it is reserved before anything is added
+    pub(super) fn add(&mut self, class: u8, inputs: &[u32], outside: u32) -> Result<u32, Refusal>
+        requires { MaySpawn class inputs.now outside self.old }
+        ensures ok { IfOk result (λ t. (t ≡ length self.old.tasks) × (self.new ≡ with_spawned class inputs.now outside self.old)) }
+        ensures err { OnErr result (self.new ≡ self.old) }
+        ensures exact { IfErr result (λ r. r ≡ Refusal.NoMemory) }
+    {
+        self.tasks.reserve(1)?;
+        self.links.reserve(inputs.len())?;
+        let traced = both(self.started, self.traced);
+        make_room(&mut self.events, traced, self.left + 1)?;
+        self.queues.add_task()?;
+        let number = self.tasks.len() as u32;
+        add_if(&mut self.ready, class, outside == 0);
+        self.left += 1;
+        self.awaiting += one_if(outside != 0);
+        self.grown = either(self.grown, self.started);
+        self.tasks.push_reserved(Task {
+            class,
+            stage: Stage::Fresh,
+            missing: outside,
+            outside,
+            inputs: 0,
+            outputs: 0,
+        });
+        add_links(
+            &mut self.tasks,
+            &mut self.links,
+            &mut self.ready,
+            inputs,
+            number,
+        );
+        let ready = both(self.started, lacks_nothing(&self.tasks));
+        self.queues.push_if(class, number, ready);
+        Ok(number)
+    }
 }

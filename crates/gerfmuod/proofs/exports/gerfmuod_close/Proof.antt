@@ -1,12 +1,11 @@
 -- The proof of `gerfmuod_close`: it borrows the core for a lifetime that is created for the call.
-use Rattle.gerfmuod.proofs.Walks.{[], ◌∷◌, ℕ, refl, w32, u32, Is, shows, peeks, uint_Lawful, MutBor}
-use Rattle.gerfmuod.proofs.Walks.{proved, full_share, sep, ex, id⊢, GName, Lft, ftrue, flft, flent, named}
-use Rattle.gerfmuod.proofs.Walks.{vptr, WpFn, fact, tables, ‵, raw, ◌⊛◌, some, later, prop, ◌$◌, ◌∵◌, !, qed, done, move, keep, drop, use1}
-use Rattle.gerfmuod.proofs.Walks.{use2, use3, split, join, fsplit, pick, await, regoal, suffices, group, lft_new, lft_end, Body, enter}
-use Rattle.gerfmuod.proofs.Walks.{of_opd, addr, stop, no_more, and_then, returns, alloc_all, pass_all, free_all, look_at, get, through}
-use Rattle.gerfmuod.proofs.Walks.{sets, lands_as, yes, lends_ref, ref_back, mem, Ptr, RawPtr, block_ptr, lies_at, in_a_block, rawptr_vals}
-use Rattle.gerfmuod.proofs.Walks.{rawptr_Tells, MutRef, plain, nothing, heard, calls_at, lasts, on_entry, triple_of, Stays, walk_of}
-use Rattle.gerfmuod.proofs.Walks.{stay_dropped, Goes-dropped, ends_at, framed, CoreState, IsClosed, lies_so}
+use Rattle.gerfmuod.proofs.Walks.{[], ◌∷◌, ℕ, refl, u32, MutBor, proved, full_share, id⊢, ftrue, vptr, WpFn, tables, ‵, raw, prop, ◌$◌}
+use Rattle.gerfmuod.proofs.Walks.{◌∵◌, !, qed, done, move, keep, drop, use2, join, regoal, suffices, group, enter, of_opd, addr, stop}
+use Rattle.gerfmuod.proofs.Walks.{no_more, and_then, returns, alloc_all, pass_all, free_all, look_at, get, through, sets, lands_as, yes}
+use Rattle.gerfmuod.proofs.Walks.{mem, Ptr, RawPtr, block_ptr, lies_at, in_a_block, rawptr_vals, rawptr_Tells, plain, nothing, calls_at}
+use Rattle.gerfmuod.proofs.Walks.{on_entry, triple_of, Stays, walk_of, stay_dropped, Goes-dropped, ends_at, framed, CoreState, IsClosed}
+use Rattle.gerfmuod.proofs.Walks.{only, ap}
+use Rattle.gerfmuod.proofs.Borrowing.{lend, returned, gone, number, blanks, u32_laws}
 use Rattle.gerfmuod.specs.contracts.slot.CoreSlot.{the_row as R}
 use Rattle.gerfmuod.specs.contracts.exports.gerfmuod_close as f
 use Rattle.gerfmuod.proofs.exports.gerfmuod_close.Statement.{statement}
@@ -30,34 +29,21 @@ gerfmuod_close_spec 𝓤 𝓛 𝓜 𝓡 wired =
     in_a_block ! a.0 (λ p. lies_at R full_share p n) (id⊢ 𝓤 _) (λ b o e.
     regoal ! (λ p. prop (WpFn 𝓤 𝓛.H 𝓣.C 𝓣.Λ code.function (rawptr_vals p) (W.post (y p)))) e refl $
     enter ! _ _ _ _ _ $ alloc_all ! (λ l. pass_all ! refl ((tt, tt), tt) $
-    lft_new ! tt (λ α. let κ : Lft = α ∷ [] in move ! (1 ∷ []) $
-    use1 𝓛 (later
-    (some (λ (γ : GName). ‵ ((MutRef (named 0) κ R).own_val (record { ref_ptr = (b, o); ghost_name = γ; now = n }) (vptr b o ∷ []))
-    ⊛ ‵ (flent κ (Body (mem R) b o γ)))))
-    (lends_ref 𝓛 R (named 0) κ n b o) $ await ! tt $ pick ! (λ γ. split ! $
+    lend R ! tt b o n (λ α γ.
     -- [the borrow; the lender's claim; the lifetime token; the locals]
     sets ! (of_opd ! (get ! refl)) refl (tt, tt) $
     sets ! (addr ! (through ! refl (stop !))) refl (tt, tt) $
     let G = triple_of 𝓛 g.signature (g.spec 𝓛 𝓜.mem 𝓡.returns) in
     let bor : MutBor CoreState = record { ref_ptr = (b, o); ghost_name = γ; now = n } in
-    let z : G.Ghost = (((κ, tt), (full_share, tt), tt, (bor, tt), (vptr b o ∷ [], tt)), tt) in
+    let z : G.Ghost = (((α ∷ [], tt), (full_share, tt), tt, (bor, tt), (vptr b o ∷ [], tt)), tt) in
     nothing ! $
     move ! (1 ∷ 0 ∷ []) $ join ! $
     nothing ! $ move ! (3 ∷ 0 ∷ []) $ join ! $ join ! $ nothing ! $ move ! (1 ∷ 0 ∷ []) $ use2 𝓛 (raw (G.pre z)) (id⊢ 𝓤 _) $
     calls_at ! (framed 𝓤 𝓛.H 𝓜 𝓣) G (met 𝓤 𝓛 𝓜 𝓡 (code.calls-gerfmuod::calls::close 𝓡.env wired)) z
     (and_then ! (get ! refl) (no_more !)) (λ v.
-    use1 𝓛 (later (some (λ (u : ℕ). ((‵ (flft κ full_share) ⊛ ‵ ftrue) ⊛ ‵ (u32.own_val u (v ∷ []))) ⊛
-    some (λ (ws : CoreState × Unit {0}). ‵ (lasts g.ended z.0.0 z.0.3 ws) ⊛ raw (fact 𝓤 (Told u ws.0)))))) (id⊢ 𝓤 _) $
-    await ! tt $ pick ! (λ u. split ! $ split ! $ split ! $ lft_end ! tt $
-    -- [κ has ended; nothing; the result; the call's postcondition; the lender's claim]
-    move ! (3 ∷ []) $ pick ! (λ ws. split ! $ move ! (1 ∷ []) $ heard ! _ (λ told. fsplit ! $ fsplit ! $
-    -- [the core's last value; its borrow; nothing; κ has ended; nothing; the result; the lender's claim]
-    move ! (3 ∷ 6 ∷ 0 ∷ []) $ use3 𝓛 (later (‵ (lies_at R full_share (block_ptr b o) ws.0))) (ref_back 𝓛 R κ γ ws.0 b o) $ await ! tt $
-    use1 𝓛 (raw (ex 𝓤 (λ (new : CoreState). sep 𝓤 (types.Logic.sem 𝓛 (lies_at R full_share (block_ptr b o) new)) (fact 𝓤 (Told u new)))))
-    (lies_so 𝓛 R (block_ptr b o) (Told u) ws.0 told) $
-    -- [the core; its borrow; nothing; nothing; the result]
-    move ! (4 ∷ []) $ peeks ! u32 (Is u32) (shows 𝓛 u32) u (v ∷ []) (λ truth.
-    lands_as ! refl refl ((uint_Lawful 𝓛 w32).typed u _ truth).0 $
-    returns ! (look_at ! 0 refl) $ free_all ! refl $ keep ! (0 ∷ 1 ∷ []) $
-    suffices ! _ (ends_at 𝓛 f.ended stayed c (y (block_ptr b o)) v u (tt, tt) (tt, tt)) $
-    nothing ! $ nothing ! $ join ! $ nothing ! $ group ! 3 $ done !))))))))))
+    returned R ! tt u32 u32_laws b o {Ws = CoreState × Unit {0}} (λ ws. ws.0)
+    (λ ws. gone 0) (‵ ftrue) (λ u ws. Told u) v (G.post z v) (id⊢ 𝓤 _) (λ u ws w same good.
+    lands_as ! (ap only same) refl good $
+    returns ! (look_at ! 0 refl) $ free_all ! refl $ keep ! (0 ∷ 1 ∷ 2 ∷ []) $
+    suffices ! _ (ends_at 𝓛 f.ended stayed c (y (block_ptr b o)) w u (tt, tt) (tt, tt)) $
+    nothing ! $ blanks ! 1 $ move ! (2 ∷ 0 ∷ 1 ∷ []) $ group ! 3 $ done !))))))

@@ -1,12 +1,11 @@
 -- The proof of `gerfmuod_step`: it borrows the core for a lifetime that is created for the call.
-use Rattle.gerfmuod.proofs.Walks.{[], ◌∷◌, ◌++◌, refl, ap, w32, MutBor, proved, full_share, sep, ex, id⊢, GName, Lft, ftrue, flft}
-use Rattle.gerfmuod.proofs.Walks.{flent, named, vint, vptr, WpFn, fact, tables, ‵, raw, ◌⊛◌, some, later, prop, ◌$◌, ◌∵◌, !, qed, done}
-use Rattle.gerfmuod.proofs.Walks.{move, keep, drop, use1, use2, use3, split, join, fsplit, pick, await, regoal, suffices, group, lft_new}
-use Rattle.gerfmuod.proofs.Walks.{lft_end, Body, enter, of_opd, addr, stop, no_more, and_then, returns, alloc_all, pass_all, free_all}
-use Rattle.gerfmuod.proofs.Walks.{look_at, get, through, sets, lands_as, u32, yes, Is, lends_ref, ref_back, mem, uint_Makes, uint_vals}
-use Rattle.gerfmuod.proofs.Walks.{uint_Tells, Ptr, RawPtr, block_ptr, lies_at, in_a_block, rawptr_vals, rawptr_Tells, MutRef, plain}
-use Rattle.gerfmuod.proofs.Walks.{nothing, owned, heard, only, calls_at, lasts, on_entry, triple_of, Stays, walk_of, stay_dropped}
-use Rattle.gerfmuod.proofs.Walks.{Goes-dropped, ends_at, framed, CoreState, event_of, IsStepCall, Answer, tells, lies_so}
+use Rattle.gerfmuod.proofs.Walks.{[], ◌∷◌, ◌++◌, refl, ap, w32, MutBor, proved, full_share, id⊢, ftrue, vint, vptr, WpFn, tables, ‵, raw}
+use Rattle.gerfmuod.proofs.Walks.{prop, ◌$◌, ◌∵◌, !, qed, done, move, keep, drop, use2, join, regoal, suffices, group, enter, of_opd}
+use Rattle.gerfmuod.proofs.Walks.{addr, stop, no_more, and_then, returns, alloc_all, pass_all, free_all, look_at, get, through, sets}
+use Rattle.gerfmuod.proofs.Walks.{lands_as, u32, yes, mem, uint_vals, uint_Tells, Ptr, RawPtr, block_ptr, lies_at, in_a_block}
+use Rattle.gerfmuod.proofs.Walks.{rawptr_vals, rawptr_Tells, plain, nothing, only, calls_at, on_entry, triple_of, Stays, walk_of}
+use Rattle.gerfmuod.proofs.Walks.{stay_dropped, Goes-dropped, ends_at, framed, CoreState, event_of, IsStepCall, Answer}
+use Rattle.gerfmuod.proofs.Borrowing.{lend, returned, gone, number, blanks}
 use Rattle.gerfmuod.specs.contracts.slot.CoreSlot.{the_row as R}
 use Rattle.gerfmuod.specs.contracts.answer.Answer.{the_row as A}
 use Rattle.gerfmuod.proofs.answer.Answer.TheLaws.{the_row_laws}
@@ -58,11 +57,7 @@ gerfmuod_step_spec 𝓤 𝓛 𝓜 𝓡 wired =
         ((tt, record { fits = fi }), ((tt, record { fits = fj }), ((tt, record { fits = fm }), ((tt, record { fits = fh }), tt)))),
       ),
     ) $
-    lft_new ! tt (λ α. let κ : Lft = α ∷ [] in move ! (1 ∷ []) $
-    use1 𝓛 (later
-    (some (λ (γ : GName). ‵ ((MutRef (named 0) κ R).own_val (record { ref_ptr = (b, o); ghost_name = γ; now = n }) (vptr b o ∷ []))
-    ⊛ ‵ (flent κ (Body (mem R) b o γ)))))
-    (lends_ref 𝓛 R (named 0) κ n b o) $ await ! tt $ pick ! (λ γ. split ! $
+    lend R ! tt b o n (λ α γ.
     -- [the borrow; the lender's claim; the lifetime token; the locals]
     sets ! (of_opd ! (get ! refl)) refl (tt, tt) $
     sets ! (addr ! (through ! refl (stop !))) refl (tt, tt) $
@@ -70,7 +65,7 @@ gerfmuod_step_spec 𝓤 𝓛 𝓜 𝓡 wired =
     let bor : MutBor CoreState = record { ref_ptr = (b, o); ghost_name = γ; now = n } in
     let z : G.Ghost = (
       (
-        (κ, tt),
+        (α ∷ [], tt),
         (full_share, tt),
         tt,
         (bor, (k, (i, (j, (m, (h, tt)))))),
@@ -78,30 +73,18 @@ gerfmuod_step_spec 𝓤 𝓛 𝓜 𝓡 wired =
       ),
       tt,
     ) in
-    nothing ! $ owned ! u32 (Is u32) (uint_Makes 𝓛 w32) h _ (refl, fh) $ join ! $ owned ! u32 (Is u32) (uint_Makes 𝓛 w32) m _ (refl, fm) $
-    join ! $ owned ! u32 (Is u32) (uint_Makes 𝓛 w32) j _ (refl, fj) $ join ! $
-    owned ! u32 (Is u32) (uint_Makes 𝓛 w32) i _ (refl, fi) $ join ! $ owned ! u32 (Is u32) (uint_Makes 𝓛 w32) k _ (refl, fk) $ join ! $
+    nothing ! $ number ! h fh $ number ! m fm $ number ! j fj $
+    number ! i fi $ number ! k fk $
     move ! (1 ∷ 0 ∷ []) $ join ! $
     nothing ! $ move ! (3 ∷ 0 ∷ []) $ join ! $ join ! $ nothing ! $ move ! (1 ∷ 0 ∷ []) $ use2 𝓛 (raw (G.pre z)) (id⊢ 𝓤 _) $
     calls_at ! (framed 𝓤 𝓛.H 𝓜 𝓣) G (met 𝓤 𝓛 𝓜 𝓡 (code.calls-gerfmuod::calls::answered 𝓡.env wired)) z
     (and_then ! (get ! refl)
     (and_then ! (get ! refl)
     (and_then ! (get ! refl) (and_then ! (get ! refl) (and_then ! (get ! refl) (and_then ! (get ! refl) (no_more !))))))) (λ v.
-    use1 𝓛 (later (some (λ (u : Answer). ((‵ (flft κ full_share) ⊛ ‵ ftrue) ⊛ ‵ (A.own_val u (v ∷ []))) ⊛
-    some (λ (ws : CoreState × (Unit {0} × (Unit {0} × (Unit {0} × (Unit {0} × (Unit {0} × Unit {0})))))). ‵ (lasts g.ended z.0.0 z.0.3 ws)
-    ⊛ raw (fact 𝓤 (Told u ws.0)))))) (id⊢ 𝓤 _) $
-    await ! tt $ pick ! (λ u. split ! $ split ! $ split ! $ lft_end ! tt $
-    -- [κ has ended; nothing; the result; the call's postcondition; the lender's claim]
-    move ! (3 ∷ []) $ pick ! (λ ws. split ! $ move ! (1 ∷ []) $ heard ! _ (λ told. fsplit ! $ fsplit ! $
-    -- [the core's last value; its borrow; nothing; κ has ended; nothing; the result; the lender's claim]
-    move ! (3 ∷ 6 ∷ 0 ∷ []) $ use3 𝓛 (later (‵ (lies_at R full_share (block_ptr b o) ws.0))) (ref_back 𝓛 R κ γ ws.0 b o) $ await ! tt $
-    use1 𝓛 (raw (ex 𝓤 (λ (new : CoreState). sep 𝓤 (types.Logic.sem 𝓛 (lies_at R full_share (block_ptr b o) new)) (fact 𝓤 (Told u new)))))
-    (lies_so 𝓛 R (block_ptr b o) (Told u) ws.0 told) $
-    -- [the core; its borrow; nothing; nothing; the result]
-    move ! (4 ∷ []) $ tells A the_row_laws ! u (v ∷ []) (λ w same good.
+    returned R ! tt A the_row_laws b o {Ws = CoreState × (Unit {0} × (Unit {0} × (Unit {0} × (Unit {0} × (Unit {0} × Unit {0})))))} (λ ws. ws.0)
+    (λ ws. gone 5) (‵ ftrue) (λ u ws. Told u) v (G.post z v) (id⊢ 𝓤 _) (λ u ws w same good.
     lands_as ! (ap only same) refl good $
-    returns ! (look_at ! 0 refl) $ free_all ! refl $ keep ! (0 ∷ 1 ∷ []) $
+    returns ! (look_at ! 0 refl) $ free_all ! refl $ keep ! (0 ∷ 1 ∷ 2 ∷ []) $
     suffices ! _
     (ends_at 𝓛 f.ended stayed c (y (block_ptr b o)) w u (tt, (tt, (tt, (tt, (tt, (tt, tt)))))) (tt, (tt, (tt, (tt, (tt, (tt, tt))))))) $
-    nothing ! $ nothing ! $ join ! $ nothing ! $ join ! $ nothing ! $ join ! $ nothing ! $ join ! $ nothing ! $ join ! $ nothing ! $
-    join ! $ nothing ! $ group ! 3 $ done !))))))))))
+    nothing ! $ blanks ! 6 $ move ! (2 ∷ 0 ∷ 1 ∷ []) $ group ! 3 $ done !))))))

@@ -5,7 +5,7 @@ use Rattle.gerfmuod.proofs.Walks.{enter, of_opd, addr, stop, no_more, and_then, 
 use Rattle.gerfmuod.proofs.Walks.{sets, lands_as, u32, yes, Is, uint_Makes, uint_vals, uint_Tells, Ptr, RawPtr, block_ptr, lies_at, in_a_block}
 use Rattle.gerfmuod.proofs.Walks.{rawptr_vals, rawptr_Tells, plain, nothing, owned, only, calls_at, lasts, on_entry, triple_of, Stays, walk_of}
 use Rattle.gerfmuod.proofs.Walks.{stay_dropped, Goes-dropped, ends_at, framed}
-use Rattle.gerfmuod.proofs.Borrowing.{lend, returned}
+use Rattle.gerfmuod.proofs.Borrowing.{lend, returned, gone, number, blanks}
 use Rattle.gerfmuod.specs.Graph.{GraphState, IsGraphCall}
 use Rattle.gerfmuod.specs.declared.graph.answer.GraphAnswer.{GraphAnswer}
 use Rattle.gerfmuod.specs.contracts.graph.slot.GraphSlot.{the_row as R}
@@ -46,16 +46,15 @@ gerfmuod_graph_call_spec 𝓤 𝓛 𝓜 𝓡 wired =
     let G = triple_of 𝓛 g.signature (g.spec 𝓛 𝓜.mem 𝓡.returns) in
     let bor : MutBor GraphState = record { ref_ptr = (b, o); ghost_name = γ; now = n } in
     let z : G.Ghost = (((α ∷ [], tt), (full_share, tt), tt, (bor, (k, (i, (j, tt)))), (vptr b o ∷ [], vs)), tt) in
-    nothing ! $ owned ! u32 (Is u32) (uint_Makes 𝓛 w32) j _ (refl, fj) $ join ! $
-    owned ! u32 (Is u32) (uint_Makes 𝓛 w32) i _ (refl, fi) $ join ! $ owned ! u32 (Is u32) (uint_Makes 𝓛 w32) k _ (refl, fk) $ join ! $
+    nothing ! $ number ! j fj $
+    number ! i fi $ number ! k fk $
     move ! (1 ∷ 0 ∷ []) $ join ! $
     nothing ! $ move ! (3 ∷ 0 ∷ []) $ join ! $ join ! $ nothing ! $ move ! (1 ∷ 0 ∷ []) $ use2 𝓛 (raw (G.pre z)) (id⊢ 𝓤 _) $
     calls_at ! (framed 𝓤 𝓛.H 𝓜 𝓣) G (met 𝓤 𝓛 𝓜 𝓡 (code.calls-gerfmuod::graph::calls::call 𝓡.env wired)) z
     (and_then ! (get ! refl) (and_then ! (get ! refl) (and_then ! (get ! refl) (and_then ! (get ! refl) (no_more !))))) (λ v.
-    returned R ! tt A the_row_laws b o {Ws = GraphState × (Unit {0} × (Unit {0} × (Unit {0} × Unit {0})))} (λ ws. ws.0) _ _ (‵ ftrue)
-    (λ u new. IsGraphCall n k i j u new) v (id⊢ 𝓤 _) (λ u w same good.
+    returned R ! tt A the_row_laws b o {Ws = GraphState × (Unit {0} × (Unit {0} × (Unit {0} × Unit {0})))} (λ ws. ws.0) (λ ws. gone 3) (‵ ftrue)
+    (λ u ws new. IsGraphCall n k i j u new) v (G.post z v) (id⊢ 𝓤 _) (λ u ws w same good.
     lands_as ! (ap only same) refl good $ returns ! (look_at ! 0 refl) $ free_all ! refl $ keep ! (0 ∷ 1 ∷ 2 ∷ []) $
     suffices ! _ (ends_at 𝓛 f.ended stayed c (y (block_ptr b o)) w u (tt, (tt, (tt, (tt, tt)))) (tt, (tt, (tt, (tt, tt))))) $
     -- [the result; the tokens, which are none; the graph]
-    nothing ! $ nothing ! $ join ! $ nothing ! $ join ! $ nothing ! $ join ! $ nothing ! $ join ! $ move ! (2 ∷ 0 ∷ 1 ∷ []) $
-    group ! 3 $ done !))))))
+    nothing ! $ blanks ! 4 $ move ! (2 ∷ 0 ∷ 1 ∷ []) $ group ! 3 $ done !))))))

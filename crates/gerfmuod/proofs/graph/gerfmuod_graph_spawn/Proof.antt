@@ -5,7 +5,7 @@ use Rattle.gerfmuod.proofs.Walks.{suffices, group, enter, of_opd, addr, stop, no
 use Rattle.gerfmuod.proofs.Walks.{look_at, get, through, sets, lands_as, u32, yes, Is, uint_Makes, uint_vals, uint_Tells, owns, Ptr, RawPtr}
 use Rattle.gerfmuod.proofs.Walks.{block_ptr, lies_at, in_a_block, rawptr_vals, rawptr_Tells, plain, nothing, owned, only, calls_at}
 use Rattle.gerfmuod.proofs.Walks.{triple_of, Stays, walk_of, stay_dropped, Goes-dropped, ends_at, framed, Val}
-use Rattle.gerfmuod.proofs.Borrowing.{lend, returned}
+use Rattle.gerfmuod.proofs.Borrowing.{lend, returned, gone, number, blanks}
 use denote.Signature.{shr_slice_of}
 use denote.Slice.{ShrSlice, shr_slice_vals, shr_slice_Tells}
 use Rattle.std.proofs.Common.{Bor}
@@ -54,16 +54,15 @@ gerfmuod_graph_spawn_spec 𝓤 𝓛 𝓜 𝓡 wired =
     let G = triple_of 𝓛 g.signature (g.spec 𝓛 𝓜.mem 𝓡.returns) in
     let bor : MutBor GraphState = record { ref_ptr = (b, o); ghost_name = γ; now = n } in
     let z : G.Ghost = (((α ∷ [], (κ, tt)), (full_share, (q, tt)), tt, (bor, (k, (xs, (j, tt)))), (vptr b o ∷ [], vs)), tt) in
-    nothing ! $ owned ! u32 (Is u32) (uint_Makes 𝓛 w32) j _ (refl, fj) $ join ! $ move ! (4 ∷ 0 ∷ []) $ join ! $
-    owned ! u32 (Is u32) (uint_Makes 𝓛 w32) k _ (refl, fk) $ join ! $ move ! (1 ∷ 0 ∷ []) $ join ! $
+    nothing ! $ number ! j fj $ move ! (4 ∷ 0 ∷ []) $ join ! $
+    number ! k fk $ move ! (1 ∷ 0 ∷ []) $ join ! $
     nothing ! $ move ! (4 ∷ 0 ∷ []) $ join ! $ move ! (3 ∷ 0 ∷ []) $ join ! $ join ! $ nothing ! $ move ! (1 ∷ 0 ∷ []) $
     use2 𝓛 (raw (G.pre z)) (id⊢ 𝓤 _) $
     calls_at ! (framed 𝓤 𝓛.H 𝓜 𝓣) G (met 𝓤 𝓛 𝓜 𝓡 (code.calls-gerfmuod::graph::calls::spawn 𝓡.env wired)) z
     (and_then ! (get ! refl) (and_then ! (get ! refl) (and_then ! (get ! refl) (and_then ! (get ! refl) (no_more !))))) (λ v.
-    returned R ! tt A the_row_laws b o {Ws = GraphState × (Unit {0} × (Unit {0} × (Unit {0} × Unit {0})))} (λ ws. ws.0) _ _
-    (‵ (flft κ q) ⊛ ‵ ftrue) (λ u new. IsSpawnCall n k xs.now j u new) v (id⊢ 𝓤 _) (λ u w same good.
+    returned R ! tt A the_row_laws b o {Ws = GraphState × (Unit {0} × (Unit {0} × (Unit {0} × Unit {0})))} (λ ws. ws.0) (λ ws. gone 3)
+    (‵ (flft κ q) ⊛ ‵ ftrue) (λ u ws new. IsSpawnCall n k xs.now j u new) v (G.post z v) (id⊢ 𝓤 _) (λ u ws w same good.
     lands_as ! (ap only same) refl good $ returns ! (look_at ! 0 refl) $ free_all ! refl $ keep ! (0 ∷ 1 ∷ 2 ∷ []) $
     suffices ! _ (ends_at 𝓛 f.ended stayed c (y (block_ptr b o)) w u (tt, (tt, (tt, (tt, tt)))) (tt, (tt, (tt, (tt, tt))))) $
     -- [the result; the other token; the graph]
-    nothing ! $ nothing ! $ join ! $ nothing ! $ join ! $ nothing ! $ join ! $ nothing ! $ join ! $ move ! (2 ∷ 0 ∷ 1 ∷ []) $
-    group ! 3 $ done !))))))
+    nothing ! $ blanks ! 4 $ move ! (2 ∷ 0 ∷ 1 ∷ []) $ group ! 3 $ done !))))))
