@@ -21,8 +21,8 @@ module _ (R : RattleType) {M : Type 1} {𝓤 : Ura M} {𝓛 : Logic 𝓤} {K : T
   -- The value at a pointer is lent for a new lifetime: the borrow, the lender's claim, and the lifetime's token.
   pub lend : K → Soaks G → (b o : ℕ) (n : R.Denot)
       → ((α : ℕ) (γ : GName) → Seq K 𝓛
-        (‵ ((MutRef (named 0) (α ∷ []) R).own_val (record { ref_ptr = (b, o); ghost_name = γ; now = n }) (vptr b o ∷ []))
-          ∷ ‵ (flent (α ∷ []) (Body (mem R) b o γ)) ∷ ‵ (flft (α ∷ []) full_share) ∷ Γ) G)
+      (‵ ((MutRef (named 0) (α ∷ []) R).own_val (record { ref_ptr = (b, o); ghost_name = γ; now = n }) (vptr b o ∷ []))
+      ∷ ‵ (flent (α ∷ []) (Body (mem R) b o γ)) ∷ ‵ (flft (α ∷ []) full_share) ∷ Γ) G)
       → Seq K 𝓛 (‵ (lies_at R full_share (block_ptr b o) n) ∷ Γ) G
   lend t a b o n k =
       lft_new t a (λ α. move t (1 ∷ []) $
@@ -36,9 +36,9 @@ module _ (R : RattleType) {M : Type 1} {𝓤 : Ura M} {𝓛 : Logic 𝓤} {K : T
   pub returned : K → Soaks G → (A : RattleType) → Laws A → {α : ℕ} {γ : GName} (b o : ℕ) {Ws : Type 0} (new : Ws → R.Denot)
       (Rest : Ws → Fml) (I : Item 𝓤) (Told : A.Denot → Ws → R.Denot → Type 0) (v : Val) (P : SProp 𝓤)
       → ent 𝓤 P (mean 𝓛 (later (some (λ (u : A.Denot). ((‵ (flft (α ∷ []) full_share) ⊛ I) ⊛ ‵ (A.own_val u (v ∷ []))) ⊛
-        some (λ (ws : Ws). ‵ (fsep (fsep (fres γ (R.coded.code (new ws))) (fbor (α ∷ []) (Body (mem R) b o γ))) (Rest ws)) ⊛ raw (fact 𝓤 (Told u ws (new ws))))))))
+      some (λ (ws : Ws). ‵ (fsep (fsep (fres γ (R.coded.code (new ws))) (fbor (α ∷ []) (Body (mem R) b o γ))) (Rest ws)) ⊛ raw (fact 𝓤 (Told u ws (new ws))))))))
       → ((u : A.Denot) (ws : Ws) (w : Val) → v ∷ [] ≡ w ∷ [] → Good (layout A) w → Seq K 𝓛 (‵ (A.own_val u (w ∷ [])) ∷ I
-        ∷ raw (ex 𝓤 (λ (y : R.Denot). sep 𝓤 (sem 𝓛 (lies_at R full_share (block_ptr b o) y)) (fact 𝓤 (Told u ws y)))) ∷ ‵ (Rest ws) ∷ Γ) G)
+      ∷ raw (ex 𝓤 (λ (y : R.Denot). sep 𝓤 (sem 𝓛 (lies_at R full_share (block_ptr b o) y)) (fact 𝓤 (Told u ws y)))) ∷ ‵ (Rest ws) ∷ Γ) G)
       → Seq K 𝓛 (raw P ∷ ‵ (flent (α ∷ []) (Body (mem R) b o γ)) ∷ Γ) G
   returned t a A laws {α} {γ} b o {Ws} new Rest I Told v P is k =
       use1 𝓛 (later (some (λ (u : A.Denot). ((‵ (flft (α ∷ []) full_share) ⊛ I) ⊛ ‵ (A.own_val u (v ∷ []))) ⊛

@@ -210,7 +210,7 @@ abbrev pub IsSpawn : ℕ → List ℕ → ℕ → State → GraphAnswer → Stat
 IsSpawn class inputs outside old answer new =
     IsJudged (first (spawn_checks old (of_pool (pool.spawn_checks old.pool class inputs outside)))) true
     ((signals : ℕ) × (answer ≡ plain 0 (length old.pool.tasks) signals)
-      × Settles (with_pool (with_spawned class inputs outside old.pool) old) new signals)
+    × Settles (with_pool (with_spawned class inputs outside old.pool) old) new signals)
     old answer new
 
 -- The graph cannot be described because of a task, and nothing changed.

@@ -1,6 +1,6 @@
 -- The proof of `gerfmuod_settle`: it borrows the core for a lifetime that is created for the call.
 use Rattle.gerfmuod.proofs.Walks.{[], ◌∷◌, refl, ap, MutBor, proved, full_share, id⊢, ftrue, vptr, WpFn, tables, ‵, raw, prop, ◌$◌, ◌∵◌}
-use Rattle.gerfmuod.proofs.Walks.{!, qed, done, move, keep, drop, use2, join, regoal, suffices, group, enter, of_opd, addr, stop, no_more}
+use Rattle.gerfmuod.proofs.Walks.{ !, qed, done, move, keep, drop, use2, join, regoal, suffices, group, enter, of_opd, addr, stop, no_more}
 use Rattle.gerfmuod.proofs.Walks.{and_then, returns, alloc_all, pass_all, free_all, look_at, get, through, sets, lands_as, yes, mem, Ptr}
 use Rattle.gerfmuod.proofs.Walks.{RawPtr, block_ptr, lies_at, in_a_block, rawptr_vals, rawptr_Tells, plain, nothing, only, calls_at}
 use Rattle.gerfmuod.proofs.Walks.{on_entry, triple_of, Stays, walk_of, stay_dropped, Goes-dropped, ends_at, framed, CoreState}

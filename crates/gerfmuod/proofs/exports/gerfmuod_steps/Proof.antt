@@ -1,14 +1,14 @@
 -- The proof of `gerfmuod_steps`: it borrows the core for a lifetime that is created for the call, and passes the events and the
 -- buffer on.
-use Rattle.gerfmuod.proofs.Walks.{ℕ, List, [], ◌∷◌, ◌++◌, refl, w64, MutBor, proved, full_share, sep, ex, id⊢, GName, Lft, ftrue, flft}
-use Rattle.gerfmuod.proofs.Walks.{flent, named, vptr, WpFn, fact, tables, ‵, raw, ◌⊛◌, some, later, prop, ◌$◌, ◌∵◌, !, qed, done, move}
-use Rattle.gerfmuod.proofs.Walks.{keep, drop, use1, use2, use3, split, join, fsplit, fjoin, feq_l, pick, await, regoal, suffices, group}
-use Rattle.gerfmuod.proofs.Walks.{lft_new, lft_end, Body, enter, of_opd, addr, from, fld, hop, stop, no_more, and_then, returns, alloc_all}
-use Rattle.gerfmuod.proofs.Walks.{pass_all, free_all, look_at, look_in_at, get, get_in, through, sets, lands_as, yes, lends_ref}
-use Rattle.gerfmuod.proofs.Walks.{ref_back, mem, owns, Ptr, RawPtr, block_ptr, lies_at, in_a_block, rawptr_vals, rawptr_Tells, MutRef}
-use Rattle.gerfmuod.proofs.Walks.{plain, nothing, heard, peeks, calls_at, lasts, triple_of, Stays, walk_of, stay_dropped, gave_slice}
-use Rattle.gerfmuod.proofs.Walks.{Goes-dropped, Goes-gave_slice, ends_at, framed, CoreState, IsStepsCall, Is, shows, uint_Lawful}
-use Rattle.gerfmuod.proofs.Walks.{lies_so, Answer}
+use Rattle.gerfmuod.proofs.Walks.{List, [], ◌∷◌, ◌++◌, refl, MutBor, proved, full_share, id⊢, ftrue, flft, named, vptr, WpFn, tables, ‵}
+use Rattle.gerfmuod.proofs.Walks.{raw, ◌⊛◌, prop, ◌$◌, ◌∵◌, !, qed, done, move, keep, drop, use2, split, join, fsplit, fjoin, feq_l}
+use Rattle.gerfmuod.proofs.Walks.{regoal, suffices, group, enter, of_opd, addr, from, fld, hop, stop, no_more, and_then, returns}
+use Rattle.gerfmuod.proofs.Walks.{alloc_all, pass_all, free_all, look_at, look_in_at, get, get_in, through, sets, lands_as, yes, mem}
+use Rattle.gerfmuod.proofs.Walks.{owns, Ptr, RawPtr, block_ptr, lies_at, in_a_block, rawptr_vals, rawptr_Tells, plain, nothing, calls_at}
+use Rattle.gerfmuod.proofs.Walks.{triple_of, Stays, walk_of, stay_dropped, gave_slice, Goes-dropped, Goes-gave_slice, ends_at, framed}
+use Rattle.gerfmuod.proofs.Walks.{CoreState, IsStepsCall, Answer, ap, only, fsep}
+use Rattle.gerfmuod.proofs.Borrowing.{lend, returned, usize_laws, blanks}
+use denote.Exit.{left}
 use types.Part.{whole, sub, agg}
 use denote.Builtin.{usize}
 use denote.Signature.{shr_slice_of}
@@ -44,7 +44,6 @@ gerfmuod_steps_spec 𝓤 𝓛 𝓜 𝓡 wired =
     let κ = κs.0 in let ρ = κs.1.0 in let q = qs.0 in let r = qs.1.0 in
     let es : Bor (List Event) = a.1.0 in let x : MutBor (List Answer) = a.1.1.0 in
     let few = are.1.0.0.1.0 in let count = are.1.1.0.0.1.0 in
-    let Told = λ (u : ℕ) (new : CoreState) (ys : List Answer). IsStepsCall es.now x.now n (u, ys) new in
     let y : Ptr → W.Ghost =
     λ p. ((κs, qs, bounds, (p, (es, (x, tt))), (rawptr_vals p, (shr_slice_vals es, (mut_slice_vals x, tt)))), n) in
     qed 𝓛 (((‵ (flft κ q) ⊛ (‵ (flft ρ r) ⊛ ‵ ftrue))
@@ -59,12 +58,8 @@ gerfmuod_steps_spec 𝓤 𝓛 𝓜 𝓡 wired =
     e refl $
     enter ! _ _ _ _ _ $ alloc_all ! (λ l.
     pass_all ! refl ((tt, tt), ((tt, (tt, (record { fits = few }, tt))), ((tt, (tt, (record { fits = count }, tt))), tt))) $
-    lft_new ! tt (λ α. let β : Lft = α ∷ [] in move ! (1 ∷ []) $
-    use1 𝓛 (later
-    (some (λ (γ : GName). ‵ ((MutRef (named 0) β R).own_val (record { ref_ptr = (b, o); ghost_name = γ; now = n }) (vptr b o ∷ []))
-    ⊛ ‵ (flent β (Body (mem R) b o γ)))))
-    (lends_ref 𝓛 R (named 0) β n b o) $ await ! tt $ pick ! (λ γ. split ! $
-    -- [the borrow; the lender's claim; β's token; the events; the buffer; the events' token; the buffer's; the locals]
+    lend R ! tt b o n (λ α γ.
+    -- [the borrow; the lender's claim; the lifetime token; the events; the buffer; the events' token; the buffer's; the locals]
     sets ! (of_opd ! (get ! refl)) refl (tt, tt) $
     sets ! (addr ! (through ! refl (stop !))) refl (tt, tt) $
     sets ! (addr ! (from ! (fld ! refl (hop ! (look_in_at ! 3 (sub ! 0 refl (whole !))) (stop !))))) refl (tt, tt) $
@@ -76,7 +71,7 @@ gerfmuod_steps_spec 𝓤 𝓛 𝓜 𝓡 wired =
     let bor : MutBor CoreState = record { ref_ptr = (b, o); ghost_name = γ; now = n } in
     let z : G.Ghost = (
       (
-        (β, (κ, (ρ, tt))),
+        (α ∷ [], (κ, (ρ, tt))),
         (full_share, (q, (r, tt))),
         tt,
         (bor, (es, (x, tt))),
@@ -90,25 +85,12 @@ gerfmuod_steps_spec 𝓤 𝓛 𝓜 𝓡 wired =
     use2 𝓛 (raw (G.pre z)) (id⊢ 𝓤 _) $
     calls_at ! (framed 𝓤 𝓛.H 𝓜 𝓣) G (met 𝓤 𝓛 𝓜 𝓡 (code.calls-gerfmuod::batch::steps 𝓡.env wired)) z
     (and_then ! (get ! refl) (and_then ! (get ! refl) (and_then ! (get ! refl) (no_more !)))) (λ v.
-    use1 𝓛 (later (some (λ (u : ℕ). ((‵ (flft β full_share) ⊛ (‵ (flft κ q) ⊛ (‵ (flft ρ r) ⊛ ‵ ftrue))) ⊛ ‵ (usize.own_val u (v ∷ []))) ⊛
-    some (λ (ws : CoreState × (Unit {0} × (List Answer × Unit {0}))). ‵ (lasts g.ended z.0.0 z.0.3 ws)
-    ⊛ raw (fact 𝓤 (Told u ws.0 ws.1.1.0)))))) (id⊢ 𝓤 _) $
-    await ! tt $ pick ! (λ u. split ! $ split ! $ split ! $ lft_end ! tt $
-    -- [β has ended; the other tokens, and nothing; the result; the call's postcondition; the lender's claim]
-    move ! (1 ∷ []) $ split ! $ move ! (1 ∷ []) $ split ! $ move ! (5 ∷ []) $
-    pick ! (λ ws. split ! $ move ! (1 ∷ []) $ heard ! _ (λ told. fsplit ! $ fsplit ! $
-    -- [the core's last value; its borrow; the rest; the buffer's token; nothing; the events' token; β ended; the result; the claim]
-    move ! (6 ∷ 8 ∷ 0 ∷ []) $ use3 𝓛 (later (‵ (lies_at R full_share (block_ptr b o) ws.0))) (ref_back 𝓛 R β γ ws.0 b o) $ await ! tt $
-    -- [the core; its borrow; the rest; the buffer's token; nothing; the events' token; the result]
-    move ! (2 ∷ []) $ fsplit ! $ drop ! $ fsplit ! $ fsplit ! $ fsplit ! $ move ! (1 ∷ []) $ feq_l ! (λ same. fjoin ! $
-    -- [the buffer's last content; nothing; the core; its borrow; the buffer's token; nothing; the events' token; the result]
-    move ! (2 ∷ []) $
-    use1 𝓛 (raw (ex 𝓤
-    (λ (new : CoreState). sep 𝓤 (types.Logic.sem 𝓛 (lies_at R full_share (block_ptr b o) new)) (fact 𝓤 (Told u new ws.1.1.0)))))
-    (lies_so 𝓛 R (block_ptr b o) (λ new. Told u new ws.1.1.0) ws.0 told) $
-    move ! (7 ∷ []) $ peeks ! usize (Is usize) (shows 𝓛 usize) u (v ∷ []) (λ truth.
-    lands_as ! refl refl ((uint_Lawful 𝓛 w64).typed u _ truth).0 $
-    returns ! (look_at ! 0 refl) $ free_all ! refl $ keep ! (7 ∷ 5 ∷ 2 ∷ 0 ∷ 1 ∷ []) $
-    suffices ! _ (ends_at 𝓛 f.ended stayed c (y (block_ptr b o)) v u (tt, (tt, (ws.1.1.0, tt))) (tt, (tt, (same, tt)))) $
-    nothing ! $ move ! (3 ∷ 0 ∷ []) $ join ! $ nothing ! $ join ! $ nothing ! $ join ! $
-    nothing ! $ move ! (3 ∷ 0 ∷ []) $ join ! $ move ! (2 ∷ 0 ∷ []) $ join ! $ group ! 3 $ done !)))))))))))
+    returned R ! tt usize usize_laws b o {Ws = CoreState × (Unit {0} × (List Answer × Unit {0}))} (λ ws. ws.0)
+    (λ ws. fsep ftrue (fsep (left ((MutSlice (named 1) ρ A).exit yes) x ws.1.1.0) ftrue)) (‵ (flft κ q) ⊛ (‵ (flft ρ r) ⊛ ‵ ftrue))
+    (λ u ws new. IsStepsCall es.now x.now n (u, ws.1.1.0) new) v (G.post z v) (id⊢ 𝓤 _) (λ u ws w is good.
+    -- [the result; the other tokens; the core; the rest; the locals]
+    move ! (3 ∷ []) $ fsplit ! $ drop ! $ fsplit ! $ fsplit ! $ fsplit ! $ move ! (1 ∷ []) $ feq_l ! (λ same. fjoin ! $
+    -- [the buffer's last content; nothing; the result; the other tokens; the core; the locals]
+    lands_as ! (ap only is) refl good $ returns ! (look_at ! 0 refl) $ free_all ! refl $ keep ! (0 ∷ 3 ∷ 2 ∷ 4 ∷ []) $
+    suffices ! _ (ends_at 𝓛 f.ended stayed c (y (block_ptr b o)) w u (tt, (tt, (ws.1.1.0, tt))) (tt, (tt, (same, tt)))) $
+    nothing ! $ move ! (1 ∷ 0 ∷ []) $ join ! $ blanks ! 2 $ move ! (1 ∷ []) $ group ! 3 $ done !)))))))

@@ -1,13 +1,14 @@
 -- The proof of `gerfmuod_trace`: it borrows the core for a lifetime that is created for the call, and passes the buffer
 -- on.
-use Rattle.gerfmuod.proofs.Walks.{ℕ, List, [], ◌∷◌, ◌++◌, refl, ap, MutBor, proved, full_share, sep, ex, id⊢, GName, Lft, ftrue, flft}
-use Rattle.gerfmuod.proofs.Walks.{flent, named, vptr, WpFn, fact, tables, ‵, raw, ◌⊛◌, some, later, prop, ◌$◌, ◌∵◌, !, qed, done, move}
-use Rattle.gerfmuod.proofs.Walks.{keep, drop, use1, use2, use3, split, join, fsplit, fjoin, feq_l, pick, await, regoal, suffices, group}
-use Rattle.gerfmuod.proofs.Walks.{lft_new, lft_end, Body, enter, of_opd, addr, from, fld, hop, stop, no_more, and_then, returns, alloc_all}
-use Rattle.gerfmuod.proofs.Walks.{pass_all, free_all, look_at, look_in_at, get, get_in, through, sets, lands_as, u8, yes, lends_ref}
-use Rattle.gerfmuod.proofs.Walks.{ref_back, mem, owns, Ptr, RawPtr, block_ptr, lies_at, in_a_block, rawptr_vals, rawptr_Tells, MutRef}
-use Rattle.gerfmuod.proofs.Walks.{plain, nothing, heard, only, calls_at, lasts, triple_of, Stays, walk_of, stay_dropped, gave_slice}
-use Rattle.gerfmuod.proofs.Walks.{Goes-dropped, Goes-gave_slice, ends_at, framed, CoreState, IsTraceCall, tells, lies_so}
+use Rattle.gerfmuod.proofs.Walks.{ℕ, List, [], ◌∷◌, ◌++◌, refl, ap, MutBor, proved, full_share, sep, ex, id⊢, Lft, ftrue, flft, named}
+use Rattle.gerfmuod.proofs.Walks.{vptr, WpFn, fact, tables, ‵, raw, ◌⊛◌, some, later, prop, ◌$◌, ◌∵◌, !, qed, done, move, keep, drop}
+use Rattle.gerfmuod.proofs.Walks.{use1, use2, use3, split, join, fsplit, fjoin, feq_l, pick, await, regoal, suffices, group, lft_end}
+use Rattle.gerfmuod.proofs.Walks.{enter, of_opd, addr, from, fld, hop, stop, no_more, and_then, returns, alloc_all, pass_all, free_all}
+use Rattle.gerfmuod.proofs.Walks.{look_at, look_in_at, get, get_in, through, sets, lands_as, u8, yes, ref_back, mem, owns, Ptr, RawPtr}
+use Rattle.gerfmuod.proofs.Walks.{block_ptr, lies_at, in_a_block, rawptr_vals, rawptr_Tells, plain, nothing, heard, only, calls_at, lasts}
+use Rattle.gerfmuod.proofs.Walks.{triple_of, Stays, walk_of, stay_dropped, gave_slice, Goes-dropped, Goes-gave_slice, ends_at, framed}
+use Rattle.gerfmuod.proofs.Walks.{CoreState, IsTraceCall, tells, lies_so}
+use Rattle.gerfmuod.proofs.Borrowing.{lend}
 use types.Part.{whole, sub, agg}
 use denote.Slice.{MutSlice, mut_slice_vals, mut_slice_Tells}
 use Rattle.std.specs.contracts.alloc.Global.{the_row as Z}
@@ -49,11 +50,7 @@ gerfmuod_trace_spec 𝓤 𝓛 𝓜 𝓡 wired =
     in_a_block ! a.1.0 (λ p. lies_at R full_share p n) (id⊢ 𝓤 _) (λ b o e.
     regoal ! (λ p. prop (WpFn 𝓤 𝓛.H 𝓣.C 𝓣.Λ code.function (dv ∷ (rawptr_vals p ++ mut_slice_vals x)) (W.post (y p)))) e refl $
     enter ! _ _ _ _ _ $ alloc_all ! (λ l. pass_all ! refl (sure, ((tt, tt), ((tt, (tt, (record { fits = count }, tt))), tt))) $
-    lft_new ! tt (λ α. let β : Lft = α ∷ [] in move ! (1 ∷ []) $
-    use1 𝓛 (later
-    (some (λ (γ : GName). ‵ ((MutRef (named 0) β R).own_val (record { ref_ptr = (b, o); ghost_name = γ; now = n }) (vptr b o ∷ []))
-    ⊛ ‵ (flent β (Body (mem R) b o γ)))))
-    (lends_ref 𝓛 R (named 0) β n b o) $ await ! tt $ pick ! (λ γ. split ! $
+    lend R ! tt b o n (λ α γ. let β : Lft = α ∷ [] in
     -- [the borrow; the lender's claim; β's token; the buffer; the allocator; the buffer's token; the locals]
     sets ! (of_opd ! (get ! refl)) refl (tt, tt) $
     sets ! (addr ! (through ! refl (stop !))) refl (tt, tt) $
@@ -92,4 +89,4 @@ gerfmuod_trace_spec 𝓤 𝓛 𝓜 𝓡 wired =
     returns ! (look_at ! 0 refl) $ free_all ! refl $ keep ! (5 ∷ 2 ∷ 0 ∷ 1 ∷ []) $
     suffices ! _ (ends_at 𝓛 f.ended stayed c (y (block_ptr b o)) w u (tt, (tt, (ws.1.1.0, tt))) (tt, (tt, (same, tt)))) $
     nothing ! $ move ! (2 ∷ 0 ∷ []) $ join ! $ nothing ! $ join ! $ nothing ! $ join ! $ nothing ! $ move ! (2 ∷ 0 ∷ []) $ join ! $
-    group ! 3 $ done !)))))))))))
+    group ! 3 $ done !))))))))))

@@ -36,8 +36,7 @@ gerfmuod_graph_describe_spec 𝓤 𝓛 𝓜 𝓡 wired =
       ),
     )
     f.Key.name code.function (code.unfolded 𝓤 𝓛.H 𝓜 𝓡 wired)
-    (λ κs. (rawptr_vals, (shr_slice_vals, (shr_slice_vals, (shr_slice_vals, tt))))) (λ κs.
-    (
+    (λ κs. (rawptr_vals, (shr_slice_vals, (shr_slice_vals, (shr_slice_vals, tt))))) (λ κs. (
       rawptr_Tells,
       (
         shr_slice_Tells (named 0) κs.0 u8,
