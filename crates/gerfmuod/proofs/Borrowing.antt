@@ -3,8 +3,7 @@ use Rattle.gerfmuod.proofs.Walks.{◌≡◌, List, [], ◌∷◌, ℕ, Good, Ura
 use Rattle.gerfmuod.proofs.Walks.{Item, Goal, Seq, Step, ‵, ◌$◌, raw, ◌⊛◌, some, later, move, use1, use3, split, fsplit, drop, pick, await, Soaks}
 use Rattle.gerfmuod.proofs.Walks.{RattleType, Ptr, lies_at, block_ptr, layout, Laws, GName, Fml, fsep, fres, flft, flent, lft_new, lft_end, Body}
 use Rattle.gerfmuod.proofs.Walks.{named, SProp, mean, step, heard, lends_ref, ref_back, mem, MutRef, fbor, tells, lies_so}
-use Rattle.gerfmuod.proofs.Walks.{ftrue, join, nothing, owned, refl, u32, vint, w32, Is, uint_Makes}
-use Rattle.std.proofs.Common.{◌<◌, ◌^◌, zero, suc}
+use Rattle.gerfmuod.proofs.Walks.{refl, u32}
 use denote.Param.Laws.{of_field}
 use denote.Param.Shared.{copy_shared}
 use denote.Struct.Field.{u32-field, usize-field}
@@ -53,23 +52,3 @@ module _ (R : RattleType) {M : Type 1} {𝓤 : Ura M} {𝓛 : Logic 𝓤} {K : T
       (lies_so 𝓛 R (block_ptr b o) (Told u ws) (new ws) told) $
       -- [the value; its borrow; the rest; the other tokens; the result]
       move t (1 ∷ []) $ drop t $ move t (3 ∷ 2 ∷ 0 ∷ 1 ∷ []) $ tells A laws t u (v ∷ []) (λ w same good. k u ws w same good))))
-
-module _ {M : Type 1} {𝓤 : Ura M} {𝓛 : Logic 𝓤} {K : Type 0} {Γ : List (Item 𝓤)} {G : Goal 𝓤 𝓛.H} {I : Item 𝓤} where
-  -- One more argument of a call, which is a number.
-  pub number : K → (n : ℕ) → (n < 2 ^ 32) → Step K 𝓛 ((‵ (u32.own_val n (vint w32 n ∷ [])) ⊛ I) ∷ Γ) G (I ∷ Γ) G
-  number t n fits = step (λ s. owned t u32 (Is u32) (uint_Makes 𝓛 w32) n _ (refl, fits) $ join t $ s)
-
--- What a call leaves of n numbers or shared slices: nothing.
-abbrev pub gone : ℕ → Fml
-gone zero = ftrue
-gone (suc n) = fsep ftrue (gone n)
-
--- This item with nothing before it, so many times: what n parameters leave.
-abbrev pub after : {M : Type 1} {𝓤 : Ura M} → ℕ → Item 𝓤 → Item 𝓤
-after zero I = I
-after (suc n) I = ‵ ftrue ⊛ after n I
-
-module _ {M : Type 1} {𝓤 : Ura M} {𝓛 : Logic 𝓤} {K : Type 0} {Γ : List (Item 𝓤)} {G : Goal 𝓤 𝓛.H} where
-  pub blanks : K → (n : ℕ) {I : Item 𝓤} → Step K 𝓛 (after n I ∷ Γ) G (I ∷ Γ) G
-  blanks t zero = step (λ s. s)
-  blanks t (suc n) = step (λ s. blanks t n $ nothing t $ join t $ s)

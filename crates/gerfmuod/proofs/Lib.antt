@@ -2,6 +2,7 @@
 pub mod Borrowing
 pub mod Ended
 pub mod Kept
+pub mod Parameters
 pub mod Recording
 pub mod Room
 pub mod Several

@@ -1,6 +1,5 @@
 pub mod Refusing
 pub mod Tasks
 pub mod Waking
-pub mod Counted
-pub mod Awake
+pub mod Threads
 pub mod Once

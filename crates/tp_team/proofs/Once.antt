@@ -1,26 +1,21 @@
 -- Within a run, no two turns tell a thread to run the same task: a task that was dispatched stays so until the next run.
 use Rattle.std.proofs.Common.{◌≡◌, ◌≤◌, ◌+◌, ◌≢◌, ◌∙◌, ℕ, zero, suc, List, [], ◌∷◌, ◌++◌, map, Bool, true, false, Option, Some, None}
 use Rattle.std.proofs.Common.{inl, inr, refl, ap, sym, arith}
-use Rattle.std.specs.Prelude.{slice_get, slice_set, ◌==◌, not, if◌then◌else◌, IfNone, IfSome, IsSome}
+use Rattle.std.specs.Prelude.{slice_get, slice_set, ◌==◌, not, if◌then◌else◌}
 use Rattle.std.proofs.lemmas.Bool.Decides.{nat_tests}
-use Rattle.tp_base.specs.Checks.{first_refusal}
-use Rattle.tp_base.specs.declared.refusal.Refusal.{Refusal}
-use Rattle.tp_dag.specs.declared.entry.Stage.{Stage}
 use Rattle.tp_dag.specs.declared.entry.Stage.TheVariants as stage
-use Rattle.tp_dag.specs.declared.entry.Event.{Event}
 use Rattle.tp_dag.specs.State.{PoolState, Entry, is_fresh}
-use Rattle.tp_dag.specs.Calls.{GoesTo, Becomes, IsReported, IsDispatched, done_checks, with_task, with_input, as_described}
+use Rattle.tp_dag.specs.Calls.{Becomes, IsReported, IsDispatched, with_task, with_input}
 use Rattle.tp_dag.specs.Describing.{Graph, described, with_inputs, inputs_of, class_of}
-use Rattle.tp_team.specs.declared.refusal.Fault.{Fault}
+use Rattle.tp_dag.proofs.Lists.{set_here, set_there}
 use Rattle.tp_team.specs.declared.turn.Turn.{Turn}
 use Rattle.tp_team.specs.declared.turn.Turn.TheVariants as turn
-use Rattle.tp_team.specs.declared.turn.Reply.{Reply}
 use Rattle.tp_team.specs.declared.state.State.{State}
 use Rattle.tp_team.specs.State.{Settles}
-use Rattle.tp_team.specs.Calls.{Reports, Decides, TakesTurn, came, stopped_by}
+use Rattle.tp_team.specs.Calls.{Reports, Decides, came, stopped_by}
 use Rattle.tp_team.specs.Laws.{Call, Described, Spawned, Expected, Released, Started, Turned, Stopped, Repeated}
 use Rattle.tp_team.specs.Laws.{LeadTo, runs, dispatches, DispatchesOnce}
-use Rattle.tp_team.proofs.Counted.{at_none, at_some, is_some}
+use Rattle.tp_team.proofs.Threads.{after_report}
 
 -- ---- whether a task was dispatched
 abbrev begun : Option Entry → Bool
@@ -52,18 +47,6 @@ set_begun y (z ∷ zs) zero x is e (suc t) = refl
 set_begun y (z ∷ zs) (suc u) x is e zero = refl
 set_begun y (z ∷ zs) (suc u) x is e (suc t) = set_begun y zs u x is e t
 
-set_here : (y : Entry) (xs : List Entry) (u : ℕ) (x : Entry) → slice_get xs u ≡ Some x → slice_get (slice_set xs u y) u ≡ Some y
-set_here y [] u x is = cc
-set_here y (z ∷ zs) zero x is = refl
-set_here y (z ∷ zs) (suc u) x is = set_here y zs u x is
-
-set_there : (y : Entry) (xs : List Entry) (u t : ℕ) → t ≢ u → slice_get (slice_set xs u y) t ≡ slice_get xs t
-set_there y [] u t o = refl
-set_there y (z ∷ zs) zero zero o = absurd (o refl)
-set_there y (z ∷ zs) zero (suc t) o = refl
-set_there y (z ∷ zs) (suc u) zero o = refl
-set_there y (z ∷ zs) (suc u) (suc t) o = set_there y zs u t (λ e. o (ap suc e))
-
 anew_begun : (xs : List Entry) (t : ℕ)
     → begun (slice_get (map (λ (x : Entry). record { class = x.class; stage = stage.Fresh; outside = 0 }) xs) t) ≡ false
 anew_begun [] t = refl
@@ -89,40 +72,31 @@ reported_keeps : {u : ℕ} {a b : PoolState} → IsReported u a b → Keeps a b
 reported_keeps {u} {a} h t =
     ap (begun_at t) h.becomes ∙ set_begun _ a.tasks u h.was h.is (sym (ap (λ s. not (is_fresh s)) h.stage)) t
 
+abbrev more_if : Bool → ℕ → ℕ
+more_if b n = if b then n + 1 else n
+
 -- one more, of the task that is dispatched
-dispatched_begun : {u : ℕ} {a b : PoolState} → IsDispatched u a b → (t : ℕ)
-    → one (begun_at t b) ≡ (if u == t then one (begun_at t a) + 1 else one (begun_at t a))
+dispatched_begun : {u : ℕ} {a b : PoolState} → IsDispatched u a b → (t : ℕ) → one (begun_at t b) ≡ more_if (u == t) (one (begun_at t a))
 dispatched_begun {u} {a} {b} d t = by_test (u == t) refl
   where
-    by_test : (q : Bool) → (u == t) ≡ q → one (begun_at t b) ≡ (if q then one (begun_at t a) + 1 else one (begun_at t a))
+    by_test : (q : Bool) → (u == t) ≡ q → one (begun_at t b) ≡ more_if q (one (begun_at t a))
     by_test true e =
         let same : t ≡ u = grind (arith, nat_tests) in
         let g = d.becomes in
-        let now : begun_at u b ≡ true = ap (begun_at u) g.becomes ∙ ap begun (set_here _ a.tasks u g.was g.is) in
+        let now : begun_at u b ≡ true = ap (begun_at u) g.becomes ∙ ap begun (set_here a.tasks u g.was _ g.is) in
         let before : begun_at u a ≡ false = ap begun g.is ∙ ap (λ s. not (is_fresh s)) g.stage in
         rw (same, now, before) refl
     by_test false e =
         let other : t ≢ u = grind (arith, nat_tests) in
-        ap (λ (x : PoolState). one (begun_at t x)) d.becomes.becomes ∙ ap (λ o. one (begun o)) (set_there _ a.tasks u t other)
+        ap (λ (x : PoolState). one (begun_at t x)) d.becomes.becomes ∙ ap (λ o. one (begun o)) (set_there a.tasks u t _ other)
 
 -- ---- the calls of the team
 same_pool : {a b : State} → b ≡ a → Keeps a.pool b.pool
 same_pool e t = ap (λ (x : State). begun_at t x.pool) e
 
 reports_keep : (done : Option ℕ) (a b : State) → Reports done a b → Keeps a.pool b.pool
-reports_keep None a b h = same_pool h
-reports_keep (Some u) a b h = by_fault a.fault refl
-  where
-    by_check : a.fault ≡ None → (o : Option Refusal) → first_refusal (done_checks a.pool u) ≡ o → Keeps a.pool b.pool
-    by_check f None e = (let d = at_none _ e (h.done f) in λ t. same_pool d.2 t ∙ reported_keeps d.1 t)
-    by_check f (Some r) e = same_pool (at_some _ _ r e (h.wrong f))
-
-    by_fault : (o : Option Fault) → a.fault ≡ o → Keeps a.pool b.pool
-    by_fault None e = by_check e (first_refusal (done_checks a.pool u)) refl
-    by_fault (Some f) e = same_pool (h.ended (is_some e))
-
-abbrev more_if : Bool → ℕ → ℕ
-more_if b n = if b then n + 1 else n
+reports_keep done a b h t = after_report (λ (x : State). begun_at t x.pool ≡ begun_at t a.pool) done a b h
+    refl (λ _. refl) (λ _ _ r. reported_keeps r t)
 
 decided_begun : (polls : ℕ) (u : Turn) (a b : State) → Decides polls u a b → (t : ℕ)
     → one (begun_at t b.pool) ≡ more_if (runs t u) (one (begun_at t a.pool))
@@ -141,25 +115,23 @@ stopped_keeps true task a t = refl
 stopped_keeps false task a t = refl
 
 -- The calls of a run dispatched a task once if it is dispatched, and else not.
-counted : (tr : Bool) (p : ℕ) (calls : List Call) (a : State) → LeadTo tr p calls a → (t : ℕ) → dispatches t calls ≡ one (begun_at t a.pool)
-counted tr p [] a e t = ap (λ (x : State). one (begun_at t x.pool)) (sym e)
-counted tr p (Described g ∷ past) b h t =
-    counted tr p past h.0 h.1 t ∙ ap one (sym (ap (λ (x : State). begun_at t x.pool) h.2.1 ∙ graph_keeps g _ h.0.pool t))
+counted : (tr : Bool) (p : ℕ) (calls : List Call) (a : State) → LeadTo tr p calls a → (t : ℕ) → one (begun_at t a.pool) ≡ dispatches t calls
+counted tr p [] a e t = ap one (same_pool e t)
+counted tr p (Described g ∷ past) b h t = ap one (same_pool h.2.1 t ∙ graph_keeps g _ h.0.pool t) ∙ counted tr p past h.0 h.1 t
 counted tr p (Spawned class inputs outside n ∷ past) b h t =
-    counted tr p past h.0 h.1 t ∙ ap one (sym (settled_keeps h.2 t ∙ push_begun _ refl h.0.pool.tasks t))
+    ap one (settled_keeps h.2 t ∙ push_begun _ refl h.0.pool.tasks t) ∙ counted tr p past h.0 h.1 t
 counted tr p (Expected u n ∷ past) b h t =
-    counted tr p past h.0 h.1 t ∙ ap one (sym (settled_keeps h.2.settles t ∙ becomes_keeps (λ x. refl) h.2.change t))
+    ap one (settled_keeps h.2.settles t ∙ becomes_keeps (λ x. refl) h.2.change t) ∙ counted tr p past h.0 h.1 t
 counted tr p (Released u n ∷ past) b h t =
-    counted tr p past h.0 h.1 t ∙ ap one (sym (settled_keeps h.2.settles t ∙ becomes_keeps (λ x. refl) h.2.change t))
-counted tr p (Started threads n ∷ past) b h t =
-    counted tr p past h.0 h.1 t ∙ ap (λ (x : State). one (begun_at t x.pool)) (sym h.2.becomes)
+    ap one (settled_keeps h.2.settles t ∙ becomes_keeps (λ x. refl) h.2.change t) ∙ counted tr p past h.0 h.1 t
+counted tr p (Started threads n ∷ past) b h t = ap one (same_pool h.2.becomes t) ∙ counted tr p past h.0 h.1 t
 counted tr p (Turned v done polls r ∷ past) b h t =
     let u = h.2.1 in
-    ap (more_if (runs t r.turn)) (counted tr p past h.0 h.1 t ∙ ap one (sym (reports_keep done (came v h.0) u.reported u.reports t)))
-    ∙ sym (ap one (settled_keeps u.settles t) ∙ decided_begun polls r.turn u.reported u.decided u.decides t)
+    ap one (settled_keeps u.settles t) ∙ decided_begun polls r.turn u.reported u.decided u.decides t
+    ∙ ap (more_if (runs t r.turn)) (ap one (reports_keep done (came v h.0) u.reported u.reports t) ∙ counted tr p past h.0 h.1 t)
 counted tr p (Stopped task n ∷ past) b h t =
-    counted tr p past h.0 h.1 t ∙ ap one (sym (settled_keeps h.2.settles t ∙ stopped_keeps h.2.ended task h.0 t))
-counted tr p (Repeated ∷ past) b h t = ap one (sym (ap (λ (x : State). begun_at t x.pool) h.2 ∙ anew_begun h.0.pool.tasks t))
+    ap one (settled_keeps h.2.settles t ∙ stopped_keeps h.2.ended task h.0 t) ∙ counted tr p past h.0 h.1 t
+counted tr p (Repeated ∷ past) b h t = ap one (same_pool h.2 t ∙ anew_begun h.0.pool.tasks t)
 
 one_few : (b : Bool) → one b ≤ 1
 one_few true = omega arith

@@ -1,51 +1,14 @@
 -- The pool's numbers of tasks, and what they mean.
-use Rattle.std.proofs.Common.{◌≡◌, ◌≤◌, ◌<◌, ◌+◌, ℕ, zero, suc, Bool, true, false, List, [], ◌∷◌, Option, Some, None, IsTrue, length}
-use Rattle.std.proofs.Common.{◌≢◌, subst, refl, ap, sym, ◌∙◌, arith}
-use Rattle.std.specs.Prelude.{slice_get, nat_lt, ◌&&◌, ◌==◌, ◌↔◌, not, if◌then◌else◌}
+use Rattle.std.proofs.Common.{◌≡◌, ◌≤◌, ◌<◌, ◌+◌, ◌≢◌, ℕ, zero, suc, Bool, true, false, IsTrue, length, subst, refl, ap, sym, ◌∙◌, arith}
+use Rattle.std.specs.Prelude.{nat_lt, ◌&&◌, ◌==◌, if◌then◌else◌}
+use Rattle.std.proofs.lemmas.Bool.{and_parts}
 use Rattle.std.proofs.lemmas.Bool.Decides.{nat_tests}
-use Rattle.tp_dag.specs.declared.entry.Stage.{Stage}
-use Rattle.tp_dag.specs.declared.entry.Stage.TheVariants as stage
-use Rattle.tp_dag.specs.State.{PoolState, Entry, IsReady, IsOver, is_done, is_unfinished, count_where, count_below}
-use Rattle.tp_dag.specs.State.{is_ready_now, ready_tasks}
+use Rattle.tp_dag.specs.State.{PoolState, IsReady, count_below, is_ready_now, ready_tasks}
 use Rattle.tp_dag.specs.Laws.{ReadyIsThis}
 use Rattle.tp_dag.specs.Calls.{is_over}
+use Rattle.tp_dag.proofs.Ready.{got_below, over_if, not_over}
 use Rattle.tp_team.specs.declared.state.State.{State}
 use Rattle.tp_team.specs.State.{HasReady, HasFinished}
-
--- ---- all tasks are done
-stage_done : (s : Stage) → not (is_done s) ≡ false → s ≡ stage.Done
-stage_done stage.Done h = refl
-stage_done stage.Fresh h = cc
-stage_done stage.Running h = cc
-
-done_stage : (s : Stage) → s ≡ stage.Done → not (is_done s) ≡ false
-done_stage stage.Done h = refl
-done_stage stage.Fresh h = cc
-done_stage stage.Running h = cc
-
-none_left : (b : Bool) (n : ℕ) → (if b then n + 1 else n) ≡ 0 → b ≡ false
-none_left true n h = absurd (omega arith)
-none_left false n h = refl
-
-none_more : (b : Bool) (n : ℕ) → (if b then n + 1 else n) ≡ 0 → n ≡ 0
-none_more true n h = absurd (omega arith)
-none_more false n h = h
-
-both_none : (b : Bool) (n : ℕ) → b ≡ false → n ≡ 0 → (if b then n + 1 else n) ≡ 0
-both_none true n h k = cc
-both_none false n h k = k
-
-pub all_done : (xs : List Entry) → count_where is_unfinished xs ≡ 0 → (t : ℕ) (x : Entry) → slice_get xs t ≡ Some x → x.stage ≡ stage.Done
-all_done [] h t x e = cc
-all_done (y ∷ ys) h zero x e =
-    (let same : y ≡ x = cc in ap (λ (z : Entry). z.stage) (sym same) ∙ stage_done y.stage (none_left (is_unfinished y) _ h))
-all_done (y ∷ ys) h (suc t) x e = all_done ys (none_more (is_unfinished y) _ h) t x e
-
-pub none_unfinished : (xs : List Entry) → ((t : ℕ) (x : Entry) → slice_get xs t ≡ Some x → x.stage ≡ stage.Done)
-    → count_where is_unfinished xs ≡ 0
-none_unfinished [] h = refl
-none_unfinished (y ∷ ys) h =
-    both_none (is_unfinished y) _ (done_stage y.stage (h 0 y refl)) (none_unfinished ys (λ t x e. h (suc t) x e))
 
 -- ---- some task is ready
 some_below : (test : ℕ → Bool) (n : ℕ) → 1 ≤ count_below test n → (t : ℕ) × (test t ≡ true)
@@ -68,15 +31,10 @@ one_below test (suc n) t l e = by_test (test n) refl (λ k. one_below test n t k
         let k : t ≢ n = (λ s. absurd (let g = ap test s in cc)) in
         rw f (rest (omega arith))
 
-got_below : (xs : List Entry) (t : ℕ) (x : Entry) → slice_get xs t ≡ Some x → t < length xs
-got_below [] t x e = cc
-got_below (y ∷ ys) zero x e = omega arith
-got_below (y ∷ ys) (suc t) x e = (let k = got_below ys t x e in omega arith)
-
-pub some_ready : (a : PoolState) → ReadyIsThis → 1 ≤ ready_tasks a → (t : ℕ) × IsReady t a
+some_ready : (a : PoolState) → ReadyIsThis → 1 ≤ ready_tasks a → (t : ℕ) × IsReady t a
 some_ready a law h = (let t = some_below (is_ready_now a) (length a.tasks) h in (t.0, (law a t.0).0 t.1))
 
-pub is_some_ready : (a : PoolState) → ReadyIsThis → (t : ℕ) → IsReady t a → 1 ≤ ready_tasks a
+is_some_ready : (a : PoolState) → ReadyIsThis → (t : ℕ) → IsReady t a → 1 ≤ ready_tasks a
 is_some_ready a law t r = one_below (is_ready_now a) (length a.tasks) t (got_below a.tasks t r.task r.is) ((law a t).1 r)
 
 positive : (n : ℕ) → nat_lt 0 n ≡ true → 1 ≤ n
@@ -96,16 +54,9 @@ ready_test a n e on law = (
 zero_test : (n : ℕ) → (n == 0) ≡ true → n ≡ 0
 zero_test n h = grind (arith, nat_tests)
 
-is_zero : (n : ℕ) → n ≡ 0 → (n == 0) ≡ true
-is_zero n h = grind (arith, nat_tests)
-
-and_left : (a b : Bool) → a && b ≡ true → a ≡ true
-and_left true b h = refl
-and_left false b h = cc
-
-and_right : (a b : Bool) → a && b ≡ true → b ≡ true
-and_right true b h = h
-and_right false b h = cc
+is_zero : (n : ℕ) → (n ≢ 0 → ⊥) → (n == 0) ≡ true
+is_zero zero h = refl
+is_zero (suc n) h = absurd (h (λ e. omega (arith, e)))
 
 and_both : (a b : Bool) → a ≡ true → b ≡ true → a && b ≡ true
 and_both true b h k = k
@@ -114,9 +65,6 @@ and_both false b h k = cc
 pub finished_test : (a : State) (r : Bool) → r ≡ (a.pool.started && is_over a.pool)
     → (IsTrue r → HasFinished a) × (HasFinished a → IsTrue r)
 finished_test a r e = (
-  λ h. record {
-    started = and_left a.pool.started _ (sym e ∙ h);
-    over = all_done a.pool.tasks (zero_test _ (and_right a.pool.started _ (sym e ∙ h)));
-  },
-  λ h. e ∙ and_both a.pool.started _ h.started (is_zero _ (none_unfinished a.pool.tasks h.over)),
+  λ h. (let both = and_parts a.pool.started _ (sym e ∙ h) in record { started = both.0; over = over_if a.pool (zero_test _ both.1) }),
+  λ h. e ∙ and_both a.pool.started _ h.started (is_zero _ (λ n. not_over a.pool n h.over)),
 )

@@ -1,6 +1,6 @@
 -- What holds between any two calls holds after each call.
-use Rattle.std.proofs.Common.{◌≡◌, ◌≤◌, ◌+◌, ◌-◌, ℕ, zero, suc, List, [], ◌∷◌, ◌∙◌, Bool, true, false, Some, None, IsTrue, IsSome}
-use Rattle.std.proofs.Common.{◌⊎◌, inl, inr, refl, sym, subst, arith}
+use Rattle.std.proofs.Common.{◌≡◌, ◌≤◌, ◌+◌, ◌-◌, ℕ, zero, suc, List, [], ◌∷◌, ◌∙◌, Bool, true, false, Some, None, IsTrue}
+use Rattle.std.proofs.Common.{inl, inr, refl, sym, subst, arith}
 use Rattle.std.proofs.lemmas.Bool.Decides.{nat_tests}
 use Rattle.std.specs.Prelude.{◌||◌, Option, if◌then◌else◌}
 use Rattle.tp_base.specs.declared.refusal.Refusal.{Refusal}
@@ -12,7 +12,7 @@ use Rattle.tp_dag.specs.Laws.{NeverSilent}
 use Rattle.tp_team.specs.declared.limits.TheConstants.{MAX_THREADS}
 use Rattle.tp_team.specs.declared.waiting.Waiting.{Waiting}
 use Rattle.tp_team.specs.declared.state.State.{State}
-use Rattle.tp_team.specs.State.{in_turns, needed, signalled_by, HasReady, HasFinished, HasEnded, Settles, LosesNoWakeUp}
+use Rattle.tp_team.specs.State.{in_turns, needed, signalled_by, HasReady, HasEnded, Settles, LosesNoWakeUp}
 use Rattle.tp_team.specs.Calls.{HasToWait}
 use Rattle.tp_team.specs.Laws.{IsIdle, NeverStuck}
 

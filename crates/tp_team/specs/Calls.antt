@@ -1,6 +1,6 @@
 -- The calls of a team: for which reasons each is refused, in their order, and what it does.
-use Rattle.std.specs.Prelude.{ℕ, ◌+◌, ◌-◌, ◌≡◌, ◌≤◌, ◌<◌, ◌==◌, ◌&&◌, ◌||◌, ◌⊎◌, ◌↔◌, List, [], ◌∷◌, ◌++◌, Bool, true, false, length}
-use Rattle.std.specs.Prelude.{Option, Some, None, IsTrue, IsSome, IfSome, IfNone, nat_lt, nat_le, slice_get, if◌then◌else◌}
+use Rattle.std.specs.Prelude.{ℕ, ◌+◌, ◌-◌, ◌≡◌, ◌≤◌, ◌<◌, ◌==◌, ◌&&◌, ◌||◌, ◌⊎◌, ◌↔◌, List, [], ◌∷◌, Bool, true, false, length}
+use Rattle.std.specs.Prelude.{Option, Some, None, IsTrue, IsSome, IfSome, IfNone, nat_lt, nat_le, if◌then◌else◌}
 use Rattle.tp_base.specs.declared.refusal.Refusal.{Refusal}
 use Rattle.tp_base.specs.declared.refusal.Refusal.TheVariants as refusal
 use Rattle.tp_base.specs.Checks as base
@@ -17,7 +17,6 @@ use Rattle.tp_team.specs.declared.turn.Arrival.{Arrival}
 use Rattle.tp_team.specs.declared.turn.Turn.{Turn}
 use Rattle.tp_team.specs.declared.turn.Turn.TheVariants as turn
 use Rattle.tp_team.specs.declared.turn.Reply.{Reply}
-use Rattle.tp_team.specs.declared.waiting.Waiting.{Waiting}
 use Rattle.tp_team.specs.declared.state.State.{State}
 use Rattle.tp_team.specs.State.{in_turns, left, signalled_by, HasReady, HasFinished, HasEnded, Settles}
 

@@ -3,7 +3,7 @@
 use Rattle.std.specs.Prelude.{ℕ, ◌+◌, ◌≡◌, ◌≤◌, ◌==◌, List, [], ◌∷◌, Bool, false, Option, Some, IsTrue, IsFalse, slice_get}
 use Rattle.std.specs.Prelude.{if◌then◌else◌}
 use Rattle.tp_dag.specs.declared.entry.Stage.TheVariants as stage
-use Rattle.tp_dag.specs.State.{PoolState, Entry, IsAt}
+use Rattle.tp_dag.specs.State.{Entry, IsAt}
 use Rattle.tp_dag.specs.Calls.{Becomes, one_more, one_less, with_spawned}
 use Rattle.tp_dag.specs.Describing.{Graph}
 use Rattle.tp_team.specs.declared.turn.Arrival.{Arrival}

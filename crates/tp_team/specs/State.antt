@@ -1,6 +1,6 @@
 -- A team: which threads wait, when it has ended, when a sleeping thread has to be signalled, and what holds between any two calls.
-use Rattle.std.specs.Prelude.{ℕ, ◌+◌, ◌-◌, ◌≡◌, ◌≤◌, ◌<◌, ◌==◌, ◌&&◌, ◌↔◌, ◌⊎◌, Bool, true, false, IsTrue, IsSome, nat_lt, if◌then◌else◌}
-use Rattle.tp_dag.specs.State.{PoolState, IsReady, IsOver}
+use Rattle.std.specs.Prelude.{ℕ, ◌+◌, ◌-◌, ◌≡◌, ◌≤◌, ◌==◌, ◌&&◌, ◌↔◌, ◌⊎◌, Bool, true, false, IsTrue, IsSome, nat_lt, if◌then◌else◌}
+use Rattle.tp_dag.specs.State.{IsReady, IsOver}
 use Rattle.tp_team.specs.declared.limits.TheConstants.{MAX_THREADS}
 use Rattle.tp_team.specs.declared.turn.Arrival.{Arrival}
 use Rattle.tp_team.specs.declared.turn.Arrival.TheVariants as arrival

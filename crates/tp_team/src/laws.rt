@@ -2,14 +2,14 @@
 ghost use Rattle.tp_team.specs.Laws.{CountsThreads, DispatchesOnce, NeverLosesWakeUp};
 
 /// The threads that a team counts are those that were told to wait and have not come back.
-#[tactic(auto, using(crate::proofs::Counted::counts_threads))]
+#[tactic(auto, using(crate::proofs::Threads::counts_threads))]
 pub fn counts_threads()
     ensures { CountsThreads }
 {}
 
 /// If a task is ready in a run, then no thread sleeps, or some thread spins or was signalled. Once the team has ended, each thread that
 /// sleeps was signalled.
-#[tactic(auto, using(crate::proofs::Awake::loses_no_wake_up))]
+#[tactic(auto, using(crate::proofs::Threads::loses_no_wake_up))]
 pub fn loses_no_wake_up()
     ensures { NeverLosesWakeUp }
 {}

@@ -16,3 +16,6 @@ pub use state::State;
 pub use team::Team;
 pub use turn::{Arrival, Reply, Spawned, Turn};
 pub use waiting::Waiting;
+
+#[cfg(test)]
+mod tests;

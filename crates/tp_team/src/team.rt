@@ -8,8 +8,8 @@ ghost use Rattle.tp_dag.specs.Calls.{Becomes, one_more, one_less};
 ghost use Rattle.tp_dag.specs.Describing.{fault_of};
 ghost use Rattle.tp_team.specs.declared.refusal.TeamRefusal.TheVariants as team;
 ghost use Rattle.tp_team.specs.State.{LosesNoWakeUp, Settles};
-ghost use Rattle.tp_team.specs.Calls.{first, of_pool, fault_check, describe_checks, record_checks, start_checks, again_checks, spawn_checks};
-ghost use Rattle.tp_team.specs.Calls.{IsGraphRefusal};
+ghost use Rattle.tp_team.specs.Calls.{first, of_pool, fault_check, describe_checks, record_checks, start_checks, again_checks};
+ghost use Rattle.tp_team.specs.Calls.{spawn_checks, IsGraphRefusal};
 ghost use Rattle.tp_team.specs.Calls.{opened, Changes, with_pool, with_graph, repeated, Starts, Stops, TakesTurn};
 ghost use Rattle.tp_team.specs.Laws.{NeverStuck};
 

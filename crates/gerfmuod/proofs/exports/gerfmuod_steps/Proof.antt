@@ -7,7 +7,8 @@ use Rattle.gerfmuod.proofs.Walks.{alloc_all, pass_all, free_all, look_at, look_i
 use Rattle.gerfmuod.proofs.Walks.{owns, Ptr, RawPtr, block_ptr, lies_at, in_a_block, rawptr_vals, rawptr_Tells, plain, nothing, calls_at}
 use Rattle.gerfmuod.proofs.Walks.{triple_of, Stays, walk_of, stay_dropped, gave_slice, Goes-dropped, Goes-gave_slice, ends_at, framed}
 use Rattle.gerfmuod.proofs.Walks.{CoreState, IsStepsCall, Answer, ap, only, fsep}
-use Rattle.gerfmuod.proofs.Borrowing.{lend, returned, usize_laws, blanks}
+use Rattle.gerfmuod.proofs.Borrowing.{lend, returned, usize_laws}
+use Rattle.gerfmuod.proofs.Parameters.{blanks}
 use denote.Exit.{left}
 use types.Part.{whole, sub, agg}
 use denote.Builtin.{usize}

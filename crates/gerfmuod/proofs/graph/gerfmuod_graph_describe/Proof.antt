@@ -5,7 +5,8 @@ use Rattle.gerfmuod.proofs.Walks.{group, enter, of_opd, addr, stop, no_more, and
 use Rattle.gerfmuod.proofs.Walks.{through, sets, lands_as, u8, u32, yes, owns, Ptr, RawPtr, block_ptr, lies_at, in_a_block, rawptr_vals}
 use Rattle.gerfmuod.proofs.Walks.{rawptr_Tells, plain, nothing, only, calls_at, triple_of, Stays, walk_of, stay_dropped, Goes-dropped, ends_at}
 use Rattle.gerfmuod.proofs.Walks.{framed, Val}
-use Rattle.gerfmuod.proofs.Borrowing.{lend, returned, gone, blanks}
+use Rattle.gerfmuod.proofs.Borrowing.{lend, returned}
+use Rattle.gerfmuod.proofs.Parameters.{Gone, blanks, dropped, gone, none}
 use denote.Signature.{shr_slice_of}
 use denote.Slice.{ShrSlice, shr_slice_vals, shr_slice_Tells}
 use Rattle.std.proofs.Common.{Bor}
@@ -20,7 +21,7 @@ use Rattle.gerfmuod.specs.contracts.graph.calls.describe as g
 use Rattle.gerfmuod.proofs.graph.calls.describe.Met.{met}
 
 abbrev stayed : Stays f.ended.signature.params f.ended.kept
-stayed = (stay_dropped _ yes, (stay_dropped _ yes, (stay_dropped _ yes, (stay_dropped _ yes, tt))))
+stayed = dropped f.ended.signature.params f.ended.kept
 
 pub gerfmuod_graph_describe_spec : {M : Type 1} → statement M
 gerfmuod_graph_describe_spec 𝓤 𝓛 𝓜 𝓡 wired =
@@ -87,10 +88,10 @@ gerfmuod_graph_describe_spec 𝓤 𝓛 𝓜 𝓡 wired =
     join ! $ nothing ! $ move ! (1 ∷ 0 ∷ []) $ use2 𝓛 (raw (G.pre z)) (id⊢ 𝓤 _) $
     calls_at ! (framed 𝓤 𝓛.H 𝓜 𝓣) G (met 𝓤 𝓛 𝓜 𝓡 (code.calls-gerfmuod::graph::calls::describe 𝓡.env wired)) z
     (and_then ! (get ! refl) (and_then ! (get ! refl) (and_then ! (get ! refl) (and_then ! (get ! refl) (no_more !))))) (λ v.
-    returned R ! tt A the_row_laws b o {Ws = GraphState × (Unit {0} × (Unit {0} × (Unit {0} × Unit {0})))} (λ ws. ws.0) (λ ws. gone 3)
+    returned R ! tt A the_row_laws b o {Ws = GraphState × Gone 3} (λ ws. ws.0) (λ ws. gone 3)
     (‵ (flft κ q) ⊛ (‵ (flft ρ r) ⊛ (‵ (flft σ s) ⊛ ‵ ftrue)))
     (λ u ws new. IsDescribeCall n (record { classes = xs.now; offsets = ys.now; inputs = zs.now }) u new) v (G.post z v) (id⊢ 𝓤 _) (λ u ws w same good.
     lands_as ! (ap only same) refl good $ returns ! (look_at ! 0 refl) $ free_all ! refl $ keep ! (0 ∷ 1 ∷ 2 ∷ []) $
-    suffices ! _ (ends_at 𝓛 f.ended stayed c (y (block_ptr b o)) w u (tt, (tt, (tt, (tt, tt)))) (tt, (tt, (tt, (tt, tt))))) $
+    suffices ! _ (ends_at 𝓛 f.ended stayed c (y (block_ptr b o)) w u (none 4) (none 4)) $
     -- [the result; the other tokens; the graph]
     nothing ! $ blanks ! 4 $ move ! (2 ∷ 0 ∷ 1 ∷ []) $ group ! 3 $ done !))))))

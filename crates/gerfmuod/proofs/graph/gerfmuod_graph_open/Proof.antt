@@ -6,6 +6,8 @@ use Rattle.gerfmuod.proofs.Walks.{assigns, returns, alloc_all, pass_all, free_al
 use Rattle.gerfmuod.proofs.Walks.{shows, lone, uint_Makes, uint_vals, uint_Tells, owns, Ptr, RawPtr, block_ptr, lies_at, room_at, in_a_block}
 use Rattle.gerfmuod.proofs.Walks.{rawptr_vals, rawptr_Tells, plain, nothing, owned, peeks, heard, calls_at, lasts, triple_of, Stays, walk_of}
 use Rattle.gerfmuod.proofs.Walks.{stay_dropped, Goes-dropped, ends_at, framed, part_in, Val, List}
+use Rattle.gerfmuod.proofs.Parameters.{Gone, blanks, dropped, none, nums_go, pass, spells, tell, typed, u32s, vals}
+use denote.RattleType.{flat}
 use Rattle.std.specs.contracts.alloc.Global.{the_row as Z}
 use Rattle.std.proofs.alloc.Global.TheLaws as heap
 use Rattle.gerfmuod.specs.Graph.{GraphState, opened_graph}
@@ -18,7 +20,7 @@ use Rattle.gerfmuod.specs.contracts.graph.calls.made as g
 use Rattle.gerfmuod.proofs.graph.calls.made.Met.{met}
 
 abbrev stayed : Stays f.ended.signature.params f.ended.kept
-stayed = (stay_dropped _ yes, (stay_dropped _ yes, (stay_dropped _ yes, (stay_dropped _ yes, tt))))
+stayed = dropped f.ended.signature.params f.ended.kept
 
 abbrev τ : Ty
 τ = lone R.mir
@@ -26,34 +28,32 @@ abbrev τ : Ty
 pub gerfmuod_graph_open_spec : {M : Type 1} → statement M
 gerfmuod_graph_open_spec 𝓤 𝓛 𝓜 𝓡 wired =
     let c = f.clauses 𝓛 𝓜.mem 𝓡.returns in let W = walk_of 𝓛 f.ended stayed c in let 𝓣 = tables 𝓤 𝓛.H 𝓜 𝓡 𝓡.env in
-    let num = Goes-dropped 𝓛 0 (plain (λ _. u32)) yes (λ κs x w. refl) in
     proved 𝓛 f.ended stayed c 𝓜 𝓡 (
       Goes-dropped 𝓛 0 (plain (λ _. Z)) yes (λ κs x w. refl),
-      (Goes-dropped 𝓛 0 (plain (λ _. RawPtr)) yes (λ κs x w. refl), (num, (num, tt))),
+      (Goes-dropped 𝓛 0 (plain (λ _. RawPtr)) yes (λ κs x w. refl), nums_go 𝓛 0 2 f.ended.kept.1.1),
     )
     f.Key.name code.function (code.unfolded 𝓤 𝓛.H 𝓜 𝓡 wired)
-    (λ κs. ((λ d. heap.lowered d ∷ []), (rawptr_vals, (uint_vals w32, (uint_vals w32, tt))))) (λ κs.
-    (heap.lowers.val_is, (rawptr_Tells, (uint_Tells w32, (uint_Tells w32, tt))))) (λ κs qs bounds a n are.
-    let d = a.0 in let k = a.1.1.0 in let i = a.1.1.1.0 in let fk = are.1.1.0.1 in let fi = are.1.1.1.0.1 in let dv = heap.lowered d in
-    let sure = ((heap.the_row_laws.lawful 𝓛).typed d (dv ∷ []) are.0).0 in let new : GraphState = opened_graph k i in
-    let vs : List Val × (List Val × Unit {0}) = (vint w32 k ∷ [], (vint w32 i ∷ [], tt)) in
-    let y : Ptr → W.Ghost = λ p. ((κs, qs, bounds, (d, (p, (k, (i, tt)))), (dv ∷ [], (rawptr_vals p, vs))), n) in
+    (λ κs. ((λ d. heap.lowered d ∷ []), (rawptr_vals, spells 2))) (λ κs.
+    (heap.lowers.val_is, (rawptr_Tells, tell 2))) (λ κs qs bounds a n are.
+    let d = a.0 in let dv = heap.lowered d in
+    let sure = ((heap.the_row_laws.lawful 𝓛).typed d (dv ∷ []) are.0).0 in let new : GraphState = opened_graph a.1.1.0 a.1.1.1.0 in
+    let vs = vals 2 a.1.1 in
+    let y : Ptr → W.Ghost = λ p. ((κs, qs, bounds, (d, (p, a.1.1)), (dv ∷ [], (rawptr_vals p, vs))), n) in
     qed 𝓛 ((‵ ftrue ⊛ ‵ (owns (Z ∷ RawPtr ∷ u32 ∷ u32 ∷ []) a (y a.1.0).0.4)) ∷ ‵ (room_at R a.1.0) ∷ []) ∵ split ! $ drop ! $ fsplit ! $
     move ! (1 ∷ []) $ drop ! $ move ! (1 ∷ []) $
     in_a_block ! a.1.0 (λ p. room_at R p) (id⊢ 𝓤 _) (λ b o e.
-    regoal ! (λ p. prop (WpFn 𝓤 𝓛.H 𝓣.C 𝓣.Λ code.function (dv ∷ (rawptr_vals p ++ (vint w32 k ∷ vint w32 i ∷ []))) (W.post (y p)))) e refl $
+    regoal ! (λ p. prop (WpFn 𝓤 𝓛.H 𝓣.C 𝓣.Λ code.function (dv ∷ (rawptr_vals p ++ flat (u32s 2) vs)) (W.post (y p)))) e refl $
     use1 𝓛 (‵ (froom τ b o)) (id⊢ 𝓤 _) $
-    enter ! _ _ _ _ _ $ alloc_all ! (λ l. pass_all ! refl (sure, ((tt, tt), ((tt, record { fits = fk }), ((tt, record { fits = fi }), tt)))) $
+    enter ! _ _ _ _ _ $ alloc_all ! (λ l. pass_all ! refl (sure, ((tt, tt), typed 2 a.1.1 are.1.1)) $
     -- [the memory; the allocator; the locals]
     let G = triple_of 𝓛 g.signature (g.spec 𝓛 𝓜.mem 𝓡.returns) in
-    let z : G.Ghost = ((tt, tt, tt, (d, (k, (i, tt))), (dv ∷ [], vs)), tt) in
-    nothing ! $ owned ! u32 (Is u32) (uint_Makes 𝓛 w32) i _ (refl, fi) $ join ! $
-    owned ! u32 (Is u32) (uint_Makes 𝓛 w32) k _ (refl, fk) $ join ! $ move ! (2 ∷ 0 ∷ []) $ join ! $
+    let z : G.Ghost = ((tt, tt, tt, (d, a.1.1), (dv ∷ [], vs)), tt) in
+    nothing ! $ pass ! 2 a.1.1 are.1.1 $ move ! (2 ∷ 0 ∷ []) $ join ! $
     nothing ! $ join ! $ nothing ! $ move ! (1 ∷ 0 ∷ []) $ use2 𝓛 (raw (G.pre z)) (id⊢ 𝓤 _) $
     calls_at ! (framed 𝓤 𝓛.H 𝓜 𝓣) G (met 𝓤 𝓛 𝓜 𝓡 (code.calls-gerfmuod::graph::calls::made 𝓡.env wired)) z
     (and_then ! (get ! refl) (and_then ! (get ! refl) (and_then ! (get ! refl) (no_more !)))) (λ v.
     use1 𝓛 (later (some (λ (r : GraphState). (‵ ftrue ⊛ ‵ (R.own_val r (v ∷ []))) ⊛
-    some (λ (ws : Unit {0} × (Unit {0} × (Unit {0} × Unit {0}))). ‵ (lasts g.ended z.0.0 z.0.3 ws) ⊛ raw (fact 𝓤 (r ≡ new)))))) (id⊢ 𝓤 _) $
+    some (λ (ws : Gone 3). ‵ (lasts g.ended z.0.0 z.0.3 ws) ⊛ raw (fact 𝓤 (r ≡ new)))))) (id⊢ 𝓤 _) $
     await ! tt $ pick ! (λ r. split ! $ split ! $ drop ! $ move ! (1 ∷ []) $ pick ! (λ ws. split ! $ drop ! $ heard ! _ (λ is.
     rewrite ! 0 (λ (x : GraphState). ‵ (R.own_val x (v ∷ []))) is refl $
     peeks ! R (Is R) (shows 𝓛 R) new (v ∷ []) (λ good. let typed = ((the_row_laws.lawful 𝓛).typed new (v ∷ []) good).0 in
@@ -65,6 +65,6 @@ gerfmuod_graph_open_spec 𝓤 𝓛 𝓜 𝓡 wired =
     move ! (1 ∷ 0 ∷ []) $ use2 𝓛 (‵ (lies_at R full_share (block_ptr b o) new)) (part_in 𝓛 R refl full_share new b o v) $
     sets ! (of_opd ! (unit_lit !)) refl (tt, tt) $
     returns ! (look_at ! 0 refl) $ free_all ! refl $ keep ! (0 ∷ []) $
-    suffices ! _ (ends_at 𝓛 f.ended stayed c (y (block_ptr b o)) vunit tt (tt, (tt, (tt, (tt, tt)))) (tt, (tt, (tt, (tt, tt))))) $
+    suffices ! _ (ends_at 𝓛 f.ended stayed c (y (block_ptr b o)) vunit tt (none 4) (none 4)) $
     feq_i ! (List Val) (vunit ∷ []) (vunit ∷ []) refl $
-    nothing ! $ nothing ! $ join ! $ nothing ! $ join ! $ nothing ! $ join ! $ nothing ! $ join ! $ nothing ! $ group ! 3 $ done !))))))))
+    nothing ! $ blanks ! 4 $ nothing ! $ group ! 3 $ done !))))))))

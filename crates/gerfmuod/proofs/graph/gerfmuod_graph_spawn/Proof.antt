@@ -5,7 +5,8 @@ use Rattle.gerfmuod.proofs.Walks.{suffices, group, enter, of_opd, addr, stop, no
 use Rattle.gerfmuod.proofs.Walks.{look_at, get, through, sets, lands_as, u32, yes, Is, uint_Makes, uint_vals, uint_Tells, owns, Ptr, RawPtr}
 use Rattle.gerfmuod.proofs.Walks.{block_ptr, lies_at, in_a_block, rawptr_vals, rawptr_Tells, plain, nothing, owned, only, calls_at}
 use Rattle.gerfmuod.proofs.Walks.{triple_of, Stays, walk_of, stay_dropped, Goes-dropped, ends_at, framed, Val}
-use Rattle.gerfmuod.proofs.Borrowing.{lend, returned, gone, number, blanks}
+use Rattle.gerfmuod.proofs.Borrowing.{lend, returned}
+use Rattle.gerfmuod.proofs.Parameters.{Gone, blanks, dropped, gone, none, number}
 use denote.Signature.{shr_slice_of}
 use denote.Slice.{ShrSlice, shr_slice_vals, shr_slice_Tells}
 use Rattle.std.proofs.Common.{Bor}
@@ -20,7 +21,7 @@ use Rattle.gerfmuod.specs.contracts.graph.calls.spawn as g
 use Rattle.gerfmuod.proofs.graph.calls.spawn.Met.{met}
 
 abbrev stayed : Stays f.ended.signature.params f.ended.kept
-stayed = (stay_dropped _ yes, (stay_dropped _ yes, (stay_dropped _ yes, (stay_dropped _ yes, tt))))
+stayed = dropped f.ended.signature.params f.ended.kept
 
 pub gerfmuod_graph_spawn_spec : {M : Type 1} → statement M
 gerfmuod_graph_spawn_spec 𝓤 𝓛 𝓜 𝓡 wired =
@@ -60,9 +61,9 @@ gerfmuod_graph_spawn_spec 𝓤 𝓛 𝓜 𝓡 wired =
     use2 𝓛 (raw (G.pre z)) (id⊢ 𝓤 _) $
     calls_at ! (framed 𝓤 𝓛.H 𝓜 𝓣) G (met 𝓤 𝓛 𝓜 𝓡 (code.calls-gerfmuod::graph::calls::spawn 𝓡.env wired)) z
     (and_then ! (get ! refl) (and_then ! (get ! refl) (and_then ! (get ! refl) (and_then ! (get ! refl) (no_more !))))) (λ v.
-    returned R ! tt A the_row_laws b o {Ws = GraphState × (Unit {0} × (Unit {0} × (Unit {0} × Unit {0})))} (λ ws. ws.0) (λ ws. gone 3)
+    returned R ! tt A the_row_laws b o {Ws = GraphState × Gone 3} (λ ws. ws.0) (λ ws. gone 3)
     (‵ (flft κ q) ⊛ ‵ ftrue) (λ u ws new. IsSpawnCall n k xs.now j u new) v (G.post z v) (id⊢ 𝓤 _) (λ u ws w same good.
     lands_as ! (ap only same) refl good $ returns ! (look_at ! 0 refl) $ free_all ! refl $ keep ! (0 ∷ 1 ∷ 2 ∷ []) $
-    suffices ! _ (ends_at 𝓛 f.ended stayed c (y (block_ptr b o)) w u (tt, (tt, (tt, (tt, tt)))) (tt, (tt, (tt, (tt, tt))))) $
+    suffices ! _ (ends_at 𝓛 f.ended stayed c (y (block_ptr b o)) w u (none 4) (none 4)) $
     -- [the result; the other token; the graph]
     nothing ! $ blanks ! 4 $ move ! (2 ∷ 0 ∷ 1 ∷ []) $ group ! 3 $ done !))))))
