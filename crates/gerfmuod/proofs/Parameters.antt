@@ -1,6 +1,6 @@
 -- The parameters of an exported function that are numbers, and those of which nothing is had when it returns. Assumes `Logic`.
-use Rattle.gerfmuod.proofs.Walks.{List, [], ◌∷◌, ◌++◌, ℕ, Ura, Val, vint, w32, Ty, Logic, Item, Goal, Seq, Step, step, ‵, ◌$◌, ◌⊛◌, Fml, fsep}
-use Rattle.gerfmuod.proofs.Walks.{ftrue, join, nothing, owned, refl, u32, Is, uint_Makes, uint_vals, uint_Tells, RattleType, Stays, stay_dropped}
+use Rattle.gerfmuod.proofs.Walks.{List, [], ◌∷◌, ℕ, Ura, vint, w32, Ty, Logic, Item, Goal, Step, step, ‵, ◌$◌, ◌⊛◌, Fml, fsep, ftrue, join}
+use Rattle.gerfmuod.proofs.Walks.{nothing, owned, refl, u32, Is, uint_Makes, uint_vals, uint_Tells, RattleType, Stays, stay_dropped}
 use Rattle.gerfmuod.proofs.Walks.{Goes-dropped, plain}
 use Rattle.std.proofs.Common.{zero, suc, ◌<◌, ◌^◌}
 use mir.Syntax.{ty_int}

@@ -43,7 +43,8 @@ gerfmuod_step_by_spec 𝓤 𝓛 𝓜 𝓡 wired =
     (and_then ! (get ! refl) (and_then ! (get ! refl) (and_then ! (get ! refl) (and_then ! (get ! refl)
     (and_then ! (get ! refl) (and_then ! (get ! refl) (and_then ! (get ! refl) (and_then ! (get ! refl) (no_more !))))))))) (λ v.
     returned R ! tt A the_row_laws b o {Ws = CoreState × Gone 7} (λ ws. ws.0) (λ ws. gone 7) (‵ ftrue)
-    (λ u ws new. IsByCall a.1.0 a.1.1.0 (event_of a.1.1.1.0 a.1.1.1.1.0 a.1.1.1.1.1.0 a.1.1.1.1.1.1.0 a.1.1.1.1.1.1.1.0) n u new) v (G.post z v) (id⊢ 𝓤 _) (λ u ws w same good.
+    (λ u ws new. IsByCall a.1.0 a.1.1.0 (event_of a.1.1.1.0 a.1.1.1.1.0 a.1.1.1.1.1.0 a.1.1.1.1.1.1.0 a.1.1.1.1.1.1.1.0) n u new)
+    v (G.post z v) (id⊢ 𝓤 _) (λ u ws w same good.
     lands_as ! (ap only same) refl good $ returns ! (look_at ! 0 refl) $ free_all ! refl $ keep ! (0 ∷ 1 ∷ 2 ∷ []) $
     suffices ! _ (ends_at 𝓛 f.ended stayed c (y (block_ptr b o)) w u (none 8) (none 8)) $
     nothing ! $ blanks ! 8 $ move ! (2 ∷ 0 ∷ 1 ∷ []) $ group ! 3 $ done !))))))

@@ -1,10 +1,10 @@
 -- The proof of `gerfmuod_graph_describe`: it borrows the graph for a lifetime that is created for the call, and passes the arrays on.
-use Rattle.gerfmuod.proofs.Walks.{List, [], ◌∷◌, ◌++◌, ℕ, refl, ap, MutBor, proved, full_share, id⊢, flft, ftrue, named, vptr, WpFn, tables}
-use Rattle.gerfmuod.proofs.Walks.{‵, raw, ◌⊛◌, prop, ◌$◌, ◌∵◌, !, qed, done, move, keep, drop, use2, split, join, fsplit, regoal, suffices}
-use Rattle.gerfmuod.proofs.Walks.{group, enter, of_opd, addr, stop, no_more, and_then, returns, alloc_all, pass_all, free_all, look_at, get}
-use Rattle.gerfmuod.proofs.Walks.{through, sets, lands_as, u8, u32, yes, owns, Ptr, RawPtr, block_ptr, lies_at, in_a_block, rawptr_vals}
-use Rattle.gerfmuod.proofs.Walks.{rawptr_Tells, plain, nothing, only, calls_at, triple_of, Stays, walk_of, stay_dropped, Goes-dropped, ends_at}
-use Rattle.gerfmuod.proofs.Walks.{framed, Val}
+use Rattle.gerfmuod.proofs.Walks.{List, [], ◌∷◌, ◌++◌, ℕ, refl, ap, MutBor, proved, full_share, id⊢, flft, ftrue, named, vptr, WpFn}
+use Rattle.gerfmuod.proofs.Walks.{tables, ‵, raw, ◌⊛◌, prop, ◌$◌, ◌∵◌, !, qed, done, move, keep, drop, use2, split, join, fsplit, regoal}
+use Rattle.gerfmuod.proofs.Walks.{suffices, group, enter, of_opd, addr, stop, no_more, and_then, returns, alloc_all, pass_all, free_all}
+use Rattle.gerfmuod.proofs.Walks.{look_at, get, through, sets, lands_as, u8, u32, yes, owns, Ptr, RawPtr, block_ptr, lies_at, in_a_block}
+use Rattle.gerfmuod.proofs.Walks.{rawptr_vals, rawptr_Tells, plain, nothing, only, calls_at, triple_of, Stays, walk_of, Goes-dropped}
+use Rattle.gerfmuod.proofs.Walks.{ends_at, framed, Val}
 use Rattle.gerfmuod.proofs.Borrowing.{lend, returned}
 use Rattle.gerfmuod.proofs.Parameters.{Gone, blanks, dropped, gone, none}
 use denote.Signature.{shr_slice_of}
@@ -90,7 +90,8 @@ gerfmuod_graph_describe_spec 𝓤 𝓛 𝓜 𝓡 wired =
     (and_then ! (get ! refl) (and_then ! (get ! refl) (and_then ! (get ! refl) (and_then ! (get ! refl) (no_more !))))) (λ v.
     returned R ! tt A the_row_laws b o {Ws = GraphState × Gone 3} (λ ws. ws.0) (λ ws. gone 3)
     (‵ (flft κ q) ⊛ (‵ (flft ρ r) ⊛ (‵ (flft σ s) ⊛ ‵ ftrue)))
-    (λ u ws new. IsDescribeCall n (record { classes = xs.now; offsets = ys.now; inputs = zs.now }) u new) v (G.post z v) (id⊢ 𝓤 _) (λ u ws w same good.
+    (λ u ws new. IsDescribeCall n (record { classes = xs.now; offsets = ys.now; inputs = zs.now }) u new)
+    v (G.post z v) (id⊢ 𝓤 _) (λ u ws w same good.
     lands_as ! (ap only same) refl good $ returns ! (look_at ! 0 refl) $ free_all ! refl $ keep ! (0 ∷ 1 ∷ 2 ∷ []) $
     suffices ! _ (ends_at 𝓛 f.ended stayed c (y (block_ptr b o)) w u (none 4) (none 4)) $
     -- [the result; the other tokens; the graph]

@@ -1,11 +1,11 @@
 -- The proof of `gerfmuod_graph_open`: it moves a new graph into the memory.
-use Rattle.gerfmuod.proofs.Walks.{◌≡◌, [], ◌∷◌, ◌++◌, refl, w32, proved, full_share, id⊢, ftrue, froom, Ty, vint, vunit, WpFn, fact, tables}
-use Rattle.gerfmuod.proofs.Walks.{‵, raw, ◌⊛◌, some, later, prop, ◌$◌, ◌∵◌, !, qed, done, rewrite, move, keep, drop, use1, use2, split, join}
-use Rattle.gerfmuod.proofs.Walks.{fsplit, feq_i, pick, await, regoal, suffices, group, enter, of_opd, unit_lit, init, stop, no_more, and_then}
-use Rattle.gerfmuod.proofs.Walks.{assigns, returns, alloc_all, pass_all, free_all, look_at, get, through, sets, lands_as, u32, unit, yes, Is}
-use Rattle.gerfmuod.proofs.Walks.{shows, lone, uint_Makes, uint_vals, uint_Tells, owns, Ptr, RawPtr, block_ptr, lies_at, room_at, in_a_block}
-use Rattle.gerfmuod.proofs.Walks.{rawptr_vals, rawptr_Tells, plain, nothing, owned, peeks, heard, calls_at, lasts, triple_of, Stays, walk_of}
-use Rattle.gerfmuod.proofs.Walks.{stay_dropped, Goes-dropped, ends_at, framed, part_in, Val, List}
+use Rattle.gerfmuod.proofs.Walks.{◌≡◌, [], ◌∷◌, ◌++◌, refl, proved, full_share, id⊢, ftrue, froom, Ty, vunit, WpFn, fact, tables, ‵, raw}
+use Rattle.gerfmuod.proofs.Walks.{◌⊛◌, some, later, prop, ◌$◌, ◌∵◌, !, qed, done, rewrite, move, keep, drop, use1, use2, split, join}
+use Rattle.gerfmuod.proofs.Walks.{fsplit, feq_i, pick, await, regoal, suffices, group, enter, of_opd, unit_lit, init, stop, no_more}
+use Rattle.gerfmuod.proofs.Walks.{and_then, assigns, returns, alloc_all, pass_all, free_all, look_at, get, through, sets, lands_as, u32}
+use Rattle.gerfmuod.proofs.Walks.{yes, Is, shows, lone, owns, Ptr, RawPtr, block_ptr, lies_at, room_at, in_a_block, rawptr_vals}
+use Rattle.gerfmuod.proofs.Walks.{rawptr_Tells, plain, nothing, peeks, heard, calls_at, lasts, triple_of, Stays, walk_of, Goes-dropped}
+use Rattle.gerfmuod.proofs.Walks.{ends_at, framed, part_in, Val, List}
 use Rattle.gerfmuod.proofs.Parameters.{Gone, blanks, dropped, none, nums_go, pass, spells, tell, typed, u32s, vals}
 use denote.RattleType.{flat}
 use Rattle.std.specs.contracts.alloc.Global.{the_row as Z}

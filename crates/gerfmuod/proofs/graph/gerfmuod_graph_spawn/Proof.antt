@@ -1,10 +1,10 @@
 -- The proof of `gerfmuod_graph_spawn`: it borrows the graph for a lifetime that is created for the call, and passes the inputs on.
 use Rattle.gerfmuod.proofs.Walks.{List, [], ◌∷◌, ◌++◌, ℕ, refl, ap, w32, MutBor, proved, full_share, id⊢, flft, ftrue, named, vint, vptr}
-use Rattle.gerfmuod.proofs.Walks.{WpFn, tables, ‵, raw, ◌⊛◌, prop, ◌$◌, ◌∵◌, !, qed, done, move, keep, drop, use2, split, join, fsplit, regoal}
-use Rattle.gerfmuod.proofs.Walks.{suffices, group, enter, of_opd, addr, stop, no_more, and_then, returns, alloc_all, pass_all, free_all}
-use Rattle.gerfmuod.proofs.Walks.{look_at, get, through, sets, lands_as, u32, yes, Is, uint_Makes, uint_vals, uint_Tells, owns, Ptr, RawPtr}
-use Rattle.gerfmuod.proofs.Walks.{block_ptr, lies_at, in_a_block, rawptr_vals, rawptr_Tells, plain, nothing, owned, only, calls_at}
-use Rattle.gerfmuod.proofs.Walks.{triple_of, Stays, walk_of, stay_dropped, Goes-dropped, ends_at, framed, Val}
+use Rattle.gerfmuod.proofs.Walks.{WpFn, tables, ‵, raw, ◌⊛◌, prop, ◌$◌, ◌∵◌, !, qed, done, move, keep, drop, use2, split, join, fsplit}
+use Rattle.gerfmuod.proofs.Walks.{regoal, suffices, group, enter, of_opd, addr, stop, no_more, and_then, returns, alloc_all, pass_all}
+use Rattle.gerfmuod.proofs.Walks.{free_all, look_at, get, through, sets, lands_as, u32, yes, uint_vals, uint_Tells, owns, Ptr, RawPtr}
+use Rattle.gerfmuod.proofs.Walks.{block_ptr, lies_at, in_a_block, rawptr_vals, rawptr_Tells, plain, nothing, only, calls_at, triple_of}
+use Rattle.gerfmuod.proofs.Walks.{Stays, walk_of, Goes-dropped, ends_at, framed, Val}
 use Rattle.gerfmuod.proofs.Borrowing.{lend, returned}
 use Rattle.gerfmuod.proofs.Parameters.{Gone, blanks, dropped, gone, none, number}
 use denote.Signature.{shr_slice_of}
