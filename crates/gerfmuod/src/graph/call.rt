@@ -5,7 +5,7 @@ ghost use Rattle.gerfmuod.specs.Graph.{call_of};
 use tp_team::Arrival;
 
 /// A call that the team of an open graph takes.
-#[derive(Clone, Copy, Debug, PartialEq, Eq)]
+#[derive(Clone, Copy)]
 pub enum TeamCall {
     Start,
     /// A turn of a thread that comes so.
@@ -21,7 +21,7 @@ pub enum TeamCall {
 }
 
 /// A call on an open graph.
-#[derive(Clone, Copy, Debug, PartialEq, Eq)]
+#[derive(Clone, Copy)]
 pub enum Call {
     Close,
     OfTeam(TeamCall),
