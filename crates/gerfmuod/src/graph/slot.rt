@@ -7,8 +7,8 @@ use std::alloc::Global;
 use std::marker::Model;
 use tp_team::Team;
 
-/// The value of `mark` in an open graph: `gerf_dag` in ASCII.
-const MARK: u64 = 0x6765_7266_5f64_6167;
+/// The value of `mark` in an open graph: `gerfgrph` in ASCII.
+const MARK: u64 = 0x6765_7266_6772_7068;
 
 /// The size in bytes of a `gerfmuod_graph` in the header.
 const ROOM: usize = 512;
