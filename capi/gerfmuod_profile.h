@@ -113,8 +113,6 @@ static struct instant instant_now(enum clock clock) {
     return found;
 }
 
-/* ---- the graph, while it is described */
-
 /* Returns an array with room for `needed` elements, or NULL; the old one is then as it was. */
 static void *with_room(void *array, size_t *room, size_t needed, size_t size) {
     if (needed <= *room && array) return array;

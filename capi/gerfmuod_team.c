@@ -12,13 +12,12 @@
 #include <sched.h>
 #include <unistd.h>
 
-/* The pauses of the processor between the polls of a thread in one turn before it sleeps: 20 to 100 microseconds. Each poll
- * takes the lock, so the pauses grow. */
+/* The pauses of the processor between the polls of a thread in one turn before it sleeps: 20 to 100 microseconds. They grow. */
 enum { SPINS = 2000, FIRST_POLL = 16, MOST_POLL = 128 };
 
 /* How often a contended lock is retried before the thread blocks, and the pauses of the processor before the first retry and,
- * doubled each time, at most: up to 60 microseconds in all. A turn mostly holds the lock for less than half a microsecond;
- * blocking and being woken costs more. docs/measurements/details.md has the measurements. */
+ * doubled each time, at most: up to 60 microseconds in all (docs/measurements/details.md). A turn mostly holds the lock for less
+ * than half a microsecond; blocking and being woken costs more. */
 enum { TRIES = 12, FIRST_PAUSES = 4, MOST_PAUSES = 128 };
 
 struct gerfmuod_team {
@@ -31,8 +30,6 @@ struct gerfmuod_team {
     struct profile *profile; /* NULL unless the team records */
 };
 
-/* ---- the lock */
-
 static inline void pause_processor(void) {
 #if defined(__x86_64__) || defined(__i386__)
     __builtin_ia32_pause();
@@ -40,7 +37,6 @@ static inline void pause_processor(void) {
     __asm__ volatile("yield");
 #endif
 }
-
 static void pause_for(uint32_t pauses) {
     for (; pauses > 0; pauses--) pause_processor();
 }
@@ -62,7 +58,6 @@ static NOINLINE void acquire_contended(gerfmuod_team *team) {
 static inline void acquire(gerfmuod_team *team) {
     if (pthread_mutex_trylock(&team->lock)) acquire_contended(team);
 }
-
 static inline void release(gerfmuod_team *team) { pthread_mutex_unlock(&team->lock); }
 
 /* If several threads have to be signalled, it is all that sleep; one that wakes up unasked is told to sleep again. */
@@ -85,8 +80,6 @@ static gerfmuod_graph_answer ask_alone(gerfmuod_team *team, uint32_t call, uint3
     release(team);
     return answer;
 }
-
-/* ---- opening and describing */
 
 static uint32_t processors(void) {
 #ifdef __linux__
@@ -160,8 +153,6 @@ uint32_t gerfmuod_team_spawn(gerfmuod_team *team, uint32_t class_, const uint32_
 uint32_t gerfmuod_team_outside(gerfmuod_team *team, uint32_t task) { return ask_alone(team, GERFMUOD_GRAPH_OUTSIDE, task).refused; }
 uint32_t gerfmuod_team_release(gerfmuod_team *team, uint32_t task) { return ask_alone(team, GERFMUOD_GRAPH_RELEASE, task).refused; }
 
-/* ---- running */
-
 /* Releases the lock, pauses, and takes it when it is free, or when no pauses are left. Returns how many are. */
 static uint32_t spin(gerfmuod_team *team, uint32_t polls) {
     release(team);
@@ -206,7 +197,6 @@ void gerfmuod_team_stop(gerfmuod_team *team, uint32_t task) {
 }
 
 uint32_t gerfmuod_team_fault(gerfmuod_team *team) { return ask_alone(team, GERFMUOD_GRAPH_FAULT, 0).refused; }
-
 uint32_t gerfmuod_team_failed(gerfmuod_team *team) {
     gerfmuod_graph_answer fault = ask_alone(team, GERFMUOD_GRAPH_FAULT, 0);
     return fault.refused ? fault.number : GERFMUOD_GRAPH_NONE;
@@ -237,22 +227,17 @@ uint32_t gerfmuod_team_start(gerfmuod_team *team, uint32_t threads) {
 }
 
 /* What the threads of one run share. */
-struct run {
-    gerfmuod_team *team;
-    gerfmuod_team_body body;
-    void *context;
-    bool is_started;
-};
+struct run { gerfmuod_team *team; gerfmuod_team_body body; void *context; bool is_started; };
 
 static void run_tasks(const struct run *run) {
-    for (uint32_t done = GERFMUOD_GRAPH_NONE;;) {
+    uint32_t done = GERFMUOD_GRAPH_NONE;
+    for (;;) {
         gerfmuod_graph_answer answer = gerfmuod_team_turn(run->team, done);
         if (answer.next != GERFMUOD_GRAPH_RUN) return;
         done = answer.number;
-        if (!run->body(run->context, done)) continue;
-        gerfmuod_team_stop(run->team, done);
-        return;
+        if (run->body(run->context, done)) break;
     }
+    gerfmuod_team_stop(run->team, done);
 }
 
 static void *run_thread(void *argument) {
@@ -289,18 +274,13 @@ uint32_t gerfmuod_team_again(gerfmuod_team *team) {
     return refused;
 }
 
-/* ---- times of a run */
-
 uint32_t gerfmuod_team_record(gerfmuod_team *team, uint32_t slices) {
     struct profile *profile = NULL;
     acquire(team);
     uint32_t refused = ask(team, GERFMUOD_GRAPH_MAY_RECORD, 0, 0).refused;
     if (!refused && ask(team, GERFMUOD_GRAPH_COUNT, 0, 0).number) refused = GERFMUOD_GRAPH_WRONG_LIFE;
     if (!refused && slices && !(profile = profile_open(slices))) refused = GERFMUOD_GRAPH_NO_MEMORY;
-    if (!refused) {
-        profile_close(team->profile);
-        team->profile = profile, team->clock = profile ? profile->clock : NO_CLOCK;
-    }
+    if (!refused) profile_close(team->profile), team->profile = profile, team->clock = profile ? profile->clock : NO_CLOCK;
     release(team);
     return refused;
 }
@@ -322,8 +302,6 @@ static uint32_t write_recorded(gerfmuod_team *team, FILE *file, void (*write)(FI
 
 uint32_t gerfmuod_team_profile(gerfmuod_team *team, FILE *file) { return write_recorded(team, file, profile_write); }
 uint32_t gerfmuod_team_summary(gerfmuod_team *team, FILE *file) { return write_recorded(team, file, profile_summarize); }
-
-/* ---- texts */
 
 static const char *text_of(uint32_t refused, bool is_name) {
     switch (refused) {
