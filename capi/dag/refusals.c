@@ -2,7 +2,7 @@
  * Prints a line for each that differs from gerfmuod_graph.h and gerfmuod_team.h; the exit status is 1 if there is one, and 124 if
  * a team did not end.
  *
- *   refusals [quick | fifo]     quick: without what is too large; fifo: only the order of ready tasks
+ *   refusals [quick]     quick: without what is too large
  */
 #define _POSIX_C_SOURCE 200809L
 #include "gerfmuod.h"
@@ -253,33 +253,6 @@ static void check_waits(void) {
     close_graph();
 }
 
-/* Tasks of the lowest class are returned first, and of one class those that became ready first. Every task of the first ones has a
- * reader, which becomes ready when it is done, and while every third of them runs, one more task is added. */
-static void check_order(void) {
-    enum { FIRST = 40 };
-    uint32_t order[4][3 * FIRST], count[4] = {0}, next[4] = {0}, found = 0, tasks = 2 * FIRST;
-    gerfmuod_graph_open(&graph, 0, 1);
-    for (uint32_t t = 0; t < FIRST; t++) is("a task", spawn(3 - t % 4, NULL, 0, 0), 0, 0, t, 0), order[3 - t % 4][count[3 - t % 4]++] = t;
-    for (uint32_t t = FIRST; t < 2 * FIRST; t++) {
-        uint32_t input = 2 * FIRST - 1 - t;
-        is("its reader", spawn(t % 4, &input, 1, 0), 0, 0, t, 0);
-    }
-    ok("start", call(GERFMUOD_GRAPH_START, 1, 0));
-    gerfmuod_graph_answer answer = turn(NONE);
-    for (; answer.next == GERFMUOD_GRAPH_RUN; found++, answer = turn(answer.number)) {
-        uint32_t task = answer.number, class_ = 0, reader = 2 * FIRST - 1 - task;
-        while (class_ < 3 && next[class_] == count[class_]) class_++;
-        check("the first ready task of the lowest class", next[class_] < count[class_] && order[class_][next[class_]] == task);
-        next[class_]++;
-        if (task >= FIRST) continue;
-        if (task % 3 == 0) is("one more", spawn(task % 4, NULL, 0, 0), 0, 0, tasks, 0), order[task % 4][count[task % 4]++] = tasks++;
-        order[reader % 4][count[reader % 4]++] = reader;
-    }
-    is_over("the end", answer);
-    check("all of them", found == tasks);
-    close_graph();
-}
-
 /* The library writes only to the memory of the graph. */
 static void check_size(void) {
     struct {
@@ -511,11 +484,11 @@ static void check_names(void) {
 }
 
 int main(int argc, char **argv) {
-    bool is_quick = argc > 1 && !strcmp(argv[1], "quick"), is_fifo = argc > 1 && !is_quick;
-    void (*const checks[])(void) = {check_order, check_describe, check_spawn, check_states, check_outside, check_faults, check_waits,
-                                    check_size, check_team_describe, check_team_run, check_team_stop, check_team_spawn, check_names,
-                                    check_steps, check_limits, check_team_limits};
-    size_t count = is_fifo ? 1 : sizeof checks / sizeof *checks - (is_quick ? 3 : 0);
+    void (*const checks[])(void) = {check_describe, check_spawn, check_states, check_outside, check_faults, check_waits, check_size,
+                                    check_team_describe, check_team_run, check_team_stop, check_team_spawn, check_names, check_steps,
+                                    check_limits, check_team_limits};
+    size_t count = sizeof checks / sizeof *checks - (argc > 1 ? 3 : 0);
+    (void)argv;
     check_not_open();
     for (size_t k = 0; k < count; k++) limit_time(), checks[k]();
     return print_checks();
