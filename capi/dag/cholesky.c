@@ -172,8 +172,35 @@ static double distance(const double *a) {
     return most;
 }
 
+static double *start, *wanted, *copy;
+static int is_whole; /* the last way was one call of dpotrf */
+
+/* Factors a copy of the matrix by one call of dpotrf. */
+static void whole(int threads) {
+    is_whole = 1;
+#ifdef HAVE_BLAS
+    openblas_set_num_threads(threads);
+#else
+    need(threads != 1, "the plain kernels have no threads");
+#endif
+    need(factor(order, copy) != 0, "dpotrf");
+#ifdef HAVE_BLAS
+    openblas_set_num_threads(1);
+#endif
+}
+
+static void prepare(void) {
+    is_whole = 0;
+    memcpy(copy, start, (size_t)order * (size_t)order * sizeof *copy);
+    to_tiles(start);
+#ifdef HAVE_STARPU
+    register_tiles();
+#endif
+}
+
 static void go(const char *way) {
     if (!strcmp(way, "loop")) by_loop();
+    else if (!strncmp(way, "whole:", 6)) whole(atoi(way + 6));
     else if (atoi(way) > 0) by_team((uint32_t)atoi(way));
 #ifdef _OPENMP
     else if (!strncmp(way, "omp:", 4)) by_openmp(atoi(way + 4));
@@ -184,61 +211,29 @@ static void go(const char *way) {
     else need(1, way);
 }
 
-/* Returns the seconds of one call of dpotrf on a copy of the matrix. */
-static double whole(const double *start, double *copy, int threads) {
-    memcpy(copy, start, (size_t)order * (size_t)order * sizeof *copy);
-#ifdef HAVE_BLAS
-    openblas_set_num_threads(threads);
-#else
-    need(threads != 1, "the plain kernels have no threads");
+static int is_near(void) {
+#ifdef HAVE_STARPU
+    unregister_tiles();
 #endif
-    double from = seconds_now();
-    need(factor(order, copy) != 0, "dpotrf");
-    double took = seconds_now() - from;
-#ifdef HAVE_BLAS
-    openblas_set_num_threads(1);
-#endif
-    return took;
+    return is_whole || distance(wanted) < 1e-9;
 }
 
 int main(int argc, char **argv) {
-    static double times[MAX_WAYS][MAX_ROUNDS];
     take_profile_option(&argc, &argv);
-    if (argc < 5 || argc - 4 > MAX_WAYS || atoi(argv[3]) >= MAX_ROUNDS) return 1;
+    if (argc < 5) return 1;
     order = atoi(argv[1]), tile = atoi(argv[2]), tiles = order / tile;
-    int rounds = atoi(argv[3]);
     size_t bytes = (size_t)order * (size_t)order * sizeof(double);
-    double *start = random_matrix(), *wanted = malloc(bytes), *copy = malloc(bytes);
+    size_t units = (size_t)tiles * (size_t)(tiles + 1) * (size_t)(tiles + 2) / 6;
+    start = random_matrix(), wanted = malloc(bytes), copy = malloc(bytes);
     work = aligned_alloc(64, (bytes + 63) / 64 * 64);
     if (!start || !wanted || !copy || !work || tiles * tile != order) return 1;
-    whole(start, wanted, 1);
 #ifdef HAVE_STARPU
     need(starpu_init(NULL) != 0, "starpu_init");
 #endif
-    for (int r = 0; r <= rounds; r++) /* the first round is not counted */
-        for (int w = 4; w < argc; w++) {
-            double *took = &times[w - 4][r ? r - 1 : 0];
-            if (!strncmp(argv[w], "whole:", 6)) {
-                *took = whole(start, copy, atoi(argv[w] + 6));
-                continue;
-            }
-            to_tiles(start);
-#ifdef HAVE_STARPU
-            register_tiles();
-#endif
-            double from = seconds_now(), apart;
-            go(argv[w]);
-            *took = seconds_now() - from;
-#ifdef HAVE_STARPU
-            unregister_tiles();
-#endif
-            if (!((apart = distance(wanted)) < 1e-9)) {
-                printf("%s: differs by %g from the whole\n", argv[w], apart);
-                return 2;
-            }
-        }
-    for (int w = 4; w < argc; w++)
-        print_times(argv[w], (size_t)tiles * (size_t)(tiles + 1) * (size_t)(tiles + 2) / 6, times[w - 4], rounds);
+    memcpy(copy, start, bytes);
+    whole(1);
+    memcpy(wanted, copy, bytes);
+    measure((struct measured){prepare, go, is_near, &units}, argv[3], argv + 4, argc - 4);
 #ifdef HAVE_STARPU
     starpu_shutdown();
 #endif

@@ -69,26 +69,15 @@ static void go(const char *way) {
     else need(1, way);
 }
 
+static int all_ran(void) { return !memchr(has_ended, 0, task_count); }
+
 int main(int argc, char **argv) {
-    static double times[MAX_WAYS][MAX_ROUNDS];
     take_profile_option(&argc, &argv);
-    if (argc < 6 || argc - 5 > MAX_WAYS || atoi(argv[4]) >= MAX_ROUNDS) return 1;
-    task_count = (uint32_t)atol(argv[2]);
+    if (argc < 6) return 1;
+    size_t units = task_count = (uint32_t)atol(argv[2]);
     iterations = atol(argv[3]);
-    int rounds = atoi(argv[4]);
     if (!draw_shape(argv[1])) return 1;
-    for (int r = 0; r <= rounds; r++) /* the first round is not counted */
-        for (int w = 5; w < argc; w++) {
-            clear_shape();
-            double from = seconds_now();
-            go(argv[w]);
-            times[w - 5][r ? r - 1 : 0] = seconds_now() - from;
-            if (memchr(has_ended, 0, task_count)) {
-                printf("%s: a task did not run\n", argv[w]);
-                return 2;
-            }
-        }
-    for (int w = 5; w < argc; w++) print_times(argv[w], task_count, times[w - 5], rounds);
+    measure((struct measured){clear_shape, go, all_ran, &units}, argv[4], argv + 5, argc - 5);
     write_profile();
     free(offsets), free(inputs), free(has_ended);
     return 0;

@@ -105,30 +105,21 @@ static void go(const char *way) {
     else need(1, way);
 }
 
+static double *wanted;
+static size_t bytes; /* of a grid */
+static int is_as_wanted(void) { return !memcmp(wanted, grid[steps & 1], bytes); }
+
 int main(int argc, char **argv) {
-    static double times[MAX_WAYS][MAX_ROUNDS];
-    if (argc < 6 || argc - 5 > MAX_WAYS || atoi(argv[4]) >= MAX_ROUNDS) return 1;
+    if (argc < 6) return 1;
     side = atoi(argv[1]), block = atoi(argv[2]), steps = atoi(argv[3]), blocks = side / block;
-    int rounds = atoi(argv[4]);
-    size_t bytes = (size_t)(side + 2) * (size_t)(side + 2) * sizeof(double);
-    double *wanted = malloc(bytes);
-    grid[0] = malloc(bytes), grid[1] = malloc(bytes);
+    bytes = (size_t)(side + 2) * (size_t)(side + 2) * sizeof(double);
+    size_t units = (size_t)(steps * blocks * blocks);
+    wanted = malloc(bytes), grid[0] = malloc(bytes), grid[1] = malloc(bytes);
     if (!wanted || !grid[0] || !grid[1] || blocks * block != side) return 1;
     fill();
     by_loop();
     memcpy(wanted, grid[steps & 1], bytes);
-    for (int r = 0; r <= rounds; r++) /* the first round is not counted */
-        for (int w = 5; w < argc; w++) {
-            fill();
-            double from = seconds_now();
-            go(argv[w]);
-            times[w - 5][r ? r - 1 : 0] = seconds_now() - from;
-            if (memcmp(wanted, grid[steps & 1], bytes)) {
-                printf("%s: differs from the loop\n", argv[w]);
-                return 2;
-            }
-        }
-    for (int w = 5; w < argc; w++) print_times(argv[w], (size_t)(steps * blocks * blocks), times[w - 5], rounds);
+    measure((struct measured){fill, go, is_as_wanted, &units}, argv[4], argv + 5, argc - 5);
     free(wanted), free(grid[0]), free(grid[1]);
     return 0;
 }

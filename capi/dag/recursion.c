@@ -17,7 +17,7 @@ typedef struct {
 static size_t length, leaf;
 static double *start, *values, *merged;
 static part *parts;
-static uint32_t count;
+static size_t count;
 
 static int compare(const void *a, const void *b) {
     double x = *(const double *)a, y = *(const double *)b;
@@ -47,7 +47,7 @@ static uint32_t describe(gerfmuod_team *team, size_t from, size_t end) {
         inputs[1] = describe(team, from + (end - from) / 2, end);
     }
     if (team) need(gerfmuod_team_task(team, 0, inputs, is_leaf ? 0 : 2, &number), "task");
-    else number = count;
+    else number = (uint32_t)count;
     parts[number] = (part){from, end, inputs[0], inputs[1]};
     return count = number + 1, number;
 }
@@ -97,15 +97,16 @@ static void go(const char *way) {
     else need(1, way);
 }
 
+static double *wanted;
+static void prepare(void) { memcpy(values, start, length * sizeof *values); }
+static int is_sorted(void) { return !memcmp(values, wanted, length * sizeof *values); }
+
 int main(int argc, char **argv) {
-    static double times[MAX_WAYS][MAX_ROUNDS];
-    if (argc < 5 || argc - 4 > MAX_WAYS || atoi(argv[3]) >= MAX_ROUNDS) return 1;
+    if (argc < 5) return 1;
     length = (size_t)atol(argv[1]), leaf = (size_t)atol(argv[2]);
-    int rounds = atoi(argv[3]);
     if (!length || !leaf) return 1;
     size_t bytes = length * sizeof(double);
-    double *wanted = malloc(bytes);
-    start = malloc(bytes), values = malloc(bytes), merged = malloc(bytes);
+    wanted = malloc(bytes), start = malloc(bytes), values = malloc(bytes), merged = malloc(bytes);
     parts = malloc((4 * (length / leaf + 1)) * sizeof *parts);
     if (!wanted || !start || !values || !merged || !parts) return 1;
     uint64_t seed = 1;
@@ -115,18 +116,7 @@ int main(int argc, char **argv) {
     }
     memcpy(wanted, start, bytes);
     qsort(wanted, length, sizeof *wanted, compare);
-    for (int r = 0; r <= rounds; r++) /* the first round is not counted */
-        for (int w = 4; w < argc; w++) {
-            memcpy(values, start, bytes);
-            double from = seconds_now();
-            go(argv[w]);
-            times[w - 4][r ? r - 1 : 0] = seconds_now() - from;
-            if (memcmp(values, wanted, bytes)) {
-                printf("%s: not sorted as by qsort\n", argv[w]);
-                return 2;
-            }
-        }
-    for (int w = 4; w < argc; w++) print_times(argv[w], count, times[w - 4], rounds);
+    measure((struct measured){prepare, go, is_sorted, &count}, argv[3], argv + 4, argc - 4);
     free(wanted), free(start), free(values), free(merged), free(parts);
     return 0;
 }
