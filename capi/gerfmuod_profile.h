@@ -116,7 +116,7 @@ static struct instant instant_now(enum clock clock) {
 /* Returns an array with room for `needed` elements, or NULL; the old one is then as it was. */
 static void *with_room(void *array, size_t *room, size_t needed, size_t size) {
     if (needed <= *room && array) return array;
-    size_t more = needed > 2 * *room ? needed + 256 : 2 * *room;
+    size_t more = 2 * *room > needed ? 2 * *room : needed + 256;
     void *moved = realloc(array, more * size);
     if (moved) *room = more;
     return moved;
