@@ -3,8 +3,7 @@
  * and succeeds; the graph then runs to its end, twice. Then the memory of a large graph is measured. Prints each check that fails;
  * the exit status is 1 if one failed.
  *
- * Link with -Wl,--wrap=malloc,--wrap=calloc,--wrap=realloc,--wrap=free,--wrap=pthread_create,--wrap=pthread_mutex_init,
- * --wrap=pthread_cond_init. */
+ * Link with -Wl,--wrap=NAME for each function below whose name begins with __wrap_. */
 #define _GNU_SOURCE
 #include "check.h"
 #include <malloc.h>
@@ -18,6 +17,8 @@ void __real_free(void *);
 int __real_pthread_create(pthread_t *, const pthread_attr_t *, void *(*)(void *), void *);
 int __real_pthread_mutex_init(pthread_mutex_t *, const pthread_mutexattr_t *);
 int __real_pthread_cond_init(pthread_cond_t *, const pthread_condattr_t *);
+int __real_pthread_mutex_destroy(pthread_mutex_t *);
+int __real_pthread_cond_destroy(pthread_cond_t *);
 void *__wrap_malloc(size_t);
 void *__wrap_calloc(size_t, size_t);
 void *__wrap_realloc(void *, size_t);
@@ -25,9 +26,12 @@ void __wrap_free(void *);
 int __wrap_pthread_create(pthread_t *, const pthread_attr_t *, void *(*)(void *), void *);
 int __wrap_pthread_mutex_init(pthread_mutex_t *, const pthread_mutexattr_t *);
 int __wrap_pthread_cond_init(pthread_cond_t *, const pthread_condattr_t *);
+int __wrap_pthread_mutex_destroy(pthread_mutex_t *);
+int __wrap_pthread_cond_destroy(pthread_cond_t *);
 
 static long allocations_left = -1, threads_left = -1, inits_left = -1; /* until one fails; if negative, none fails */
 static size_t allocated;                              /* bytes, in all threads */
+static int initialized;                               /* locks and condition variables that are not destroyed */
 
 static bool fails(long *left) {
     if (*left > 0) --*left;
@@ -56,11 +60,13 @@ int __wrap_pthread_create(pthread_t *thread, const pthread_attr_t *attributes, v
     return fails(&threads_left) ? 11 : __real_pthread_create(thread, attributes, body, argument);
 }
 int __wrap_pthread_mutex_init(pthread_mutex_t *mutex, const pthread_mutexattr_t *attributes) {
-    return fails(&inits_left) ? 11 : __real_pthread_mutex_init(mutex, attributes);
+    return fails(&inits_left) ? 11 : (initialized++, __real_pthread_mutex_init(mutex, attributes));
 }
 int __wrap_pthread_cond_init(pthread_cond_t *condition, const pthread_condattr_t *attributes) {
-    return fails(&inits_left) ? 11 : __real_pthread_cond_init(condition, attributes);
+    return fails(&inits_left) ? 11 : (initialized++, __real_pthread_cond_init(condition, attributes));
 }
+int __wrap_pthread_mutex_destroy(pthread_mutex_t *mutex) { return initialized--, __real_pthread_mutex_destroy(mutex); }
+int __wrap_pthread_cond_destroy(pthread_cond_t *condition) { return initialized--, __real_pthread_cond_destroy(condition); }
 
 enum { TASKS = 600, ADDED = 400, ALL = TASKS + ADDED };
 
@@ -242,7 +248,7 @@ static void check_inits(void) {
         long n = inits_left;
         gerfmuod_team *team = (gerfmuod_team *)&inputs;
         check_refusal("open", gerfmuod_team_open(&team), GERFMUOD_GRAPH_NO_MEMORY);
-        check("there is no team", !team);
+        check("there is no team", !team && !initialized);
         inits_left = n + 1;
     }
     inits_left = -1;
@@ -285,5 +291,6 @@ int main(void) {
     check_threads();
     check_inits();
     check_memory();
+    check("all locks are destroyed", !initialized);
     return print_checks();
 }

@@ -24,8 +24,8 @@ C = [CC, "-std=c11", *WARNINGS, "-O2", "-g"]
 CPP = [CXX, "-std=c++17", *WARNINGS, "-O2"]
 FORTRAN = ["gfortran", "-std=f2018", "-Wall", "-Wextra", "-Wno-unused-dummy-argument", "-Werror", "-O2", "-fopenmp"]
 TEST_CLOCK = "-DGERFMUOD_PROFILE_TICKS=test_ticks"
-FAILING = ["malloc", "calloc", "realloc", "free", "pthread_create", "pthread_mutex_init", "pthread_cond_init"]
-WRAPPED = [f"-Wl,{','.join(f'--wrap={name}' for name in FAILING)}"]
+LOCKS = [f"pthread_{kind}_{call}" for kind in ("mutex", "cond") for call in ("init", "destroy")]
+WRAPPED = [f"-Wl,--wrap={name}" for name in ("malloc", "calloc", "realloc", "free", "pthread_create", *LOCKS)]
 # the endings of the files of capi/ that a compiler of each language checks
 ENDINGS = {"c": (".c", ".h"), "c++": (".cpp", ".hpp", ".h")}
 PAGE = "docs/YOUR-BODIES.md"
