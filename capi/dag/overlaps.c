@@ -137,7 +137,11 @@ static void run_beside_turn(void) {
 static const struct part {
     const char *name;
     void (*run)(void);
-} parts[] = {{"stop", stop_beside_run}, {"again", again_beside_turn}, {"record", record_beside_turn}, {"done", wrong_done}, {"start", run_beside_turn}};
+} parts[] = {{"stop", stop_beside_run},
+             {"again", again_beside_turn},
+             {"record", record_beside_turn},
+             {"done", wrong_done},
+             {"start", run_beside_turn}};
 
 int main(int argc, char **argv) {
     limit_time();

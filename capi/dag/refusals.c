@@ -30,8 +30,8 @@ static void is(const char *what, gerfmuod_graph_answer got, uint32_t refused, ui
     bool is_same = got.refused == refused && got.next == next && got.number == number && got.signals == signals;
     check(what, is_same);
     if (!is_same)
-        printf("  refused %u next %u number %u signals %u, expected %u %u %u %u\n", got.refused, got.next, got.number, got.signals, refused,
-               next, number, signals);
+        printf("  refused %u next %u number %u signals %u, expected %u %u %u %u\n", got.refused, got.next, got.number, got.signals,
+               refused, next, number, signals);
 }
 static void ok(const char *what, gerfmuod_graph_answer got) { is(what, got, 0, 0, 0, 0); }
 static void refused(const char *what, gerfmuod_graph_answer got, uint32_t refusal) { is(what, got, refusal, 0, 0, 0); }
@@ -211,7 +211,8 @@ static void check_faults(void) {
         }
         for (uint32_t number = GERFMUOD_GRAPH_TURN; number <= GERFMUOD_GRAPH_TURN_WOKEN; number++)
             is("a turn", call(number, k, 1), faults[k], 0, tasks[k], 0);
-        const uint32_t others[] = {GERFMUOD_GRAPH_START, GERFMUOD_GRAPH_AGAIN, GERFMUOD_GRAPH_OUTSIDE, GERFMUOD_GRAPH_RELEASE, GERFMUOD_GRAPH_MAY_RECORD};
+        const uint32_t others[] = {GERFMUOD_GRAPH_START, GERFMUOD_GRAPH_AGAIN, GERFMUOD_GRAPH_OUTSIDE, GERFMUOD_GRAPH_RELEASE,
+                                   GERFMUOD_GRAPH_MAY_RECORD};
         for (size_t c = 0; c < sizeof others / sizeof *others; c++) refused("a call", call(others[c], 7, 0), faults[k]);
         refused("a task", spawn(9, NULL, 0, 0), faults[k]);
         refused("a graph", gerfmuod_graph_describe(&graph, NULL, 0, &offset, 1, NULL, 0), faults[k]);

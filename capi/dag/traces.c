@@ -111,7 +111,10 @@ static void check_damages(void) {
         if (begins(k, "start") || begins(k, "give")) check_damage("two lines of a wave are swapped", k, k + 2, false);
         if (begins(k, "nodes") || begins(k, "trace")) check_damage("a head that is not the first", k, k + 2, false);
     }
-    for (int k = 2; k < count - 6; k++) check_damage("an end too early", count - 1, k, false), check_damage("a wave too early", count - 5, k, false);
+    for (int k = 2; k < count - 6; k++) {
+        check_damage("an end too early", count - 1, k, false);
+        check_damage("a wave too early", count - 5, k, false);
+    }
     gerfmuod_team_close(team);
 }
 
