@@ -43,7 +43,7 @@ bin/samples: $(SOURCES) crates.txt
 
 lib: lib/libgerfmuod.a
 
-HEADERS := gerfmuod.h gerfmuod_tsan.h gerfmuod_process.h gerfmuod_dag.h gerfmuod_team.h gerfmuod.hpp gerfmuod.f90
+HEADERS := gerfmuod.h gerfmuod_tsan.h gerfmuod_process.h gerfmuod_graph.h gerfmuod_team.h gerfmuod.hpp gerfmuod.f90
 
 PARTS := gerfmuod_calls.c gerfmuod_team.c gerfmuod_profile.h gerfmuod.map gerfmuod.pc.in
 

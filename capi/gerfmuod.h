@@ -296,7 +296,7 @@ GERFMUOD_CHECKED gerfmuod_written gerfmuod_trace(const gerfmuod_core *core, char
 GERFMUOD_CHECKED gerfmuod_written gerfmuod_audit(const char *text, size_t text_length, char *room, size_t room_length);
 
 /* Returns the name of a refusal and a sentence that explains it, as one static string: also of gerfmuod_process.h and
- * gerfmuod_dag.h, and of a number that is no refusal. Since 0.1.0. */
+ * gerfmuod_graph.h, and of a number that is no refusal. Since 0.1.0. */
 const char *gerfmuod_refusal_text(uint32_t refused);
 
 /* Writes the name of a refusal, such as NoMessage: at most 12 bytes. NO_TEXT if there is no such refusal. Since 0.1.0. */

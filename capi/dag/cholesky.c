@@ -2,13 +2,13 @@
  * writers of the tiles that it reads and writes. Each result is compared with a factorization of the whole matrix.
  *
  *   cholesky [--profile FILE] ORDER TILE ROUNDS WAY..     ORDER is a multiple of TILE; a WAY is
- *     NxT       a pool of N nodes with T threads each
+ *     T         a team of T threads
  *     loop      the tiles in sequence
  *     omp:T     OpenMP's tasks with `depend`                     (built with -fopenmp)
  *     whole:T   one call of OpenBLAS's dpotrf, with T threads    (built with -DHAVE_BLAS)
  *     starpu    StarPU, with STARPU_NCPU workers                 (built with -DHAVE_STARPU, only for this way)
  *
- * With --profile pools record their runs, and FILE gets the trace events of the last one.
+ * With --profile teams record their runs, and FILE gets the trace events of the last one.
  * With -DHAVE_BLAS the kernels are those of BLAS and LAPACK, else plain loops. OPENBLAS_NUM_THREADS=1 has to be set.
  */
 #define _POSIX_C_SOURCE 200809L
@@ -44,13 +44,13 @@ static int run(job t) {
 typedef struct {
     job *jobs;
     uint32_t *offsets, *inputs, *writer; /* writer: of each tile, the last task that writes it */
-    uint8_t *nodes, *classes;
-    uint32_t tasks, edges, node_count;
+    uint8_t *classes;
+    uint32_t tasks, edges;
 } graph;
 
 static void reads(graph *g, int i, int j) {
     uint32_t writer = g->writer[i * tiles + j];
-    if (writer != GERFMUOD_DAG_NONE) g->inputs[g->edges++] = writer;
+    if (writer != GERFMUOD_GRAPH_NONE) g->inputs[g->edges++] = writer;
 }
 
 /* A task that writes tile (i, j). */
@@ -60,21 +60,18 @@ static void add(graph *g, job t, int i, int j, uint8_t class_) {
     if (t.kind == SQUARE || t.kind == PRODUCT) reads(g, t.i, t.k);
     if (t.kind == PRODUCT) reads(g, t.j, t.k);
     g->jobs[g->tasks] = t;
-    g->nodes[g->tasks] = (uint8_t)((uint32_t)(i + j) % g->node_count);
     g->classes[g->tasks] = class_;
     g->writer[i * tiles + j] = g->tasks++;
     g->offsets[g->tasks] = g->edges;
 }
 
-static graph graph_of(uint32_t node_count) {
+static graph new_graph(void) {
     size_t most = (size_t)tiles * (size_t)(tiles + 1) * (size_t)(tiles + 2) / 6;
     graph g = {.jobs = malloc(most * sizeof(job)),
                .offsets = calloc(most + 1, sizeof(uint32_t)),
                .inputs = malloc(4 * most * sizeof(uint32_t)),
                .writer = malloc((size_t)(tiles * tiles) * sizeof(uint32_t)),
-               .nodes = malloc(most),
-               .classes = malloc(most),
-               .node_count = node_count};
+               .classes = malloc(most)};
     memset(g.writer, 255, (size_t)(tiles * tiles) * sizeof(uint32_t));
     for (int k = 0; k < tiles; k++) { /* the classes prefer tasks that the next steps wait for */
         add(&g, (job){FACTOR, k, k, k}, k, k, 0);
@@ -88,23 +85,23 @@ static graph graph_of(uint32_t node_count) {
 }
 
 static void drop(graph *g) {
-    free(g->jobs), free(g->offsets), free(g->inputs), free(g->writer), free(g->nodes), free(g->classes);
+    free(g->jobs), free(g->offsets), free(g->inputs), free(g->writer), free(g->classes);
 }
 
 /* ---- the ways */
 static int body(void *context, uint32_t task) { return run(((const job *)context)[task]); }
 
-static void by_pool(uint32_t nodes, uint32_t threads) {
-    graph g = graph_of(nodes);
-    gerfmuod_team *team = open_team(nodes, 0);
-    need(gerfmuod_team_describe(team, g.tasks, g.nodes, g.classes, g.offsets, g.inputs), "describe");
-    need(gerfmuod_team_run(team, nodes * threads, body, g.jobs), "run");
+static void by_team(uint32_t threads) {
+    graph g = new_graph();
+    gerfmuod_team *team = open_team(0);
+    need(gerfmuod_team_describe(team, g.tasks, g.classes, g.offsets, g.inputs, NULL), "describe");
+    need(gerfmuod_team_run(team, threads, body, g.jobs), "run");
     close_team(team);
     drop(&g);
 }
 
 static void by_loop(void) {
-    graph g = graph_of(1);
+    graph g = new_graph();
     for (uint32_t t = 0; t < g.tasks; t++) need(run(g.jobs[t]) != 0, "factor");
     drop(&g);
 }
@@ -175,10 +172,36 @@ static double distance(const double *a) {
     return most;
 }
 
+static double *start, *wanted, *copy;
+static int is_whole; /* the last way was one call of dpotrf */
+
+/* Factors a copy of the matrix by one call of dpotrf. */
+static void whole(int threads) {
+    is_whole = 1;
+#ifdef HAVE_BLAS
+    openblas_set_num_threads(threads);
+#else
+    need(threads != 1, "the plain kernels have no threads");
+#endif
+    need(factor(order, copy) != 0, "dpotrf");
+#ifdef HAVE_BLAS
+    openblas_set_num_threads(1);
+#endif
+}
+
+static void prepare(void) {
+    is_whole = 0;
+    memcpy(copy, start, (size_t)order * (size_t)order * sizeof *copy);
+    to_tiles(start);
+#ifdef HAVE_STARPU
+    register_tiles();
+#endif
+}
+
 static void go(const char *way) {
-    unsigned nodes, threads;
     if (!strcmp(way, "loop")) by_loop();
-    else if (sscanf(way, "%ux%u", &nodes, &threads) == 2) by_pool(nodes, threads);
+    else if (!strncmp(way, "whole:", 6)) whole(atoi(way + 6));
+    else if (atoi(way) > 0) by_team((uint32_t)atoi(way));
 #ifdef _OPENMP
     else if (!strncmp(way, "omp:", 4)) by_openmp(atoi(way + 4));
 #endif
@@ -188,61 +211,29 @@ static void go(const char *way) {
     else need(1, way);
 }
 
-/* Returns the seconds of one call of dpotrf on a copy of the matrix. */
-static double whole(const double *start, double *copy, int threads) {
-    memcpy(copy, start, (size_t)order * (size_t)order * sizeof *copy);
-#ifdef HAVE_BLAS
-    openblas_set_num_threads(threads);
-#else
-    need(threads != 1, "the plain kernels have no threads");
+static int is_near(void) {
+#ifdef HAVE_STARPU
+    unregister_tiles();
 #endif
-    double from = seconds_now();
-    need(factor(order, copy) != 0, "dpotrf");
-    double took = seconds_now() - from;
-#ifdef HAVE_BLAS
-    openblas_set_num_threads(1);
-#endif
-    return took;
+    return is_whole || distance(wanted) < 1e-9;
 }
 
 int main(int argc, char **argv) {
-    static double times[MAX_WAYS][MAX_ROUNDS];
     take_profile_option(&argc, &argv);
-    if (argc < 5 || argc - 4 > MAX_WAYS || atoi(argv[3]) >= MAX_ROUNDS) return 1;
+    if (argc < 5) return 1;
     order = atoi(argv[1]), tile = atoi(argv[2]), tiles = order / tile;
-    int rounds = atoi(argv[3]);
     size_t bytes = (size_t)order * (size_t)order * sizeof(double);
-    double *start = random_matrix(), *wanted = malloc(bytes), *copy = malloc(bytes);
+    size_t units = (size_t)tiles * (size_t)(tiles + 1) * (size_t)(tiles + 2) / 6;
+    start = random_matrix(), wanted = malloc(bytes), copy = malloc(bytes);
     work = aligned_alloc(64, (bytes + 63) / 64 * 64);
     if (!start || !wanted || !copy || !work || tiles * tile != order) return 1;
-    whole(start, wanted, 1);
 #ifdef HAVE_STARPU
     need(starpu_init(NULL) != 0, "starpu_init");
 #endif
-    for (int r = 0; r <= rounds; r++) /* the first round is not counted */
-        for (int w = 4; w < argc; w++) {
-            double *took = &times[w - 4][r ? r - 1 : 0];
-            if (!strncmp(argv[w], "whole:", 6)) {
-                *took = whole(start, copy, atoi(argv[w] + 6));
-                continue;
-            }
-            to_tiles(start);
-#ifdef HAVE_STARPU
-            register_tiles();
-#endif
-            double from = seconds_now(), apart;
-            go(argv[w]);
-            *took = seconds_now() - from;
-#ifdef HAVE_STARPU
-            unregister_tiles();
-#endif
-            if (!((apart = distance(wanted)) < 1e-9)) {
-                printf("%s: differs by %g from the whole\n", argv[w], apart);
-                return 2;
-            }
-        }
-    for (int w = 4; w < argc; w++)
-        print_times(argv[w], (size_t)tiles * (size_t)(tiles + 1) * (size_t)(tiles + 2) / 6, times[w - 4], rounds);
+    memcpy(copy, start, bytes);
+    whole(1);
+    memcpy(wanted, copy, bytes);
+    measure((struct measured){prepare, go, is_near, &units}, argv[3], argv + 4, argc - 4);
 #ifdef HAVE_STARPU
     starpu_shutdown();
 #endif

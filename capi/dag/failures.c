@@ -1,31 +1,37 @@
-/* failures.c: a pool and a team when an allocation fails, or a thread cannot be started. For each N, the Nth allocation of the
- * same run fails: the call is refused as NO_MEMORY, is repeated, and succeeds; the pool then runs to its end, twice. A team stops
- * instead, unless a body makes a task: that call may be repeated. Then the memory of a large pool is measured. Prints each check that fails; the exit status is 1 if one failed.
+/* failures.c: a graph and a team when an allocation fails, a thread cannot be created, or a lock or a condition variable not be
+ * initialized. For each N, the Nth allocation of the same run fails: the call is refused as NO_MEMORY, changes nothing, is repeated,
+ * and succeeds; the graph then runs to its end, twice. Then the memory of a large graph is measured. Prints each check that fails;
+ * the exit status is 1 if one failed.
  *
- * Link with -Wl,--wrap=malloc,--wrap=calloc,--wrap=realloc,--wrap=free,--wrap=pthread_create. */
+ * Link with -Wl,--wrap=NAME for each function below whose name begins with __wrap_. */
 #define _GNU_SOURCE
-#include "gerfmuod.h"
-#include "gerfmuod_team.h"
+#include "check.h"
 #include <malloc.h>
 #include <pthread.h>
-#include <stdbool.h>
-#include <stdio.h>
-#include <stdlib.h>
+#include <string.h>
 
 void *__real_malloc(size_t);
 void *__real_calloc(size_t, size_t);
 void *__real_realloc(void *, size_t);
 void __real_free(void *);
 int __real_pthread_create(pthread_t *, const pthread_attr_t *, void *(*)(void *), void *);
+int __real_pthread_mutex_init(pthread_mutex_t *, const pthread_mutexattr_t *);
+int __real_pthread_cond_init(pthread_cond_t *, const pthread_condattr_t *);
+int __real_pthread_mutex_destroy(pthread_mutex_t *);
+int __real_pthread_cond_destroy(pthread_cond_t *);
 void *__wrap_malloc(size_t);
 void *__wrap_calloc(size_t, size_t);
 void *__wrap_realloc(void *, size_t);
 void __wrap_free(void *);
 int __wrap_pthread_create(pthread_t *, const pthread_attr_t *, void *(*)(void *), void *);
+int __wrap_pthread_mutex_init(pthread_mutex_t *, const pthread_mutexattr_t *);
+int __wrap_pthread_cond_init(pthread_cond_t *, const pthread_condattr_t *);
+int __wrap_pthread_mutex_destroy(pthread_mutex_t *);
+int __wrap_pthread_cond_destroy(pthread_cond_t *);
 
-static long allocations_left = -1, threads_left = -1; /* until one fails; if negative, none fails */
+static long allocations_left = -1, threads_left = -1, inits_left = -1; /* until one fails; if negative, none fails */
 static size_t allocated;                              /* bytes, in all threads */
-static int checked, failed;
+static int initialized;                               /* locks and condition variables that are not destroyed */
 
 static bool fails(long *left) {
     if (*left > 0) --*left;
@@ -53,270 +59,238 @@ void __wrap_free(void *block) { __real_free(uncounted(block)); }
 int __wrap_pthread_create(pthread_t *thread, const pthread_attr_t *attributes, void *(*body)(void *), void *argument) {
     return fails(&threads_left) ? 11 : __real_pthread_create(thread, attributes, body, argument);
 }
+int __wrap_pthread_mutex_init(pthread_mutex_t *mutex, const pthread_mutexattr_t *attributes) {
+    return fails(&inits_left) ? 11 : (initialized++, __real_pthread_mutex_init(mutex, attributes));
+}
+int __wrap_pthread_cond_init(pthread_cond_t *condition, const pthread_condattr_t *attributes) {
+    return fails(&inits_left) ? 11 : (initialized++, __real_pthread_cond_init(condition, attributes));
+}
+int __wrap_pthread_mutex_destroy(pthread_mutex_t *mutex) { return initialized--, __real_pthread_mutex_destroy(mutex); }
+int __wrap_pthread_cond_destroy(pthread_cond_t *condition) { return initialized--, __real_pthread_cond_destroy(condition); }
 
-static void check(const char *what, bool holds) {
-    checked++;
-    if (holds) return;
-    failed++;
-    printf("%s\n", what);
+enum { TASKS = 600, ADDED = 400, ALL = TASKS + ADDED };
+
+/* ---- the graph: each task reads the two before it */
+static uint32_t offsets[TASKS + 1], inputs[2 * TASKS];
+static uint32_t refused_calls;
+
+static void fill(void) {
+    for (uint32_t t = 0, count = 0; t < TASKS; t++, offsets[t] = count)
+        for (uint32_t back = 1; back <= 2 && back <= t; back++) inputs[count++] = t - back;
 }
 
-enum { TASKS = 3000, PHASES = 8, NODES = 3 };
+/* The state of a graph that readers show. */
+struct state {
+    gerfmuod_graph_answer count, fault, event;
+};
+static struct state state_of(gerfmuod_graph *graph) {
+    return (struct state){gerfmuod_graph_call(graph, GERFMUOD_GRAPH_COUNT, 0, 0), gerfmuod_graph_call(graph, GERFMUOD_GRAPH_FAULT, 0, 0),
+                          gerfmuod_graph_call(graph, GERFMUOD_GRAPH_EVENT, 0, 0)};
+}
 
-/* Of a pool: task t is at node t % NODES, and waits for t - 1 and t - 2. */
-static uint32_t pool_tasks;
-static uint32_t refused_calls, refused_next, refused_again;
-static uint32_t refused_done, refused_between; /* between: a done that had sent a message */
-
-/* Repeats a call that was refused because memory ran out. Returns its result, and counts the refusals. */
-static gerfmuod_dag_answer needed(gerfmuod_dag_answer first, gerfmuod_dag_answer (*again)(gerfmuod_dag *, uint32_t), gerfmuod_dag *dag,
-                                  uint32_t number) {
-    if (first.refused != GERFMUOD_DAG_NO_MEMORY) return first;
+/* Whether a call was refused because memory ran out; it has changed nothing then, and is repeated. */
+static bool is_repeated(gerfmuod_graph *graph, struct state before, gerfmuod_graph_answer answer) {
+    if (answer.refused != GERFMUOD_GRAPH_NO_MEMORY) return false;
+    struct state after = state_of(graph);
     refused_calls++;
-    return again(dag, number);
-}
-static gerfmuod_dag_answer task_again(gerfmuod_dag *dag, uint32_t node) { return gerfmuod_dag_task(dag, node, 0); }
-static gerfmuod_dag_answer start_again(gerfmuod_dag *dag, uint32_t number) {
-    (void)number;
-    return gerfmuod_dag_start(dag);
+    check("a refused call changes nothing", !memcmp(&before, &after, sizeof before) && !answer.next && !answer.signals);
+    return true;
 }
 
-static bool describe(gerfmuod_dag *dag) {
+static gerfmuod_graph_answer spawn(gerfmuod_graph *graph, uint32_t task) {
+    const uint32_t last[] = {task - 1, task - 2};
+    return gerfmuod_graph_spawn(graph, 0, last, task < 2 ? task : 2, 0);
+}
+
+static bool add(gerfmuod_graph *graph, uint32_t task) {
+    struct state before = state_of(graph);
+    gerfmuod_graph_answer answer = spawn(graph, task);
+    if (is_repeated(graph, before, answer)) answer = spawn(graph, task);
+    return !answer.refused && answer.number == task;
+}
+
+static bool describe(gerfmuod_graph *graph, bool by_arrays) {
+    struct state before = state_of(graph);
     bool is_well = true;
-    for (uint32_t t = 0; t < pool_tasks; t++) {
-        is_well &= needed(gerfmuod_dag_task(dag, t % NODES, 0), task_again, dag, t % NODES).number == t;
-        for (uint32_t back = 1; back <= 2 && back <= t; back++)
-            is_well &= !needed(gerfmuod_dag_input(dag, t - back), gerfmuod_dag_input, dag, t - back).refused;
-    }
-    return is_well && !needed(gerfmuod_dag_start(dag), start_again, dag, 0).refused;
-}
-
-static uint32_t steps_of(const gerfmuod_dag *dag) {
-    uint32_t steps = 0;
-    while (gerfmuod_dag_step(dag, steps).kind != 255) steps++;
-    return steps;
-}
-
-/* The kind of the newest step. */
-static uint32_t newest_step(const gerfmuod_dag *dag) {
-    uint32_t steps = steps_of(dag);
-    return steps ? gerfmuod_dag_step(dag, steps - 1).kind : 255;
-}
-
-/* Reports a task as done, again if memory ran out. Returns whether `news` has the nodes of all messages that it sent. */
-static bool is_done(gerfmuod_dag *dag, uint32_t task) {
-    uint32_t node = task % NODES, wanted = 0;
-    for (uint32_t to = task + 1; to <= task + 2 && to < pool_tasks; to++) wanted |= 1u << to % NODES;
-    gerfmuod_dag_answer answer = gerfmuod_dag_done(dag, node, task);
-    if (answer.refused == GERFMUOD_DAG_NO_MEMORY) {
-        refused_calls++, refused_done++;
-        refused_between += newest_step(dag) == GERFMUOD_STEP_SEND;
-        answer = gerfmuod_dag_done(dag, node, task);
-    }
-    return !answer.refused && answer.news == wanted;
-}
-
-/* Returns whether the pool runs to its end, each task once and in order. */
-static bool runs(gerfmuod_dag *dag) {
-    uint32_t before = refused_calls;
-    for (uint32_t ran = 0, node = 0, waits = 0; waits <= NODES; node = (node + 1) % NODES) {
-        gerfmuod_dag_answer answer = needed(gerfmuod_dag_next(dag, node), gerfmuod_dag_next, dag, node);
-        refused_next += refused_calls - before, before = refused_calls;
-        if (answer.refused) return false;
-        if (answer.told == GERFMUOD_DAG_OVER) return ran == pool_tasks;
-        waits = answer.told == GERFMUOD_DAG_WAIT ? waits + 1 : 0;
-        if (answer.told == GERFMUOD_DAG_WAIT) continue;
-        if (answer.number != ran || !is_done(dag, ran++)) return false;
-        before = refused_calls;
-    }
-    return false;
-}
-
-/* Prepares a pool that is over for another run, again if memory ran out: then the pool is as it was. */
-static bool is_prepared(gerfmuod_dag *dag) {
-    uint32_t steps = steps_of(dag);
-    gerfmuod_dag_answer answer = gerfmuod_dag_again(dag);
-    if (answer.refused == GERFMUOD_DAG_NO_MEMORY) {
-        refused_calls++, refused_again++;
-        if (steps_of(dag) != steps || gerfmuod_dag_next(dag, 0).told != GERFMUOD_DAG_OVER) return false;
-        answer = gerfmuod_dag_again(dag);
-    }
+    for (uint32_t t = 0; t < TASKS && !by_arrays; t++) is_well &= add(graph, t);
+    if (!by_arrays) return is_well;
+    gerfmuod_graph_answer answer = gerfmuod_graph_describe(graph, NULL, 0, offsets, TASKS + 1, inputs, offsets[TASKS]);
+    if (is_repeated(graph, before, answer))
+        answer = gerfmuod_graph_describe(graph, NULL, 0, offsets, TASKS + 1, inputs, offsets[TASKS]);
     return !answer.refused;
 }
 
-/* Makes each allocation of two runs of a pool fail, with a new pool for each. */
-static void check_pool_of(uint32_t tasks) {
-    pool_tasks = tasks;
-    for (long n = 1;; n++) {
-        gerfmuod_dag dag;
-        gerfmuod_dag_open(&dag, NODES);
+/* Runs a graph, each task once and in order; in the last run, the first task adds others. */
+static bool runs(gerfmuod_graph *graph, bool is_last) {
+    struct state before = state_of(graph);
+    gerfmuod_graph_answer answer = gerfmuod_graph_call(graph, GERFMUOD_GRAPH_START, 1, 0);
+    if (is_repeated(graph, before, answer)) answer = gerfmuod_graph_call(graph, GERFMUOD_GRAPH_START, 1, 0);
+    if (answer.refused) return false;
+    uint32_t ran = 0, tasks = is_last ? ALL : TASKS;
+    answer = gerfmuod_graph_call(graph, GERFMUOD_GRAPH_TURN, GERFMUOD_GRAPH_NONE, 0);
+    for (; answer.next == GERFMUOD_GRAPH_RUN && answer.number == ran; ran++) {
+        for (uint32_t t = TASKS; !ran && t < tasks; t++)
+            if (!add(graph, t)) return false;
+        answer = gerfmuod_graph_call(graph, GERFMUOD_GRAPH_TURN, ran, 0);
+    }
+    return answer.next == GERFMUOD_GRAPH_OVER && ran == tasks;
+}
+
+/* Makes each allocation of two runs of a graph fail, with a new graph for each. */
+static void check_graph(bool is_traced, bool by_arrays) {
+    bool has_failed = true;
+    for (long n = 1; has_failed; n++) {
+        gerfmuod_graph graph;
+        gerfmuod_graph_open(&graph, is_traced, 1);
         refused_calls = 0;
         allocations_left = n;
-        bool is_well = describe(&dag) && runs(&dag) && is_prepared(&dag) && runs(&dag), has_failed = allocations_left < 0;
+        bool is_well = describe(&graph, by_arrays) && runs(&graph, false);
+        is_well = is_well && !gerfmuod_graph_call(&graph, GERFMUOD_GRAPH_AGAIN, 0, 0).refused && runs(&graph, true);
+        has_failed = allocations_left < 0;
         allocations_left = -1;
-        gerfmuod_dag_close(&dag);
-        check("a pool whose allocation failed", is_well);
+        check_ok("close", gerfmuod_graph_call(&graph, GERFMUOD_GRAPH_CLOSE, 0, 0).refused);
+        check("a graph whose allocation failed", is_well);
         check("the failure was reported", refused_calls == (has_failed ? 1 : 0));
-        if (!has_failed) return;
     }
 }
 
-/* Graphs of several lengths, so that the list of steps has no room at each kind of step. */
-static void check_pool(void) {
-    for (uint32_t tasks = 600; tasks < 600 + PHASES; tasks++) check_pool_of(tasks);
-    printf("repeated because an allocation failed: gerfmuod_dag_next %u times, gerfmuod_dag_again %u,\n", refused_next, refused_again);
-    printf("gerfmuod_dag_done %u, %u of them after a message\n", refused_done, refused_between);
-    check("an allocation of gerfmuod_dag_again failed", refused_again > 0);
-}
-
+/* ---- the team */
 static int body(void *context, uint32_t task) {
     uint8_t *ran = context;
     ran[task]++;
     return 0;
 }
 
-static bool is_complete(const uint8_t *ran, int times) {
+static bool has_run(const uint8_t *ran, int times) {
     for (uint32_t t = 0; t < TASKS; t++)
         if (ran[t] != times) return false;
     return true;
 }
 
+/* A call on a team is made again if it was refused because memory ran out. */
+#define REPEATED(call) ((call) != GERFMUOD_GRAPH_NO_MEMORY ? 0 : (refused_calls++, (call)))
+
 /* A team whose Nth allocation fails, which records its runs or does not. */
-static void check_team(bool records) {
+static void check_team(bool is_recording) {
     bool has_failed = true;
     FILE *file = fopen("/dev/null", "w");
+    check("a stream", file);
+    setvbuf(file, NULL, _IONBF, 0);
     for (long n = 1; has_failed; n++) {
         uint8_t ran[TASKS] = {0};
         gerfmuod_team *team;
-        uint32_t refused = 0, inputs[2];
+        refused_calls = 0;
         allocations_left = n;
-        uint32_t opened = gerfmuod_team_open(&team, 1);
-        if (!opened && records) refused = gerfmuod_team_record(team, TASKS);
-        bool is_open = !opened && !refused;
-        for (uint32_t t = 0; t < TASKS && is_open && !refused; t++) {
-            inputs[0] = t - 1, inputs[1] = t - 2;
-            refused = gerfmuod_team_task(team, 0, 0, inputs, t < 2 ? t : 2, NULL);
+        uint32_t refused = gerfmuod_team_open_traced(&team);
+        check("a team or none", !refused == !!team);
+        if (refused) refused_calls++, refused = gerfmuod_team_open_traced(&team);
+        check_ok("open", refused);
+        if (is_recording) check_ok("record", REPEATED(gerfmuod_team_record(team, TASKS)));
+        for (uint32_t t = 0; t < TASKS; t++) {
+            const uint32_t last[] = {t - 1, t - 2};
+            check_ok("task", REPEATED(gerfmuod_team_task(team, 0, last, t < 2 ? t : 2, NULL)));
         }
-        if (is_open) refused = gerfmuod_team_run(team, 1, body, ran);
-        bool has_run = is_open && !refused;
-        if (has_run) refused = gerfmuod_team_again(team);
-        if (has_run && !refused) refused = gerfmuod_team_run(team, 1, body, ran);
-        else if (has_run) check("again after a failure", !gerfmuod_team_again(team));
-        if (has_run && !refused && records) refused = gerfmuod_team_profile(team, file);
+        for (int run = 0; run < 2; run++) {
+            if (run) check_ok("again", gerfmuod_team_again(team));
+            check_ok("run", REPEATED(gerfmuod_team_run(team, 1 + (uint32_t)run, body, ran)));
+        }
+        check("all ran twice", has_run(ran, 2));
+        if (is_recording) check_ok("profile", REPEATED(gerfmuod_team_profile(team, file)));
+        if (is_recording) check_ok("summary", REPEATED(gerfmuod_team_summary(team, file)));
         has_failed = allocations_left < 0;
         allocations_left = -1;
-        check("a team without memory", !opened || (opened == GERFMUOD_DAG_NO_MEMORY && !team));
-        check("a task or a run without memory", !refused || refused == GERFMUOD_DAG_NO_MEMORY);
-        check("a failure is not hidden", has_failed == (opened || refused));
-        check("all ran twice if none failed", has_failed || is_complete(ran, 2));
+        check("the failure was reported", refused_calls == (has_failed ? 1 : 0));
         gerfmuod_team_close(team);
     }
-    check("a stream", file && !fclose(file));
+    fclose(file);
 }
 
-struct growth {
-    gerfmuod_team *team;
-    uint32_t ran, refused, stopped;
-    bool waits; /* each task waits for the two before it */
-};
-
-/* The first task makes all others. One that is refused is made again. */
-static int growing_body(void *context, uint32_t task) {
-    struct growth *growth = context;
-    growth->ran++;
-    for (uint32_t t = 1; task == 0 && t < TASKS; t++) {
-        const uint32_t inputs[] = {t - 1, t - 2};
-        size_t count = growth->waits ? t < 2 ? t : 2 : 0;
-        uint32_t refused = gerfmuod_team_spawn(growth->team, 0, 0, inputs, count, t % 2, NULL, NULL, NULL);
-        if (refused) growth->refused++, refused = gerfmuod_team_spawn(growth->team, 0, 0, inputs, count, t % 2, NULL, NULL, NULL);
-        if (refused) return growth->stopped++, 0;
-        if (t % 2) check("release", !gerfmuod_team_release(growth->team, t));
-    }
-    return 0;
-}
-
-/* A team whose Nth allocation fails while it runs: a body is refused a task, or the run is refused. */
-static void check_growth(bool records, bool waits) {
+/* An allocation of a whole graph fails: the team has no task, and its profile neither. */
+static void check_team_describe(bool is_recording) {
     bool has_failed = true;
-    uint32_t repeated = 0;
     for (long n = 1; has_failed; n++) {
-        struct growth growth = {.waits = waits};
-        gerfmuod_team_open(&growth.team, 1);
-        if (records) gerfmuod_team_record(growth.team, 16);
-        gerfmuod_team_task(growth.team, 0, 0, NULL, 0, NULL);
+        uint8_t ran[TASKS] = {0};
+        uint32_t at;
+        gerfmuod_team *team;
+        check_ok("open", gerfmuod_team_open(&team));
+        if (is_recording) check_ok("record", gerfmuod_team_record(team, 1));
         allocations_left = n;
-        uint32_t refused = gerfmuod_team_run(growth.team, 1, growing_body, &growth);
+        uint32_t refused = gerfmuod_team_describe(team, TASKS, NULL, offsets, inputs, &at);
         has_failed = allocations_left < 0;
         allocations_left = -1;
-        check("the run ends, or memory ran out", !refused || refused == GERFMUOD_DAG_NO_MEMORY);
-        check("all ran, or it was refused", refused || growth.ran == TASKS);
-        check("a failure is not hidden", has_failed == (refused || growth.refused));
-        check("only an input that is refused stops the team", !growth.stopped || (waits && refused));
-        check("a task that was refused was made again", !growth.refused || growth.stopped || !refused);
-        repeated += growth.refused && !refused;
-        gerfmuod_team_close(growth.team);
+        check_refusal("a graph", refused, has_failed ? GERFMUOD_GRAPH_NO_MEMORY : GERFMUOD_GRAPH_OK);
+        if (refused) check_ok("the same again", gerfmuod_team_describe(team, TASKS, NULL, offsets, inputs, &at));
+        check_ok("run", gerfmuod_team_run(team, 1, body, ran));
+        check("each task once", has_run(ran, 1));
+        gerfmuod_team_close(team);
     }
-    check("a task was made again", repeated > 0);
 }
 
+/* Too few threads are created: nothing runs, and the team may be run again. */
 static void check_threads(void) {
     for (long n = 1; n <= 3; n++) {
         uint8_t ran[TASKS] = {0};
         gerfmuod_team *team;
-        check("open", !gerfmuod_team_open(&team, 1));
-        for (uint32_t t = 0; t < TASKS; t++) check("task", !gerfmuod_team_task(team, 0, 0, NULL, 0, NULL));
+        check_ok("open", gerfmuod_team_open(&team));
+        check_ok("a graph", gerfmuod_team_describe(team, TASKS, NULL, offsets, inputs, NULL));
         threads_left = n;
-        check("a thread that does not start", gerfmuod_team_run(team, 4, body, ran) == GERFMUOD_TEAM_NOT_STARTED);
-        check("nothing ran", !ran[0]);
-        check("it runs when threads do start", gerfmuod_team_run(team, 4, body, ran) == GERFMUOD_DAG_OK);
-        check("each task once", is_complete(ran, 1));
+        check_refusal("a thread that is not created", gerfmuod_team_run(team, 4, body, ran), GERFMUOD_TEAM_NOT_STARTED);
+        check("nothing ran", has_run(ran, 0));
+        check_ok("the graph", gerfmuod_team_fault(team));
+        check_ok("it runs when threads are created", gerfmuod_team_run(team, 4, body, ran));
+        check("each task once", has_run(ran, 1));
         gerfmuod_team_close(team);
     }
 }
 
-static void run_all(gerfmuod_dag *dag, uint32_t nodes) {
-    gerfmuod_dag_answer answer;
-    for (uint32_t node = 0; (answer = gerfmuod_dag_next(dag, node)).told != GERFMUOD_DAG_OVER; node = (node + 1) % nodes)
-        if (answer.told == GERFMUOD_DAG_RUN) gerfmuod_dag_done(dag, node, answer.number);
+static void check_inits(void) {
+    for (inits_left = 1; inits_left <= 2;) {
+        long n = inits_left;
+        gerfmuod_team *team = (gerfmuod_team *)&inputs;
+        check_refusal("open", gerfmuod_team_open(&team), GERFMUOD_GRAPH_NO_MEMORY);
+        check("there is no team", !team && !initialized);
+        inits_left = n + 1;
+    }
+    inits_left = -1;
 }
 
-/* Returns the bytes of a pool that has run, in which each task waits for the `inputs` tasks before it. */
-static size_t bytes_of(uint32_t tasks, uint32_t nodes, uint32_t inputs) {
-    gerfmuod_dag dag;
+/* ---- memory */
+
+/* Returns the bytes of a graph that has run, in which each task reads the `count` tasks before it. */
+static size_t bytes_of(uint32_t tasks, uint32_t count) {
+    gerfmuod_graph graph;
     size_t before = allocated;
-    gerfmuod_dag_open(&dag, nodes);
+    gerfmuod_graph_open(&graph, 0, 1);
     for (uint32_t t = 0; t < tasks; t++) {
-        gerfmuod_dag_task(&dag, t % nodes, 0);
-        for (uint32_t back = 1; back <= inputs && back <= t; back++) gerfmuod_dag_input(&dag, t - back);
+        const uint32_t last[] = {t - 1, t - 2, t - 3, t - 4};
+        check("task", gerfmuod_graph_spawn(&graph, 0, last, t < count ? t : count, 0).number == t);
     }
-    gerfmuod_dag_start(&dag);
-    run_all(&dag, nodes);
+    for (int run = 0; run < 2; run++) {
+        if (run) check_ok("again", gerfmuod_graph_call(&graph, GERFMUOD_GRAPH_AGAIN, 0, 0).refused);
+        check_ok("start", gerfmuod_graph_call(&graph, GERFMUOD_GRAPH_START, 1, 0).refused);
+        gerfmuod_graph_answer answer = gerfmuod_graph_call(&graph, GERFMUOD_GRAPH_TURN, GERFMUOD_GRAPH_NONE, 0);
+        while (answer.next == GERFMUOD_GRAPH_RUN) answer = gerfmuod_graph_call(&graph, GERFMUOD_GRAPH_TURN, answer.number, 0);
+    }
     size_t used = allocated - before;
-    check("again", !gerfmuod_dag_again(&dag).refused);
-    run_all(&dag, nodes);
-    check("a second run uses no more", allocated - before <= used);
-    gerfmuod_dag_close(&dag);
-    check("all memory is given back", allocated == before);
+    check_ok("close", gerfmuod_graph_call(&graph, GERFMUOD_GRAPH_CLOSE, 0, 0).refused);
+    check("all memory is freed", allocated == before);
     return used;
 }
 
-/* 100,000 tasks: the bytes for a task, for an input, and for an input from another node. */
 static void check_memory(void) {
-    size_t task = bytes_of(100000, 1, 0) / 100000, inputs = bytes_of(100000, 1, 4) / 100000;
-    size_t crossing = bytes_of(100000, 2, 1) / 100000;
-    printf("%zu bytes a task, with 4 inputs %zu, with an input from another node %zu\n", task, inputs, crossing);
-    check("a task takes at most 200 bytes", task <= 200);
-    check("an input takes at most 32 bytes more", inputs <= task + 4 * 32);
-    check("an input from another node takes at most 200 bytes more", crossing <= task + 200);
+    size_t task = bytes_of(100000, 0) / 100000, with_inputs = bytes_of(100000, 4) / 100000;
+    printf("%zu bytes a task, with 4 inputs %zu\n", task, with_inputs);
+    check("a task takes at most 100 bytes", task <= 100);
+    check("an input takes at most 20 bytes", with_inputs <= task + 4 * 20);
 }
 
 int main(void) {
-    check_pool();
-    check_team(false);
-    check_team(true);
-    for (int kind = 0; kind < 4; kind++) check_growth(kind & 1, kind & 2);
+    fill();
+    for (int kind = 0; kind < 4; kind++) check_graph(kind & 1, kind & 2);
+    for (int is_recording = 0; is_recording < 2; is_recording++) check_team(is_recording), check_team_describe(is_recording);
     check_threads();
+    check_inits();
     check_memory();
-    printf("%d results checked, %d not as they should be\n", checked, failed);
-    return failed != 0;
+    check("all locks are destroyed", !initialized);
+    return print_checks();
 }

@@ -20,8 +20,8 @@ int main(void) {
     /* task t waits for inputs[offsets[t]] to inputs[offsets[t + 1] - 1] */
     static const uint32_t offsets[] = {0, 0, 0, 2}, inputs[] = {0, 1};
     gerfmuod_team *team;
-    uint32_t refused = gerfmuod_team_open(&team, 1);
-    if (!refused) refused = gerfmuod_team_describe(team, 3, NULL, NULL, offsets, inputs);
+    uint32_t refused = gerfmuod_team_open(&team);
+    if (!refused) refused = gerfmuod_team_describe(team, 3, NULL, offsets, inputs, NULL);
     if (!refused) refused = gerfmuod_team_run(team, 4, body, NULL);
     if (refused) fprintf(stderr, "%s: %s\n", gerfmuod_team_name(refused), gerfmuod_team_meaning(refused));
     else printf("%.6f\n", z); /* 3.844231 */

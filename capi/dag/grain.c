@@ -1,12 +1,12 @@
 /* grain.c: the overhead of a task: graphs of small tasks with bodies of a chosen length.
  *
  *   grain [--profile FILE] SHAPE TASKS ITERATIONS ROUNDS WAY..     shapes.h describes the SHAPEs; a WAY is
- *     NxT     a pool of N nodes with T threads each; task t is at node t modulo N
- *     NxTt    the same, and the pool keeps its steps for a trace
+ *     T       a team of T threads
+ *     Tt      the same, and the team is traced
  *     loop    the bodies in sequence
  *     omp:T   OpenMP's tasks with `depend`     (built with -fopenmp)
  *
- * With --profile pools record their runs, and FILE gets the trace events of the last one. Each body checks that its inputs are
+ * With --profile teams record their runs, and FILE gets the trace events of the last one. Each body checks that its inputs are
  * done and that it runs for the first time. The times include describing the graph and running it.
  */
 #define _POSIX_C_SOURCE 200809L
@@ -20,15 +20,11 @@ static int body(void *context, uint32_t task) {
     return 0;
 }
 
-static void by_pool(uint32_t nodes, uint32_t threads, int is_traced) {
-    uint8_t *homes = malloc((size_t)task_count + 1);
-    need(!homes, "malloc");
-    for (uint32_t t = 0; t < task_count; t++) homes[t] = (uint8_t)(t % nodes);
-    gerfmuod_team *team = open_team(nodes, is_traced);
-    need(gerfmuod_team_describe(team, task_count, homes, NULL, offsets, inputs), "describe");
-    need(gerfmuod_team_run(team, nodes * threads, body, NULL), "run");
+static void by_team(uint32_t threads, int is_traced) {
+    gerfmuod_team *team = open_team(is_traced);
+    need(gerfmuod_team_describe(team, task_count, NULL, offsets, inputs, NULL), "describe");
+    need(gerfmuod_team_run(team, threads, body, NULL), "run");
     close_team(team);
-    free(homes);
 }
 
 #ifdef _OPENMP
@@ -62,10 +58,9 @@ static void by_openmp(int threads) {
 #endif
 
 static void go(const char *way) {
-    unsigned nodes, threads;
-    char end;
-    int found = sscanf(way, "%ux%u%c", &nodes, &threads, &end);
-    if (found == 2 || (found == 3 && end == 't')) by_pool(nodes, threads, found == 3);
+    unsigned threads;
+    char end = 0;
+    if (sscanf(way, "%u%c", &threads, &end) > 0) by_team(threads, end == 't');
     else if (!strcmp(way, "loop"))
         for (uint32_t t = 0; t < task_count; t++) run_shape_task(t);
 #ifdef _OPENMP
@@ -74,26 +69,15 @@ static void go(const char *way) {
     else need(1, way);
 }
 
+static int all_ran(void) { return !memchr(has_ended, 0, task_count); }
+
 int main(int argc, char **argv) {
-    static double times[MAX_WAYS][MAX_ROUNDS];
     take_profile_option(&argc, &argv);
-    if (argc < 6 || argc - 5 > MAX_WAYS || atoi(argv[4]) >= MAX_ROUNDS) return 1;
-    task_count = (uint32_t)atol(argv[2]);
+    if (argc < 6) return 1;
+    size_t units = task_count = (uint32_t)atol(argv[2]);
     iterations = atol(argv[3]);
-    int rounds = atoi(argv[4]);
     if (!draw_shape(argv[1])) return 1;
-    for (int r = 0; r <= rounds; r++) /* the first round is not counted */
-        for (int w = 5; w < argc; w++) {
-            clear_shape();
-            double from = seconds_now();
-            go(argv[w]);
-            times[w - 5][r ? r - 1 : 0] = seconds_now() - from;
-            if (memchr(has_ended, 0, task_count)) {
-                printf("%s: a task did not run\n", argv[w]);
-                return 2;
-            }
-        }
-    for (int w = 5; w < argc; w++) print_times(argv[w], task_count, times[w - 5], rounds);
+    measure((struct measured){clear_shape, go, all_ran, &units}, argv[4], argv + 5, argc - 5);
     write_profile();
     free(offsets), free(inputs), free(has_ended);
     return 0;

@@ -1,5 +1,5 @@
 /* growth.c: a graph that grows to millions of tasks while it runs. It begins with one task. Each body makes two tasks, of
- * which the second waits for the first, until there are enough. The team keeps no steps. Each task has to run once, and the
+ * which the second waits for the first, until there are enough. Each task has to run once, and the
  * whole program has to stay within a given memory.
  *
  *   growth TASKS MEGABYTES THREADS..     megabytes of 1,000,000 bytes; 0 is no limit */
@@ -26,9 +26,9 @@ static int body(void *context, uint32_t task) {
     (void)context;
     if (__atomic_exchange_n(&has_run[task], 1, __ATOMIC_RELAXED)) __atomic_fetch_add(&repeated, 1, __ATOMIC_RELAXED);
     if (!may_make()) return 0;
-    if (gerfmuod_team_spawn(team, 0, 0, NULL, 0, 0, NULL, NULL, &first)) return 1;
+    if (gerfmuod_team_task(team, 0, NULL, 0, &first)) return 1;
     if (!may_make()) return 0;
-    return gerfmuod_team_spawn(team, 0, 0, &first, 1, 0, NULL, NULL, NULL) != 0;
+    return gerfmuod_team_task(team, 0, &first, 1, NULL) != 0;
 }
 
 /* The most memory that this process had at any time, in megabytes. */
@@ -48,8 +48,8 @@ int main(int argc, char **argv) {
         has_run = calloc(tasks, 1);
         if (!has_run) return 1;
         made = 1, repeated = 0;
-        need(gerfmuod_team_open_untraced(&team, 1), "open");
-        need(gerfmuod_team_task(team, 0, 0, NULL, 0, NULL), "the first task");
+        need(gerfmuod_team_open(&team), "open");
+        need(gerfmuod_team_task(team, 0, NULL, 0, NULL), "the first task");
         double from = seconds_now();
         need(gerfmuod_team_run(team, threads, body, NULL), "run");
         double seconds = seconds_now() - from;

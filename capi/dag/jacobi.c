@@ -2,8 +2,8 @@
  * its four neighbours at the step before. Each result is compared with that of the plain loop, bit by bit.
  *
  *   jacobi SIDE BLOCK STEPS ROUNDS WAY..     SIDE is a multiple of BLOCK; a WAY is
- *     NxT     a pool of N nodes with T threads each; blocks of neighbouring rows are at one node
- *     NxT:K   the same with a graph of K steps, which is described once and runs STEPS / K times
+ *     T       a team of T threads
+ *     T:K     the same with a graph of K steps, which is described once and runs STEPS / K times
  *     loop    the plain loop
  *     omp:T   OpenMP's `parallel for`, with a barrier after each step   (built with -fopenmp)
  *     dep:T   OpenMP's tasks with `depend`
@@ -14,7 +14,7 @@
 #include <string.h>
 
 static int side, block, steps, blocks;
-static int first_step; /* of the run of a pool */
+static int first_step; /* of the run of a team */
 static double *grid[2]; /* side + 2 rows of side + 2: the border is fixed */
 
 static void fill(void) {
@@ -44,10 +44,10 @@ static int body(void *context, uint32_t task) {
     return 0;
 }
 
-static void by_pool(uint32_t nodes, uint32_t threads, int steps_of_graph) {
+static void by_team(uint32_t threads, int steps_of_graph) {
     gerfmuod_team *team;
     need(steps_of_graph <= 0 || steps % steps_of_graph, "K does not divide STEPS");
-    need(gerfmuod_team_open_untraced(&team, nodes), "open");
+    need(gerfmuod_team_open(&team), "open");
     for (int s = 0; s < steps_of_graph; s++)
         for (int i = 0; i < blocks; i++)
             for (int j = 0; j < blocks; j++) {
@@ -57,11 +57,11 @@ static void by_pool(uint32_t nodes, uint32_t threads, int steps_of_graph) {
                 if (s && i < blocks - 1) inputs[count++] = before + (uint32_t)blocks;
                 if (s && j) inputs[count++] = before - 1;
                 if (s && j < blocks - 1) inputs[count++] = before + 1;
-                need(gerfmuod_team_task(team, (uint32_t)i * nodes / (uint32_t)blocks, 0, inputs, count, NULL), "task");
+                need(gerfmuod_team_task(team, 0, inputs, count, NULL), "task");
             }
     for (first_step = 0; first_step < steps; first_step += steps_of_graph) {
         if (first_step) need(gerfmuod_team_again(team), "again");
-        need(gerfmuod_team_run(team, nodes * threads, body, NULL), "run");
+        need(gerfmuod_team_run(team, threads, body, NULL), "run");
     }
     gerfmuod_team_close(team);
 }
@@ -94,10 +94,10 @@ static void by_depend(int threads) {
 #endif
 
 static void go(const char *way) {
-    unsigned nodes, threads, count;
+    unsigned threads;
+    int count = steps, found = sscanf(way, "%u:%d", &threads, &count);
     if (!strcmp(way, "loop")) by_loop();
-    else if (sscanf(way, "%ux%u:%u", &nodes, &threads, &count) == 3) by_pool(nodes, threads, (int)count);
-    else if (sscanf(way, "%ux%u", &nodes, &threads) == 2) by_pool(nodes, threads, steps);
+    else if (found > 0) by_team(threads, count);
 #ifdef _OPENMP
     else if (!strncmp(way, "omp:", 4)) by_for(atoi(way + 4));
     else if (!strncmp(way, "dep:", 4)) by_depend(atoi(way + 4));
@@ -105,30 +105,21 @@ static void go(const char *way) {
     else need(1, way);
 }
 
+static double *wanted;
+static size_t bytes; /* of a grid */
+static int is_as_wanted(void) { return !memcmp(wanted, grid[steps & 1], bytes); }
+
 int main(int argc, char **argv) {
-    static double times[MAX_WAYS][MAX_ROUNDS];
-    if (argc < 6 || argc - 5 > MAX_WAYS || atoi(argv[4]) >= MAX_ROUNDS) return 1;
+    if (argc < 6) return 1;
     side = atoi(argv[1]), block = atoi(argv[2]), steps = atoi(argv[3]), blocks = side / block;
-    int rounds = atoi(argv[4]);
-    size_t bytes = (size_t)(side + 2) * (size_t)(side + 2) * sizeof(double);
-    double *wanted = malloc(bytes);
-    grid[0] = malloc(bytes), grid[1] = malloc(bytes);
+    bytes = (size_t)(side + 2) * (size_t)(side + 2) * sizeof(double);
+    size_t units = (size_t)(steps * blocks * blocks);
+    wanted = malloc(bytes), grid[0] = malloc(bytes), grid[1] = malloc(bytes);
     if (!wanted || !grid[0] || !grid[1] || blocks * block != side) return 1;
     fill();
     by_loop();
     memcpy(wanted, grid[steps & 1], bytes);
-    for (int r = 0; r <= rounds; r++) /* the first round is not counted */
-        for (int w = 5; w < argc; w++) {
-            fill();
-            double from = seconds_now();
-            go(argv[w]);
-            times[w - 5][r ? r - 1 : 0] = seconds_now() - from;
-            if (memcmp(wanted, grid[steps & 1], bytes)) {
-                printf("%s: differs from the loop\n", argv[w]);
-                return 2;
-            }
-        }
-    for (int w = 5; w < argc; w++) print_times(argv[w], (size_t)(steps * blocks * blocks), times[w - 5], rounds);
+    measure((struct measured){fill, go, is_as_wanted, &units}, argv[4], argv + 5, argc - 5);
     free(wanted), free(grid[0]), free(grid[1]);
     return 0;
 }

@@ -1,164 +1,228 @@
-/* model.h: a model of the pool of gerfmuod_dag.h in plain C, which scans all tasks and inputs in each call. It shares no
- * code with the library. fuzz.c compares the two. */
+/* model.h: a model of gerfmuod_graph.h in plain C, which scans all tasks and inputs in each call. It shares no code with the
+ * library. fuzz.c compares the two. */
 #ifndef MODEL_H
 #define MODEL_H
-#include "gerfmuod_dag.h"
+#include "gerfmuod_graph.h"
 #include <stdbool.h>
 #include <string.h>
 
 enum { MOST_TASKS = 64, MOST_INPUTS = 256 };
 enum stage { FRESH, RUNNING, DONE };
-enum way { OUT, UNDER_WAY, CAME }; /* of an input; one between two nodes is a message */
 
 typedef struct {
-    uint32_t nodes, tasks, inputs, messages;
-    bool is_open, is_started, is_over, is_extended; /* is_extended: a task or an input was added after the start */
+    bool is_open, is_traced, is_started, is_grown; /* is_grown: a task was added in the run */
+    uint32_t tasks, inputs, events;
     struct {
-        uint32_t node, class_, outside; /* outside: how many inputs from outside are awaited */
+        uint32_t class_, outside; /* outside: how many inputs from outside are awaited */
+        uint32_t since;           /* when it became ready, or 0 */
         enum stage stage;
     } task[MOST_TASKS];
     struct {
         uint32_t source, target;
-        enum way way;
     } input[MOST_INPUTS];
+    struct {
+        uint32_t kind, task;
+    } event[2 * MOST_TASKS];
+    uint32_t now; /* the number of calls */
+    uint32_t processors, threads, spinning, sleeping, signalled;
+    uint32_t fault, failed;
 } model;
 
-/* What a call may return. The number at GERFMUOD_DAG_RUN may be any task with a bit in `ready`. */
+/* What a call has to return. The number at GERFMUOD_GRAPH_RUN is that of a task with a bit in `first`. */
 typedef struct {
-    uint32_t refused, told, number, news;
-    uint64_t ready;
+    gerfmuod_graph_answer answer;
+    uint64_t first;
 } expected;
 
-static uint32_t model_open(model *m, uint32_t nodes) {
-    memset(m, 0, sizeof *m);
-    m->is_open = 1 <= nodes && nodes <= GERFMUOD_DAG_MAX_NODES;
-    m->nodes = m->is_open ? nodes : 1;
-    return m->is_open ? GERFMUOD_DAG_OK : GERFMUOD_DAG_BAD_SPEC;
+static expected model_answer(uint32_t refused, uint32_t next, uint32_t number, uint32_t signals) {
+    return (expected){{refused, next, number, signals}, 0};
+}
+static expected model_refuse(uint32_t refused) { return model_answer(refused, 0, 0, 0); }
+
+static void model_open(model *m, bool is_traced, uint32_t processors) {
+    *m = (model){.is_open = true, .is_traced = is_traced, .processors = processors};
 }
 
-/* Whether all tasks of a node are done, or all tasks (GERFMUOD_DAG_NONE). */
-static bool model_is_done(const model *m, uint32_t node) {
-    for (uint32_t t = 0; t < m->tasks; t++)
-        if (m->task[t].stage != DONE && (node == GERFMUOD_DAG_NONE || m->task[t].node == node)) return false;
-    return true;
-}
-
-static expected model_task(model *m, uint32_t node, uint32_t class_) {
-    if (!m->is_open) return (expected){.refused = GERFMUOD_DAG_NO_POOL};
-    if (node >= m->nodes) return (expected){.refused = GERFMUOD_DAG_NO_NODE};
-    if (class_ >= GERFMUOD_DAG_CLASSES) return (expected){.refused = GERFMUOD_DAG_BAD_SPEC};
-    if (m->is_over) return (expected){.refused = GERFMUOD_DAG_ENDED};
-    if (m->is_started && model_is_done(m, node)) return (expected){.refused = GERFMUOD_DAG_INACTIVE};
-    m->is_extended |= m->is_started;
-    m->task[m->tasks].node = node, m->task[m->tasks].class_ = class_;
-    m->task[m->tasks].outside = m->is_started, m->task[m->tasks].stage = FRESH; /* held, if the pool was started */
-    return (expected){.number = m->tasks++};
-}
-
-/* Whether a task waits for an input, of a task or from outside. */
-static bool model_waits(const model *m, uint32_t task) {
+static bool model_is_ready(const model *m, uint32_t task) {
     for (uint32_t k = 0; k < m->inputs; k++)
-        if (m->input[k].target == task && m->input[k].way != CAME) return true;
-    return m->task[task].outside > 0;
+        if (m->input[k].target == task && m->task[m->input[k].source].stage != DONE) return false;
+    return m->task[task].stage == FRESH && !m->task[task].outside;
 }
 
-static expected model_input(model *m, uint32_t source) {
-    if (!m->is_open) return (expected){.refused = GERFMUOD_DAG_NO_POOL};
-    if (m->tasks == 0 || source >= m->tasks - 1) return (expected){.refused = GERFMUOD_DAG_NO_TASK};
-    uint32_t target = m->tasks - 1;
-    if (m->task[target].stage != FRESH) return (expected){.refused = GERFMUOD_DAG_WRONG_LIFE};
-    if (m->is_started && !model_waits(m, target)) return (expected){.refused = GERFMUOD_DAG_WRONG_LIFE};
-    m->is_extended |= m->is_started;
-    if (m->task[source].stage == DONE) return (expected){0}; /* there is nothing to wait for */
-    m->input[m->inputs].source = source, m->input[m->inputs].target = target, m->input[m->inputs].way = OUT;
-    m->inputs++;
-    return (expected){0};
+static uint32_t model_count(const model *m, enum stage stage) {
+    uint32_t count = 0;
+    for (uint32_t t = 0; t < m->tasks; t++) count += m->task[t].stage == stage;
+    return count;
 }
 
-static expected model_outside(model *m, uint32_t task) {
-    if (!m->is_open) return (expected){.refused = GERFMUOD_DAG_NO_POOL};
-    if (task >= m->tasks) return (expected){.refused = GERFMUOD_DAG_NO_TASK};
-    if (m->task[task].stage != FRESH) return (expected){.refused = GERFMUOD_DAG_WRONG_LIFE};
-    if (m->is_started && !model_waits(m, task)) return (expected){.refused = GERFMUOD_DAG_WRONG_LIFE};
-    m->task[task].outside++;
-    return (expected){0};
-}
+static bool model_is_over(const model *m) { return m->is_started && model_count(m, DONE) == m->tasks; }
 
-static expected model_release(model *m, uint32_t task) {
-    if (!m->is_open) return (expected){.refused = GERFMUOD_DAG_NO_POOL};
-    if (task >= m->tasks) return (expected){.refused = GERFMUOD_DAG_NO_TASK};
-    if (m->task[task].outside == 0) return (expected){.refused = GERFMUOD_DAG_WRONG_LIFE};
-    m->task[task].outside--;
-    return (expected){.news = model_waits(m, task) ? 0 : 1u << m->task[task].node};
-}
+static bool model_is_busy(const model *m) { return m->spinning || m->sleeping || m->signalled || model_count(m, RUNNING); }
 
-static expected model_start(model *m) {
-    if (!m->is_open) return (expected){.refused = GERFMUOD_DAG_NO_POOL};
-    if (m->is_started) return (expected){.refused = GERFMUOD_DAG_WRONG_LIFE};
-    m->is_started = true;
-    return (expected){0};
-}
-
-static bool model_is_ready(const model *m, uint32_t task, uint32_t node) {
-    return m->task[task].node == node && m->task[task].stage == FRESH && !model_waits(m, task);
-}
-
-/* The ready tasks of one node, as bits: all, and those of the lowest class. */
-static uint64_t model_ready(const model *m, uint32_t node, uint64_t *first) {
-    uint64_t all = 0;
-    uint32_t lowest = GERFMUOD_DAG_CLASSES;
-    *first = 0;
+/* Notes when tasks become ready; returns how many are. Before the start they are so at the same time. */
+static uint32_t model_ready(model *m) {
+    uint32_t count = 0;
     for (uint32_t t = 0; t < m->tasks; t++) {
-        if (!model_is_ready(m, t, node)) continue;
-        all |= (uint64_t)1 << t;
-        if (m->task[t].class_ < lowest) lowest = m->task[t].class_, *first = 0;
-        if (m->task[t].class_ == lowest) *first |= (uint64_t)1 << t;
+        bool is_ready = model_is_ready(m, t);
+        count += is_ready;
+        if (!is_ready || !m->is_started) m->task[t].since = 0;
+        else if (!m->task[t].since) m->task[t].since = m->now;
     }
-    return all;
+    return count;
 }
 
-static expected model_next(model *m, uint32_t node) {
-    if (!m->is_open) return (expected){.refused = GERFMUOD_DAG_NO_POOL};
-    if (!m->is_started) return (expected){.refused = GERFMUOD_DAG_WRONG_LIFE};
-    if (node >= m->nodes) return (expected){.refused = GERFMUOD_DAG_NO_NODE};
-    if (m->is_over) return (expected){.told = GERFMUOD_DAG_OVER};
-    for (uint32_t k = 0; k < m->inputs; k++) /* the node receives its messages */
-        if (m->input[k].way == UNDER_WAY && m->task[m->input[k].target].node == node) m->input[k].way = CAME;
-    uint64_t first, all = model_ready(m, node, &first);
-    if (all) return (expected){.told = GERFMUOD_DAG_RUN, .ready = first, .news = all & (all - 1) ? 1u << node : 0};
-    m->is_over = model_is_done(m, GERFMUOD_DAG_NONE);
-    return (expected){.told = m->is_over ? GERFMUOD_DAG_OVER : GERFMUOD_DAG_WAIT};
+/* Returns how many threads a call signals. */
+static uint32_t model_settle(model *m, bool signals_all) {
+    uint32_t ready = model_ready(m), signals = 0;
+    if (signals_all || m->fault || model_is_over(m)) signals = m->sleeping;
+    else if (m->is_started && ready && m->sleeping && !m->spinning && !m->signalled) signals = 1;
+    m->sleeping -= signals, m->signalled += signals;
+    return signals;
 }
 
-static expected model_done(model *m, uint32_t node, uint32_t task) {
-    if (!m->is_open) return (expected){.refused = GERFMUOD_DAG_NO_POOL};
-    if (task >= m->tasks) return (expected){.refused = GERFMUOD_DAG_NO_TASK};
-    if (m->task[task].stage != RUNNING) return (expected){.refused = GERFMUOD_DAG_WRONG_LIFE};
-    if (m->task[task].node != node) return (expected){.refused = GERFMUOD_DAG_NO_NODE};
-    expected wanted = {0};
-    m->task[task].stage = DONE;
-    for (uint32_t k = 0; k < m->inputs; k++) {
-        if (m->input[k].source != task) continue;
-        uint32_t to = m->task[m->input[k].target].node;
-        m->input[k].way = to == node ? CAME : UNDER_WAY;
-        if (to != node) wanted.news |= 1u << to, m->messages++;
+static void model_event(model *m, uint32_t kind, uint32_t task) {
+    if (m->is_traced) m->event[m->events].kind = kind, m->event[m->events++].task = task;
+}
+
+static void model_add(model *m, uint32_t class_, const uint32_t *inputs, size_t count, uint32_t outside) {
+    m->is_grown |= m->is_started;
+    m->task[m->tasks].class_ = class_, m->task[m->tasks].outside = outside;
+    m->task[m->tasks].stage = FRESH, m->task[m->tasks].since = 0;
+    for (size_t k = 0; k < count; k++) m->input[m->inputs].source = inputs[k], m->input[m->inputs++].target = m->tasks;
+    m->tasks++;
+}
+
+static expected model_spawn(model *m, uint32_t class_, const uint32_t *inputs, size_t count, uint32_t outside) {
+    m->now++;
+    if (!m->is_open) return model_refuse(GERFMUOD_GRAPH_NO_POOL);
+    if (m->fault) return model_refuse(m->fault);
+    if (model_is_over(m)) return model_refuse(GERFMUOD_GRAPH_ENDED);
+    if (class_ > 3) return model_refuse(GERFMUOD_GRAPH_BAD_SPEC);
+    for (size_t k = 0; k < count; k++)
+        if (inputs[k] >= m->tasks) return model_refuse(GERFMUOD_GRAPH_NO_TASK);
+    if (outside > GERFMUOD_GRAPH_MAX_OUTSIDE) return model_answer(GERFMUOD_GRAPH_HISTORY_FULL, 0, GERFMUOD_GRAPH_MAX_OUTSIDE, 0);
+    model_add(m, class_, inputs, count, outside);
+    return model_answer(0, 0, m->tasks - 1, model_settle(m, false));
+}
+
+static expected model_describe(model *m, const uint8_t *classes, size_t classes_count, const uint32_t *offsets, size_t offsets_count,
+                               const uint32_t *inputs, size_t inputs_count) {
+    m->now++;
+    if (!m->is_open) return model_refuse(GERFMUOD_GRAPH_NO_POOL);
+    if (m->fault) return model_refuse(m->fault);
+    if (m->is_started || m->tasks) return model_refuse(GERFMUOD_GRAPH_WRONG_LIFE);
+    if (!offsets_count || (classes_count && classes_count != offsets_count - 1)) return model_refuse(GERFMUOD_GRAPH_BAD_SPEC);
+    model as_it_was = *m;
+    for (uint32_t t = 0; t + 1 < offsets_count; t++) {
+        uint32_t class_ = classes_count ? classes[t] : 0, refused = 0;
+        if (class_ > 3 || offsets[t] > offsets[t + 1] || offsets[t + 1] > inputs_count) refused = GERFMUOD_GRAPH_BAD_SPEC;
+        for (uint32_t k = offsets[t]; !refused && k < offsets[t + 1]; k++)
+            if (inputs[k] >= t) refused = GERFMUOD_GRAPH_NO_TASK;
+        if (refused) return *m = as_it_was, model_answer(refused, 0, t, 0);
+        model_add(m, class_, inputs + offsets[t], offsets[t + 1] - offsets[t], 0);
     }
-    return wanted;
+    return model_refuse(0);
+}
+
+static void model_report(model *m, uint32_t task) {
+    if (task == GERFMUOD_GRAPH_NONE || m->fault) return;
+    if (task >= m->tasks) m->fault = GERFMUOD_GRAPH_NO_TASK, m->failed = task;
+    else if (m->task[task].stage != RUNNING) m->fault = GERFMUOD_GRAPH_WRONG_LIFE, m->failed = task;
+    else m->task[task].stage = DONE, model_event(m, 2, task), model_ready(m);
+}
+
+/* The caller notes which of the tasks was returned, by model_begin. */
+static expected model_decide(model *m, uint32_t polls) {
+    uint32_t lowest = 4, since = UINT32_MAX;
+    expected run = model_answer(0, GERFMUOD_GRAPH_RUN, 0, 0);
+    if (m->fault) return model_answer(m->fault, 0, m->failed, 0);
+    for (uint32_t t = 0; t < m->tasks && m->is_started; t++) {
+        if (!model_is_ready(m, t) || m->task[t].class_ > lowest) continue;
+        if (m->task[t].class_ == lowest && m->task[t].since > since) continue;
+        if (m->task[t].class_ < lowest || m->task[t].since < since) run.first = 0;
+        lowest = m->task[t].class_, since = m->task[t].since;
+        run.first |= (uint64_t)1 << t;
+    }
+    if (run.first) return run;
+    if (model_is_over(m)) return model_answer(0, GERFMUOD_GRAPH_OVER, 0, 0);
+    if (polls && m->threads <= m->processors) return m->spinning++, model_answer(0, GERFMUOD_GRAPH_SPIN, 0, 0);
+    return m->sleeping++, model_answer(0, GERFMUOD_GRAPH_SLEEP, 0, 0);
+}
+
+/* A turn. `found` is the task that the library returned, which runs if it may. */
+static expected model_turn(model *m, uint32_t call, uint32_t done, uint32_t polls, uint32_t found) {
+    if (call == GERFMUOD_GRAPH_TURN_SPUN) m->spinning -= m->spinning > 0;
+    else if (call == GERFMUOD_GRAPH_TURN_WOKEN && m->signalled) m->signalled--;
+    else if (call == GERFMUOD_GRAPH_TURN_WOKEN) m->sleeping -= m->sleeping > 0;
+    model_report(m, done);
+    expected want = model_decide(m, polls);
+    if (found < m->tasks && want.first >> found & 1) m->task[found].stage = RUNNING, model_event(m, 1, found);
+    want.answer.signals = model_settle(m, false);
+    return want;
+}
+
+static expected model_start(model *m, uint32_t threads) {
+    if (m->is_started && model_is_busy(m)) return model_refuse(GERFMUOD_GRAPH_RUNNING);
+    if (m->is_started) return model_refuse(model_is_over(m) ? GERFMUOD_GRAPH_ENDED : GERFMUOD_GRAPH_WRONG_LIFE);
+    if (!threads) return model_refuse(GERFMUOD_GRAPH_NO_THREAD);
+    m->is_started = true, m->threads = threads;
+    return model_answer(0, 0, 0, model_settle(m, true));
 }
 
 static expected model_again(model *m) {
-    if (!m->is_open) return (expected){.refused = GERFMUOD_DAG_NO_POOL};
-    if (!m->is_over || m->is_extended) return (expected){.refused = GERFMUOD_DAG_WRONG_LIFE};
-    m->is_over = false, m->messages = 0;
+    if (model_is_busy(m)) return model_refuse(GERFMUOD_GRAPH_RUNNING);
+    if (!model_is_over(m) || m->is_grown) return model_refuse(GERFMUOD_GRAPH_WRONG_LIFE);
     for (uint32_t t = 0; t < m->tasks; t++) m->task[t].stage = FRESH;
-    for (uint32_t k = 0; k < m->inputs; k++) m->input[k].way = OUT;
-    return (expected){0};
+    m->is_started = false, m->events = m->threads = 0;
+    return model_refuse(0);
 }
 
-static expected model_close(model *m) {
-    if (!m->is_open) return (expected){.refused = GERFMUOD_DAG_NO_POOL};
-    memset(m, 0, sizeof *m);
-    m->nodes = 1;
-    return (expected){0};
+static expected model_outside(model *m, uint32_t task) {
+    if (task >= m->tasks) return model_refuse(GERFMUOD_GRAPH_NO_TASK);
+    if (m->task[task].stage != FRESH || (m->is_started && model_is_ready(m, task))) return model_refuse(GERFMUOD_GRAPH_WRONG_LIFE);
+    if (m->task[task].outside == GERFMUOD_GRAPH_MAX_OUTSIDE)
+        return model_answer(GERFMUOD_GRAPH_HISTORY_FULL, 0, GERFMUOD_GRAPH_MAX_OUTSIDE, 0);
+    m->task[task].outside++;
+    return model_answer(0, 0, 0, model_settle(m, false));
+}
+
+static expected model_release(model *m, uint32_t task) {
+    if (task >= m->tasks) return model_refuse(GERFMUOD_GRAPH_NO_TASK);
+    if (!m->task[task].outside) return model_refuse(GERFMUOD_GRAPH_WRONG_LIFE);
+    m->task[task].outside--;
+    return model_answer(0, 0, 0, model_settle(m, false));
+}
+
+static expected model_stop(model *m, uint32_t task) {
+    if (!m->fault && !model_is_over(m)) m->fault = GERFMUOD_GRAPH_STOPPED, m->failed = task;
+    return model_answer(0, 0, 0, model_settle(m, false));
+}
+
+/* A call of gerfmuod_graph_call; `found` is the number that the library returned. */
+static expected model_call(model *m, uint32_t call, uint32_t first, uint32_t second, uint32_t found) {
+    m->now++;
+    if (!m->is_open) return model_refuse(GERFMUOD_GRAPH_NO_POOL);
+    switch (call) { /* those that a fault does not refuse */
+    case GERFMUOD_GRAPH_CLOSE: return memset(m, 0, sizeof *m), model_refuse(0);
+    case GERFMUOD_GRAPH_TURN:
+    case GERFMUOD_GRAPH_TURN_SPUN:
+    case GERFMUOD_GRAPH_TURN_WOKEN: return model_turn(m, call, first, second, found);
+    case GERFMUOD_GRAPH_STOP: return model_stop(m, first);
+    case GERFMUOD_GRAPH_FAULT: return model_answer(m->fault, 0, m->fault ? m->failed : 0, 0);
+    case GERFMUOD_GRAPH_COUNT: return model_answer(0, model_ready(m), m->tasks, 0);
+    case GERFMUOD_GRAPH_EVENT:
+        if (first >= m->events) return model_refuse(0);
+        return model_answer(0, m->event[first].kind, m->event[first].task, 0);
+    }
+    if (m->fault && call <= GERFMUOD_GRAPH_EVENT) return model_refuse(m->fault);
+    switch (call) {
+    case GERFMUOD_GRAPH_START: return model_start(m, first);
+    case GERFMUOD_GRAPH_AGAIN: return model_again(m);
+    case GERFMUOD_GRAPH_OUTSIDE: return model_outside(m, first);
+    case GERFMUOD_GRAPH_RELEASE: return model_release(m, first);
+    case GERFMUOD_GRAPH_MAY_RECORD:
+        return model_refuse(model_is_busy(m) ? GERFMUOD_GRAPH_RUNNING : m->is_started ? GERFMUOD_GRAPH_WRONG_LIFE : 0);
+    default: return model_refuse(GERFMUOD_GRAPH_BAD_SPEC);
+    }
 }
 #endif

@@ -90,8 +90,8 @@ static int body(void *context, uint32_t task) {
 static void describe(void) {
     for (uint32_t k = 0; k < blocks; k++) { /* a buffer is free when its last block was added up */
         uint32_t before = k >= buffers ? 2 * (k - buffers) + 1 : 0, own = 2 * k;
-        need(gerfmuod_team_task(team, 0, 1, &before, k >= buffers, NULL), "task");
-        need(gerfmuod_team_task(team, 0, 0, &own, 1, NULL), "task");
+        need(gerfmuod_team_task(team, 1, &before, k >= buffers, NULL), "task");
+        need(gerfmuod_team_task(team, 0, &own, 1, NULL), "task");
     }
 }
 
@@ -99,7 +99,7 @@ static void describe(void) {
 static uint32_t count_wrong(uint32_t threads) {
     pthread_t thread;
     uint32_t wrong = 0;
-    need(gerfmuod_team_open(&team, 1), "open");
+    need(gerfmuod_team_open(&team), "open");
     describe();
     need(pthread_create(&thread, NULL, run_device, NULL) != 0, "pthread_create");
     need(gerfmuod_team_run(team, threads, body, NULL), "run");
@@ -127,9 +127,8 @@ static int read_timer(void *context, uint32_t task) {
 static bool is_asleep(uint32_t threads) {
     pthread_t thread;
     int is_over = 0;
-    need(gerfmuod_team_open(&team, 1), "open");
-    need(gerfmuod_team_task(team, 0, 0, NULL, 0, NULL), "task");
-    need(gerfmuod_team_outside(team, 0), "outside");
+    need(gerfmuod_team_open(&team), "open");
+    need(gerfmuod_team_spawn(team, 0, NULL, 0, 1, NULL, NULL, NULL), "spawn");
     clock_t from = clock();
     need(pthread_create(&thread, NULL, run_timer, &is_over) != 0, "pthread_create");
     need(gerfmuod_team_run(team, threads, read_timer, &is_over), "run");

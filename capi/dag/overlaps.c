@@ -1,41 +1,46 @@
-/* overlaps.c: calls on a team that come while other threads are in calls, and a call at a node that does not exist. Built with
- * AddressSanitizer or ThreadSanitizer, it shows whether they touch what another one frees. Prints each check that fails; the
- * exit status is 1 if one failed.
+/* overlaps.c: calls on a team that come while other threads are in calls. Built with AddressSanitizer or ThreadSanitizer, it shows
+ * whether they touch what another one frees. Prints each check that fails; the exit status is 1 if one failed.
  *
- *   overlaps [stop | again | record | node]     all four, or one of them */
+ *   overlaps [stop | again | record | done | start]     all, or one of them */
 #define _POSIX_C_SOURCE 200809L
-#include "gerfmuod_team.h"
+#include "check.h"
+#include "limit.h"
 #include <pthread.h>
-#include <stdbool.h>
-#include <stdio.h>
-#include <stdlib.h>
 #include <string.h>
-#include <time.h>
 
 enum { ROUNDS = 20, TASKS = 20, SLICES = 9 };
 
-static int checked, failed;
-
-static void check(const char *what, bool holds) {
-    checked++;
-    if (holds) return;
-    failed++;
-    printf("%s\n", what);
-}
-
-static void sleep_for(long nanoseconds) { nanosleep(&(struct timespec){.tv_nsec = nanoseconds}, NULL); }
-
 static gerfmuod_team *recording_team(uint32_t tasks) {
     gerfmuod_team *team;
-    if (gerfmuod_team_open(&team, 1)) exit(3);
-    check("record", !gerfmuod_team_record(team, SLICES));
-    for (uint32_t t = 0; t < tasks; t++) check("task", !gerfmuod_team_task(team, 0, 0, NULL, 0, NULL));
+    if (gerfmuod_team_open(&team)) exit(3);
+    check_ok("record", gerfmuod_team_record(team, SLICES));
+    for (uint32_t t = 0; t < tasks; t++) check_ok("task", gerfmuod_team_task(team, 0, NULL, 0, NULL));
     return team;
+}
+
+static pthread_t begin(void *(*body)(void *), gerfmuod_team *team) {
+    pthread_t thread;
+    if (pthread_create(&thread, NULL, body, team)) exit(3);
+    return thread;
 }
 
 static int nothing(void *context, uint32_t task) {
     (void)context, (void)task;
     return 0;
+}
+
+static void *turns(void *team) { return (void *)(uintptr_t)take_turns(team); }
+
+/* Returns what the turns of a thread returned at last. */
+static uint32_t end(pthread_t thread) {
+    void *refused;
+    pthread_join(thread, &refused);
+    return (uint32_t)(uintptr_t)refused;
+}
+
+/* Waits until a turn waits: without one, a run that was not started is refused for another reason. */
+static void wait_for_turn(gerfmuod_team *team) {
+    while (gerfmuod_team_again(team) != GERFMUOD_GRAPH_RUNNING) sleep_for(100000);
 }
 
 /* ---- a stop, a little later in each round, while another number of threads begins to record */
@@ -48,79 +53,99 @@ static void *stop_soon(void *team) {
 }
 
 static void stop_beside_run(void) {
-    pthread_t stopping;
     gerfmuod_team *team = recording_team(TASKS);
-    check("run", !gerfmuod_team_run(team, 2, nothing, NULL));
-    if (pthread_create(&stopping, NULL, stop_soon, team)) exit(3);
+    check_ok("run", gerfmuod_team_run(team, 2, nothing, NULL));
+    pthread_t stopping = begin(stop_soon, team);
     uint32_t refused = gerfmuod_team_again(team);
     if (!refused) refused = gerfmuod_team_run(team, 3, nothing, NULL);
-    check("a run beside a stop", !refused || refused == GERFMUOD_TEAM_STOPPED);
+    check("a run beside a stop", !refused || refused == GERFMUOD_GRAPH_STOPPED);
     pthread_join(stopping, NULL);
     delay += 200000;
     gerfmuod_team_close(team);
 }
 
-/* ---- a second run, while a turn of the first one returns */
-static void *take_turns(void *team) {
-    for (uint32_t done = GERFMUOD_DAG_NONE;;) {
-        gerfmuod_dag_answer answer = gerfmuod_team_turn(team, 0, done);
-        if (answer.refused || answer.told == GERFMUOD_DAG_OVER) return NULL;
-        done = answer.number;
+/* ---- a second run, while a turn of the first one has not returned */
+static void again_beside_turn(void) {
+    gerfmuod_team *team = recording_team(0);
+    pthread_t waiting = begin(turns, team);
+    wait_for_turn(team);
+    check_ok("start", gerfmuod_team_start(team, 2));
+    uint32_t refused = gerfmuod_team_again(team); /* the thread is signalled, and may not have come back */
+    for (; refused == GERFMUOD_GRAPH_RUNNING; refused = gerfmuod_team_again(team)) sleep_for(10000);
+    check_ok("again", refused);
+    check_ok("a run with more threads", gerfmuod_team_run(team, 3, nothing, NULL));
+    check_ok("the turn", end(waiting));
+    gerfmuod_team_close(team);
+}
+
+/* ---- an end and a begin of recording, while a turn waits for the start, and while a task runs */
+static void record_beside_turn(void) {
+    gerfmuod_team *team = recording_team(0);
+    pthread_t waiting = begin(turns, team);
+    wait_for_turn(team);
+    check_refusal("no more recording while a turn waits", gerfmuod_team_record(team, 0), GERFMUOD_GRAPH_RUNNING);
+    check_refusal("other slices while a turn waits", gerfmuod_team_record(team, 2 * SLICES), GERFMUOD_GRAPH_RUNNING);
+    check_ok("a task while a turn waits", gerfmuod_team_task(team, 0, NULL, 0, NULL));
+    check_ok("start", gerfmuod_team_start(team, 1));
+    check_ok("the turn", end(waiting));
+    check_ok("again", gerfmuod_team_again(team));
+    check_ok("start", gerfmuod_team_start(team, 1));
+    check("a task", gerfmuod_team_turn(team, GERFMUOD_GRAPH_NONE).next == GERFMUOD_GRAPH_RUN);
+    check_refusal("no more recording while a task runs", gerfmuod_team_record(team, 0), GERFMUOD_GRAPH_RUNNING);
+    gerfmuod_team_close(team);
+}
+
+/* ---- a task that is reported although it does not run, before the end and after it: every other turn is refused for that */
+static void report_wrong(uint32_t wrong, uint32_t fault, bool has_ended) {
+    const uint32_t first = 0;
+    gerfmuod_team *team = recording_team(1);
+    check_ok("a task that waits", gerfmuod_team_task(team, 0, &first, 1, NULL));
+    check_ok("start", gerfmuod_team_start(team, 2));
+    check("the first task", gerfmuod_team_turn(team, GERFMUOD_GRAPH_NONE).number == first);
+    if (has_ended) check("the second task", gerfmuod_team_turn(team, 0).number == 1);
+    if (has_ended) check("the end", gerfmuod_team_turn(team, 1).next == GERFMUOD_GRAPH_OVER);
+    pthread_t turning = has_ended ? pthread_self() : begin(turns, team);
+    for (uint32_t k = 0; k < 2; k++) {
+        gerfmuod_graph_answer answer = gerfmuod_team_turn(team, k ? GERFMUOD_GRAPH_NONE : wrong);
+        check_refusal("a turn", answer.refused, fault);
+        check("its task", answer.number == wrong && !answer.next);
+    }
+    check_refusal("the fault", gerfmuod_team_fault(team), fault);
+    check("its task", gerfmuod_team_failed(team) == wrong);
+    if (!has_ended) check_refusal("the other thread", end(turning), fault);
+    gerfmuod_team_close(team);
+}
+
+static void wrong_done(void) {
+    for (int has_ended = 0; has_ended < 2; has_ended++) {
+        report_wrong(1, GERFMUOD_GRAPH_WRONG_LIFE, has_ended);
+        report_wrong(7, GERFMUOD_GRAPH_NO_TASK, has_ended);
     }
 }
 
-static void again_beside_turn(void) {
-    pthread_t turning;
+/* ---- a run that is not started, for which threads wait, while a turn waits, too */
+static void run_beside_turn(void) {
     gerfmuod_team *team = recording_team(TASKS);
-    check("start", !gerfmuod_team_start(team, 2));
-    if (pthread_create(&turning, NULL, take_turns, team)) exit(3);
-    take_turns(team);
-    uint32_t refused = gerfmuod_team_again(team);
-    for (; refused == GERFMUOD_TEAM_RUNNING; refused = gerfmuod_team_again(team)) sleep_for(10000);
-    check("again", !refused);
-    check("a run with more threads", !gerfmuod_team_run(team, 3, nothing, NULL));
-    pthread_join(turning, NULL);
-    gerfmuod_team_close(team);
-}
-
-/* ---- an end of recording, while a turn waits for the start */
-static void *one_turn(void *team) {
-    gerfmuod_team_turn(team, 0, GERFMUOD_DAG_NONE);
-    return NULL;
-}
-
-static void record_beside_turn(void) {
-    pthread_t waiting;
-    gerfmuod_team *team = recording_team(0);
-    if (pthread_create(&waiting, NULL, one_turn, team)) exit(3);
-    /* without a turn that waits, a run that never began is refused for another reason */
-    while (gerfmuod_team_again(team) != GERFMUOD_TEAM_RUNNING) sleep_for(100000);
-    check("record while a turn waits", gerfmuod_team_record(team, 0) == GERFMUOD_TEAM_RUNNING);
-    check("start", !gerfmuod_team_start(team, 1));
-    pthread_join(waiting, NULL);
-    gerfmuod_team_close(team);
-}
-
-/* ---- a task that is reported at a node that does not exist: those after it would wait for ever */
-static void turn_at_no_node(void) {
-    gerfmuod_team *team = recording_team(2);
-    check("start", !gerfmuod_team_start(team, 1));
-    uint32_t task = gerfmuod_team_turn(team, 0, GERFMUOD_DAG_NONE).number;
-    check("a turn at no node", gerfmuod_team_turn(team, 7, GERFMUOD_DAG_NONE).refused == GERFMUOD_DAG_NO_NODE);
-    check("a task at no node", gerfmuod_team_turn(team, 7, task).refused == GERFMUOD_DAG_NO_NODE);
-    check("its number", gerfmuod_team_at(team) == task);
-    check("ends the team", gerfmuod_team_turn(team, 0, GERFMUOD_DAG_NONE).refused == GERFMUOD_DAG_NO_NODE);
+    pthread_t waiting = begin(turns, team);
+    wait_for_turn(team);
+    check_ok("a run beside a turn", gerfmuod_team_run(team, 3, nothing, NULL));
+    check_ok("the turn", end(waiting));
+    check_refusal("a second run", gerfmuod_team_run(team, 3, nothing, NULL), GERFMUOD_GRAPH_ENDED);
     gerfmuod_team_close(team);
 }
 
 static const struct part {
     const char *name;
     void (*run)(void);
-} parts[] = {{"stop", stop_beside_run}, {"again", again_beside_turn}, {"record", record_beside_turn}, {"node", turn_at_no_node}};
+} parts[] = {{"stop", stop_beside_run},
+             {"again", again_beside_turn},
+             {"record", record_beside_turn},
+             {"done", wrong_done},
+             {"start", run_beside_turn}};
 
 int main(int argc, char **argv) {
+    limit_time();
     for (size_t p = 0; p < sizeof parts / sizeof *parts; p++)
         for (int round = 0; round < ROUNDS && (argc < 2 || !strcmp(argv[1], parts[p].name)); round++) parts[p].run();
-    printf("%d results checked, %d not as they should be\n", checked, failed);
-    return failed != 0;
+    return print_checks();
 }

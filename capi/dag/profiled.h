@@ -1,4 +1,4 @@
-/* profiled.h: the option --profile FILE of measured programs: the events of the last run of a pool, and a summary of it. */
+/* profiled.h: the option --profile FILE of measured programs: the events of the last run of a team, and a summary of it. */
 #ifndef PROFILED_H
 #define PROFILED_H
 #include "gerfmuod_team.h"
@@ -16,9 +16,9 @@ static inline void take_profile_option(int *argc, char ***argv) {
     *argc -= 2, *argv += 2;
 }
 
-static inline gerfmuod_team *open_team(uint32_t nodes, int is_traced) {
+static inline gerfmuod_team *open_team(int is_traced) {
     gerfmuod_team *team;
-    need((is_traced ? gerfmuod_team_open : gerfmuod_team_open_untraced)(&team, nodes), "open");
+    need(is_traced ? gerfmuod_team_open_traced(&team) : gerfmuod_team_open(&team), "open");
     if (profile_path) need(gerfmuod_team_record(team, SLICES), "record");
     return team;
 }

@@ -3,29 +3,12 @@
  *
  * Compile with -DGERFMUOD_PROFILE_TICKS=test_ticks, together with gerfmuod_team.c, which then reads the clock below. */
 #define _POSIX_C_SOURCE 200809L
-#include "gerfmuod_team.h"
+#include "check.h"
 #include <inttypes.h>
 #include <pthread.h>
-#include <stdbool.h>
-#include <stdio.h>
-#include <stdlib.h>
 #include <string.h>
 
 enum { TASKS = 100, MANY = 1000 };
-
-static int checked, failed;
-
-static void check(const char *what, bool holds) {
-    checked++;
-    if (holds) return;
-    failed++;
-    printf("%s\n", what);
-}
-
-static void check_refusal(const char *what, uint32_t got, uint32_t wanted) {
-    check(what, got == wanted);
-    if (got != wanted) printf("  %s, expected %s\n", gerfmuod_team_name(got), gerfmuod_team_name(wanted));
-}
 
 /* ---- a clock that goes on by a microsecond at each reading, and back by ten at each of a number of readings */
 static uint64_t readings, back_every;
@@ -42,7 +25,7 @@ static char *text_of(gerfmuod_team *team, uint32_t (*write)(gerfmuod_team *, FIL
     size_t length;
     FILE *file = open_memstream(&text, &length);
     if (!file) exit(3);
-    check_refusal("writing", write(team, file), GERFMUOD_DAG_OK);
+    check_ok("writing", write(team, file));
     fclose(file);
     return text;
 }
@@ -60,13 +43,13 @@ static uint64_t number_after(const char *text, const char *key) {
     return at ? strtoull(at + strlen(key), NULL, 10) : UINT64_MAX;
 }
 
-static gerfmuod_team *team_with(uint32_t nodes, uint32_t slices, uint32_t tasks) {
+static gerfmuod_team *team_with(uint32_t slices, uint32_t tasks) {
     gerfmuod_team *team;
-    if (gerfmuod_team_open(&team, nodes)) exit(3);
-    check_refusal("record", gerfmuod_team_record(team, slices), GERFMUOD_DAG_OK);
+    if (gerfmuod_team_open(&team)) exit(3);
+    check_ok("record", gerfmuod_team_record(team, slices));
     for (uint32_t t = 0; t < tasks; t++) {
         uint32_t before = t - 1;
-        check_refusal("task", gerfmuod_team_task(team, t % nodes, t % 4, &before, t > 0, NULL), GERFMUOD_DAG_OK);
+        check_ok("task", gerfmuod_team_task(team, t % 4, &before, t > 0, NULL));
     }
     return team;
 }
@@ -88,46 +71,46 @@ static int fail_at(void *context, uint32_t task) { return task == *(uint32_t *)c
 /* Runs another team inside of a body. */
 static int run_other(void *context, uint32_t task) {
     (void)task;
-    check_refusal("run inside of a body", gerfmuod_team_run(context, 1, nothing, NULL), GERFMUOD_DAG_OK);
+    check_ok("run inside of a body", gerfmuod_team_run(context, 1, nothing, NULL));
     return 0;
 }
 
 /* ---- the checks */
 static void check_refusals(void) {
     gerfmuod_team *team;
-    if (gerfmuod_team_open(&team, 1)) exit(3);
-    check_refusal("profile before a run", gerfmuod_team_profile(team, stdout), GERFMUOD_DAG_WRONG_LIFE);
-    gerfmuod_team_task(team, 0, 0, NULL, 0, NULL);
-    check_refusal("record after a task", gerfmuod_team_record(team, 9), GERFMUOD_DAG_WRONG_LIFE);
-    check_refusal("run", gerfmuod_team_run(team, 1, nothing, NULL), GERFMUOD_DAG_OK);
-    check_refusal("record after a run", gerfmuod_team_record(team, 9), GERFMUOD_DAG_WRONG_LIFE);
-    check_refusal("profile of what was not recorded", gerfmuod_team_profile(team, stdout), GERFMUOD_DAG_WRONG_LIFE);
+    if (gerfmuod_team_open(&team)) exit(3);
+    check_refusal("profile before a run", gerfmuod_team_profile(team, stdout), GERFMUOD_GRAPH_WRONG_LIFE);
+    check_ok("task", gerfmuod_team_task(team, 0, NULL, 0, NULL));
+    check_refusal("record after a task", gerfmuod_team_record(team, 9), GERFMUOD_GRAPH_WRONG_LIFE);
+    check_ok("run", gerfmuod_team_run(team, 1, nothing, NULL));
+    check_refusal("record after a run", gerfmuod_team_record(team, 9), GERFMUOD_GRAPH_WRONG_LIFE);
+    check_refusal("profile of what was not recorded", gerfmuod_team_profile(team, stdout), GERFMUOD_GRAPH_WRONG_LIFE);
     gerfmuod_team_close(team);
 
-    own = team_with(1, 9, 3);
-    check_refusal("summary before a run", gerfmuod_team_summary(own, stdout), GERFMUOD_DAG_WRONG_LIFE);
-    check_refusal("run", gerfmuod_team_run(own, 2, profile_inside, NULL), GERFMUOD_DAG_OK);
-    check_refusal("profile inside of a body", inside, GERFMUOD_TEAM_RUNNING);
+    own = team_with(9, 3);
+    check_refusal("summary before a run", gerfmuod_team_summary(own, stdout), GERFMUOD_GRAPH_WRONG_LIFE);
+    check_ok("run", gerfmuod_team_run(own, 2, profile_inside, NULL));
+    check_refusal("profile inside of a body", inside, GERFMUOD_GRAPH_RUNNING);
     free(text_of(own, gerfmuod_team_profile));
-    check_refusal("again", gerfmuod_team_again(own), GERFMUOD_DAG_OK);
-    check_refusal("profile before the second run", gerfmuod_team_profile(own, stdout), GERFMUOD_DAG_WRONG_LIFE);
-    check_refusal("start", gerfmuod_team_start(own, 1), GERFMUOD_DAG_OK);
-    check_refusal("profile before the end", gerfmuod_team_profile(own, stdout), GERFMUOD_TEAM_RUNNING);
-    gerfmuod_team_stop(own, GERFMUOD_DAG_NONE);
+    check_ok("again", gerfmuod_team_again(own));
+    check_refusal("profile before the second run", gerfmuod_team_profile(own, stdout), GERFMUOD_GRAPH_WRONG_LIFE);
+    check_ok("start", gerfmuod_team_start(own, 1));
+    check_refusal("profile before the end", gerfmuod_team_profile(own, stdout), GERFMUOD_GRAPH_RUNNING);
+    gerfmuod_team_stop(own, GERFMUOD_GRAPH_NONE);
     free(text_of(own, gerfmuod_team_profile));
-    check_refusal("record after a stop", gerfmuod_team_record(own, 9), GERFMUOD_TEAM_STOPPED);
+    check_refusal("record after a stop", gerfmuod_team_record(own, 9), GERFMUOD_GRAPH_STOPPED);
     gerfmuod_team_close(own);
 
-    team = team_with(1, 9, 0);
-    check_refusal("no more recording", gerfmuod_team_record(team, 0), GERFMUOD_DAG_OK);
-    check_refusal("run", gerfmuod_team_run(team, 1, nothing, NULL), GERFMUOD_DAG_OK);
-    check_refusal("profile of what was not recorded", gerfmuod_team_profile(team, stdout), GERFMUOD_DAG_WRONG_LIFE);
+    team = team_with(9, 0);
+    check_ok("no more recording", gerfmuod_team_record(team, 0));
+    check_ok("run", gerfmuod_team_run(team, 1, nothing, NULL));
+    check_refusal("profile of what was not recorded", gerfmuod_team_profile(team, stdout), GERFMUOD_GRAPH_WRONG_LIFE);
     gerfmuod_team_close(team);
 }
 
 static void check_streams(void) {
-    gerfmuod_team *team = team_with(1, MANY, MANY);
-    check_refusal("run", gerfmuod_team_run(team, 1, nothing, NULL), GERFMUOD_DAG_OK);
+    gerfmuod_team *team = team_with(MANY, MANY);
+    check_ok("run", gerfmuod_team_run(team, 1, nothing, NULL));
     FILE *full = fopen("/dev/full", "w"), *reading = fopen("/dev/null", "r");
     if (full) check_refusal("a full disk", gerfmuod_team_profile(team, full), GERFMUOD_TEAM_NOT_WRITTEN);
     if (reading) check_refusal("a stream to read", gerfmuod_team_summary(team, reading), GERFMUOD_TEAM_NOT_WRITTEN);
@@ -141,8 +124,8 @@ static void check_streams(void) {
 
 /* A ring of `kept` slices that is full keeps the newest; the sums are those of all. */
 static void check_full_ring(uint32_t kept) {
-    gerfmuod_team *team = team_with(1, kept, TASKS);
-    check_refusal("run", gerfmuod_team_run(team, 1, nothing, NULL), GERFMUOD_DAG_OK);
+    gerfmuod_team *team = team_with(kept, TASKS);
+    check_ok("run", gerfmuod_team_run(team, 1, nothing, NULL));
     char *text = text_of(team, gerfmuod_team_profile), *summary = text_of(team, gerfmuod_team_summary), oldest[32];
     const char *first = strstr(text, "\"name\":\"task ");
     uint64_t lost = TASKS - kept;
@@ -159,8 +142,8 @@ static void check_full_ring(uint32_t kept) {
 
 static void check_clock(void) {
     for (back_every = 2; back_every < 9; back_every++) {
-        gerfmuod_team *team = team_with(2, MANY, TASKS);
-        check_refusal("run", gerfmuod_team_run(team, 2, nothing, NULL), GERFMUOD_DAG_OK);
+        gerfmuod_team *team = team_with(MANY, TASKS);
+        check_ok("run", gerfmuod_team_run(team, 2, nothing, NULL));
         char *text = text_of(team, gerfmuod_team_profile);
         check("the file says that the clock went back", number_after(text, "\"clock_went_back\":") > 0);
         check("no time is negative", !strstr(text, ":-"));
@@ -169,8 +152,8 @@ static void check_clock(void) {
         gerfmuod_team_close(team);
     }
     back_every = 0;
-    gerfmuod_team *team = team_with(1, MANY, TASKS);
-    check_refusal("run", gerfmuod_team_run(team, 1, nothing, NULL), GERFMUOD_DAG_OK);
+    gerfmuod_team *team = team_with(MANY, TASKS);
+    check_ok("run", gerfmuod_team_run(team, 1, nothing, NULL));
     char *text = text_of(team, gerfmuod_team_profile);
     check("a clock that goes on", number_after(text, "\"clock_went_back\":") == 0);
     check("a body takes one microsecond", count_of(text, "\"dur\":1.000") == TASKS);
@@ -179,21 +162,15 @@ static void check_clock(void) {
     gerfmuod_team_close(team);
 }
 
-static void *take_turns(void *argument) {
-    for (uint32_t done = GERFMUOD_DAG_NONE;;) {
-        gerfmuod_dag_answer answer = gerfmuod_team_turn(argument, 0, done);
-        if (answer.refused || answer.told == GERFMUOD_DAG_OVER) return NULL;
-        done = answer.number;
-    }
-}
+static void *turns(void *argument) { return take_turns(argument) ? argument : NULL; }
 
 /* More threads than were announced: those without a ring run tasks, too, and say nothing. */
 static void check_threads(void) {
-    gerfmuod_team *team = team_with(1, MANY, MANY);
+    gerfmuod_team *team = team_with(MANY, MANY);
     pthread_t threads[3];
-    check_refusal("start", gerfmuod_team_start(team, 1), GERFMUOD_DAG_OK);
+    check_ok("start", gerfmuod_team_start(team, 1));
     for (int i = 0; i < 3; i++)
-        if (pthread_create(&threads[i], NULL, take_turns, team)) exit(3);
+        if (pthread_create(&threads[i], NULL, turns, team)) exit(3);
     for (int i = 0; i < 3; i++) pthread_join(threads[i], NULL);
     char *text = text_of(team, gerfmuod_team_profile);
     check("one thread", count_of(text, "thread_name") == 1);
@@ -204,16 +181,16 @@ static void check_threads(void) {
 
 /* A body that runs another team, which records too; a body that fails; and a second run with other threads. */
 static void check_teams(void) {
-    gerfmuod_team *outer = team_with(1, MANY, 1), *inner = team_with(1, MANY, TASKS);
-    check_refusal("run", gerfmuod_team_run(outer, 1, run_other, inner), GERFMUOD_DAG_OK);
+    gerfmuod_team *outer = team_with(MANY, 1), *inner = team_with(MANY, TASKS);
+    check_ok("run", gerfmuod_team_run(outer, 1, run_other, inner));
     char *text = text_of(outer, gerfmuod_team_profile), *other = text_of(inner, gerfmuod_team_profile);
     check("the task of the outer team", count_of(text, "\"cat\":\"task\"") == 1);
     check("those of the inner team", count_of(other, "\"cat\":\"task\"") == TASKS);
     check("the outer one took longer", number_after(text, "\"dur\":") > number_after(other, "\"elapsed_us\":"));
     free(text), free(other);
     gerfmuod_team_close(outer);
-    check_refusal("again", gerfmuod_team_again(inner), GERFMUOD_DAG_OK);
-    check_refusal("run", gerfmuod_team_run(inner, 3, nothing, NULL), GERFMUOD_DAG_OK);
+    check_ok("again", gerfmuod_team_again(inner));
+    check_ok("run", gerfmuod_team_run(inner, 3, nothing, NULL));
     other = text_of(inner, gerfmuod_team_profile);
     check("three threads", count_of(other, "thread_name") == 3);
     check("the tasks of the second run", count_of(other, "\"cat\":\"task\"") == TASKS);
@@ -221,11 +198,10 @@ static void check_teams(void) {
     gerfmuod_team_close(inner);
 
     uint32_t failing = 7;
-    gerfmuod_team *team = team_with(1, MANY, TASKS);
-    check_refusal("run", gerfmuod_team_run(team, 1, fail_at, &failing), GERFMUOD_TEAM_STOPPED);
+    gerfmuod_team *team = team_with(MANY, TASKS);
+    check_refusal("run", gerfmuod_team_run(team, 1, fail_at, &failing), GERFMUOD_GRAPH_STOPPED);
     text = text_of(team, gerfmuod_team_profile);
     check("with the body that failed", count_of(text, "\"cat\":\"task\"") == 8 && strstr(text, "\"task 7\""));
-    check("without a wave", !strstr(text, "\"cat\":\"wave\""));
     free(text);
     gerfmuod_team_close(team);
 }
@@ -238,6 +214,5 @@ int main(void) {
     check_clock();
     check_threads();
     check_teams();
-    printf("%d results checked, %d not as they should be\n", checked, failed);
-    return failed != 0;
+    return print_checks();
 }

@@ -1,7 +1,7 @@
 /* recursion.c: merge sort as a tree of tasks: leaves sort a part of an array of doubles, and each task above merges two parts.
  * The result is compared with the C library's qsort.
  *
- *   recursion LENGTH LEAF ROUNDS WAY..     a WAY is NxT (a pool), loop, or omp:T (OpenMP's tasks; built with -fopenmp)
+ *   recursion LENGTH LEAF ROUNDS WAY..     a WAY is T (threads of a team), loop, or omp:T (OpenMP's tasks; built with -fopenmp)
  */
 #define _POSIX_C_SOURCE 200809L
 #include "gerfmuod_team.h"
@@ -11,13 +11,13 @@
 
 typedef struct {
     size_t from, end;
-    uint32_t left, right; /* the tasks of its halves; GERFMUOD_DAG_NONE for a leaf */
+    uint32_t left, right; /* the tasks of its halves; GERFMUOD_GRAPH_NONE for a leaf */
 } part;
 
 static size_t length, leaf;
 static double *start, *values, *merged;
 static part *parts;
-static uint32_t count;
+static size_t count;
 
 static int compare(const void *a, const void *b) {
     double x = *(const double *)a, y = *(const double *)b;
@@ -33,37 +33,36 @@ static void merge(size_t from, size_t middle, size_t end) {
 static int body(void *context, uint32_t task) {
     const part *p = &parts[task];
     (void)context;
-    if (p->left == GERFMUOD_DAG_NONE) qsort(values + p->from, p->end - p->from, sizeof *values, compare);
+    if (p->left == GERFMUOD_GRAPH_NONE) qsort(values + p->from, p->end - p->from, sizeof *values, compare);
     else merge(p->from, parts[p->left].end, p->end);
     return 0;
 }
 
 /* The tasks of a part of the array, those of its halves first. Returns the last one. */
-static uint32_t describe(gerfmuod_team *team, size_t from, size_t end, uint32_t nodes) {
-    uint32_t inputs[2] = {GERFMUOD_DAG_NONE, GERFMUOD_DAG_NONE}, number = GERFMUOD_DAG_NONE;
+static uint32_t describe(gerfmuod_team *team, size_t from, size_t end) {
+    uint32_t inputs[2] = {GERFMUOD_GRAPH_NONE, GERFMUOD_GRAPH_NONE}, number = GERFMUOD_GRAPH_NONE;
     bool is_leaf = end - from <= leaf;
     if (!is_leaf) {
-        inputs[0] = describe(team, from, from + (end - from) / 2, nodes);
-        inputs[1] = describe(team, from + (end - from) / 2, end, nodes);
+        inputs[0] = describe(team, from, from + (end - from) / 2);
+        inputs[1] = describe(team, from + (end - from) / 2, end);
     }
-    uint32_t node = (uint32_t)(from * nodes / length);
-    if (team) need(gerfmuod_team_task(team, node, 0, inputs, is_leaf ? 0 : 2, &number), "task");
-    else number = count;
+    if (team) need(gerfmuod_team_task(team, 0, inputs, is_leaf ? 0 : 2, &number), "task");
+    else number = (uint32_t)count;
     parts[number] = (part){from, end, inputs[0], inputs[1]};
     return count = number + 1, number;
 }
 
-static void by_pool(uint32_t nodes, uint32_t threads) {
+static void by_team(uint32_t threads) {
     gerfmuod_team *team;
-    need(gerfmuod_team_open_untraced(&team, nodes), "open");
-    describe(team, 0, length, nodes);
-    need(gerfmuod_team_run(team, nodes * threads, body, NULL), "run");
+    need(gerfmuod_team_open(&team), "open");
+    describe(team, 0, length);
+    need(gerfmuod_team_run(team, threads, body, NULL), "run");
     gerfmuod_team_close(team);
 }
 
 static void by_loop(void) {
     count = 0;
-    describe(NULL, 0, length, 1);
+    describe(NULL, 0, length);
     for (uint32_t t = 0; t < count; t++) body(NULL, t);
 }
 
@@ -90,24 +89,24 @@ static void by_openmp(int threads) {
 #endif
 
 static void go(const char *way) {
-    unsigned nodes, threads;
     if (!strcmp(way, "loop")) by_loop();
-    else if (sscanf(way, "%ux%u", &nodes, &threads) == 2) by_pool(nodes, threads);
+    else if (atoi(way) > 0) by_team((uint32_t)atoi(way));
 #ifdef _OPENMP
     else if (!strncmp(way, "omp:", 4)) by_openmp(atoi(way + 4));
 #endif
     else need(1, way);
 }
 
+static double *wanted;
+static void prepare(void) { memcpy(values, start, length * sizeof *values); }
+static int is_sorted(void) { return !memcmp(values, wanted, length * sizeof *values); }
+
 int main(int argc, char **argv) {
-    static double times[MAX_WAYS][MAX_ROUNDS];
-    if (argc < 5 || argc - 4 > MAX_WAYS || atoi(argv[3]) >= MAX_ROUNDS) return 1;
+    if (argc < 5) return 1;
     length = (size_t)atol(argv[1]), leaf = (size_t)atol(argv[2]);
-    int rounds = atoi(argv[3]);
     if (!length || !leaf) return 1;
     size_t bytes = length * sizeof(double);
-    double *wanted = malloc(bytes);
-    start = malloc(bytes), values = malloc(bytes), merged = malloc(bytes);
+    wanted = malloc(bytes), start = malloc(bytes), values = malloc(bytes), merged = malloc(bytes);
     parts = malloc((4 * (length / leaf + 1)) * sizeof *parts);
     if (!wanted || !start || !values || !merged || !parts) return 1;
     uint64_t seed = 1;
@@ -117,18 +116,7 @@ int main(int argc, char **argv) {
     }
     memcpy(wanted, start, bytes);
     qsort(wanted, length, sizeof *wanted, compare);
-    for (int r = 0; r <= rounds; r++) /* the first round is not counted */
-        for (int w = 4; w < argc; w++) {
-            memcpy(values, start, bytes);
-            double from = seconds_now();
-            go(argv[w]);
-            times[w - 4][r ? r - 1 : 0] = seconds_now() - from;
-            if (memcmp(values, wanted, bytes)) {
-                printf("%s: not sorted as by qsort\n", argv[w]);
-                return 2;
-            }
-        }
-    for (int w = 4; w < argc; w++) print_times(argv[w], count, times[w - 4], rounds);
+    measure((struct measured){prepare, go, is_sorted, &count}, argv[3], argv + 4, argc - 4);
     free(wanted), free(start), free(values), free(merged), free(parts);
     return 0;
 }

@@ -53,7 +53,7 @@ static void sort(part p) {
         p = smaller.from == less.from ? more : less;
         if (smaller.end - smaller.from <= leaf) {
             qsort(values + smaller.from, smaller.end - smaller.from, sizeof *values, compare);
-        } else if (gerfmuod_team_spawn(team, 0, 0, NULL, 0, 0, attach, &smaller, NULL)) {
+        } else if (gerfmuod_team_spawn(team, 0, NULL, 0, 0, attach, &smaller, NULL)) {
             __atomic_fetch_add(&inline_parts, 1, __ATOMIC_RELAXED); /* refused: there is no room for one more task */
             sort(smaller);
         }
@@ -71,8 +71,8 @@ static int body(void *context, uint32_t task) {
 static void by_pool(size_t length, uint32_t threads) {
     part whole = {0, length};
     made = run = inline_parts = 0;
-    need(gerfmuod_team_open(&team, 1), "open");
-    need(gerfmuod_team_spawn(team, 0, 0, NULL, 0, 0, attach, &whole, NULL), "the first task");
+    need(gerfmuod_team_open_traced(&team), "open"); /* of a trace there is a limit */
+    need(gerfmuod_team_spawn(team, 0, NULL, 0, 0, attach, &whole, NULL), "the first task");
     need(gerfmuod_team_run(team, threads, body, NULL), "run");
     gerfmuod_team_close(team);
 }

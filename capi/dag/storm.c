@@ -1,11 +1,11 @@
-/* storm.c: random graphs on teams of random sizes. Each body checks that its inputs are done, that its inputs from outside are
- * there, and that it runs for the first time. Its data has no lock and no atomics, so ThreadSanitizer also checks that the pool
+/* storm.c: random graphs on random numbers of threads. Each body checks that its inputs are done, that its inputs from outside are
+ * there, and that it runs for the first time. Its data has no lock and no atomics, so ThreadSanitizer also checks that the team
  * orders the bodies.
  *
  *   storm ROUNDS [SEED [early | FOLDER]]     early: threads report tasks as done before they run them; this has to be detected.
  *                                            Else each run writes its trace and its events into FOLDER
  *
- * Every second round runs on its own threads with gerfmuod_team_turn, which begin before the pool is started or after it.
+ * Every second round runs on its own threads with gerfmuod_team_turn, which begin before the start or after it.
  * Some rounds have a body that fails. One more thread releases the inputs from outside in random order, before the start and
  * after it. Every tenth graph is one task and then tasks that run on all threads at the same time. Of every third graph only
  * the beginning is described: its bodies make the other tasks. Many graphs run again, with gerfmuod_team_again. If the
@@ -24,13 +24,13 @@
 enum { MOST = 300, MOST_THREADS = 16, INPUTS = 4, OUTSIDE = 2 };
 
 static uint64_t seed = 88172645463325253u;
-static uint32_t tasks, nodes, threads, failing;
+static uint32_t tasks, threads, failing;
 static uint32_t described;        /* the number of tasks that are there before the run; bodies make the others */
 static uint32_t made;             /* the number of tasks that are there, if some are made by bodies; `making` protects it */
 static bool has_run;
 static pthread_mutex_t making = PTHREAD_MUTEX_INITIALIZER;
 static uint32_t meeting, arrived; /* the number of tasks that have to run at the same time, and the number that have begun */
-static uint8_t homes[MOST], classes[MOST];
+static uint8_t classes[MOST];
 static uint32_t offsets[MOST + 1], inputs[MOST * INPUTS];
 static uint32_t releases[MOST * OUTSIDE], release_count; /* the tasks of the inputs from outside, in the order of their release */
 static char has_ended[MOST], awaited[MOST], has_come[MOST];
@@ -66,26 +66,24 @@ static void draw_releases(bool is_first_run) {
 }
 
 static void draw_graph(void) {
-    nodes = 1 + below(GERFMUOD_DAG_MAX_NODES);
-    threads = nodes + below(MOST_THREADS - nodes + 1);
+    threads = 1 + below(MOST_THREADS);
     tasks = below(MOST);
     offsets[0] = 0;
     for (uint32_t t = 0; t < tasks; t++) {
-        homes[t] = (uint8_t)below(nodes);
-        classes[t] = (uint8_t)below(GERFMUOD_DAG_CLASSES);
+        classes[t] = (uint8_t)below(GERFMUOD_GRAPH_CLASSES);
         offsets[t + 1] = offsets[t];
         for (uint32_t k = t ? below(INPUTS + 1) : 0; k > 0; k--) inputs[offsets[t + 1]++] = t - 1 - below(t < 20 ? t : 20);
     }
-    failing = tasks && below(8) == 0 ? below(tasks) : GERFMUOD_DAG_NONE;
+    failing = tasks && below(8) == 0 ? below(tasks) : GERFMUOD_GRAPH_NONE;
     draw_releases(true);
 }
 
 /* One task, and then one for each thread, all of which have to run at the same time. */
 static void draw_meeting(void) {
-    nodes = 1, failing = GERFMUOD_DAG_NONE;
+    failing = GERFMUOD_GRAPH_NONE;
     meeting = threads = 2 + below(MOST_THREADS - 1);
     tasks = meeting + 1;
-    memset(homes, 0, sizeof homes), memset(classes, 0, sizeof classes);
+    memset(classes, 0, sizeof classes);
     for (uint32_t t = 0; t < tasks; t++) offsets[t + 1] = t, inputs[t] = 0;
 }
 
@@ -97,18 +95,13 @@ static void meet(void) {
     if (seconds_now() - from >= 10) wrong++;
 }
 
-/* Makes the next tasks of the graph, at least one if there is one. A node whose tasks are all done gets none: then it is made at
- * the node of the body. */
+/* Makes the next tasks of the graph, at least one if there is one. */
 static void make_tasks(uint32_t maker) {
     pthread_mutex_lock(&making);
     for (uint32_t left = 1 + maker % 3; left > 0 && made < tasks; left--) {
-        uint32_t t = made, number = GERFMUOD_DAG_NONE, count = offsets[t + 1] - offsets[t], outside = (uint8_t)awaited[t];
-        uint32_t refused = gerfmuod_team_spawn(team, homes[t], classes[t], inputs + offsets[t], count, outside, NULL, NULL, &number);
-        if (refused == GERFMUOD_DAG_INACTIVE && homes[t] != homes[maker]) {
-            homes[t] = homes[maker];
-            refused = gerfmuod_team_spawn(team, homes[t], classes[t], inputs + offsets[t], count, outside, NULL, NULL, &number);
-        }
-        if (refused == GERFMUOD_TEAM_STOPPED) break;
+        uint32_t t = made, number = GERFMUOD_GRAPH_NONE, count = offsets[t + 1] - offsets[t], outside = (uint8_t)awaited[t];
+        uint32_t refused = gerfmuod_team_spawn(team, classes[t], inputs + offsets[t], count, outside, NULL, NULL, &number);
+        if (refused == GERFMUOD_GRAPH_STOPPED) break;
         if (refused || number != t) wrong++;
         __atomic_store_n(&made, t + 1, __ATOMIC_RELEASE);
     }
@@ -134,10 +127,10 @@ static void *release_all(void *argument) {
         for (uint32_t i = 0; i < release_count; i++) {
             uint32_t t = releases[i];
             bool has_ended_early = __atomic_load_n(&has_run, __ATOMIC_RELAXED); /* a body failed */
-            if (t == GERFMUOD_DAG_NONE || (t >= __atomic_load_n(&made, __ATOMIC_ACQUIRE) && !has_ended_early)) continue;
-            releases[i] = GERFMUOD_DAG_NONE, left--;
+            if (t == GERFMUOD_GRAPH_NONE || (t >= __atomic_load_n(&made, __ATOMIC_ACQUIRE) && !has_ended_early)) continue;
+            releases[i] = GERFMUOD_GRAPH_NONE, left--;
             has_come[t]++;
-            if (gerfmuod_team_release(team, t) && failing == GERFMUOD_DAG_NONE) unreleased++;
+            if (gerfmuod_team_release(team, t) && failing == GERFMUOD_GRAPH_NONE) unreleased++;
             if (i % 7 == 0) sched_yield();
         }
     }
@@ -145,19 +138,18 @@ static void *release_all(void *argument) {
 }
 
 static void *turns(void *argument) {
-    uint32_t node = (uint32_t)(uintptr_t)argument, ran = GERFMUOD_DAG_NONE;
-    for (;;) {
-        gerfmuod_dag_answer answer = gerfmuod_team_turn(team, node, ran);
-        if (answer.refused || answer.told == GERFMUOD_DAG_OVER) return NULL;
+    for (uint32_t ran = GERFMUOD_GRAPH_NONE;;) {
+        gerfmuod_graph_answer answer = gerfmuod_team_turn(team, ran);
+        if (answer.next != GERFMUOD_GRAPH_RUN) return argument;
         ran = answer.number;
         if (is_early) { /* reports the task before it runs it */
-            answer = gerfmuod_team_turn(team, node, ran);
-            if (body(NULL, ran) || answer.refused || answer.told == GERFMUOD_DAG_OVER) return NULL;
+            answer = gerfmuod_team_turn(team, ran);
+            if (body(NULL, ran) || answer.next != GERFMUOD_GRAPH_RUN) return argument;
             ran = answer.number;
         }
         if (body(NULL, ran)) {
             gerfmuod_team_stop(team, ran);
-            return NULL;
+            return argument;
         }
     }
 }
@@ -165,14 +157,13 @@ static void *turns(void *argument) {
 static uint32_t run_own_threads(bool is_started_first) {
     pthread_t ids[MOST_THREADS];
     if (is_started_first) need(gerfmuod_team_start(team, threads), "start");
-    for (uint32_t w = 0; w < threads; w++)
-        need(pthread_create(&ids[w], NULL, turns, (void *)(uintptr_t)(w % nodes)) != 0, "pthread_create");
+    for (uint32_t w = 0; w < threads; w++) need(pthread_create(&ids[w], NULL, turns, NULL) != 0, "pthread_create");
     if (!is_started_first) {
         nanosleep(&(struct timespec){.tv_nsec = 1000000}, NULL); /* lets turns begin */
         need(gerfmuod_team_start(team, threads), "start");
     }
     for (uint32_t w = 0; w < threads; w++) pthread_join(ids[w], NULL);
-    return gerfmuod_team_turn(team, 0, GERFMUOD_DAG_NONE).refused;
+    return gerfmuod_team_turn(team, GERFMUOD_GRAPH_NONE).refused;
 }
 
 static bool is_complete(void) {
@@ -224,11 +215,11 @@ static bool run_is_well(uint32_t round, uint32_t run) {
     __atomic_store_n(&has_run, true, __ATOMIC_RELAXED);
     pthread_join(releasing, NULL);
     bool is_well = !wrong && !unreleased && is_sound();
-    if (failing == GERFMUOD_DAG_NONE) is_well &= !refused && is_complete();
-    else is_well &= refused == GERFMUOD_TEAM_STOPPED && gerfmuod_team_at(team) == failing && !has_ended[failing];
+    if (failing == GERFMUOD_GRAPH_NONE) is_well &= !refused && is_complete();
+    else is_well &= refused == GERFMUOD_GRAPH_STOPPED && gerfmuod_team_failed(team) == failing && !has_ended[failing];
     if (!is_well)
-        printf("round %u: %u tasks, %u nodes, %u threads: refused %u, %d bodies too early or twice, %d releases refused\n", round,
-               tasks, nodes, threads, refused, wrong, unreleased);
+        printf("round %u: %u tasks, %u threads: refused %u, %d bodies too early or twice, %d releases refused\n", round, tasks, threads,
+               refused, wrong, unreleased);
     return is_well;
 }
 
@@ -238,18 +229,18 @@ static bool round_is_well(uint32_t round) {
     clear_run();
     if (round % 10 == 0 && !is_early) draw_meeting();
     else draw_graph();
-    need(gerfmuod_team_open(&team, nodes), "open");
+    need(gerfmuod_team_open_traced(&team), "open");
     if (folder) need(gerfmuod_team_record(team, 2 * MOST), "record");
     described = made = round % 3 == 2 && tasks && !meeting && !is_early ? 1 + below(tasks) : tasks;
-    need(gerfmuod_team_describe(team, described, homes, classes, offsets, inputs), "describe");
+    need(gerfmuod_team_describe(team, described, classes, offsets, inputs, NULL), "describe");
     bool is_well = run_is_well(round, round);
     grown += described < tasks;
-    if (is_well && described < tasks && failing == GERFMUOD_DAG_NONE) is_well = gerfmuod_team_again(team) == GERFMUOD_DAG_WRONG_LIFE;
-    for (uint32_t again = below(3); again > 0 && is_well && failing == GERFMUOD_DAG_NONE && described == tasks; again--) {
+    if (is_well && described < tasks && failing == GERFMUOD_GRAPH_NONE) is_well = gerfmuod_team_again(team) == GERFMUOD_GRAPH_WRONG_LIFE;
+    for (uint32_t again = below(3); again > 0 && is_well && failing == GERFMUOD_GRAPH_NONE && described == tasks; again--) {
         need(gerfmuod_team_again(team), "again");
         clear_run();
         if (!meeting) draw_releases(false);
-        threads = meeting ? meeting : nodes + below(MOST_THREADS - nodes + 1);
+        threads = meeting ? meeting : 1 + below(MOST_THREADS);
         is_well = run_is_well(round, below(4)), repeated += is_well;
     }
     gerfmuod_team_close(team);

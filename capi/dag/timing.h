@@ -1,4 +1,4 @@
-/* timing.h: shared by the measured programs of this folder: a clock, and one line of milliseconds for each way of running. */
+/* timing.h: shared by the measured programs of this folder: a clock, and the times of some ways of running. */
 #ifndef TIMING_H
 #define TIMING_H
 #include <stdio.h>
@@ -26,5 +26,31 @@ static inline void print_times(const char *way, size_t units, const double *seco
     printf("%s %zu", way, units);
     for (int r = 0; r < rounds; r++) printf(" %.4f", seconds[r] * 1e3);
     printf("\n");
+}
+
+/* What is measured: how a round is prepared, and whether its result is right; and the number of tasks, which may be known later. */
+struct measured {
+    void (*prepare)(void);
+    void (*go)(const char *way);
+    int (*is_right)(void);
+    const size_t *units;
+};
+
+/* Runs each way in each round, of which the first is not counted, and prints the times. Exits the program if a result is wrong. */
+static inline void measure(struct measured it, const char *rounds_text, char **ways, int count) {
+    static double times[MAX_WAYS][MAX_ROUNDS];
+    int rounds = atoi(rounds_text);
+    need(count < 1 || count > MAX_WAYS || rounds >= MAX_ROUNDS, "the number of ways or of rounds");
+    for (int r = 0; r <= rounds; r++)
+        for (int w = 0; w < count; w++) {
+            it.prepare();
+            double from = seconds_now();
+            it.go(ways[w]);
+            times[w][r ? r - 1 : 0] = seconds_now() - from;
+            if (it.is_right()) continue;
+            printf("%s: the result is wrong\n", ways[w]);
+            exit(2);
+        }
+    for (int w = 0; w < count; w++) print_times(ways[w], *it.units, times[w], rounds);
 }
 #endif

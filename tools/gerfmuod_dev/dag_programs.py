@@ -24,18 +24,20 @@ C = [CC, "-std=c11", *WARNINGS, "-O2", "-g"]
 CPP = [CXX, "-std=c++17", *WARNINGS, "-O2"]
 FORTRAN = ["gfortran", "-std=f2018", "-Wall", "-Wextra", "-Wno-unused-dummy-argument", "-Werror", "-O2", "-fopenmp"]
 TEST_CLOCK = "-DGERFMUOD_PROFILE_TICKS=test_ticks"
-WRAPPED = ["-Wl,--wrap=malloc,--wrap=calloc,--wrap=realloc,--wrap=free,--wrap=pthread_create"]
+LOCKS = [f"pthread_{kind}_{call}" for kind in ("mutex", "cond") for call in ("init", "destroy")]
+WRAPPED = [f"-Wl,--wrap={name}" for name in ("malloc", "calloc", "realloc", "free", "pthread_create", *LOCKS)]
 # the endings of the files of capi/ that a compiler of each language checks
 ENDINGS = {"c": (".c", ".h"), "c++": (".cpp", ".hpp", ".h")}
 PAGE = "docs/YOUR-BODIES.md"
 SHAPES = ["wide", "chain", "wave", "stencil", "three"]
-# of the fuzz, in the quick form and in full
-CALLS, ALL_CALLS = 1_000_000, 10_000_000
+AS_IT_SHOULD_BE = ", 0 not as they should be"
+# graphs of the fuzz, in the quick form and in full
+GRAPHS, ALL_GRAPHS = 20_000, 200_000
 STORM, LONG_STORM = 100, 2000
 # of random graphs whose profiles are checked
 PROFILED, LONG_PROFILED = 40, 400
 # the faults that the model of fuzz.c has as an argument
-FUZZ_FAULTS = ["forgets", "loses", "holds"]
+FUZZ_FAULTS = ["forgets", "loses", "sleeps", "reorders"]
 
 
 CHOLESKY = Program("capi/dag/cholesky.c", C, [], [], ["-lm"])
@@ -44,52 +46,54 @@ CHOLESKY_OVER_BLAS = Program("capi/dag/cholesky.c", [*C, "-DHAVE_BLAS"], [], [],
 
 def programs(is_full):
     """Returns the programs in C and C++, with short or long runs of the fuzz and of random graphs."""
-    calls, rounds = (ALL_CALLS, LONG_STORM) if is_full else (CALLS, STORM)
+    graphs, rounds = (ALL_GRAPHS, LONG_STORM) if is_full else (GRAPHS, STORM)
     storm = [Run([str(rounds)], 0, f"{rounds} rounds"), Run(["200", "1", "early"], 1, "too early")]
-    fuzz = [Run(["200000", "2"], 0, "as the model says"), *(Run(["200000", "3", fault], 1, "expected") for fault in FUZZ_FAULTS)]
+    fuzz = [Run(["2000", "2"], 0, "as the model says"), *(Run(["2000", "3", fault], 1, "expected") for fault in FUZZ_FAULTS)]
     outside = [Run(["300", "8", "4"], 0, ", 0 wrong"), Run(["300", "8", "4", "early"], 1, " wrong")]
     sorted_by = ", 0 parts without one; sorted as by qsort"
-    # the second run has more parts than a pool has room for
+    # the second run has more parts than a traced team has room for
     spawn = [Run(["1500000", "4", "1", "4", "8"], 0, sorted_by), Run(["2500000", "2", "1", "4"], 0, "349522 tasks")]
-    small_jacobi = [["32", "16", "3", "1", "2x2", "2x2:1"]]
-    small_grain = [[shape, "200", "1", "1", "3x1"] for shape in SHAPES]
-    ways = ["loop", "1x1", "1x4", "2x2", "8x1"]
-    grains = [*ways[:-1], "2x2t", "8x1"]
+    small_jacobi = [["32", "16", "3", "1", "4", "4:1"]]
+    small_grain = [[shape, "200", "1", "1", "3"] for shape in SHAPES]
+    ways = ["loop", "1", "4", "8"]
+    grains = ["4t", *ways]
     # a graph of so many steps of Jacobi, run again and again
-    repeated = ["1x4:1", "2x2:2", "4x1:5"]
+    repeated = ["4:1", "4:2", "3:5"]
     return [
         # (these find a broken library soon)
-        Program("capi/dag/refusals.c", C, [Run([], 0, ", 0 not as they should be")], [["quick"]]),
-        Program("capi/dag/fuzz.c", C, fuzz, [["20000"]]),
+        Program("capi/dag/refusals.c", C, [Run([], 0, AS_IT_SHOULD_BE)], [["quick"]]),
+        Program("capi/dag/fuzz.c", C, fuzz, [["200"]]),
+        Program("capi/dag/fifo.c", C, [Run([], 0, AS_IT_SHOULD_BE)], [[]]),
+        Program("capi/dag/traces.c", C, [Run([], 0, "505 damages refused; ")], [[]]),
         Program("capi/dag/first.c", C, [Run([], 0, "3.844231")], [[]], ["-lm"]),
         Program("capi/dag/first.cpp", CPP, [Run([], 0, "3.844231")], [[]]),
         Program("capi/dag/exceptions.cpp", CPP, [Run([], 0, "\nas it should be")], [[]]),
-        Program("capi/dag/jacobi.c", C, [Run(["128", "16", "20", "1", *repeated, *ways], 0, "8x1 1280")], small_jacobi),
-        Program("capi/dag/cholesky.c", C, [Run(["256", "32", "1", *ways, "whole:1"], 0, "8x1 120")], [["64", "16", "1", "2x2"]], ["-lm"]),
-        Program("capi/dag/recursion.c", C, [Run(["100000", "500", "1", *ways], 0, "8x1 511")], [["2000", "100", "1", "2x2"]]),
-        Program("capi/dag/grain.c", C, [Run([shape, "5000", "10", "1", *grains], 0, "8x1 5000") for shape in SHAPES], small_grain),
+        Program("capi/dag/jacobi.c", C, [Run(["128", "16", "20", "1", *repeated, *ways], 0, "8 1280")], small_jacobi),
+        Program("capi/dag/cholesky.c", C, [Run(["256", "32", "1", *ways, "whole:1"], 0, "8 120")], [["64", "16", "1", "4"]], ["-lm"]),
+        Program("capi/dag/recursion.c", C, [Run(["100000", "500", "1", *ways], 0, "8 511")], [["2000", "100", "1", "4"]]),
+        Program("capi/dag/grain.c", C, [Run([shape, "5000", "10", "1", *grains], 0, "8 5000") for shape in SHAPES], small_grain),
         Program("capi/dag/outside.c", C, outside, [["30", "4", "2"]]),
         Program("capi/dag/spawn.c", C, spawn, [["20000", "4", "1", "4"]]),
         Program("capi/dag/growth.c", C, [Run(["6000000", "500", "4"], 0, "6000000 tasks, each ran once")], [["3000", "0", "1", "4"]]),
         Program("capi/dag/fibonacci.cpp", CPP, [Run(["20", "4"], 0, "6765, 32837 tasks; a loop: 6765")], [["12", "3"]]),
-        Program("capi/dag/failures.c", C, [Run([], 0, ", 0 not as they should be")], [], WRAPPED),
-        Program("capi/dag/failures.c", [*C, *ADDRESS], [Run([], 0, ", 0 not as they should be")], [], WRAPPED),
+        Program("capi/dag/failures.c", C, [Run([], 0, AS_IT_SHOULD_BE)], [], WRAPPED),
+        Program("capi/dag/failures.c", [*C, *ADDRESS], [Run([], 0, AS_IT_SHOULD_BE)], [], WRAPPED),
         Program("capi/dag/storm.c", C, storm, [["10"]]),
         Program("capi/dag/storm.c", [*C, *THREAD], storm[:1]),
         Program("capi/dag/storm.c", [*C, *ADDRESS], storm[:1]),
-        Program("capi/dag/overlaps.c", C, [Run([], 0, ", 0 not as they should be")], [[]]),
-        Program("capi/dag/overlaps.c", [*C, *ADDRESS], [Run([], 0, ", 0 not as they should be")]),
-        Program("capi/dag/profiles.c", [*C, TEST_CLOCK], [Run([], 0, ", 0 not as they should be")], [[]]),
-        Program("capi/dag/profiles.c", [*C, TEST_CLOCK, *ADDRESS], [Run([], 0, ", 0 not as they should be")]),
-        Program("capi/dag/fuzz.c", [*C, *ADDRESS], [Run([str(calls)], 0, "as the model says")]),
-        Program("capi/dag/refusals.c", [*C, *ADDRESS], [Run([], 0, ", 0 not as they should be")]),
+        Program("capi/dag/overlaps.c", C, [Run([], 0, AS_IT_SHOULD_BE)], [[]]),
+        Program("capi/dag/overlaps.c", [*C, *ADDRESS], [Run([], 0, AS_IT_SHOULD_BE)]),
+        Program("capi/dag/profiles.c", [*C, TEST_CLOCK], [Run([], 0, AS_IT_SHOULD_BE)], [[]]),
+        Program("capi/dag/profiles.c", [*C, TEST_CLOCK, *ADDRESS], [Run([], 0, AS_IT_SHOULD_BE)]),
+        Program("capi/dag/fuzz.c", [*C, *ADDRESS], [Run([str(graphs)], 0, "as the model says")]),
+        Program("capi/dag/refusals.c", [*C, *ADDRESS], [Run([], 0, AS_IT_SHOULD_BE)]),
     ]
 
 
 def sources(language, standard):
     """Returns the paths of the headers and of the programs of task graphs in a language; the programs need more than C99."""
     endings = ENDINGS[language]
-    own = [f"capi/{name}" for name in sorted(os.listdir("capi")) if re.match(r"gerfmuod(_dag|_team)?\.", name)]
+    own = [f"capi/{name}" for name in sorted(os.listdir("capi")) if re.match(r"gerfmuod(_graph|_team)?\.", name)]
     of_dag = [f"capi/dag/{name}" for name in sorted(os.listdir("capi/dag")) if name.endswith((".c", ".cpp")) and standard != "c99"]
     return [path for path in own + of_dag if path.endswith(endings)]
 
@@ -136,7 +140,7 @@ def run_c(tally, build, is_full):
 def check_profiles(tally, folder):
     """Counts whether each profile in a folder is well formed and that of the trace next to it, if there is one.
 
-    Removes the profiles, and returns how many there were. Of one with messages it also checks that faults are found.
+    Removes the profiles, and returns how many there were. Of one of a run that ended it also checks that faults are found.
     """
     texts = {}
     for path in sorted(f"{folder}/{name}" for name in os.listdir(folder) if name.endswith(".json")):
@@ -144,7 +148,7 @@ def check_profiles(tally, folder):
         found = profiles.faults(*texts[path])
         tally.judge(not found, f"{path}: {'; '.join(found)[:2000]}")
         os.remove(path)
-    sample = next(((text, trace) for text, trace in texts.values() if '"ph":"s"' in text and " ended " in trace), None)
+    sample = next(((text, trace) for text, trace in texts.values() if '"task"' in text and " ended " in trace), None)
     for number, text in enumerate(profiles.spoiled(sample[0]) if sample else ()):
         tally.judge(profiles.faults(text, sample[1]), f"fault {number} of a profile was not found")
     return len(texts)
@@ -163,7 +167,7 @@ def check_texts(tally, build, folder):
     """Runs Cholesky with times. `tools/dev summary` and the timeline have to have the numbers of the library's own summary, and
     Chromium's DevTools, if it is installed, the slices."""
     path, file = build.compile(CHOLESKY, tally), f"{folder}/cholesky.json"
-    result = path and start([path, "--profile", file, "256", "32", "1", "1x4"])
+    result = path and start([path, "--profile", file, "256", "32", "1", "4"])
     if not result or result.status:
         tally.fails(f"cholesky --profile: {result and result.description(2000)}")
         return
@@ -186,7 +190,7 @@ def run_profiles(tally, build, is_full):
     folder = tempfile.mkdtemp(dir=build.folder)
     own = [
         (Program("capi/dag/storm.c", C, []), [rounds, "1", folder], f"{rounds} rounds"),
-        (Program("capi/dag/grain.c", C, []), ["--profile", f"{folder}/grain.json", "three", "5000", "10", "1", "2x2"], "critical path"),
+        (Program("capi/dag/grain.c", C, []), ["--profile", f"{folder}/grain.json", "three", "5000", "10", "1", "4"], "critical path"),
     ]
     if has_sanitizer(THREAD, build.folder):
         own.append((Program("capi/dag/storm.c", [*C, *THREAD], []), [rounds, "2", folder], f"{rounds} rounds"))
@@ -198,7 +202,7 @@ def run_profiles(tally, build, is_full):
             judge(tally, [path, *arguments], Run([], 0, output))
             count += check_profiles(tally, folder)
     tally.judge(count >= 2 * PROFILED, f"only {count} profiles were checked")
-    print(f"the profiles of {count} runs, read as JSON: each task, message and wave of the trace once, no slices that overlap")
+    print(f"the profiles of {count} runs, read as JSON: each task of the trace once, no slices that overlap")
 
 
 def run_blas(tally, build):
@@ -208,7 +212,7 @@ def run_blas(tally, build):
         tally.skips("cholesky.c over OpenBLAS", "libopenblas-dev")
         return
     environment = {**os.environ, "OPENBLAS_NUM_THREADS": "1"}
-    judge(tally, [path, "512", "64", "1", "1x4", "2x2", "whole:1"], Run([], 0, "2x2 120"), env=environment)
+    judge(tally, [path, "512", "64", "1", "1", "4", "whole:1"], Run([], 0, "4 120"), env=environment)
     print("capi/dag/cholesky.c over OpenBLAS: 1 run")
 
 
@@ -252,7 +256,7 @@ def run_python(tally, library_folder, folder):
 
 def arguments(parser):
     parser.add_argument("--library", metavar="FOLDER", help="use libgerfmuod.a of this folder, whatever it was built from")
-    form = f"the long form: {ALL_CALLS:,} calls of the fuzz, {LONG_STORM:,} random graphs"
+    form = f"the long form: {ALL_GRAPHS:,} graphs of the fuzz, {LONG_STORM:,} on threads"
     parser.add_argument("--full", action="store_true", help=form)
 
 

@@ -71,7 +71,7 @@ def events_of_cholesky(library_folder, folder):
     if not any(dag_programs.succeeds(build.command(way, path)) for way in (dag_programs.CHOLESKY_OVER_BLAS, dag_programs.CHOLESKY)):
         return ""
     for _ in range(RUNS):
-        command = [path, "--profile", file, str(ORDER), str(TILE), "1", f"1x{THREADS}"]
+        command = [path, "--profile", file, str(ORDER), str(TILE), "1", str(THREADS)]
         if running.run(command, env={**os.environ, "OPENBLAS_NUM_THREADS": "1"}).status:
             return ""
         texts.append(text_of(file))

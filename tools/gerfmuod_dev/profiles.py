@@ -35,12 +35,6 @@ class Profile:
         begin = nanoseconds(event["ts"])
         return Slice(event["tid"], event["args"].get("task"), begin, begin + nanoseconds(event["dur"]))
 
-    def messages(self, phase):
-        return {event["id"]: nanoseconds(event["ts"]) for event in self.events[phase]}
-
-    def waves(self):
-        return {event["args"]["wave"]: nanoseconds(event["ts"]) for event in self.events["i"]}
-
 
 def order_faults(profile):
     """Yields what is wrong with the times: a slice that begins before the one before it in its thread ends, or that ends early."""
@@ -70,53 +64,18 @@ def worker_faults(profile):
 
 
 def task_faults(profile):
-    """Yields whether a task comes twice, or, if none is lost and the end was detected, is not there."""
+    """Yields whether a task comes twice."""
     tasks = [it.task for it in profile.bodies]
     if len(set(tasks)) < len(tasks):
         yield "a task comes twice"
-    if profile.waves() and not profile.about["lost_slices"] and sorted(tasks) != list(range(profile.about["tasks"])):
-        yield f"{len(tasks)} of {profile.about['tasks']} tasks"
-
-
-def message_faults(profile):
-    """Yields each arrow that has one end, comes twice, or arrives before it was sent."""
-    sent, received = profile.messages("s"), profile.messages("f")
-    if sent.keys() != received.keys() or len(sent) != len(profile.events["s"]) or len(received) != len(profile.events["f"]):
-        yield f"the ends of arrows: {len(profile.events['s'])} and {len(profile.events['f'])}"
-    for message in sent.keys() & received.keys():
-        if sent[message] > received[message]:
-            yield f"message {message} was sent at {sent[message]} and received at {received[message]}"
-
-
-def first_numbers(trace, word):
-    """Returns the first number of each line of a trace that begins with this word."""
-    return [int(number) for number in re.findall(rf"^{word} (\d+)", trace, re.M)]
 
 
 def trace_faults(profile, trace):
-    """Yields where the tasks, messages or waves are not those of the trace, each once."""
-    tasks, begun = sorted(it.task for it in profile.bodies), sorted(first_numbers(trace, "begin"))
+    """Yields whether the tasks are not those that began in the trace, each once."""
+    tasks = sorted(it.task for it in profile.bodies)
+    begun = sorted(int(number) for number in re.findall(r"^begin (\d+)", trace, re.M))
     if tasks != begun:
         yield f"the tasks are {tasks}, those of the trace {begun}"
-    sent = {int(number) for number in re.findall(r"^send \d+ \d+ (\d+)", trace, re.M)}
-    is_over = " ended " in trace
-    if not profile.messages("s").keys() <= sent or is_over and profile.messages("s").keys() != sent:
-        yield f"the messages are {sorted(profile.messages('s'))}, those of the trace {sorted(sent)}"
-    waves, started = sorted(event["args"]["wave"] for event in profile.events["i"]), len(re.findall(r"^start$", trace, re.M))
-    if is_over and waves != list(range(1, started + 1)):
-        yield f"the waves are {waves}, of the trace {started}"
-    ended = re.findall(r"^judge ended (\d+)", trace, re.M)
-    marked = [str(event["args"]["wave"]) for event in profile.events["i"] if event["name"].endswith("the end")]
-    if marked != ended:
-        yield f"the wave that detected the end is {marked}, of the trace {ended}"
-
-
-def wave_faults(profile):
-    """Yields each wave that ran before a body had ended."""
-    last = max((it.end for it in profile.bodies), default=0)
-    for wave, at in profile.waves().items():
-        if at < last:
-            yield f"wave {wave} is at {at}, a body ends at {last}"
 
 
 def faults(text, trace=""):
@@ -125,21 +84,19 @@ def faults(text, trace=""):
         profile = Profile(text)
     except (ValueError, KeyError) as error:
         return [f"not trace events: {error!r}"]
-    checks = (order_faults, worker_faults, message_faults, wave_faults, task_faults)
+    checks = (order_faults, worker_faults, task_faults)
     found = [*event_format.faults(text), *(fault for check in checks for fault in check(profile))]
     return [*found, *trace_faults(profile, trace)] if trace else found
 
 
 def spoiled(text):
-    """Yields a text with one fault each: an event of each kind that is not there, or comes twice, or a body that lasts longer."""
+    """Yields a text with one fault each: a body that is not there, comes twice, or lasts longer."""
     content = json.loads(text)
     events = content["traceEvents"]
-    for phase in "Xsfi":
-        place = next(place for place, event in enumerate(events) if event["ph"] == phase and event["cat"] != "wait")
-        event = events[place]
-        changes = [[], [event, event], *([[{**event, "dur": event["dur"] + 1e6}]] if phase == "X" else [])]
-        for change in changes:
-            yield json.dumps({**content, "traceEvents": [*events[:place], *change, *events[place + 1 :]]})
+    place = next(place for place, event in enumerate(events) if event["ph"] == "X" and event["cat"] == "task")
+    event = events[place]
+    for change in [], [event, event], [{**event, "dur": event["dur"] + 1e6}]:
+        yield json.dumps({**content, "traceEvents": [*events[:place], *change, *events[place + 1 :]]})
 
 
 def wave_sum_faults(waves):

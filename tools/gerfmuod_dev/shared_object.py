@@ -13,7 +13,7 @@ import tempfile
 
 from .repository import TOP
 
-HEADERS = [f"capi/{name}" for name in ("gerfmuod_tsan.h", "gerfmuod_dag.h", "gerfmuod_team.h", "gerfmuod.hpp", "gerfmuod.f90")]
+HEADERS = [f"capi/{name}" for name in ("gerfmuod_tsan.h", "gerfmuod_graph.h", "gerfmuod_team.h", "gerfmuod.hpp", "gerfmuod.f90")]
 CALLS = "capi/gerfmuod_calls.c"
 TEAM = "capi/gerfmuod_team.c"
 # each part in C, and a symbol of it

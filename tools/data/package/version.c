@@ -1,6 +1,6 @@
 /* version.c: prints the version of an installed library; fails if it is not that of the headers. */
 #include <gerfmuod.h>
-#include <gerfmuod_dag.h>
+#include <gerfmuod_graph.h>
 #include <gerfmuod_process.h>
 #include <gerfmuod_team.h>
 #include <stdio.h>

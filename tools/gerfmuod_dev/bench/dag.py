@@ -50,8 +50,8 @@ class Way:
     workers: int = 1
 
 
-POOL = [Way("pool", "1x1"), Way("pool", "1x4", 1, WORKERS), Way("pool", "2x2", 2, 2)]
-TRACED = Way("pool with a trace", "1x1t")
+POOL = [Way("pool", "1"), Way("pool", str(WORKERS), 1, WORKERS)]
+TRACED = Way("pool with a trace", "1t")
 LOOP, OPENMP = Way("one after the other", "loop"), Way("OpenMP tasks", f"omp:{WORKERS}", 1, WORKERS)
 OPENMP_ALONE = Way("OpenMP tasks", "omp:1")
 

@@ -8,7 +8,7 @@ import re
 from . import roff
 from ..repository import text_of
 
-HEADERS = ("gerfmuod.h", "gerfmuod_process.h", "gerfmuod_dag.h", "gerfmuod_team.h")
+HEADERS = ("gerfmuod.h", "gerfmuod_process.h", "gerfmuod_graph.h", "gerfmuod_team.h")
 COMMENT = re.compile(r"/\*(.*?)\*/\s*", re.S)
 # blocks of code that say nothing to a reader: guards, includes, and checks of the layout
 GUARD = re.compile(r"#ifndef \w+_H\n#define \w+_H\n?|#include .*|#endif|#(?:ifdef|if defined).*__(?:cplusplus|SANITIZE)[^\n]*")
