@@ -163,14 +163,14 @@ class Pool {
             static_assert(std::is_invocable_v<Own &>, "a body is called without arguments");
             if constexpr (is_small<Own>) {
                 new (room) Own(std::forward<F>(body));
-                act = [](void *own, bool calls) {
-                    if (calls) (*std::launder(static_cast<Own *>(own)))();
+                act = [](void *own, bool is_call) {
+                    if (is_call) (*std::launder(static_cast<Own *>(own)))();
                 };
             } else {
                 new (room) Own *(new Own(std::forward<F>(body)));
-                act = [](void *pointer, bool calls) {
+                act = [](void *pointer, bool is_call) {
                     Own *own = *std::launder(static_cast<Own **>(pointer));
-                    if (calls) (*own)();
+                    if (is_call) (*own)();
                     else delete own;
                 };
             }
@@ -195,7 +195,7 @@ class Pool {
         }
 
         alignas(void *) unsigned char room[most] = {};
-        void (*act)(void *room, bool calls) = nullptr; // calls the body, or destroys it
+        void (*act)(void *room, bool is_call) = nullptr; // calls the body, or destroys it
     };
 
     std::uint32_t number_of(Task task) const {
