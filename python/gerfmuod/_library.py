@@ -9,7 +9,6 @@ from typing import Any, Iterator
 NAME = "libgerfmuod.so.0"
 #: No task has this number.
 NONE = 0xFFFFFFFF
-OK = 0
 NOT_STARTED = 65
 #: What a turn returns if it returns a task.
 RUN = 1

@@ -9,7 +9,7 @@ import signal
 import threading
 from typing import Any, Callable, Dict, Generic, Iterable, Iterator, List, NamedTuple, Optional, Tuple, TypeVar, Union
 
-from ._library import NONE, NOT_STARTED, OK, RUN, Team, library
+from ._library import NONE, NOT_STARTED, RUN, Team, library
 from ._refused import Refused
 
 Result = TypeVar("Result")
@@ -51,13 +51,9 @@ class _Job(NamedTuple):
     keywords: Dict[str, Any]
 
     def run(self) -> None:
-        values = [_value(it) for it in self.arguments]
         keywords = {name: _value(it) for name, it in self.keywords.items()}
-        self.task._result = self.function(*values, **keywords)
+        self.task._result = self.function(*map(_value, self.arguments), **keywords)
         self.task._is_done = True
-
-    def forget(self) -> None:
-        self.task._result, self.task._is_done = None, False
 
 
 class _Run:
@@ -121,28 +117,24 @@ class _Run:
             self.fail(error, done)
 
 
-class _Interrupts:
+@contextlib.contextmanager
+def _interrupts(catch: Callable[[BaseException], None]) -> Iterator[None]:
     """While it is entered, an exception of the handler of SIGINT is passed on instead of being raised anywhere in between."""
+    handler: Any = signal.getsignal(signal.SIGINT) if threading.current_thread() is threading.main_thread() else None
 
-    def __init__(self, catch: Callable[[BaseException], None]) -> None:
-        self.catch = catch
-        self.handler: Any = None
-
-    def __enter__(self) -> None:
-        if threading.current_thread() is threading.main_thread():
-            self.handler = signal.getsignal(signal.SIGINT)
-        if callable(self.handler):
-            signal.signal(signal.SIGINT, self._handle)
-
-    def __exit__(self, *_: object) -> None:
-        if callable(self.handler):
-            signal.signal(signal.SIGINT, self.handler)
-
-    def _handle(self, number: int, frame: Any) -> None:
+    def handle(number: int, frame: Any) -> None:
         try:
-            self.handler(number, frame)
+            handler(number, frame)
         except BaseException as error:
-            self.catch(error)
+            catch(error)
+
+    if callable(handler):
+        signal.signal(signal.SIGINT, handle)
+    try:
+        yield
+    finally:
+        if callable(handler):
+            signal.signal(signal.SIGINT, handler)
 
 
 class Pool:
@@ -152,11 +144,10 @@ class Pool:
         traced: whether the pool keeps the events of a run for :meth:`trace`. Then it can have
             349,522 tasks; without, 134,217,728, and a run takes less time and memory.
 
-    Raises:
-        Refused: ``NoMemory``.
-
     :meth:`run` calls the functions of the tasks on several threads. Any thread, also a function of
-    a task, may call each method; while the pool runs, some raise RuntimeError.
+    a task, may call :meth:`task`, :meth:`outside`, :meth:`release` and :meth:`stop`. The other
+    methods raise RuntimeError while the pool runs. All raise ValueError if the pool is closed,
+    TypeError if an argument is no task or no integer, and Refused as the library's calls.
     """
 
     def __init__(self, *, traced: bool = False) -> None:
@@ -186,18 +177,15 @@ class Pool:
 
         Args:
             function: the function that the task calls.
-            arguments: the arguments of the function. An argument that is a task of this pool is
+            arguments, keywords: the arguments of the function. One that is a task of this pool is
                 replaced by its result, and the new task waits for it. Tasks inside lists and other
                 values are not found.
             after: further tasks that the new task waits for.
             priority: the class of the task, 0 to 3. Ready tasks with a lower number run first.
             releases: how many calls of :meth:`release` the task waits for.
-            keywords: arguments of the function with other names; tasks among them as above.
 
         Raises:
-            TypeError: the function cannot be called, ``after`` has something other than tasks, or a
-                number is no integer.
-            ValueError: a task is of another pool, the pool is closed, or a number is negative.
+            ValueError: a task is of another pool, or a number is negative.
             Refused: ``BadSpec`` (priority), ``Ended`` if all tasks are done, ``HistoryFull``,
                 ``NoMemory``, and ``Stopped``.
         """
@@ -228,8 +216,7 @@ class Pool:
         a task may call this while it runs, for a task that waits for its own.
 
         Raises:
-            TypeError: it is no task.
-            ValueError: the task is of another pool, or the pool is closed.
+            ValueError: the task is of another pool.
             Refused: ``WrongLife`` if the task has begun, or if the pool runs and the task is ready;
                 ``HistoryFull`` if it awaits 1,048,576 of them; ``Stopped`` if the pool has stopped.
         """
@@ -243,8 +230,7 @@ class Pool:
         or call :meth:`stop`.
 
         Raises:
-            TypeError: it is no task.
-            ValueError: the task is of another pool, or the pool is closed.
+            ValueError: the task is of another pool.
             Refused: ``WrongLife`` if the task awaits none; ``Stopped`` if the pool has stopped.
         """
         team, number = self._open_team(), self._number_of(task)
@@ -259,8 +245,7 @@ class Pool:
                 interpreter's lock, as those of numpy do.
 
         Raises:
-            TypeError, ValueError: ``threads`` is no integer, or less than 1; the pool is closed.
-            RuntimeError: the pool runs.
+            ValueError: there are fewer than 1 threads.
             Refused: ``NotStarted`` if the system started too few threads, ``Ended`` if the pool has
                 run, ``HistoryFull`` if it is traced and has too many tasks, ``NoMemory``, and
                 ``Stopped`` if it was stopped.
@@ -271,7 +256,7 @@ class Pool:
         """
         count = _processors() if threads is None else _number("threads", threads, 1)
         run = _Run(self._open_team(), self._jobs)
-        with _Interrupts(run.fail):
+        with _interrupts(run.fail):
             if not self._running.acquire(blocking=False):
                 raise RuntimeError("the pool runs")
             try:
@@ -280,16 +265,17 @@ class Pool:
                 run.run(count)
             finally:
                 self._running.release()
-        self._raise_first(run)
+        if run.errors:
+            (error, number), _ = run.errors[0], run.errors.clear()
+            self._failed = None if number == NONE else run.jobs[number].task
+            try:
+                raise error
+            finally:
+                del error  # it refers to this frame
         _check(run.team, library.gerfmuod_team_fault(run.team))
 
     def stop(self) -> None:
-        """Ends the run: functions that run are finished, no further one begins, and ``run`` raises
-        ``Refused``. If all tasks are done, nothing changes.
-
-        Raises:
-            ValueError: the pool is closed.
-        """
+        """Ends the run: functions that run are finished, no further one begins, and ``run`` raises ``Refused``."""
         library.gerfmuod_team_stop(self._open_team(), NONE)
 
     @property
@@ -304,23 +290,16 @@ class Pool:
         :meth:`outside` after this call.
 
         Raises:
-            ValueError: the pool is closed.
-            RuntimeError: the pool runs.
             Refused: ``WrongLife`` if the pool has not run, or if tasks were added in the run;
                 ``Stopped`` if it was stopped.
         """
         with self._at_rest() as team:
             _check(team, library.gerfmuod_team_again(team))
             for job in self._jobs:
-                job.forget()
+                job.task._result, job.task._is_done = None, False
 
     def trace(self) -> str:
-        """Returns the events of the run as a trace, which ``tp audit`` judges; empty without ``traced``.
-
-        Raises:
-            ValueError: the pool is closed.
-            RuntimeError: the pool runs.
-        """
+        """Returns the events of the run as a trace, which ``tp audit`` judges; empty without ``traced``."""
         with self._at_rest() as team:
             length = library.gerfmuod_team_trace(team, None, 0)
             buffer = ctypes.create_string_buffer(length + 1)
@@ -334,8 +313,6 @@ class Pool:
             slices: how many functions and waits each thread keeps, the newest; 0 ends recording.
 
         Raises:
-            TypeError, ValueError: ``slices`` is no integer, or negative; the pool is closed.
-            RuntimeError: the pool runs.
             Refused: ``WrongLife`` if the pool has a task; ``NoMemory``.
         """
         number = _number("slices", slices)
@@ -346,9 +323,7 @@ class Pool:
         """Writes the last run to a file, in Chrome's trace event format.
 
         Raises:
-            ValueError: the pool is closed.
             OSError: the file cannot be opened.
-            RuntimeError: the pool runs.
             Refused: ``WrongLife`` if no run was recorded, ``NoMemory``, and ``NotWritten`` if not
                 all of the file could be written.
         """
@@ -362,13 +337,10 @@ class Pool:
         """Frees the pool, which until then keeps all functions, arguments and results.
 
         Results may still be used. A pool that is no longer referenced is closed as well.
-
-        Raises:
-            RuntimeError: the pool runs.
         """
-        with self._free_lock():
-            self._check_rest()
-            self._team, self._jobs = None, []
+        if self._team is not None:
+            with self._at_rest():
+                self._team, self._jobs = None, []
 
     def __enter__(self) -> "Pool":
         return self
@@ -404,15 +376,12 @@ class Pool:
             raise ValueError("the pool is closed")
         return self._team
 
-    def _check_rest(self) -> None:
-        if self._running.locked():
-            raise RuntimeError("the pool runs")
-
     @contextlib.contextmanager
     def _at_rest(self) -> Iterator[Team]:
         """Lets no run begin while it is entered."""
         with self._free_lock():
-            self._check_rest()
+            if self._running.locked():
+                raise RuntimeError("the pool runs")
             yield self._open_team()
 
     def _free_lock(self) -> threading.RLock:
@@ -421,19 +390,10 @@ class Pool:
             self._lock.release()
         return self._lock
 
-    def _raise_first(self, run: _Run) -> None:
-        if run.errors:
-            (error, number), _ = run.errors[0], run.errors.clear()
-            self._failed = None if number == NONE else run.jobs[number].task
-            try:
-                raise error
-            finally:
-                del error  # the exception refers to this frame
-
 
 def _check(team: Team, refused: int, task: int = NONE) -> None:
     """Raises an exception if a call about a task, or about none, was refused."""
-    if refused != OK:
+    if refused:
         is_fault = refused == library.gerfmuod_team_fault(team)
         raise Refused(refused, library.gerfmuod_team_failed(team) if is_fault else task)
 
@@ -444,9 +404,7 @@ def _value(argument: Any) -> Any:
 
 def _processors() -> int:
     """Returns the number of processors that this process may use."""
-    if hasattr(os, "sched_getaffinity"):
-        return len(os.sched_getaffinity(0))
-    return os.cpu_count() or 1
+    return len(os.sched_getaffinity(0)) if hasattr(os, "sched_getaffinity") else os.cpu_count() or 1
 
 
 def _number(name: str, value: int, least: int = 0) -> int:

@@ -7,30 +7,23 @@ import time
 
 from gerfmuod import Pool
 
-RUNS = 300
-
 
 def interrupt(delay):
     time.sleep(delay)
     os.kill(os.getpid(), signal.SIGINT)
 
 
-def run():
-    with Pool() as pool:
-        first = pool.task(time.sleep, 0.0002)
-        last = [pool.task(bytes, 1000, after=[first]) for _ in range(10)][-1]
-        pool.outside(last)
-        pool.run(3)
-
-
 signal.signal(signal.SIGINT, signal.default_int_handler)
 draw, interrupted = random.Random(1), 0
-for _ in range(RUNS):
+for _ in range(300):
     sender = threading.Thread(target=interrupt, args=(draw.random() * 0.003,))
     try:
         sender.start()
-        run()
+        with Pool() as pool:
+            first = pool.task(time.sleep, 0.0002)
+            pool.outside([pool.task(bytes, 1000, after=[first]) for _ in range(10)][-1])
+            pool.run(3)
     except KeyboardInterrupt:
         interrupted += 1
     sender.join()
-print(f"{interrupted} of {RUNS} runs were interrupted")
+print(f"{interrupted} of 300 runs were interrupted")

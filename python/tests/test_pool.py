@@ -32,19 +32,13 @@ class Results(Case):
         pool.run(threads=3)
         self.assertEqual((a.result, b.result, c.result, pool.failed), (2, 5, (2, "y", 5), None))
 
-    def test_a_result_before_the_run_raises(self):
-        pool = Pool()
-        a = pool.task(int)
-        self.assertRaises(RuntimeError, lambda: a.result)
-        self.assertEqual((repr(a), type(a)), ("<Task 0>", Task))
-        pool.run(1)
-        self.assertEqual(repr(a), "<Task 0, done>")
-
-    def test_results_outlive_the_pool(self):
+    def test_a_result_is_there_from_the_run_on(self):
         with Pool() as pool:
             a = pool.task(lambda: "kept")
-            pool.run(2)
-        self.assertEqual(a.result, "kept")
+            self.assertRaises(RuntimeError, lambda: a.result)
+            self.assertEqual((repr(a), type(a)), ("<Task 0>", Task))
+            pool.run(1)
+        self.assertEqual((a.result, repr(a)), ("kept", "<Task 0, done>"))
 
     def test_a_pool_that_has_run_is_freed_at_once(self):
         for function in (int, lambda: 1 // 0):
@@ -97,18 +91,22 @@ class Misuse(Case):
             *((TypeError, lambda it: pool.task(int, releases=it), it) for it in (1.0, "1", None)),
             *((ValueError, lambda it: pool.task(int, releases=it), it) for it in (-1, 2**32)),
             *((error, pool.run, it) for error, it in ((ValueError, 0), (ValueError, -1), (TypeError, 2.0), (TypeError, "2"))),
-            *((error, call, it) for call in (pool.outside, pool.release) for error, it in ((TypeError, None), (TypeError, 0), (ValueError, other))),
-            *((ValueError, call) for call in (lambda: pool.task(int, other), lambda: pool.task(int, x=other), lambda: pool.task(int, after=[other]))),
-            (TypeError, Pool, 3),
-            (TypeError, pool.task, 3),
-            (TypeError, pool.task),
-            (TypeError, pool.record, 1.5),
+            *((TypeError, call, it) for call in (pool.outside, pool.release) for it in (None, 0, [task])),
+            *((ValueError, call, other) for call in (pool.outside, pool.release, lambda it: pool.task(int, it))),
+            *((ValueError, call) for call in (lambda: pool.task(int, x=other), lambda: pool.task(int, after=[other]))),
+            *((TypeError, *call) for call in ((Pool, 3), (pool.task, 3), (pool.task,), (pool.record, 1.5))),
         ):
             self.assertRaises(error, call, *arguments)
-        self.refused("BadSpec", lambda: pool.task(int, priority=4))
-        self.refused("HistoryFull", lambda: pool.task(int, releases=2**21))
+
+        def use():  # before the run, and in it
+            self.refused("BadSpec", lambda: pool.task(int, priority=4))
+            self.refused("HistoryFull", lambda: pool.task(int, releases=2**21))
+            pool.task(ran.append, len(pool))
+
+        use()
+        pool.task(use)
         pool.run(2)
-        self.assertEqual((len(pool), ran, pool.failed), (1, [0], None))
+        self.assertEqual((len(pool), sorted(ran), pool.failed), (4, [0, 1, 3], None))
 
     def test_a_pool_runs_once(self):
         pool = Pool()
@@ -188,17 +186,6 @@ class Growth(Case):
         pool.run(3)
         self.assertEqual(total.result, 6)
 
-    def test_a_refused_task_leaves_nothing_behind(self):
-        pool, ran = Pool(), []
-
-        def make():
-            self.refused("BadSpec", lambda: pool.task(ran.append, "wrong", priority=4))
-            pool.task(ran.append, "new")
-
-        pool.task(make)
-        pool.run(2)
-        self.assertEqual((ran, len(pool)), (["new"], 2))
-
 
 def deliver(pool, task, data, value):
     """What a task or another thread does: it writes a value, and releases the task that waits for it."""
@@ -226,11 +213,8 @@ class Outside(Case):
     def test_a_function_announces_an_input_of_a_task_that_waits_for_it(self):
         pool, data = Pool(), []
 
-        def begin():
-            pool.outside(last)
-            threading.Timer(0.02, deliver, (pool, last, data, "there")).start()
-
-        last = pool.task(data.__getitem__, 0, after=[pool.task(begin)])
+        timer = threading.Timer(0.02, lambda: deliver(pool, last, data, "there"))
+        last = pool.task(data.__getitem__, 0, after=[pool.task(lambda: pool.outside(last) or timer.start())])
         pool.run(2)
         self.assertEqual(last.result, "there")
 
@@ -339,7 +323,3 @@ class Times(Case):
             with self.assertRaises(OSError) as caught:
                 pool.profile(folder)
             self.assertEqual((caught.exception.errno, caught.exception.filename), (errno.EISDIR, folder))
-
-
-if __name__ == "__main__":
-    unittest.main()
