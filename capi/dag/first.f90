@@ -21,9 +21,7 @@ program first
   type(c_ptr) :: team
   integer(c_int32_t) :: refused
   refused = gerfmuod_team_open(team)
-  if (refused == 0) refused = gerfmuod_team_task(team, 0, gerfmuod_no_inputs, 0_c_size_t)
-  if (refused == 0) refused = gerfmuod_team_task(team, 0, gerfmuod_no_inputs, 0_c_size_t)
-  if (refused == 0) refused = gerfmuod_team_task(team, 0, [0, 1], 2_c_size_t)
+  if (refused == 0) refused = gerfmuod_team_describe(team, 3, offsets=[0, 0, 0, 2], inputs=[0, 1])
   if (refused == 0) refused = gerfmuod_team_run(team, 4, c_funloc(run_task), c_null_ptr)
   if (refused /= 0) print '(3a)', gerfmuod_name(refused), ': ', gerfmuod_meaning(refused)
   if (refused == 0) print '(f8.6)', z ! 3.844231
