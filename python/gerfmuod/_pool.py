@@ -161,7 +161,7 @@ class Pool:
         self._jobs: List[_Job] = []
         self._newest = ctypes.c_uint32(NONE)  # the last task's number, which the library writes
         self._failed: "Optional[Task[Any]]" = None
-        self._lock = threading.RLock()  # held while a task gets its number, and by calls that the library takes one at a time
+        self._lock: Any = threading.RLock()  # held while a task gets its number, and by calls that the library takes one at a time
         self._running = threading.Lock()  # held in a run
 
     def task(
@@ -266,7 +266,8 @@ class Pool:
             finally:
                 self._running.release()
         if run.errors:
-            (error, number), _ = run.errors[0], run.errors.clear()
+            error, number = run.errors[0]
+            run.errors.clear()
             self._failed = None if number == NONE else run.jobs[number].task
             try:
                 raise error
@@ -384,7 +385,7 @@ class Pool:
                 raise RuntimeError("the pool runs")
             yield self._open_team()
 
-    def _free_lock(self) -> threading.RLock:
+    def _free_lock(self) -> Any:
         """Returns the lock. If an interrupt came between the end of a with statement and its release, this thread releases it."""
         while self._lock._is_owned():
             self._lock.release()

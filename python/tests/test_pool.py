@@ -275,9 +275,10 @@ class Interrupts(Case):
                 pool.task(int, first)
                 pool.run(2)
 
+        before = threading.active_count()
         for _ in self.interrupted(run):
             self.assertIs(signal.getsignal(signal.SIGINT), signal.default_int_handler)
-            self.assertEqual(threading.active_count(), 1)
+            self.assertLessEqual(threading.active_count(), before)
 
     def test_runs_that_are_interrupted_at_random_times(self):
         command = [sys.executable, "-X", "faulthandler", os.path.join(os.path.dirname(__file__), "interrupted.py")]
