@@ -18,7 +18,6 @@
 
 #include <algorithm>
 #include <array>
-#include <atomic>
 #include <cstddef>
 #include <cstdint>
 #include <cstdio>
@@ -114,10 +113,10 @@ class Pool {
     // Runs all tasks on `threads` threads, of which the caller is one. Throws the first exception that a body threw; failed()
     // is then the task of that body. Throws Refused as gerfmuod_team_run.
     void run(std::uint32_t threads = default_threads()) {
-        if (is_in_run.exchange(true)) throw Refused(GERFMUOD_GRAPH_RUNNING);
+        if (exchange_in_run(true)) throw Refused(GERFMUOD_GRAPH_RUNNING);
         std::uint32_t refused = gerfmuod_team_run(team.get(), threads, call, this);
         std::exception_ptr first = std::exchange(thrown, nullptr);
-        is_in_run = false;
+        exchange_in_run(false);
         if (first) std::rethrow_exception(first);
         check(refused);
     }
@@ -198,6 +197,13 @@ class Pool {
         void (*act)(void *room, bool is_call) = nullptr; // calls the body, or destroys it
     };
 
+    // Returns a number that no other pool of this process has.
+    static std::uint64_t next_id() {
+        static std::mutex lock_of_ids;
+        static std::uint64_t last = 0;
+        return std::lock_guard<std::mutex>(lock_of_ids), ++last;
+    }
+    bool exchange_in_run(bool now) { return std::lock_guard<std::mutex>(lock), std::exchange(is_in_run, now); }
     std::uint32_t number_of(Task task) const {
         if (task.pool != id) throw std::invalid_argument("a task of no pool, or of another one");
         return task.own;
@@ -243,12 +249,11 @@ class Pool {
         return blocks[block][place];
     }
 
-    inline static std::atomic<std::uint64_t> pools{0};
-    const std::uint64_t id = ++pools;
+    const std::uint64_t id = next_id();
     const bool keeps_bodies;
     std::unique_ptr<gerfmuod_team, Close> team;
-    std::atomic<bool> is_in_run{false};
     mutable std::mutex lock; // of what follows; a body is read without it: its task was taken after it was written
+    bool is_in_run = false;
     std::uint32_t count = 0;
     std::array<std::unique_ptr<Body[]>, 22> blocks; // for more tasks than a pool can have
     std::exception_ptr thrown;
