@@ -235,14 +235,19 @@ static bool records() {
 }
 
 int main() {
-    using Test = bool (*)();
-    const std::pair<const char *, Test> tests[] = {
-        {"sums", sums},   {"takes_any_body", takes_any_body},
-        {"stops", stops}, {"destroys", destroys},
-        {"grows", grows}, {"refuses_tasks_of_others", refuses_tasks_of_others},
-        {"waits", waits}, {"keeps_the_exception", keeps_the_exception},
-        {"repeats", repeats}, {"refuses", refuses},
-        {"records", records}};
+    const std::pair<const char *, bool (*)()> tests[] = {
+        {"sums", sums},
+        {"takes_any_body", takes_any_body},
+        {"destroys", destroys},
+        {"stops", stops},
+        {"refuses", refuses},
+        {"refuses_tasks_of_others", refuses_tasks_of_others},
+        {"grows", grows},
+        {"waits", waits},
+        {"repeats", repeats},
+        {"keeps_the_exception", keeps_the_exception},
+        {"records", records},
+    };
     bool well = true;
     for (auto [name, test] : tests)
         if (!test()) well = false, std::printf("%s: not as it should be\n", name);
