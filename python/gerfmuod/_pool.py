@@ -268,7 +268,8 @@ class Pool:
         if run.errors:
             error, number = run.errors[0]
             run.errors.clear()
-            self._failed = None if number == NONE else run.jobs[number].task
+            if number != NONE:
+                self._failed = run.jobs[number].task
             try:
                 raise error
             finally:

@@ -1,5 +1,6 @@
 """Tests of the package: results, order, threads, refusals, misuse, exceptions, interrupts, traces, recorded times."""
 import errno
+import functools
 import json
 import os
 import pickle
@@ -65,13 +66,12 @@ class Order(Case):
             pool.run(threads)
             self.assertEqual(sorted(ended), list(range(100)))
             place = {t: k for k, t in enumerate(ended)}
-            for t, mine in enumerate(inputs):
-                self.assertTrue(all(place[s] < place[t] for s in mine))
+            self.assertTrue(all(place[s] < place[t] for t, mine in enumerate(inputs) for s in mine))
 
     def test_a_lower_priority_number_runs_first(self):
         pool, ended = Pool(), []
-        for priority in (3, 0, 2, 1):
-            pool.task(ended.append, priority, priority=priority)
+        for number in (3, 0, 2, 1):
+            pool.task(ended.append, number, priority=number)
         pool.run(1)
         self.assertEqual(ended, [0, 1, 2, 3])
 
@@ -131,9 +131,8 @@ class Misuse(Case):
 
         def use(calls):
             for call in calls:
-                with self.assertRaises(RuntimeError) as caught:
-                    call()
-                raised.append(str(caught.exception))
+                self.assertRaisesRegex(RuntimeError, "the pool runs", call)
+                raised.append(call)
 
         calls = [pool.run, pool.close, pool.again, pool.trace, pool.record, lambda: pool.summary(os.devnull)]
         waiting = pool.task(int)
@@ -146,7 +145,7 @@ class Misuse(Case):
         use(calls)
         pool.release(waiting)
         runner.join()
-        self.assertEqual(raised, 2 * len(calls) * ["the pool runs"])
+        self.assertEqual(raised, 2 * calls)
         pool.close()
 
     def test_refusals_can_be_pickled(self):
@@ -161,8 +160,7 @@ class Growth(Case):
             pool, leaves = Pool(traced=True), []
 
             def split(depth, pool=pool, leaves=leaves):
-                if depth == 0:
-                    leaves.append(threading.get_ident())
+                leaves.extend([0] if depth == 0 else [])
                 for _ in range(2 if depth else 0):
                     pool.task(split, depth - 1)
 
@@ -173,11 +171,11 @@ class Growth(Case):
             self.refused("WrongLife", pool.again)
 
     def test_a_new_task_takes_the_results_of_others(self):
-        pool, made = Pool(), []
+        pool = Pool()
         early = pool.task(int, "3")
-        pool.task(lambda: made.append(pool.task(lambda a, b: a + b, early, pool.task(int, "4"))), after=[early])
+        new = pool.task(lambda: pool.task(lambda a, b: a + b, early, pool.task(int, "4")), after=[early])
         pool.run(2)
-        self.assertEqual(made[0].result, 7)
+        self.assertEqual(new.result.result, 7)
 
     def test_a_task_waits_for_the_results_of_tasks_to_come(self):
         pool, parts = Pool(), []
@@ -219,16 +217,17 @@ class Outside(Case):
         self.assertEqual(last.result, "there")
 
     def test_an_exception_and_a_stop_end_the_wait(self):
-        for function, error in ((lambda: 1 // 0, ZeroDivisionError), (lambda: pool.stop(), Refused)):
+        self.addCleanup(signal.signal, signal.SIGALRM, signal.signal(signal.SIGALRM, lambda *_: {}["alarm"]))
+        alarm = functools.partial(signal.setitimer, signal.ITIMER_REAL, 0.01)
+        for function, error in ((lambda: 1 // 0, ZeroDivisionError), (lambda: pool.stop(), Refused), (alarm, KeyError)):
             pool = Pool()
             waiting = pool.task(int, releases=1)
             bad = pool.task(function)
             self.assertRaises(error, pool.run, 3)
-            failed = bad if error is ZeroDivisionError else None
-            self.assertIs(pool.failed, failed)
+            self.assertIs(pool.failed, bad if error is ZeroDivisionError else None)
             self.assertRaises(RuntimeError, lambda bad=waiting: bad.result)
             for call in (pool.run, pool.again, lambda: pool.release(waiting), lambda: pool.task(int)):
-                self.refused("Stopped", call, task=failed and 1)
+                self.refused("Stopped", call, task=pool.failed and 1)
 
 
 class Interrupts(Case):
@@ -264,9 +263,10 @@ class Interrupts(Case):
         pool, ran, count = Pool(), [], 0
         for count in self.interrupted(lambda: pool.task(ran.append, "interrupted")):
             pool.task(ran.append, count)
+        pool.task(pool.task, ran.append, count + 1)
         pool.run(1)
-        self.assertEqual([it for it in ran if it != "interrupted"], list(range(1, count + 1)))
-        self.assertEqual(len(ran), len(pool))
+        self.assertEqual([it for it in ran if it != "interrupted"], list(range(1, count + 2)))
+        self.assertEqual(len(ran) + 1, len(pool))
 
     def test_a_run_that_is_interrupted_ends(self):
         def run():
@@ -275,10 +275,9 @@ class Interrupts(Case):
                 pool.task(int, first)
                 pool.run(2)
 
-        before = threading.active_count()
+        before = signal.default_int_handler, threading.active_count()
         for _ in self.interrupted(run):
-            self.assertIs(signal.getsignal(signal.SIGINT), signal.default_int_handler)
-            self.assertLessEqual(threading.active_count(), before)
+            self.assertEqual((signal.getsignal(signal.SIGINT), threading.active_count()), before)
 
     def test_runs_that_are_interrupted_at_random_times(self):
         command = [sys.executable, "-X", "faulthandler", os.path.join(os.path.dirname(__file__), "interrupted.py")]
