@@ -217,15 +217,13 @@ class Pool {
         std::vector<std::uint32_t> many(inputs > few.size() ? inputs : 0);
         std::uint32_t *numbers = many.empty() ? few.data() : many.data();
         for (std::size_t k = 0; k < inputs; k++) numbers[k] = number_of(after[k]);
-        std::unique_lock<std::mutex> held(lock);
+        std::lock_guard<std::mutex> held(lock);
         Body &own = body_of(count, true);
         own = std::move(body); // before any thread can run it
         std::uint32_t refused = gerfmuod_team_spawn(team.get(), class_, numbers, inputs, releases, nullptr, nullptr, nullptr);
-        std::uint32_t number = refused ? count : count++;
-        if (refused) body = std::move(own); // which is destroyed without the lock: it may call the pool
-        held.unlock();
+        if (refused) body = std::move(own); // the caller's, who destroys it without the lock: it may call the pool
         check(refused);
-        return Task(id, number);
+        return Task(id, count++);
     }
     // The body that the team calls. No exception leaves it.
     static int call(void *context, std::uint32_t task) noexcept {
