@@ -1,24 +1,24 @@
 ! gerfmuod.f90: task graphs from Fortran, over gerfmuod_team.h, which describes each call and its refusals.
 !
-! Tasks, nodes and classes are counted from 0, as in C. Compile this file with your program and link with -lgerfmuod -pthread.
+! Tasks and classes are counted from 0, as in C. Compile this file with your program and link with -lgerfmuod -pthread.
 module gerfmuod
   use, intrinsic :: iso_c_binding
   implicit none
   public
 
-  ! no task
+  ! no task, and the inputs of a task that has none
   integer(c_int32_t), parameter :: gerfmuod_none = -1_c_int32_t
-  ! what a turn returned
-  integer(c_int32_t), parameter :: gerfmuod_run = 1, gerfmuod_over = 3
+  integer(c_int32_t), parameter :: gerfmuod_no_inputs(0) = [integer(c_int32_t) ::]
+  ! what a turn returned in next
+  integer(c_int32_t), parameter :: gerfmuod_run = 1, gerfmuod_over = 4
   ! refusals; gerfmuod_name and gerfmuod_meaning return texts for them
-  integer(c_int32_t), parameter :: gerfmuod_ok = 0, gerfmuod_no_node = 1, gerfmuod_no_task = 4, gerfmuod_wrong_life = 5
-  integer(c_int32_t), parameter :: gerfmuod_inactive = 6, gerfmuod_ended = 15
+  integer(c_int32_t), parameter :: gerfmuod_ok = 0, gerfmuod_no_task = 4, gerfmuod_wrong_life = 5, gerfmuod_ended = 15
   integer(c_int32_t), parameter :: gerfmuod_history_full = 16, gerfmuod_no_memory = 17, gerfmuod_bad_spec = 26
   integer(c_int32_t), parameter :: gerfmuod_no_thread = 64, gerfmuod_not_started = 65, gerfmuod_stopped = 66
   integer(c_int32_t), parameter :: gerfmuod_running = 67, gerfmuod_not_written = 68
 
   type, bind(c) :: gerfmuod_answer
-    integer(c_int32_t) :: refused, told, number, news
+    integer(c_int32_t) :: refused, next, number, signals
   end type
 
   abstract interface
@@ -39,17 +39,16 @@ module gerfmuod
   end interface
 
   interface
-    function gerfmuod_team_open(team, nodes) bind(c) result(refused)
+    function gerfmuod_team_open(team) bind(c) result(refused)
       import :: c_ptr, c_int32_t
       type(c_ptr), intent(out) :: team
-      integer(c_int32_t), value :: nodes
       integer(c_int32_t) :: refused
     end function
 
-    function gerfmuod_team_open_untraced(team, nodes) bind(c) result(refused)
+    ! The same, but the team keeps the events of each run for gerfmuod_team_trace.
+    function gerfmuod_team_open_traced(team) bind(c) result(refused)
       import :: c_ptr, c_int32_t
       type(c_ptr), intent(out) :: team
-      integer(c_int32_t), value :: nodes
       integer(c_int32_t) :: refused
     end function
 
@@ -58,32 +57,34 @@ module gerfmuod
       type(c_ptr), value :: team
     end subroutine
 
-    function gerfmuod_team_task(team, node, class, inputs, count, number) bind(c) result(refused)
+    function gerfmuod_team_task(team, class, inputs, count, number) bind(c) result(refused)
       import :: c_ptr, c_int32_t, c_size_t
       type(c_ptr), value :: team
-      integer(c_int32_t), value :: node, class
+      integer(c_int32_t), value :: class
       integer(c_int32_t), intent(in) :: inputs(*)
       integer(c_size_t), value :: count
       integer(c_int32_t), intent(out), optional :: number
       integer(c_int32_t) :: refused
     end function
 
-    ! offsets has tasks + 1 elements: the inputs of task t are inputs(offsets(t + 1) + 1 : offsets(t + 2)).
-    function gerfmuod_team_describe(team, tasks, nodes, classes, offsets, inputs) bind(c) result(refused)
+    ! offsets has tasks + 1 elements: the inputs of task t are inputs(offsets(t + 1) + 1 : offsets(t + 2)). `at` is the first
+    ! task that cannot be added, or 0.
+    function gerfmuod_team_describe(team, tasks, classes, offsets, inputs, at) bind(c) result(refused)
       import :: c_ptr, c_int8_t, c_int32_t
       type(c_ptr), value :: team
       integer(c_int32_t), value :: tasks
-      integer(c_int8_t), intent(in), optional :: nodes(*), classes(*)
+      integer(c_int8_t), intent(in), optional :: classes(*)
       integer(c_int32_t), intent(in) :: offsets(*), inputs(*)
+      integer(c_int32_t), intent(out), optional :: at
       integer(c_int32_t) :: refused
     end function
 
     ! One more task, before the start or in a run, which also waits for `outside` calls of gerfmuod_team_release. attach is
     ! c_funloc of a gerfmuod_attach, or c_null_funptr.
-    function gerfmuod_team_spawn(team, node, class, inputs, count, outside, attach, data, number) bind(c) result(refused)
+    function gerfmuod_team_spawn(team, class, inputs, count, outside, attach, data, number) bind(c) result(refused)
       import :: c_ptr, c_funptr, c_int32_t, c_size_t
       type(c_ptr), value :: team, data
-      integer(c_int32_t), value :: node, class, outside
+      integer(c_int32_t), value :: class, outside
       integer(c_int32_t), intent(in) :: inputs(*)
       integer(c_size_t), value :: count
       type(c_funptr), value :: attach
@@ -123,7 +124,14 @@ module gerfmuod
       integer(c_int32_t) :: refused
     end function
 
-    function gerfmuod_team_at(team) bind(c) result(task)
+    ! The fault that ended the team, or gerfmuod_ok; and the task that it is about, or gerfmuod_none.
+    function gerfmuod_team_fault(team) bind(c) result(refused)
+      import :: c_ptr, c_int32_t
+      type(c_ptr), value :: team
+      integer(c_int32_t) :: refused
+    end function
+
+    function gerfmuod_team_failed(team) bind(c) result(task)
       import :: c_ptr, c_int32_t
       type(c_ptr), value :: team
       integer(c_int32_t) :: task
@@ -136,10 +144,11 @@ module gerfmuod
       integer(c_int32_t) :: refused
     end function
 
-    function gerfmuod_team_turn(team, node, done) bind(c) result(answer)
+    ! Reports that task `done` is done, or gerfmuod_none, and returns the next one.
+    function gerfmuod_team_turn(team, done) bind(c) result(answer)
       import :: c_ptr, c_int32_t, gerfmuod_answer
       type(c_ptr), value :: team
-      integer(c_int32_t), value :: node, done
+      integer(c_int32_t), value :: done
       type(gerfmuod_answer) :: answer
     end function
 
@@ -170,10 +179,11 @@ module gerfmuod
       integer(c_int32_t), value :: task
     end subroutine
 
-    function gerfmuod_team_trace(team, room, length) bind(c) result(written)
+    ! Writes the events of the run, at most `length` bytes with a zero byte at the end. Returns the length of the whole text.
+    function gerfmuod_team_trace(team, buffer, length) bind(c) result(written)
       import :: c_ptr, c_char, c_size_t
       type(c_ptr), value :: team
-      character(kind=c_char), intent(out) :: room(*)
+      character(kind=c_char), intent(out) :: buffer(*)
       integer(c_size_t), value :: length
       integer(c_size_t) :: written
     end function

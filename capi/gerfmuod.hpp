@@ -8,8 +8,8 @@
 //     pool.run(4);
 //
 // In a run, a body runs once, after all tasks that it waits for, and sees what they wrote. A pool is used by one thread,
-// except that run() calls the bodies on several threads, and that any thread, also a body, may call task(), outside() and
-// release(). If a body throws, the pool stops, and run() throws that exception.
+// except that run() calls the bodies on several threads, and that any thread, also a body, may call task(), outside(),
+// release(), stop(), failed() and size(). If a body throws, the pool stops, and run() throws that exception.
 // Link with -lgerfmuod -pthread.
 #ifndef GERFMUOD_HPP
 #define GERFMUOD_HPP
@@ -18,15 +18,20 @@
 
 #include <algorithm>
 #include <array>
+#include <cstddef>
 #include <cstdint>
 #include <cstdio>
+#include <cstring>
 #include <exception>
-#include <functional>
+#include <initializer_list>
 #include <memory>
 #include <mutex>
+#include <new>
+#include <optional>
 #include <stdexcept>
 #include <string>
 #include <thread>
+#include <type_traits>
 #include <utility>
 #include <vector>
 
@@ -36,72 +41,101 @@ namespace gerfmuod {
 // about, and what it means.
 class Refused : public std::runtime_error {
   public:
-    Refused(std::uint32_t number, std::uint32_t about)
+    explicit Refused(std::uint32_t number, std::uint32_t about = GERFMUOD_GRAPH_NONE)
         : std::runtime_error(text(number, about)), refusal(number), task(about) {}
 
-    const std::uint32_t refusal; // an enum gerfmuod_dag_refusal or gerfmuod_team_refusal
-    const std::uint32_t task;    // or GERFMUOD_DAG_NONE
+    const std::uint32_t refusal; // an enum gerfmuod_graph_refusal or gerfmuod_team_refusal
+    const std::uint32_t task;    // or GERFMUOD_GRAPH_NONE
 
   private:
     static std::string text(std::uint32_t number, std::uint32_t about) {
-        std::string where = about == GERFMUOD_DAG_NONE ? "" : " at task " + std::to_string(about);
+        std::string where = about == GERFMUOD_GRAPH_NONE ? "" : " at task " + std::to_string(about);
         return gerfmuod_team_name(number) + where + ": " + gerfmuod_team_meaning(number);
     }
 };
 
-// A task of the pool that created it, to be used as an input of later tasks.
-struct Task { std::uint32_t number; };
-// Where a task runs, and its priority: a node, below the pool's number of nodes, and a class, 0 (first) to 3.
-struct Place { std::uint32_t node = 0, class_ = 0; };
+// A task of the pool that created it, to be used as an input of later tasks. Task() is of no pool.
+class Task {
+  public:
+    Task() = default;
+    std::uint32_t number() const { return own; }
+    friend bool operator==(Task a, Task b) { return a.pool == b.pool && a.own == b.own; }
+    friend bool operator!=(Task a, Task b) { return !(a == b); }
+
+  private:
+    friend class Pool;
+    Task(std::uint64_t pool_, std::uint32_t number) : pool(pool_), own(number) {}
+    std::uint64_t pool = 0; // no two pools of a process have the same number, and none has 0
+    std::uint32_t own = GERFMUOD_GRAPH_NONE;
+};
+
+// How a pool is opened: Pool pool(gerfmuod::Options().traced().keep_bodies()). From C++20 on also Pool pool({.is_traced = true}).
+struct Options {
+    bool is_traced = false;    // trace() has the events of the run, of at most 349,522 tasks
+    bool keeps_bodies = false; // a body and what it captures live as long as the pool, which again() needs
+
+    Options traced() const { return {true, keeps_bodies}; }
+    Options keep_bodies() const { return {is_traced, true}; }
+};
 
 class Pool {
   public:
-    using Body = std::function<void()>;
-
-    // If it is not traced, trace() is empty, a run takes less time and memory, and the limit of some 349,000 tasks is that of
-    // gerfmuod_team_open_untraced. Throws Refused: BadSpec if `nodes` is not 1 to 8, NoMemory.
-    explicit Pool(std::uint32_t nodes = 1, bool is_traced = true) {
+    // Throws Refused: NoMemory.
+    explicit Pool(Options options = {}) : keeps_bodies(options.keeps_bodies) {
         gerfmuod_team *opened;
-        std::uint32_t refused = (is_traced ? gerfmuod_team_open : gerfmuod_team_open_untraced)(&opened, nodes);
+        std::uint32_t refused = (options.is_traced ? gerfmuod_team_open_traced : gerfmuod_team_open)(&opened);
         team.reset(opened);
-        if (refused) throw Refused(refused, GERFMUOD_DAG_NONE);
+        if (refused) throw Refused(refused);
     }
 
-    // One more task, before the start or in a run. It waits for the tasks in `after`, and for `releases` calls of release().
-    Task task(Body body, const std::vector<Task> &after = {}, Place place = {}, std::uint32_t releases = 0) {
-        std::vector<std::uint32_t> inputs;
-        inputs.reserve(after.size());
-        for (Task input : after) inputs.push_back(input.number);
-        std::lock_guard<std::mutex> held(lock);
-        Body &own = body_of(count, true);
-        own = std::move(body); // before any thread can run it
-        std::uint32_t refused = gerfmuod_team_spawn(team.get(), place.node, place.class_, inputs.data(), inputs.size(), releases,
-                                                    nullptr, nullptr, nullptr);
-        if (refused) own = nullptr;
-        check(refused);
-        return Task{count++};
+    // One more task, before the start or in a run, of a class 0 (first) to 3. It waits for the tasks in `after`, and for
+    // `releases` calls of release(). The body is called without arguments, and may be one that can only be moved. It is
+    // destroyed as soon as it ran, unless the pool keeps bodies. Throws std::invalid_argument if a task is not of this pool,
+    // and Refused as gerfmuod_team_spawn.
+    template <typename F>
+    Task task(F &&body, std::initializer_list<Task> after = {}, std::uint32_t class_ = 0, std::uint32_t releases = 0) {
+        return add(Body(std::forward<F>(body)), after.begin(), after.size(), class_, releases);
+    }
+    template <typename F>
+    Task task(F &&body, const std::vector<Task> &after, std::uint32_t class_ = 0, std::uint32_t releases = 0) {
+        return add(Body(std::forward<F>(body)), after.data(), after.size(), class_, releases);
     }
 
     // One more input from outside for a task, such as a message, a timer or a device: its body does not run before release()
     // was called once for each. A body may call it, for a task that waits for that body.
-    void outside(Task task) { check(gerfmuod_team_outside(team.get(), task.number)); }
+    void outside(Task task) { check(gerfmuod_team_outside(team.get(), number_of(task)), task.own); }
     // One input from outside of a task is there; the body sees what this thread wrote before. If the input cannot come, release
-    // it all the same, and let the body throw.
-    void release(Task task) { check(gerfmuod_team_release(team.get(), task.number)); }
+    // it all the same, and let the body throw; or call stop().
+    void release(Task task) { check(gerfmuod_team_release(team.get(), number_of(task)), task.own); }
+    // Ends the run: bodies that run are finished, no further one begins, and run() throws Refused: Stopped.
+    void stop() { gerfmuod_team_stop(team.get(), GERFMUOD_GRAPH_NONE); }
 
-    // Runs all tasks on `threads` threads, of which the caller is one. Throws the first exception that a body threw, or
-    // Refused when gerfmuod_team_run is refused.
+    // Runs all tasks on `threads` threads, of which the caller is one. Throws the first exception that a body threw; failed()
+    // is then the task of that body. Throws Refused as gerfmuod_team_run.
     void run(std::uint32_t threads = default_threads()) {
+        if (exchange_in_run(true)) throw Refused(GERFMUOD_GRAPH_RUNNING);
         std::uint32_t refused = gerfmuod_team_run(team.get(), threads, call, this);
-        if (thrown) std::rethrow_exception(std::exchange(thrown, nullptr));
+        std::exception_ptr first = std::exchange(thrown, nullptr);
+        exchange_in_run(false);
+        if (first) std::rethrow_exception(first);
         check(refused);
     }
 
-    // The same graph once more, after run(): run() may be called again. Inputs from outside have to be announced again.
-    void again() { check(gerfmuod_team_again(team.get())); }
+    // The same graph once more, after run(): run() may be called again. Inputs from outside have to be announced again. Throws
+    // std::logic_error if the pool does not keep bodies.
+    void again() {
+        if (!keeps_bodies) throw std::logic_error("a pool runs again only if it was opened with keep_bodies()");
+        check(gerfmuod_team_again(team.get()));
+    }
+    // The task because of which the pool ended, if there is one.
+    std::optional<Task> failed() const {
+        std::lock_guard<std::mutex> held(lock);
+        std::uint32_t number = thrower == GERFMUOD_GRAPH_NONE ? gerfmuod_team_failed(team.get()) : thrower;
+        return number == GERFMUOD_GRAPH_NONE ? std::nullopt : std::optional<Task>(Task(id, number));
+    }
     // The number of tasks that were described.
     std::size_t size() const { return std::lock_guard<std::mutex>(lock), count; }
-    // The steps of the pool as a trace, which `tp audit` judges.
+    // The events of the run as a trace, which `tp audit` judges. It is empty if the pool is not traced.
     std::string trace() const {
         std::string text(gerfmuod_team_trace(team.get(), nullptr, 0), '\0');
         gerfmuod_team_trace(team.get(), &text[0], text.size() + 1);
@@ -117,22 +151,95 @@ class Pool {
 
   private:
     struct Close { void operator()(gerfmuod_team *it) const { gerfmuod_team_close(it); } };
-    void check(std::uint32_t refused) const {
-        if (refused) throw Refused(refused, gerfmuod_team_at(team.get()));
+
+    // A body of any type. A small one without a destructor is stored in `room`; of another one, `room` has a pointer to it. So
+    // to move a Body calls nothing of the caller's.
+    class Body {
+      public:
+        Body() = default;
+        template <typename F, typename Own = std::decay_t<F>, typename = std::enable_if_t<!std::is_same_v<Own, Body>>>
+        explicit Body(F &&body) {
+            static_assert(std::is_invocable_v<Own &>, "a body is called without arguments");
+            if constexpr (is_small<Own>) {
+                new (room) Own(std::forward<F>(body));
+                act = [](void *own, bool is_call) {
+                    if (is_call) (*std::launder(static_cast<Own *>(own)))();
+                };
+            } else {
+                new (room) Own *(new Own(std::forward<F>(body)));
+                act = [](void *pointer, bool is_call) {
+                    Own *own = *std::launder(static_cast<Own **>(pointer));
+                    if (is_call) (*own)();
+                    else delete own;
+                };
+            }
+        }
+        Body(Body &&other) noexcept { *this = std::move(other); }
+        Body &operator=(Body &&other) noexcept {
+            destroy();
+            std::memcpy(room, other.room, sizeof room);
+            act = std::exchange(other.act, nullptr);
+            return *this;
+        }
+        ~Body() { destroy(); }
+        void operator()() { act(room, true); }
+
+      private:
+        static constexpr std::size_t most = 24;
+        template <typename Own>
+        static constexpr bool is_small = sizeof(Own) <= most && alignof(Own) <= alignof(void *) &&
+                                         std::is_trivially_copyable_v<Own> && std::is_trivially_destructible_v<Own>;
+        void destroy() noexcept {
+            if (auto last = std::exchange(act, nullptr)) last(room, false);
+        }
+
+        alignas(void *) unsigned char room[most] = {};
+        void (*act)(void *room, bool is_call) = nullptr; // calls the body, or destroys it
+    };
+
+    // Returns a number that no other pool of this process has.
+    static std::uint64_t next_id() {
+        static std::mutex lock_of_ids;
+        static std::uint64_t last = 0;
+        return std::lock_guard<std::mutex>(lock_of_ids), ++last;
+    }
+    bool exchange_in_run(bool now) { return std::lock_guard<std::mutex>(lock), std::exchange(is_in_run, now); }
+    std::uint32_t number_of(Task task) const {
+        if (task.pool != id) throw std::invalid_argument("a task of no pool, or of another one");
+        return task.own;
+    }
+    // Throws if a call about a task, or about none, was refused. Every call is refused as the fault that ended the pool.
+    void check(std::uint32_t refused, std::uint32_t task = GERFMUOD_GRAPH_NONE) const {
+        if (refused) throw Refused(refused, refused == gerfmuod_team_fault(team.get()) ? gerfmuod_team_failed(team.get()) : task);
+    }
+    Task add(Body &&body, const Task *after, std::size_t inputs, std::uint32_t class_, std::uint32_t releases) {
+        std::array<std::uint32_t, 16> few;
+        std::vector<std::uint32_t> many(inputs > few.size() ? inputs : 0);
+        std::uint32_t *numbers = many.empty() ? few.data() : many.data();
+        for (std::size_t k = 0; k < inputs; k++) numbers[k] = number_of(after[k]);
+        std::lock_guard<std::mutex> held(lock);
+        Body &own = body_of(count, true);
+        own = std::move(body); // before any thread can run it
+        std::uint32_t refused = gerfmuod_team_spawn(team.get(), class_, numbers, inputs, releases, nullptr, nullptr, nullptr);
+        if (refused) body = std::move(own); // the caller's, who destroys it without the lock: it may call the pool
+        check(refused);
+        return Task(id, count++);
     }
     // The body that the team calls. No exception leaves it.
     static int call(void *context, std::uint32_t task) noexcept {
         Pool *pool = static_cast<Pool *>(context);
+        Body &own = pool->body_of(task);
         try {
-            pool->body_of(task)();
+            if (pool->keeps_bodies) own();
+            else Body(std::move(own))();
             return 0;
         } catch (...) {
             std::lock_guard<std::mutex> held(pool->lock);
-            if (!pool->thrown) pool->thrown = std::current_exception();
+            if (!pool->thrown) pool->thrown = std::current_exception(), pool->thrower = task;
             return 1;
         }
     }
-    // Returns the body of a task. Bodies never move: a block has twice the room of the one before, and the first one 64.
+    // Returns the body of a task. A block of bodies never moves: it has twice the room of the one before, and the first one 64.
     Body &body_of(std::uint32_t task, bool is_new = false) {
         std::uint32_t block = 0, place = task;
         for (; place >= 64u << block; block++) place -= 64u << block;
@@ -140,11 +247,15 @@ class Pool {
         return blocks[block][place];
     }
 
+    const std::uint64_t id = next_id();
+    const bool keeps_bodies;
     std::unique_ptr<gerfmuod_team, Close> team;
     mutable std::mutex lock; // of what follows; a body is read without it: its task was taken after it was written
+    bool is_in_run = false;
     std::uint32_t count = 0;
     std::array<std::unique_ptr<Body[]>, 22> blocks; // for more tasks than a pool can have
     std::exception_ptr thrown;
+    std::uint32_t thrower = GERFMUOD_GRAPH_NONE;
 };
 
 } // namespace gerfmuod

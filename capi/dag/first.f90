@@ -8,11 +8,9 @@ contains
     type(c_ptr), value :: context
     integer(c_int32_t), value :: task
     integer(c_int) :: failed
-    select case (task)
-    case (0); x = sqrt(2.0d0)
-    case (1); y = exp(1.0d0)
-    case (2); z = x * y
-    end select
+    if (task == 0) x = sqrt(2.0d0)
+    if (task == 1) y = exp(1.0d0)
+    if (task == 2) z = x * y
     failed = 0 ! the task is done
   end function
 end module
@@ -20,13 +18,10 @@ end module
 program first
   use bodies
   implicit none
-  integer(c_int32_t), parameter :: none(0) = [integer(c_int32_t) ::]
   type(c_ptr) :: team
   integer(c_int32_t) :: refused
-  refused = gerfmuod_team_open(team, 1)
-  if (refused == 0) refused = gerfmuod_team_task(team, 0, 0, none, 0_c_size_t)
-  if (refused == 0) refused = gerfmuod_team_task(team, 0, 0, none, 0_c_size_t)
-  if (refused == 0) refused = gerfmuod_team_task(team, 0, 0, [0, 1], 2_c_size_t)
+  refused = gerfmuod_team_open(team)
+  if (refused == 0) refused = gerfmuod_team_describe(team, 3, offsets=[0, 0, 0, 2], inputs=[0, 1])
   if (refused == 0) refused = gerfmuod_team_run(team, 4, c_funloc(run_task), c_null_ptr)
   if (refused /= 0) print '(3a)', gerfmuod_name(refused), ': ', gerfmuod_meaning(refused)
   if (refused == 0) print '(f8.6)', z ! 3.844231

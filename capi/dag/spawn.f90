@@ -24,10 +24,9 @@ contains
 
   subroutine spawn(first, last)
     integer(c_int32_t), intent(in) :: first, last
-    integer(c_int32_t), parameter :: none(0) = [integer(c_int32_t) ::]
     type(range), target :: own
     own = range(first, last)
-    call need(gerfmuod_team_spawn(team, 0, 0, none, 0_c_size_t, 0, c_funloc(attach), c_loc(own)))
+    call need(gerfmuod_team_spawn(team, 0, gerfmuod_no_inputs, 0_c_size_t, 0, c_funloc(attach), c_loc(own)))
   end subroutine
 
   function run_task(context, task) bind(c) result(failed)
@@ -63,7 +62,7 @@ program sum_by_halves
   integer :: k, tasks
   real(8) :: whole
   whole = sum([(1 / real(k, 8) ** 2, k = 1, terms)])
-  call need(gerfmuod_team_open(team, 1))
+  call need(gerfmuod_team_open(team))
   call spawn(1, terms)
   call need(gerfmuod_team_run(team, 4, c_funloc(run_task), c_null_ptr))
   call gerfmuod_team_close(team)

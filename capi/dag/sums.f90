@@ -49,7 +49,7 @@ contains
     end do
     offsets(2 * count + 1) = used
     total = 0
-    call need(gerfmuod_team_open(team, 1))
+    call need(gerfmuod_team_open(team))
     call need(gerfmuod_team_describe(team, 2 * count, offsets=offsets, inputs=inputs))
   end function
 end module
@@ -75,8 +75,8 @@ program sums
   !$omp parallel num_threads(4) private(answer, done)
   done = gerfmuod_none
   do
-    answer = gerfmuod_team_turn(team, 0, done)
-    if (answer%refused /= gerfmuod_ok .or. answer%told == gerfmuod_over) exit
+    answer = gerfmuod_team_turn(team, done)
+    if (answer%refused /= gerfmuod_ok .or. answer%next == gerfmuod_over) exit
     done = answer%number
     if (run_task(c_null_ptr, done) /= 0) call gerfmuod_team_stop(team, done)
   end do

@@ -85,7 +85,7 @@ static uint32_t tasks, arrivals;
 
 static uint32_t add_task(job t, uint32_t class_, const uint32_t *inputs, size_t count) {
     uint32_t number;
-    need(gerfmuod_team_task(team, 0, class_, inputs, count, &number), "task");
+    need(gerfmuod_team_task(team, class_, inputs, count, &number), "task");
     jobs[number] = t, tasks = number + 1;
     return number;
 }
@@ -93,7 +93,7 @@ static uint32_t add_task(job t, uint32_t class_, const uint32_t *inputs, size_t 
 /* The task after which tile (i, j) has its last values here. */
 static uint32_t source_of(int i, int j) {
     uint32_t *source = &writer[place(i, j)];
-    if (*source == GERFMUOD_DAG_NONE) { /* the first task that reads a tile of another process */
+    if (*source == GERFMUOD_GRAPH_NONE) { /* the first task that reads a tile of another process */
         *source = add_task((job){ARRIVAL, i, j, 0}, 0, NULL, 0);
         need(gerfmuod_team_outside(team, *source), "outside");
         fill_tile(i, j); /* until the finished one comes */
@@ -113,7 +113,7 @@ static void visit(job t, int i, int j, uint32_t class_, const int (*reads)[2], i
         else if (from == me) goes_to[place(reads[r][0], reads[r][1]) * processes + process] = true;
     }
     if (process != me) return;
-    if (*own == GERFMUOD_DAG_NONE) fill_tile(i, j);
+    if (*own == GERFMUOD_GRAPH_NONE) fill_tile(i, j);
     else inputs[waits++] = *own;
     *own = add_task(t, class_, inputs, waits);
 }
@@ -284,7 +284,7 @@ int main(int argc, char **argv) {
     openblas_set_num_threads(1);
 #endif
     allocate_all();
-    need(gerfmuod_team_open_untraced(&team, 1), "open");
+    need(gerfmuod_team_open(&team), "open");
     describe();
     MPI_Barrier(MPI_COMM_WORLD);
     double from = MPI_Wtime();

@@ -4,19 +4,20 @@ from __future__ import annotations
 import ctypes
 import os
 from pathlib import Path
-from typing import Iterator
+from typing import Any, Iterator
 
 NAME = "libgerfmuod.so.0"
 #: No task has this number.
 NONE = 0xFFFFFFFF
-OK = 0
-OVER = 3
+NOT_STARTED = 65
+#: What a turn returns if it returns a task.
+RUN = 1
 
 
 class Answer(ctypes.Structure):
-    """The result of a turn: gerfmuod_dag_answer."""
+    """The result of a turn: gerfmuod_graph_answer."""
 
-    _fields_ = [(name, ctypes.c_uint32) for name in ("refused", "told", "number", "news")]
+    _fields_ = [(name, ctypes.c_uint32) for name in ("refused", "next", "number", "signals")]
 
 
 def _candidates() -> Iterator[str]:
@@ -46,26 +47,27 @@ def _load() -> ctypes.CDLL:
 def _declare(library: ctypes.CDLL) -> ctypes.CDLL:
     """Sets the types of the calls."""
     u32, size, team = ctypes.c_uint32, ctypes.c_size_t, ctypes.c_void_p
-    numbers = ctypes.POINTER(u32)
+    numbers, opened = ctypes.POINTER(u32), ctypes.POINTER(ctypes.c_void_p)
     types = {
-        "gerfmuod_team_open": (u32, [ctypes.POINTER(ctypes.c_void_p), u32]),
-        "gerfmuod_team_open_untraced": (u32, [ctypes.POINTER(ctypes.c_void_p), u32]),
+        "gerfmuod_team_open": (u32, [opened]),
+        "gerfmuod_team_open_traced": (u32, [opened]),
         "gerfmuod_team_close": (None, [team]),
-        "gerfmuod_team_spawn": (u32, [team, u32, u32, numbers, size, u32, team, team, numbers]),
+        "gerfmuod_team_spawn": (u32, [team, u32, numbers, size, u32, team, team, numbers]),
         "gerfmuod_team_outside": (u32, [team, u32]),
         "gerfmuod_team_release": (u32, [team, u32]),
         "gerfmuod_team_start": (u32, [team, u32]),
-        "gerfmuod_team_turn": (Answer, [team, u32, u32]),
+        "gerfmuod_team_turn": (Answer, [team, u32]),
         "gerfmuod_team_again": (u32, [team]),
         "gerfmuod_team_stop": (None, [team, u32]),
-        "gerfmuod_team_at": (u32, [team]),
+        "gerfmuod_team_fault": (u32, [team]),
+        "gerfmuod_team_failed": (u32, [team]),
         "gerfmuod_team_name": (ctypes.c_char_p, [u32]),
         "gerfmuod_team_meaning": (ctypes.c_char_p, [u32]),
         "gerfmuod_team_trace": (size, [team, ctypes.c_char_p, size]),
         "gerfmuod_team_record": (u32, [team, u32]),
         "gerfmuod_team_profile": (u32, [team, ctypes.c_void_p]),
         "gerfmuod_team_summary": (u32, [team, ctypes.c_void_p]),
-        "fopen": (ctypes.c_void_p, [ctypes.c_char_p, ctypes.c_char_p]),  # of the C library
+        "fdopen": (ctypes.c_void_p, [ctypes.c_int, ctypes.c_char_p]),  # of the C library
         "fclose": (ctypes.c_int, [ctypes.c_void_p]),
     }
     for name, (result, arguments) in types.items():
@@ -75,3 +77,10 @@ def _declare(library: ctypes.CDLL) -> ctypes.CDLL:
 
 
 library = _declare(_load())
+
+
+class Team(ctypes.c_void_p):
+    """A team of the library. It is closed when nothing refers to it any more, so that no call uses one that is closed."""
+
+    def __del__(self, close: Any = library.gerfmuod_team_close) -> None:
+        close(self)

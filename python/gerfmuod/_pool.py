@@ -1,16 +1,19 @@
 """Pools and their tasks."""
 from __future__ import annotations
 
+import contextlib
 import ctypes
+import operator
 import os
+import signal
 import threading
-import weakref
-from typing import Any, Callable, Generic, Iterable, List, NamedTuple, Optional, Tuple, TypeVar
+from typing import Any, Callable, Dict, Generic, Iterable, Iterator, List, NamedTuple, Optional, Tuple, TypeVar, Union
 
-from ._library import NONE, OK, OVER, library
+from ._library import NONE, NOT_STARTED, RUN, Team, library
 from ._refused import Refused
 
 Result = TypeVar("Result")
+Path = Union[str, "os.PathLike[str]"]
 
 
 class Task(Generic[Result]):
@@ -45,90 +48,164 @@ class _Job(NamedTuple):
     task: "Task[Any]"
     function: Callable[..., Any]
     arguments: Tuple[Any, ...]
+    keywords: Dict[str, Any]
 
     def run(self) -> None:
-        values = [it.result if isinstance(it, Task) else it for it in self.arguments]
-        self.task._result = self.function(*values)
+        keywords = {name: _value(it) for name, it in self.keywords.items()}
+        self.task._result = self.function(*map(_value, self.arguments), **keywords)
         self.task._is_done = True
 
-    def forget(self) -> None:
-        self.task._result, self.task._is_done = None, False
+
+class _Run:
+    """One run of a team: its threads, and what ended it. None of the threads is the caller, which waits and sees interrupts."""
+
+    def __init__(self, team: Team, jobs: List[_Job]) -> None:
+        self.team, self.jobs = team, jobs
+        self.errors: "List[Tuple[BaseException, int]]" = []  # and the number of the task that raised it, or NONE
+        self.gate = threading.Event()  # set when it is known whether the run has begun
+        self.has_begun = False
+
+    def run(self, count: int) -> None:
+        """Runs all tasks on a number of threads, and returns when these have ended."""
+        workers: List[threading.Thread] = []
+        try:
+            self._start(workers, count)
+        except BaseException as error:
+            self.fail(error)
+        self.gate.set()
+        if self.errors and self.has_begun:  # an interrupt before that
+            library.gerfmuod_team_stop(self.team, NONE)
+        for worker in workers:
+            self._wait_for(worker)
+
+    def fail(self, error: BaseException, task: int = NONE) -> None:
+        """Ends the run because of an exception."""
+        self.errors.append((error, task))
+        if self.has_begun:
+            library.gerfmuod_team_stop(self.team, task)
+
+    def _start(self, workers: List[threading.Thread], count: int) -> None:
+        for _ in range(count):
+            worker = threading.Thread(target=self._work, daemon=True)
+            try:
+                worker.start()
+            except RuntimeError as error:
+                raise Refused(NOT_STARTED) from error
+            workers.append(worker)
+        _check(self.team, library.gerfmuod_team_start(self.team, count))
+        self.has_begun = True
+
+    def _wait_for(self, worker: threading.Thread) -> None:
+        while worker.is_alive():
+            try:
+                worker.join(0.1)  # or else an interrupt that the system delivers to another thread is not seen
+            except BaseException as error:  # raised by the handler of a signal other than SIGINT
+                self.fail(error)
+
+    def _work(self) -> None:
+        """Runs tasks until the run is over or stops."""
+        self.gate.wait()
+        done = NONE
+        try:
+            while self.has_begun:
+                answer = library.gerfmuod_team_turn(self.team, done)
+                if answer.refused or answer.next != RUN:
+                    return
+                done = answer.number
+                self.jobs[done].run()
+        except BaseException as error:
+            self.fail(error, done)
+
+
+@contextlib.contextmanager
+def _interrupts(catch: Callable[[BaseException], None]) -> Iterator[None]:
+    """While it is entered, an exception of the handler of SIGINT is passed on instead of being raised anywhere in between."""
+    handler: Any = signal.getsignal(signal.SIGINT) if threading.current_thread() is threading.main_thread() else None
+
+    def handle(number: int, frame: Any) -> None:
+        try:
+            handler(number, frame)
+        except BaseException as error:
+            catch(error)
+
+    if callable(handler):
+        signal.signal(signal.SIGINT, handle)
+    try:
+        yield
+    finally:
+        if callable(handler):
+            signal.signal(signal.SIGINT, handler)
 
 
 class Pool:
     """A graph of tasks, which runs once, or again after :meth:`again`.
 
     Args:
-        nodes: the number of groups of tasks, 1 to 8. One is right in most cases.
-        traced: whether the pool keeps its steps for :meth:`trace`. Then it can have some 349,000
-            tasks; without, 134,217,728, and a run takes less time and memory.
+        traced: whether the pool keeps the events of a run for :meth:`trace`. Then it can have
+            349,522 tasks; without, 134,217,728, and a run takes less time and memory.
 
-    Raises:
-        Refused: ``BadSpec`` if ``nodes`` is not 1 to 8; ``NoMemory``.
-
-    One thread uses a pool; :meth:`run` calls the functions of the tasks on several threads.
-    Any thread, also a function of a task, may call :meth:`task`, :meth:`outside` and
-    :meth:`release`.
+    :meth:`run` calls the functions of the tasks on several threads. Any thread, also a function of
+    a task, may call :meth:`task`, :meth:`outside`, :meth:`release` and :meth:`stop`. The other
+    methods raise RuntimeError while the pool runs. All raise ValueError if the pool is closed,
+    TypeError if an argument is no task or no integer, and Refused as the library's calls.
     """
 
-    def __init__(self, nodes: int = 1, *, traced: bool = True) -> None:
-        team = ctypes.c_void_p()
-        open_team = library.gerfmuod_team_open if traced else library.gerfmuod_team_open_untraced
-        refused = open_team(ctypes.byref(team), _number(nodes))
+    def __init__(self, *, traced: bool = False) -> None:
+        team = Team()
+        open_team = library.gerfmuod_team_open_traced if traced else library.gerfmuod_team_open
+        refused = open_team(ctypes.byref(team))
         if refused:
             raise Refused(refused)
-        self._team: Optional[ctypes.c_void_p] = team
-        self._nodes = nodes
+        self._team: Optional[Team] = team
         self._identity = object()
         self._jobs: List[_Job] = []
-        self._length = 0
-        self._growing = threading.Lock()  # held while a task gets its number
-        self._errors: List[BaseException] = []
-        self._close = weakref.finalize(self, library.gerfmuod_team_close, team)
+        self._newest = ctypes.c_uint32(NONE)  # the last task's number, which the library writes
+        self._failed: "Optional[Task[Any]]" = None
+        self._lock: Any = threading.RLock()  # held while a task gets its number, and by calls that the library takes one at a time
+        self._running = threading.Lock()  # held in a run
 
     def task(
         self,
         function: Callable[..., Result],
         *arguments: Any,
         after: "Iterable[Task[Any]]" = (),
-        node: int = 0,
         priority: int = 0,
         releases: int = 0,
+        **keywords: Any,
     ) -> "Task[Result]":
         """Adds a task, before the run or in it: one call of a function.
 
         Args:
             function: the function that the task calls.
-            arguments: the arguments of the function. An argument that is a task of this pool is
+            arguments, keywords: the arguments of the function. One that is a task of this pool is
                 replaced by its result, and the new task waits for it. Tasks inside lists and other
                 values are not found.
             after: further tasks that the new task waits for.
-            node: the group of the task, below the pool's ``nodes``.
-            priority: the class of the task, 0 to 3. Ready tasks of a node with a lower number
-                run first.
+            priority: the class of the task, 0 to 3. Ready tasks with a lower number run first.
             releases: how many calls of :meth:`release` the task waits for.
 
         Raises:
-            ValueError: a task is of another pool, or the pool is closed.
-            Refused: ``NoNode``, ``BadSpec`` (priority), ``Ended`` if all tasks are done,
-                ``HistoryFull``, ``NoMemory``; in a run also ``NoThread`` if the node has no thread,
-                ``Inactive`` if all tasks of the node are done, which the node of the calling
-                function never is, and ``Stopped``.
+            ValueError: a task is of another pool, or a number is negative.
+            Refused: ``BadSpec`` (priority), ``Ended`` if all tasks are done, ``HistoryFull``,
+                ``NoMemory``, and ``Stopped``.
         """
-        waits_for = [it for it in (*arguments, *after) if isinstance(it, Task)]
-        if any(it._owner is not self._identity for it in waits_for):
-            raise ValueError("a task of another pool cannot be an input")
-        inputs = (ctypes.c_uint32 * len(waits_for))(*(it.number for it in waits_for))
-        team, place = self._open_team(), (_number(node), _number(priority))
-        awaited = inputs, len(inputs), _number(releases)
-        with self._growing:
-            task: "Task[Result]" = Task(self._identity, self._length)
-            self._jobs.append(_Job(task, function, arguments))  # before any thread can run it
-            refused = library.gerfmuod_team_spawn(team, *place, *awaited, None, None, None)
+        if not callable(function):
+            raise TypeError(f"the function of a task is {function!r}")
+        after = tuple(after)
+        for it in after:
+            if not isinstance(it, Task):
+                raise TypeError(f"after has {it!r}, which is no task")
+        waits_for = [*(it for it in (*arguments, *keywords.values()) if isinstance(it, Task)), *after]
+        inputs = (ctypes.c_uint32 * len(waits_for))(*map(self._number_of, waits_for))
+        wanted = _number("priority", priority), inputs, len(waits_for), _number("releases", releases)
+        team = self._open_team()
+        with self._free_lock():
+            task: "Task[Result]" = Task(self._identity, len(self))
+            del self._jobs[task.number:]  # that of a call that was interrupted
+            self._jobs.append(_Job(task, function, arguments, keywords))  # before any thread can run it
+            refused = library.gerfmuod_team_spawn(team, *wanted, None, None, ctypes.byref(self._newest))
             if refused:
                 self._jobs.pop()
-            else:
-                self._length += 1
         _check(team, refused)
         return task
 
@@ -139,90 +216,97 @@ class Pool:
         a task may call this while it runs, for a task that waits for its own.
 
         Raises:
-            ValueError: the task is of another pool, or the pool is closed.
-            Refused: ``WrongLife`` if the task has begun, or if the pool runs and the task waits for
-                nothing; ``HistoryFull`` if it awaits 1,048,576 of them; ``Stopped`` if an exception
-                has stopped the pool.
+            ValueError: the task is of another pool.
+            Refused: ``WrongLife`` if the task has begun, or if the pool runs and the task is ready;
+                ``HistoryFull`` if it awaits 1,048,576 of them; ``Stopped`` if the pool has stopped.
         """
-        team = self._open_team()
-        _check(team, library.gerfmuod_team_outside(team, self._number_of(task)))
+        team, number = self._open_team(), self._number_of(task)
+        _check(team, library.gerfmuod_team_outside(team, number), number)
 
     def release(self, task: "Task[Any]") -> None:
         """Reports that one input from outside of a task is there.
 
-        If it cannot come, release it all the same, and let the task's function raise an exception.
+        If it cannot come, release it all the same, and let the task's function raise an exception;
+        or call :meth:`stop`.
 
         Raises:
-            ValueError: the task is of another pool, or the pool is closed.
-            Refused: ``WrongLife`` if the task awaits none; ``Stopped`` if an exception has stopped
-                the pool.
+            ValueError: the task is of another pool.
+            Refused: ``WrongLife`` if the task awaits none; ``Stopped`` if the pool has stopped.
         """
-        team = self._open_team()
-        _check(team, library.gerfmuod_team_release(team, self._number_of(task)))
+        team, number = self._open_team(), self._number_of(task)
+        _check(team, library.gerfmuod_team_release(team, number), number)
 
     def run(self, threads: Optional[int] = None) -> None:
         """Runs all tasks, and returns when they are done.
 
         Args:
-            threads: the number of threads, of which the caller is one. The default is the number of
-                processors. Each node with tasks needs a thread. Functions run in parallel as far
-                as they release the interpreter's lock, as those of numpy do.
+            threads: the number of threads that call functions, while the caller waits. The default
+                is the number of processors. Functions run in parallel as far as they release the
+                interpreter's lock, as those of numpy do.
 
         Raises:
-            ValueError: the pool is closed.
-            Refused: ``NoThread`` if a node has tasks and no thread, ``Ended`` if the pool has run,
-                ``HistoryFull`` if it has too many tasks, ``NoMemory``, and ``Stopped`` if an
-                exception has stopped it before.
+            ValueError: there are fewer than 1 threads.
+            Refused: ``NotStarted`` if the system started too few threads, ``Ended`` if the pool has
+                run, ``HistoryFull`` if it is traced and has too many tasks, ``NoMemory``, and
+                ``Stopped`` if it was stopped.
 
-        An exception of a task's function stops the pool: tasks that run are finished, no further
-        one begins, and ``run`` raises that exception. While the caller waits for inputs from
-        outside, it does not see an interrupt from the keyboard.
+        An exception of a task's function stops the pool: functions that run are finished, no
+        further one begins, and ``run`` raises that exception. :attr:`failed` is the task. An
+        interrupt from the keyboard does the same.
         """
-        team = self._open_team()
-        count = _processors() if threads is None else threads
-        _check(team, library.gerfmuod_team_start(team, _number(count)))
-        begun: List[threading.Thread] = []
-        try:
-            for w in range(1, count):
-                worker = threading.Thread(target=self._work, args=(team, w % self._nodes))
-                worker.start()
-                begun.append(worker)
-            self._work(team, 0)
-        except BaseException as error:  # no thread could be started, or an interrupt
-            self._stop(team, NONE, error)
-        for worker in begun:
-            worker.join()
-        if self._errors:
-            raise self._errors[0]
-        _check(team, library.gerfmuod_team_turn(team, 0, NONE).refused)
+        count = _processors() if threads is None else _number("threads", threads, 1)
+        run = _Run(self._open_team(), self._jobs)
+        with _interrupts(run.fail):
+            if not self._running.acquire(blocking=False):
+                raise RuntimeError("the pool runs")
+            try:
+                with self._free_lock():
+                    pass  # a call that began before has ended
+                run.run(count)
+            finally:
+                self._running.release()
+        if run.errors:
+            error, number = run.errors[0]
+            run.errors.clear()
+            if number != NONE:
+                self._failed = run.jobs[number].task
+            try:
+                raise error
+            finally:
+                del error  # it refers to this frame
+        _check(run.team, library.gerfmuod_team_fault(run.team))
+
+    def stop(self) -> None:
+        """Ends the run: functions that run are finished, no further one begins, and ``run`` raises ``Refused``."""
+        library.gerfmuod_team_stop(self._open_team(), NONE)
+
+    @property
+    def failed(self) -> "Optional[Task[Any]]":
+        """The task whose function raised the exception that :meth:`run` raised, or None."""
+        return self._failed
 
     def again(self) -> None:
         """Prepares the same graph for one more run, after one that ended.
 
         The results of that run are forgotten. Inputs from outside have to be announced again, by
-        :meth:`outside` after this call; a task without inputs cannot await one any more.
+        :meth:`outside` after this call.
 
         Raises:
-            ValueError: the pool is closed.
-            Refused: ``WrongLife`` if the pool has not run, ``Running`` while it runs, ``Stopped``
-                if an exception has stopped it, ``NoMemory``.
+            Refused: ``WrongLife`` if the pool has not run, or if tasks were added in the run;
+                ``Stopped`` if it was stopped.
         """
-        team = self._open_team()
-        _check(team, library.gerfmuod_team_again(team))
-        for job in self._jobs:
-            job.forget()
+        with self._at_rest() as team:
+            _check(team, library.gerfmuod_team_again(team))
+            for job in self._jobs:
+                job.task._result, job.task._is_done = None, False
 
     def trace(self) -> str:
-        """Returns the steps of the pool as a trace, which ``tp audit`` judges; empty without ``traced``.
-
-        Raises:
-            ValueError: the pool is closed.
-        """
-        team = self._open_team()
-        length = library.gerfmuod_team_trace(team, None, 0)
-        room = ctypes.create_string_buffer(length + 1)
-        library.gerfmuod_team_trace(team, room, length + 1)
-        return room.value.decode()
+        """Returns the events of the run as a trace, which ``tp audit`` judges; empty without ``traced``."""
+        with self._at_rest() as team:
+            length = library.gerfmuod_team_trace(team, None, 0)
+            buffer = ctypes.create_string_buffer(length + 1)
+            library.gerfmuod_team_trace(team, buffer, length + 1)
+            return buffer.value.decode()
 
     def record(self, slices: int = 65536) -> None:
         """Records when functions begin and end, and when threads wait, in each later run.
@@ -231,24 +315,23 @@ class Pool:
             slices: how many functions and waits each thread keeps, the newest; 0 ends recording.
 
         Raises:
-            ValueError: the pool is closed.
             Refused: ``WrongLife`` if the pool has a task; ``NoMemory``.
         """
-        team = self._open_team()
-        _check(team, library.gerfmuod_team_record(team, _number(slices)))
+        number = _number("slices", slices)
+        with self._at_rest() as team:
+            _check(team, library.gerfmuod_team_record(team, number))
 
-    def profile(self, path: str) -> None:
+    def profile(self, path: Path) -> None:
         """Writes the last run to a file, in Chrome's trace event format.
 
         Raises:
-            ValueError: the pool is closed.
             OSError: the file cannot be opened.
-            Refused: ``WrongLife`` if no run was recorded, ``Running``, ``NoMemory``, and
-                ``NotWritten`` if not all of the file could be written.
+            Refused: ``WrongLife`` if no run was recorded, ``NoMemory``, and ``NotWritten`` if not
+                all of the file could be written.
         """
         self._write(library.gerfmuod_team_profile, path)
 
-    def summary(self, path: str) -> None:
+    def summary(self, path: Path) -> None:
         """Writes which share of its time each thread spent on what. It is refused as :meth:`profile`."""
         self._write(library.gerfmuod_team_summary, path)
 
@@ -257,9 +340,9 @@ class Pool:
 
         Results may still be used. A pool that is no longer referenced is closed as well.
         """
-        self._close()
-        self._team = None
-        self._jobs = []
+        if self._team is not None:
+            with self._at_rest():
+                self._team, self._jobs = None, []
 
     def __enter__(self) -> "Pool":
         return self
@@ -269,58 +352,65 @@ class Pool:
 
     def __len__(self) -> int:
         """Returns the number of tasks that were described."""
-        return self._length
+        return (self._newest.value + 1) & NONE
 
-    def _write(self, write: Callable[..., int], path: str) -> None:
-        team, file = self._open_team(), library.fopen(os.fsencode(path), b"w")
-        if not file:
-            raise OSError(f"{path} cannot be opened")
-        try:
-            _check(team, write(team, file))
-        finally:
-            library.fclose(file)
+    def _write(self, write: Callable[..., int], path: Path) -> None:
+        with self._at_rest() as team, open(path, "wb") as file:
+            copy = os.dup(file.fileno())
+            stream = library.fdopen(copy, b"w")
+            if not stream:
+                os.close(copy)
+                raise MemoryError
+            try:
+                _check(team, write(team, stream))
+            finally:
+                library.fclose(stream)
 
     def _number_of(self, task: "Task[Any]") -> int:
+        if not isinstance(task, Task):
+            raise TypeError(f"{task!r} is no task")
         if task._owner is not self._identity:
             raise ValueError("the task is of another pool")
         return task.number
 
-    def _open_team(self) -> ctypes.c_void_p:
+    def _open_team(self) -> Team:
         if self._team is None:
             raise ValueError("the pool is closed")
         return self._team
 
-    def _work(self, team: ctypes.c_void_p, node: int) -> None:
-        """Runs tasks of a node until the pool is over or stops."""
-        done = NONE
-        while True:
-            answer = library.gerfmuod_team_turn(team, node, done)
-            if answer.refused or answer.told == OVER:
-                return
-            done = answer.number
-            try:
-                self._jobs[done].run()
-            except BaseException as error:
-                self._stop(team, done, error)
-                return
+    @contextlib.contextmanager
+    def _at_rest(self) -> Iterator[Team]:
+        """Lets no run begin while it is entered."""
+        with self._free_lock():
+            if self._running.locked():
+                raise RuntimeError("the pool runs")
+            yield self._open_team()
 
-    def _stop(self, team: ctypes.c_void_p, task: int, error: BaseException) -> None:
-        self._errors.append(error)
-        library.gerfmuod_team_stop(team, task)
+    def _free_lock(self) -> Any:
+        """Returns the lock. If an interrupt came between the end of a with statement and its release, this thread releases it."""
+        while self._lock._is_owned():
+            self._lock.release()
+        return self._lock
 
 
-def _check(team: ctypes.c_void_p, refused: int) -> None:
-    if refused != OK:
-        raise Refused(refused, library.gerfmuod_team_at(team))
+def _check(team: Team, refused: int, task: int = NONE) -> None:
+    """Raises an exception if a call about a task, or about none, was refused."""
+    if refused:
+        is_fault = refused == library.gerfmuod_team_fault(team)
+        raise Refused(refused, library.gerfmuod_team_failed(team) if is_fault else task)
+
+
+def _value(argument: Any) -> Any:
+    return argument.result if isinstance(argument, Task) else argument
 
 
 def _processors() -> int:
     """Returns the number of processors that this process may use."""
-    if hasattr(os, "sched_getaffinity"):
-        return len(os.sched_getaffinity(0))
-    return os.cpu_count() or 1
+    return len(os.sched_getaffinity(0)) if hasattr(os, "sched_getaffinity") else os.cpu_count() or 1
 
 
-def _number(value: int) -> int:
-    """Returns a number for the library; one that is not of 32 bits becomes one that is refused."""
-    return value if 0 <= value <= NONE else NONE
+def _number(name: str, value: int, least: int = 0) -> int:
+    number = operator.index(value)
+    if not least <= number <= NONE:
+        raise ValueError(f"{name} is {number}")
+    return number

@@ -1,7 +1,7 @@
 """The exception for a call that the library refused."""
 from __future__ import annotations
 
-from typing import Optional
+from typing import Optional, Tuple, Type
 
 from ._library import NONE, library
 
@@ -10,8 +10,8 @@ class Refused(Exception):
     """The library refused a call.
 
     Attributes:
-        name: the name of the refusal, such as ``"NoThread"``.
-        number: its number, as in gerfmuod_dag.h and gerfmuod_team.h.
+        name: the name of the refusal, such as ``"NoTask"``.
+        number: its number, as in gerfmuod_graph.h and gerfmuod_team.h.
         meaning: a sentence that explains it.
         task: the number of the task that it is about, or None.
     """
@@ -23,3 +23,6 @@ class Refused(Exception):
         self.task: Optional[int] = None if task == NONE else task
         where = "" if self.task is None else f" at task {self.task}"
         super().__init__(f"{self.name}{where}: {self.meaning}")
+
+    def __reduce__(self) -> "Tuple[Type[Refused], Tuple[int, int]]":
+        return Refused, (self.number, NONE if self.task is None else self.task)
