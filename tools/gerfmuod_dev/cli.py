@@ -6,8 +6,6 @@ import argparse
 
 from . import bench, build, capi, checks, dag_programs, demo, docs, drawn, lanes, library, limits, lines
 from . import mpi, mutants, new_pool, pages, plots, proved, soak, summary, tries
-from .limits import cuts, hostile_numbers, live, memory, pictures, progress, random_texts, reasons
-from .limits import refuse, refuse_tests, strange
 from .shipping import completion, dist, installing, manual, package
 
 COMMANDS = {
@@ -37,19 +35,6 @@ COMMANDS = {
     "dist": dist,
     "package": package,
 }
-LIMITS = {
-    "refuse": refuse,
-    "refuse-tests": refuse_tests,
-    "memory": memory,
-    "live": live,
-    "hostile-numbers": hostile_numbers,
-    "pictures": pictures,
-    "strange": strange,
-    "progress": progress,
-    "reasons": reasons,
-    "cuts": cuts,
-    "random": random_texts,
-}
 
 
 def described(text):
@@ -70,7 +55,7 @@ def parser_of_all():
         add(parsers, name, module)
     group = parsers.add_parser("limits", help=limits.__doc__.splitlines()[0], **described(limits.__doc__))
     limit_parsers = group.add_subparsers(dest="limit", metavar="NAME", required=True)
-    for name, module in LIMITS.items():
+    for name, module in limits.LIMITS.items():
         add(limit_parsers, name, module)
     return parser
 

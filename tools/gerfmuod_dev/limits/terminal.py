@@ -1,0 +1,203 @@
+"""Runs the programs with pseudo-terminals as their standard error and standard input, and without."""
+import dataclasses
+import os
+import pty
+import re
+import select
+import signal
+import subprocess
+import threading
+import time
+
+from .. import running
+from ..running import Result
+
+LINE = rb"\r[0-9,]+ of [0-9,]+ tasks(, [0-9,]+ of [0-9,]+ steps)?"
+# lines of progress, the last of them cleared
+PROGRESS = re.compile(rb"(" + LINE + rb")+\r\x1b\[K")
+END_OF_INPUT = b"\x04"
+# the seconds after which a run must have printed its progress
+PATIENCE = 120
+# a run of `tp` that takes over a second if it is stopped on its way
+LONG = ["run", "product:64:2:0", "--workers", "2", "--generations", "9"]
+# the output for a script without steps, and for a trace without
+STARTED = b"node 0 pending 1 sent 0 received 0\ntotal pending 1 sent 0 received 0 under 0\nquiet no\n"
+AUDITED = b"steps 0\ntasks 0 done 0\nmessages 0 received 0\nnot ended\n"
+BAD_SPEC = Result(1, b"", b"refused 26 BadSpec\n")
+# for each way to an error of `tp` the arguments, the input, the result, and the reason at a terminal; others have no reason
+REASONS = [
+    (["run", "product:4:3:0"], b"", BAD_SPEC, b"product:4:3:0: SIDE 3 does not divide ORDER 4\n"),
+    (["run", ""], b"", BAD_SPEC, b": the kind must be product, wavefront or reduce\n"),
+    (["pools", "reduce:4:0", "product:4:3:0"], b"", BAD_SPEC, b"SPEC 2: SIDE 3 does not divide ORDER 4\n"),
+    (["pools", "reduce:4:0", "reduce:4:0"], b"", Result(1, b"", b"refused 25 PoolKnown\n"), b"SPEC 2 repeats an earlier one\n"),
+    (["pools", *"123456789"], b"", Result(1, b"", b"refused 23 StoreFull\n"), b"more than 8 pools\n"),
+    (["sim"], b"", Result(2, b"syntax line 1\n", b""), b"line 1 is missing\n"),
+    (["sim"], b"nodes 1\nready 0\nsuply 1\n", Result(2, b"syntax line 3\n", b""), b"line 3: unknown step `suply`\n"),
+    (["sim"], b"nodes 1\n\x1b[2J\n", Result(2, b"syntax line 2\n", b""), b"line 2: not a step\n"),
+    (["audit"], b"trace 1\nready 0\n", Result(2, b"syntax line 2\n", b""), b"line 2 is not `nodes N`, N from 1 to 8\n"),
+    (["run", "reduce:4:0"], b"", Result(0, b"66\ntasks 7\nmessages 0\nended\n", b""), b""),
+    (["run", "product:64:1:0", "--nodes", "2"], b"", Result(3, b"", b"refused 16 HistoryFull\n"), b""),
+    (["sim"], b"nodes 1\n", Result(0, STARTED, b""), b""),
+    (["audit"], b"trace 1\nnodes 1\ndone 1\n", Result(2, b"line 3 refused 4 NoTask\n", b""), b""),
+]
+TWO_BY_TWO = ["--nodes", "2", "--workers", "2"]
+ENDLESS = [
+    ("rod", ["heat", "1000000000000", "50"]),
+    ("rod", ["heat", "1000000000000", "50", *TWO_BY_TWO]),
+    ("grid", ["relax", "1000000000000", "4"]),
+]
+ENDING = [
+    ("rod", ["heat", "20000", "50", *TWO_BY_TWO]),
+    ("grid", ["relax", "10000", "4", *TWO_BY_TWO]),
+    ("matrices", ["product", "10", *TWO_BY_TWO]),
+]
+# what is typed, and what the program says of it
+TYPED = [
+    (b"9000\n300\n-60\n", ["heat", "1", "2"], "the rod", "one whole number a line: samples heat STEPS BLOCK"),
+    (b"0 16 32 0\n8 0 0 24\n0 0 64 0\n", ["relax", "2", "1"], "the grid", "one row a line: samples relax STEPS ROWS_A_BLOCK"),
+    (b"1 2\n3 4\n\n5 6\n7 8\n", ["product", "1"], "two matrices", "an empty line between them: samples product SIDE"),
+]
+# the most cells whose step, in blocks of one, has enough events at one node; at two nodes it needs more than there are
+MOST_CELLS = 131_072
+LONG_STEP = Result(2, b"", b"a run may have 1,048,576 events, and one step takes more: make the blocks larger\n")
+
+
+class Terminal(threading.Thread):
+    """A pseudo-terminal, whose text it reads until no process has it open."""
+
+    def __init__(self):
+        super().__init__()
+        self.master, self.slave = pty.openpty()
+        self.text = b""
+
+    def run(self):
+        piece = b"first"
+        while piece:
+            try:
+                piece = os.read(self.master, 65_536)
+            except OSError:
+                break
+            self.text += piece
+        os.close(self.master)
+
+
+def pause(process):
+    """Stops a process for a second once it has several threads."""
+    while process.poll() is None and len(os.listdir(f"/proc/{process.pid}/task")) == 1:
+        time.sleep(0.001)
+    time.sleep(0.05)
+    process.send_signal(signal.SIGSTOP)
+    time.sleep(1)
+    process.send_signal(signal.SIGCONT)
+
+
+def run_at_terminal(command, stdin=os.devnull, is_typed=False, is_paused=False):
+    """Runs a program with a terminal as its standard error. Its input is a file or a text, which may be typed at another terminal."""
+    terminal, (master, slave) = Terminal(), pty.openpty()
+    text = None if isinstance(stdin, str) else stdin
+    with open(stdin if text is None else os.devnull, "rb") as file:
+        source = slave if is_typed else file if text is None else subprocess.PIPE
+        process = subprocess.Popen(command, stdin=source, stdout=subprocess.PIPE, stderr=terminal.slave)
+    os.close(terminal.slave)
+    terminal.start()
+    if is_typed:
+        os.write(master, text + END_OF_INPUT)
+    if is_paused:
+        pause(process)
+    out, _ = process.communicate(None if is_typed else text)
+    terminal.join()
+    os.close(slave)
+    os.close(master)
+    return Result(running.status_of(process.returncode), out, terminal.text.replace(b"\r\n", b"\n"))
+
+
+def first_progress(command, stdin):
+    """Runs a program until it has printed its progress, or until PATIENCE is over, and kills it; returns what it printed."""
+    master, slave = pty.openpty()
+    with open(stdin, "rb") as file, subprocess.Popen(command, stdin=file, stdout=subprocess.DEVNULL, stderr=slave) as process:
+        os.close(slave)
+        text, last = b"", time.monotonic() + PATIENCE
+        while not re.match(LINE, text) and time.monotonic() < last and process.poll() is None:
+            if select.select([master], [], [], 1)[0]:
+                text += os.read(master, 65_536)
+        process.kill()
+    os.close(master)
+    return text
+
+
+def judge(tally, command, expected, result):
+    """Counts whether a result is the expected one; any progress that was cleared is left out."""
+    result = dataclasses.replace(result, err=PROGRESS.sub(b"", result.err))
+    tally.judge(result == expected, f"{command[1:]}: {result.description()}, expected {expected.description()}")
+
+
+def reasons(tally, options, _):
+    """Runs `tp` with and without a terminal as its standard error.
+
+    Output and status are the same. Without a terminal an error is one line; at a terminal a second line gives the reason, if
+    there is one, and the program announces that it reads a script or a trace from the terminal. A run of over a second prints
+    its progress to a terminal, and clears it at its end. Prints each case that ends differently. It needs pseudo-terminals,
+    and /proc.
+    """
+    for arguments, stdin, expected, reason in REASONS:
+        command = [options.tp, *arguments]
+        judge(tally, command, expected, running.run(command, stdin))
+        judge(tally, command, dataclasses.replace(expected, err=expected.err + reason), run_at_terminal(command, stdin))
+    piped, paused = running.run([options.tp, *LONG]), run_at_terminal([options.tp, *LONG], is_paused=True)
+    tally.judge(not piped.status and piped.out and not piped.err, f"a long run, piped: {piped.description()}")
+    is_well = (paused.status, paused.out) == (0, piped.out) and PROGRESS.fullmatch(paused.err)
+    tally.judge(is_well, f"a long run at a terminal: {paused.description()}")
+    for name, text, out in ("sim", b"nodes 1\n", STARTED), ("audit", b"trace 1\nnodes 1\n", AUDITED):
+        announced = b"reads standard input: tp %s < FILE\n" % name.encode()
+        judge(tally, [options.tp, name], Result(0, out, announced), run_at_terminal([options.tp, name], text, is_typed=True))
+
+
+def rows(count, width):
+    return [" ".join(str((row * 37 + column * 101) % 1000) for column in range(width)) for row in range(count)]
+
+
+def write_inputs(folder):
+    running.write(f"{folder}/rod", [number * 7919 % 100_003 for number in range(2000)])
+    running.write(f"{folder}/grid", rows(100, 200))
+    running.write(f"{folder}/matrices", [*rows(420, 420), "", *rows(420, 420)])
+    running.write(f"{folder}/most", [0] * MOST_CELLS)
+    running.write(f"{folder}/more", [0] * (MOST_CELLS + 1))
+
+
+def try_steps_of_many_events(tally, samples, folder):
+    """The most cells whose step has enough events at one node: at one node, where the store is full, and at two; and one cell more."""
+    for command in ([samples, "heat", "1", "1"], [samples, "relax", "1", "1"]):
+        judge(tally, command, Result(3, b"", b"refused 23 StoreFull\n"), running.run(command, f"{folder}/most"))
+        judge(tally, command, LONG_STEP, running.run([*command, "--nodes", "2"], f"{folder}/most"))
+        judge(tally, command, LONG_STEP, running.run(command, f"{folder}/more"))
+
+
+def progress(tally, options, folder):
+    """Runs the samples over lent data at a terminal, and on inputs that are too large to be stored.
+
+    Standard error of `samples heat`, `product` and `relax` is a pseudo-terminal. Runs without an end in sight have to print
+    their progress there, and are then killed. Runs that end have to leave the terminal clear, and to print on standard output
+    what they print without a terminal. With `--quiet` they print no progress. If standard input is a pseudo-terminal too, they
+    announce once what they read. Blocks for which a step needs too many events are refused with a line, as are a run that has
+    no room for its tasks, and an argument that is not UTF-8.
+    """
+    write_inputs(folder)
+    for name, arguments in ENDLESS:
+        text = first_progress([options.samples, *arguments], f"{folder}/{name}")
+        tally.judge(re.match(LINE, text), f"{arguments} printed no progress: {text[:200]}")
+    for name, arguments in ENDING:
+        command, stdin = [options.samples, *arguments], f"{folder}/{name}"
+        piped = running.run(command, stdin)
+        tally.judge(not piped.status and piped.out and not piped.err, f"{arguments}, piped: {piped.description()}")
+        judge(tally, command, piped, run_at_terminal(command, stdin))
+        quiet = run_at_terminal([*command, "--quiet"], stdin)
+        tally.judge(quiet == piped, f"{arguments} --quiet at a terminal: {quiet.description()}")
+    for text, arguments, what, lines in TYPED:
+        command, help_command = [options.samples, *arguments], [options.samples, arguments[0], "--help"]
+        piped, announced = running.run(command, text), f"Reading {what} from standard input up to Ctrl-D, {lines} < FILE\n"
+        judge(tally, command, dataclasses.replace(piped, err=announced.encode()), run_at_terminal(command, text, is_typed=True))
+        judge(tally, command, piped, run_at_terminal([*command, "--quiet"], text, is_typed=True))
+        judge(tally, help_command, running.run(help_command), run_at_terminal(help_command, b"", is_typed=True))
+    try_steps_of_many_events(tally, options.samples, folder)
+    command = [options.samples, "heat", b"\xff"]
+    judge(tally, command, Result(1, b"", b"the arguments are not UTF-8\n"), running.run(command))
