@@ -12,6 +12,7 @@ The status is 1 if a mutant survives, or, with --stale, if verdicts are not curr
 import datetime
 import functools
 import hashlib
+import itertools
 import json
 import os
 import re
@@ -63,10 +64,6 @@ def meaning_seen(part):
     return meaning(visible.text_of_part(part))
 
 
-def own_files(crate):
-    return [path for part in ("src", "specs", "proofs") for path in files_in(f"crates/{crate.name}/{part}")]
-
-
 def hash_of(texts):
     """Returns a hash of texts, given as pairs of a name and a text."""
     result = hashlib.sha256()
@@ -78,8 +75,9 @@ def hash_of(texts):
 def texts_seen(crate):
     """Returns the texts that a crate's proofs depend on, by their names: its own files, and the definitions of lower crates that it can
     see."""
-    own = [(path, meaning_of(path)) for path in own_files(crate)]
-    return own + [(f"{part.kind} {part.path} {part.name}", meaning_seen(part)) for part in visible.definitions_seen(crate.name)]
+    paths = [path for part in repository.SOURCES for path in files_in(f"crates/{crate.name}/{part}")]
+    parts = visible.definitions_seen(crate.name)
+    return [(path, meaning_of(path)) for path in paths] + [(f"{part.kind} {part.path} {part.name}", meaning_seen(part)) for part in parts]
 
 
 def digest(crate):
@@ -141,29 +139,30 @@ def report(crate, name, message):
         print(f"{crate}/{name}: {'SURVIVED' if 'NOT REFUSED' in message else 'NOT KILLED by a clause'}: {message}", flush=True)
 
 
-def try_alone(crate, names, lanes, _, keep, room):
+def try_alone(crate, names, lanes, keep, _, room):
     """Tries mutants of a crate each in a check of its own, so many of them in parallel, in a copy in which all crates below it are
     proved; keeps the prover's message for each by its name."""
     folder = f"{room}/crates/{crate.name}/must-fail"
     os.makedirs(folder)
     for name in names:
-        together.write(f"{folder}/{name}.edit", mutants_of(crate.name)[name].text)
+        running.write(f"{folder}/{name}.edit", mutants_of(crate.name)[name].text)
     streams = {"stdin": subprocess.DEVNULL, "stdout": subprocess.PIPE, "text": True}
     with subprocess.Popen(["rt", "must-fail", crate.name], cwd=room, env={**os.environ, "RT_JOBS": str(lanes)}, **streams) as process:
         for line in process.stdout:
             match = re.match(r"rt: must-fail \w+/(\S+)\.edit: (.*)", line)
             if match:
-                report(crate.name, match[1], match[2])
                 keep({match[1]: match[2]})
     shutil.rmtree(folder)
 
 
-def try_together(crate, group, proved, keep, room):
+def try_together(crate, group, keep, proved, room):
     """Tries mutants of a crate in one check; keeps the prover's message for each that it killed in the function that was changed."""
-    messages = together.try_group(crate.name, room, proved, group)
-    for name, message in messages.items():
-        report(crate.name, name, message)
-    keep(messages)
+    keep(together.try_group(crate.name, room, proved, group))
+
+
+def check(crate, room):
+    """Checks a crate in a copy, which keeps what it proved there."""
+    running.run(["rt", "check", "--jobs=1"], cwd=f"{room}/crates/{crate.name}", check=True, timeout=None)
 
 
 def in_copies(copies, jobs):
@@ -183,36 +182,48 @@ def in_copies(copies, jobs):
 
 
 class Verdicts:
-    """What the prover said of each mutant of a crate, by name. The verdict of an earlier run that was cut off is taken over if what the
-    crate's proofs depend on, the mutant and the toolchain are the same."""
+    """What the prover said of each mutant of a crate, by name. A verdict of an earlier run that was cut off is taken over if what the
+    crate's proofs depend on, the mutant and the toolchain are the same: their digest is its key."""
 
     def __init__(self, crate):
         self.crate, self.path, self.lock = crate, f"crates/{crate.name}/out/mutants.json", threading.Lock()
-        self.basis = [hash_of(texts_seen(crate)), toolchain()]
+        basis = hash_of([*texts_seen(crate), ("", toolchain())])
+        self.keys = {name: hash_of([(basis, mutant.text)]) for name, mutant in mutants_of(crate.name).items()}
         kept = json.loads(text_of(self.path, "{}"))
-        texts = {name: mutant.text for name, mutant in mutants_of(crate.name).items()}
-        earlier = kept["verdicts"] if kept.get("basis") == self.basis else {}
-        self.messages = {name: message for name, (text, message) in earlier.items() if texts.get(name) == text}
-        self.is_recorded = False
+        self.messages = {name: kept[key] for name, key in self.keys.items() if key in kept}
         if self.messages:
             print(f"{crate.name}: {len(self.messages)} verdicts taken over from a run that was cut off", flush=True)
 
     @property
     def left(self):
         """The mutants without a verdict."""
-        return [name for name in mutants_of(self.crate.name) if name not in self.messages]
+        return [name for name in self.keys if name not in self.messages]
 
     def add(self, messages):
-        """Keeps verdicts, and writes the crate's file if none is missing and each mutant was killed."""
+        """Keeps verdicts and prints them; if none is missing, and each mutant was killed, writes the crate's file."""
         with self.lock:
+            for name, message in messages.items():
+                report(self.crate.name, name, message)
+            is_first = bool(self.left)
             self.messages.update(messages)
+            decided = {self.keys[name]: message for name, message in self.messages.items() if not UNDECIDED.search(message)}
             os.makedirs(os.path.dirname(self.path), exist_ok=True)
-            decided = {name: message for name, message in self.messages.items() if not UNDECIDED.search(message)}
-            verdicts = {name: [mutants_of(self.crate.name)[name].text, message] for name, message in decided.items()}
-            together.write(f"{self.path}.new", json.dumps({"basis": self.basis, "verdicts": verdicts}))
-            os.replace(f"{self.path}.new", self.path)
-            if not self.left and not self.is_recorded:
-                self.is_recorded = record(self.crate, self.messages)
+            os.replace(running.write(f"{self.path}.new", json.dumps(decided)), self.path)
+            if is_first and not self.left:
+                self.record()
+
+    @property
+    def is_complete(self):
+        """Whether each mutant was killed by a clause."""
+        return not self.left and all(is_killed(self.crate.name, message) for message in self.messages.values())
+
+    def record(self):
+        """Writes what killed each mutant of the crate, if all of them were."""
+        if self.is_complete:
+            killers = {name: killer_of(self.crate.name, message) for name, message in self.messages.items()}
+            mutant_files.write(self.crate.name, killers, {"of": digest(self.crate), "by": toolchain(), "on": f"{datetime.date.today()}"})
+        result = f"{len(self.keys)} mutants killed" if self.is_complete else "NOT EACH of its mutants was killed by a clause"
+        print(f"{self.crate.name}: {result}", flush=True)
 
 
 def groups_in(crate, names):
@@ -221,83 +232,66 @@ def groups_in(crate, names):
     return together.groups_of(filter(None, places))
 
 
-def check(crate, room):
-    """Checks a crate in a copy, which keeps what it proved there."""
-    streams = {"stdin": subprocess.DEVNULL, "stdout": subprocess.DEVNULL, "stderr": subprocess.DEVNULL}
-    subprocess.run(["rt", "check", "--jobs=1"], cwd=f"{room}/crates/{crate.name}", check=True, **streams)
-
-
-def check_taken_over(crates, places, copies):
-    """Checks those crates whose library was taken over from another checkout of this machine: no copy has what a check of them keeps."""
-    left = [crate for crate in crates if not any(os.path.exists(places[crate.name, room]) for room in copies)]
-    in_copies(copies, [functools.partial(check, crate) for crate in left])
+def keep_proofs(crates, top, copies):
+    """Copies what the check of each crate without mutants left, which a further check begins with; returns the copy's folder by crate."""
+    kept = {crate: f"{top}/kept/{crate.name}" for crate in crates}
+    places = {crate: [f"{room}/crates/{crate.name}/out/incremental" for room in copies] for crate in crates}
+    # (no copy has it of a crate whose library was taken over from another checkout of this machine)
+    in_copies(copies, [functools.partial(check, crate) for crate in crates if not any(map(os.path.exists, places[crate]))])
+    for crate, place in kept.items():
+        renew(max(filter(os.path.exists, places[crate]), key=os.path.getmtime), place)
+    return kept
 
 
 def try_all(crates, top, copies):
     """Tries the mutants of crates that are proved in these copies, the longest crate first; returns whether each was killed. Those of
     different functions are tried in one check, and then those that survived it each in a check of its own."""
-    proved, verdicts = {crate.name: f"{top}/kept/{crate.name}" for crate in crates}, {crate.name: Verdicts(crate) for crate in crates}
-    places = {(crate.name, room): f"{room}/crates/{crate.name}/out/incremental" for crate in crates for room in copies}
-    check_taken_over(crates, places, copies)
-    for name, place in proved.items():
-        found = [places[name, room] for room in copies if os.path.exists(places[name, room])]
-        renew(max(found, key=os.path.getmtime), place)
+    kept, verdicts = keep_proofs(crates, top, copies), {crate: Verdicts(crate) for crate in crates}
+    for crate, verdict in verdicts.items():
+        if not verdict.left:
+            verdict.record()
 
-    def run_jobs(jobs):
-        in_copies(
-            copies,
-            [functools.partial(action, crate, *rest, proved[crate.name], verdicts[crate.name].add) for action, crate, *rest in jobs],
-        )
+    def run_jobs(action, jobs):
+        in_copies(copies, [functools.partial(action, crate, *rest, verdicts[crate].add, kept[crate]) for crate, *rest in jobs])
 
     longest_first = sorted(crates, key=lambda crate: -crate.lines)
-    run_jobs([(try_together, crate, group) for crate in longest_first for group in groups_in(crate, verdicts[crate.name].left)])
-    left = {crate: verdicts[crate.name].left for crate in crates}
-    for (name, _), place in places.items():
-        renew(proved[name], place)
-    lanes = max(1, len(copies) // max(1, sum(map(bool, left.values()))))
-    run_jobs([(try_alone, crate, names, lanes) for crate, names in left.items() if names])
-    return all([verdict.is_recorded or record(verdict.crate, verdict.messages) for verdict in verdicts.values()])
-
-
-def record(crate, messages):
-    """Writes what killed each mutant of a crate, if all of them were; returns whether they were."""
-    is_well = messages.keys() == mutants_of(crate.name).keys() and all(is_killed(crate.name, message) for message in messages.values())
-    if is_well:
-        killers = {name: killer_of(crate.name, message) for name, message in messages.items()}
-        notes = {"of": digest(crate), "by": toolchain(), "on": f"{datetime.date.today()}"}
-        mutant_files.write(crate.name, killers, notes)
-    result = f"{len(messages)} mutants killed" if is_well else "NOT EACH of its mutants was killed by a clause"
-    print(f"{crate.name}: {result}", flush=True)
-    return is_well
+    run_jobs(try_together, [(crate, group) for crate in longest_first for group in groups_in(crate, verdicts[crate].left)])
+    left = {crate: verdicts[crate].left for crate in crates if verdicts[crate].left}
+    for crate, room in itertools.product(left, copies):
+        renew(kept[crate], f"{room}/crates/{crate.name}/out/incremental")
+    lanes = max(1, len(copies) // max(1, len(left)))
+    run_jobs(try_alone, [(crate, names, lanes) for crate, names in left.items()])
+    for crate in (crate for crate in crates if verdicts[crate].left):
+        verdicts[crate].record()
+    return all(verdict.is_complete for verdict in verdicts.values())
 
 
 def redigest(crate):
     """Writes a crate's digest anew and keeps what killed its mutants; returns whether each of them had been tried."""
-    untried_names = [f"{crate.name}/{name} was never tried: make mutants CRATE={crate.name}" for name in untried(crate)]
-    if untried_names:
-        print("\n".join(untried_names))
-        return False
-    if is_current(crate):
+    file = mutant_files.file_of(crate.name)
+    if untried(crate):
+        print("\n".join(f"{crate.name}/{name} was never tried: make mutants CRATE={crate.name}" for name in untried(crate)))
+    elif is_current(crate):
         print(f"{crate.name}: its verdicts are current")
-        return True
-    day = (note_of(crate, "on") or "").partition(",")[0]
-    notes = {"of": digest(crate), "by": note_of(crate, "by"), "on": f"{day}, carried over a change of names on {datetime.date.today()}"}
-    mutant_files.write(crate.name, mutant_files.file_of(crate.name).killers, notes)
-    print(f"{crate.name}: carried over {len(mutants_of(crate.name))} mutants")
-    return True
+    else:
+        day = file.notes.get("on", "").partition(",")[0]
+        notes = {"of": digest(crate), "by": file.notes["by"], "on": f"{day}, carried over a change of names on {datetime.date.today()}"}
+        mutant_files.write(crate.name, file.killers, notes)
+        print(f"{crate.name}: carried over {len(mutants_of(crate.name))} mutants")
+    return not untried(crate)
 
 
 def faults_of(name):
     """Returns why mutants of a crate cannot be read or applied, a line each."""
-    faults = []
     try:
-        for mutant in mutants_of(name).values():
-            try:
-                mutant_files.check(name, mutant)
-            except Fault as fault:
-                faults.append(str(fault))
+        mutants, faults = mutants_of(name), []
     except Fault as fault:
-        faults.append(str(fault))
+        return [str(fault)]
+    for mutant in mutants.values():
+        try:
+            mutant_files.check(name, mutant)
+        except Fault as fault:
+            faults.append(str(fault))
     return faults
 
 
@@ -349,23 +343,15 @@ def try_mutants(crates):
 def run(options):
     repository.go_to_top()
     crates = repository.crates()
-    try:
-        if options.stale:
-            return print_stale(crates)
-        having = {name: crate for name, crate in crates.items() if mutants_of(name)}
-        wanted = list(dict.fromkeys(options.redigest or options.names))
-        names = wanted or [name for name, crate in having.items() if options.all or not is_current(crate)]
-        unknown = [name for name in names if name not in having]
-        if unknown:
-            print(f"No mutants: {' '.join(unknown)}")
-            return 1
-        faults = [line for name in names for line in faults_of(name)]
-        if faults:
-            print("\n".join(faults))
-            return 1
-        if options.redigest:
-            return 0 if all([redigest(having[name]) for name in names]) else 1
-        return 0 if try_mutants([having[name] for name in names]) else 1
-    except Fault as fault:
-        print(fault)
+    if options.stale:
+        return print_stale(crates)
+    having = {name: crate for name, crate in crates.items() if is_readable(name) or faults_of(name)}
+    wanted = list(dict.fromkeys(options.redigest or options.names))
+    faults = [f"No mutants: {name}" for name in wanted if name not in having]
+    faults += [line for name in wanted or having if name in having for line in faults_of(name)]
+    if faults:
+        print("\n".join(faults))
         return 1
+    chosen = [having[name] for name in wanted or having if wanted or options.all or not is_current(having[name])]
+    is_well = all([redigest(crate) for crate in chosen]) if options.redigest else try_mutants(chosen)
+    return 0 if is_well else 1
