@@ -39,100 +39,64 @@ ALL_WRAPPED = ["-Wl,--wrap=malloc,--wrap=realloc,--wrap=free"]
 PAGE = "docs/OTHER-RUNTIMES.md"
 # the kinds of steps of bench.c
 KINDS = ("tasks", "messages", "makers", "sparse", "large", "hashed")
+CACHEGRIND = ["valgrind", "--tool=cachegrind", "--cache-sim=no", "--cachegrind-out-file=/dev/null"]
+
+
+def ends(status, output, *lines):
+    """Returns runs with these arguments, which end with this status and print this text."""
+    return [Run(line.split(), status, output) for line in lines]
 
 
 def fuzz_runs(calls, seeds):
-    return [Run([str(calls), str(seed)], 0, "as the model says") for seed in seeds]
+    return ends(0, "as the model says", *(f"{calls} {seed}" for seed in seeds))
 
 
+TWO_WAVES = ends(0, "two generations", "")
+RIGHT = ends(0, "as they should be", "")
+REENTRANT = ends(0, "calls from inside of a call: refused", "")
+FORGETFUL = ends(1, "not as the model says", "100000 2 forgets", "100000 2 early")
+OUT_OF_MEMORY = [*ends(0, "as it should be", ""), *ends(1, "check failed", "takes", "changes", "lies", "forgets")]
+UNLOCKED = [*ends(0, " 0 not as they should be", "step", "settle", "read")]
+UNLOCKED += ends(FAILURE, "data race", "step unlocked", "settle unlocked", "read unlocked")
+POOL = [
+    *ends(0, "ended: 381 tasks, 378 messages", ""),
+    *ends(3, "refused 10 NoMessage: no such message is under way to that node", "twice"),
+    *ends(3, "receipt of message 40 at node", "late"),
+    *ends(3, "judged not", "early"),
+]
+STORM = [
+    *ends(0, " 0 EARLY", "8 20", "1 200", "2 1000", "3 1000", "8 300 lossy"),
+    *ends(0, " 0 SILENT", "64 100", "64 100 fifo", "1000 3"),
+    *ends(1, "late: ", "2 200 late"),
+    *ends(1, "early: ", "2 200 early"),
+    *ends(2, "20 SILENT", "8 20 uncounted"),
+    *ends(2, "twice: ", "8 50 twice"),
+]
+EPOCHS = [
+    *ends(0, " 0 EARLY", "3 4 20", "1 8 100", "2 8 300"),
+    *ends(0, " 0 SILENT", "8 8 100", "64 4 5"),
+    *ends(1, "unmarked: ", "8 8 5 unmarked"),
+    *ends(2, " 0 EARLY", "8 8 5 dropped"),
+]
+THREADS = [*ends(0, "64 threads, 3 epochs: right", ""), *ends(0, "right", "1 3", "2 64")]
+THREADS += [*ends(FAILURE, "", "8 2 early"), *ends(2, "", "64 1 uncounted")]
+# each with its compiler, its runs, and those under valgrind
 PROGRAMS = [
-    Program("capi/two_waves.c", C11, [Run([], 0, "two generations")], [[]]),
-    Program("capi/texts.c", C99, [Run([], 0, "as they should be")], [[]]),
-    Program("capi/limits.c", C11, [Run([], 0, "as they should be")]),
-    Program("capi/reentrant.c", [*C11, "-g", *ALL_WRAPPED], [Run([], 0, "calls from inside of a call: refused")], [[]]),
+    Program("capi/two_waves.c", C11, TWO_WAVES, [[]]),
+    Program("capi/texts.c", C99, RIGHT, [[]]),
+    Program("capi/limits.c", C11, RIGHT),
+    Program("capi/reentrant.c", [*C11, "-g", *ALL_WRAPPED], REENTRANT, [[]]),
     Program("capi/fuzz.c", [*C11, "-g", *ADDRESS, *WRAPPED], fuzz_runs(CALLS, [1])),
-    Program(
-        "capi/fuzz.c",
-        [*C11, "-g", *WRAPPED],
-        [Run(["100000", "2", "forgets"], 1, "not as the model says"), Run(["100000", "2", "early"], 1, "not as the model says")],
-        [["20000", "3"]],
-    ),
-    Program(
-        "capi/out_of_memory.c",
-        [*C11, *WRAPPED],
-        [Run([], 0, "as it should be"), *(Run([fault], 1, "check failed") for fault in ("takes", "changes", "lies", "forgets"))],
-    ),
-    Program(
-        "capi/unlocked.c",
-        [*C11, "-g", "-pthread", *THREAD],
-        [
-            *(Run([call], 0, " 0 not as they should be") for call in ("step", "settle", "read")),
-            *(Run([call, "unlocked"], FAILURE, "data race") for call in ("step", "settle", "read")),
-        ],
-    ),
-    Program(
-        "capi/pool.cpp",
-        [CXX, "-std=c++17", *WARNINGS, "-O2", "-pthread"],
-        [
-            Run([], 0, "ended: 381 tasks, 378 messages"),
-            Run(["twice"], 3, "refused 10 NoMessage: no such message is under way to that node"),
-            Run(["late"], 3, "receipt of message 40 at node"),
-            Run(["early"], 3, "judged not"),
-        ],
-        [[]],
-    ),
-    Program(
-        "capi/layout.c",
-        C99,
-        [Run([], 0, ", 0 failed"), Run(["swapped"], 98, "or another struct")],
-        [[]],
-    ),
-    Program(
-        "capi/storm.c",
-        C11,
-        [
-            Run(["8", "20"], 0, " 0 EARLY"),
-            Run(["1", "200"], 0, " 0 EARLY"),
-            Run(["2", "1000"], 0, " 0 EARLY"),
-            Run(["3", "1000"], 0, " 0 EARLY"),
-            Run(["64", "100"], 0, " 0 SILENT"),
-            Run(["64", "100", "fifo"], 0, " 0 SILENT"),
-            Run(["1000", "3"], 0, " 0 SILENT"),
-            Run(["8", "300", "lossy"], 0, " 0 EARLY"),
-            Run(["2", "200", "late"], 1, "late: "),
-            Run(["2", "200", "early"], 1, "early: "),
-            Run(["8", "20", "uncounted"], 2, "20 SILENT"),
-            Run(["8", "50", "twice"], 2, "twice: "),
-        ],
-        [["8", "20"]],
-    ),
-    Program(
-        "capi/epochs.c",
-        C11,
-        [
-            Run(["3", "4", "20"], 0, " 0 EARLY"),
-            Run(["1", "8", "100"], 0, " 0 EARLY"),
-            Run(["2", "8", "300"], 0, " 0 EARLY"),
-            Run(["8", "8", "100"], 0, " 0 SILENT"),
-            Run(["64", "4", "5"], 0, " 0 SILENT"),
-            Run(["8", "8", "5", "unmarked"], 1, "unmarked: "),
-            Run(["8", "8", "5", "dropped"], 2, " 0 EARLY"),
-        ],
-        [["3", "4", "20"]],
-    ),
-    Program(
-        "capi/threads.c",
-        [*C11, "-pthread"],
-        [
-            Run([], 0, "64 threads, 3 epochs: right"),
-            Run(["1", "3"], 0, "right"),
-            Run(["2", "64"], 0, "right"),
-            Run(["8", "2", "early"], FAILURE, ""),
-            Run(["64", "1", "uncounted"], 2, ""),
-        ],
-    ),
-    Program("capi/ring.rs", ["rustc", "--edition", "2024", "-O"], [Run([], 0, "ended: 1608 messages, none was left")]),
-    Program("capi/two_waves.f90", ["gfortran", "-std=f2018", "-Wall", "-Wextra", "-O2"], [Run([], 0, "ended with wave 1")]),
+    Program("capi/fuzz.c", [*C11, "-g", *WRAPPED], FORGETFUL, [["20000", "3"]]),
+    Program("capi/out_of_memory.c", [*C11, *WRAPPED], OUT_OF_MEMORY),
+    Program("capi/unlocked.c", [*C11, "-g", "-pthread", *THREAD], UNLOCKED),
+    Program("capi/pool.cpp", [CXX, "-std=c++17", *WARNINGS, "-O2", "-pthread"], POOL, [[]]),
+    Program("capi/layout.c", C99, [*ends(0, ", 0 failed", ""), *ends(98, "or another struct", "swapped")], [[]]),
+    Program("capi/storm.c", C11, STORM, [["8", "20"]]),
+    Program("capi/epochs.c", C11, EPOCHS, [["3", "4", "20"]]),
+    Program("capi/threads.c", [*C11, "-pthread"], THREADS),
+    Program("capi/ring.rs", ["rustc", "--edition", "2024", "-O"], ends(0, "ended: 1608 messages, none was left", "")),
+    Program("capi/two_waves.f90", ["gfortran", "-std=f2018", "-Wall", "-Wextra", "-O2"], ends(0, "ended with wave 1", "")),
 ]
 
 
@@ -185,34 +149,28 @@ def run_fuzz(folder):
     return tally.end()
 
 
-def instructions(program, kind, steps):
-    """Returns the instructions of a process that does this number of steps."""
-    command = ["valgrind", "--tool=cachegrind", "--cache-sim=no", "--cachegrind-out-file=/dev/null", program, "count", kind, str(steps)]
-    report = subprocess.run(command, capture_output=True, text=True, check=True).stderr
-    return int(re.search(r"I +refs: +([\d,]+)", report)[1].replace(",", ""))
-
-
-def memory(program, kind, steps):
-    """Returns the bytes that a process has after this number of steps."""
-    return int(subprocess.run([program, "count", kind, str(steps)], capture_output=True, text=True, check=True).stdout)
-
-
 def bench(folder):
     """Measures what a step costs, and prints it."""
     program = compiled(Program("capi/bench.c", [*C11, "-pthread"], []), folder)
+
+    def measured(kind, counter, form):
+        """Returns what a step takes: the difference of a process with all steps and one without any."""
+        numbers = []
+        for steps in (0, STEPS):
+            command = [*counter, program, "count", kind, str(steps)]
+            output = subprocess.run(command, stdout=subprocess.PIPE, stderr=subprocess.STDOUT, text=True, check=True).stdout
+            numbers.append(int(re.search(form, output, re.M)[1].replace(",", "")))
+        return (numbers[1] - numbers[0]) / STEPS
+
     print(f"{STEPS:,} steps at 8 nodes, called from C:")
     for kind in KINDS:
         if shutil.which("valgrind"):
-            counted = instructions(program, kind, STEPS) - instructions(program, kind, 0)
-            print(f"{kind}: {counted / STEPS:.1f} instructions a step, including the loop and the close")
-        size = memory(program, kind, STEPS) - memory(program, kind, 0)
-        print(f"{kind}: {size / STEPS:.1f} bytes a step")
+            print(f"{kind}: {measured(kind, CACHEGRIND, 'I +refs: +([0-9,]+)'):.1f} instructions a step, including the loop and the close")
+        print(f"{kind}: {measured(kind, [], '^([0-9]+)$'):.1f} bytes a step", flush=True)
     if not shutil.which("valgrind"):
-        print("valgrind is not installed: no instructions are counted")
-    sys.stdout.flush()
-    subprocess.run([program, "time", str(STEPS)], check=True)
-    subprocess.run([program, "locks", str(STEPS)], check=True)
-    subprocess.run([program, "stack"], check=True)
+        print("valgrind is not installed: no instructions are counted", flush=True)
+    for arguments_of in ["time", str(STEPS)], ["locks", str(STEPS)], ["stack"]:
+        subprocess.run([program, *arguments_of], check=True)
     return 0
 
 
