@@ -3,10 +3,9 @@
 Without a name, tries those of the crates that changed since their mutants were last tried. The gate tries those of
 crates/NAME/must-fail; all others are in crates/NAME/mutants, which also has what killed each mutant of the crate. The
 verdicts are current as long as the crate's own files, its mutants, and the definitions of lower crates that it can see
-by its imports say the same: comments and line breaks do not count. A verdict by another toolchain is no reason to try
-anew; --stale prints which crates have one. Mutants of different functions are tried in one check, and those that it does
-not kill each in a check of its own. Prints a line for each crate that is proved before, for each mutant, and for each crate.
-Each verdict is kept until the crate is complete, so that a run which is cut off goes on where it was.
+by its imports say the same: comments, line breaks and the toolchain do not count. Mutants of different functions are tried
+in one check, and those that it does not kill each in a check of its own. Prints a line for each crate that is proved before,
+for each mutant, and for each crate. A run which is cut off goes on where it was.
 The status is 1 if a mutant survives, or, with --stale, if verdicts are not current or a mutant cannot be applied.
 """
 import datetime
@@ -55,11 +54,6 @@ def meaning(text):
 
 
 @functools.lru_cache(maxsize=None)
-def meaning_of(path):
-    return meaning(text_of(path))
-
-
-@functools.lru_cache(maxsize=None)
 def meaning_seen(part):
     return meaning(visible.text_of_part(part))
 
@@ -76,18 +70,13 @@ def texts_seen(crate):
     """Returns the texts that a crate's proofs depend on, by their names: its own files, and the definitions of lower crates that it can
     see."""
     paths = [path for part in repository.SOURCES for path in files_in(f"crates/{crate.name}/{part}")]
-    parts = visible.definitions_seen(crate.name)
-    return [(path, meaning_of(path)) for path in paths] + [(f"{part.kind} {part.path} {part.name}", meaning_seen(part)) for part in parts]
+    seen = [(f"{part.kind} {part.path} {part.name}", meaning_seen(part)) for part in visible.definitions_seen(crate.name)]
+    return [(path, meaning(text_of(path))) for path in paths] + seen
 
 
 def digest(crate):
-    """Returns a hash of all that the verdicts on a crate's mutants depend on: its own files, its mutants, and the definitions of lower
-    crates that it can see. Neither the verdicts themselves nor whether the gate tries a mutant is part of it."""
+    """Returns a hash of all that the verdicts on a crate's mutants depend on, among it the mutants, but not the verdicts."""
     return hash_of([*texts_seen(crate), *((name, mutant.text) for name, mutant in sorted(mutants_of(crate.name).items()))])
-
-
-def note_of(crate, word):
-    return mutant_files.file_of(crate.name).notes.get(word)
 
 
 def untried(crate):
@@ -97,12 +86,7 @@ def untried(crate):
 
 
 def is_current(crate):
-    return note_of(crate, "of") == digest(crate) and not untried(crate)
-
-
-def logic(version):
-    """Returns the part of a toolchain's version that names its prover."""
-    return (version or "").partition("logic ")[2]
+    return mutant_files.file_of(crate.name).notes.get("of") == digest(crate) and not untried(crate)
 
 
 def goals_with(step, answers):
@@ -132,13 +116,6 @@ def is_killed(crate, message):
     return not ALIVE.search(message) and bool(killer_of(crate, message))
 
 
-def report(crate, name, message):
-    if is_killed(crate, message):
-        print(f"{crate}/{name}: killed: {killer_of(crate, message)}", flush=True)
-    else:
-        print(f"{crate}/{name}: {'SURVIVED' if 'NOT REFUSED' in message else 'NOT KILLED by a clause'}: {message}", flush=True)
-
-
 def try_alone(crate, names, lanes, keep, _, room):
     """Tries mutants of a crate each in a check of its own, so many of them in parallel, in a copy in which all crates below it are
     proved; keeps the prover's message for each by its name."""
@@ -158,11 +135,6 @@ def try_alone(crate, names, lanes, keep, _, room):
 def try_together(crate, group, keep, proved, room):
     """Tries mutants of a crate in one check; keeps the prover's message for each that it killed in the function that was changed."""
     keep(together.try_group(crate.name, room, proved, group))
-
-
-def check(crate, room):
-    """Checks a crate in a copy, which keeps what it proved there."""
-    running.run(["rt", "check", "--jobs=1"], cwd=f"{room}/crates/{crate.name}", check=True, timeout=None)
 
 
 def in_copies(copies, jobs):
@@ -203,7 +175,9 @@ class Verdicts:
         """Keeps verdicts and prints them; if none is missing, and each mutant was killed, writes the crate's file."""
         with self.lock:
             for name, message in messages.items():
-                report(self.crate.name, name, message)
+                alive = f"{'SURVIVED' if 'NOT REFUSED' in message else 'NOT KILLED by a clause'}: {message}"
+                is_dead = is_killed(self.crate.name, message)
+                print(f"{self.crate.name}/{name}: {f'killed: {killer_of(self.crate.name, message)}' if is_dead else alive}", flush=True)
             is_first = bool(self.left)
             self.messages.update(messages)
             decided = {self.keys[name]: message for name, message in self.messages.items() if not UNDECIDED.search(message)}
@@ -236,8 +210,9 @@ def keep_proofs(crates, top, copies):
     """Copies what the check of each crate without mutants left, which a further check begins with; returns the copy's folder by crate."""
     kept = {crate: f"{top}/kept/{crate.name}" for crate in crates}
     places = {crate: [f"{room}/crates/{crate.name}/out/incremental" for room in copies] for crate in crates}
-    # (no copy has it of a crate whose library was taken over from another checkout of this machine)
-    in_copies(copies, [functools.partial(check, crate) for crate in crates if not any(map(os.path.exists, places[crate]))])
+    for crate in (crate for crate in crates if not any(map(os.path.exists, places[crate]))):
+        # (its library was taken over from another checkout of this machine)
+        running.run(["rt", "check", "--jobs=1"], cwd=f"{copies[0]}/crates/{crate.name}", check=True, timeout=None)
     for crate, place in kept.items():
         renew(max(filter(os.path.exists, places[crate]), key=os.path.getmtime), place)
     return kept
@@ -269,12 +244,10 @@ def try_all(crates, top, copies):
 def redigest(crate):
     """Writes a crate's digest anew and keeps what killed its mutants; returns whether each of them had been tried."""
     file = mutant_files.file_of(crate.name)
-    if untried(crate):
-        print("\n".join(f"{crate.name}/{name} was never tried: make mutants CRATE={crate.name}" for name in untried(crate)))
-    elif is_current(crate):
-        print(f"{crate.name}: its verdicts are current")
-    else:
-        day = file.notes.get("on", "").partition(",")[0]
+    day = file.notes.get("on", "").partition(",")[0]
+    for name in untried(crate):
+        print(f"{crate.name}/{name} was never tried: make mutants CRATE={crate.name}")
+    if not untried(crate) and not is_current(crate):
         notes = {"of": digest(crate), "by": file.notes["by"], "on": f"{day}, carried over a change of names on {datetime.date.today()}"}
         mutant_files.write(crate.name, file.killers, notes)
         print(f"{crate.name}: carried over {len(mutants_of(crate.name))} mutants")
@@ -295,30 +268,21 @@ def faults_of(name):
     return faults
 
 
-def is_readable(name):
-    try:
-        return bool(mutants_of(name))
-    except Fault:
-        return False
-
-
 def print_stale(crates):
     """Prints the mutants that cannot be applied, the crates whose mutants have to be tried anew, and how many mutants there are;
     returns the exit status."""
-    tally = running.Tally()
-    for line in (line for name in crates for line in faults_of(name)):
-        tally.fails(line)
-    having = {name: crate for name, crate in crates.items() if is_readable(name)}
-    for name, crate in having.items():
-        tally.judge(is_current(crate), f"{name} changed since its mutants were tried: make mutants")
-    others = [name for name, crate in having.items() if logic(note_of(crate, "by")) != logic(toolchain())]
-    if others:
-        print(f"Tried with another prover than this one, which `make mutants ALL=1` would ask: {' '.join(others)}")
-    in_gate = [sum(mutant.in_gate for mutant in mutants_of(name).values()) for name in having]
-    mutants, in_crates = sum(in_gate), sum(map(bool, in_gate))
-    elsewhere = sum(len(mutant_files.file_of(name).mutants) for name in having)
-    most = "" if mutants <= MOST_MUTANTS and in_crates <= MOST_CRATES else f" (at most {MOST_MUTANTS} in {MOST_CRATES} is the rule)"
-    print(f"The gate has {mutants} mutants in {in_crates} crates{most}; {elsewhere} more are in crates/*/mutants.")
+    tally, in_gate, elsewhere = running.Tally(), [], 0
+    for name, crate in crates.items():
+        faults = faults_of(name)
+        for line in faults:
+            tally.fails(line)
+        if not faults and mutants_of(name):
+            tally.judge(is_current(crate), f"{name} changed since its mutants were tried: make mutants")
+            in_gate += [name for mutant in mutants_of(name).values() if mutant.in_gate]
+            elsewhere += len(mutant_files.file_of(name).mutants)
+    is_rule = len(in_gate) <= MOST_MUTANTS and len({*in_gate}) <= MOST_CRATES
+    most = "" if is_rule else f" (at most {MOST_MUTANTS} in {MOST_CRATES} is the rule)"
+    print(f"The gate has {len(in_gate)} mutants in {len({*in_gate})} crates{most}; {elsewhere} more are in crates/*/mutants.")
     return tally.end()
 
 
@@ -326,18 +290,9 @@ def arguments(parser):
     which = parser.add_mutually_exclusive_group()
     which.add_argument("--all", action="store_true", help="of every crate")
     which.add_argument("--stale", action="store_true", help="try nothing: print the crates whose verdicts are not current, and faults")
-    redigest_help = (
-        "try nothing: write the digests of these crates anew and keep their verdicts. For changes of names or layout"
-        " alone, such as a move of files between crates; the crate's file then says so"
-    )
+    redigest_help = "try nothing: keep the verdicts of these crates after a change of names or layout alone; the crate's file then says so"
     which.add_argument("--redigest", nargs="+", metavar="NAME", help=redigest_help)
     which.add_argument("names", nargs="*", default=[], metavar="NAME", help="of these crates")
-
-
-def try_mutants(crates):
-    """Proves these crates and tries their mutants; returns whether each was killed by a clause."""
-    with rooms() as (top, copies):
-        return prove_all(repository.crates([crate.name for crate in crates]), [*copies]) and try_all(crates, top, copies)
 
 
 def run(options):
@@ -345,13 +300,16 @@ def run(options):
     crates = repository.crates()
     if options.stale:
         return print_stale(crates)
-    having = {name: crate for name, crate in crates.items() if is_readable(name) or faults_of(name)}
     wanted = list(dict.fromkeys(options.redigest or options.names))
-    faults = [f"No mutants: {name}" for name in wanted if name not in having]
-    faults += [line for name in wanted or having if name in having for line in faults_of(name)]
+    faults = [f"no mutants: {name}" for name in wanted if name not in crates or not faults_of(name) and not mutants_of(name)]
+    faults = faults or [fault for name in wanted or crates for fault in faults_of(name)]
     if faults:
         print("\n".join(faults))
         return 1
-    chosen = [having[name] for name in wanted or having if wanted or options.all or not is_current(having[name])]
-    is_well = all([redigest(crate) for crate in chosen]) if options.redigest else try_mutants(chosen)
-    return 0 if is_well else 1
+    having = [crate for crate in crates.values() if mutants_of(crate.name)]
+    chosen = [crate for crate in having if (crate.name in wanted if wanted else options.all or not is_current(crate))]
+    if options.redigest:
+        return 0 if all([redigest(crate) for crate in chosen]) else 1
+    with rooms() as (top, copies):
+        is_proved = prove_all(repository.crates([crate.name for crate in chosen]), copies)
+        return 0 if is_proved and try_all(chosen, top, copies) else 1
