@@ -38,12 +38,10 @@ def choices(rounds):
 def hostile_numbers(tally, options, _):
     """Measures what a line costs if an attacker chose the numbers.
 
-    They are those of tasks, actions and messages. Every script has the same lines, eight a round: a task, an action and a
-    message from their beginning to their end, all with the round's number. An ordinary script has the numbers 0, 1, 2 and so
-    on. In the others each is replaced: rising by 61, falling, random, or all equal modulo a power of two (if there are fewer
-    such numbers than rounds they repeat, in the ordinary script that it is compared with too). Prints the instructions of a
-    line, by `valgrind --tool=cachegrind`, without those of the program's start, and their ratio to those of the ordinary
-    script. A ratio of more than 2 fails.
+    Every script has the same lines, eight a round: a task, an action and a message from their beginning to their end, all with
+    the round's number. An ordinary script has the numbers 0, 1, 2 and so on. In the others they rise by 61, fall, are random, or
+    all equal modulo a power of two (if there are fewer such numbers than rounds they repeat, in the ordinary script too). Prints
+    the instructions of a line, by cachegrind, and their ratio to those of the ordinary script. A ratio of more than 2 fails.
     """
     if not tally.has("valgrind", "the cost of hostile numbers"):
         return
@@ -66,22 +64,21 @@ def hostile_numbers(tally, options, _):
 
 
 class Trace(inputs.Writer):
-    """A trace that begins with idle nodes; the first few may stay active."""
+    """A trace of all nodes, with some lines to begin with."""
 
-    def __init__(self, head="trace 1", active=0):
+    def __init__(self, *lines, head="trace 1"):
         super().__init__(random.Random(3), True)
-        self.lines[0] = head
-        self.get_ready(active)
+        self.lines = [head, f"nodes {NODES}", *lines]
 
-    def get_ready(self, first=0):
-        for node in range(first, NODES):
-            self.write("ready", node)
-
-    def end_pool(self):
-        """Writes two waves, the second of which detects the end, if all messages were received."""
+    def end_pool(self, messages=0):
+        """Writes two waves, the second of which detects the end, if all messages were received, and returns the trace."""
+        self.messages = self.taken = messages
         self.wave()
         self.wave()
         return self.lines
+
+
+READY = [f"ready {node}" for node in range(NODES)]
 
 
 def all_steps(lines):
@@ -92,50 +89,45 @@ def all_steps(lines):
 
 def waves_alone(lines):
     """A message is under way during all waves but the last two."""
-    trace = Trace(active=NODES)
-    trace.write("send", 0, 1, 0)
+    trace = Trace("send 0 1 0", *READY)
     trace.messages = 1
-    trace.get_ready()
     while len(trace.lines) < lines:
         trace.wave()
     trace.lines += ["recv 1 0", "end 1 0"]
-    trace.taken = 1
-    return trace.end_pool()
+    return trace.end_pool(1)
 
 
 def never_received(lines):
-    return [*Trace(active=NODES).lines, *(f"send {number % NODES} {(number + 1) % NODES} {number}" for number in range(lines))]
+    return Trace(*(f"send {number % NODES} {(number + 1) % NODES} {number}" for number in range(lines))).lines
 
 
 def reopened(lines):
-    trace = Trace("trace 2", active=NODES)
+    trace = Trace(head="trace 2")
     while len(trace.lines) < lines:
-        trace.lines += ["insert 1 0 0", "begin 0", "done 0"]
+        trace.lines += ["insert 1 0 0", "begin 0", "done 0", *READY]
         trace.waves, trace.last = 0, None
-        trace.get_ready()
         trace.end_pool()
         trace.write("reopen")
     return trace.lines[:-1]
 
 
 def long_under_way(lines):
-    trace, under = Trace(active=NODES), []
-    while len(trace.lines) + 2 * len(under) < lines:
-        to = trace.messages % NODES
-        trace.write("send", (to + trace.generator.randrange(1, NODES)) % NODES, to, trace.messages)
-        heapq.heappush(under, (len(trace.lines) + trace.generator.randrange(1, lines), to, trace.messages))
-        trace.messages += 1
-        while under and under[0][0] <= len(trace.lines):
-            trace.lines += "recv {1} {2}\nend {1} {2}".format(*heapq.heappop(under)).splitlines()
-    trace.lines += "\n".join("recv {1} {2}\nend {1} {2}".format(*message) for message in sorted(under)).splitlines()
-    trace.taken = trace.messages
-    trace.get_ready()
-    return trace.end_pool()
+    trace, under, message = Trace(), [], 0
+    while under or len(trace.lines) < lines // 2:
+        if len(trace.lines) + 2 * len(under) < lines:
+            to = message % NODES
+            trace.write("send", (to + trace.generator.randrange(1, NODES)) % NODES, to, message)
+            heapq.heappush(under, (len(trace.lines) + trace.generator.randrange(1, lines), to, message))
+            message += 1
+        while under and (under[0][0] <= len(trace.lines) or len(trace.lines) + 2 * len(under) >= lines):
+            trace.lines += "recv {1} {2}\nend {1} {2}".format(*heapq.heappop(under)).split("\n")
+    trace.lines += READY
+    return trace.end_pool(message)
 
 
 def idle_in_turn(lines):
     """One node is active at a time, works for long, and sends a message to the next one."""
-    trace, message = Trace(active=1), 0
+    trace, message = Trace(*READY[1:]), 0
     while len(trace.lines) < lines:
         sender, receiver = message % NODES, (message + 1) % NODES
         trace.lines += [f"open {sender} 1", f"close {sender} 1"] * (lines // 3_000 + 1)
@@ -143,8 +135,7 @@ def idle_in_turn(lines):
         trace.write(f"end {sender} {message - 1}" if message else "ready 0")
         message += 1
     trace.write("end", message % NODES, message - 1)
-    trace.messages = trace.taken = message
-    return trace.end_pool()
+    return trace.end_pool(message)
 
 
 KINDS = {
@@ -160,12 +151,9 @@ KINDS = {
 def pictures(tally, options, _):
     """Measures how large the pictures of long traces are, and their cost compared with `tp audit`.
 
-    The traces have a million lines by default: all kinds of steps over eight nodes, each node sending to each; waves without
-    work; messages that are never received; pools that are reopened again and again; messages that are under way for long;
-    nodes that are idle in turn. Each has to be a sound trace. Draws each with `bin/samples draw run`, reads the picture with an
-    XML parser, and prints its bytes and seconds, and for the first trace the instructions of `draw run` as a multiple of those
-    of `tp audit`, by `valgrind --tool=cachegrind`. A picture that is not XML or has more than 250,000 bytes fails, and so does
-    drawing all kinds of steps with more than twice the instructions.
+    Draws sound traces of a million lines by `samples draw run`, reads the pictures with an XML parser, and prints their bytes and
+    seconds, and for the first trace the instructions of `draw run` as a multiple of those of `tp audit`, by cachegrind. A
+    picture of more than 250,000 bytes fails, and so does drawing all kinds of steps with more than twice the instructions.
     """
     drawing, audit = [options.samples, "draw", "run"], [options.tp, "audit"]
     for name, lines_of in KINDS.items():

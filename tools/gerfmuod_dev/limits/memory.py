@@ -159,12 +159,10 @@ class Refusing:
 def refuse(tally, options, folder):
     """Fails each allocation of the built programs in turn.
 
-    Each program runs again and again, with its first allocation failing, then its second, until it has no more; and then with
-    all allocations from there on failing. Each time it has to print its whole output, or else `refused 17 NoMemory` (for
-    `samples`, `there is no memory`; for `samples draw`, either) on standard error and nothing on standard output, with status
-    3; `pools` may also print a line for each pool. Each command has to be refused at least once. Needs a C compiler.
-
-    With --quick it tries a few commands, each with one allocation failing at a time.
+    Each program runs with its first allocation failing, then its second, until it has no more; and then with all allocations
+    from there on failing. Each time it has to print its whole output, or else that it is out of memory on standard error and
+    nothing on standard output, with status 3; `pools` may also print a line for each pool. Each command has to be refused at
+    least once. Needs a C compiler. With --quick it tries a few commands, each with one allocation failing at a time.
     """
     refusing = Refusing(folder)
     if not refusing.library:
@@ -181,10 +179,9 @@ def refuse(tally, options, folder):
 def refuse_tests(tally, _, folder):
     """Fails each allocation of the proved tests of memory in turn.
 
-    Each test runs again and again, with its first allocation failing, then its second, until it has no more. Each time it has
-    to pass, because it repeats a call that ran out of memory, after it has checked that nothing changed. Prints the number
-    of allocations of each test, and then how often each call failed, as the tests name it. Needs a C compiler, and the
-    programs of tests that `rt test` leaves in crates/*/out.
+    Each time a test has to pass, because it repeats a call that ran out of memory, after it has checked that nothing changed.
+    Prints the number of allocations of each test, and then how often each call failed, as the tests name it. Needs a C
+    compiler, and the programs of tests that `rt test` leaves in crates/*/out.
     """
     refusing, calls = Refusing(folder), collections.Counter()
     if not refusing.library:
@@ -204,9 +201,8 @@ def refuse_tests(tally, _, folder):
 def address_space(tally, options, folder):
     """Runs the program in small address spaces.
 
-    Each command runs at 50 limits of its address space (as `ulimit -v` sets them) from 8 MB up. Each time it has to print
-    its whole output, or else `refused 17 NoMemory` on standard error and nothing on standard output, with status 3. Each
-    command has to be refused at least once, and to succeed at least once.
+    Each command runs at 50 limits of its address space (as `ulimit -v` sets them) from 8 MB up. Each time it has to print its
+    whole output, or else that it is out of memory. It has to be refused at least once, and to succeed at least once.
     """
     write_inputs(folder)
     for command in LIMITED:
@@ -231,9 +227,8 @@ def most_at_a_time(command, stdin, library, report):
 def live(tally, options, folder):
     """Measures how much memory a stencil has at a time, by its steps.
 
-    Runs `samples heat` on the same cells for 1 to 1,000 steps, and `samples relax` likewise, at one node with one worker and
-    at two with two. A run of more steps may have only some rows more memory at a time than one of a single step: a value is
-    dropped once its last reader has run. Prints a line for each run. Needs a C compiler.
+    Runs `samples heat` and `relax` for 1 to 1,000 steps, at one node with one worker and at two with two. A run of more steps
+    may have only some rows more memory at a time than one of a single step: a value is dropped once its last reader has run.
     """
     library = running.preload_library("live", folder)
     if not library:

@@ -16,11 +16,8 @@ ONE_NODE = b"node 0 pending 1 sent 0 received 0\ntotal pending 1 sent 0 received
 RUN_RESULT = Result(0, b"66\ntasks 7\nmessages 0\nended\n", b"")
 MOST_BYTES, MOST_STEPS = 33_554_432, 1_048_576
 TEXTS = ("sim", "audit")
-# commands with streams that the shell opens, and what they end with
-READING = [("closed", "<&-"), ("a directory", "< /"), ("only for writing", "0> /dev/null")]
-WRITING = [("closed", ">&-", WRITE_FAULT), ("a full device", "> /dev/full", WRITE_FAULT), ("only for reading", "1< /dev/null", WRITE_FAULT)]
-# (nothing can be printed then, so only the status says it)
-WRITING += [("and standard error closed", ">&- 2>&-", Result(1, b"", b""))]
+# streams that the shell opens: closed, a directory, only for writing; closed, a full device, only for reading
+READING, WRITING = ("<&-", "< /", "0> /dev/null"), (">&-", "> /dev/full", "1< /dev/null")
 ARGUMENTS = [
     ("an argument that is not UTF-8", Result(1, b"", b"fault words\n"), ["run", b"reduce:4:\xff"]),
     ("an argument of 100,000 bytes", BAD_SPEC, ["run", "9" * 100_000]),
@@ -52,9 +49,9 @@ class Trial:
         """Runs the program on a file or on bytes."""
         self.judge(name, expected, running.run([self.tp, *arguments], stdin, **options))
 
-    def check_in_shell(self, name, expected, line, stdin, *arguments):
+    def check_in_shell(self, expected, line, stdin, *arguments):
         """Runs the program by a line of the shell, in which it is "$@"."""
-        self.judge(name, expected, running.run(["sh", "-c", line, "sh", self.tp, *arguments], stdin))
+        self.judge(f"{line} {arguments}", expected, running.run(["sh", "-c", line, "sh", self.tp, *arguments], stdin))
 
 
 def try_interrupted(trial):
@@ -69,13 +66,15 @@ def try_interrupted(trial):
 
 def try_streams(trial):
     """Standard input and output are closed, full or not read; a run reads nothing."""
-    for what, stream in READING:
+    for stream in READING:
         for arguments, expected in (["sim"], READ_FAULT), (["audit"], READ_FAULT), (["run", "reduce:4:0"], RUN_RESULT):
-            trial.check_in_shell(f"{arguments}, standard input {what}", expected, f'exec "$@" {stream}', os.devnull, *arguments)
+            trial.check_in_shell(expected, f'exec "$@" {stream}', os.devnull, *arguments)
     for arguments in ["sim"], ["audit"], ["run", "reduce:4:0"], ["--help"], ["sim", "--help"], ["--version"]:
         stdin = trial.inputs.get(" ".join(arguments), os.devnull)
-        for what, stream, expected in WRITING:
-            trial.check_in_shell(f"{arguments}, standard output {what}", expected, f'exec "$@" {stream}', stdin, *arguments)
+        for stream in WRITING:
+            trial.check_in_shell(WRITE_FAULT, f'exec "$@" {stream}', stdin, *arguments)
+        # (nothing can be printed then, so only the status says it)
+        trial.check_in_shell(Result(1, b"", b""), 'exec "$@" >&- 2>&-', stdin, *arguments)
         # (the reader is closed before the first byte)
         reader, writer = os.pipe()
         os.close(reader)
@@ -101,7 +100,7 @@ def try_lengths(trial):
         trial.check(f"{command}, {MOST_BYTES} bytes", NO_TEXT, b"x" * MOST_BYTES, command)
         trial.check(f"{command}, {MOST_BYTES + 1} bytes", LONG_FAULT, b"x" * (MOST_BYTES + 1), command)
         trial.check(f"{command}, the program itself", NO_TEXT, trial.tp, command)
-    trial.check_in_shell("sim, a pipe without an end", LONG_FAULT, 'yes | "$@"', os.devnull, "sim")
+    trial.check_in_shell(LONG_FAULT, 'yes | "$@"', os.devnull, "sim")
     text, replies = b"nodes 1\n" + b"open 0 1\nclose 0 1\n" * (MOST_STEPS // 2), b"ok\n" * MOST_STEPS
     counts = b"steps 1048576\ntasks 0 done 0\nmessages 0 received 0\nnot ended\n"
     for command, more, expected in (
@@ -140,12 +139,8 @@ def strange(tally, options, folder):
 
     Streams are closed, full or not read, reads are interrupted forever, texts are too long or have too many steps, and the
     system refuses more threads (which is tried as root alone). Each case has an expected status, an output and at most one
-    line on standard error. Prints each case that ends differently. The interrupted reads need a C compiler.
-
-    With --quick it tries the interrupted reads and the pools of many events alone.
+    line on standard error. With --quick it tries the interrupted reads and the pools of many events alone.
     """
-    trial = Trial(tally, options.tp, folder)
-    for try_some in (try_interrupted, try_arguments_and_pools):
-        try_some(trial)
-    for try_some in () if options.quick else (try_streams, try_one_line_is_read, try_lengths, try_threads):
-        try_some(trial)
+    more = () if options.quick else (try_streams, try_one_line_is_read, try_lengths, try_threads)
+    for try_some in (try_interrupted, try_arguments_and_pools, *more):
+        try_some(Trial(tally, options.tp, folder))

@@ -60,6 +60,12 @@ TYPED = [
 # the most cells whose step, in blocks of one, has enough events at one node; at two nodes it needs more than there are
 MOST_CELLS = 131_072
 LONG_STEP = Result(2, b"", b"a run may have 1,048,576 events, and one step takes more: make the blocks larger\n")
+REFUSED = [("rod", ["heat", b"\xff"], Result(1, b"", b"the arguments are not UTF-8\n"))]
+for sample in ("heat", "relax"):
+    REFUSED += [("most", [sample, "1", "1"], Result(3, b"", b"refused 23 StoreFull\n"))]
+    REFUSED += [("most", [sample, "1", "1", "--nodes", "2"], LONG_STEP), ("more", [sample, "1", "1"], LONG_STEP)]
+# the rows and columns of the grid and of a matrix
+SIZES = [(100, 200), (420, 420)]
 
 
 class Terminal(threading.Thread):
@@ -134,10 +140,8 @@ def judge(tally, command, expected, result):
 def reasons(tally, options, _):
     """Runs `tp` with and without a terminal as its standard error.
 
-    Output and status are the same. Without a terminal an error is one line; at a terminal a second line gives the reason, if
-    there is one, and the program announces that it reads a script or a trace from the terminal. A run of over a second prints
-    its progress to a terminal, and clears it at its end. Prints each case that ends differently. It needs pseudo-terminals,
-    and /proc.
+    Output and status are the same. At a terminal a second line gives the reason of an error, if there is one, and the program
+    announces that it reads from the terminal. A run of over a second prints its progress there, and clears it at its end.
     """
     for arguments, stdin, expected, reason in REASONS:
         command = [options.tp, *arguments]
@@ -152,34 +156,22 @@ def reasons(tally, options, _):
         judge(tally, [options.tp, name], Result(0, out, announced), run_at_terminal([options.tp, name], text, is_typed=True))
 
 
-def rows(count, width):
-    return [" ".join(str((row * 37 + column * 101) % 1000) for column in range(width)) for row in range(count)]
-
-
 def write_inputs(folder):
-    running.write(f"{folder}/rod", [number * 7919 % 100_003 for number in range(2000)])
-    running.write(f"{folder}/grid", rows(100, 200))
-    running.write(f"{folder}/matrices", [*rows(420, 420), "", *rows(420, 420)])
-    running.write(f"{folder}/most", [0] * MOST_CELLS)
-    running.write(f"{folder}/more", [0] * (MOST_CELLS + 1))
-
-
-def try_steps_of_many_events(tally, samples, folder):
-    """The most cells whose step has enough events at one node: at one node, where the store is full, and at two; and one cell more."""
-    for command in ([samples, "heat", "1", "1"], [samples, "relax", "1", "1"]):
-        judge(tally, command, Result(3, b"", b"refused 23 StoreFull\n"), running.run(command, f"{folder}/most"))
-        judge(tally, command, LONG_STEP, running.run([*command, "--nodes", "2"], f"{folder}/most"))
-        judge(tally, command, LONG_STEP, running.run(command, f"{folder}/more"))
+    rows = {size: [" ".join(str((row * 37 + column * 101) % 1000) for column in range(size[1])) for row in range(size[0])] for size in SIZES}
+    grid, matrix = rows.values()
+    for name, lines in {
+        "rod": [number * 7919 % 100_003 for number in range(2000)], "grid": grid, "matrices": [*matrix, "", *matrix],
+        "most": [0] * MOST_CELLS, "more": [0] * (MOST_CELLS + 1),
+    }.items():
+        running.write(f"{folder}/{name}", lines)
 
 
 def progress(tally, options, folder):
     """Runs the samples over lent data at a terminal, and on inputs that are too large to be stored.
 
-    Standard error of `samples heat`, `product` and `relax` is a pseudo-terminal. Runs without an end in sight have to print
-    their progress there, and are then killed. Runs that end have to leave the terminal clear, and to print on standard output
-    what they print without a terminal. With `--quiet` they print no progress. If standard input is a pseudo-terminal too, they
-    announce once what they read. Blocks for which a step needs too many events are refused with a line, as are a run that has
-    no room for its tasks, and an argument that is not UTF-8.
+    Runs without an end in sight have to print their progress. Runs that end have to leave the terminal clear, to print on
+    standard output what they print without a terminal, and with `--quiet` no progress. If standard input is a terminal too, they
+    announce once what they read. Steps of too many events are refused, and so is an argument that is not UTF-8.
     """
     write_inputs(folder)
     for name, arguments in ENDLESS:
@@ -198,6 +190,6 @@ def progress(tally, options, folder):
         judge(tally, command, dataclasses.replace(piped, err=announced.encode()), run_at_terminal(command, text, is_typed=True))
         judge(tally, command, piped, run_at_terminal([*command, "--quiet"], text, is_typed=True))
         judge(tally, help_command, running.run(help_command), run_at_terminal(help_command, b"", is_typed=True))
-    try_steps_of_many_events(tally, options.samples, folder)
-    command = [options.samples, "heat", b"\xff"]
-    judge(tally, command, Result(1, b"", b"the arguments are not UTF-8\n"), running.run(command))
+    for name, arguments, expected in REFUSED:
+        command = [options.samples, *arguments]
+        judge(tally, command, expected, running.run(command, f"{folder}/{name}"))
