@@ -11,6 +11,7 @@ last line is `N passed, M failed, K skipped`; the status is 1 if one failed, or 
 With --full only the fuzz runs, in its long form. With --bench it runs no program, but measures and prints what a step costs:
 instructions, which valgrind counts at two numbers of steps, memory, nanoseconds, locks, and the depth of the stack.
 """
+import json
 import os
 import re
 import shutil
@@ -42,62 +43,39 @@ KINDS = ("tasks", "messages", "makers", "sparse", "large", "hashed")
 CACHEGRIND = ["valgrind", "--tool=cachegrind", "--cache-sim=no", "--cachegrind-out-file=/dev/null"]
 
 
-def ends(status, output, *lines):
-    """Returns runs with these arguments, which end with this status and print this text."""
-    return [Run(line.split(), status, output) for line in lines]
+# of each program the runs: a status (-1: any but 0), a text that is printed, and the arguments, a line for each run
+RUNS = json.loads(text_of(f"{repository.TOP}/tools/data/capi-runs.json"))
+# the command that compiles a program, and the arguments of its runs under valgrind
+COMPILED = {
+    "two_waves.c": (C11, [[]]),
+    "texts.c": (C99, [[]]),
+    "limits.c": (C11, []),
+    "reentrant.c": ([*C11, "-g", *ALL_WRAPPED], [[]]),
+    "fuzz.c": ([*C11, "-g", *WRAPPED], [["20000", "3"]]),
+    "out_of_memory.c": ([*C11, *WRAPPED], []),
+    "unlocked.c": ([*C11, "-g", "-pthread", *THREAD], []),
+    "pool.cpp": ([CXX, "-std=c++17", *WARNINGS, "-O2", "-pthread"], [[]]),
+    "layout.c": (C99, [[]]),
+    "storm.c": (C11, [["8", "20"]]),
+    "epochs.c": (C11, [["3", "4", "20"]]),
+    "threads.c": ([*C11, "-pthread"], []),
+    "ring.rs": (["rustc", "--edition", "2024", "-O"], []),
+    "two_waves.f90": (["gfortran", "-std=f2018", "-Wall", "-Wextra", "-O2"], []),
+}
 
 
-def fuzz_runs(calls, seeds):
-    return ends(0, "as the model says", *(f"{calls} {seed}" for seed in seeds))
+def fuzz(options, calls, seeds):
+    """Returns the fuzz with these options of the compiler, with this number of calls for each seed."""
+    runs = [Run([str(calls), str(seed)], 0, "as the model says") for seed in seeds]
+    return Program("capi/fuzz.c", [*C11, "-g", *options, *WRAPPED], runs)
 
 
-TWO_WAVES = ends(0, "two generations", "")
-RIGHT = ends(0, "as they should be", "")
-REENTRANT = ends(0, "calls from inside of a call: refused", "")
-FORGETFUL = ends(1, "not as the model says", "100000 2 forgets", "100000 2 early")
-OUT_OF_MEMORY = [*ends(0, "as it should be", ""), *ends(1, "check failed", "takes", "changes", "lies", "forgets")]
-UNLOCKED = [*ends(0, " 0 not as they should be", "step", "settle", "read")]
-UNLOCKED += ends(FAILURE, "data race", "step unlocked", "settle unlocked", "read unlocked")
-POOL = [
-    *ends(0, "ended: 381 tasks, 378 messages", ""),
-    *ends(3, "refused 10 NoMessage: no such message is under way to that node", "twice"),
-    *ends(3, "receipt of message 40 at node", "late"),
-    *ends(3, "judged not", "early"),
-]
-STORM = [
-    *ends(0, " 0 EARLY", "8 20", "1 200", "2 1000", "3 1000", "8 300 lossy"),
-    *ends(0, " 0 SILENT", "64 100", "64 100 fifo", "1000 3"),
-    *ends(1, "late: ", "2 200 late"),
-    *ends(1, "early: ", "2 200 early"),
-    *ends(2, "20 SILENT", "8 20 uncounted"),
-    *ends(2, "twice: ", "8 50 twice"),
-]
-EPOCHS = [
-    *ends(0, " 0 EARLY", "3 4 20", "1 8 100", "2 8 300"),
-    *ends(0, " 0 SILENT", "8 8 100", "64 4 5"),
-    *ends(1, "unmarked: ", "8 8 5 unmarked"),
-    *ends(2, " 0 EARLY", "8 8 5 dropped"),
-]
-THREADS = [*ends(0, "64 threads, 3 epochs: right", ""), *ends(0, "right", "1 3", "2 64")]
-THREADS += [*ends(FAILURE, "", "8 2 early"), *ends(2, "", "64 1 uncounted")]
-# each with its compiler, its runs, and those under valgrind
-PROGRAMS = [
-    Program("capi/two_waves.c", C11, TWO_WAVES, [[]]),
-    Program("capi/texts.c", C99, RIGHT, [[]]),
-    Program("capi/limits.c", C11, RIGHT),
-    Program("capi/reentrant.c", [*C11, "-g", *ALL_WRAPPED], REENTRANT, [[]]),
-    Program("capi/fuzz.c", [*C11, "-g", *ADDRESS, *WRAPPED], fuzz_runs(CALLS, [1])),
-    Program("capi/fuzz.c", [*C11, "-g", *WRAPPED], FORGETFUL, [["20000", "3"]]),
-    Program("capi/out_of_memory.c", [*C11, *WRAPPED], OUT_OF_MEMORY),
-    Program("capi/unlocked.c", [*C11, "-g", "-pthread", *THREAD], UNLOCKED),
-    Program("capi/pool.cpp", [CXX, "-std=c++17", *WARNINGS, "-O2", "-pthread"], POOL, [[]]),
-    Program("capi/layout.c", C99, [*ends(0, ", 0 failed", ""), *ends(98, "or another struct", "swapped")], [[]]),
-    Program("capi/storm.c", C11, STORM, [["8", "20"]]),
-    Program("capi/epochs.c", C11, EPOCHS, [["3", "4", "20"]]),
-    Program("capi/threads.c", [*C11, "-pthread"], THREADS),
-    Program("capi/ring.rs", ["rustc", "--edition", "2024", "-O"], ends(0, "ended: 1608 messages, none was left", "")),
-    Program("capi/two_waves.f90", ["gfortran", "-std=f2018", "-Wall", "-Wextra", "-O2"], ends(0, "ended with wave 1", "")),
-]
+def programs():
+    """Returns the programs of capi/ with their runs."""
+    yield fuzz(ADDRESS, CALLS, [1])
+    for name, (compiler, small) in COMPILED.items():
+        runs = [Run(line.split(), status, output) for status, output, *lines in RUNS[name] for line in lines]
+        yield Program(f"capi/{name}", compiler, runs, small)
 
 
 def sources(language, _):
@@ -142,10 +120,9 @@ def compiled(program, folder):
 
 def run_fuzz(folder):
     """Runs the long form of the fuzz."""
-    tally, runs = Tally(), fuzz_runs(ALL_CALLS, range(1, SEEDS + 1))
+    tally = Tally()
     tally.seconds *= 10
-    programs = [Program("capi/fuzz.c", [*C11, "-g", *options, *WRAPPED], runs) for options in (ADDRESS, [])]
-    run_programs(tally, programs, command_of, folder)
+    run_programs(tally, [fuzz(options, ALL_CALLS, range(1, SEEDS + 1)) for options in (ADDRESS, [])], command_of, folder)
     return tally.end()
 
 
@@ -195,7 +172,7 @@ def run(options):
     else:
         with tempfile.TemporaryDirectory() as folder:
             check_symbols(tally)
-            run_programs(tally, PROGRAMS, command_of, folder)
+            run_programs(tally, list(programs()), command_of, folder)
             check_page(tally, folder)
             mpi.run_quick(tally, folder)
     return tally.end()

@@ -9,31 +9,10 @@ from . import mpi, mutants, new_pool, pages, plots, proved, soak, summary, tries
 from .shipping import completion, dist, installing, manual, package
 
 COMMANDS = {
-    "build": build,
-    "lib": library,
-    "test": checks,
-    "capi": capi,
-    "dag": dag_programs,
-    "mpi": mpi,
-    "demo": demo,
-    "try": tries,
-    "pages": pages,
-    "mutants": mutants,
-    "lanes": lanes,
-    "lines": lines,
-    "docs": docs,
-    "proved": proved,
-    "draw": drawn,
-    "plot": plots,
-    "summary": summary,
-    "new-pool": new_pool,
-    "soak": soak,
-    "bench": bench,
-    "manual": manual,
-    "completion": completion,
-    "install": installing,
-    "dist": dist,
-    "package": package,
+    "build": build, "lib": library, "test": checks, "capi": capi, "dag": dag_programs, "mpi": mpi, "demo": demo, "try": tries,
+    "pages": pages, "mutants": mutants, "lanes": lanes, "lines": lines, "docs": docs, "proved": proved, "draw": drawn, "plot": plots,
+    "summary": summary, "new-pool": new_pool, "soak": soak, "bench": bench, "manual": manual, "completion": completion,
+    "install": installing, "dist": dist, "package": package,
 }
 
 

@@ -4,77 +4,18 @@ import os
 import re
 import resource
 import sys
-from dataclasses import dataclass
 
 from .. import running
 from ..bench import inputs
+from ..repository import text_of
 from ..running import short
 
 LINE_OF_A_POOL = re.compile(rb"pool [0-7] [^ ]+ (ended tasks [0-9]+ messages [0-9]+|refused 17 NoMemory)")
 # what the programs may print if they are out of memory; `samples draw` prints a line of `tp` until it has read its arguments
 MESSAGES = {"tp": [b"refused 17 NoMemory\n"], "samples": [b"there is no memory\n"]}
 MESSAGES["samples draw"] = [*MESSAGES["tp"], *MESSAGES["samples"]]
-TWO_BY_TWO = "--nodes 2 --workers 2"
-
-
-@dataclass(frozen=True)
-class Command:
-    """A command line, more options, its input, whether the quick form has it, and by how many percent its limit of memory grows."""
-
-    line: str
-    options: str = ""
-    stdin: str = os.devnull
-    is_quick: bool = False
-    growth: int = 0
-
-    @property
-    def name(self):
-        return f"{self.line} {self.options}".strip()
-
-
-# with one allocation failing
-REFUSED = [
-    Command("tp sim", stdin="script"),
-    Command("tp sim", stdin="fault", is_quick=True),
-    Command("tp audit", stdin="trace"),
-    Command("tp run reduce:4:0"),
-    Command("tp run reduce:4:0", TWO_BY_TWO, is_quick=True),
-    Command("tp run product:8:2:0", "--nodes 3 --workers 2"),
-    Command("tp run wavefront:40:30:0"),
-    Command("tp run reduce:4:0 --generations 3", "--nodes 2", is_quick=True),
-    Command("tp run reduce:64:0 --trace"),
-    Command("tp pools reduce:4:0 wavefront:2:3:0"),
-    Command("tp --help"),
-    Command("samples heat 40 8", stdin="rod"),
-    # an input of several reads
-    Command("samples heat 2 500", stdin="long_rod"),
-    Command("samples heat 3 5", TWO_BY_TWO, "rod"),
-    Command("samples product 2", stdin="matrices"),
-    Command("samples product 4", TWO_BY_TWO, "matrices"),
-    Command("samples relax 5 3", stdin="grid"),
-    Command("samples relax 3 1", TWO_BY_TWO, "grid"),
-    Command("samples patterns stencil 4 3 1"),
-    Command("samples patterns fft 8 4 1", TWO_BY_TWO),
-    Command("samples patterns --list"),
-    Command("samples --help"),
-    Command("samples heat --help"),
-    Command("samples draw run", stdin="drawn", is_quick=True),
-    Command("samples draw run --format html", stdin="drawn"),
-    Command("samples draw run --format events", stdin="drawn"),
-    Command("samples draw graph wavefront:6:5:0", "--nodes 3"),
-    Command("samples draw graph product:4:2:0 --dot"),
-    Command("samples draw --help"),
-]
-# in a small address space
-LIMITED = [
-    Command("tp sim", stdin="long_script", growth=5),
-    Command("tp audit", stdin="long_trace", growth=5),
-    Command("tp run product:64:2:0", growth=8),
-    Command("tp run wavefront:64:64:0", TWO_BY_TWO, growth=8),
-    Command("tp run reduce:64:0", "--nodes 8 --workers 8", growth=12),
-    Command("tp run reduce:1024:0 --trace", growth=8),
-    Command("tp pools product:32:2:0 reduce:256:0", growth=12),
-]
+# a command line, its input, and in `refuse` whether the quick form has it, in `memory` by how many percent its limit grows
+COMMAND = re.compile(r"^(?:(quick|full|\d+): )(.*?)(?: < (\w+))?$", re.M)
 # the first limit in KB, and how many there are
 FIRST_LIMIT, LIMITS = 8192, 50
 # crates with tests that repeat a call which ran out of memory, after they have checked that nothing changed
@@ -110,14 +51,18 @@ def write_inputs(folder):
         running.write(f"{folder}/{name}", lines)
 
 
+def commands(name):
+    """Returns the command lines of a stored table, each with the word before it and the name of its input, which may be empty."""
+    return COMMAND.findall(text_of(f"tools/data/limits/{name}"))
+
+
 class Trial:
     """Runs of a command without enough memory: counts those that were refused, and those that printed the whole output."""
 
-    def __init__(self, tally, programs, folder, command):
-        program, *rest = command.line.split()
-        self.tally, self.name = tally, command.name
-        self.command = [getattr(programs, program), *rest, *command.options.split()]
-        self.stdin = f"{folder}/{command.stdin}" if command.stdin != os.devnull else os.devnull
+    def __init__(self, tally, programs, folder, line, stdin):
+        program, *rest = line.split()
+        self.tally, self.name, self.command = tally, line, [getattr(programs, program), *rest]
+        self.stdin = f"{folder}/{stdin}" if stdin else os.devnull
         self.messages = MESSAGES.get(" ".join([program, *rest[:1]]), MESSAGES[program])
         self.expected, self.counts = running.run(self.command, self.stdin), collections.Counter()
 
@@ -168,9 +113,9 @@ def refuse(tally, options, folder):
     if not refusing.library:
         return tally.skips("allocations that fail in turn", "gcc")
     write_inputs(folder)
-    for command in REFUSED:
-        for also_later in (False, True) if not options.quick else (False,) if command.is_quick else ():
-            trial, later = Trial(tally, options, folder, command), " and all after it" if also_later else ""
+    for form, *command in commands("refuse"):
+        for also_later in (False, True) if not options.quick else (False,) if form == "quick" else ():
+            trial, later = Trial(tally, options, folder, *command), " and all after it" if also_later else ""
             for number, result in refusing.results(trial.command, trial.stdin, also_later):
                 trial.take(result, f"allocation {number}{later} failed")
             trial.end(["refused"], f"each of {number - 1} allocations{later} failed in turn")
@@ -205,13 +150,13 @@ def address_space(tally, options, folder):
     whole output, or else that it is out of memory. It has to be refused at least once, and to succeed at least once.
     """
     write_inputs(folder)
-    for command in LIMITED:
-        trial, limit = Trial(tally, options, folder, command), FIRST_LIMIT
+    for growth, *command in commands("memory"):
+        trial, limit = Trial(tally, options, folder, *command), FIRST_LIMIT
         for _ in range(LIMITS):
             limits = 1024 * limit, 1024 * limit
             result = running.run(trial.command, trial.stdin, preexec_fn=lambda: resource.setrlimit(resource.RLIMIT_AS, limits))
             trial.take(result, f"at {limit} KB")
-            limit += limit * command.growth // 100
+            limit += limit * int(growth) // 100
         trial.end(["refused", "whole"], f"at {LIMITS} limits up to {limit} KB")
 
 
