@@ -1,5 +1,6 @@
 """Runs the programs with pseudo-terminals as their standard error and standard input, and without."""
 import dataclasses
+import json
 import os
 import pty
 import re
@@ -10,6 +11,7 @@ import threading
 import time
 
 from .. import running
+from ..repository import TOP, text_of
 from ..running import Result
 
 LINE = rb"\r[0-9,]+ of [0-9,]+ tasks(, [0-9,]+ of [0-9,]+ steps)?"
@@ -20,50 +22,11 @@ END_OF_INPUT = b"\x04"
 PATIENCE = 120
 # a run of `tp` that takes over a second if it is stopped on its way
 LONG = ["run", "product:64:2:0", "--workers", "2", "--generations", "9"]
-# the output for a script without steps, and for a trace without
-STARTED = b"node 0 pending 1 sent 0 received 0\ntotal pending 1 sent 0 received 0 under 0\nquiet no\n"
-AUDITED = b"steps 0\ntasks 0 done 0\nmessages 0 received 0\nnot ended\n"
-BAD_SPEC = Result(1, b"", b"refused 26 BadSpec\n")
-# for each way to an error of `tp` the arguments, the input, the result, and the reason at a terminal; others have no reason
-REASONS = [
-    (["run", "product:4:3:0"], b"", BAD_SPEC, b"product:4:3:0: SIDE 3 does not divide ORDER 4\n"),
-    (["run", ""], b"", BAD_SPEC, b": the kind must be product, wavefront or reduce\n"),
-    (["pools", "reduce:4:0", "product:4:3:0"], b"", BAD_SPEC, b"SPEC 2: SIDE 3 does not divide ORDER 4\n"),
-    (["pools", "reduce:4:0", "reduce:4:0"], b"", Result(1, b"", b"refused 25 PoolKnown\n"), b"SPEC 2 repeats an earlier one\n"),
-    (["pools", *"123456789"], b"", Result(1, b"", b"refused 23 StoreFull\n"), b"more than 8 pools\n"),
-    (["sim"], b"", Result(2, b"syntax line 1\n", b""), b"line 1 is missing\n"),
-    (["sim"], b"nodes 1\nready 0\nsuply 1\n", Result(2, b"syntax line 3\n", b""), b"line 3: unknown step `suply`\n"),
-    (["sim"], b"nodes 1\n\x1b[2J\n", Result(2, b"syntax line 2\n", b""), b"line 2: not a step\n"),
-    (["audit"], b"trace 1\nready 0\n", Result(2, b"syntax line 2\n", b""), b"line 2 is not `nodes N`, N from 1 to 8\n"),
-    (["run", "reduce:4:0"], b"", Result(0, b"66\ntasks 7\nmessages 0\nended\n", b""), b""),
-    (["run", "product:64:1:0", "--nodes", "2"], b"", Result(3, b"", b"refused 16 HistoryFull\n"), b""),
-    (["sim"], b"nodes 1\n", Result(0, STARTED, b""), b""),
-    (["audit"], b"trace 1\nnodes 1\ndone 1\n", Result(2, b"line 3 refused 4 NoTask\n", b""), b""),
-]
-TWO_BY_TWO = ["--nodes", "2", "--workers", "2"]
-ENDLESS = [
-    ("rod", ["heat", "1000000000000", "50"]),
-    ("rod", ["heat", "1000000000000", "50", *TWO_BY_TWO]),
-    ("grid", ["relax", "1000000000000", "4"]),
-]
-ENDING = [
-    ("rod", ["heat", "20000", "50", *TWO_BY_TWO]),
-    ("grid", ["relax", "10000", "4", *TWO_BY_TWO]),
-    ("matrices", ["product", "10", *TWO_BY_TWO]),
-]
-# what is typed, and what the program says of it
-TYPED = [
-    (b"9000\n300\n-60\n", ["heat", "1", "2"], "the rod", "one whole number a line: samples heat STEPS BLOCK"),
-    (b"0 16 32 0\n8 0 0 24\n0 0 64 0\n", ["relax", "2", "1"], "the grid", "one row a line: samples relax STEPS ROWS_A_BLOCK"),
-    (b"1 2\n3 4\n\n5 6\n7 8\n", ["product", "1"], "two matrices", "an empty line between them: samples product SIDE"),
-]
+# runs by kind: `reasons` has for each way to an error of `tp` the arguments, the input, the result, and the reason at a terminal, which
+# other errors do not have; the others have the input, the arguments and what is printed
+CASES = json.loads(text_of(f"{TOP}/tools/data/limits/terminal.json"))
 # the most cells whose step, in blocks of one, has enough events at one node; at two nodes it needs more than there are
 MOST_CELLS = 131_072
-LONG_STEP = Result(2, b"", b"a run may have 1,048,576 events, and one step takes more: make the blocks larger\n")
-REFUSED = [("rod", ["heat", b"\xff"], Result(1, b"", b"the arguments are not UTF-8\n"))]
-for sample in ("heat", "relax"):
-    REFUSED += [("most", [sample, "1", "1"], Result(3, b"", b"refused 23 StoreFull\n"))]
-    REFUSED += [("most", [sample, "1", "1", "--nodes", "2"], LONG_STEP), ("more", [sample, "1", "1"], LONG_STEP)]
 # the rows and columns of the grid and of a matrix
 SIZES = [(100, 200), (420, 420)]
 
@@ -131,6 +94,10 @@ def first_progress(command, stdin):
     return text
 
 
+def result_of(status, out, err):
+    return Result(status, out.encode(), err.encode())
+
+
 def judge(tally, command, expected, result):
     """Counts whether a result is the expected one; any progress that was cleared is left out."""
     result = dataclasses.replace(result, err=PROGRESS.sub(b"", result.err))
@@ -143,17 +110,19 @@ def reasons(tally, options, _):
     Output and status are the same. At a terminal a second line gives the reason of an error, if there is one, and the program
     announces that it reads from the terminal. A run of over a second prints its progress there, and clears it at its end.
     """
-    for arguments, stdin, expected, reason in REASONS:
-        command = [options.tp, *arguments]
-        judge(tally, command, expected, running.run(command, stdin))
-        judge(tally, command, dataclasses.replace(expected, err=expected.err + reason), run_at_terminal(command, stdin))
+    for arguments, text, *expected, reason in CASES["reasons"]:
+        command, expected = [options.tp, *arguments], result_of(*expected)
+        judge(tally, command, expected, running.run(command, text.encode()))
+        at_terminal = dataclasses.replace(expected, err=expected.err + reason.encode())
+        judge(tally, command, at_terminal, run_at_terminal(command, text.encode()))
     piped, paused = running.run([options.tp, *LONG]), run_at_terminal([options.tp, *LONG], is_paused=True)
     tally.judge(not piped.status and piped.out and not piped.err, f"a long run, piped: {piped.description()}")
     is_well = (paused.status, paused.out) == (0, piped.out) and PROGRESS.fullmatch(paused.err)
     tally.judge(is_well, f"a long run at a terminal: {paused.description()}")
-    for name, text, out in ("sim", b"nodes 1\n", STARTED), ("audit", b"trace 1\nnodes 1\n", AUDITED):
-        announced = b"reads standard input: tp %s < FILE\n" % name.encode()
-        judge(tally, [options.tp, name], Result(0, out, announced), run_at_terminal([options.tp, name], text, is_typed=True))
+    for name, text in ("sim", b"nodes 1\n"), ("audit", b"trace 1\nnodes 1\n"):
+        command, announced = [options.tp, name], f"reads standard input: tp {name} < FILE\n"
+        expected = dataclasses.replace(running.run(command, text), err=announced.encode())
+        judge(tally, command, expected, run_at_terminal(command, text, is_typed=True))
 
 
 def write_inputs(folder):
@@ -174,22 +143,22 @@ def progress(tally, options, folder):
     announce once what they read. Steps of too many events are refused, and so is an argument that is not UTF-8.
     """
     write_inputs(folder)
-    for name, arguments in ENDLESS:
+    for name, arguments in CASES["endless"]:
         text = first_progress([options.samples, *arguments], f"{folder}/{name}")
         tally.judge(re.match(LINE, text), f"{arguments} printed no progress: {text[:200]}")
-    for name, arguments in ENDING:
+    for name, arguments in CASES["ending"]:
         command, stdin = [options.samples, *arguments], f"{folder}/{name}"
         piped = running.run(command, stdin)
         tally.judge(not piped.status and piped.out and not piped.err, f"{arguments}, piped: {piped.description()}")
         judge(tally, command, piped, run_at_terminal(command, stdin))
         quiet = run_at_terminal([*command, "--quiet"], stdin)
         tally.judge(quiet == piped, f"{arguments} --quiet at a terminal: {quiet.description()}")
-    for text, arguments, what, lines in TYPED:
-        command, help_command = [options.samples, *arguments], [options.samples, arguments[0], "--help"]
+    for text, arguments, what, lines in CASES["typed"]:
+        command, help_command, text = [options.samples, *arguments], [options.samples, arguments[0], "--help"], text.encode()
         piped, announced = running.run(command, text), f"Reading {what} from standard input up to Ctrl-D, {lines} < FILE\n"
         judge(tally, command, dataclasses.replace(piped, err=announced.encode()), run_at_terminal(command, text, is_typed=True))
         judge(tally, command, piped, run_at_terminal([*command, "--quiet"], text, is_typed=True))
         judge(tally, help_command, running.run(help_command), run_at_terminal(help_command, b"", is_typed=True))
-    for name, arguments, expected in REFUSED:
+    for name, arguments, *expected in CASES["refused"]:
         command = [options.samples, *arguments]
-        judge(tally, command, expected, running.run(command, f"{folder}/{name}"))
+        judge(tally, command, result_of(*expected), running.run(command, f"{folder}/{name}"))
