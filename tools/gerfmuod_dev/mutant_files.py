@@ -3,6 +3,7 @@
 Those that the gate tries are `crates/NAME/must-fail/*.edit`, in the format of `rt`. `crates/NAME/mutants` has all
 others, and for each mutant of the crate what killed it. Its format is described in CONTRIBUTING.md.
 """
+import collections
 import functools
 import re
 from dataclasses import dataclass
@@ -24,11 +25,9 @@ class Fault(Exception):
     """A file of mutants that cannot be read, or a mutant that cannot be applied; its text says why."""
 
 
-@dataclass(frozen=True)
-class Change:
-    file: str
-    old: str
-    new: str
+Change = collections.namedtuple("Change", "file old new")
+# a file `mutants`: its mutants, what killed each mutant of the crate by name, and the notes of its head by their first word
+MutantFile = collections.namedtuple("MutantFile", "mutants killers notes")
 
 
 @dataclass(frozen=True)
@@ -52,15 +51,6 @@ class Mutant:
             lines += [head.format(change.file)] * (change.file != file) + [pair.format(change.old, change.new)]
             file = change.file
         return "".join(lines)
-
-
-@dataclass(frozen=True)
-class MutantFile:
-    """A file `mutants`: its mutants, what killed each mutant of the crate by name, and the notes of its head by their first word."""
-
-    mutants: tuple
-    killers: dict
-    notes: dict
 
 
 def path_of(crate):
@@ -125,23 +115,17 @@ def mutants_of(crate):
     edits = [path for path in files_in(folder) if path.endswith(".edit")]
     in_gate = [parse_edit(path[len(folder) + 1 : -len(".edit")], text_of(path)) for path in edits]
     mutants = [*in_gate, *file_of(crate).mutants]
-    names = [mutant.name for mutant in mutants]
-    twice = sorted({name for name in names if names.count(name) > 1})
-    if twice:
-        raise Fault(f"{crate}: two mutants have one name: {' '.join(twice)}")
-    return dict(zip(names, mutants))
-
-
-@functools.lru_cache(maxsize=None)
-def source(path):
-    return text_of(path, "")
+    found = {mutant.name: mutant for mutant in mutants}
+    if len(found) < len(mutants):
+        raise Fault(f"{crate}: two mutants have one name: {' '.join(mutant.name for mutant in mutants if mutant is not found[mutant.name])}")
+    return found
 
 
 def check(crate, mutant):
     """Raises a fault unless each text that a mutant replaces is in its file exactly once."""
     texts = {}
     for change in mutant.changes:
-        text = texts.get(change.file, source(f"crates/{crate}/{change.file}"))
+        text = texts.get(change.file, text_of(f"crates/{crate}/{change.file}", ""))
         found = text.count(change.old)
         if found != 1:
             raise Fault(f"{crate}/{mutant.name}: its text is in {change.file} {found} times, and not once: {change.old.strip()}")
