@@ -20,7 +20,7 @@ import sys
 import tempfile
 
 from . import library, mpi, repository, shared_object
-from .c_programs import ADDRESS, CC, CXX, FAILURE, THREAD, WARNINGS, Program, Run, check_sources, judge, output_of, run_programs, start
+from .c_programs import ADDRESS, CC, CXX, THREAD, WARNINGS, Program, Run, check_sources, judge, output_of, run_programs, start
 from .repository import text_of
 from .running import Tally, write
 from .shipping import generated

@@ -116,8 +116,9 @@ def mutants_of(crate):
     in_gate = [parse_edit(path[len(folder) + 1 : -len(".edit")], text_of(path)) for path in edits]
     mutants = [*in_gate, *file_of(crate).mutants]
     found = {mutant.name: mutant for mutant in mutants}
-    if len(found) < len(mutants):
-        raise Fault(f"{crate}: two mutants have one name: {' '.join(mutant.name for mutant in mutants if mutant is not found[mutant.name])}")
+    twice = [mutant.name for mutant in mutants if mutant is not found[mutant.name]]
+    if twice:
+        raise Fault(f"{crate}: two mutants have one name: {' '.join(twice)}")
     return found
 
 

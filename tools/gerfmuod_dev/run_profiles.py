@@ -4,26 +4,13 @@ import json
 import os
 import re
 import tempfile
-from dataclasses import dataclass
 
 from . import event_format, repository, running, summary, tries
 from .event_format import nanoseconds
 
 COUNTS = ["--nodes", "3", "--workers", "2"]
-
-
-@dataclass(frozen=True)
-class Case:
-    """A run: its program and arguments, its input, its number of tasks, how often each runs, and whether the file numbers them."""
-
-    program: str
-    arguments: list
-    tasks: int
-    text: str = ""
-    times: int = 1
-    has_numbers: bool = True
-
-
+# a run: its program and arguments, its number of tasks, its input, how often each task runs, and whether the file numbers them
+Case = collections.namedtuple("Case", "program arguments tasks text times has_numbers", defaults=["", 1, True])
 CASES = {
     "0-run": Case("tp", ["run", "wavefront:12:12:0", *COUNTS], 144),
     "0-generations": Case("tp", ["run", "reduce:64:0", "--generations", "3", *COUNTS], 127, times=3),

@@ -7,6 +7,7 @@ stored, and one for the pictures of docs/figures that `samples draw` draws; if s
 --write, what the cases print is stored instead of compared. The last line is `N passed, M failed, K skipped`, each test, program
 and case counted; the status is 1 if one failed.
 """
+import collections
 import difflib
 import functools
 import hashlib
@@ -16,7 +17,6 @@ import shutil
 import subprocess
 import tempfile
 from concurrent.futures import ThreadPoolExecutor
-from dataclasses import dataclass
 
 from . import built, repository, running, version
 from .drawn import PICTURES, path_of
@@ -32,14 +32,8 @@ SECONDS = "900"
 MOST_STORED = 4_000
 
 
-@dataclass(frozen=True)
-class Outcome:
-    """What a try came to: a line, how many of its tests or cases passed and failed, and what to print if one failed."""
-
-    line: str
-    passed: int
-    failed: int
-    details: str
+# what a try came to: a line, how many of its tests or cases passed and failed, and what to print if one failed
+Outcome = collections.namedtuple("Outcome", "line passed failed details")
 
 
 def rt_try(crate, *options):

@@ -47,5 +47,5 @@ LIMITS = {
     "progress": Limit(terminal.progress, "samples"),
     "reasons": Limit(terminal.reasons, "tp"),
     "cuts": Limit(texts.cuts, "tp"),
-    "random": Limit(texts.random_cases, "tp", [("texts", 400, "scripts, and the same number of traces"), ("seed", 1, "the generator's seed")]),
+    "random": Limit(texts.random_cases, "tp", [("texts", 400, "scripts, and as many traces"), ("seed", 1, "the generator's seed")]),
 }

@@ -27,8 +27,6 @@ LONG = ["run", "product:64:2:0", "--workers", "2", "--generations", "9"]
 CASES = json.loads(text_of(f"{TOP}/tools/data/limits/terminal.json"))
 # the most cells whose step, in blocks of one, has enough events at one node; at two nodes it needs more than there are
 MOST_CELLS = 131_072
-# the rows and columns of the grid and of a matrix
-SIZES = [(100, 200), (420, 420)]
 
 
 class Terminal(threading.Thread):
@@ -126,10 +124,12 @@ def reasons(tally, options, _):
 
 
 def write_inputs(folder):
-    rows = {size: [" ".join(str((row * 37 + column * 101) % 1000) for column in range(size[1])) for row in range(size[0])] for size in SIZES}
-    grid, matrix = rows.values()
+    def rows(count, width):
+        return [" ".join(str((row * 37 + column * 101) % 1000) for column in range(width)) for row in range(count)]
+
+    matrix = rows(420, 420)
     for name, lines in {
-        "rod": [number * 7919 % 100_003 for number in range(2000)], "grid": grid, "matrices": [*matrix, "", *matrix],
+        "rod": [number * 7919 % 100_003 for number in range(2000)], "grid": rows(100, 200), "matrices": [*matrix, "", *matrix],
         "most": [0] * MOST_CELLS, "more": [0] * (MOST_CELLS + 1),
     }.items():
         running.write(f"{folder}/{name}", lines)
