@@ -172,32 +172,26 @@ class Verdicts:
         return [name for name in self.keys if name not in self.messages]
 
     def add(self, messages):
-        """Keeps verdicts and prints them; if none is missing, and each mutant was killed, writes the crate's file."""
+        """Keeps verdicts, and prints them."""
         with self.lock:
             for name, message in messages.items():
                 alive = f"{'SURVIVED' if 'NOT REFUSED' in message else 'NOT KILLED by a clause'}: {message}"
                 is_dead = is_killed(self.crate.name, message)
                 print(f"{self.crate.name}/{name}: {f'killed: {killer_of(self.crate.name, message)}' if is_dead else alive}", flush=True)
-            is_first = bool(self.left)
             self.messages.update(messages)
             decided = {self.keys[name]: message for name, message in self.messages.items() if not UNDECIDED.search(message)}
             os.makedirs(os.path.dirname(self.path), exist_ok=True)
             os.replace(running.write(f"{self.path}.new", json.dumps(decided)), self.path)
-            if is_first and not self.left:
-                self.record()
-
-    @property
-    def is_complete(self):
-        """Whether each mutant was killed by a clause."""
-        return not self.left and all(is_killed(self.crate.name, message) for message in self.messages.values())
 
     def record(self):
-        """Writes what killed each mutant of the crate, if all of them were."""
-        if self.is_complete:
-            killers = {name: killer_of(self.crate.name, message) for name, message in self.messages.items()}
-            mutant_files.write(self.crate.name, killers, {"of": digest(self.crate), "by": toolchain(), "on": f"{datetime.date.today()}"})
-        result = f"{len(self.keys)} mutants killed" if self.is_complete else "NOT EACH of its mutants was killed by a clause"
-        print(f"{self.crate.name}: {result}", flush=True)
+        """Writes what killed each mutant of the crate, if all of them were; returns whether they were."""
+        crate = self.crate.name
+        is_well = not self.left and all(is_killed(crate, message) for message in self.messages.values())
+        if is_well:
+            killers = {name: killer_of(crate, message) for name, message in self.messages.items()}
+            mutant_files.write(crate, killers, {"of": digest(self.crate), "by": toolchain(), "on": f"{datetime.date.today()}"})
+        print(f"{crate}: {f'{len(self.keys)} mutants killed' if is_well else 'NOT EACH of its mutants was killed by a clause'}", flush=True)
+        return is_well
 
 
 def groups_in(crate, names):
@@ -222,9 +216,6 @@ def try_all(crates, top, copies):
     """Tries the mutants of crates that are proved in these copies, the longest crate first; returns whether each was killed. Those of
     different functions are tried in one check, and then those that survived it each in a check of its own."""
     kept, verdicts = keep_proofs(crates, top, copies), {crate: Verdicts(crate) for crate in crates}
-    for crate, verdict in verdicts.items():
-        if not verdict.left:
-            verdict.record()
 
     def run_jobs(action, jobs):
         in_copies(copies, [functools.partial(action, crate, *rest, verdicts[crate].add, kept[crate]) for crate, *rest in jobs])
@@ -236,9 +227,7 @@ def try_all(crates, top, copies):
         renew(kept[crate], f"{room}/crates/{crate.name}/out/incremental")
     lanes = max(1, len(copies) // max(1, len(left)))
     run_jobs(try_alone, [(crate, names, lanes) for crate, names in left.items()])
-    for crate in (crate for crate in crates if verdicts[crate].left):
-        verdicts[crate].record()
-    return all(verdict.is_complete for verdict in verdicts.values())
+    return all([verdict.record() for verdict in verdicts.values()])
 
 
 def redigest(crate):

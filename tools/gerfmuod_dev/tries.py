@@ -1,11 +1,10 @@
 """Runs every test, every program, and the cases of the programs, and compares what they print.
 
 They are runs of `rt try`, which proves nothing: `make gate` does. `tp` and `samples` and their cases run with bin/tp and bin/samples
-if these were built from these sources, which takes seconds instead of minutes. Prints a line for the tests
-of a crate, one for a program, one for its cases, whose exit statuses are compared and whose outputs are compared if they are
-stored, and one for the pictures of docs/figures that `samples draw` draws; if something failed, prints the output too. With
---write, what the cases print is stored instead of compared. The last line is `N passed, M failed, K skipped`, each test, program
-and case counted; the status is 1 if one failed.
+if these were built from these sources. Prints a line for the tests of a crate, for a program, for its cases, whose exit statuses
+are compared, and their outputs if they are stored, and for the pictures of docs/figures; if something failed, prints the output
+too. With --write, what the cases print is stored instead of compared. The last line is `N passed, M failed, K skipped`, each test,
+program and case counted; the status is 1 if one failed.
 """
 import collections
 import difflib

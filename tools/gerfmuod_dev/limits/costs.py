@@ -1,5 +1,4 @@
 """Measures what lines with hostile numbers cost, and how large the pictures of long traces are."""
-import heapq
 import io
 import random
 import re
@@ -111,20 +110,6 @@ def reopened(lines):
     return trace.lines[:-1]
 
 
-def long_under_way(lines):
-    trace, under, message = Trace(), [], 0
-    while under or len(trace.lines) < lines // 2:
-        if len(trace.lines) + 2 * len(under) < lines:
-            to = message % NODES
-            trace.write("send", (to + trace.generator.randrange(1, NODES)) % NODES, to, message)
-            heapq.heappush(under, (len(trace.lines) + trace.generator.randrange(1, lines), to, message))
-            message += 1
-        while under and (under[0][0] <= len(trace.lines) or len(trace.lines) + 2 * len(under) >= lines):
-            trace.lines += "recv {1} {2}\nend {1} {2}".format(*heapq.heappop(under)).split("\n")
-    trace.lines += READY
-    return trace.end_pool(message)
-
-
 def idle_in_turn(lines):
     """One node is active at a time, works for long, and sends a message to the next one."""
     trace, message = Trace(*READY[1:]), 0
@@ -143,7 +128,6 @@ KINDS = {
     "waves alone": waves_alone,
     "messages never received": never_received,
     "a pool reopened again and again": reopened,
-    "messages long under way": long_under_way,
     "nodes idle in turn": idle_in_turn,
 }
 
