@@ -15,14 +15,13 @@ import json
 import os
 import re
 import shutil
-import subprocess
 import sys
 import tempfile
 
 from . import library, mpi, repository, shared_object
 from .c_programs import ADDRESS, CC, CXX, THREAD, WARNINGS, Program, Run, check_sources, judge, output_of, run_programs, start
 from .repository import text_of
-from .running import Tally, write
+from .running import Tally, instructions, write
 from .shipping import generated
 
 LINK = ["-Llib", "-lgerfmuod"]
@@ -40,7 +39,6 @@ ALL_WRAPPED = ["-Wl,--wrap=malloc,--wrap=realloc,--wrap=free"]
 PAGE = "docs/OTHER-RUNTIMES.md"
 # the kinds of steps of bench.c
 KINDS = ("tasks", "messages", "makers", "sparse", "large", "hashed")
-CACHEGRIND = ["valgrind", "--tool=cachegrind", "--cache-sim=no", "--cachegrind-out-file=/dev/null"]
 
 
 # of each program the runs: a status (-1: any but 0), a text that is printed, and the arguments, a line for each run
@@ -129,25 +127,16 @@ def run_fuzz(folder):
 def bench(folder):
     """Measures what a step costs, and prints it."""
     program = compiled(Program("capi/bench.c", [*C11, "-pthread"], []), folder)
-
-    def measured(kind, counter, form):
-        """Returns what a step takes: the difference of a process with all steps and one without any."""
-        numbers = []
-        for steps in (0, STEPS):
-            command = [*counter, program, "count", kind, str(steps)]
-            output = subprocess.run(command, stdout=subprocess.PIPE, stderr=subprocess.STDOUT, text=True, check=True).stdout
-            numbers.append(int(re.search(form, output, re.M)[1].replace(",", "")))
-        return (numbers[1] - numbers[0]) / STEPS
-
-    print(f"{STEPS:,} steps at 8 nodes, called from C:")
+    print(f"{STEPS:,} steps at 8 nodes, called from C:{'' if shutil.which('valgrind') else ' no instructions without valgrind'}")
     for kind in KINDS:
+        commands = [[program, "count", kind, str(steps)] for steps in (0, STEPS)]
         if shutil.which("valgrind"):
-            print(f"{kind}: {measured(kind, CACHEGRIND, 'I +refs: +([0-9,]+)'):.1f} instructions a step, including the loop and the close")
-        print(f"{kind}: {measured(kind, [], '^([0-9]+)$'):.1f} bytes a step", flush=True)
-    if not shutil.which("valgrind"):
-        print("valgrind is not installed: no instructions are counted", flush=True)
+            none, all_steps = map(instructions, commands)
+            print(f"{kind}: {(all_steps - none) / STEPS:.1f} instructions a step, including the loop and the close")
+        none, all_steps = (int(output_of(command)) for command in commands)
+        print(f"{kind}: {(all_steps - none) / STEPS:.1f} bytes a step", flush=True)
     for arguments_of in ["time", str(STEPS)], ["locks", str(STEPS)], ["stack"]:
-        subprocess.run([program, *arguments_of], check=True)
+        print(output_of([program, *arguments_of]), end="", flush=True)
     return 0
 
 

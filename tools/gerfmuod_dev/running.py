@@ -1,5 +1,6 @@
 """Runs built programs, each with a time limit, compares their results, and counts the cases that pass."""
 import os
+import re
 import shutil
 import subprocess
 import sys
@@ -100,6 +101,13 @@ def run(command, stdin=os.devnull, **options):
         except subprocess.TimeoutExpired as error:
             return Result(NOT_ENDED, error.stdout or b"", f"it did not end within {error.timeout:.0f} seconds\n".encode())
     return Result(status_of(process.returncode), process.stdout or b"", process.stderr or b"")
+
+
+def instructions(command, stdin=os.devnull):
+    """Returns the instructions of a command, counted by cachegrind: they do not depend on the load of the machine."""
+    options = ["--tool=cachegrind", "--cache-sim=no", "--cachegrind-out-file=/dev/null"]
+    report = run(["valgrind", *options, *command], stdin, timeout=None).err
+    return int(re.search(rb"I +refs: +([0-9,]+)", report)[1].replace(b",", b""))
 
 
 def status_of(code):

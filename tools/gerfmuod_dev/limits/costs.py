@@ -1,25 +1,17 @@
 """Measures what lines with hostile numbers cost, and how large the pictures of long traces are."""
 import io
 import random
-import re
-import subprocess
 import time
 import xml.etree.ElementTree
 
 from .. import running
 from ..bench import inputs
 from ..bench.inputs import NODES
+from ..running import instructions
 
 NUMBERS, LINES_OF_A_ROUND, MOST_RATIO = 1_000_000, 8, 2
 ROUND = "insert 0 {0} 0\nbegin {0}\ndone {0}\nopen 0 {0}\nclose 0 {0}\nsend 0 1 {0}\nrecv 1 {0}\nend 1 {0}\n"
 MOST_BYTES = 250_000
-
-
-def instructions(command, text):
-    """Returns the instructions of a command on a text, counted by cachegrind: they do not depend on the load of the machine."""
-    options = ["--tool=cachegrind", "--cache-sim=no", "--cachegrind-out-file=/dev/null"]
-    result = subprocess.run(["valgrind", *options, *command], input=text, capture_output=True, text=True, check=True)
-    return int(re.search(r"I\s+refs:\s+([\d,]+)", result.stderr)[1].replace(",", ""))
 
 
 def choices(rounds):
@@ -45,11 +37,11 @@ def hostile_numbers(tally, options, _):
     if not tally.has("valgrind", "the cost of hostile numbers"):
         return
     command, ordinary = [options.tp, "sim"], {}
-    start = instructions(command, "nodes 2\n")
+    start = instructions(command, b"nodes 2\n")
 
     def cost_of_a_line(names):
         lines = "".join(ROUND.format(names[turn % len(names)]) for turn in range(options.rounds))
-        return (instructions(command, "nodes 2\n" + lines) - start) / (LINES_OF_A_ROUND * options.rounds)
+        return (instructions(command, b"nodes 2\n" + lines.encode()) - start) / (LINES_OF_A_ROUND * options.rounds)
 
     print("| Numbers | count | instructions a line | of an ordinary script | ratio |\n|---|---|---|---|---|")
     for name, numbers in choices(options.rounds):
@@ -142,11 +134,11 @@ def pictures(tally, options, _):
     drawing, audit = [options.samples, "draw", "run"], [options.tp, "audit"]
     for name, lines_of in KINDS.items():
         lines = lines_of(options.lines)
-        text, began = "".join(f"{line}\n" for line in lines), time.time()
-        result = running.run(drawing, text.encode())
+        text, began = "".join(f"{line}\n" for line in lines).encode(), time.time()
+        result = running.run(drawing, text)
         seconds, size = time.time() - began, len(result.out)
         line, ratio = f"{name}, {len(lines):,} lines: {size:,} bytes, {seconds:.1f} s", 0
-        tally.judge(not running.run(audit, text.encode()).status, f"{name}: not a sound trace")
+        tally.judge(not running.run(audit, text).status, f"{name}: not a sound trace")
         tally.judge(not result.status and size <= MOST_BYTES, f"{line}, {result.description()}")
         xml.etree.ElementTree.fromstring(result.out)
         # (counting takes fifty times as long)
