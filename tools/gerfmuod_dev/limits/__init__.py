@@ -11,19 +11,18 @@ from . import costs, memory, strange, terminal, texts
 
 
 class Limit:
-    """A subcommand: a function that counts cases, the programs that it runs, and options with a number or without one."""
+    """A subcommand: a function that counts cases, the programs that it runs, and options: a number by default, and what it is."""
 
-    def __init__(self, action, programs, numbers=(), flags=()):
-        self.action, self.programs, self.numbers, self.flags = action, programs.split(), numbers, flags
+    def __init__(self, action, programs, **options):
+        self.action, self.programs, self.options = action, programs.split(), options
         self.__doc__ = inspect.getdoc(action)
 
     def arguments(self, parser):
         for name in self.programs:
             running.program_argument(parser, name)
-        for name, default, what in self.numbers:
-            parser.add_argument(f"--{name}", type=int, default=default, metavar="N", help=f"{what} ({default:,})")
-        for name, what in self.flags:
-            parser.add_argument(f"--{name}", action="store_true", help=what)
+        for name, (default, what) in self.options.items():
+            kind = {"action": "store_true"} if default is False else {"type": int, "metavar": "N", "default": default}
+            parser.add_argument(f"--{name.replace('_', '-')}", help=what if default is False else f"{what} ({default:,})", **kind)
 
     def run(self, options):
         """Runs the function in a folder of its own; returns the exit status."""
@@ -35,17 +34,17 @@ class Limit:
         return tally.end()
 
 
-QUICK = [("quick", "a few cases: the form of make test")]
+QUICK = False, "a few cases: the form of make test"
 LIMITS = {
-    "refuse": Limit(memory.refuse, "tp samples", flags=QUICK),
+    "refuse": Limit(memory.refuse, "tp samples", quick=QUICK),
     "refuse-tests": Limit(memory.refuse_tests, ""),
     "memory": Limit(memory.address_space, "tp"),
     "live": Limit(memory.live, "samples"),
-    "hostile-numbers": Limit(costs.hostile_numbers, "tp", [("rounds", 12_500, "rounds of eight lines a script")]),
-    "pictures": Limit(costs.pictures, "tp samples", [("lines", 990_000, "lines of a trace")], [("bytes-alone", "count no instructions")]),
-    "strange": Limit(strange.strange, "tp", flags=QUICK),
+    "hostile-numbers": Limit(costs.hostile_numbers, "tp", rounds=(12_500, "rounds of eight lines a script")),
+    "pictures": Limit(costs.pictures, "tp samples", lines=(990_000, "lines of a trace"), bytes_alone=(False, "count no instructions")),
+    "strange": Limit(strange.strange, "tp", quick=QUICK),
     "progress": Limit(terminal.progress, "samples"),
     "reasons": Limit(terminal.reasons, "tp"),
     "cuts": Limit(texts.cuts, "tp"),
-    "random": Limit(texts.random_cases, "tp", [("texts", 400, "scripts, and as many traces"), ("seed", 1, "the generator's seed")]),
+    "random": Limit(texts.random_cases, "tp", texts=(400, "scripts, and as many traces"), seed=(1, "the generator's seed")),
 }

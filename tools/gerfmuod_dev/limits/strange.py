@@ -2,7 +2,6 @@
 import dataclasses
 import os
 import shutil
-import subprocess
 
 from .. import running
 from ..running import Result
@@ -84,14 +83,8 @@ def try_streams(trial):
 
 def try_one_line_is_read(trial):
     """The output is longer than a pipe holds, and one line of it is read."""
-    path = running.write(f"{trial.folder}/long", ["nodes 1", *["ready 0"] * 100_000])
-    streams = {"stdout": subprocess.PIPE, "stderr": subprocess.PIPE, "bufsize": 0}
-    with open(path, "rb") as text, subprocess.Popen([trial.tp, "sim"], stdin=text, **streams) as process:
-        line = process.stdout.readline()
-        process.stdout.close()
-        message = process.stderr.read()
-    result = Result(running.status_of(process.returncode), line, message)
-    trial.judge("sim, with one line of its output read", Result(1, b"ok\n", WRITE_FAULT.err), result)
+    text, line = b"nodes 1\n" + b"ready 0\n" * 100_000, '"$@" | head -n 1; exit ${PIPESTATUS[0]}'
+    trial.judge(line, Result(1, b"ok\n", WRITE_FAULT.err), running.run(["bash", "-c", line, "bash", trial.tp, "sim"], text))
 
 
 def try_lengths(trial):

@@ -4,7 +4,6 @@ import json
 import os
 import pty
 import re
-import select
 import signal
 import subprocess
 import threading
@@ -80,16 +79,15 @@ def run_at_terminal(command, stdin=os.devnull, is_typed=False, is_paused=False):
 
 def first_progress(command, stdin):
     """Runs a program until it has printed its progress, or until PATIENCE is over, and kills it; returns what it printed."""
-    master, slave = pty.openpty()
-    with open(stdin, "rb") as file, subprocess.Popen(command, stdin=file, stdout=subprocess.DEVNULL, stderr=slave) as process:
-        os.close(slave)
-        text, last = b"", time.monotonic() + PATIENCE
-        while not re.match(LINE, text) and time.monotonic() < last and process.poll() is None:
-            if select.select([master], [], [], 1)[0]:
-                text += os.read(master, 65_536)
+    terminal, last = Terminal(), time.monotonic() + PATIENCE
+    with open(stdin, "rb") as file, subprocess.Popen(command, stdin=file, stdout=subprocess.DEVNULL, stderr=terminal.slave) as process:
+        os.close(terminal.slave)
+        terminal.start()
+        while not re.match(LINE, terminal.text) and time.monotonic() < last and process.poll() is None:
+            time.sleep(0.1)
         process.kill()
-    os.close(master)
-    return text
+    terminal.join()
+    return terminal.text
 
 
 def result_of(status, out, err):
