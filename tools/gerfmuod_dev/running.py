@@ -120,16 +120,14 @@ def in_parallel(items, action):
         yield from pool.map(action, items)
 
 
-def preload_library(name, folder):
-    """Compiles tools/c/NAME.c to a library for LD_PRELOAD; returns its path, or None if it cannot be compiled."""
+def preload_library(tally, name, folder, what):
+    """Compiles tools/c/NAME.c to a library for LD_PRELOAD; returns its path, or None if what needs it cannot be tried, which is counted."""
     path = f"{folder}/{name}.so"
-    command = [os.environ.get("CC") or "cc", "-O1", "-shared", "-fPIC", "-o", path, f"{TOP}/tools/c/{name}.c"]
-    try:
-        subprocess.run(command, check=True)
-    except (OSError, subprocess.CalledProcessError) as error:
-        print(error, file=sys.stderr)
+    if not tally.has("cc", what):
         return None
-    return path
+    result = run(["cc", "-O1", "-shared", "-fPIC", "-o", path, f"{TOP}/tools/c/{name}.c"])
+    tally.judge(not result.status, f"tools/c/{name}.c: {short(result.err, 2000)}")
+    return path if not result.status else None
 
 
 def write(path, text):

@@ -86,8 +86,9 @@ class Trial:
 class Refusing:
     """Runs commands with an allocation that fails."""
 
-    def __init__(self, folder):
-        self.library, self.report = running.preload_library("refuse", folder), f"{folder}/report"
+    def __init__(self, tally, folder):
+        self.library = running.preload_library(tally, "refuse", folder, "allocations that fail in turn")
+        self.report = f"{folder}/report"
 
     def results(self, command, stdin=os.devnull, also_later=False):
         """Yields the number of the allocation that fails, and the result: for each allocation, and last for one more than the run has."""
@@ -109,11 +110,9 @@ def refuse(tally, options, folder):
     nothing on standard output, with status 3; `pools` may also print a line for each pool. Each command has to be refused at
     least once. Needs a C compiler. With --quick it tries a few commands, each with one allocation failing at a time.
     """
-    refusing = Refusing(folder)
-    if not refusing.library:
-        return tally.skips("allocations that fail in turn", "gcc")
+    refusing = Refusing(tally, folder)
     write_inputs(folder)
-    for form, *command in commands("refuse"):
+    for form, *command in commands("refuse") if refusing.library else ():
         for also_later in (False, True) if not options.quick else (False,) if form == "quick" else ():
             trial, later = Trial(tally, options, folder, *command), " and all after it" if also_later else ""
             for number, result in refusing.results(trial.command, trial.stdin, also_later):
@@ -128,10 +127,8 @@ def refuse_tests(tally, _, folder):
     Prints the number of allocations of each test, and then how often each call failed, as the tests name it. Needs a C
     compiler, and the programs of tests that `rt test` leaves in crates/*/out.
     """
-    refusing, calls = Refusing(folder), collections.Counter()
-    if not refusing.library:
-        return tally.skips("allocations that fail in turn", "gcc")
-    for program in (f"crates/{crate}/out/{crate}_tests" for crate in CRATES):
+    refusing, calls = Refusing(tally, folder), collections.Counter()
+    for program in (f"crates/{crate}/out/{crate}_tests" for crate in CRATES if refusing.library):
         tests = TESTS.findall(running.run([program, "--list"]).out.decode(errors="replace"))
         tally.judge(tests, f"{program} is missing, or has no tests of memory: `rt test` builds it")
         for test in tests:
@@ -175,9 +172,9 @@ def live(tally, options, folder):
     Runs `samples heat` and `relax` for 1 to 1,000 steps, at one node with one worker and at two with two. A run of more steps
     may have only some rows more memory at a time than one of a single step: a value is dropped once its last reader has run.
     """
-    library = running.preload_library("live", folder)
+    library = running.preload_library(tally, "live", folder, "the memory that a stencil has at a time")
     if not library:
-        return tally.skips("the memory that a stencil has at a time", "gcc")
+        return
     with open(f"{folder}/heat", "w", encoding="utf-8") as file:
         inputs.write_cells(file, CELLS)
     rows = (" ".join(str(row * column % 1009) for column in range(WIDTH)) for row in range(CELLS // WIDTH))

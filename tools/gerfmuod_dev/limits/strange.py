@@ -55,10 +55,8 @@ class Trial:
 
 def try_interrupted(trial):
     """Each read is interrupted: after 67,108,864 of them the program gives up."""
-    library = running.preload_library("interrupted", trial.folder)
-    if not library:
-        return trial.tally.skips("reads that are interrupted forever", "gcc")
-    for command in TEXTS:
+    library = running.preload_library(trial.tally, "interrupted", trial.folder, "reads that are interrupted forever")
+    for command in TEXTS if library else ():
         environment = {**os.environ, "LD_PRELOAD": library}
         trial.check(f"{command}, each read interrupted", READ_FAULT, trial.inputs[command], command, env=environment)
 
