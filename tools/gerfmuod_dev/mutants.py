@@ -100,8 +100,10 @@ def goals_with(step, answers):
 
 
 def killer_of(crate, message):
-    """Returns the function and the clause that a line of the prover names, or the line itself if it names none. If it names a step
-    of a hand-written proof, the clauses that are proved with this step come with it."""
+    """Returns the function and the clause that a line of the prover names, or the line itself if it names none; an empty text if no clause
+    killed the mutant. If the line names a step of a hand-written proof, the clauses that are proved with this step come with it."""
+    if ALIVE.search(message):
+        return ""
     proof = re.search(r"\./proofs/(\S+)/\w+\.antt:\d+:\d+: \w+: (?:.* depend on )?`([^`]+)`", message)
     # (the prover's line may be cut off)
     code = re.search(r"(src/\S+\.rt):\d+:\d+: .*\(`([^`]+)", message)
@@ -110,10 +112,6 @@ def killer_of(crate, message):
         return re.sub(r"^refused, as it must be:? ?", "", message)
     goals = goals_with(place[2], text_of(f"crates/{crate}/proofs/{place[1]}/Answers.antt", "")) if proof else []
     return ", ".join([place[1], place[2]] + ([] if place[2] in goals else [f"for {goal}" for goal in goals]))
-
-
-def is_killed(crate, message):
-    return not ALIVE.search(message) and bool(killer_of(crate, message))
 
 
 def try_alone(crate, names, lanes, keep, _, room):
@@ -175,9 +173,8 @@ class Verdicts:
         """Keeps verdicts, and prints them."""
         with self.lock:
             for name, message in messages.items():
-                alive = f"{'SURVIVED' if 'NOT REFUSED' in message else 'NOT KILLED by a clause'}: {message}"
-                is_dead = is_killed(self.crate.name, message)
-                print(f"{self.crate.name}/{name}: {f'killed: {killer_of(self.crate.name, message)}' if is_dead else alive}", flush=True)
+                killer, alive = killer_of(self.crate.name, message), "SURVIVED" if "NOT REFUSED" in message else "NOT KILLED by a clause"
+                print(f"{self.crate.name}/{name}: {f'killed: {killer}' if killer else f'{alive}: {message}'}", flush=True)
             self.messages.update(messages)
             decided = {self.keys[name]: message for name, message in self.messages.items() if not UNDECIDED.search(message)}
             os.makedirs(os.path.dirname(self.path), exist_ok=True)
@@ -185,12 +182,12 @@ class Verdicts:
 
     def record(self):
         """Writes what killed each mutant of the crate, if all of them were; returns whether they were."""
-        crate = self.crate.name
-        is_well = not self.left and all(is_killed(crate, message) for message in self.messages.values())
+        killers = {name: killer_of(self.crate.name, message) for name, message in self.messages.items()}
+        is_well = not self.left and all(killers.values())
         if is_well:
-            killers = {name: killer_of(crate, message) for name, message in self.messages.items()}
-            mutant_files.write(crate, killers, {"of": digest(self.crate), "by": toolchain(), "on": f"{datetime.date.today()}"})
-        print(f"{crate}: {f'{len(self.keys)} mutants killed' if is_well else 'NOT EACH of its mutants was killed by a clause'}", flush=True)
+            mutant_files.write(self.crate.name, killers, {"of": digest(self.crate), "by": toolchain(), "on": f"{datetime.date.today()}"})
+        result = f"{len(self.keys)} mutants killed" if is_well else "NOT EACH of its mutants was killed by a clause"
+        print(f"{self.crate.name}: {result}", flush=True)
         return is_well
 
 
