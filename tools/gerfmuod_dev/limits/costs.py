@@ -54,73 +54,58 @@ def hostile_numbers(tally, options, _):
         tally.judge(ratio <= MOST_RATIO, f"{name}: {ratio:.2f} times the instructions of an ordinary script")
 
 
-class Trace(inputs.Writer):
-    """A trace of all nodes, with some lines to begin with."""
-
-    def __init__(self, *lines, head="trace 1"):
-        super().__init__(random.Random(3), True)
-        self.lines = [head, f"nodes {NODES}", *lines]
-
-    def end_pool(self, messages=0):
-        """Writes two waves, the second of which detects the end, if all messages were received, and returns the trace."""
-        self.messages = self.taken = messages
-        self.wave()
-        self.wave()
-        return self.lines
-
-
-READY = [f"ready {node}" for node in range(NODES)]
+READY = "".join(f"ready {node}\n" for node in range(NODES))
+# a wave over idle nodes, with its judgement
+DOWN = "".join(f"down {node}\n" for node in range(1, NODES))
+UP = "".join(f"give {node}\nup {node}\n" for node in reversed(range(1, NODES)))
+WAVE = f"start\n{DOWN}{UP}give 0\njudge {{}}\n"
+HEAD = f"trace 1\nnodes {NODES}\n"
 
 
 def all_steps(lines):
     text = io.StringIO()
     inputs.write_all_steps(text, lines, True)
-    return text.getvalue().splitlines()
+    return text.getvalue()
 
 
 def waves_alone(lines):
-    """A message is under way during all waves but the last two."""
-    trace = Trace("send 0 1 0", *READY)
-    trace.messages = 1
-    while len(trace.lines) < lines:
-        trace.wave()
-    trace.lines += ["recv 1 0", "end 1 0"]
-    return trace.end_pool(1)
+    """A message is under way during all waves."""
+    return f"{HEAD}send 0 1 0\n{READY}" + WAVE.format("not") * (lines // WAVE.count("\n"))
 
 
 def never_received(lines):
-    return Trace(*(f"send {number % NODES} {(number + 1) % NODES} {number}" for number in range(lines))).lines
+    return HEAD + "".join(f"send {number % NODES} {(number + 1) % NODES} {number}\n" for number in range(lines))
+
+
+def long_under_way(lines):
+    """Each message is received once a quarter of all has been sent after it."""
+    count, text = lines // 3, [HEAD]
+    for number in range(count + count // 4):
+        late = number - count // 4
+        text.append(f"send {number % NODES} {(number + 1) % NODES} {number}\n" if number < count else "")
+        text.append(f"recv {(late + 1) % NODES} {late}\nend {(late + 1) % NODES} {late}\n" if late >= 0 else "")
+    return "".join(text)
 
 
 def reopened(lines):
-    trace = Trace(head="trace 2")
-    while len(trace.lines) < lines:
-        trace.lines += ["insert 1 0 0", "begin 0", "done 0", *READY]
-        trace.waves, trace.last = 0, None
-        trace.end_pool()
-        trace.write("reopen")
-    return trace.lines[:-1]
+    """Generations of one task."""
+    generation = f"insert 1 0 0\nbegin 0\ndone 0\n{READY}{WAVE.format('not')}{WAVE.format('ended 1')}reopen\n"
+    return HEAD.replace("1", "2", 1) + generation * (lines // generation.count("\n"))
 
 
 def idle_in_turn(lines):
     """One node is active at a time, works for long, and sends a message to the next one."""
-    trace, message = Trace(*READY[1:]), 0
-    while len(trace.lines) < lines:
+    text, work = [HEAD, READY.partition("\n")[2]], lines // 3_000 + 1
+    for message in range(lines // (2 * work + 3)):
         sender, receiver = message % NODES, (message + 1) % NODES
-        trace.lines += [f"open {sender} 1", f"close {sender} 1"] * (lines // 3_000 + 1)
-        trace.lines += [f"send {sender} {receiver} {message}", f"recv {receiver} {message}"]
-        trace.write(f"end {sender} {message - 1}" if message else "ready 0")
-        message += 1
-    trace.write("end", message % NODES, message - 1)
-    return trace.end_pool(message)
+        text.append(f"open {sender} 1\nclose {sender} 1\n" * work + f"send {sender} {receiver} {message}\nrecv {receiver} {message}\n")
+        text.append(f"end {sender} {message - 1}\n" if message else "ready 0\n")
+    return "".join(text)
 
 
 KINDS = {
-    "all kinds of steps": all_steps,
-    "waves alone": waves_alone,
-    "messages never received": never_received,
-    "a pool reopened again and again": reopened,
-    "nodes idle in turn": idle_in_turn,
+    "all kinds of steps": all_steps, "waves alone": waves_alone, "messages never received": never_received,
+    "messages long under way": long_under_way, "a pool reopened again and again": reopened, "nodes idle in turn": idle_in_turn,
 }
 
 
@@ -133,11 +118,11 @@ def pictures(tally, options, _):
     """
     drawing, audit = [options.samples, "draw", "run"], [options.tp, "audit"]
     for name, lines_of in KINDS.items():
-        lines = lines_of(options.lines)
-        text, began = "".join(f"{line}\n" for line in lines).encode(), time.time()
-        result = running.run(drawing, text)
+        text, began = lines_of(options.lines).encode(), time.time()
+        lines = text.count(b"\n")
+        result = running.run(drawing, text, timeout=None)
         seconds, size = time.time() - began, len(result.out)
-        line, ratio = f"{name}, {len(lines):,} lines: {size:,} bytes, {seconds:.1f} s", 0
+        line, ratio = f"{name}, {lines:,} lines: {size:,} bytes, {seconds:.1f} s", 0
         tally.judge(not running.run(audit, text).status, f"{name}: not a sound trace")
         tally.judge(not result.status and size <= MOST_BYTES, f"{line}, {result.description()}")
         xml.etree.ElementTree.fromstring(result.out)
@@ -145,6 +130,6 @@ def pictures(tally, options, _):
         if lines_of is all_steps and not options.bytes_alone and tally.has("valgrind", "the cost of a picture"):
             count = instructions(drawing, text)
             ratio = count / instructions(audit, text)
-            line += f"; {count / len(lines):,.0f} instructions a line, {ratio:.2f} times `tp audit`"
+            line += f"; {count / lines:,.0f} instructions a line, {ratio:.2f} times `tp audit`"
             tally.judge(ratio <= 2, line)
         print(line, flush=True)
