@@ -47,7 +47,7 @@ class Terminal(threading.Thread):
         os.close(self.master)
 
 
-def pause(process):
+def pause(process, _):
     """Stops a process for a second once it has several threads."""
     while process.poll() is None and len(os.listdir(f"/proc/{process.pid}/task")) == 1:
         time.sleep(0.001)
@@ -57,7 +57,15 @@ def pause(process):
     process.send_signal(signal.SIGCONT)
 
 
-def run_at_terminal(command, stdin=os.devnull, is_typed=False, is_paused=False):
+def kill_after_progress(process, terminal):
+    """Kills a process once it has printed its progress, or PATIENCE is over."""
+    last = time.monotonic() + PATIENCE
+    while not re.match(LINE, terminal.text) and time.monotonic() < last and process.poll() is None:
+        time.sleep(0.1)
+    process.kill()
+
+
+def run_at_terminal(command, stdin=os.devnull, is_typed=False, meanwhile=None):
     """Runs a program with a terminal as its standard error. Its input is a file or a text, which may be typed at another terminal."""
     terminal, (master, slave) = Terminal(), pty.openpty()
     text = None if isinstance(stdin, str) else stdin
@@ -68,26 +76,13 @@ def run_at_terminal(command, stdin=os.devnull, is_typed=False, is_paused=False):
     terminal.start()
     if is_typed:
         os.write(master, text + END_OF_INPUT)
-    if is_paused:
-        pause(process)
+    if meanwhile:
+        meanwhile(process, terminal)
     out, _ = process.communicate(None if is_typed else text)
     terminal.join()
     os.close(slave)
     os.close(master)
     return Result(running.status_of(process.returncode), out, terminal.text.replace(b"\r\n", b"\n"))
-
-
-def first_progress(command, stdin):
-    """Runs a program until it has printed its progress, or until PATIENCE is over, and kills it; returns what it printed."""
-    terminal, last = Terminal(), time.monotonic() + PATIENCE
-    with open(stdin, "rb") as file, subprocess.Popen(command, stdin=file, stdout=subprocess.DEVNULL, stderr=terminal.slave) as process:
-        os.close(terminal.slave)
-        terminal.start()
-        while not re.match(LINE, terminal.text) and time.monotonic() < last and process.poll() is None:
-            time.sleep(0.1)
-        process.kill()
-    terminal.join()
-    return terminal.text
 
 
 def result_of(status, out, err):
@@ -111,7 +106,7 @@ def reasons(tally, options, _):
         judge(tally, command, expected, running.run(command, text.encode()))
         at_terminal = dataclasses.replace(expected, err=expected.err + reason.encode())
         judge(tally, command, at_terminal, run_at_terminal(command, text.encode()))
-    piped, paused = running.run([options.tp, *LONG]), run_at_terminal([options.tp, *LONG], is_paused=True)
+    piped, paused = running.run([options.tp, *LONG]), run_at_terminal([options.tp, *LONG], meanwhile=pause)
     tally.judge(not piped.status and piped.out and not piped.err, f"a long run, piped: {piped.description()}")
     is_well = (paused.status, paused.out) == (0, piped.out) and PROGRESS.fullmatch(paused.err)
     tally.judge(is_well, f"a long run at a terminal: {paused.description()}")
@@ -142,8 +137,8 @@ def progress(tally, options, folder):
     """
     write_inputs(folder)
     for name, arguments in CASES["endless"]:
-        text = first_progress([options.samples, *arguments], f"{folder}/{name}")
-        tally.judge(re.match(LINE, text), f"{arguments} printed no progress: {text[:200]}")
+        result = run_at_terminal([options.samples, *arguments], f"{folder}/{name}", meanwhile=kill_after_progress)
+        tally.judge(re.match(LINE, result.err), f"{arguments} printed no progress: {result.description()}")
     for name, arguments in CASES["ending"]:
         command, stdin = [options.samples, *arguments], f"{folder}/{name}"
         piped = running.run(command, stdin)
