@@ -1,6 +1,8 @@
 """Tests of these tools, by pytest: that each check finds the fault that it is for."""
 import json
+import os
 import random
+import shutil
 
 import pytest
 
@@ -88,6 +90,35 @@ def test_mutants_are_read_and_written():
     for line in MUTANTS.split("\n")[5:8]:
         with pytest.raises(mutant_files.Fault):
             mutant_files.parse("mutants", MUTANTS.replace(line + "\n", ""))
+
+
+def test_crates_are_proved_and_mutants_that_survive_are_found(tmp_path):
+    shutil.copytree("tools", tmp_path / "tools")
+    for path, text in {
+        "HANDLES": "", "crates.txt": "# all\nlow: std\ntp: low\n", "crates/tp/src/main.rt": "fn main() {\n}\n",
+        "crates/low/src/lib.rt": "fn one() {\n    1\n}\n\nfn two() {\n    2\n}\n",
+        "crates/low/mutants": "one_is_wrong in src/lib.rt\n- 1\n+ WRONG\ntwo_is_three in src/lib.rt\n- 2\n+ 3\n",
+    }.items():
+        os.makedirs(tmp_path / os.path.dirname(path), exist_ok=True)
+        running.write(tmp_path / path, text)
+    environment = {**os.environ, "PATH": f"{tmp_path}/tools/data/tests:{os.environ['PATH']}", "TMPDIR": str(tmp_path)}
+
+    def run(*command):
+        result = running.run(["tools/dev", *command], cwd=tmp_path, env=environment)
+        return result.status, result.out.decode()
+
+    status, out = run("build", "tp")
+    assert status == 0 and "[2/2] tp: proved, bin/tp is built" in out
+    status, out = run("mutants")
+    assert status == 1 and "low/one_is_wrong: killed" in out and "low/two_is_three: SURVIVED" in out
+    assert run("mutants", "--stale")[0] == 1
+    path = tmp_path / "crates/low/mutants"
+    running.write(path, path.read_text().replace("+ 3", "+ WRONG"))
+    assert run("mutants")[0] == 0 and "two_is_three in src/lib.rt: src/lib.rt, returns" in path.read_text()
+    assert run("mutants", "--stale")[0] == 0
+    running.write(tmp_path / "crates/low/src/lib.rt", "fn one() {\n    1 + WRONG\n}\n\nfn two() {\n    2\n}\n")
+    status, out = run("build", "tp")
+    assert status == 1 and "low: NOT PROVED" in out and run("mutants", "--stale")[0] == 1
 
 
 def test_parts_without_a_closing_line_fail():
