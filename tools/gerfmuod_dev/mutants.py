@@ -17,7 +17,6 @@ import os
 import re
 import shutil
 import subprocess
-import threading
 from concurrent.futures import ThreadPoolExecutor
 
 from . import mutant_files, repository, running, together, visible
@@ -114,41 +113,32 @@ def killer_of(crate, message):
     return ", ".join([place[1], place[2]] + ([] if place[2] in goals else [f"for {goal}" for goal in goals]))
 
 
-def try_alone(crate, names, lanes, keep, _, room):
+def try_alone(crate, names, lanes, room):
     """Tries mutants of a crate each in a check of its own, so many of them in parallel, in a copy in which all crates below it are
-    proved; keeps the prover's message for each by its name."""
+    proved; returns the prover's message for each by its name."""
     folder = f"{room}/crates/{crate.name}/must-fail"
     os.makedirs(folder)
     for name in names:
         running.write(f"{folder}/{name}.edit", mutants_of(crate.name)[name].text)
-    streams = {"stdin": subprocess.DEVNULL, "stdout": subprocess.PIPE, "text": True}
-    with subprocess.Popen(["rt", "must-fail", crate.name], cwd=room, env={**os.environ, "RT_JOBS": str(lanes)}, **streams) as process:
-        for line in process.stdout:
-            match = re.match(r"rt: must-fail \w+/(\S+)\.edit: (.*)", line)
-            if match:
-                keep({match[1]: match[2]})
+    options = {"env": {**os.environ, "RT_JOBS": str(lanes)}, "stdin": subprocess.DEVNULL, "stdout": subprocess.PIPE, "text": True}
+    output = subprocess.run(["rt", "must-fail", crate.name], cwd=room, check=False, **options).stdout
     shutil.rmtree(folder)
+    return dict(re.findall(r"^rt: must-fail \w+/(\S+)\.edit: (.*)", output, re.M))
 
 
-def try_together(crate, group, keep, proved, room):
-    """Tries mutants of a crate in one check; keeps the prover's message for each that it killed in the function that was changed."""
-    keep(together.try_group(crate.name, room, proved, group))
-
-
-def in_copies(copies, jobs):
-    """Runs jobs in parallel, each in a copy of the repository."""
+def in_copies(copies, action, jobs):
+    """Yields what an action returns for each job: they run in parallel, each in a copy of the repository."""
     free = [*copies]
 
     def run_job(job):
         room = free.pop()
         try:
-            job(room)
+            return action(room, *job)
         finally:
             free.append(room)
 
     with ThreadPoolExecutor(len(copies)) as lanes:
-        for _ in lanes.map(run_job, jobs):
-            pass
+        yield from lanes.map(run_job, jobs)
 
 
 class Verdicts:
@@ -156,7 +146,7 @@ class Verdicts:
     crate's proofs depend on, the mutant and the toolchain are the same: their digest is its key."""
 
     def __init__(self, crate):
-        self.crate, self.path, self.lock = crate, f"crates/{crate.name}/out/mutants.json", threading.Lock()
+        self.crate, self.path = crate, f"crates/{crate.name}/out/mutants.json"
         basis = hash_of([*texts_seen(crate), ("", toolchain())])
         self.keys = {name: hash_of([(basis, mutant.text)]) for name, mutant in mutants_of(crate.name).items()}
         kept = json.loads(text_of(self.path, "{}"))
@@ -171,14 +161,13 @@ class Verdicts:
 
     def add(self, messages):
         """Keeps verdicts, and prints them."""
-        with self.lock:
-            for name, message in messages.items():
-                killer, alive = killer_of(self.crate.name, message), "SURVIVED" if "NOT REFUSED" in message else "NOT KILLED by a clause"
-                print(f"{self.crate.name}/{name}: {f'killed: {killer}' if killer else f'{alive}: {message}'}", flush=True)
-            self.messages.update(messages)
-            decided = {self.keys[name]: message for name, message in self.messages.items() if not UNDECIDED.search(message)}
-            os.makedirs(os.path.dirname(self.path), exist_ok=True)
-            os.replace(running.write(f"{self.path}.new", json.dumps(decided)), self.path)
+        for name, message in messages.items():
+            killer, alive = killer_of(self.crate.name, message), "SURVIVED" if "NOT REFUSED" in message else "NOT KILLED by a clause"
+            print(f"{self.crate.name}/{name}: {f'killed: {killer}' if killer else f'{alive}: {message}'}", flush=True)
+        self.messages.update(messages)
+        decided = {self.keys[name]: message for name, message in self.messages.items() if not UNDECIDED.search(message)}
+        os.makedirs(os.path.dirname(self.path), exist_ok=True)
+        os.replace(running.write(f"{self.path}.new", json.dumps(decided)), self.path)
 
     def record(self):
         """Writes what killed each mutant of the crate, if all of them were; returns whether they were."""
@@ -215,15 +204,17 @@ def try_all(crates, top, copies):
     kept, verdicts = keep_proofs(crates, top, copies), {crate: Verdicts(crate) for crate in crates}
 
     def run_jobs(action, jobs):
-        in_copies(copies, [functools.partial(action, crate, *rest, verdicts[crate].add, kept[crate]) for crate, *rest in jobs])
+        for (crate, *_), messages in zip(jobs, in_copies(copies, action, jobs)):
+            verdicts[crate].add(messages)
 
     longest_first = sorted(crates, key=lambda crate: -crate.lines)
-    run_jobs(try_together, [(crate, group) for crate in longest_first for group in groups_in(crate, verdicts[crate].left)])
-    left = {crate: verdicts[crate].left for crate in crates if verdicts[crate].left}
-    for crate, room in itertools.product(left, copies):
+    groups = [(crate, group) for crate in longest_first for group in groups_in(crate, verdicts[crate].left)]
+    run_jobs(lambda room, crate, group: together.try_group(crate.name, room, kept[crate], group), groups)
+    left = [(crate, verdicts[crate].left) for crate in crates if verdicts[crate].left]
+    for (crate, _), room in itertools.product(left, copies):
         renew(kept[crate], f"{room}/crates/{crate.name}/out/incremental")
     lanes = max(1, len(copies) // max(1, len(left)))
-    run_jobs(try_alone, [(crate, names, lanes) for crate, names in left.items()])
+    run_jobs(lambda room, crate, names: try_alone(crate, names, lanes, room), left)
     return all([verdict.record() for verdict in verdicts.values()])
 
 
