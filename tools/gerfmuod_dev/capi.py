@@ -34,6 +34,7 @@ SEEDS = 4
 # a header that another one includes in its middle
 INCLUDED = ("capi/gerfmuod_tsan.h",)
 C99, C11 = ([CC, f"-std={standard}", *WARNINGS, "-O2"] for standard in ("c99", "c11"))
+CPP = [CXX, "-std=c++17", *WARNINGS, "-O2"]
 WRAPPED = ["-Wl,--wrap=malloc,--wrap=realloc"]
 ALL_WRAPPED = ["-Wl,--wrap=malloc,--wrap=realloc,--wrap=free"]
 PAGE = "docs/OTHER-RUNTIMES.md"
@@ -41,25 +42,10 @@ PAGE = "docs/OTHER-RUNTIMES.md"
 KINDS = ("tasks", "messages", "makers", "sparse", "large", "hashed")
 
 
-# of each program the runs: a status (-1: any but 0), a text that is printed, and the arguments, a line for each run
-RUNS = json.loads(text_of(f"{repository.TOP}/tools/data/capi-runs.json"))
-# the command that compiles a program, and the arguments of its runs under valgrind
-COMPILED = {
-    "two_waves.c": (C11, [[]]),
-    "texts.c": (C99, [[]]),
-    "limits.c": (C11, []),
-    "reentrant.c": ([*C11, "-g", *ALL_WRAPPED], [[]]),
-    "fuzz.c": ([*C11, "-g", *WRAPPED], [["20000", "3"]]),
-    "out_of_memory.c": ([*C11, *WRAPPED], []),
-    "unlocked.c": ([*C11, "-g", "-pthread", *THREAD], []),
-    "pool.cpp": ([CXX, "-std=c++17", *WARNINGS, "-O2", "-pthread"], [[]]),
-    "layout.c": (C99, [[]]),
-    "storm.c": (C11, [["8", "20"]]),
-    "epochs.c": (C11, [["3", "4", "20"]]),
-    "threads.c": ([*C11, "-pthread"], []),
-    "ring.rs": (["rustc", "--edition", "2024", "-O"], []),
-    "two_waves.f90": (["gfortran", "-std=f2018", "-Wall", "-Wextra", "-O2"], []),
-}
+# of each program the command that compiles it, in which these words stand for options, the arguments of runs under valgrind, and other
+# runs: a status (-1: any but 0), a text that is printed, and the arguments, a line for each run
+PROGRAMS = json.loads(text_of(f"{repository.TOP}/tools/data/capi.json"))
+WORDS = {"C99": C99, "C11": C11, "CPP": CPP, "WRAPPED": WRAPPED, "ALL_WRAPPED": ALL_WRAPPED, "THREAD": THREAD}
 
 
 def fuzz(options, calls, seeds):
@@ -71,9 +57,10 @@ def fuzz(options, calls, seeds):
 def programs():
     """Returns the programs of capi/ with their runs."""
     yield fuzz(ADDRESS, CALLS, [1])
-    for name, (compiler, small) in COMPILED.items():
-        runs = [Run(line.split(), status, output) for status, output, *lines in RUNS[name] for line in lines]
-        yield Program(f"capi/{name}", compiler, runs, small)
+    for name, about in PROGRAMS.items():
+        compiler = [option for word in about["compiler"].split() for option in WORDS.get(word, [word])]
+        runs = [Run(line.split(), status, output) for status, output, *lines in about["runs"] for line in lines]
+        yield Program(f"capi/{name}", compiler, runs, [line.split() for line in about["valgrind"]])
 
 
 def sources(language, _):
