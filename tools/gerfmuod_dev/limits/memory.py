@@ -16,6 +16,7 @@ MESSAGES = {"tp": [b"refused 17 NoMemory\n"], "samples": [b"there is no memory\n
 MESSAGES["samples draw"] = [*MESSAGES["tp"], *MESSAGES["samples"]]
 # a command line, its input, and in `refuse` whether the quick form has it, in `memory` by how many percent its limit grows
 COMMAND = re.compile(r"^(?:(quick|full|\d+): )(.*?)(?: < (\w+))?$", re.M)
+ROW = ["3 -1 4 1 -5 9 2 6"]
 # the first limit in KB, and how many there are
 FIRST_LIMIT, LIMITS = 8192, 50
 # crates with tests that repeat a call which ran out of memory, after they have checked that nothing changed
@@ -35,10 +36,6 @@ def steps_of_tasks(count):
         yield f"send {node} {other} {number}\nrecv {other} {number}\nend {other} {number}\nopen 0 {number}"
 
 
-def matrix(factor):
-    return [" ".join(str(row * 3 - column * factor - 5) for column in range(8)) for row in range(8)]
-
-
 def write_inputs(folder):
     """Writes the inputs of the commands to a folder."""
     steps, long_steps = [*steps_of_tasks(300)], [*steps_of_tasks(30_000)]
@@ -46,7 +43,7 @@ def write_inputs(folder):
         "script": ["nodes 8", *steps], "trace": ["trace 1", "nodes 8", *steps], "fault": ["nodes 1", "ready"],
         "long_script": ["nodes 8", *long_steps], "long_trace": ["trace 1", "nodes 8", *long_steps],
         "drawn": ["trace 1", "nodes 8", *steps[:80]], "rod": range(0, 401, 7), "long_rod": range(1, 4001),
-        "matrices": [*matrix(0), "", *matrix(1)], "grid": matrix(2),
+        "matrices": [*ROW * 8, "", *ROW * 8], "grid": ROW * 8,
     }.items():
         running.write(f"{folder}/{name}", lines)
 

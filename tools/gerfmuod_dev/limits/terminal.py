@@ -117,12 +117,9 @@ def reasons(tally, options, _):
 
 
 def write_inputs(folder):
-    def rows(count, width):
-        return [" ".join(str((row * 37 + column * 101) % 1000) for column in range(width)) for row in range(count)]
-
-    matrix = rows(420, 420)
+    grid = [" ".join(str((row * 37 + column * 101) % 1000) for column in range(420)) for row in range(420)]
     for name, lines in {
-        "rod": [number * 7919 % 100_003 for number in range(2000)], "grid": rows(100, 200), "matrices": [*matrix, "", *matrix],
+        "rod": [number * 7919 % 100_003 for number in range(2000)], "grid": grid[:100], "matrices": [*grid, "", *grid],
         "most": [0] * MOST_CELLS, "more": [0] * (MOST_CELLS + 1),
     }.items():
         running.write(f"{folder}/{name}", lines)
