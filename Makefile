@@ -21,10 +21,10 @@
 # make docs     draws the pictures of docs/figures again: runs by bin/samples, a page by Chromium, Cholesky by the library of
 #               make lib (without these two, their pictures stay), plots and the crates by matplotlib and graphviz
 #               (tools/bench-packages); and writes out/guarantees, an index of all contracts
-# make install  installs the proved programs and the library, with the manual, the completion for bash, the documents, and
-#               packages for pkg-config and CMake. It takes DESTDIR, PREFIX (/usr/local), EXEC_PREFIX, BINDIR, LIBDIR,
-#               INCLUDEDIR, DATADIR, MANDIR, DOCDIR and PYTHONDIR (defaults: `tools/dev install --help`), also in small
-#               letters; BUILT=FOLDER installs what is in FOLDER/bin and FOLDER/lib instead of building it
+# make install  installs the proved programs and the library, with the manual (if pandoc is installed), the completion for bash,
+#               the documents, and packages for pkg-config and CMake. It takes DESTDIR, PREFIX (/usr/local), EXEC_PREFIX, BINDIR,
+#               LIBDIR, INCLUDEDIR, DATADIR, MANDIR, DOCDIR and PYTHONDIR (defaults: below), also in small letters;
+#               BUILT=FOLDER installs what is in FOLDER/bin and FOLDER/lib instead of building it
 # make uninstall  removes what make install put there; it takes the same DESTDIR, PREFIX and DATADIR
 # make dist     packs the committed files into gerfmuod-VERSION.tar.gz
 # make clean    removes everything that was proved and built
@@ -88,18 +88,28 @@ docs: bin/samples
 	@tools/dev proved
 
 BUILT ?= .
-FOLDERS := DESTDIR PREFIX EXEC_PREFIX BINDIR LIBDIR INCLUDEDIR DATADIR MANDIR DOCDIR PYTHONDIR
-FOLDERS += prefix exec_prefix bindir libdir includedir datadir mandir docdir pythondir
-GIVEN = $(foreach name,$(FOLDERS),$(if $($(name)),'$(name)=$($(name))'))
+PREFIX ?= $(or $(prefix),/usr/local)
+EXEC_PREFIX ?= $(or $(exec_prefix),$(PREFIX))
+BINDIR ?= $(or $(bindir),$(EXEC_PREFIX)/bin)
+LIBDIR ?= $(or $(libdir),$(EXEC_PREFIX)/lib)
+INCLUDEDIR ?= $(or $(includedir),$(PREFIX)/include)
+DATADIR ?= $(or $(datadir),$(PREFIX)/share)
+MANDIR ?= $(or $(mandir),$(DATADIR)/man)
+DOCDIR ?= $(or $(docdir),$(DATADIR)/doc/gerfmuod)
+PYTHONDIR ?= $(or $(pythondir),$(LIBDIR)/gerfmuod/python)
+VERSION = $(shell sed -n 's/^version = "\(.*\)"/\1/p' python/pyproject.toml)
+FOLDERS := PREFIX EXEC_PREFIX BINDIR LIBDIR INCLUDEDIR DATADIR MANDIR DOCDIR PYTHONDIR
+GIVEN = DESTDIR='$(abspath $(DESTDIR))' BUILT='$(abspath $(BUILT))' VERSION='$(VERSION)' HEADERS='$(addprefix capi/,$(HEADERS))' \
+        $(foreach name,$(FOLDERS),$(name)='$($(name))')
 
 install: $(BUILT)/bin/samples $(BUILT)/lib/libgerfmuod.a
-	@tools/dev install --built '$(BUILT)' $(GIVEN)
+	@$(GIVEN) tools/install
 
 uninstall:
-	@tools/dev install --remove $(GIVEN)
+	@$(GIVEN) tools/install --remove
 
 dist:
-	@tools/dev dist
+	git -c tar.umask=0022 archive --prefix=gerfmuod-$(VERSION)/ --output=gerfmuod-$(VERSION).tar.gz HEAD
 
 clean:
 	rm -rf bin lib crates/*/out
