@@ -19,7 +19,7 @@ import os
 import re
 from urllib.parse import unquote
 
-from . import atomics, crate_map, memory_table, plots, proved, repository
+from . import atomics, crate_map, plots, proved, repository
 from .bench import figures
 from .repository import text_of
 from .running import Tally
@@ -130,7 +130,6 @@ def run(options):
         print("\n".join(sorted(memory_table.calls())))
         return 0
     tally = Tally()
-    memory_table.check(tally)
     for page in GUIDE:
         check_page(page, tally)
     check_links(tally)

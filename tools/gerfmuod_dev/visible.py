@@ -60,8 +60,7 @@ def blocks_in(path):
 def files_with(crate, name):
     """Returns the files of a crate that declare a type or a call of a name, or implement the type, as a tuple. A name that its lib.rt
     passes on from another crate is looked up there."""
-    contracts = contracts_of(crate)
-    files = {function.file for function in contracts.functions.values() if name == (function.owner or function.name)}
+    files = {function.file for function in contracts_of(crate)[0].values() if name == (function.owner or function.name)}
     files.update(path for path in repository.files_in(f"crates/{crate}/src") if any(name == declared for declared, _ in blocks_in(path)))
     exports = IMPORT.findall(text_of(f"crates/{crate}/src/lib.rt", ""))
     others = [other for other, several, single in exports if known(other) and name in listed(several, single)]
