@@ -20,7 +20,7 @@
 #               docs/PERFORMANCE.md; see bench/README.md)
 # make docs     draws the pictures of docs/figures again: runs by bin/samples, a page by Chromium, Cholesky by the library of
 #               make lib (without these two, their pictures stay), plots and the crates by matplotlib and graphviz
-#               (tools/bench-packages); and writes out/guarantees, an index of all contracts
+#               (tools/bench-packages)
 # make install  installs the proved programs and the library, with the manual (if pandoc is installed), the completion for bash,
 #               the documents, and packages for pkg-config and CMake. It takes DESTDIR, PREFIX (/usr/local), EXEC_PREFIX, BINDIR,
 #               LIBDIR, INCLUDEDIR, DATADIR, MANDIR, DOCDIR and PYTHONDIR (defaults: below), also in small letters;
@@ -85,7 +85,6 @@ bench: bin/samples lib/libgerfmuod.a
 docs: bin/samples
 	@tools/dev draw
 	@tools/dev plot
-	@tools/dev proved
 
 BUILT ?= .
 PREFIX ?= $(or $(prefix),/usr/local)
