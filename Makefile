@@ -9,7 +9,7 @@
 #               that an earlier run on this machine passed is reused)
 # make mutants  tries all mutants of the crates that changed (ALL=1: of every crate; CRATE=tp_wave: of one)
 # make times    the gate, and the processor time that it takes
-# make soak     runs each sample pool 200 times at 8 nodes with 8 workers each, compares the outputs and audits the traces;
+# make soak     runs sample pools 600 times, half of them at 8 nodes with 8 workers each, compares the outputs and audits the traces;
 #               then runs the program with unusual streams and texts, at a terminal, with every stored text truncated after
 #               each byte, and with random texts; the programs over borrowed data at a terminal; and random calls of the
 #               library for C, compared with a model
@@ -70,7 +70,7 @@ times:
 	@bash -c 'time $(MAKE) --no-print-directory gate'
 
 soak: bin/samples lib/libgerfmuod.a
-	tools/dev soak bin/tp --runs 200
+	tools/dev soak bin/tp
 	tools/dev limits strange bin/tp
 	tools/dev limits reasons bin/tp
 	tools/dev limits cuts bin/tp
