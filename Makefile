@@ -1,6 +1,6 @@
 # make          proves the programs with all that they use, and builds them: bin/tp and bin/samples (half an hour on four
 #               cores the first time); tp comes first, and `make bin/tp` builds nothing else
-# make demo     two runs of the program, without proofs (a minute)
+# make demo     two runs of the program, without proofs, on the cases of tools/data/demo (a minute)
 # make test     every test and every program, without proofs: those in C, C++, Fortran and Python with the library of
 #               `make lib`, and the cases of the programs with those of `make` (some minutes; see docs/GATE.md)
 # make mpi      tree search with the detector for distributed programs, and Cholesky with a task graph in each process, over
@@ -51,7 +51,7 @@ lib/libgerfmuod.a: $(SOURCES) crates.txt $(addprefix capi/,$(HEADERS) $(PARTS))
 	@tools/dev lib
 
 demo:
-	@tools/dev demo
+	cd crates/tp && rt try --cases ../../tools/data/demo
 
 test:
 	@tools/dev test

@@ -1,13 +1,12 @@
 """Tries the trace events and the page that `samples draw run` writes, and the times of runs.
 
-Has the program write 40 random runs as events. Each file has to be as the Trace Event Format says (event_format.py); each
-task, message and wave of the trace has to be in it once, and its events have to be those of a second writer
-(trace_events.py). Then the programs run with `--profile FILE`: each file has to have each task of the run once, in time, and
-counters that rise to the numbers of the run (run_profiles.py), and `tools/dev summary` has to find them. If Chromium is
-installed (`tools/page-packages` prints the packages), opens the page of a run of 100,000 events in it, zooms, moves, searches,
-and holds the pointer over a task, a message and a wave, in light and dark colours, and opens the pages of the short runs;
-none may report an error. A viewer of Chromium's DevTools has to find the slices of all files (viewer.py). The last line is
-`N passed, M failed, K skipped`; the status is 1 if one failed.
+Has the program write 40 random runs as events. Each file has to be as the Trace Event Format says (event_format.py), its events have to be
+those of a second writer (trace_events.py), and each task, end of a message and wave of the trace has to have one. Then the programs run
+with `--profile FILE`: each file has to have each task of the run once, in time, and counters that rise to the numbers of the run
+(run_profiles.py), and `tools/dev summary` has to find them. If Chromium is installed (`tools/page-packages` prints the packages), opens
+the page of a run of 100,000 events in it, zooms, moves, searches, and holds the pointer over a task, a message and a wave, in light and
+dark colours, and opens the pages of the short runs; none may report an error. A viewer of Chromium's DevTools has to find the slices of
+all files (viewer.py). The last line is `N passed, M failed, K skipped`; the status is 1 if one failed.
 """
 import collections
 import io
@@ -28,6 +27,9 @@ PAGE, EMPTY = "page", "trace 1\nnodes 1\n"
 SPOILED = "busy-00"
 DATA = re.compile(r'(<script type="application/json" id="events">\n).*?(</script>)', re.S)
 LINES = 100_000
+# the category and the phase of what a line of a trace shows
+SHOWN = {"begin": ("task", "X"), "send": ("message", "s"), "recv": ("message", "f"), "give 0": ("wave", "i")}
+BOX = "(box => [box.left, box.top, box.right, box.bottom])(canvas.getBoundingClientRect())"
 
 
 def traces():
@@ -57,46 +59,24 @@ def written(texts, folder):
     return {name: results[name][1] for name in forms if results.get(name, (None,))[0] == 0}, results
 
 
-def things_of(trace):
-    """Counts the tasks that began, the two ends of each message, and the waves of a trace, each with its generation."""
-    things, generation, wave = collections.Counter(), 1, 0
-    for word, *numbers in map(str.split, trace.splitlines()[2:]):
-        if word == "reopen":
-            generation, wave = generation + 1, 0
-        wave += [word, *numbers] == ["give", "0"]
-        found = {"begin": ("X", "task"), "send": ("s", "message"), "recv": ("f", "message"), "give": ("i", "wave")}.get(word)
-        number = {"send": numbers[2:3], "recv": numbers[1:2], "give": [wave] if numbers == ["0"] else []}.get(word, numbers)
-        things.update((*found, generation, int(number[0])) for _ in number[:1] if found)
-    return things
-
-
-def things_in(events):
-    """Counts the same in trace events. A task that runs has its event at the end, in the last generation."""
-    things, generation = collections.Counter(), 1
-    for event in events:
-        category, _, number = event.get("cat", ""), *event["name"].partition(" ")[1:]
-        if category == "generation":
-            generation = int(number)
-        if event["ph"] in "Xsfi" and category in ("task", "message", "wave"):
-            things[event["ph"], category, generation, int(number)] += 1
-    return things
-
-
 def check_events(tally, texts, outputs):
+    """Judges the events of each trace, and whether faults that are made in some are found."""
     total = collections.Counter()
     for name, trace in texts.items():
-        found = json.loads(outputs.get(name, "null")) or {"traceEvents": []}
-        things, events = things_of(trace), found["traceEvents"]
-        tally.judge(things == things_in(events) and set(things.values()) <= {1}, f"{name}: not each thing of this trace once: {trace}")
-        expected = events_of(trace)
+        lines = [line if line in SHOWN else line.split()[0] for line in trace.splitlines()]
+        shown = collections.Counter(SHOWN[line] for line in lines if line in SHOWN)
+        found, expected = json.loads(outputs.get(name, "null")) or {"traceEvents": []}, events_of(trace)
+        events = found["traceEvents"]
+        kinds = collections.Counter((event.get("cat"), event["ph"]) for event in events)
         is_same = found.get("otherData") == expected["otherData"] and sorted(map(str, events)) == sorted(map(str, expected["traceEvents"]))
-        tally.judge(is_same, f"{name}: the second writer has other events for this trace: {trace}")
+        is_well = is_same and all(kinds[kind] == shown[kind] for kind in SHOWN.values())
+        tally.judge(is_well, f"{name}: other events than those of the second writer, which are {shown}, for this trace: {trace}")
         faults = event_format.faults(outputs.get(name, ""))
         tally.judge(not faults, f"{name}: not in the Trace Event Format: {faults[:3]}")
-        total.update(category for _, category, _, _ in things)
+        total += shown
     for number, text in enumerate(event_format.spoiled(outputs[SPOILED]) if SPOILED in outputs else ()):
         tally.judge(event_format.faults(text), f"fault {number} of trace events was not found")
-    print(f"{len(texts)} runs as events: {total['task']} tasks, {total['message']} ends of messages, {total['wave']} waves", flush=True)
+    print(f"{len(texts)} runs as events: {dict(total)}", flush=True)
 
 
 class Reader:
@@ -104,10 +84,9 @@ class Reader:
 
     def __init__(self, tally, browser):
         self.tally, self.browser = tally, browser
-        box = "(box => [box.left, box.top, box.right, box.bottom])(canvas.getBoundingClientRect())"
-        self.left, self.top, self.right, self.bottom = browser.value(box)
+        left, self.top, right, self.bottom = browser.value(BOX)
         # (64 pixels of the canvas are to the left of the lanes, and 24 to the right)
-        self.middle = (self.left + 64 + self.right - 24) / 2
+        self.middle = (left + 64 + right - 24) / 2
 
     def text(self, name):
         return self.browser.value(f"(part => part.hidden ? '' : part.textContent)(document.getElementById('{name}'))")
@@ -132,9 +111,8 @@ class Reader:
         self.browser.key("ArrowLeft")
         moved = self.shown()
         self.expect("an arrow moves", moved[0] < wider[0] and moved[1] < wider[1])
-        self.browser.mouse("mousePressed", self.middle, y, button="left", buttons=1)
-        self.browser.mouse("mouseMoved", self.middle - 200, y, button="left", buttons=1)
-        self.browser.mouse("mouseReleased", self.middle - 200, y, button="left")
+        for kind, x in (("Pressed", self.middle), ("Moved", self.middle - 200), ("Released", self.middle - 200)):
+            self.browser.mouse(f"mouse{kind}", x, y, button="left", buttons=int(kind != "Released"))
         self.expect("dragging moves", self.shown()[0] > moved[0])
         self.browser.key("0")
         self.expect("the key 0 shows all", self.shown() == every)
