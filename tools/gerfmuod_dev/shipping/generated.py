@@ -1,8 +1,8 @@
-"""Checks what an installation has besides copies: the version in each source, the pages of the manual, and the completion for bash."""
+"""Checks what an installation has besides copies: the pages of the manual, and the completion for bash."""
 import os
 import re
 
-from .. import running, version
+from .. import running
 from ..running import short
 from . import manual
 
@@ -22,37 +22,21 @@ def declared():
     return sorted({function for name in manual.HEADERS for function in manual.functions_of(name)})
 
 
-def check_versions(tally):
-    differing = version.differing()
-    tally.judge(not differing, f"{version.PLACE} has the version {version.version()}, and another one is in {' '.join(differing)}")
-
-
 def check_manual(tally, built, folder):
     """Has groff lay out each page, which then has all that its Markdown has: what `--help` prints, or a header's text and code."""
     if not tally.has("pandoc", "the manual") or not tally.has("groff", "the layout of the manual"):
         return
     manual.write(folder, built)
-    pages = manual.pages(built)
-    for path, text in pages.items():
+    for path, text in manual.pages(built).items():
         result = running.run(["groff", "-man", "-Tutf8", "-P-cbou", f"{folder}/{path}"])
         words = re.sub(r"\\" + manual.SPECIAL.pattern, r"\1", text.split("# DESCRIPTION", 1)[1]).split()
         missing = [word for word in dict.fromkeys(words) if word != "~~~~" and word.encode() not in result.out]
-        tally.judge(not result.status and not missing, f"{path} lacks {missing[:5]}: {short(result.err)}")
-    print(f"{len(pages)} pages of the manual: laid out, with all that they are generated from")
+        tally.judge(words and not result.status and not missing, f"{path} lacks {missing[:5]}: {short(result.err)}")
 
 
 def check_completion(tally, built):
     """Has bash complete arguments by what the programs print."""
-    if not tally.has("bash", "its completion"):
-        return
-    for line, expected in COMPLETED:
-        environment = {**os.environ, "PATH": f"{built}/bin:{os.environ['PATH']}"}
+    environment = {**os.environ, "PATH": f"{built}/bin:{os.environ['PATH']}"}
+    for line, expected in COMPLETED if tally.has("bash", "its completion") else ():
         result = running.run(["bash", "--norc", "-c", COMPLETE, "bash", *line.split(" ")], env=environment)
         tally.judge(result.out.decode().split() == expected, f"{line}: completed as {short(result.out + result.err)}, not as {expected}")
-    print(f"the completion for bash: {len(COMPLETED)} lines")
-
-
-def check(tally, built, folder):
-    check_versions(tally)
-    check_manual(tally, built, folder)
-    check_completion(tally, built)

@@ -1,13 +1,10 @@
-"""Installs into temporary folders and checks what is there: `make test`.
+"""Installs into temporary folders and checks what is there: `make test`. It fails if a program or the library is not of these sources.
 
-It fails if the programs or the library are not built from these sources. Then it checks
-- the version in each source that repeats it, the pages of the manual, and what the completion for bash offers;
-- that the installed files are those of the list that `make uninstall` reads, their modes, and the links of the documents;
-- what pkg-config prints, and programs that are compiled by it and by CMake, in C and C++, shared and static;
-- programs in C, C++, Fortran, Rust and Python with nothing but the installed files;
-- what `make uninstall` leaves: nothing;
-- the tarball of `make dist` with the committed files.
-It skips what is not installed, and counts that. The last line is `N passed, M failed, K skipped`; the status is 1 if one failed.
+Compares the versions in the sources; what the pages of the manual have and the completion offers with what they are generated from; the
+installed files with the list that `make uninstall` reads, their modes with the usual ones, and the links of the documents with them. Runs
+programs in C, C++, Fortran, Rust and Python over nothing but the installed files, by pkg-config and by CMake, shared and static. After
+`make uninstall` nothing is left, and the tarball of `make dist` has the committed files. It skips what is not installed, and counts
+that. The last line is `N passed, M failed, K skipped`; the status is 1 if one failed.
 """
 import compileall
 import os
@@ -21,16 +18,17 @@ from . import generated
 
 PROJECT = "tools/data/package"
 SONAME = shared_object.SONAME
-# variables of make, and what follows from them
+# variables of make: a folder of its own, and the folders of Debian, with headers in a folder of their own
 USUAL = {"PREFIX": "/usr/gerfmuod", "LIBDIR": "/usr/gerfmuod/lib", "INCLUDEDIR": "/usr/gerfmuod/include"}
-# the folders of Debian, with headers in a folder of their own
 OTHER = {"PREFIX": "/usr", "LIBDIR": "/usr/lib/x86_64-linux-gnu", "INCLUDEDIR": "/usr/include/gerfmuod", "MANDIR": "/srv/man"}
+ALLOWED = ("PKG_CONFIG_ALLOW_SYSTEM_CFLAGS", "PKG_CONFIG_ALLOW_SYSTEM_LIBS", "PYTHONDONTWRITEBYTECODE")
 
 
-def check(tally, result, what):
-    """Counts and returns whether a command succeeded."""
-    tally.judge(result.status == 0, f"{what}: status {result.status}: {short(result.out + result.err, 3000)}")
-    return result.status == 0
+def check(tally, result, what, expected=""):
+    """Counts and returns whether a command succeeded, and printed what is expected."""
+    is_well = result.status == 0 and expected in result.out.decode()
+    tally.judge(is_well, f"{what}: status {result.status}, not {expected!r}: {short(result.out + result.err, 3000)}")
+    return is_well
 
 
 @dataclass
@@ -42,7 +40,7 @@ class Tree:
     built: str
 
     def path(self, name, below=""):
-        """Returns where a folder of the installation is now, or the share of it."""
+        """Returns where a folder of the installation is now, or what is below it."""
         return self.destination + self.variables[name] + below
 
     @property
@@ -66,15 +64,15 @@ class Tree:
     def environment(self):
         """Returns the variables for pkg-config, and for programs that load the shared object."""
         paths = {"PKG_CONFIG_PATH": self.path("LIBDIR", "/pkgconfig"), "PKG_CONFIG_SYSROOT_DIR": self.destination}
-        allowed = {"PKG_CONFIG_ALLOW_SYSTEM_CFLAGS": "1", "PKG_CONFIG_ALLOW_SYSTEM_LIBS": "1", "PYTHONDONTWRITEBYTECODE": "1"}
         libraries = {"LD_LIBRARY_PATH": self.path("LIBDIR"), "PYTHONPATH": self.path("LIBDIR", "/gerfmuod/python")}
-        return {**os.environ, **paths, **allowed, **libraries}
+        return {**os.environ, **dict.fromkeys(ALLOWED, "1"), **paths, **libraries}
 
 
 def check_files(tally, tree):
-    """Compares the installed files with the list of them, and with the headers; and the modes of files and folders with the usual ones."""
-    files, listed = tree.files(), repository.text_of(tree.list).splitlines()
-    differing = {*files} ^ {path for path in listed if not path.endswith("/")}
+    """Compares the installed files with the list of them and with the headers, their modes with the usual ones, and the links of the
+    documents with them; the sources of crates are not installed."""
+    listed = repository.text_of(tree.list).splitlines()
+    differing = {*tree.files()} ^ {path for path in listed if not path.endswith("/")}
     tally.judge(not differing, f"the list of installed files differs from them: {sorted(differing)[:5]}")
     headers = sorted(map(os.path.basename, library.HEADERS))
     tally.judge(sorted(os.listdir(tree.path("INCLUDEDIR"))) == headers, f"not these headers are installed: {headers}")
@@ -83,25 +81,18 @@ def check_files(tally, tree):
         for path in (f"{folder}/{name}" for name in [*folders, *names] if not os.path.islink(f"{folder}/{name}")):
             mode, is_executable = os.stat(path).st_mode & 0o777, os.path.isdir(path) or path.startswith(executable)
             tally.judge(mode == (0o755 if is_executable else 0o644), f"{path} has the mode {mode:o}")
-    print(f"{len(files)} files are installed")
-
-
-def check_links(tally, tree):
-    """Searches the links of the installed documents that lead nowhere; the sources of crates are not installed."""
-    pages = [path for path in repository.files_in(tree.documents) if path.endswith(".md")]
-    links = [(path, link) for path in pages for link in docs.links_of(path) if not link.startswith("../../crates/")]
-    dead = [(path, link) for path, link in links if not docs.exists(path, link)]
-    tally.judge(links and not dead, f"dead links of installed documents: {dead[:5]}")
+    for page in (path for path in repository.files_in(tree.documents) if path.endswith(".md")):
+        dead = [link for link in docs.dead_links(page) if not link.startswith("../../crates/")]
+        tally.judge(not dead, f"dead links in {page}: {dead}")
 
 
 def by_pkg_config(tree, program):
-    """Yields for each line of sh that uses pkg-config the programs that it needs, and what it prints."""
+    """Yields for each line of sh that uses pkg-config the program that it needs, and what it prints."""
     include, libraries = tree.variables["INCLUDEDIR"], tree.variables["LIBDIR"]
-    flags = f"-I{tree.destination}{include} -L{tree.destination}{libraries} -lgerfmuod -pthread"
-    moved = f"/moved{include[len(tree.variables['PREFIX']):]}"
-    yield "", "pkg-config --modversion gerfmuod", version.version()
-    yield "", "pkg-config --cflags --libs gerfmuod", flags
-    yield "", "env -u PKG_CONFIG_SYSROOT_DIR pkg-config --define-variable=prefix=/moved --variable=includedir gerfmuod", moved
+    moved = "env -u PKG_CONFIG_SYSROOT_DIR pkg-config --define-variable=prefix=/moved --variable=includedir gerfmuod"
+    yield "sh", "pkg-config --modversion gerfmuod", version.version()
+    yield "sh", "pkg-config --cflags --libs gerfmuod", f"-I{tree.destination}{include} -L{tree.destination}{libraries} -lgerfmuod -pthread"
+    yield "sh", moved, f"/moved{include[len(tree.variables['PREFIX']):]}"
     number = f"version {version.number()}"
     shared, static = (f"$(pkg-config {option} --cflags --libs gerfmuod) && {program}" for option in ("--shared", "--static"))
     yield "cc", f"cc {PROJECT}/version.c -o {program} {shared} && grep -q {SONAME} {program}", number
@@ -113,10 +104,10 @@ def by_cmake(tree, folder):
     """Returns the line of sh that configures, builds and runs a project over the installed package, which is not at its prefix."""
     major, minor, patch = version.parts()
     older = f"{major - 1}.9" if major else f"0.{minor - 1}"
-    is_usual = tree.variables["LIBDIR"] == f"{tree.variables['PREFIX']}/lib"
-    place = f"CMAKE_PREFIX_PATH={tree.path('PREFIX')}" if is_usual else f"Gerfmuod_DIR={tree.path('LIBDIR', '/cmake/Gerfmuod')}"
     found = f"{major};{major}.{minor};{version.version()}"
     not_found = f"{older};{major}.{minor}.{patch + 1};{major}.{minor + 1};{major + 1}"
+    is_usual = tree.variables["LIBDIR"] == f"{tree.variables['PREFIX']}/lib"
+    place = f"CMAKE_PREFIX_PATH={tree.path('PREFIX')}" if is_usual else f"Gerfmuod_DIR={tree.path('LIBDIR', '/cmake/Gerfmuod')}"
     configure = f"cmake -S {PROJECT} -B {folder} '-DFOUND={found}' '-DNOT_FOUND={not_found}' -D{place}"
     run = f"cd {folder} && ./shared && ./cpp && ./static && grep -q {SONAME} shared && grep -q {SONAME} cpp && ! grep -q {SONAME} static"
     return f"{configure} && cmake --build {folder} && {run}"
@@ -141,23 +132,22 @@ def check_programs(tally, tree, folder):
     if tally.has("pkg-config", "programs over the installed package"):
         lines += [*by_pkg_config(tree, f"{folder}/program"), *examples(tree, f"{folder}/program")]
     for needed, line, expected in lines:
-        if not needed or tally.has(needed, line):
-            result = running.run(["sh", "-c", line], env=tree.environment())
-            is_well = not result.status and expected in result.out.decode()
-            tally.judge(is_well, f"{line}: not {expected}, but status {result.status}: {short(result.out + result.err, 2000)}")
+        if tally.has(needed, line):
+            check(tally, running.run(["sh", "-c", line], env=tree.environment()), line, expected)
 
 
 def check_uninstall(tally, tree):
     """Installs again over a file of an older version, and compares what is left after `make uninstall`."""
-    old, foreign = f"{tree.variables['LIBDIR']}/of-an-older-version", f"{tree.variables['LIBDIR']}/foreign"
-    write(tree.list, f"{repository.text_of(tree.list)}{old}\n")
+    old, foreign = tree.path("LIBDIR", "/of-an-older-version"), tree.path("LIBDIR", "/foreign")
+    write(tree.list, f"{repository.text_of(tree.list)}{old[len(tree.destination):]}\n")
     for path in (old, foreign):
-        write(tree.destination + path, "")
+        write(path, "")
     check(tally, tree.make("install"), "make install, again")
-    tally.judge(not os.path.exists(tree.destination + old), "make install leaves a file of the version before")
+    tally.judge(not os.path.exists(old), "make install leaves a file of the version before")
     compileall.compile_dir(tree.path("LIBDIR", "/gerfmuod/python"), quiet=2)
     check(tally, tree.make("uninstall"), "make uninstall")
-    tally.judge(tree.files() == [foreign], f"make uninstall leaves {tree.files()[:5]}, and not only a foreign file")
+    left = repository.files_in(tree.destination)
+    tally.judge(left == [foreign], f"make uninstall leaves {left[:5]}, and not only a foreign file")
     tally.judge(tree.make("uninstall").status != 0, "make uninstall succeeds although nothing is installed")
     tree.destination += "-anew"
     check(tally, tree.make("install"), "make install")
@@ -167,14 +157,13 @@ def check_uninstall(tally, tree):
 
 def check_dist(tally, folder):
     """Compares the files of the tarball with the committed ones, and runs make in it."""
-    if not os.path.exists(".git"):
-        tally.skips("make dist", "a repository of git")
-        return
     name = f"gerfmuod-{version.version()}"
-    unpack = f'cp {name}.tar.gz "$0" && tar -xzf {name}.tar.gz -C "$0" && make -C "$0/{name}" -n all lib'
+    unpack = f'tar -xzf {name}.tar.gz -C "$0" && rm {name}.tar.gz && make -C "$0/{name}" -n all lib'
     compare = f'git ls-tree -r --name-only -z HEAD | sort -z > "$0/committed" && cd "$0/{name}" && find . ! -type d -printf "%P\\0" | sort -z'
-    if check(tally, running.run(["sh", "-c", f'make -s dist && {unpack} && ({compare} | cmp - "$0/committed")', folder]), "make dist"):
-        print("the tarball of make dist: it has the committed files")
+    if os.path.exists(".git"):
+        check(tally, running.run(["sh", "-c", f'make -s dist && {unpack} && {compare} | cmp - "$0/committed"', folder]), "make dist")
+    else:
+        tally.skips("make dist", "a repository of git")
 
 
 def arguments(parser):
@@ -184,17 +173,18 @@ def arguments(parser):
 def run(options):
     repository.go_to_top()
     tally, built_folder = Tally(), options.built or repository.TOP
+    version.check(tally)
     reasons = [] if options.built else [library.reason_not_built(), *map(built.reason_not_built, ("tp", "samples"))]
     if any(reasons):
         tally.fails(f"{next(filter(None, reasons))}: `make` and `make lib` build what is installed")
         return tally.end()
     with tempfile.TemporaryDirectory() as folder:
-        generated.check(tally, built_folder, f"{folder}/manual")
+        generated.check_manual(tally, built_folder, f"{folder}/manual")
+        generated.check_completion(tally, built_folder)
         for name, variables in (("usual", USUAL), ("other", OTHER)):
             tree = Tree(f"{folder}/{name}", variables, built_folder)
             if check(tally, tree.make("install"), "make install"):
                 check_files(tally, tree)
-                check_links(tally, tree)
                 check_programs(tally, tree, tempfile.mkdtemp(dir=folder))
                 check_uninstall(tally, tree)
         check_dist(tally, folder)
