@@ -8,20 +8,18 @@ and ends with status 1; a trace that is not sound is stored.
 import os
 import random
 import re
-import shutil
 import sys
-import tempfile
 import time
 
 from . import running
 
 POOLS = ["product:8:2:0", "product:16:2:7", "wavefront:16:16:0", "wavefront:5:31:9", "reduce:64:0", "reduce:256:41"]
-AUDITED = re.compile(r"steps \d+\ntasks (\d+) done (\d+)\nmessages (\d+) received (\d+)\nended \d+\n?")
+AUDITED = r"steps \d+\ntasks {0} done {0}\nmessages (\d+) received \1\nended \d+\n"
+UNSOUND = "unsound-trace"
 
 
-def run_of(program, pool, nodes, workers, *options):
-    """Returns the command of a run."""
-    return [program, "run", pool, "--nodes", str(nodes), "--workers", str(workers), *options]
+def command_of(program, pool, nodes, workers):
+    return [program, "run", pool, "--nodes", str(nodes), "--workers", str(workers)]
 
 
 def output_of(command):
@@ -30,34 +28,17 @@ def output_of(command):
     return re.sub(r"^messages .*\n", "", (result.out + result.err).decode(errors="replace"), flags=re.M)
 
 
-def fault_of_trace(program, command, tasks, trace):
-    """Returns what is wrong with a trace of a run, or nothing; leaves the trace in a file."""
-    result = running.run([*command, "--trace"])
-    running.write(trace, result.out)
-    audited = running.run([program, "audit"], trace)
-    found = AUDITED.fullmatch(audited.out.decode(errors="replace"))
-    is_sound = found and found[1] == found[2] == tasks and found[3] == found[4]
-    return "" if is_sound and not result.status and not audited.status else f"the audit of its trace: {audited.description()}"
-
-
-def soak(program, ends, generator, trace):
-    """Runs pools until `ends` returns true for the number of runs; returns what the first run that differs is and prints."""
-    expected = {pool: output_of(run_of(program, pool, 1, 1)) for pool in POOLS}
-    tasks = {pool: re.search(r"^tasks (\d+)\n(?:.*\n)*ended$", text, re.M) for pool, text in expected.items()}
-    runs = 0
-    while not ends(runs):
-        runs += 1
-        pool, most = generator.choice(POOLS), (8, 8)
-        command = run_of(program, pool, *(most if runs % 2 else (generator.randint(1, 8), generator.randint(1, 8))))
-        output = output_of(command)
-        if output != expected[pool] or not tasks[pool]:
-            return f"{' '.join(command)}, run {runs}, differs:\n{output}"
-        fault = fault_of_trace(program, command, tasks[pool][1], trace)
-        if fault:
-            shutil.copy(trace, "unsound-trace")
-            return f"{' '.join(command)}, run {runs}: {fault}; the trace is stored as unsound-trace"
-    print(f"{runs} runs, all alike, and each trace sound and ended")
-    return ""
+def fault_of(command, expected):
+    """Returns what is wrong with a run, and with the trace of another one, or an empty text."""
+    output, tasks = output_of(command), re.search(r"^tasks (\d+)\nended$", expected, re.M)
+    if output != expected or not tasks:
+        return f"it prints\n{output}and not\n{expected}"
+    trace = running.run([*command, "--trace"])
+    audited = running.run([command[0], "audit"], trace.out)
+    if not trace.status and not audited.status and re.fullmatch(AUDITED.format(tasks[1]), audited.out.decode(errors="replace")):
+        return ""
+    running.write(UNSOUND, trace.out)
+    return f"its trace is stored as {UNSOUND}; the audit of it has {audited.description()}"
 
 
 def arguments(parser):
@@ -70,11 +51,15 @@ def arguments(parser):
 def run(options):
     running.require(options.tp)
     print(f"seed {options.seed}", flush=True)
-    began = time.monotonic()
-    with tempfile.TemporaryDirectory() as folder:
-        limit = options.seconds
-        ends = (lambda runs: runs >= options.runs) if limit is None else (lambda _: time.monotonic() > began + limit)
-        difference = soak(options.tp, ends, random.Random(options.seed), f"{folder}/trace")
-    if difference:
-        print(difference, file=sys.stderr)
-    return 1 if difference else 0
+    generator, runs, end = random.Random(options.seed), 0, time.monotonic() + (options.seconds or 0)
+    expected = {pool: output_of(command_of(options.tp, pool, 1, 1)) for pool in POOLS}
+    while runs < options.runs if options.seconds is None else time.monotonic() < end:
+        runs += 1
+        nodes, workers = (8, 8) if runs % 2 else (generator.randint(1, 8), generator.randint(1, 8))
+        command = command_of(options.tp, generator.choice(POOLS), nodes, workers)
+        fault = fault_of(command, expected[command[2]])
+        if fault:
+            print(f"{' '.join(command)}, run {runs}: {fault}", file=sys.stderr)
+            return 1
+    print(f"{runs} runs, all alike, and each trace sound and ended")
+    return 0
