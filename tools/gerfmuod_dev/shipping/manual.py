@@ -6,7 +6,6 @@ the page of its header. `make install` installs the pages. The status is 1 if a 
 import os
 import re
 import subprocess
-import sys
 
 from .. import repository, running
 from ..repository import text_of
@@ -89,8 +88,6 @@ def arguments(parser):
 
 def run(options):
     repository.go_to_top()
-    for name in PROGRAMS:
-        if not os.path.exists(f"{options.built}/bin/{name}"):
-            sys.exit(f"{options.built}/bin/{name} is not there: `make` builds it")
+    running.require(*(f"{options.built}/bin/{name}" for name in PROGRAMS))
     write(options.folder, options.built)
     return 0
