@@ -87,10 +87,6 @@ def wide_lines(text):
     return [number for number, line in enumerate(prose.split("\n"), 1) if len(line) > MOST_COLUMNS]
 
 
-def atomics_in(text):
-    return [found[0] for found in ATOMIC.finditer(COMMENT.sub("", text))]
-
-
 def wrong_counts(text):
     """Returns the counts of files that differ from the repository."""
     return [pattern for number, pattern in COUNT.findall(text) if len(glob.glob(pattern, recursive=True)) != int(number)]
@@ -123,7 +119,7 @@ def check_atomics(tally):
     runtime = [path for path in glob.glob("crates/*/src/**/*.rt", recursive=True) if not path.startswith("crates/test_")]
     library = [path for path in glob.glob("capi/gerfmuod*") if path.endswith((".c", ".h", ".hpp"))]
     for path in runtime + library:
-        found = atomics_in(text_of(path))
+        found = [use[0] for use in ATOMIC.finditer(COMMENT.sub("", text_of(path)))]
         tally.judge(not found, f"{path}: {', '.join(found)}: shared state has to be behind a lock")
     print(f"{len(runtime)} files of the runtime and {len(library)} of the library's C code: no atomic operation")
 

@@ -1,11 +1,9 @@
 """Creates a folder with a pool of your own, which runs before anything in it is proved.
 
-FOLDER gets the crate NAME, a program with a graph in it that runs this graph by threads and prints the results, and the
-crates of this repository that NAME is built on, without their mutants, with what `make` proved of them. With
-`--like chain` NAME is a copy of the crate chain, a chain of tasks that add; with `--like prefix` of the crate prefix,
-rows of tasks by a relation and a kernel, with a program that reads numbers; with `--like rod` of the rod of
-pool_stencil, cells in blocks, with the program of tools/data/rod_run. A NAME is lowercase letters, digits and _, and no
-crate of this repository or of the toolchain has it. docs/RUNNING-A-POOL.md describes the next steps.
+FOLDER gets the crate NAME, a program that runs a graph by threads and prints the results, and the crates that it is built on, without
+their mutants, with what `make` proved of them. With `--like chain` NAME is a copy of the crate chain, a chain of tasks that add; with
+`--like prefix` of the crate prefix, rows of tasks by a relation and a kernel, with a program that reads numbers; with `--like rod` of the
+rod of pool_stencil, cells in blocks, with the program of tools/data/rod_run. docs/RUNNING-A-POOL.md describes the next steps.
 
 Prints what to type next. The status is 1 if nothing was created, because the folder is not empty or the name is not free.
 """

@@ -37,10 +37,6 @@ def item_at(path):
     return functions.get(rest) or types.get(rest)
 
 
-def paths_in(text):
-    return [f"{crate}::{rest}" for crate, rest in PATH.findall(text) if crate in repository.crates()]
-
-
 def citations_in(text):
     """Yields the citations of a sentence of evidence: a path, what the brackets behind it say, and whether it is private."""
     paths, is_private = [], False
@@ -74,39 +70,33 @@ def faults_of(path, brackets, is_private):
 
 def check_contracts(tally):
     """Judges each citation of PROVED.md, and each path outside of them and in the other documents, where `gerfmuod::` is of C++."""
-    sentences, count = EVIDENCE.findall(text_of(PAGE)), 0
-    for citation in (citation for sentence in sentences for citation in citations_in(sentence)):
-        faults, count = faults_of(*citation), count + 1
+    sentences = EVIDENCE.findall(text_of(PAGE))
+    cited = [citation for sentence in sentences for citation in citations_in(sentence)]
+    for citation in cited:
+        faults = faults_of(*citation)
         tally.judge(not faults, f"{PAGE}: {'; '.join(faults)}")
-    others = {page: text_of(page) for page in ["README.md", *sorted(glob.glob("docs/*.md"))]}
-    others[PAGE] = EVIDENCE.sub("", others[PAGE])
-    for page, text in others.items():
-        for path in paths_in(text):
-            is_of_cpp = page != PAGE and path.startswith("gerfmuod::")
-            tally.judge(is_of_cpp or item_at(path), f"{page}: {path} is not in the code")
-    print(f"{PAGE}: {count} citations of contracts")
+    for page in ["README.md", *sorted(glob.glob("docs/*.md"))]:
+        for crate, rest in PATH.findall(text_of(page) if page != PAGE else EVIDENCE.sub("", text_of(page))):
+            if crate in repository.crates() and (crate != "gerfmuod" or page == PAGE):
+                tally.judge(item_at(f"{crate}::{rest}"), f"{page}: {crate}::{rest} is not in the code")
+    print(f"{PAGE}: {len(cited)} citations of contracts")
 
 
 def check_tests(tally):
     """Judges whether each test that a document names is in its crate."""
-    count = 0
     for page in sorted(glob.glob("docs/**/*.md", recursive=True)):
         for crate, name in TEST.findall(" ".join(text_of(page).split())):
-            functions, count = contracts_of(crate)[0], count + 1
-            tally.judge(any(path.split("::")[-1] == name for path in functions), f"{page}: {crate} has no test {name}")
-    print(f"{count} tests that documents name")
+            is_here = any(function.name == name for function in contracts_of(crate)[0].values())
+            tally.judge(is_here, f"{page}: {crate} has no test {name}")
 
 
 def calls_without_memory():
     """Returns each public call of the libraries that can run out of memory."""
     libraries = [crate.name for crate in repository.crates().values() if not crate.name.startswith("test_") and not crate.is_program]
     functions = [(name, function) for name in libraries for function in contracts_of(name)[0].values() if function.is_declared_public]
-    can_run_out = {
-        f"{name}::{function.path}"
-        for name, function in functions
-        if SAYS_MEMORY.search(f"{function.docstring}\n{function.head}") and FALLIBLE.search(function.head)
-    }
-    return can_run_out | OF_STANDARD_TRAITS
+    fallible = [(name, function) for name, function in functions if FALLIBLE.search(function.head)]
+    said = {f"{name}::{function.path}" for name, function in fallible if SAYS_MEMORY.search(f"{function.docstring}\n{function.head}")}
+    return said | OF_STANDARD_TRAITS
 
 
 def check_memory(tally):
