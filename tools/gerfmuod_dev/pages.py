@@ -100,6 +100,7 @@ class Reader:
         self.tally.judge(is_well, f"the page: {what}: it shows {self.text('shown')}, and says {self.text('tip')!r}")
 
     def zooms(self, events):
+        """Zooms and moves by the wheel, by keys and by dragging."""
         y, every = (self.top + self.bottom) / 2, (1, events)
         self.expect("all is in view", self.shown() == every)
         self.browser.mouse("mouseWheel", self.middle, y, deltaX=0, deltaY=-1500)
@@ -135,27 +136,24 @@ class Reader:
 
 
 def texts_of(trace):
-    """Returns queries for a task, a message and a wave in the middle of a trace, and what the page has to say of them."""
-    steps = [line.split() for line in trace.splitlines()[2:]]
-    places = {}
-    for at, step in enumerate(steps, 1):
-        places.setdefault((step[0], step[-1] if step[0] in ("send", "recv") else " ".join(step[1:])), []).append(at)
-    task = next(step[1] for step in steps[len(steps) // 2 :] if step[0] == "begin" and ("supply", step[1]) in places)
-    node, inputs = next((step[1], step[3]) for step in steps if step[0] == "insert" and step[2] == task)
-    supplied, began, done = (places[word, task][-1] for word in ("supply", "begin", "done"))
-    inserted = places["insert", f"{node} {task} {inputs}"][0]
+    """Yields queries for a task, a message and a wave in the middle of a trace, and what the page has to say of them."""
+    lines = trace.splitlines()[2:]
+    steps = [line.split() for line in lines]
+    later, at = steps[len(steps) // 2 :], {line: place for place, line in enumerate(lines, 1)}
+    task = next(step[1] for step in later if step[0] == "begin" and f"supply {step[1]}" in at)
+    node, count = next((step[1], step[3]) for step in steps if step[0] == "insert" and step[2] == task)
     yield f"task {task}", (
-        f"task {task} at node {node}\n{inputs} input{'s' * (inputs != '1')}, inserted at {inserted:,}, ready at {supplied:,}\n"
-        f"ran from {began:,} to {done:,}"
+        f"task {task} at node {node}\n{count} input{'s' * (count != '1')}, inserted at {at[f'insert {node} {task} {count}']:,}, "
+        f"ready at {at[f'supply {task}']:,}\nran from {at[f'begin {task}']:,} to {at[f'done {task}']:,}"
     )
-    _, sender, receiver, message = next(step for step in steps[len(steps) // 2 :] if step[0] == "send")
-    sent, received = places["send", message][0], places["recv", message][0]
-    yield f"message {message}", f"message {message} from node {sender} to node {receiver}\nsent at {sent:,}, received at {received:,}"
-    wave = len(places["give", "0"]) // 2
-    end = places["give", "0"][wave - 1]
-    gives = {step[1]: at for at, step in enumerate(steps[:end], 1) if step[0] == "give"}
-    sent = sum(steps[at][:2] == ["send", node] for node, give in gives.items() for at in range(give))
-    received = sum(steps[at][:2] == ["recv", node] for node, give in gives.items() for at in range(give))
+    send = next(step for step in later if step[0] == "send")
+    _, sender, receiver, message = send
+    places = f"sent at {at[' '.join(send)]:,}, received at {at[f'recv {receiver} {message}']:,}"
+    yield f"message {message}", f"message {message} from node {sender} to node {receiver}\n{places}"
+    ends = [place for place, line in enumerate(lines, 1) if line == "give 0"]
+    wave, end = len(ends) // 2, ends[len(ends) // 2 - 1]
+    gives = {step[1]: place for place, step in enumerate(steps[:end], 1) if step[0] == "give"}
+    sent, received = (sum(step[:2] == [word, node] for node in gives for step in steps[: gives[node]]) for word in ("send", "recv"))
     yield f"wave {wave}", f"wave {wave}: {sent:,} sent, {received:,} received\nended at {end:,}"
 
 
