@@ -3,8 +3,8 @@
 Compares the versions in the sources; what the pages of the manual have and the completion offers with what they are generated from; the
 installed files with the list that `make uninstall` reads, their modes with the usual ones, and the links of the documents with them. Runs
 programs in C, C++, Fortran, Rust and Python over nothing but the installed files, by pkg-config and by CMake, shared and static. After
-`make uninstall` nothing is left, and the tarball of `make dist` has the committed files. It skips what is not installed, and counts
-that. The last line is `N passed, M failed, K skipped`; the status is 1 if one failed.
+`make uninstall` nothing is left. It skips what is not installed, and counts that. The last line is `N passed, M failed, K skipped`; the
+status is 1 if one failed.
 """
 import compileall
 import os
@@ -21,6 +21,7 @@ SONAME = shared_object.SONAME
 # variables of make: a folder of its own, and the folders of Debian, with headers in a folder of their own
 USUAL = {"PREFIX": "/usr/gerfmuod", "LIBDIR": "/usr/gerfmuod/lib", "INCLUDEDIR": "/usr/gerfmuod/include"}
 OTHER = {"PREFIX": "/usr", "LIBDIR": "/usr/lib/x86_64-linux-gnu", "INCLUDEDIR": "/usr/include/gerfmuod", "MANDIR": "/srv/man"}
+LIST, DOCUMENTS = ("PREFIX", "/share/gerfmuod/installed"), ("PREFIX", "/share/doc/gerfmuod")
 ALLOWED = ("PKG_CONFIG_ALLOW_SYSTEM_CFLAGS", "PKG_CONFIG_ALLOW_SYSTEM_LIBS", "PYTHONDONTWRITEBYTECODE")
 
 
@@ -43,23 +44,11 @@ class Tree:
         """Returns where a folder of the installation is now, or what is below it."""
         return self.destination + self.variables[name] + below
 
-    @property
-    def list(self):
-        return self.path("PREFIX", "/share/gerfmuod/installed")
-
-    @property
-    def documents(self):
-        return self.path("PREFIX", "/share/doc/gerfmuod")
-
     def make(self, target):
         """Runs make with a narrow umask, without the variables of a make around this program."""
         values = {"DESTDIR": self.destination, "BUILT": self.built, **self.variables}
         command = ["env", "-i", f"PATH={os.environ['PATH']}", "make", "-s", target, *(f"{name}={path}" for name, path in values.items())]
         return running.run(["sh", "-c", 'umask 077; exec "$@"', "sh", *command])
-
-    def files(self):
-        """Returns the installed files and links, without DESTDIR."""
-        return [path[len(self.destination) :] for path in repository.files_in(self.destination)]
 
     def environment(self):
         """Returns the variables for pkg-config, and for programs that load the shared object."""
@@ -71,8 +60,8 @@ class Tree:
 def check_files(tally, tree):
     """Compares the installed files with the list of them and with the headers, their modes with the usual ones, and the links of the
     documents with them; the sources of crates are not installed."""
-    listed = repository.text_of(tree.list).splitlines()
-    differing = {*tree.files()} ^ {path for path in listed if not path.endswith("/")}
+    listed = {tree.destination + path for path in repository.text_of(tree.path(*LIST)).splitlines() if not path.endswith("/")}
+    differing = {*repository.files_in(tree.destination)} ^ listed
     tally.judge(not differing, f"the list of installed files differs from them: {sorted(differing)[:5]}")
     headers = sorted(map(os.path.basename, library.HEADERS))
     tally.judge(sorted(os.listdir(tree.path("INCLUDEDIR"))) == headers, f"not these headers are installed: {headers}")
@@ -81,7 +70,7 @@ def check_files(tally, tree):
         for path in (f"{folder}/{name}" for name in [*folders, *names] if not os.path.islink(f"{folder}/{name}")):
             mode, is_executable = os.stat(path).st_mode & 0o777, os.path.isdir(path) or path.startswith(executable)
             tally.judge(mode == (0o755 if is_executable else 0o644), f"{path} has the mode {mode:o}")
-    for page in (path for path in repository.files_in(tree.documents) if path.endswith(".md")):
+    for page in (path for path in repository.files_in(tree.path(*DOCUMENTS)) if path.endswith(".md")):
         dead = [link for link in docs.dead_links(page) if not link.startswith("../../crates/")]
         tally.judge(not dead, f"dead links in {page}: {dead}")
 
@@ -115,7 +104,7 @@ def by_cmake(tree, folder):
 
 def examples(tree, program):
     """Yields the same for each line that compiles and runs a program of the installed documents with the installed files."""
-    documents, headers, flags = tree.documents, tree.path("INCLUDEDIR"), "$(pkg-config --cflags --libs gerfmuod)"
+    documents, headers, flags = tree.path(*DOCUMENTS), tree.path("INCLUDEDIR"), "$(pkg-config --cflags --libs gerfmuod)"
     fortran = f"gfortran -J {os.path.dirname(program)} {headers}/gerfmuod.f90"
     rust = f"rustc --edition 2024 -O -L native={tree.path('LIBDIR')} -l static=gerfmuod"
     yield "cc", f"cc {documents}/capi/two_waves.c -o {program} {flags} && {program}", "two generations"
@@ -139,7 +128,8 @@ def check_programs(tally, tree, folder):
 def check_uninstall(tally, tree):
     """Installs again over a file of an older version, and compares what is left after `make uninstall`."""
     old, foreign = tree.path("LIBDIR", "/of-an-older-version"), tree.path("LIBDIR", "/foreign")
-    write(tree.list, f"{repository.text_of(tree.list)}{old[len(tree.destination):]}\n")
+    with open(tree.path(*LIST), "a", encoding="utf-8") as file:
+        file.write(f"{old[len(tree.destination):]}\n")
     for path in (old, foreign):
         write(path, "")
     check(tally, tree.make("install"), "make install, again")
@@ -153,17 +143,6 @@ def check_uninstall(tally, tree):
     check(tally, tree.make("install"), "make install")
     check(tally, tree.make("uninstall"), "make uninstall")
     tally.judge(not os.listdir(tree.destination), f"make uninstall leaves {os.listdir(tree.destination)}")
-
-
-def check_dist(tally, folder):
-    """Compares the files of the tarball with the committed ones, and runs make in it."""
-    name = f"gerfmuod-{version.version()}"
-    unpack = f'tar -xzf {name}.tar.gz -C "$0" && rm {name}.tar.gz && make -C "$0/{name}" -n all lib'
-    compare = f'git ls-tree -r --name-only -z HEAD | sort -z > "$0/committed" && cd "$0/{name}" && find . ! -type d -printf "%P\\0" | sort -z'
-    if os.path.exists(".git"):
-        check(tally, running.run(["sh", "-c", f'make -s dist && {unpack} && {compare} | cmp - "$0/committed"', folder]), "make dist")
-    else:
-        tally.skips("make dist", "a repository of git")
 
 
 def arguments(parser):
@@ -187,5 +166,4 @@ def run(options):
                 check_files(tally, tree)
                 check_programs(tally, tree, tempfile.mkdtemp(dir=folder))
                 check_uninstall(tally, tree)
-        check_dist(tally, folder)
     return tally.end()
