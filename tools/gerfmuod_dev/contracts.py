@@ -13,14 +13,12 @@ VISIBLE = r"(pub(?:\([^)]*\))? )?"
 FUNCTION = re.compile(rf'( *){VISIBLE}(?:const )?(?:unsafe )?(?:extern "C" )?fn (\w+)')
 TYPE = re.compile(rf"{VISIBLE}(struct|enum|trait|type|const|static) (\w+)")
 BLOCK = re.compile(rf"{VISIBLE}(?:unsafe )?(impl|trait)\b")
-# an impl for each type, whose calls are those of the trait
-FOR_EACH_TYPE = re.compile(r"impl<(\w+)\b.*> \w+ for \1\b")
 CLAUSE = re.compile(r"^ +(ensures|requires)\*?(?: (\w+))? \{", re.M)
 GHOST_ITEM = re.compile(r"^    ghost (\w+): \{(.*?)\}(?: by .*)?[,;]$", re.M | re.S)
 # a ghost item that states something; others are data
 STATEMENT = re.compile(r"[≡≢≤<↔]|\b(?:Is|Are|Has|Keeps)[A-Z]")
 INVARIANT = re.compile(r"^    ghost invariant = \{", re.M)
-EXPORT = re.compile(r"^pub use ([\w:]+?)(?:::\{([^}]*)\})?;$", re.M)
+EXPORT = re.compile(r"^pub use ([^;]*);$", re.M)
 DECLARED_IN_LIB = re.compile(r"^pub (?:const )?(?:fn|struct|enum|trait|type|const) (\w+)", re.M)
 
 
@@ -66,16 +64,13 @@ def owner_of(line):
     return parts[-1] if len(parts) > 1 else ""
 
 
-def head_at(lines, place, indent):
+def head_at(lines, place):
     """Returns the lines of a function from its name to its body, or to the semicolon that it has instead of one."""
     depth = 0
     for last in range(place, len(lines)):
-        line = lines[last]
-        if line.lstrip().startswith("//"):
-            continue
+        line = lines[last].split("//")[0].rstrip()
         depth += sum(map(line.count, "({")) - sum(map(line.count, ")}"))
-        is_body = line.startswith((f"{indent}{{", f"{indent})")) or last == place
-        if depth == 1 and is_body and line.endswith("{") or depth == 0 and line.endswith((";", "{}")):
+        if depth == 1 and line.endswith("{") or depth == 0 and line.endswith((";", "{}")):
             return "\n".join(lines[place : last + 1])
     return "\n".join(lines[place:])
 
@@ -90,27 +85,23 @@ def block_at(lines, place):
 
 def items_in(lines):
     """Gives the places of the lines that are no docstring, attribute or comment, each with the docstring and the attributes above."""
-    docstring, attributes = [], ""
+    docstring, attributes = "", ""
     for place, line in enumerate(lines):
         text = line.strip()
-        if attributes.count("[") > attributes.count("]") or text.startswith("#["):
+        if text.startswith("#["):
             attributes += text
         elif text.startswith("///"):
-            docstring.append(text[3:].strip())
+            docstring += f"{text[3:].strip()}\n"
         elif not text.startswith("//"):
-            yield place, "\n".join(docstring), attributes
-            docstring, attributes = [], ""
+            yield place, docstring, attributes
+            docstring, attributes = "", ""
 
 
 @functools.lru_cache(maxsize=None)
 def exported(crate):
-    """Returns the public names of a crate that its lib.rt exports. A name that it passes on from another crate is that crate's."""
+    """Returns the public names of a crate: those that its lib.rt declares or exports."""
     text = text_of(f"crates/{crate}/src/lib.rt", "")
-    names, modules = set(DECLARED_IN_LIB.findall(text)), re.findall(r"^mod (\w+);", text, re.M)
-    for path, several in EXPORT.findall(text):
-        if path.split("::")[0] in modules:
-            names.update(re.findall(r"\w+", several) if several else [path.split("::")[-1]])
-    return names
+    return {*DECLARED_IN_LIB.findall(text), *(name for path in EXPORT.findall(text) for name in re.findall(r"\w+", path))}
 
 
 @functools.lru_cache(maxsize=None)
@@ -129,23 +120,23 @@ def read_items(lines, path, public):
             items = tuple(item for item, text in GHOST_ITEM.findall(block_at(lines, place)) if STATEMENT.search(text))
             yield Type(kind, name, visible == "pub " and name in public, items)
         if block and not line.endswith("}"):
-            owner, is_trait = "" if FOR_EACH_TYPE.match(line) else owner_of(line), block[2] == "trait"
+            owner, is_trait = owner_of(line), block[2] == "trait"
         elif line.startswith("}"):
             owner, is_trait = "", False
         elif function and function[1] == ("    " if owner else ""):
-            indent, visible, name = function.groups()
+            _, visible, name = function.groups()
             is_declared = visible == "pub " or is_trait
             is_public = is_declared and (owner or name) in public or "no_mangle" in attributes
-            yield Function(owner, name, path, docstring, head_at(lines, place, indent), is_declared, is_public)
+            yield Function(owner, name, path, docstring, head_at(lines, place), is_declared, is_public)
 
 
 @functools.lru_cache(maxsize=None)
 def contracts_of(crate):
-    """Returns the functions and the types of a crate by their path in it; a public function comes before another one of its path."""
+    """Returns the functions and the types of a crate by their path in it; of functions of one path a public one."""
     paths = [path for path in repository.files_in(f"crates/{crate}/src") if path.endswith(".rt")]
     items = [item for path in paths for item in items_of(crate, path)]
     types = {item.name: item for item in reversed(items) if isinstance(item, Type)}
-    functions = sorted((item for item in reversed(items) if isinstance(item, Function)), key=lambda function: function.is_public)
+    functions = sorted((item for item in items if isinstance(item, Function)), key=lambda function: function.is_public)
     return {function.path: function for function in functions}, types
 
 
