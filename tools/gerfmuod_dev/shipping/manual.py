@@ -3,6 +3,7 @@
 The page of a program has what `--help` prints, and that of a header its comments and its code. The name of each function is a link to
 the page of its header. `make install` installs the pages. The status is 1 if a program is not built, or pandoc fails.
 """
+import functools
 import os
 import re
 import subprocess
@@ -74,8 +75,8 @@ def write(folder, built):
     """Writes the pages, and the links of functions, into a folder."""
     for section in ("man1", "man3"):
         os.makedirs(f"{folder}/{section}", exist_ok=True)
-    for path, text in pages(built).items():
-        subprocess.run([*PANDOC, "-o", f"{folder}/{path}"], input=text.encode(), check=True)
+    run = functools.partial(subprocess.run, text=True, check=True)
+    list(running.in_parallel(pages(built).items(), lambda item: run([*PANDOC, "-o", f"{folder}/{item[0]}"], input=item[1])))
     for name in HEADERS:
         for function in functions_of(name):
             running.write(f"{folder}/man3/{function}.3", f".so man3/{name}.3\n")
