@@ -31,7 +31,8 @@ URL = re.compile(r"[a-z][a-z0-9+.-]*:|//", re.I)
 # a path of the repository, unless it has NAME or CRATE for any name
 NAMED = re.compile(r"`((?:crates|capi|docs|tools|python|bench)/(?:(?!NAME|CRATE)[\w./*-])+)`", re.A)
 COUNT = re.compile(r"(\d+)<!-- files (\S+) -->")
-NOT_PROSE = re.compile(r"<!-- bench \w+ -->\n.*?<!-- end of bench -->|^ *```.*?^ *```[^\n]*$|^(?:\||    )[^\n]*$|^[^\n]*\]\([^\n]*$", re.S | re.M)
+GENERATED, FENCED, OTHERS = r"<!-- bench \w+ -->\n.*?<!-- end of bench -->", r"^ *```.*?^ *```[^\n]*$", r"^(?:\||    |[^\n]*\]\()[^\n]*$"
+NOT_PROSE = re.compile(f"{GENERATED}|{FENCED}|{OTHERS}", re.S | re.M)
 MOST_COLUMNS, MOST_LINES = 120, 130
 ATOMIC = re.compile(r"\bsync::atomic\b|\batomic::|\bAtomic[A-Z]\w*|__atomic\w*|__sync_\w+|\b_Atomic\b|\bstdatomic\b|\batomic_\w+")
 COMMENT = re.compile(r"/\*.*?\*/|//[^\n]*", re.S)

@@ -1,4 +1,4 @@
-"""Checks that what documents cite is in the code: contracts, tests, and the calls that can run out of memory. `make test`, in the part docs.
+"""Checks that what documents cite is in the code: contracts, tests, and calls that can run out of memory. It is part of `tools/dev docs`.
 
 - A path is `crate::Type::name`, `crate::name` or `crate::Type`; each path in README.md and docs/*.md names a call or a type.
 - In docs/PROVED.md a sentence that begins with *By* cites paths. The brackets after a path, or after several with a comma between them,
@@ -95,8 +95,8 @@ def calls_without_memory():
     libraries = [crate.name for crate in repository.crates().values() if not crate.name.startswith("test_") and not crate.is_program]
     functions = [(name, function) for name in libraries for function in contracts_of(name)[0].values() if function.is_declared_public]
     fallible = [(name, function) for name, function in functions if FALLIBLE.search(function.head)]
-    said = {f"{name}::{function.path}" for name, function in fallible if SAYS_MEMORY.search(f"{function.docstring}\n{function.head}")}
-    return said | OF_STANDARD_TRAITS
+    calls = {f"{name}::{function.path}" for name, function in fallible if SAYS_MEMORY.search(function.docstring + function.head)}
+    return calls | OF_STANDARD_TRAITS
 
 
 def check_memory(tally):
@@ -104,7 +104,7 @@ def check_memory(tally):
     expected, listed = calls_without_memory(), set(re.findall(r"`((?:tp|pool)_\w+?::[\w:]+)`", section))
     tally.passes(len(expected & listed))
     for call in sorted(expected ^ listed):
-        tally.fails(f"{OUT_OF_MEMORY} {'lacks' if call in expected else 'has'} {call}, which can{'' if call in expected else 'not'} run out")
+        tally.fails(f"{OUT_OF_MEMORY} lacks {call}" if call in expected else f"{OUT_OF_MEMORY} has {call}, which cannot run out")
     print(f"{OUT_OF_MEMORY}: {len(expected & listed)} calls as in the code")
 
 

@@ -33,8 +33,8 @@ def test_contracts_are_read():
 
 def test_citations_are_compared_with_the_code():
     sentence = "By `tp_a::b`, `tp_a::c` (`d`, `e`) and the private `tp_a::f` (one clause); `tp_a::g`."
-    b, c, f, g = proved.citations_in(sentence)
-    assert (b, c, f, g) == (("tp_a::b", "`d`, `e`", False), ("tp_a::c", "`d`, `e`", False), ("tp_a::f", "one clause", True), ("tp_a::g", "", False))
+    both, last = ("`d`, `e`", False), ("tp_a::g", "", False)
+    assert [*proved.citations_in(sentence)] == [("tp_a::b", *both), ("tp_a::c", *both), ("tp_a::f", "one clause", True), last]
     cited = [citation for part in proved.EVIDENCE.findall(repository.text_of(proved.PAGE)) for citation in proved.citations_in(part)]
     path, brackets, is_private = next(citation for citation in cited if "`" in citation[1])
     assert not proved.faults_of(path, brackets, is_private) and proved.faults_of(path, brackets, not is_private)
@@ -48,7 +48,7 @@ def test_faults_of_documents_are_found():
     assert docs.wrong_counts("1<!-- files Makefile --> 2<!-- files crates.txt -->") == ["crates.txt"]
     assert docs.unknown_blocks("`crates/chain/src/main.rt`:\n\n```rust\nno such line\n```\n") == ["no such line"]
     assert docs.headings_of("# A b\n## `C`, d\n# A b\n") == {"a-b", "c-d", "a-b-1"}
-    assert docs.exists("docs/GATE.md", "#the-gate") and not docs.exists("docs/GATE.md", "#tea") and not docs.exists("docs/GATE.md", "TEA.md")
+    assert [docs.exists("docs/GATE.md", link) for link in ("#the-gate", "#tea", "TEA.md")] == [True, False, False]
 
 
 @pytest.mark.parametrize("check, path, old, new", [
@@ -58,8 +58,12 @@ def test_faults_of_documents_are_found():
     (proved.check_tests, "docs/measurements/mutants-killed-by-tests.md", "`faults_of_writing`", "`no_such_test`"),
 ])
 def test_a_changed_text_is_a_failure(monkeypatch, check, path, old, new):
+    def changed(name, *otherwise):
+        text = repository.text_of(name, *otherwise)
+        return text.replace(old, new) if name == path else text
+
     for module in (version, crate_map, proved):
-        monkeypatch.setattr(module, "text_of", lambda name, *more: repository.text_of(name, *more).replace(*((old, new) if name == path else ("", ""))))
+        monkeypatch.setattr(module, "text_of", changed)
     tally = running.Tally()
     check(tally)
     assert tally.failed
