@@ -80,11 +80,9 @@ def groups_of(mutants):
     groups = []
     for mutant in mutants:
         fits = (group for group in groups if len(group) < MOST and all(are_apart(mutant.body, other.body) for other in group))
-        group = next(fits, None)
-        if group is None:
-            groups.append([mutant])
-        else:
-            group.append(mutant)
+        group = next(fits, [])
+        groups += [] if group else [group]
+        group.append(mutant)
     return groups
 
 
