@@ -71,5 +71,5 @@ def test_a_changed_text_is_a_failure(monkeypatch, check, path, old, new):
 
 def test_texts_mean_themselves_in_the_manual():
     assert manual.plain("a*b_c\n\n    d_e") == "a\\*b\\_c\n\n    d_e"
-    assert "gerfmuod_dag_next" in manual.functions_of("gerfmuod_dag.h")
+    assert "gerfmuod_step" in manual.functions_of("gerfmuod.h")
     assert all("\n# DESCRIPTION\n" in manual.header_page(name) for name in manual.HEADERS)

@@ -8,12 +8,13 @@ import os
 import re
 import subprocess
 
-from .. import repository, running
+from .. import library, repository, running
 from ..repository import text_of
 from ..version import version
 
 PROGRAMS = ("tp", "samples")
-HEADERS = ("gerfmuod.h", "gerfmuod_process.h", "gerfmuod_dag.h", "gerfmuod_team.h")
+# the headers that programs in C include
+HEADERS = [os.path.basename(path) for path in library.HEADERS if path.endswith(".h") and not path.endswith("_tsan.h")]
 # a comment at the left margin, and the code up to the next one
 PART = re.compile(r"^/\*(.*?)\*/\n|((?:(?!/\*)[^\n]*\n)+)", re.S | re.M)
 # what has a meaning in Markdown, except the signs of lists
