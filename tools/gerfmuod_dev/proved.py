@@ -1,10 +1,10 @@
-"""Checks that what documents cite is in the code: contracts, tests, and calls that can run out of memory. It is part of `tools/dev docs`.
+"""Checks that what documents cite is in the code: contracts, tests, mutants, and calls without memory. It is part of `tools/dev docs`.
 
 - A path is `crate::Type::name`, `crate::name` or `crate::Type`; each path in README.md and docs/*.md names a call or a type.
 - In docs/PROVED.md a sentence that begins with *By* cites paths. The brackets after a path, or after several with a comma between them,
   name clauses that each of these has: (`refused`, `kept`), (one clause), (keeps) for what a type keeps, (requires `small`) for a
   precondition. A path after *private* is one that only its own crate can use; any other is public.
-- After `test_parts` or `test_whole` comes the name of a test of that crate.
+- After `test_parts` or `test_whole` comes the name of a test of that crate, and after *Mutants: in* and a crate names of its mutants.
 - The last section of docs/measurements/out-of-memory.md has each public call that can run out of memory, and no other: a call whose
   docstring, type or contract says so, and that returns a `Result` or a refusal.
 
@@ -13,7 +13,7 @@ The last line is `N passed, M failed`; the status is 1 if one failed.
 import glob
 import re
 
-from . import repository
+from . import mutant_files, repository
 from .contracts import Function, contracts_of, types_with_invariant
 from .repository import text_of
 from .running import Tally
@@ -24,6 +24,7 @@ EVIDENCE = re.compile(r"\bBy\s.*?(?=\n\n|\n *- |\n#|\Z)", re.S)
 # within a sentence of evidence: a path, brackets, the word private, or the end of a part (`the trait T:` too)
 PART = re.compile(r"`(?P<path>\w+::\w+(?:::\w+)?)`|\((?P<brackets>[^()]*)\)|\b(?P<private>private)\b|(?P<end>;|\. |:\s)")
 TEST = re.compile(r"\b(test_\w+)`?,? `([a-z]\w+_\w+)`")
+MUTANTS = re.compile(r"\bMutants?(?::| in) .*?(?=\n\n|\n *- |\n#|\Z)", re.S)
 SAYS_MEMORY = re.compile(r"\b(NoMemory|AllocError|AllocFailed|TextFault|\w*Fault>|no memory for)")
 FALLIBLE = re.compile(r"->[^{]*(Result|Option<Refusal>)")
 # calls of traits of the standard library are not looked for, but this one has a row
@@ -90,6 +91,18 @@ def check_tests(tally):
             tally.judge(is_here, f"{page}: {crate} has no test {name}")
 
 
+def check_mutants(tally):
+    """Judges whether each mutant that a document names is one of the crate that is named before it, or of any after `below`."""
+    for page in sorted(glob.glob("docs/**/*.md", recursive=True)):
+        for sentence in MUTANTS.findall(text_of(page)):
+            crates = []
+            for word, name in re.findall(r"\b(\w+)\b|`(\w+)`", sentence):
+                crates = [word] if word in repository.crates() else repository.crates() if word == "below" else crates
+                if name:
+                    is_here = any(name in mutant_files.mutants_of(crate) for crate in crates)
+                    tally.judge(is_here, f"{page}: no mutant {name} in {' '.join(crates)}")
+
+
 def calls_without_memory():
     """Returns each public call of the libraries that can run out of memory."""
     libraries = [crate.name for crate in repository.crates().values() if not crate.name.startswith("test_") and not crate.is_program]
@@ -111,6 +124,7 @@ def check_memory(tally):
 def check(tally):
     check_contracts(tally)
     check_tests(tally)
+    check_mutants(tally)
     check_memory(tally)
 
 
