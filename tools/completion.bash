@@ -1,7 +1,7 @@
 # Completes tp and samples in bash by what `--help` prints: options after a -, or subcommands. All else is completed as names of files.
 _gerfmuod() {
     local place=1 offered command=("$1") pattern='/^Commands:/,/^$/s/^  ([a-z]+) .*/\1/p'
-    [[ $2 == -* ]] && pattern='s/^ +(-., )?(--[a-z]+).*/\2/p'
+    [[ $2 == -* ]] && pattern='s/^ +(-., )?(--[a-z-]+).*/\2/p'
     while ((place < COMP_CWORD)) && [[ ${COMP_WORDS[place]} =~ ^[a-z]+$ ]]; do
         command+=("${COMP_WORDS[place++]}")
     done

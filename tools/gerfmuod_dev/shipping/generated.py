@@ -12,7 +12,7 @@ COMPLETED = (
     ("tp run reduce:4:0 --t", ["--trace"]),
     ("samples draw g", ["graph"]),
     ("samples draw run --f", ["--format"]),
-    ("samples draw ", ["graph", "run", "help"]),
+    ("samples draw ", ["run", "graph", "help"]),
     ("tp audit ", []),
 )
 COMPLETE = '. tools/completion.bash; COMP_WORDS=("$@"); COMP_CWORD=$(($# - 1)); _gerfmuod "$1" "${@: -1}"; echo "${COMPREPLY[@]}"'
