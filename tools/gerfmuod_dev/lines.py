@@ -11,24 +11,23 @@ import re
 from . import repository
 from .repository import text_of
 
-# what a file counts as, by its path in its crate: the first kind that fits
+# for each kind the paths of its files in their crate; the first that fits
 KINDS = {
+    "code": r"src/(?!tests).*\.rt$",
+    "tests": r"src/.*\.rt$",
+    "definitions": r"specs/.*\.antt$",
+    "lemmas": r"proofs/(?!(?:.*/)?(?:Answers|Invariants)\.antt$).*\.antt$",
+    "answers": r"proofs/.*\.antt$",
     "mutants": r"mutants$|must-fail/",
     "data": r"data/|(?:stdout|stdin|args|status)$",
-    "tests": r"src/tests.*\.rt$",
-    "code": r"src/.*\.rt$",
-    "definitions": r"specs/.*\.antt$",
-    "answers": r"proofs/(?:.*/)?(?:Answers|Invariants)\.antt$",
-    "lemmas": r"proofs/.*\.antt$",
 }
-COLUMNS = "code", "tests", "definitions", "lemmas", "answers", "mutants", "data"
 GENERATED = re.compile(r"<!-- bench \w+ -->\n.*?<!-- end of bench -->\n", re.S)
-ROW = "{:<14}" + "{:>13,}" * (len(COLUMNS) + 1)
+ROW = "{:<14}" + "{:>13,}" * (len(KINDS) + 1)
 
 
 def lines_of(crate):
     """Returns how many lines a crate has of each kind."""
-    folder, counts = f"crates/{crate}", dict.fromkeys(COLUMNS, 0)
+    folder, counts = f"crates/{crate}", dict.fromkeys(KINDS, 0)
     for path in repository.files_in(folder):
         kind = next((kind for kind, pattern in KINDS.items() if re.match(pattern, path[len(folder) + 1 :])), None)
         if kind:
@@ -51,8 +50,8 @@ def run(options):
     del options
     repository.go_to_top()
     rows = {name: lines_of(name) for name in repository.crates()}
-    rows["all"] = {kind: sum(counts[kind] for counts in rows.values()) for kind in COLUMNS}
-    print(f"{'crate':<14}" + "".join(f"{kind:>13}" for kind in (*COLUMNS, "all")))
+    rows["all"] = {kind: sum(counts[kind] for counts in rows.values()) for kind in KINDS}
+    print(f"{'crate':<14}" + "".join(f"{kind:>13}" for kind in (*KINDS, "all")))
     for name, counts in rows.items():
         print(ROW.format(name, *counts.values(), sum(counts.values())))
     crates, lines = len(rows) - 1, sum(rows["all"].values())

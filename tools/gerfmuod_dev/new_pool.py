@@ -16,16 +16,14 @@ from . import repository
 from .build import keep
 from .repository import text_of
 
-# for each kind: the crate that it copies, the folder with what a copy of parts gets besides, and these parts; all if there are none
-KINDS = {
-    "chain": ("chain", None, ()),
-    "prefix": ("prefix", None, ()),
-    "rod": ("pool_stencil", "tools/data/rod_run", (
-        "src/heat.rt", "src/rod_mix.rt", "src/rod_result.rt", "specs/Heats.antt", "specs/HeatLaws.antt",
-        "proofs/Sweeps.antt", "proofs/RodCuts.antt", "proofs/heat", "proofs/rod_mix",
-    )),
-}
-# the line of crates.txt, if it is not the copied crate's
+# for each kind the crate that it copies; of the rod's these parts, next to a program
+KINDS = {"chain": "chain", "prefix": "prefix", "rod": "pool_stencil"}
+PROGRAM = "tools/data/rod_run"
+PARTS = (
+    "src/heat.rt", "src/rod_mix.rt", "src/rod_result.rt", "specs/Heats.antt", "specs/HeatLaws.antt",
+    "proofs/Sweeps.antt", "proofs/RodCuts.antt", "proofs/heat", "proofs/rod_mix",
+)
+# its line in crates.txt, where the others have that of the copied crate
 BELOW = {"rod": " may_wait=2: tp_base tp_graph pool_blocks tp_work"}
 NOT_COPIED = shutil.ignore_patterns("out", "must-fail", "mutants")
 # the end of the name of a file that is none of the repository's own code until it is copied
@@ -62,16 +60,16 @@ def rename(folder, old, new):
 
 def copy(kind, target):
     """Copies the crate of this kind, or its parts and the program."""
-    source, program, parts = KINDS[kind]
-    shutil.copytree(program or f"crates/{source}", target, ignore=NOT_COPIED)
-    for part in parts:
-        is_folder = os.path.isdir(f"crates/{source}/{part}")
-        (shutil.copytree if is_folder else shutil.copy2)(f"crates/{source}/{part}", f"{target}/{part}")
+    source = f"crates/{KINDS[kind]}"
+    shutil.copytree(PROGRAM if kind == "rod" else source, target, ignore=NOT_COPIED)
+    for part in PARTS if kind == "rod" else ():
+        path = f"{source}/{part}"
+        (shutil.copytree if os.path.isdir(path) else shutil.copy2)(path, f"{target}/{part}")
 
 
 def create(folder, name, kind):
     """Creates the folder; returns the number of crates that NAME is built on."""
-    source, lines = KINDS[kind][0], lines_of_crates()
+    source, lines = KINDS[kind], lines_of_crates()
     line = name + BELOW.get(kind, lines[source][len(source) :])
     lower = repository.crates([crate for crate in line.split(":")[1].split() if crate in lines])
     for crate in lower:
