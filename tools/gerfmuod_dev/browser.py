@@ -9,8 +9,11 @@ import tempfile
 NAMES = ("chromium", "chromium-browser", "google-chrome")
 # a shell gives Chromium the descriptors 3 and 4, on which it reads and writes
 SHELL = 'reads=$1 writes=$2; shift 2; exec "$@" 3<&"$reads" 4>&"$writes"'
-OPTIONS = ("--headless=new", "--remote-debugging-pipe", "--disable-gpu", "--no-first-run", "--hide-scrollbars")
+OPTIONS = ["--headless=new", "--remote-debugging-pipe", "--disable-gpu", "--no-first-run", "--hide-scrollbars"]
+OPTIONS += ["--no-sandbox"] * (os.geteuid() == 0)
 SECONDS = 600
+# the levels of what a page reports as an error
+ERRORS = ("error", "warning", "assert")
 
 
 def program():
@@ -33,15 +36,14 @@ class Browser:
         reads, to_browser = os.pipe()
         from_browser, writes = os.pipe()
         options = [*OPTIONS, f"--user-data-dir={self.folder}", f"--window-size={width},{height}"]
-        options += ["--no-sandbox"] * (os.geteuid() == 0)
         command = ["sh", "-c", SHELL, "sh", str(reads), str(writes), "timeout", str(SECONDS), program(), *options]
         self.process = subprocess.Popen(command, pass_fds=(reads, writes), stdin=subprocess.DEVNULL, stderr=subprocess.DEVNULL)
         os.close(reads)
         os.close(writes)
         self.out, self.source = os.fdopen(to_browser, "wb"), os.fdopen(from_browser, "rb")
-        self.session, self.number, self.rest, self.errors = None, 0, b"", []
+        self.session, self.number, self.rest, self.errors = {}, 0, b"", []
         target = self.call("Target.createTarget", url="about:blank")["targetId"]
-        self.session = self.call("Target.attachToTarget", targetId=target, flatten=True)["sessionId"]
+        self.session = {"sessionId": self.call("Target.attachToTarget", targetId=target, flatten=True)["sessionId"]}
         for domain in ("Page", "Runtime", "Log"):
             self.call(f"{domain}.enable")
         self.call("Emulation.setDeviceMetricsOverride", width=width, height=height, deviceScaleFactor=1, mobile=False)
@@ -66,7 +68,7 @@ class Browser:
         text, _, self.rest = self.rest.partition(b"\0")
         message = json.loads(text)
         event, details = message.get("method"), message.get("params", {})
-        is_error = event == "Runtime.consoleAPICalled" and details["type"] in ("error", "warning", "assert")
+        is_error = event == "Runtime.consoleAPICalled" and details["type"] in ERRORS
         if is_error or event == "Runtime.exceptionThrown" or event == "Log.entryAdded" and details["entry"]["level"] == "error":
             self.errors.append(json.dumps(details)[:500])
         return message
@@ -74,9 +76,7 @@ class Browser:
     def call(self, method, **parameters):
         """Calls a method of the protocol, and returns its result."""
         self.number += 1
-        message = {"id": self.number, "method": method, "params": parameters}
-        if self.session:
-            message["sessionId"] = self.session
+        message = {"id": self.number, "method": method, "params": parameters, **self.session}
         self.out.write(json.dumps(message).encode() + b"\0")
         self.out.flush()
         while (reply := self.receive()).get("id") != self.number:
@@ -85,10 +85,16 @@ class Browser:
             raise RuntimeError(f"{method}: {reply['error']}")
         return reply["result"]
 
-    def open(self, path):
-        self.call("Page.navigate", url=f"file://{os.path.abspath(path)}")
+    def navigate(self, url):
+        """Opens a page; returns whether this Chromium allows that."""
+        if "errorText" in self.call("Page.navigate", url=url):
+            return False
         while self.receive().get("method") != "Page.loadEventFired":
             pass
+        return True
+
+    def open(self, path):
+        self.navigate(f"file://{os.path.abspath(path)}")
         self.settle()
 
     def value(self, expression):
@@ -97,9 +103,8 @@ class Browser:
         return result["result"].get("value")
 
     def settle(self):
-        """Waits until the page has drawn what was asked for before; returns the milliseconds."""
-        frames = "new Promise(end => requestAnimationFrame(() => requestAnimationFrame(() => end(performance.now() - began))))"
-        return self.value(f"(began => {frames})(performance.now())")
+        """Waits until the page has drawn what was asked for before."""
+        self.value("new Promise(end => requestAnimationFrame(() => requestAnimationFrame(end)))")
 
     def mouse(self, kind, x, y, **more):
         self.call("Input.dispatchMouseEvent", type=kind, x=x, y=y, **more)

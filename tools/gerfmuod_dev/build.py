@@ -13,7 +13,6 @@ import shutil
 import subprocess
 import time
 from concurrent.futures import FIRST_COMPLETED, ThreadPoolExecutor, wait
-from dataclasses import dataclass
 
 from . import built, repository
 from .rooms import rooms
@@ -26,16 +25,6 @@ LINES_OF_A_JOB = 500
 QUIET = re.compile(r"(== |logic|statements|library|crate|by-macro|only=|so far:|empty contracts|rt: chose)|.*: proved$")
 
 
-@dataclass(frozen=True)
-class Job:
-    """A check that runs: its crate, its copy of the repository, its number of processors, and when it began."""
-
-    crate: repository.Crate
-    room: str
-    processors: int
-    began: float
-
-
 def longest_chains(crates):
     """Returns for each crate the lines of the longest chain of crates that begins with it and goes up."""
     longest = {}
@@ -46,19 +35,14 @@ def longest_chains(crates):
 
 
 def prove(crate, room, jobs):
-    """Proves a crate in a copy and builds it; returns whether that succeeded, and the output."""
-    verb = "run" if crate.name in PROGRAMS else "check" if crate.is_program else "lib"
-    result = subprocess.run(
-        ["rt", verb, f"--jobs={jobs}", *(["--", "--help"] if verb == "run" else [])],
-        cwd=f"{room}/crates/{crate.name}",
-        stdin=subprocess.DEVNULL,
-        stdout=subprocess.PIPE,
-        stderr=subprocess.STDOUT,
-        text=True,
-    )
+    """Proves a crate in a copy and builds it; returns whether that succeeded, the output, and the seconds."""
+    began, verb = time.time(), "run" if crate.name in PROGRAMS else "check" if crate.is_program else "lib"
+    command = ["rt", verb, f"--jobs={jobs}", *["--", "--help"] * (verb == "run")]
+    streams = {"stdin": subprocess.DEVNULL, "stdout": subprocess.PIPE, "stderr": subprocess.STDOUT}
+    result = subprocess.run(command, cwd=f"{room}/crates/{crate.name}", text=True, errors="replace", check=False, **streams)
     if crate.name in built.RESULTS and not result.returncode:
         built.take(crate.name, room)
-    return not result.returncode, result.stdout
+    return not result.returncode, result.stdout, time.time() - began
 
 
 def renew(source, target):
@@ -76,83 +60,63 @@ def renew(source, target):
     shutil.copytree(source, target, copy_function=copy)
 
 
-def pass_on(name, room, others):
-    """Copies what was proved of a crate in one copy to the other copies, and its library; a program has none."""
-    for part, other in itertools.product(("rlib", "incremental"), others):
-        source, target = (f"{folder}/crates/{name}/out/{part}" for folder in (room, other))
-        if os.path.exists(source):
-            renew(source, target)
-
-
 def keep(crates, source, target="."):
-    """Copies what was proved of these crates in one folder of crates to another one, by default to this repository, where a check of it or
-    of a pool of one's own finds it."""
+    """Copies what was proved of these crates, and their libraries, in one folder of crates to another one, by default to this repository,
+    where a check of it or of a pool of one's own finds it. (A program has no library.)"""
     for name, part in itertools.product(crates, ("rlib", "incremental")):
         proved = f"{source}/crates/{name}/out/{part}"
         if os.path.exists(proved):
             renew(proved, f"{target}/crates/{name}/out/{part}")
 
 
-def shares(free, ready, head, most):
-    """Yields how many of the free processors each crate gets that can begin; the first one gets what the others leave. The head of
-    the longest chain gets up to `most`, also those that are not free: everything waits for it, and the others end before it."""
-    for place, crate in enumerate(ready):
-        if free <= 0:
-            return
-        left = len(ready) - place - 1
-        jobs = max(1, min(most if crate.name == head else free - left, crate.lines // LINES_OF_A_JOB))
-        free -= jobs
-        yield crate, jobs
-
-
-def head_of(crates, done):
-    """Returns the crate with the most lines on the chains above it of those that are not done."""
-    longest = longest_chains(crates)
-    return max((name for name in crates if name not in done), key=longest.get, default=None)
-
-
-def ready_crates(crates, done, running):
-    """Returns the crates that can begin, in the order in which they should."""
+def shares(crates, done, begun, free, most):
+    """Yields the crates that can begin, and how many of the free processors each gets: the first one what the others leave. The crate
+    with the most lines on the chains above it gets up to `most`, also those that are not free: everything waits for it."""
     longest, first = longest_chains(crates), repository.crates(PROGRAMS[:1])
-    begun = done | {job.crate.name for job in running.values()}
     ready = [crate for crate in crates.values() if crate.name not in begun and done.issuperset(crate.below)]
-    return sorted(ready, key=lambda crate: (crate.name not in first, -longest[crate.name]))
+    ready.sort(key=lambda crate: (crate.name not in first, -longest[crate.name]))
+    head = max((name for name in crates if name not in done), key=longest.get, default=None)
+    for left, crate in zip(range(len(ready), 0, -1), ready):
+        if free > 0:
+            jobs = max(1, min(most if crate.name == head else free - left + 1, crate.lines // LINES_OF_A_JOB))
+            free -= jobs
+            yield crate, jobs
 
 
 def prove_all(crates, copies):
     """Proves these crates in these copies; returns whether all were proved."""
-    began, free_copies, free = time.time(), [*copies], len(copies)
-    done, running, is_well = set(), {}, True
+    began, rooms_left, free = time.time(), [*copies], len(copies)
+    done, jobs, is_well = set(), {}, True
     with ThreadPoolExecutor(len(copies)) as lanes:
-        while is_well and len(done) < len(crates) or running:
-            ready = ready_crates(crates, done, running) if is_well else []
-            for crate, jobs in list(shares(free, ready, head_of(crates, done), max(1, len(copies) - 1))):
-                job = Job(crate, free_copies.pop(), jobs, time.time())
-                running[lanes.submit(prove, crate, job.room, jobs)] = job
-                free -= jobs
-            for ended in wait(running, return_when=FIRST_COMPLETED).done:
-                job = running.pop(ended)
-                free_copies.append(job.room)
-                free += job.processors
-                is_proved, output = ended.result()
+        while is_well and len(done) < len(crates) or jobs:
+            begun = done | {crate.name for crate, _, _ in jobs.values()}
+            for crate, count in list(shares(crates, done, begun, free, max(1, len(copies) - 1))) if is_well else ():
+                room = rooms_left.pop()
+                jobs[lanes.submit(prove, crate, room, count)] = crate, room, count
+                free -= count
+            for ended in wait(jobs, return_when=FIRST_COMPLETED).done:
+                crate, room, count = jobs.pop(ended)
+                is_proved, output, seconds = ended.result()
+                for other in copies if is_proved else ():
+                    if other != room:
+                        keep([crate.name], room, other)
+                rooms_left.append(room)
+                free += count
+                done.add(crate.name)
                 is_well = is_well and is_proved
-                if is_proved:
-                    pass_on(job.crate.name, job.room, [copy for copy in copies if copy != job.room])
-                done.add(job.crate.name)
-                report(job, is_proved, output, f"[{len(done)}/{len(crates)}]")
+                report(crate.name, is_proved, output, f"[{len(done)}/{len(crates)}]", seconds)
     print(f"{(time.time() - began) / 60:.0f} minutes.")
     return is_well
 
 
-def report(job, is_proved, output, place):
-    name = job.crate.name
+def report(name, is_proved, output, place, seconds):
     if is_proved:
         functions = re.search(r"^logic=proved functions=(\d+)", output, re.M)
         what = f", bin/{name} is built" if name in PROGRAMS else f", {functions[1]} functions" if functions else ""
-        print(f"{place} {name}: proved{what} ({time.time() - job.began:.0f} s)", flush=True)
+        print(f"{place} {name}: proved{what} ({seconds:.0f} s)", flush=True)
     else:
-        print(f"{place} {name}: NOT PROVED")
-        print("\n".join(line for line in output.splitlines() if not QUIET.match(line)), flush=True)
+        lines = [line for line in output.splitlines() if not QUIET.match(line)]
+        print("\n".join([f"{place} {name}: NOT PROVED", *lines]), flush=True)
 
 
 def arguments(parser):

@@ -11,17 +11,17 @@ last line is `N passed, M failed, K skipped`; the status is 1 if one failed, or 
 With --full only the fuzz runs, in its long form. With --bench it runs no program, but measures and prints what a step costs:
 instructions, which valgrind counts at two numbers of steps, memory, nanoseconds, locks, and the depth of the stack.
 """
+import json
 import os
 import re
 import shutil
-import subprocess
 import sys
 import tempfile
 
 from . import library, mpi, repository, shared_object
-from .c_programs import ADDRESS, CC, CXX, FAILURE, THREAD, WARNINGS, Program, Run, check_sources, judge, output_of, run_programs, start
+from .c_programs import ADDRESS, CC, CXX, THREAD, WARNINGS, Program, Run, check_sources, judge, output_of, run_programs, start
 from .repository import text_of
-from .running import Tally, write
+from .running import Tally, instructions, write
 from .shipping import generated
 
 LINK = ["-Llib", "-lgerfmuod"]
@@ -41,99 +41,39 @@ PAGE = "docs/OTHER-RUNTIMES.md"
 KINDS = ("tasks", "messages", "makers", "sparse", "large", "hashed")
 
 
-def fuzz_runs(calls, seeds):
-    return [Run([str(calls), str(seed)], 0, "as the model says") for seed in seeds]
+# of each program the runs: a status (-1: any but 0), a text that is printed, and the arguments, a line for each run
+RUNS = json.loads(text_of(f"{repository.TOP}/tools/data/capi-runs.json"))
+# the command that compiles a program, and the arguments of its runs under valgrind
+COMPILED = {
+    "two_waves.c": (C11, [[]]),
+    "texts.c": (C99, [[]]),
+    "limits.c": (C11, []),
+    "reentrant.c": ([*C11, "-g", *ALL_WRAPPED], [[]]),
+    "fuzz.c": ([*C11, "-g", *WRAPPED], [["20000", "3"]]),
+    "out_of_memory.c": ([*C11, *WRAPPED], []),
+    "unlocked.c": ([*C11, "-g", "-pthread", *THREAD], []),
+    "pool.cpp": ([CXX, "-std=c++17", *WARNINGS, "-O2", "-pthread"], [[]]),
+    "layout.c": (C99, [[]]),
+    "storm.c": (C11, [["8", "20"]]),
+    "epochs.c": (C11, [["3", "4", "20"]]),
+    "threads.c": ([*C11, "-pthread"], []),
+    "ring.rs": (["rustc", "--edition", "2024", "-O"], []),
+    "two_waves.f90": (["gfortran", "-std=f2018", "-Wall", "-Wextra", "-O2"], []),
+}
 
 
-PROGRAMS = [
-    Program("capi/two_waves.c", C11, [Run([], 0, "two generations")], [[]]),
-    Program("capi/texts.c", C99, [Run([], 0, "as they should be")], [[]]),
-    Program("capi/limits.c", C11, [Run([], 0, "as they should be")]),
-    Program("capi/reentrant.c", [*C11, "-g", *ALL_WRAPPED], [Run([], 0, "calls from inside of a call: refused")], [[]]),
-    Program("capi/fuzz.c", [*C11, "-g", *ADDRESS, *WRAPPED], fuzz_runs(CALLS, [1])),
-    Program(
-        "capi/fuzz.c",
-        [*C11, "-g", *WRAPPED],
-        [Run(["100000", "2", "forgets"], 1, "not as the model says"), Run(["100000", "2", "early"], 1, "not as the model says")],
-        [["20000", "3"]],
-    ),
-    Program(
-        "capi/out_of_memory.c",
-        [*C11, *WRAPPED],
-        [Run([], 0, "as it should be"), *(Run([fault], 1, "check failed") for fault in ("takes", "changes", "lies", "forgets"))],
-    ),
-    Program(
-        "capi/unlocked.c",
-        [*C11, "-g", "-pthread", *THREAD],
-        [
-            *(Run([call], 0, " 0 not as they should be") for call in ("step", "settle", "read")),
-            *(Run([call, "unlocked"], FAILURE, "data race") for call in ("step", "settle", "read")),
-        ],
-    ),
-    Program(
-        "capi/pool.cpp",
-        [CXX, "-std=c++17", *WARNINGS, "-O2", "-pthread"],
-        [
-            Run([], 0, "ended: 381 tasks, 378 messages"),
-            Run(["twice"], 3, "refused 10 NoMessage: no such message is under way to that node"),
-            Run(["late"], 3, "receipt of message 40 at node"),
-            Run(["early"], 3, "judged not"),
-        ],
-        [[]],
-    ),
-    Program(
-        "capi/layout.c",
-        C99,
-        [Run([], 0, ", 0 failed"), Run(["swapped"], 98, "or another struct")],
-        [[]],
-    ),
-    Program(
-        "capi/storm.c",
-        C11,
-        [
-            Run(["8", "20"], 0, " 0 EARLY"),
-            Run(["1", "200"], 0, " 0 EARLY"),
-            Run(["2", "1000"], 0, " 0 EARLY"),
-            Run(["3", "1000"], 0, " 0 EARLY"),
-            Run(["64", "100"], 0, " 0 SILENT"),
-            Run(["64", "100", "fifo"], 0, " 0 SILENT"),
-            Run(["1000", "3"], 0, " 0 SILENT"),
-            Run(["8", "300", "lossy"], 0, " 0 EARLY"),
-            Run(["2", "200", "late"], 1, "late: "),
-            Run(["2", "200", "early"], 1, "early: "),
-            Run(["8", "20", "uncounted"], 2, "20 SILENT"),
-            Run(["8", "50", "twice"], 2, "twice: "),
-        ],
-        [["8", "20"]],
-    ),
-    Program(
-        "capi/epochs.c",
-        C11,
-        [
-            Run(["3", "4", "20"], 0, " 0 EARLY"),
-            Run(["1", "8", "100"], 0, " 0 EARLY"),
-            Run(["2", "8", "300"], 0, " 0 EARLY"),
-            Run(["8", "8", "100"], 0, " 0 SILENT"),
-            Run(["64", "4", "5"], 0, " 0 SILENT"),
-            Run(["8", "8", "5", "unmarked"], 1, "unmarked: "),
-            Run(["8", "8", "5", "dropped"], 2, " 0 EARLY"),
-        ],
-        [["3", "4", "20"]],
-    ),
-    Program(
-        "capi/threads.c",
-        [*C11, "-pthread"],
-        [
-            Run([], 0, "64 threads, 3 epochs: right"),
-            Run(["1", "3"], 0, "right"),
-            Run(["2", "64"], 0, "right"),
-            Run(["8", "2", "early"], FAILURE, ""),
-            Run(["64", "1", "uncounted"], 2, ""),
-        ],
-    ),
-    Program("capi/ring.rs", ["rustc", "--edition", "2024", "-O"], [Run([], 0, "ended: 1608 messages, none was left")]),
-    Program("capi/two_waves.f90", ["gfortran", "-std=f2018", "-Wall", "-Wextra", "-O2"], [Run([], 0, "ended with wave 1")]),
-]
+def fuzz(options, calls, seeds):
+    """Returns the fuzz with these options of the compiler, with this number of calls for each seed."""
+    runs = [Run([str(calls), str(seed)], 0, "as the model says") for seed in seeds]
+    return Program("capi/fuzz.c", [*C11, "-g", *options, *WRAPPED], runs)
+
+
+def programs():
+    """Returns the programs of capi/ with their runs."""
+    yield fuzz(ADDRESS, CALLS, [1])
+    for name, (compiler, small) in COMPILED.items():
+        runs = [Run(line.split(), status, output) for status, output, *lines in RUNS[name] for line in lines]
+        yield Program(f"capi/{name}", compiler, runs, small)
 
 
 def sources(language, _):
@@ -178,41 +118,25 @@ def compiled(program, folder):
 
 def run_fuzz(folder):
     """Runs the long form of the fuzz."""
-    tally, runs = Tally(), fuzz_runs(ALL_CALLS, range(1, SEEDS + 1))
+    tally = Tally()
     tally.seconds *= 10
-    programs = [Program("capi/fuzz.c", [*C11, "-g", *options, *WRAPPED], runs) for options in (ADDRESS, [])]
-    run_programs(tally, programs, command_of, folder)
+    run_programs(tally, [fuzz(options, ALL_CALLS, range(1, SEEDS + 1)) for options in (ADDRESS, [])], command_of, folder)
     return tally.end()
-
-
-def instructions(program, kind, steps):
-    """Returns the instructions of a process that does this number of steps."""
-    command = ["valgrind", "--tool=cachegrind", "--cache-sim=no", "--cachegrind-out-file=/dev/null", program, "count", kind, str(steps)]
-    report = subprocess.run(command, capture_output=True, text=True, check=True).stderr
-    return int(re.search(r"I +refs: +([\d,]+)", report)[1].replace(",", ""))
-
-
-def memory(program, kind, steps):
-    """Returns the bytes that a process has after this number of steps."""
-    return int(subprocess.run([program, "count", kind, str(steps)], capture_output=True, text=True, check=True).stdout)
 
 
 def bench(folder):
     """Measures what a step costs, and prints it."""
     program = compiled(Program("capi/bench.c", [*C11, "-pthread"], []), folder)
-    print(f"{STEPS:,} steps at 8 nodes, called from C:")
+    print(f"{STEPS:,} steps at 8 nodes, called from C:{'' if shutil.which('valgrind') else ' no instructions without valgrind'}")
     for kind in KINDS:
+        commands = [[program, "count", kind, str(steps)] for steps in (0, STEPS)]
         if shutil.which("valgrind"):
-            counted = instructions(program, kind, STEPS) - instructions(program, kind, 0)
-            print(f"{kind}: {counted / STEPS:.1f} instructions a step, including the loop and the close")
-        size = memory(program, kind, STEPS) - memory(program, kind, 0)
-        print(f"{kind}: {size / STEPS:.1f} bytes a step")
-    if not shutil.which("valgrind"):
-        print("valgrind is not installed: no instructions are counted")
-    sys.stdout.flush()
-    subprocess.run([program, "time", str(STEPS)], check=True)
-    subprocess.run([program, "locks", str(STEPS)], check=True)
-    subprocess.run([program, "stack"], check=True)
+            none, all_steps = map(instructions, commands)
+            print(f"{kind}: {(all_steps - none) / STEPS:.1f} instructions a step, including the loop and the close")
+        none, all_steps = (int(output_of(command)) for command in commands)
+        print(f"{kind}: {(all_steps - none) / STEPS:.1f} bytes a step", flush=True)
+    for arguments_of in ["time", str(STEPS)], ["locks", str(STEPS)], ["stack"]:
+        print(output_of([program, *arguments_of]), end="", flush=True)
     return 0
 
 
@@ -237,7 +161,7 @@ def run(options):
     else:
         with tempfile.TemporaryDirectory() as folder:
             check_symbols(tally)
-            run_programs(tally, PROGRAMS, command_of, folder)
+            run_programs(tally, list(programs()), command_of, folder)
             check_page(tally, folder)
             mpi.run_quick(tally, folder)
     return tally.end()

@@ -14,22 +14,13 @@ import subprocess
 import threading
 import time
 from concurrent.futures import ThreadPoolExecutor, as_completed
-from dataclasses import dataclass
 
-from . import repository
+from . import repository, running
 
 # the arguments of tools/dev for each part; those that take longest begin first
 PARTS = {
-    "dag": ["dag"],
-    "try": ["try"],
-    "capi": ["capi"],
-    "pages": ["pages"],
-    "package": ["package"],
-    "strange": ["limits", "strange", "--quick"],
-    "refuse": ["limits", "refuse", "--quick"],
-    "docs": ["docs"],
-    "bench": ["bench", "--check"],
-    "mutants": ["mutants", "--stale"],
+    "dag": "dag", "try": "try", "capi": "capi", "pages": "pages", "package": "package", "strange": "limits strange --quick",
+    "refuse": "limits refuse --quick", "docs": "docs", "bench": "bench --check", "mutants": "mutants --stale", "tools": "test --tools",
 }
 TOOLS = f"{repository.TOP}/tools/dev"
 # the time limits in minutes: of a part of the tests, and of the gate, which leaves them time within three hours
@@ -39,16 +30,8 @@ SKIPPED = re.compile(r"^SKIPPED for lack of (.*?): ", re.M)
 ROW = "{:<10} {:>8} {:>8} {:>8} {:>8}"
 # the processes of the parts that run
 RUNNING = set()
-
-
-@dataclass
-class Part:
-    """A part that has run: its name, its output, its seconds, and how many cases passed, failed and were skipped."""
-
-    name: str
-    output: str
-    seconds: float
-    counts: list
+# a part that has run: its name, its output, its seconds, and how many cases passed, failed and were skipped
+Part = collections.namedtuple("Part", "name output seconds counts")
 
 
 def counts_of(output, status):
@@ -79,11 +62,9 @@ def run_part(name, command, minutes, is_shown):
             lines.append(line)
             if is_shown:
                 print(line, end="", flush=True)
-        has_ended = timer.is_alive()
+        lines += [] if timer.is_alive() else [f"FAILED: {name} did not end within {minutes} minutes\n"]
         timer.cancel()
         RUNNING.discard(process)
-    if not has_ended:
-        lines.append(f"FAILED: {name} did not end within {minutes} minutes\n")
     output = "".join(lines)
     return Part(name, output, time.monotonic() - began, counts_of(output, process.returncode))
 
@@ -98,7 +79,7 @@ def run_gate():
 def run_tests():
     """Yields each part of the tests when it ends, and shows its output."""
     with ThreadPoolExecutor(repository.processors()) as pool:
-        parts = [pool.submit(run_part, name, [TOOLS, *arguments_of], LIMIT, False) for name, arguments_of in PARTS.items()]
+        parts = [pool.submit(run_part, name, [TOOLS, *command.split()], LIMIT, False) for name, command in PARTS.items()]
         for ended in as_completed(parts):
             part = ended.result()
             print(f"== {part.name}\n{part.output}", end="", flush=True)
@@ -120,11 +101,26 @@ def report(parts):
     return 1 if failed else 0
 
 
+def run_own_tests():
+    """Has pytest run the tests of these tools; returns the exit status."""
+    tally = running.Tally()
+    if tally.has("pytest", "the tests of these tools"):
+        result = running.run(["pytest", "-q", "-p", "no:cacheprovider", "tools/gerfmuod_dev"])
+        output = result.out.decode(errors="replace")
+        tally.passes(sum(map(int, re.findall(r"(\d+) passed", output))))
+        tally.judge(not result.status, output)
+    return tally.end()
+
+
 def arguments(parser):
     parser.add_argument("--gate", action="store_true", help="the gate first, and then the tests with what it proved")
+    parser.add_argument("--tools", action="store_true", help="the tests of these tools alone")
 
 
 def run(options):
+    repository.go_to_top()
+    if options.tools:
+        return run_own_tests()
     for number in (signal.SIGINT, signal.SIGTERM):
         signal.signal(number, end_all)
     return report([*(run_gate() if options.gate else ()), *run_tests()])

@@ -6,49 +6,13 @@ import argparse
 
 from . import bench, build, capi, checks, dag_programs, demo, docs, drawn, lanes, library, limits, lines
 from . import mpi, mutants, new_pool, pages, plots, proved, soak, summary, tries
-from .limits import cuts, hostile_numbers, live, memory, pictures, progress, random_texts, reasons
-from .limits import refuse, refuse_tests, strange
 from .shipping import completion, dist, installing, manual, package
 
 COMMANDS = {
-    "build": build,
-    "lib": library,
-    "test": checks,
-    "capi": capi,
-    "dag": dag_programs,
-    "mpi": mpi,
-    "demo": demo,
-    "try": tries,
-    "pages": pages,
-    "mutants": mutants,
-    "lanes": lanes,
-    "lines": lines,
-    "docs": docs,
-    "proved": proved,
-    "draw": drawn,
-    "plot": plots,
-    "summary": summary,
-    "new-pool": new_pool,
-    "soak": soak,
-    "bench": bench,
-    "manual": manual,
-    "completion": completion,
-    "install": installing,
-    "dist": dist,
-    "package": package,
-}
-LIMITS = {
-    "refuse": refuse,
-    "refuse-tests": refuse_tests,
-    "memory": memory,
-    "live": live,
-    "hostile-numbers": hostile_numbers,
-    "pictures": pictures,
-    "strange": strange,
-    "progress": progress,
-    "reasons": reasons,
-    "cuts": cuts,
-    "random": random_texts,
+    "build": build, "lib": library, "test": checks, "capi": capi, "dag": dag_programs, "mpi": mpi, "demo": demo, "try": tries,
+    "pages": pages, "mutants": mutants, "lanes": lanes, "lines": lines, "docs": docs, "proved": proved, "draw": drawn, "plot": plots,
+    "summary": summary, "new-pool": new_pool, "soak": soak, "bench": bench, "manual": manual, "completion": completion,
+    "install": installing, "dist": dist, "package": package,
 }
 
 
@@ -70,7 +34,7 @@ def parser_of_all():
         add(parsers, name, module)
     group = parsers.add_parser("limits", help=limits.__doc__.splitlines()[0], **described(limits.__doc__))
     limit_parsers = group.add_subparsers(dest="limit", metavar="NAME", required=True)
-    for name, module in LIMITS.items():
+    for name, module in limits.LIMITS.items():
         add(limit_parsers, name, module)
     return parser
 

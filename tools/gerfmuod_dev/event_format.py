@@ -20,37 +20,33 @@ FIELDS = {
     "f": ("name cat pid tid ts id bp", "args"),
     "M": ("name pid args", "cat tid ts"),
 }
-# a number as a text
-HEXADECIMAL = re.compile(r"0x[0-9a-f]{1,16}")
 # for each kind of metadata the field of its arguments
 METADATA = {"process_name": "name", "thread_name": "name", "process_sort_index": "sort_index", "thread_sort_index": "sort_index"}
 
 
 def is_time(value):
-    return isinstance(value, (int, float)) and not isinstance(value, bool) and math.isfinite(value) and value >= 0
+    return type(value) in (int, float) and math.isfinite(value) and value >= 0
 
 
 def is_whole(value):
-    return isinstance(value, int) and not isinstance(value, bool) and 0 <= value < 2**31
+    return type(value) is int and 0 <= value < 2**31
 
 
-VALID = {
-    "ph": lambda value: value in FIELDS,
-    "name": lambda value: isinstance(value, str) and value,
-    "cat": lambda value: isinstance(value, str) and value,
-    "pid": is_whole,
-    "tid": is_whole,
-    "ts": is_time,
-    "dur": is_time,
-    "s": lambda value: value in ("g", "p", "t"),
-    "bp": lambda value: value == "e",
-    "id": lambda value: is_number_of_flow(value) or isinstance(value, str) and value,
-    "args": lambda value: isinstance(value, dict),
-}
+def is_text(value):
+    return isinstance(value, str) and value
 
 
 def is_number_of_flow(value):
-    return isinstance(value, str) and HEXADECIMAL.fullmatch(value) or is_whole(value)
+    return isinstance(value, str) and re.fullmatch("0x[0-9a-f]{1,16}", value) or is_whole(value)
+
+
+VALID = {
+    "name": is_text, "cat": is_text, "pid": is_whole, "tid": is_whole, "ts": is_time, "dur": is_time,
+    "s": lambda value: value in ("g", "p", "t"),
+    "bp": lambda value: value == "e",
+    "id": lambda value: is_number_of_flow(value) or is_text(value),
+    "args": lambda value: isinstance(value, dict),
+}
 
 
 def once(pairs):
@@ -71,13 +67,12 @@ def field_faults(event):
         yield f"no event of a known phase: {event}"
         return
     required, possible = (set(names.split()) for names in FIELDS[event["ph"]])
-    keys = event.keys() - {"ph"}
+    keys, arguments = event.keys() - {"ph"}, event.get("args")
     if not required <= keys <= required | possible:
         yield f"missing {sorted(required - keys)}, unknown {sorted(keys - required - possible)}: {event}"
-    for key in keys & VALID.keys():
-        if not VALID[key](event[key]):
-            yield f"{key} is not valid: {event}"
-    arguments = event.get("args")
+    invalid = [key for key in keys & VALID.keys() if not VALID[key](event[key])]
+    if invalid:
+        yield f"{invalid} not valid: {event}"
     if event["ph"] == "C" and not (isinstance(arguments, dict) and arguments and all(map(is_time, arguments.values()))):
         yield f"a counter without numbers: {event}"
     if event["ph"] == "M" and list(arguments or {}) != [METADATA.get(event.get("name"))]:
@@ -89,27 +84,21 @@ def nanoseconds(microseconds):
     return round(microseconds * 1000)
 
 
-class Track:
-    """The slices of a track, in the order of their times: begin, end, and place in the file."""
+def overlaps(slices):
+    """Yields each slice that begins in another one and ends after it, of those of a track in the order of their times."""
+    ends = []
+    for begin, end, _ in slices:
+        while ends and ends[-1] <= begin:
+            ends.pop()
+        if ends and end > ends[-1]:
+            yield f"a slice from {begin} to {end} overlaps one that ends at {ends[-1]}"
+        ends.append(end)
 
-    def __init__(self):
-        self.slices = []
 
-    def faults(self):
-        """Yields each slice that begins in another one and ends after it."""
-        self.slices.sort(key=lambda it: (it[0], -it[1], it[2]))
-        ends = []
-        for begin, end, _ in self.slices:
-            while ends and ends[-1] <= begin:
-                ends.pop()
-            if ends and end > ends[-1]:
-                yield f"a slice from {begin} to {end} overlaps one that ends at {ends[-1]}"
-            ends.append(end)
-
-    def has(self, at, place):
-        """Whether a slice that is open at this time, or has no length and is at it, comes before this place of the file."""
-        last = bisect.bisect_right(self.slices, (at, math.inf))
-        return any(at < end or begin == at for begin, end, first in reversed(self.slices[:last]) if begin < at or first < place)
+def has(slices, at, place):
+    """Whether a slice that is open at this time, or has no length and is at it, comes before this place of the file."""
+    last = bisect.bisect_right(slices, (at, math.inf))
+    return any(at < end or begin == at for begin, end, first in reversed(slices[:last]) if begin < at or first < place)
 
 
 def flow_faults(flows, tracks, has_one_clock):
@@ -120,13 +109,29 @@ def flow_faults(flows, tracks, has_one_clock):
         ends[event["cat"], event["name"], event["id"]][event["ph"]].append(at)
         if not is_number_of_flow(event["id"]):
             yield f"the id of a flow is no number: {event}"
-        if not tracks[event["pid"], event["tid"]].has(at, place):
+        if not has(tracks[event["pid"], event["tid"]], at, place):
             yield f"an end of a flow that is in no slice: {event}"
     for flow, found in ends.items():
-        if len(found["s"]) != 1 or len(found["f"]) > 1:
+        if len(found["s"]) != 1 or len(found["f"]) > 1 or has_one_clock and found["f"] and found["f"] < found["s"]:
             yield f"flow {flow} begins at {found['s']}, ends at {found['f']}"
-        elif has_one_clock and found["f"] and found["f"][0] < found["s"][0]:
-            yield f"flow {flow} ends before it begins: {found}"
+
+
+def placing_faults(events, has_one_clock):
+    """Yields what is wrong with where events whose fields are valid are shown."""
+    tracks, flows, names = collections.defaultdict(list), [], collections.Counter()
+    for place, event in enumerate(events):
+        if event["ph"] == "X":
+            begin = nanoseconds(event["ts"])
+            tracks[event["pid"], event["tid"]].append((begin, begin + nanoseconds(event["dur"]), place))
+        elif event["ph"] == "M":
+            names[event["name"], event["pid"], event.get("tid") if event["name"].startswith("thread") else None] += 1
+        elif event["ph"] in "sf":
+            flows.append((place, event))
+    for slices in tracks.values():
+        slices.sort(key=lambda part: (part[0], -part[1], part[2]))
+        yield from overlaps(slices)
+    yield from (f"{name} comes {count} times" for name, count in names.items() if count > 1)
+    yield from flow_faults(flows, tracks, has_one_clock)
 
 
 def faults(text, has_one_clock=True):
@@ -144,25 +149,8 @@ def faults(text, has_one_clock=True):
     found = [f"{key} is unknown, or of a wrong type" for key, value in content.items() if not isinstance(value, TOP_LEVEL.get(key, ()))]
     if content.get("displayTimeUnit", "ns") not in ("ms", "ns"):
         found.append(f"the unit of time is {content['displayTimeUnit']}")
-    events = content["traceEvents"]
-    found += [fault for event in events for fault in field_faults(event)]
-    return found or placing_faults(events, has_one_clock)
-
-
-def placing_faults(events, has_one_clock):
-    """Returns what is wrong with where events whose fields are valid are shown."""
-    tracks, flows, names = collections.defaultdict(Track), [], collections.Counter()
-    for place, event in enumerate(events):
-        if event["ph"] == "X":
-            begin = nanoseconds(event["ts"])
-            tracks[event["pid"], event["tid"]].slices.append((begin, begin + nanoseconds(event["dur"]), place))
-        elif event["ph"] == "M":
-            names[event["name"], event["pid"], event.get("tid") if event["name"].startswith("thread") else None] += 1
-        elif event["ph"] in "sf":
-            flows.append((place, event))
-    found = [fault for track in tracks.values() for fault in track.faults()]
-    found += [f"{name} comes {count} times" for name, count in names.items() if count > 1]
-    return [*found, *flow_faults(flows, tracks, has_one_clock)]
+    found += [fault for event in content["traceEvents"] for fault in field_faults(event)]
+    return found or list(placing_faults(content["traceEvents"], has_one_clock))
 
 
 def spoiled(text):

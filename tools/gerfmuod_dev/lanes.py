@@ -1,15 +1,11 @@
-"""Prints how many checks of the prover may run at the same time.
-
-One for each processor, if each has 4 GB of memory. Prints the number alone; the status is 0.
-"""
+"""Prints how many checks of the prover may run at the same time: one for each processor, if each has 4 GB of memory."""
 from . import repository
 
 
-def arguments(parser):
-    del parser
+def arguments(_):
+    """(There are none.)"""
 
 
-def run(options):
-    del options
+def run(_):
     print(repository.lanes(repository.MEMORY_OF_A_CHECK))
     return 0

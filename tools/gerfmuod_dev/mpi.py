@@ -9,12 +9,13 @@ fault, too. With --quick trees and matrix are small, and the processes at most 4
 (`tools/mpi-packages` prints the packages); with --quick, what is missing is skipped, and counted. The last line is `N passed,
 M failed, K skipped`; the status is 1 if one failed.
 """
+import collections
+import itertools
 import os
 import shutil
 import subprocess
 import sys
 import tempfile
-from dataclasses import dataclass
 
 from . import library, profiles, repository, running
 from .c_programs import output_of
@@ -33,17 +34,8 @@ CHOLESKY_FAULT = "early"
 PEERS = ["hand", "safra", "reductions"]
 SEEDS = 5
 COMMANDS = ("mpicc", "mpirun")
-
-
-@dataclass(frozen=True)
-class Size:
-    """What to run: the trees, the order of the matrix and of its tiles, and the numbers of processes."""
-
-    trees: list
-    matrix: list
-    counts: list
-
-
+# what to run: the trees, the order of the matrix and of its tiles, and the numbers of processes
+Size = collections.namedtuple("Size", "trees matrix counts")
 QUICK = Size(["T0"], ["256", "32"], [1, 2, 4])
 FULL = Size(["T1", "T3"], ["1024", "64"], [1, 2, 4, 8, 16])
 
@@ -68,57 +60,49 @@ def run_processes(program, processes, arguments, seconds):
     return running.run(command, stderr=subprocess.STDOUT, env=environment(), timeout=seconds + running.SECONDS)
 
 
-def judge_processes(tally, program, processes, arguments):
+def judge_processes(tally, program, processes, arguments, seconds=300):
     """Runs a program, prints its output, and counts whether it succeeds."""
-    result = run_processes(program, processes, arguments, 300)
+    result = run_processes(program, processes, arguments, seconds)
     print(result.out.decode(errors="replace").strip(), flush=True)
     name = " ".join([os.path.basename(program), *arguments])
     tally.judge(not result.status, f"{name} with {processes} processes: status {result.status}")
 
 
-def judge_events(tally, program, folder, processes):
-    """Searches a small tree, and counts whether the events of all processes are well formed."""
-    path = f"{folder}/events.json"
-    result = run_processes(program, processes, ["--profile", path, "T0"], 60)
-    tally.judge(not result.status, f"T0 with events and {processes} processes: status {result.status}")
-    found = profiles.process_faults(repository.text_of(path, ""), processes)
-    tally.judge(not found, f"events of {processes} processes: {'; '.join(found)[:2000]}")
+def judge_fault(tally, program, runs, seconds):
+    """Counts whether a program with a fault misses something, or does not end, in one of these runs."""
+    has_failed = any(run_processes(program, 4, arguments, seconds).status for arguments in runs)
+    tally.judge(has_failed, f"{os.path.basename(program)} with a fault passed each time: {runs}")
 
 
-def is_detected(program, fault):
-    """Whether the program with this fault misses nodes, or does not end, with one of a few seeds."""
-    return any(run_processes(program, 4, ["T0", "proved", fault, str(seed)], 5).status for seed in range(1, SEEDS + 1))
-
-
-def compile_program(name, folder):
+def compile_program(name, folder, options=()):
     """Links capi/mpi/NAME.c with the library; returns its path in the folder."""
-    output_of([*COMPILER, f"capi/mpi/{name}.c", "-o", f"{folder}/{name}", *LINK], cwd=TOP)
+    output_of([*COMPILER, f"capi/mpi/{name}.c", "-o", f"{folder}/{name}", *LINK, *options], cwd=TOP)
     return f"{folder}/{name}"
 
 
 def compile_cholesky(tally, folder):
     """Links mpi_cholesky.c with OpenBLAS if that is installed, else with plain kernels; returns its path in the folder."""
-    path = f"{folder}/mpi_cholesky"
-    if running.run([*COMPILER, "capi/mpi/mpi_cholesky.c", "-o", path, *LINK, *BLAS], cwd=TOP).status:
+    try:
+        return compile_program("mpi_cholesky", folder, BLAS)
+    except SystemExit:
         tally.skips("mpi_cholesky.c over OpenBLAS, which runs with plain kernels", "libopenblas-dev")
-        compile_program("mpi_cholesky", folder)
-    return path
+        return compile_program("mpi_cholesky", folder)
 
 
 def run_searches(tally, folder, size):
-    """Searches the trees with each number of processes, and a small tree with each detector and each fault."""
-    program = compile_program("uts_mpi", folder)
+    """Searches the trees with each number of processes, and a small tree with its events, each detector and each fault."""
+    program, path = compile_program("uts_mpi", folder), f"{folder}/events.json"
     compile_program("latency", folder)
-    for tree in size.trees:
-        for processes in size.counts:
-            judge_processes(tally, program, processes, [tree])
+    for tree, processes in itertools.product(size.trees, size.counts):
+        judge_processes(tally, program, processes, [tree])
     for processes in QUICK.counts:
-        judge_events(tally, program, folder, processes)
+        judge_processes(tally, program, processes, ["--profile", path, "T0"], 60)
+        found = profiles.process_faults(repository.text_of(path, ""), processes)
+        tally.judge(not found, f"events of {processes} processes: {'; '.join(found)[:2000]}")
     for peer in PEERS:
-        result = run_processes(program, 4, ["T0", peer], 60)
-        tally.judge(not result.status, f"T0 with the detector {peer}: status {result.status}")
+        judge_processes(tally, program, 4, ["T0", peer], 60)
     for fault in FAULTS:
-        tally.judge(is_detected(program, fault), f"the program with the fault {fault} passed with each of {SEEDS} seeds")
+        judge_fault(tally, program, [["T0", "proved", fault, str(seed)] for seed in range(1, SEEDS + 1)], 5)
 
 
 def run_cholesky(tally, folder, size):
@@ -126,9 +110,7 @@ def run_cholesky(tally, folder, size):
     program = compile_cholesky(tally, folder)
     for processes in size.counts:
         judge_processes(tally, program, processes, [*size.matrix, "2"])
-    arguments = [*QUICK.matrix, "2", CHOLESKY_FAULT]
-    has_failed = any(run_processes(program, 4, arguments, 10).status for _ in range(SEEDS))
-    tally.judge(has_failed, f"mpi_cholesky with the fault {CHOLESKY_FAULT} passed {SEEDS} times")
+    judge_fault(tally, program, [[*QUICK.matrix, "2", CHOLESKY_FAULT]] * SEEDS, 10)
 
 
 def run_programs(tally, folder, size):

@@ -3,15 +3,15 @@
 Without a name, tries those of the crates that changed since their mutants were last tried. The gate tries those of
 crates/NAME/must-fail; all others are in crates/NAME/mutants, which also has what killed each mutant of the crate. The
 verdicts are current as long as the crate's own files, its mutants, and the definitions of lower crates that it can see
-by its imports say the same: comments and line breaks do not count. A verdict by another toolchain is no reason to try
-anew; --stale prints which crates have one. Mutants of different functions are tried in one check, and those that it does
-not kill each in a check of its own. Prints a line for each crate that is proved before, for each mutant, and for each crate.
-Each verdict is kept until the crate is complete, so that a run which is cut off goes on where it was.
+by its imports say the same: comments, line breaks and the toolchain do not count. Mutants of different functions are tried
+in one check, and those that it does not kill each in a check of its own. Prints a line for each crate that is proved before,
+for each mutant, and for each crate. A run which is cut off goes on where it was.
 The status is 1 if a mutant survives, or, with --stale, if verdicts are not current or a mutant cannot be applied.
 """
 import datetime
 import functools
 import hashlib
+import itertools
 import json
 import os
 import re
@@ -54,17 +54,8 @@ def meaning(text):
 
 
 @functools.lru_cache(maxsize=None)
-def meaning_of(path):
-    return meaning(text_of(path))
-
-
-@functools.lru_cache(maxsize=None)
 def meaning_seen(part):
     return meaning(visible.text_of_part(part))
-
-
-def own_files(crate):
-    return [path for part in ("src", "specs", "proofs") for path in files_in(f"crates/{crate.name}/{part}")]
 
 
 def hash_of(texts):
@@ -78,18 +69,14 @@ def hash_of(texts):
 def texts_seen(crate):
     """Returns the texts that a crate's proofs depend on, by their names: its own files, and the definitions of lower crates that it can
     see."""
-    own = [(path, meaning_of(path)) for path in own_files(crate)]
-    return own + [(f"{part.kind} {part.path} {part.name}", meaning_seen(part)) for part in visible.definitions_seen(crate.name)]
+    paths = [path for part in repository.SOURCES for path in files_in(f"crates/{crate.name}/{part}")]
+    seen = [(f"{part.kind} {part.path} {part.name}", meaning_seen(part)) for part in visible.definitions_seen(crate.name)]
+    return [(path, meaning(text_of(path))) for path in paths] + seen
 
 
 def digest(crate):
-    """Returns a hash of all that the verdicts on a crate's mutants depend on: its own files, its mutants, and the definitions of lower
-    crates that it can see. Neither the verdicts themselves nor whether the gate tries a mutant is part of it."""
+    """Returns a hash of all that the verdicts on a crate's mutants depend on, among it the mutants, but not the verdicts."""
     return hash_of([*texts_seen(crate), *((name, mutant.text) for name, mutant in sorted(mutants_of(crate.name).items()))])
-
-
-def note_of(crate, word):
-    return mutant_files.file_of(crate.name).notes.get(word)
 
 
 def untried(crate):
@@ -99,12 +86,7 @@ def untried(crate):
 
 
 def is_current(crate):
-    return note_of(crate, "of") == digest(crate) and not untried(crate)
-
-
-def logic(version):
-    """Returns the part of a toolchain's version that names its prover."""
-    return (version or "").partition("logic ")[2]
+    return mutant_files.file_of(crate.name).notes.get("of") == digest(crate) and not untried(crate)
 
 
 def goals_with(step, answers):
@@ -118,8 +100,10 @@ def goals_with(step, answers):
 
 
 def killer_of(crate, message):
-    """Returns the function and the clause that a line of the prover names, or the line itself if it names none. If it names a step
-    of a hand-written proof, the clauses that are proved with this step come with it."""
+    """Returns the function and the clause that a line of the prover names, or the line itself if it names none; an empty text if no clause
+    killed the mutant. If the line names a step of a hand-written proof, the clauses that are proved with this step come with it."""
+    if ALIVE.search(message):
+        return ""
     proof = re.search(r"\./proofs/(\S+)/\w+\.antt:\d+:\d+: \w+: (?:.* depend on )?`([^`]+)`", message)
     # (the prover's line may be cut off)
     code = re.search(r"(src/\S+\.rt):\d+:\d+: .*\(`([^`]+)", message)
@@ -130,40 +114,25 @@ def killer_of(crate, message):
     return ", ".join([place[1], place[2]] + ([] if place[2] in goals else [f"for {goal}" for goal in goals]))
 
 
-def is_killed(crate, message):
-    return not ALIVE.search(message) and bool(killer_of(crate, message))
-
-
-def report(crate, name, message):
-    if is_killed(crate, message):
-        print(f"{crate}/{name}: killed: {killer_of(crate, message)}", flush=True)
-    else:
-        print(f"{crate}/{name}: {'SURVIVED' if 'NOT REFUSED' in message else 'NOT KILLED by a clause'}: {message}", flush=True)
-
-
-def try_alone(crate, names, lanes, _, keep, room):
+def try_alone(crate, names, lanes, keep, _, room):
     """Tries mutants of a crate each in a check of its own, so many of them in parallel, in a copy in which all crates below it are
     proved; keeps the prover's message for each by its name."""
     folder = f"{room}/crates/{crate.name}/must-fail"
     os.makedirs(folder)
     for name in names:
-        together.write(f"{folder}/{name}.edit", mutants_of(crate.name)[name].text)
+        running.write(f"{folder}/{name}.edit", mutants_of(crate.name)[name].text)
     streams = {"stdin": subprocess.DEVNULL, "stdout": subprocess.PIPE, "text": True}
     with subprocess.Popen(["rt", "must-fail", crate.name], cwd=room, env={**os.environ, "RT_JOBS": str(lanes)}, **streams) as process:
         for line in process.stdout:
             match = re.match(r"rt: must-fail \w+/(\S+)\.edit: (.*)", line)
             if match:
-                report(crate.name, match[1], match[2])
                 keep({match[1]: match[2]})
     shutil.rmtree(folder)
 
 
-def try_together(crate, group, proved, keep, room):
+def try_together(crate, group, keep, proved, room):
     """Tries mutants of a crate in one check; keeps the prover's message for each that it killed in the function that was changed."""
-    messages = together.try_group(crate.name, room, proved, group)
-    for name, message in messages.items():
-        report(crate.name, name, message)
-    keep(messages)
+    keep(together.try_group(crate.name, room, proved, group))
 
 
 def in_copies(copies, jobs):
@@ -183,36 +152,43 @@ def in_copies(copies, jobs):
 
 
 class Verdicts:
-    """What the prover said of each mutant of a crate, by name. The verdict of an earlier run that was cut off is taken over if what the
-    crate's proofs depend on, the mutant and the toolchain are the same."""
+    """What the prover said of each mutant of a crate, by name. A verdict of an earlier run that was cut off is taken over if what the
+    crate's proofs depend on, the mutant and the toolchain are the same: their digest is its key."""
 
     def __init__(self, crate):
         self.crate, self.path, self.lock = crate, f"crates/{crate.name}/out/mutants.json", threading.Lock()
-        self.basis = [hash_of(texts_seen(crate)), toolchain()]
+        basis = hash_of([*texts_seen(crate), ("", toolchain())])
+        self.keys = {name: hash_of([(basis, mutant.text)]) for name, mutant in mutants_of(crate.name).items()}
         kept = json.loads(text_of(self.path, "{}"))
-        texts = {name: mutant.text for name, mutant in mutants_of(crate.name).items()}
-        earlier = kept["verdicts"] if kept.get("basis") == self.basis else {}
-        self.messages = {name: message for name, (text, message) in earlier.items() if texts.get(name) == text}
-        self.is_recorded = False
+        self.messages = {name: kept[key] for name, key in self.keys.items() if key in kept}
         if self.messages:
             print(f"{crate.name}: {len(self.messages)} verdicts taken over from a run that was cut off", flush=True)
 
     @property
     def left(self):
         """The mutants without a verdict."""
-        return [name for name in mutants_of(self.crate.name) if name not in self.messages]
+        return [name for name in self.keys if name not in self.messages]
 
     def add(self, messages):
-        """Keeps verdicts, and writes the crate's file if none is missing and each mutant was killed."""
+        """Keeps verdicts, and prints them."""
         with self.lock:
+            for name, message in messages.items():
+                killer, alive = killer_of(self.crate.name, message), "SURVIVED" if "NOT REFUSED" in message else "NOT KILLED by a clause"
+                print(f"{self.crate.name}/{name}: {f'killed: {killer}' if killer else f'{alive}: {message}'}", flush=True)
             self.messages.update(messages)
+            decided = {self.keys[name]: message for name, message in self.messages.items() if not UNDECIDED.search(message)}
             os.makedirs(os.path.dirname(self.path), exist_ok=True)
-            decided = {name: message for name, message in self.messages.items() if not UNDECIDED.search(message)}
-            verdicts = {name: [mutants_of(self.crate.name)[name].text, message] for name, message in decided.items()}
-            together.write(f"{self.path}.new", json.dumps({"basis": self.basis, "verdicts": verdicts}))
-            os.replace(f"{self.path}.new", self.path)
-            if not self.left and not self.is_recorded:
-                self.is_recorded = record(self.crate, self.messages)
+            os.replace(running.write(f"{self.path}.new", json.dumps(decided)), self.path)
+
+    def record(self):
+        """Writes what killed each mutant of the crate, if all of them were; returns whether they were."""
+        killers = {name: killer_of(self.crate.name, message) for name, message in self.messages.items()}
+        is_well = not self.left and all(killers.values())
+        if is_well:
+            mutant_files.write(self.crate.name, killers, {"of": digest(self.crate), "by": toolchain(), "on": f"{datetime.date.today()}"})
+        result = f"{len(self.keys)} mutants killed" if is_well else "NOT EACH of its mutants was killed by a clause"
+        print(f"{self.crate.name}: {result}", flush=True)
+        return is_well
 
 
 def groups_in(crate, names):
@@ -221,110 +197,78 @@ def groups_in(crate, names):
     return together.groups_of(filter(None, places))
 
 
-def check(crate, room):
-    """Checks a crate in a copy, which keeps what it proved there."""
-    streams = {"stdin": subprocess.DEVNULL, "stdout": subprocess.DEVNULL, "stderr": subprocess.DEVNULL}
-    subprocess.run(["rt", "check", "--jobs=1"], cwd=f"{room}/crates/{crate.name}", check=True, **streams)
-
-
-def check_taken_over(crates, places, copies):
-    """Checks those crates whose library was taken over from another checkout of this machine: no copy has what a check of them keeps."""
-    left = [crate for crate in crates if not any(os.path.exists(places[crate.name, room]) for room in copies)]
-    in_copies(copies, [functools.partial(check, crate) for crate in left])
+def keep_proofs(crates, top, copies):
+    """Copies what the check of each crate without mutants left, which a further check begins with; returns the copy's folder by crate."""
+    kept = {crate: f"{top}/kept/{crate.name}" for crate in crates}
+    places = {crate: [f"{room}/crates/{crate.name}/out/incremental" for room in copies] for crate in crates}
+    for crate in (crate for crate in crates if not any(map(os.path.exists, places[crate]))):
+        # (its library was taken over from another checkout of this machine)
+        running.run(["rt", "check", "--jobs=1"], cwd=f"{copies[0]}/crates/{crate.name}", check=True, timeout=None)
+    for crate, place in kept.items():
+        renew(max(filter(os.path.exists, places[crate]), key=os.path.getmtime), place)
+    return kept
 
 
 def try_all(crates, top, copies):
     """Tries the mutants of crates that are proved in these copies, the longest crate first; returns whether each was killed. Those of
     different functions are tried in one check, and then those that survived it each in a check of its own."""
-    proved, verdicts = {crate.name: f"{top}/kept/{crate.name}" for crate in crates}, {crate.name: Verdicts(crate) for crate in crates}
-    places = {(crate.name, room): f"{room}/crates/{crate.name}/out/incremental" for crate in crates for room in copies}
-    check_taken_over(crates, places, copies)
-    for name, place in proved.items():
-        found = [places[name, room] for room in copies if os.path.exists(places[name, room])]
-        renew(max(found, key=os.path.getmtime), place)
+    kept, verdicts = keep_proofs(crates, top, copies), {crate: Verdicts(crate) for crate in crates}
 
-    def run_jobs(jobs):
-        in_copies(
-            copies,
-            [functools.partial(action, crate, *rest, proved[crate.name], verdicts[crate.name].add) for action, crate, *rest in jobs],
-        )
+    def run_jobs(action, jobs):
+        in_copies(copies, [functools.partial(action, crate, *rest, verdicts[crate].add, kept[crate]) for crate, *rest in jobs])
 
     longest_first = sorted(crates, key=lambda crate: -crate.lines)
-    run_jobs([(try_together, crate, group) for crate in longest_first for group in groups_in(crate, verdicts[crate.name].left)])
-    left = {crate: verdicts[crate.name].left for crate in crates}
-    for (name, _), place in places.items():
-        renew(proved[name], place)
-    lanes = max(1, len(copies) // max(1, sum(map(bool, left.values()))))
-    run_jobs([(try_alone, crate, names, lanes) for crate, names in left.items() if names])
-    return all([verdict.is_recorded or record(verdict.crate, verdict.messages) for verdict in verdicts.values()])
-
-
-def record(crate, messages):
-    """Writes what killed each mutant of a crate, if all of them were; returns whether they were."""
-    is_well = messages.keys() == mutants_of(crate.name).keys() and all(is_killed(crate.name, message) for message in messages.values())
-    if is_well:
-        killers = {name: killer_of(crate.name, message) for name, message in messages.items()}
-        notes = {"of": digest(crate), "by": toolchain(), "on": f"{datetime.date.today()}"}
-        mutant_files.write(crate.name, killers, notes)
-    result = f"{len(messages)} mutants killed" if is_well else "NOT EACH of its mutants was killed by a clause"
-    print(f"{crate.name}: {result}", flush=True)
-    return is_well
+    run_jobs(try_together, [(crate, group) for crate in longest_first for group in groups_in(crate, verdicts[crate].left)])
+    left = {crate: verdicts[crate].left for crate in crates if verdicts[crate].left}
+    for crate, room in itertools.product(left, copies):
+        renew(kept[crate], f"{room}/crates/{crate.name}/out/incremental")
+    lanes = max(1, len(copies) // max(1, len(left)))
+    run_jobs(try_alone, [(crate, names, lanes) for crate, names in left.items()])
+    return all([verdict.record() for verdict in verdicts.values()])
 
 
 def redigest(crate):
     """Writes a crate's digest anew and keeps what killed its mutants; returns whether each of them had been tried."""
-    untried_names = [f"{crate.name}/{name} was never tried: make mutants CRATE={crate.name}" for name in untried(crate)]
-    if untried_names:
-        print("\n".join(untried_names))
-        return False
-    if is_current(crate):
-        print(f"{crate.name}: its verdicts are current")
-        return True
-    day = (note_of(crate, "on") or "").partition(",")[0]
-    notes = {"of": digest(crate), "by": note_of(crate, "by"), "on": f"{day}, carried over a change of names on {datetime.date.today()}"}
-    mutant_files.write(crate.name, mutant_files.file_of(crate.name).killers, notes)
-    print(f"{crate.name}: carried over {len(mutants_of(crate.name))} mutants")
-    return True
+    file = mutant_files.file_of(crate.name)
+    day = file.notes.get("on", "").partition(",")[0]
+    for name in untried(crate):
+        print(f"{crate.name}/{name} was never tried: make mutants CRATE={crate.name}")
+    if not untried(crate) and not is_current(crate):
+        notes = {"of": digest(crate), "by": file.notes["by"], "on": f"{day}, carried over a change of names on {datetime.date.today()}"}
+        mutant_files.write(crate.name, file.killers, notes)
+        print(f"{crate.name}: carried over {len(mutants_of(crate.name))} mutants")
+    return not untried(crate)
 
 
 def faults_of(name):
     """Returns why mutants of a crate cannot be read or applied, a line each."""
-    faults = []
     try:
-        for mutant in mutants_of(name).values():
-            try:
-                mutant_files.check(name, mutant)
-            except Fault as fault:
-                faults.append(str(fault))
+        mutants, faults = mutants_of(name), []
     except Fault as fault:
-        faults.append(str(fault))
+        return [str(fault)]
+    for mutant in mutants.values():
+        try:
+            mutant_files.check(name, mutant)
+        except Fault as fault:
+            faults.append(str(fault))
     return faults
-
-
-def is_readable(name):
-    try:
-        return bool(mutants_of(name))
-    except Fault:
-        return False
 
 
 def print_stale(crates):
     """Prints the mutants that cannot be applied, the crates whose mutants have to be tried anew, and how many mutants there are;
     returns the exit status."""
-    tally = running.Tally()
-    for line in (line for name in crates for line in faults_of(name)):
-        tally.fails(line)
-    having = {name: crate for name, crate in crates.items() if is_readable(name)}
-    for name, crate in having.items():
-        tally.judge(is_current(crate), f"{name} changed since its mutants were tried: make mutants")
-    others = [name for name, crate in having.items() if logic(note_of(crate, "by")) != logic(toolchain())]
-    if others:
-        print(f"Tried with another prover than this one, which `make mutants ALL=1` would ask: {' '.join(others)}")
-    in_gate = [sum(mutant.in_gate for mutant in mutants_of(name).values()) for name in having]
-    mutants, in_crates = sum(in_gate), sum(map(bool, in_gate))
-    elsewhere = sum(len(mutant_files.file_of(name).mutants) for name in having)
-    most = "" if mutants <= MOST_MUTANTS and in_crates <= MOST_CRATES else f" (at most {MOST_MUTANTS} in {MOST_CRATES} is the rule)"
-    print(f"The gate has {mutants} mutants in {in_crates} crates{most}; {elsewhere} more are in crates/*/mutants.")
+    tally, in_gate, elsewhere = running.Tally(), [], 0
+    for name, crate in crates.items():
+        faults = faults_of(name)
+        for line in faults:
+            tally.fails(line)
+        if not faults and mutants_of(name):
+            tally.judge(is_current(crate), f"{name} changed since its mutants were tried: make mutants")
+            in_gate += [name for mutant in mutants_of(name).values() if mutant.in_gate]
+            elsewhere += len(mutant_files.file_of(name).mutants)
+    is_rule = len(in_gate) <= MOST_MUTANTS and len({*in_gate}) <= MOST_CRATES
+    most = "" if is_rule else f" (at most {MOST_MUTANTS} in {MOST_CRATES} is the rule)"
+    print(f"The gate has {len(in_gate)} mutants in {len({*in_gate})} crates{most}; {elsewhere} more are in crates/*/mutants.")
     return tally.end()
 
 
@@ -332,40 +276,26 @@ def arguments(parser):
     which = parser.add_mutually_exclusive_group()
     which.add_argument("--all", action="store_true", help="of every crate")
     which.add_argument("--stale", action="store_true", help="try nothing: print the crates whose verdicts are not current, and faults")
-    redigest_help = (
-        "try nothing: write the digests of these crates anew and keep their verdicts. For changes of names or layout"
-        " alone, such as a move of files between crates; the crate's file then says so"
-    )
+    redigest_help = "try nothing: keep the verdicts of these crates after a change of names or layout alone; the crate's file then says so"
     which.add_argument("--redigest", nargs="+", metavar="NAME", help=redigest_help)
     which.add_argument("names", nargs="*", default=[], metavar="NAME", help="of these crates")
-
-
-def try_mutants(crates):
-    """Proves these crates and tries their mutants; returns whether each was killed by a clause."""
-    with rooms() as (top, copies):
-        return prove_all(repository.crates([crate.name for crate in crates]), [*copies]) and try_all(crates, top, copies)
 
 
 def run(options):
     repository.go_to_top()
     crates = repository.crates()
-    try:
-        if options.stale:
-            return print_stale(crates)
-        having = {name: crate for name, crate in crates.items() if mutants_of(name)}
-        wanted = list(dict.fromkeys(options.redigest or options.names))
-        names = wanted or [name for name, crate in having.items() if options.all or not is_current(crate)]
-        unknown = [name for name in names if name not in having]
-        if unknown:
-            print(f"No mutants: {' '.join(unknown)}")
-            return 1
-        faults = [line for name in names for line in faults_of(name)]
-        if faults:
-            print("\n".join(faults))
-            return 1
-        if options.redigest:
-            return 0 if all([redigest(having[name]) for name in names]) else 1
-        return 0 if try_mutants([having[name] for name in names]) else 1
-    except Fault as fault:
-        print(fault)
+    if options.stale:
+        return print_stale(crates)
+    wanted = list(dict.fromkeys(options.redigest or options.names))
+    faults = [f"no mutants: {name}" for name in wanted if name not in crates or not faults_of(name) and not mutants_of(name)]
+    faults = faults or [fault for name in wanted or crates for fault in faults_of(name)]
+    if faults:
+        print("\n".join(faults))
         return 1
+    having = [crate for crate in crates.values() if mutants_of(crate.name)]
+    chosen = [crate for crate in having if (crate.name in wanted if wanted else options.all or not is_current(crate))]
+    if options.redigest:
+        return 0 if all([redigest(crate) for crate in chosen]) else 1
+    with rooms() as (top, copies):
+        is_proved = prove_all(repository.crates([crate.name for crate in chosen]), copies)
+        return 0 if is_proved and try_all(chosen, top, copies) else 1

@@ -1,9 +1,9 @@
 """Draws the plots of docs/figures with matplotlib, and the map of the crates with graphviz.
 
-Plots of measurements are drawn from the rows of docs/measurements, the run of Cholesky from cholesky-run.csv there, the waves from a
-stored script, and the map from crates.txt and the table of docs/ARCHITECTURE.md. A file ends with a digest of what it shows and of
-the code that draws it; `make test` compares these digests, without matplotlib and graphviz, and so does --check. `tools/bench-packages`
-prints the packages. The status is 1 if a plot could not be drawn: a package is missing, or a row of its measurement is impossible.
+Plots of measurements are drawn from the rows of docs/measurements, the run of Cholesky from cholesky-run.csv there, and the map from
+crates.txt and the table of docs/ARCHITECTURE.md. A file ends with a digest of what it shows and of the code that draws it; `make
+test` compares these digests, without matplotlib and graphviz, and so does --check. `tools/bench-packages` prints the packages. The
+status is 1 if a plot could not be drawn: a package is missing, or a row of its measurement is impossible.
 """
 import functools
 import hashlib
@@ -20,22 +20,14 @@ from .bench import figures
 from .repository import text_of
 
 DRAWING = f"{os.path.dirname(os.path.abspath(__file__))}/drawing.py"
-SCRIPT = f"{repository.TOP}/crates/tp_examples/data/a-message-overtakes-the-wave"
 DIGEST = re.compile(r"<!-- digest of its inputs: (\w+) -->")
 PACKAGES = "apt-get install $(tools/bench-packages)"
-
-
-def waves():
-    """Returns the steps of the stored script of a message that overtakes a wave."""
-    head, *steps = [line.split() for line in text_of(SCRIPT).splitlines()]
-    return {"kind": "waves", "nodes": int(head[1]), "steps": steps}
 
 
 # each plot with a function that returns what it shows, or nothing; the map is text for `dot`
 PLOTS = {
     **{name: functools.partial(figures.plot_of, name) for name in figures.PLOTS},
     "cholesky": timeline.plot,
-    "message-overtakes-wave": waves,
     "crates": crate_map.graph,
 }
 

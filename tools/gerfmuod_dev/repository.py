@@ -35,7 +35,7 @@ class Crate:
     """A crate of crates.txt, with the names of the crates of this repository directly below it."""
 
     def __init__(self, name, below):
-        self.name, self.below = name, below
+        self.name, self.below, self.is_program = name, below, os.path.exists(f"{TOP}/crates/{name}/src/main.rt")
 
     def sources(self, top=TOP):
         """Returns the paths of its code, definitions and proofs below `top`."""
@@ -47,22 +47,16 @@ class Crate:
         """The number of its lines of code, definitions and proofs."""
         return sum(text_of(f"{TOP}/{path}").count("\n") for path in self.sources())
 
-    @property
-    def is_program(self):
-        return os.path.exists(f"{TOP}/crates/{self.name}/src/main.rt")
-
 
 def crates(names=None):
     """Returns these crates, or all by default, and each crate below them, by name and the lowest first."""
-    rows = [re.match(r"([a-z]\w*)[^:]*:(.*)", line) for line in text_of(f"{TOP}/crates.txt").splitlines()]
-    below = {row[1]: row[2].split() for row in rows if row}
-    below = {name: [lower for lower in needs if lower in below] for name, needs in below.items()}
+    rows = dict(re.findall(r"^([a-z]\w*)[^:\n]*:(.*)", text_of(f"{TOP}/crates.txt"), re.M))
+    below = {name: [lower for lower in needs.split() if lower in rows] for name, needs in rows.items()}
     found, left = set(), list(below if names is None else names)
     while left:
         name = left.pop()
-        if name not in found:
-            found.add(name)
-            left += below[name]
+        left += below[name] if name not in found else []
+        found.add(name)
     return {name: Crate(name, needs) for name, needs in below.items() if name in found}
 
 

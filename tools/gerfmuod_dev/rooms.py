@@ -1,6 +1,7 @@
 """Copies of the repository in which crates are proved at the same time. One of them is kept for the next time."""
 import contextlib
 import fcntl
+import glob
 import hashlib
 import os
 import shutil
@@ -14,11 +15,9 @@ def update(room):
     os.makedirs(f"{room}/crates", exist_ok=True)
     for name in ("crates.txt", "HANDLES"):
         shutil.copy2(name, f"{room}/{name}")
-    for crate in os.listdir(f"{room}/crates"):
-        for name in os.listdir(f"{room}/crates/{crate}"):
-            old = f"{room}/crates/{crate}/{name}"
-            if name != "out":
-                shutil.rmtree(old) if os.path.isdir(old) else os.remove(old)
+    for old in glob.glob(f"{room}/crates/*/*"):
+        if not old.endswith("/out"):
+            shutil.rmtree(old) if os.path.isdir(old) else os.remove(old)
     shutil.copytree("crates", f"{room}/crates", ignore=shutil.ignore_patterns("out", "must-fail", "mutants"), dirs_exist_ok=True)
 
 

@@ -1,5 +1,6 @@
 """Runs built programs, each with a time limit, compares their results, and counts the cases that pass."""
 import os
+import re
 import shutil
 import subprocess
 import sys
@@ -14,7 +15,10 @@ NOT_STARTED, NOT_ENDED = 126, 124
 # the time limit of a run, under a sanitizer and on a loaded machine too
 SECONDS = 300
 # the package of Debian that has a command, if it has another name
-PACKAGES = {"c++": "g++", "cc": "gcc", "clang++": "clang", "dot": "graphviz", "mpicc": "libopenmpi-dev", "mpirun": "openmpi-bin"}
+PACKAGES = {
+    "c++": "g++", "cc": "gcc", "clang++": "clang", "dot": "graphviz", "mpicc": "libopenmpi-dev", "mpirun": "openmpi-bin",
+    "pytest": "python3-pytest",
+}
 
 
 @dataclass(frozen=True)
@@ -56,10 +60,9 @@ class Tally:
 
     def has(self, command, what):
         """Whether a command is installed. If it is not, counts what is not tried."""
-        is_here = bool(shutil.which(command))
-        if not is_here:
+        if not shutil.which(command):
             self.skips(what, PACKAGES.get(command, command))
-        return is_here
+        return bool(shutil.which(command))
 
     def end(self):
         """Prints the last line and returns the exit status."""
@@ -79,30 +82,32 @@ def program_argument(parser, name="tp"):
 
 def require(*programs):
     """Exits with status 1 if one of the programs is missing, or is one of bin/ that was built from other sources."""
-    for program in programs:
-        own = [name for name, (_, path) in built.RESULTS.items() if os.path.abspath(program) == f"{TOP}/{path}"]
-        reasons = [built.reason_not_built(name) for name in own]
-        if not os.path.isfile(program) or not os.access(program, os.X_OK):
-            reasons = [f"{program} is not a program"]
-        if any(reasons):
-            sys.exit(f"{reasons[0]}: `make` builds the repository's own")
+    own = {f"{TOP}/{path}": name for name, (_, path) in built.RESULTS.items()}
+    for program in map(os.path.abspath, programs):
+        reason = built.reason_not_built(own[program]) if program in own else ""
+        if reason or not (os.path.isfile(program) and os.access(program, os.X_OK)):
+            sys.exit(f"{reason or f'{program} is not a program'}: `make` builds the repository's own")
 
 
 def run(command, stdin=os.devnull, **options):
     """Runs a command; its input is the file of that name, or the bytes themselves. After SECONDS it is ended."""
-    file = None if isinstance(stdin, bytes) else os.open(stdin, os.O_RDONLY)
-    source = {"input": stdin} if file is None else {"stdin": file}
-    streams = {"stdout": subprocess.PIPE, "stderr": subprocess.PIPE}
-    try:
-        process = subprocess.run(command, **{**streams, "timeout": SECONDS, **source, **options})
-    except OSError as error:
-        return Result(NOT_STARTED, b"", f"{error}\n".encode())
-    except subprocess.TimeoutExpired as error:
-        return Result(NOT_ENDED, error.stdout or b"", f"it did not end within {error.timeout:.0f} seconds\n".encode())
-    finally:
-        if file is not None:
-            os.close(file)
+    streams = {"stdout": subprocess.PIPE, "stderr": subprocess.PIPE, "timeout": SECONDS}
+    with open(os.devnull if isinstance(stdin, bytes) else stdin, "rb") as file:
+        source = {"input": stdin} if isinstance(stdin, bytes) else {"stdin": file}
+        try:
+            process = subprocess.run(command, **{**streams, **source, **options})
+        except OSError as error:
+            return Result(NOT_STARTED, b"", f"{error}\n".encode())
+        except subprocess.TimeoutExpired as error:
+            return Result(NOT_ENDED, error.stdout or b"", f"it did not end within {error.timeout:.0f} seconds\n".encode())
     return Result(status_of(process.returncode), process.stdout or b"", process.stderr or b"")
+
+
+def instructions(command, stdin=os.devnull):
+    """Returns the instructions of a command, counted by cachegrind: they do not depend on the load of the machine."""
+    options = ["--tool=cachegrind", "--cache-sim=no", "--cachegrind-out-file=/dev/null"]
+    report = run(["valgrind", *options, *command], stdin, timeout=None).err
+    return int(re.search(rb"I +refs: +([0-9,]+)", report)[1].replace(b",", b""))
 
 
 def status_of(code):
@@ -115,16 +120,14 @@ def in_parallel(items, action):
         yield from pool.map(action, items)
 
 
-def preload_library(name, folder):
-    """Compiles tools/c/NAME.c to a library for LD_PRELOAD; returns its path, or None if it cannot be compiled."""
+def preload_library(tally, name, folder, what):
+    """Compiles tools/c/NAME.c to a library for LD_PRELOAD; returns its path, or None if what needs it cannot be tried, which is counted."""
     path = f"{folder}/{name}.so"
-    command = [os.environ.get("CC") or "cc", "-O1", "-shared", "-fPIC", "-o", path, f"{TOP}/tools/c/{name}.c"]
-    try:
-        subprocess.run(command, check=True)
-    except (OSError, subprocess.CalledProcessError) as error:
-        print(error, file=sys.stderr)
+    if not tally.has("cc", what):
         return None
-    return path
+    result = run(["cc", "-O1", "-shared", "-fPIC", "-o", path, f"{TOP}/tools/c/{name}.c"])
+    tally.judge(not result.status, f"tools/c/{name}.c: {short(result.err, 2000)}")
+    return path if not result.status else None
 
 
 def write(path, text):

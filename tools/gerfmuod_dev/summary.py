@@ -8,31 +8,12 @@ file has it. The status is 1 if the file is not in the Trace Event Format.
 import collections
 import json
 import sys
-from dataclasses import dataclass
 
 from . import event_format
 
 LABELS = {"task": "bodies", "wait": "waiting"}
-
-
-@dataclass(frozen=True)
-class Row:
-    """A thread, a node or a track: its number of tasks, and the microseconds of each kind and in all."""
-
-    name: str
-    tasks: int
-    parts: dict
-    time: float
-
-    def line(self, width, kinds):
-        parts = [self.parts.get(kind, 0.0) for kind in kinds]
-        shares = (part / self.time if self.time else 0.0 for part in (*parts, self.time - sum(parts)))
-        return f"{self.name:{width}} {self.tasks:8}" + "".join(f" {share:>9.1%}" for share in shares)
-
-
-def kind_of(event):
-    kind = event.get("cat") or event["name"].split()[0]
-    return LABELS.get(kind, kind)
+# a thread, a node or a track: its name, its number of tasks, and the microseconds of each kind and in all
+Row = collections.namedtuple("Row", "name tasks parts time")
 
 
 def rows_of_workers(workers):
@@ -46,19 +27,24 @@ def rows_of_slices(about, events, elapsed):
     """Returns the rows of the nodes if the file says how many workers there are, else of the tracks."""
     names = {(event["name"], event["pid"], event.get("tid", 0)): event["args"].get("name") for event in events if event["ph"] == "M"}
     processes = {pid: name for (kind, pid, _), name in names.items() if kind == "process_name"}
-    is_by_node, time = "workers" in about, elapsed
+    is_by_node, keys, time = "workers" in about, {(pid, 0): name for pid, name in processes.items()}, elapsed
     if is_by_node:
         time *= about["workers"] * about["nodes"] / max(1, len(processes))
-        keys = {(pid, 0): name for pid, name in processes.items()}
     else:
         keys = {(pid, tid): f"{processes.get(pid, pid)}, {name}" for (kind, pid, tid), name in names.items() if kind == "thread_name"}
     parts, tasks = collections.defaultdict(collections.Counter), collections.Counter()
-    for event in events:
-        if event["ph"] == "X":
-            key, kind = (event["pid"], 0 if is_by_node else event["tid"]), kind_of(event)
-            parts[key][kind] += event["dur"]
-            tasks[key] += kind == "bodies"
+    for event in (event for event in events if event["ph"] == "X"):
+        key, kind = (event["pid"], 0 if is_by_node else event["tid"]), event.get("cat") or event["name"].split()[0]
+        kind = LABELS.get(kind, kind)
+        parts[key][kind] += event["dur"]
+        tasks[key] += kind == "bodies"
     return [Row(keys.get(key, "without a name"), tasks[key], parts[key], time) for key in sorted({*keys, *parts})]
+
+
+def line_of(row, width, kinds):
+    parts = [row.parts.get(kind, 0.0) for kind in kinds]
+    shares = (part / row.time if row.time else 0.0 for part in (*parts, row.time - sum(parts)))
+    return f"{row.name:{width}} {row.tasks:8}" + "".join(f" {share:>9.1%}" for share in shares)
 
 
 def summary(text):
@@ -70,13 +56,13 @@ def summary(text):
     rows = list(rows_of_workers(about["workers"]) if is_team else rows_of_slices(about, events, elapsed))
     kinds = list(dict.fromkeys(kind for row in rows for kind in row.parts))
     width = max((len(row.name) for row in rows), default=0)
-    heads = [*kinds, "runtime" if is_team else "rest"]
-    lines = [f"{'':{width}} {'tasks':>8}" + "".join(f" {head:>9}" for head in heads), *(row.line(width, kinds) for row in rows)]
-    has_times = not about.get("clock", "").startswith("none")
+    heads = "".join(f" {head:>9}" for head in [*kinds, "runtime" if is_team else "rest"])
+    lines = [f"{'':{width}} {'tasks':>8}{heads}", *(line_of(row, width, kinds) for row in rows)]
     critical = f", of which the critical path takes {about['critical_path_us'] / 1000:.3f} ms" if "critical_path_us" in about else ""
+    has_times = not about.get("clock", "").startswith("none")
     lines.append(f"{elapsed / 1000:.3f} ms{critical}" if has_times else f"{elapsed:.0f} events, without times")
     lost = sum(about.get(f"lost_{things}", 0) for things in ("slices", "bodies", "events"))
-    return [*lines, *([f"{lost} slices or events are not in the file"] if lost else [])]
+    return [*lines, *[f"{lost} slices or events are not in the file"] * bool(lost)]
 
 
 def arguments(parser):

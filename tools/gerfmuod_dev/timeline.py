@@ -6,7 +6,7 @@ import csv
 import io
 import math
 
-from .profiles import Profile, nanoseconds
+from .profiles import Profile
 from .repository import TOP, text_of
 
 PATH = f"{TOP}/docs/measurements/cholesky-run.csv"
@@ -45,12 +45,11 @@ def critical_path(tasks, lengths):
 
 def rows_of(events, tiles):
     """Returns the rows of a run with this number of tiles in a row, from its trace events, as the file stores them."""
-    profile, tasks = Profile(events), tasks_of(tiles)
-    rows = [[len(profile.about["workers"]), len(tasks), RUN, 0, nanoseconds(profile.about["elapsed_us"])]]
+    profile, tasks, text = Profile(events), tasks_of(tiles), io.StringIO()
+    rows = [COLUMNS, [len(profile.about["workers"]), len(tasks), RUN, 0.0, profile.about["elapsed_us"]]]
     for body in sorted(profile.bodies, key=lambda body: body.task):
-        rows.append([body.thread, body.task, tasks[body.task][0], body.begin, body.end - body.begin])
-    text = io.StringIO()
-    csv.writer(text, lineterminator="\n").writerows([COLUMNS, *([*row[:3], row[3] / 1000, row[4] / 1000] for row in rows)])
+        rows.append([body.thread, body.task, tasks[body.task][0], body.begin / 1000, (body.end - body.begin) / 1000])
+    csv.writer(text, lineterminator="\n").writerows(rows)
     return text.getvalue()
 
 

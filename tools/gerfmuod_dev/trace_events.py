@@ -7,15 +7,14 @@ class Writer:
     """The events of the lines so far, and what is counted at each node."""
 
     def __init__(self, nodes):
-        self.nodes, self.events, self.at, self.generation = nodes, [CLOCK], 0, 1
-        self.tracks = [0] * nodes
+        self.nodes, self.events, self.at, self.generation, self.tracks = nodes, [CLOCK], 0, 1, [0] * nodes
         self.restart()
-        for node in range(nodes):
-            self.count(node, 1)
 
     def restart(self):
         self.home, self.running, self.wave = {}, {}, 0
         self.pending, self.sent, self.received, self.seen = ([0] * self.nodes for _ in range(4))
+        for node in range(self.nodes):
+            self.count(node, 1)
 
     def add(self, kind, node, category, number, thread=1, **more):
         event = {"ph": kind, "pid": node + 1, "tid": thread, "ts": self.at, "cat": category, "name": f"{category} {number}"}
@@ -43,8 +42,7 @@ class Writer:
 
     def slice(self, task, to, life):
         node, track, begun = self.running.pop(task)
-        self.add("X", node, "task", task, track + 2, dur=to - begun, args={"life": life})
-        self.events[-1]["ts"] = begun
+        self.add("X", node, "task", task, track + 2, ts=begun, dur=to - begun, args={"life": life})
 
     def done(self, task):
         self.slice(task, self.at, "done")
@@ -58,15 +56,18 @@ class Writer:
 
     ready = end = close
 
+    def pass_on(self, word, node, message, **more):
+        """Writes the slice and the arrow's end of a message that is sent or received."""
+        self.add("X", node, word, message, dur=1)
+        self.add("s" if word == "send" else "f", node, "message", message, id=self.generation * 1_000_000 + message, **more)
+
     def send(self, node, to, message, *_):
         self.sent[node] += 1
-        self.add("X", node, "send", message, dur=1)
-        self.add("s", node, "message", message, id=self.generation * 1_000_000 + message, args={"to": to})
+        self.pass_on("send", node, message, args={"to": to})
 
     def recv(self, node, message, *_):
         self.received[node] += 1
-        self.add("X", node, "recv", message, dur=1)
-        self.add("f", node, "message", message, id=self.generation * 1_000_000 + message, bp="e")
+        self.pass_on("recv", node, message, bp="e")
         self.count(node, 1)
 
     def give(self, node):
@@ -81,14 +82,9 @@ class Writer:
         self.add("i", 0, "judge", self.wave, s="g", args={"ended": ended[0] if ended else None})
 
     def reopen(self):
-        self.restart()
         self.generation += 1
         self.add("i", 0, "generation", self.generation, s="g")
-        for node in range(self.nodes):
-            self.count(node, 1)
-
-    def name(self, kind, node, thread, name):
-        self.events.append({"ph": "M", "pid": node + 1, "tid": thread, "name": kind, "args": {"name": name}})
+        self.restart()
 
     def take(self, line):
         """Writes the events of a line."""
@@ -102,10 +98,9 @@ class Writer:
         for task in list(self.running):
             self.slice(task, self.at + 1, "running")
         for node, tracks in enumerate(self.tracks):
-            self.name("process_name", node, 1, f"node {node}")
-            self.name("thread_name", node, 1, f"steps of node {node}")
-            for track in range(tracks):
-                self.name("thread_name", node, track + 2, f"tasks {track + 1}")
+            names = [f"steps of node {node}", *(f"tasks {track + 1}" for track in range(tracks))]
+            for kind, thread, name in ("process_name", 1, f"node {node}"), *(("thread_name", at, name) for at, name in enumerate(names, 1)):
+                self.events.append({"ph": "M", "pid": node + 1, "tid": thread, "name": kind, "args": {"name": name}})
 
 
 def events_of(trace):

@@ -1,12 +1,12 @@
 """Runs every test, every program, and the cases of the programs, and compares what they print.
 
 They are runs of `rt try`, which proves nothing: `make gate` does. `tp` and `samples` and their cases run with bin/tp and bin/samples
-if these were built from these sources, which takes seconds instead of minutes. Prints a line for the tests
-of a crate, one for a program, one for its cases, whose exit statuses are compared and whose outputs are compared if they are
-stored, and one for the pictures of docs/figures that `samples draw` draws; if something failed, prints the output too. With
---write, what the cases print is stored instead of compared. The last line is `N passed, M failed, K skipped`, each test, program
-and case counted; the status is 1 if one failed.
+if these were built from these sources. Prints a line for the tests of a crate, for a program, for its cases, whose exit statuses
+are compared, and their outputs if they are stored, and for the pictures of docs/figures; if something failed, prints the output
+too. With --write, what the cases print is stored instead of compared. The last line is `N passed, M failed, K skipped`, each test,
+program and case counted; the status is 1 if one failed.
 """
+import collections
 import difflib
 import functools
 import hashlib
@@ -16,7 +16,6 @@ import shutil
 import subprocess
 import tempfile
 from concurrent.futures import ThreadPoolExecutor
-from dataclasses import dataclass
 
 from . import built, repository, running, version
 from .drawn import PICTURES, path_of
@@ -32,39 +31,22 @@ SECONDS = "900"
 MOST_STORED = 4_000
 
 
-@dataclass(frozen=True)
-class Outcome:
-    """What a try came to: a line, how many of its tests or cases passed and failed, and what to print if one failed."""
-
-    line: str
-    passed: int
-    failed: int
-    details: str
-
-
-def has_tests(crate):
-    return any("#[test]" in text_of(path) for path in repository.files_in(f"crates/{crate}/src"))
+# what a try came to: a line, how many of its tests or cases passed and failed, and what to print if one failed
+Outcome = collections.namedtuple("Outcome", "line passed failed details")
 
 
 def rt_try(crate, *options):
     """Returns the output of an unproved run in a crate's folder, and its status."""
-    result = subprocess.run(
-        ["rt", "try", *options],
-        cwd=f"crates/{crate}",
-        stdin=subprocess.DEVNULL,
-        stdout=subprocess.PIPE,
-        stderr=subprocess.STDOUT,
-        text=True,
-    )
-    return result.stdout, result.returncode
+    command, limit = ["rt", "try", "--seconds", SECONDS, *options], 2 * int(SECONDS)
+    result = running.run(command, cwd=f"crates/{crate}", stderr=subprocess.STDOUT, timeout=limit)
+    return result.out.decode(errors="replace"), result.status
 
 
 def try_tests(crate):
-    output, status = rt_try(crate, "--seconds", SECONDS, "--test")
+    output, status = rt_try(crate, "--test")
     counts = re.search(r"^test result: .*?(\d+) passed; (\d+) failed", output, re.M)
     passed, failed = (int(counts[1]), int(counts[2])) if counts else (0, 1)
-    if status and not failed:
-        failed = 1
+    failed = max(failed, int(status != 0))
     return Outcome(f"{crate}: {passed} tests passed, {failed} failed", passed, failed, output)
 
 
@@ -72,20 +54,32 @@ def difference(expected, output):
     return "\n".join(difflib.unified_diff(expected.splitlines(), output.splitlines(), "expected", "printed", lineterm=""))
 
 
+def is_built(program):
+    return program in built.RESULTS and not built.reason_not_built(program)
+
+
+def run_built(program, stdin, arguments_of, files=()):
+    """Runs a built program in a folder of its own, with copies of these files and without an environment, as `rt try` does."""
+    with tempfile.TemporaryDirectory() as folder:
+        for path in files:
+            shutil.copy(path, folder)
+        options = {"executable": f"{repository.TOP}/bin/{program}", "cwd": folder, "env": {}}
+        return running.run(["program", *arguments_of], stdin, **options)
+
+
 def try_program(crate):
     """Runs a program on its stored input and files: the built one, if it is of these sources."""
     folder = f"crates/{crate}"
-    command, data = ["rt", "try", "--seconds", SECONDS], f"{folder}/data"
-    files = [f"{data}/{name}" for name in sorted(os.listdir(data))] if os.path.isdir(data) else []
-    for path in files:
-        command += ["--data", f"{os.path.basename(path)}={os.path.abspath(path)}"]
+    files = [os.path.abspath(path) for path in repository.files_in(f"{folder}/data")]
     arguments_of, stdin = text_of(f"{folder}/args", "").splitlines(), text_of(f"{folder}/stdin", "").encode()
     if is_built(crate):
         result = run_built(crate, stdin, arguments_of, files)
     else:
-        result = running.run([*command, "--", *arguments_of], stdin, cwd=folder, timeout=2 * int(SECONDS))
+        data = [word for path in files for word in ("--data", f"{os.path.basename(path)}={path}")]
+        command = ["rt", "try", "--seconds", SECONDS, *data, "--", *arguments_of]
+        result = running.run(command, stdin, cwd=folder, timeout=2 * int(SECONDS))
     expected, status, out = text_of(f"{folder}/stdout", ""), int(text_of(f"{folder}/status", "") or 0), result.out.decode()
-    is_well = out == expected and result.status == status
+    is_well = (result.status, out) == (status, expected)
     details = f"status {result.status}, expected {status}\n{difference(expected, out)}{result.err.decode(errors='replace')}"
     line = f"{crate}: the program {'printed what is stored' if is_well else 'FAILED'}"
     return Outcome(line, int(is_well), int(not is_well), details)
@@ -103,42 +97,32 @@ def case_names(cases):
     return sorted(name for name in os.listdir(cases) if not name.endswith(".args"))
 
 
-def is_built(program):
-    return program in built.RESULTS and not built.reason_not_built(program)
-
-
-def run_built(program, stdin, arguments_of, files=()):
-    """Runs a built program in a folder of its own, with copies of these files and without an environment, as `rt try` does."""
-    with tempfile.TemporaryDirectory() as folder:
-        for path in files:
-            shutil.copy(path, folder)
-        options = {"executable": f"{repository.TOP}/bin/{program}", "cwd": folder, "env": {}}
-        return running.run(["program", *arguments_of], stdin, **options)
-
-
-def run_case(program, cases, name):
-    """Runs a built program on a case; returns its status, and its output with what it printed on standard error after it."""
-    result = run_built(program, f"{cases}/{name}", text_of(f"{cases}/{name}.args", "").splitlines())
-    return result.status, (result.out + result.err).decode(errors="replace")
-
-
 def results_in(output):
     """Returns the status and the output of each case that ended, by its name, from what `rt try --cases` printed."""
     found = re.findall(r"^== (\S+)\n(.*?)^case=\1 run=ended status=(\d+)", output, re.M | re.S)
     return {name: (int(status), text) for name, text, status in found}
 
 
-def run_cases(program, cases):
-    """Runs a program on the cases of a folder, and returns the same: the built program, or unproved if it is not of these sources."""
+def run_cases(program, cases, names=None):
+    """Runs a program on these or all cases of a folder: the built one, or unproved if it is not of these sources. Returns the status of
+    each, and its output with what it printed on standard error after it."""
+    names = case_names(cases) if names is None else names
     if not is_built(program):
-        return results_in(rt_try(program, "--seconds", SECONDS, "--cases", os.path.abspath(cases))[0])
-    names = case_names(cases)
-    return dict(zip(names, running.in_parallel(names, lambda name: run_case(program, cases, name))))
+        with tempfile.TemporaryDirectory() as folder:
+            for name in (name for case in names for name in (case, f"{case}.args") if os.path.exists(f"{cases}/{name}")):
+                shutil.copy(f"{cases}/{name}", folder)
+            return results_in(rt_try(program, "--cases", folder)[0])
+
+    def run_case(name):
+        result = run_built(program, f"{cases}/{name}", text_of(f"{cases}/{name}.args", "").splitlines())
+        return result.status, (result.out + result.err).decode(errors="replace")
+
+    return dict(zip(names, running.in_parallel(names, run_case)))
 
 
 def stored_outputs(path):
-    """Returns the same from the file that stores it."""
-    return dict(re.findall(r"^== (\S+)\n(.*?)(?=^== |\Z)", text_of(path), re.M | re.S))
+    """Returns the outputs of cases by their names from the file that stores them; none if there is no such file."""
+    return dict(re.findall(r"^== (\S+)\n(.*?)(?=^== |\Z)", text_of(path, ""), re.M | re.S))
 
 
 def is_rejected(name, text):
@@ -147,19 +131,14 @@ def is_rejected(name, text):
         return text.split()[-1:] != [version.version()]
     if not text.startswith("digraph") or not shutil.which("dot"):
         return False
-    result = subprocess.run(["dot", "-Tsvg"], input=text, capture_output=True, text=True)
-    return result.returncode != 0 or result.stderr != ""
+    result = running.run(["dot", "-Tsvg"], text.encode())
+    return result.status != 0 or result.err != b""
 
 
 def try_cases(crate, names):
     """Runs the program on some of its cases, and compares the exit statuses, and the outputs if they are stored."""
-    cases, path = f"{STATUSES}/{crate}", f"{OUTPUTS}/{crate}"
-    with tempfile.TemporaryDirectory() as folder:
-        for name in (*names, *(f"{name}.args" for name in names)):
-            if os.path.exists(f"{cases}/{name}"):
-                shutil.copy(f"{cases}/{name}", folder)
-        results = run_cases(crate, folder)
-    expected, details = stored_outputs(path) if os.path.exists(path) else {}, []
+    results, expected = run_cases(crate, f"{STATUSES}/{crate}", names), stored_outputs(f"{OUTPUTS}/{crate}")
+    details = []
     for name in names:
         status, text = results.get(name, (None, ""))
         has_text = not expected or stored(text) == expected.get(name)
@@ -175,39 +154,32 @@ def write_cases(crate):
     running.write(f"{OUTPUTS}/{crate}", "".join(f"== {name}\n{stored(text)}" for name, (_, text) in sorted(results.items())))
 
 
-def is_drawn(name, expected, status, text):
-    """Whether a run ended with the expected status and printed a picture; if it stopped at a fault, it printed a line after it."""
-    picture = text_of(path_of(name))
-    return status == expected and text.startswith(picture) and (status != 0 or text == picture)
-
-
 def try_pictures(crate):
-    """Has the program draw each picture of the documents."""
+    """Has the program draw each picture of the documents. If it stops at a fault, a line comes after the picture."""
     with tempfile.TemporaryDirectory() as cases:
         for name, picture in PICTURES.items():
             shutil.copy(picture.trace, f"{cases}/{name}")
             running.write(f"{cases}/{name}.args", ["draw", *picture.arguments])
-        results = run_cases(crate, cases)
-    differing = [name for name, picture in PICTURES.items() if not is_drawn(name, picture.status, *results.get(name, (None, "")))]
+        results, differing = run_cases(crate, cases), []
+    for name, picture in PICTURES.items():
+        (status, text), expected = results.get(name, (None, "")), text_of(path_of(name))
+        if status != picture.status or not text.startswith(expected) or status == 0 and text != expected:
+            differing.append(name)
     passed = len(PICTURES) - len(differing)
     return Outcome(f"{crate}: {passed} of {len(PICTURES)} pictures are as in docs/figures", passed, len(differing), " ".join(differing))
 
 
-def groups_of_cases(crate):
-    """Returns the cases of a program in groups that are tried at the same time: one group, if the built program runs them."""
-    names = case_names(f"{STATUSES}/{crate}")
-    count = 1 if is_built(crate) else repository.lanes(repository.MEMORY_OF_A_TRIAL)
-    return [names[first::count] for first in range(count)]
-
-
 def jobs_of(crates):
+    """Yields what is tried of each crate; the cases of a program that is not built in groups that are tried at the same time."""
     for crate in crates:
-        if has_tests(crate):
+        if any("#[test]" in text_of(path) for path in repository.files_in(f"crates/{crate}/src")):
             yield functools.partial(try_tests, crate)
         if os.path.exists(f"crates/{crate}/src/main.rt"):
             yield functools.partial(try_program, crate)
         if os.path.isdir(f"{STATUSES}/{crate}"):
-            yield from (functools.partial(try_cases, crate, names) for names in groups_of_cases(crate))
+            groups = 1 if is_built(crate) else repository.lanes(repository.MEMORY_OF_A_TRIAL)
+            names = case_names(f"{STATUSES}/{crate}")
+            yield from (functools.partial(try_cases, crate, names[first::groups]) for first in range(groups))
         if crate == "samples":
             yield functools.partial(try_pictures, crate)
 
@@ -221,10 +193,8 @@ def run(options):
     repository.go_to_top()
     crates = repository.crates()
     unknown = [name for name in options.crates if name not in crates]
-    if unknown:
-        options.parser.error(f"no crate of crates.txt: {' '.join(unknown)}")
-    if options.write and not options.crates:
-        options.parser.error("--write needs the names of crates")
+    if unknown or options.write and not options.crates:
+        options.parser.error(f"no crate of crates.txt: {' '.join(unknown)}" if unknown else "--write needs the names of crates")
     for crate in options.crates if options.write else ():
         write_cases(crate)
     jobs, tally = list(jobs_of(options.crates or crates)), running.Tally()

@@ -23,15 +23,6 @@ READ = """(async text => {
 })""".replace("DEVTOOLS", DEVTOOLS)
 
 
-def open_viewer(browser):
-    """Opens the DevTools as a page; returns whether this Chromium allows that."""
-    if "errorText" in browser.call("Page.navigate", url=f"{DEVTOOLS}/devtools_app.html"):
-        return False
-    while browser.receive().get("method") != "Page.loadEventFired":
-        pass
-    return True
-
-
 def slices_in(text):
     """Returns the slices of a text: process, thread, their names, and the slice's name, begin and length."""
     events = json.loads(text)["traceEvents"]
@@ -49,7 +40,7 @@ def in_nanoseconds(slices):
 
 def check(tally, browser, texts):
     """Counts whether the viewer has each slice of each of these texts once, under the names of the file."""
-    is_open = open_viewer(browser)
+    is_open = browser.navigate(f"{DEVTOOLS}/devtools_app.html")
     for name, text in texts.items():
         found = browser.value(f"{READ}({json.dumps(text)})") if is_open else None
         if found is None:

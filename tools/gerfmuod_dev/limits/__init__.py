@@ -1,4 +1,50 @@
-"""Tries the built program at its limits.
+"""Tries the built programs at their limits.
 
-Each of these needs `make` before, or the path of a program that was built in another way.
+Each of these needs `make` before, or the paths of programs that were built in another way. The last line is `N passed,
+M failed, K skipped`; the status is 1 if one failed.
 """
+import inspect
+import tempfile
+
+from .. import repository, running
+from . import costs, memory, strange, terminal, texts
+
+
+class Limit:
+    """A subcommand: a function that counts cases, the programs that it runs, and options: a number by default, and what it is."""
+
+    def __init__(self, action, programs, **options):
+        self.action, self.programs, self.options = action, programs.split(), options
+        self.__doc__ = inspect.getdoc(action)
+
+    def arguments(self, parser):
+        for name in self.programs:
+            running.program_argument(parser, name)
+        for name, (default, what) in self.options.items():
+            kind = {"action": "store_true"} if default is False else {"type": int, "metavar": "N", "default": default}
+            parser.add_argument(f"--{name.replace('_', '-')}", help=what if default is False else f"{what} ({default:,})", **kind)
+
+    def run(self, options):
+        """Runs the function in a folder of its own; returns the exit status."""
+        repository.go_to_top()
+        running.require(*(getattr(options, name) for name in self.programs))
+        tally = running.Tally()
+        with tempfile.TemporaryDirectory() as folder:
+            self.action(tally, options, folder)
+        return tally.end()
+
+
+QUICK = False, "a few cases: the form of make test"
+LIMITS = {
+    "refuse": Limit(memory.refuse, "tp samples", quick=QUICK),
+    "refuse-tests": Limit(memory.refuse_tests, ""),
+    "memory": Limit(memory.address_space, "tp"),
+    "live": Limit(memory.live, "samples"),
+    "hostile-numbers": Limit(costs.hostile_numbers, "tp", rounds=(12_500, "rounds of eight lines a script")),
+    "pictures": Limit(costs.pictures, "tp samples", lines=(990_000, "lines of a trace"), bytes_alone=(False, "count no instructions")),
+    "strange": Limit(strange.strange, "tp", quick=QUICK),
+    "progress": Limit(terminal.progress, "samples"),
+    "reasons": Limit(terminal.reasons, "tp"),
+    "cuts": Limit(texts.cuts, "tp"),
+    "random": Limit(texts.random_cases, "tp", texts=(400, "scripts, and as many traces"), seed=(1, "the generator's seed")),
+}

@@ -17,20 +17,24 @@ COUNTS = {
 }
 # in version 2 the lines of a message end with its generation, and a pool can be reopened
 COUNTS_OF = {1: COUNTS, 2: {**COUNTS, "send": 4, "recv": 3, "end": 3, "reopen": 0}}
-FORMS = {
-    version: {word: re.compile(word + rf" {NUMBER}" * count + r"\Z", re.ASCII) for word, count in counts.items()}
-    for version, counts in COUNTS_OF.items()
-}
+# the versions by the first line, of scripts and of traces
+HEADS = {"sim": {"script 2": 2}, "audit": {"trace 1": 1, "trace 2": 2}}
+JUDGED = re.compile(r"judge (not|ended [1-9][0-9]{0,5})", re.ASCII)
 
 
 class Refused(Exception):
     """A step is refused; the argument is the number of the refusal."""
 
 
-def check(holds, number):
-    """Refuses the step if a check holds."""
-    if holds:
-        raise Refused(number)
+class Wrong(Exception):
+    """A text is not in the grammar; the argument is the number of its first line that is not."""
+
+
+def check(checks):
+    """Refuses the step with the number of the first check that holds."""
+    for number, holds in checks.items():
+        if holds:
+            raise Refused(number)
 
 
 class World:
@@ -41,28 +45,23 @@ class World:
         self.home, self.life = {}, {}
         self.actions = {("opening", i, 0) for i in range(nodes)}
         self.under, self.used = {}, set()
-        self.list = []
-        self.over = None
+        self.list, self.over = [], None
 
     def pending(self, i):
         unfinished = sum(self.home[t] == i and self.life[t] != "done" for t in self.home)
         return unfinished + sum(action[1] == i for action in self.actions)
 
-    def sent(self, i):
-        return sum(step[0] == "send" and step[1] == i for step in self.list)
+    def counted(self, name, i):
+        """Returns how often a node sent, or received."""
+        return sum(step[:2] == (name, i) for step in self.list)
 
-    def received(self, i):
-        return sum(step[0] == "recv" and step[1] == i for step in self.list)
-
-    def quiet(self):
+    def is_quiet(self):
         return not self.actions and not self.under and all(life == "done" for life in self.life.values())
 
     def since_start(self):
         """Returns the steps since the last `start`, including it; an empty list if there was none."""
-        for place in range(len(self.list) - 1, -1, -1):
-            if self.list[place][0] == "start":
-                return self.list[place:]
-        return []
+        places = [place for place, step in enumerate(self.list) if step[0] == "start"]
+        return self.list[places[-1] :] if places else []
 
     def take(self, step):
         """Takes a step, and returns the line that the program prints for it."""
@@ -76,35 +75,29 @@ class World:
         return reply or "ok"
 
     def insert(self, i, t, k):
-        check(i >= self.nodes, 1)
-        check(t in self.home, 3)
-        check(self.pending(i) == 0, 6)
+        check({1: i >= self.nodes, 3: t in self.home, 6: not self.pending(i)})
         self.home[t], self.life[t] = i, k or "ready"
 
     def supply(self, t):
-        check(t not in self.home, 4)
-        check(not isinstance(self.life[t], int), 5)
+        check({4: t not in self.home, 5: not isinstance(self.life.get(t), int)})
         self.life[t] = self.life[t] - 1 or "ready"
 
+    def change(self, t, before, after):
+        check({4: t not in self.home, 5: self.life.get(t) != before})
+        self.life[t] = after
+
     def begin(self, t):
-        check(t not in self.home, 4)
-        check(self.life[t] != "ready", 5)
-        self.life[t] = "running"
+        self.change(t, "ready", "running")
 
     def done(self, t):
-        check(t not in self.home, 4)
-        check(self.life[t] != "running", 5)
-        self.life[t] = "done"
+        self.change(t, "running", "done")
 
     def open(self, i, a):
-        check(i >= self.nodes, 1)
-        check(("named", i, a) in self.actions, 7)
-        check(self.pending(i) == 0, 6)
+        check({1: i >= self.nodes, 7: ("named", i, a) in self.actions, 6: not self.pending(i)})
         self.actions.add(("named", i, a))
 
-    def shut(self, kind, i, a):
-        check(i >= self.nodes, 1)
-        check((kind, i, a) not in self.actions, 8)
+    def shut(self, kind, i, a, g=None):
+        check({1: i >= self.nodes, 19: g not in (None, self.generation), 8: (kind, i, a) not in self.actions})
         self.actions.remove((kind, i, a))
 
     def close(self, i, a):
@@ -114,30 +107,21 @@ class World:
         self.shut("opening", i, 0)
 
     def end(self, i, m, g=1):
-        check(i >= self.nodes, 1)
-        check(g != self.generation, 19)
-        self.shut("message", i, m)
+        self.shut("message", i, m, g)
 
     def send(self, i, j, m, g=1):
-        check(i >= self.nodes or j >= self.nodes, 1)
-        check(g != self.generation, 19)
-        check(i == j, 2)
-        check(m in self.used, 9)
-        check(self.pending(i) == 0, 6)
+        check({1: max(i, j) >= self.nodes, 19: g != self.generation, 2: i == j, 9: m in self.used, 6: not self.pending(i)})
         self.used.add(m)
         self.under[m] = j
 
     def recv(self, j, m, g=1):
-        check(j >= self.nodes, 1)
-        check(g != self.generation, 19)
-        check(self.under.get(m) != j, 10)
+        check({1: j >= self.nodes, 19: g != self.generation, 10: self.under.get(m) != j})
         del self.under[m]
         self.actions.add(("message", j, m))
 
     def start(self):
-        check(self.over, 15)
         since = self.since_start()
-        check(since and ("judge",) not in since, 13)
+        check({15: self.over, 13: since and ("judge",) not in since})
 
     def wave(self):
         """Returns the steps of the open wave; an empty list if none is open."""
@@ -148,28 +132,19 @@ class World:
         return bool(wave) and (i == 0 or ("down", i) in wave)
 
     def down(self, i):
-        check(i >= self.nodes, 1)
-        check(self.over, 15)
         wave = self.wave()
-        check(i == 0 or ("down", i) in wave or not self.is_reached((i - 1) // 2, wave), 12)
+        check({1: i >= self.nodes, 15: self.over, 12: i == 0 or ("down", i) in wave or not self.is_reached((i - 1) // 2, wave)})
 
     def give(self, i):
-        check(i >= self.nodes, 1)
-        check(self.over, 15)
         wave = self.wave()
-        children = [c for c in (2 * i + 1, 2 * i + 2) if c < self.nodes]
-        check(not self.is_reached(i, wave) or ("give", i) in wave or any(("up", c) not in wave for c in children), 12)
-        check(self.pending(i) > 0, 11)
-        if i == 0:
-            number, sent, received = self.sums(self.list + [("give", 0)])[-1]
-            return f"wave {number} sent {sent} received {received}"
-        return None
+        is_left = any(("up", child) not in wave for child in (2 * i + 1, 2 * i + 2) if child < self.nodes)
+        has_no_token = not self.is_reached(i, wave) or ("give", i) in wave or is_left
+        check({1: i >= self.nodes, 15: self.over, 12: has_no_token, 11: self.pending(i)})
+        return "wave {} sent {} received {}".format(*self.sums(self.list + [("give", 0)])[-1]) if i == 0 else None
 
     def up(self, i):
-        check(i >= self.nodes, 1)
-        check(self.over, 15)
         wave = self.wave()
-        check(i == 0 or ("give", i) not in wave or ("up", i) in wave, 12)
+        check({1: i >= self.nodes, 15: self.over, 12: i == 0 or ("give", i) not in wave or ("up", i) in wave})
 
     def sums(self, steps):
         """Returns for each ended wave its number and its sums, counted at each node's own visit."""
@@ -185,84 +160,58 @@ class World:
         return ended
 
     def judge(self):
-        check(self.over, 15)
-        since = self.since_start()
-        check(("give", 0) not in since or ("judge",) in since, 14)
-        sums = self.sums(self.list)
+        since, sums = self.since_start(), self.sums(self.list)
+        check({15: self.over, 14: ("give", 0) not in since or ("judge",) in since})
         if len(sums) > 1 and len({*sums[-2][1:], *sums[-1][1:]}) == 1:
             self.over = sums[-2][0]
             return f"ended {self.over}"
         return "not"
 
     def reopen(self):
-        check(not self.over, 5)
+        check({5: not self.over})
         self.__init__(self.nodes, self.generation + 1)
         return f"generation {self.generation}"
 
 
-def parsed(line, version):
-    """Returns the step of a line, or None if it is not a step."""
+def parsed(line, version, command):
+    """Returns the step of a line, and its judgement if it has one; None if it is not a step."""
+    judged = JUDGED.fullmatch(line) if command == "audit" else None
     word = line.split(" ")[0]
-    found = FORMS[version][word].match(line) if word in FORMS[version] else None
-    if not found:
-        return None
-    numbers = tuple(map(int, found.groups()))
-    return None if word == "insert" and numbers[2] > 16 else (word, *numbers)
+    if judged or word not in COUNTS_OF[version] or line == "judge" and command == "audit":
+        return (("judge",), judged[1]) if judged else None
+    found = re.fullmatch(word + rf" {NUMBER}" * COUNTS_OF[version][word], line, re.ASCII)
+    numbers = tuple(map(int, found.groups())) if found else ()
+    return None if not found or word == "insert" and numbers[2] > 16 else ((word, *numbers), None)
 
 
-def nodes_of(line):
-    found = re.match(r"nodes ([1-8])\Z", line, re.ASCII)
-    return int(found[1]) if found else None
+def read(text, command):
+    """Returns the version of a text, the number of its nodes, the number of the line after that, and the steps."""
+    *lines, rest = text.decode("latin-1").split("\n")
+    version = HEADS[command].get(lines[0] if lines else "", 1 if command == "sim" else None)
+    first = 2 if version == 2 or command == "audit" else 1
+    nodes = re.fullmatch("nodes ([1-8])", lines[first - 1], re.ASCII) if version and len(lines) >= first else None
+    if not nodes:
+        raise Wrong(first if version else 1)
+    steps = [parsed(line, version, command) for line in lines[first:]]
+    if None in steps or rest:
+        raise Wrong(first + 1 + (steps.index(None) if None in steps else len(steps)))
+    return version, int(nodes[1]), first + 1, steps
 
 
-def lines_of(text):
-    """Returns the lines that have an end, and whether bytes follow the last one."""
-    lines = text.decode("latin-1").split("\n")
-    return lines[:-1], lines[-1] != ""
-
-
-def simtext(text):
-    lines, has_rest = lines_of(text)
-    version = 2 if lines[:1] == ["script 2"] else 1
-    nodes = nodes_of(lines[version - 1]) if len(lines) >= version else None
-    if nodes is None:
-        return 2, f"syntax line {version}\n"
-    steps = [parsed(line, version) for line in lines[version:]]
-    if None in steps or has_rest:
-        return 2, f"syntax line {(steps.index(None) if None in steps else len(steps)) + version + 1}\n"
+def simulated(nodes, steps):
+    """Returns what `sim` prints for the steps of a script."""
     world = World(nodes)
-    out = [world.take(step) for step in steps]
-    counts = [(world.pending(i), world.sent(i), world.received(i)) for i in range(nodes)]
-    out += [f"node {i} pending {p} sent {s} received {r}" for i, (p, s, r) in enumerate(counts)]
-    p, s, r = map(sum, zip(*counts))
-    out += [f"total pending {p} sent {s} received {r} under {len(world.under)}", f"quiet {'yes' if world.quiet() else 'no'}"]
-    return 0, "\n".join(out) + "\n"
+    out = [world.take(step) for step, _ in steps]
+    counts = [(world.pending(i), world.counted("send", i), world.counted("recv", i)) for i in range(nodes)]
+    out += ["node {} pending {} sent {} received {}".format(i, *count) for i, count in enumerate(counts)]
+    out += ["total pending {} sent {} received {} under {}".format(*map(sum, zip(*counts)), len(world.under))]
+    return "\n".join([*out, f"quiet {'yes' if world.is_quiet() else 'no'}", ""])
 
 
-def judged(line, version):
-    """Returns the step of a line of a trace, and its judgement if it has one; None if it is not a step."""
-    if line == "judge not":
-        return ("judge",), "not"
-    found = re.match(rf"judge ended {NUMBER}\Z", line, re.ASCII)
-    if found and found[1] != "0":
-        return ("judge",), f"ended {found[1]}"
-    step = parsed(line, version)
-    return None if step in (None, ("judge",)) else (step, None)
-
-
-def audittext(text):
-    lines, has_rest = lines_of(text)
-    version = {"trace 1": 1, "trace 2": 2}.get(lines[0]) if lines else None
-    if version is None:
-        return 2, "syntax line 1\n"
-    nodes = nodes_of(lines[1]) if len(lines) > 1 else None
-    if nodes is None:
-        return 2, "syntax line 2\n"
-    steps = [judged(line, version) for line in lines[2:]]
-    if None in steps or has_rest:
-        return 2, f"syntax line {(steps.index(None) if None in steps else len(steps)) + 3}\n"
+def audited(version, nodes, first, steps):
+    """Returns the status of `audit` for the steps of a trace, and what it prints."""
     world, last = World(nodes), "not"
-    for number, (step, judgement) in enumerate(steps, 3):
+    for number, (step, judgement) in enumerate(steps, first):
         reply = world.take(step)
         if reply.startswith("refused"):
             return 2, f"line {number} {reply}\n"
@@ -275,3 +224,12 @@ def audittext(text):
         f"messages {counts['send']} received {counts['recv']}\n"
         f"{f'generation {world.generation}{chr(10)}' if version == 2 else ''}{last if last != 'not' else 'not ended'}\n"
     )
+
+
+def expected(command, text):
+    """Returns the status of `sim` or `audit` for a text, and what it prints."""
+    try:
+        version, nodes, first, steps = read(text, command)
+    except Wrong as wrong:
+        return 2, f"syntax line {wrong.args[0]}\n"
+    return (0, simulated(nodes, steps)) if command == "sim" else audited(version, nodes, first, steps)

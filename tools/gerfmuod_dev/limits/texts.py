@@ -1,0 +1,90 @@
+"""Compares what `tp sim` and `tp audit` do with stored, odd and random texts with the second model (second_model.py)."""
+import ast
+import os
+import random
+import re
+
+from .. import running
+from ..repository import text_of
+from . import random_texts
+from .second_model import expected
+
+FOLDER = "crates/tp_examples/data"
+# the texts that a test of test_whole cuts: each with its kind and the sum of the replies to its pieces
+TEST = "crates/test_whole/src/cuts.rt"
+ROW = re.compile(r'Kind::(Script|Trace),\s+b("(?:[^"\\]|\\.)*"),\s+([\d_]+),?\s*\)', re.S)
+# what comes after `nodes 1`, or before it
+ODD = [
+    b"\r\nready 0\r\n", b"\nready 0\r\n", b"\nready \x000\n", b"\n\nready 0\n", b"\nready 0 \n", b"\nready  0\n", b"\nready\t0\n",
+    b"\nready 00\n", b"\nready +0\n", b"\nsupply 1000000\n", b"\nReady 0\n", b"\nready \xd9\xa0\n", b"\nnodes 1\n",
+    b"\nready " + b"9" * 300_000 + b"\n",
+]
+BEFORE = [b"\xef\xbb\xbf", b"\xef\xbb\xbftrace 1\n", b"\0" * 1_000_000, b"trace 1\n", b"script 1\n", b"script 2\n", b"trace 3\n"]
+# what some of the outputs of random texts have
+RARE = ["generation ", "generation 3", "unjustified", "Stranger"]
+
+
+def try_all(tally, program, texts):
+    """Runs the program on texts with their subcommands; returns the expected outputs."""
+
+    def try_one(case):
+        return case, expected(*case), running.run([program, case[0]], case[1])
+
+    outputs = []
+    for (command, text), (status, out), result in running.in_parallel(texts, try_one):
+        details = f"status {result.status}, expected {status}\n{running.short(text, 5000)}\n--- printed:\n{running.short(result.out, 5000)}"
+        is_well = result == running.Result(status, out.encode(), b"")
+        tally.judge(is_well, f"{command}: {details}\n--- expected:\n{out}{running.short(result.err)}")
+        outputs.append(out)
+    return outputs
+
+
+def pieces(command, text):
+    return [(command, text[:count]) for count in range(len(text) + 1)]
+
+
+def sum_of_pieces(command, text):
+    """Returns the sum (FNV-1a, 32 bits) of the expected output and status of each piece of a text, in this order."""
+    total = 2_166_136_261
+    for status, out in (expected(*piece) for piece in pieces(command, text)):
+        for byte in (*out.encode(), status):
+            total = (total ^ byte) * 16_777_619 % 2**32
+    return total
+
+
+def cuts(tally, options, _):
+    """Cuts each stored script and trace after each of its bytes.
+
+    The program's output and status for each piece, and for odd texts such as one with carriage returns, are compared with those of a
+    second model, and so are the sums of the texts that a test of `test_whole` cuts. Prints each text for which they differ.
+    """
+    for kind, literal, total in ROW.findall(text_of(TEST)):
+        # (a backslash at the end of a line joins it with the next)
+        text = ast.literal_eval(re.sub(r"\\\n\s*", "", literal)).encode()
+        found = sum_of_pieces({"Script": "sim", "Trace": "audit"}[kind], text)
+        tally.judge(int(total) == found, f"{TEST}: the sum of the {kind.lower()} {running.short(text)} has to be {found}")
+    stored = [text_of(f"{FOLDER}/{name}").encode() for name in sorted(os.listdir(FOLDER))]
+    texts = [piece for text in stored for piece in pieces("audit" if text.startswith(b"trace") else "sim", text)]
+    odd = [*(b"nodes 1" + text for text in ODD), *(head + b"nodes 1\n" for head in BEFORE)]
+    texts += [(command, head + text) for text in odd for command, head in (("sim", b""), ("audit", b"trace 1\n"), ("audit", b""))]
+    try_all(tally, options.tp, texts)
+
+
+def many_generations(count):
+    """Yields a script and a trace of one node that is reopened again and again."""
+    for command, head, judgements in ("sim", "script 2", ("", "")), ("audit", "trace 2", (" not", " ended 1")):
+        waves = "".join(f"start\ngive 0\njudge{judgement}\n" for judgement in judgements)
+        yield command, (f"{head}\nnodes 1\n" + f"ready 0\n{waves}reopen\n" * count).encode()
+
+
+def random_cases(tally, options, _):
+    """Creates random scripts and traces of both versions.
+
+    The program's output and status are compared with those of a second model. Half of a script's steps are lawful ones, so that pools
+    end and are reopened; the others may be of any kind and number. Prints each text for which they differ. What is rare has to
+    come in some output.
+    """
+    texts = [*many_generations(100), *random_texts.random_texts(random.Random(options.seed), options.texts)]
+    outputs = try_all(tally, options.tp, texts)
+    for rare in RARE:
+        tally.judge(any(rare in output for output in outputs), f"no output has {rare!r}: more texts or another seed?")

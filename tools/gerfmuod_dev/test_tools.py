@@ -1,0 +1,109 @@
+"""Tests of these tools, by pytest: that each check finds the fault that it is for."""
+import json
+import random
+
+import pytest
+
+from . import checks, event_format, mutant_files, repository, running, summary, timeline, trace_events, tries
+from .limits import random_texts, second_model, terminal, texts
+
+EVENTS = {"0-draw-a-run-as-events", "0-draw-two-generations-as-events", "0-draw-a-run-that-has-not-ended-as-events"}
+MUTANTS = """# the head
+of 12
+by kit logic 34
+on 2026-01-01
+in_gate: turn/up, returns
+not_in_gate in src/turn.rt: turn/up, it
+- a(1)
++ a(2)
+in src/wave.rt
+- b();
++
+"""
+
+
+@pytest.fixture(autouse=True)
+def top():
+    repository.go_to_top()
+
+
+@pytest.mark.parametrize("name", EVENTS)
+def test_stored_events_are_those_of_the_second_writer(name):
+    text = tries.stored_outputs(f"{tries.OUTPUTS}/samples")[name]
+    trace = repository.text_of(f"{tries.STATUSES}/samples/{name}")
+    found, expected = json.loads(text), trace_events.events_of(trace)
+    assert found["otherData"] == expected["otherData"]
+    assert sorted(map(str, found["traceEvents"])) == sorted(map(str, expected["traceEvents"]))
+    assert not event_format.faults(text)
+
+
+def test_each_fault_of_events_is_found():
+    for text in event_format.spoiled(tries.stored_outputs(f"{tries.OUTPUTS}/samples")["0-draw-a-run-as-events"]):
+        assert event_format.faults(text), text
+
+
+def test_summary_of_nodes_and_threads():
+    events = [
+        {"ph": "M", "pid": 1, "tid": 1, "name": "process_name", "args": {"name": "node 0"}},
+        {"ph": "X", "pid": 1, "tid": 2, "ts": 0, "dur": 10, "name": "task 1", "cat": "task"},
+    ]
+    nodes = {"otherData": {"workers": 2, "nodes": 1, "elapsed_us": 20, "lost_bodies": 1}, "traceEvents": events}
+    _, row, time, lost = summary.summary(json.dumps(nodes))
+    assert (row.split(), time, lost.split()[0]) == (["node", "0", "1", "25.0%", "75.0%"], "0.020 ms", "1")
+
+
+def test_critical_path_of_cholesky():
+    tasks = timeline.tasks_of(2)
+    assert [kind for kind, _ in tasks] == ["factor", "solve", "square", "factor"]
+    assert timeline.critical_path(tasks, [1, 1, 1, 1]) == ([3, 2, 1, 0], 4)
+
+
+@pytest.mark.parametrize("command, text, expected", [
+    ("sim", b"nodes 1\nready 0\nready 0", (2, "syntax line 3\n")),
+    ("sim", b"nodes 1\nsend 0 0 1\n", (0, "refused 2 SameNode\nnode 0 pending 1 sent 0 received 0\n"
+                                          "total pending 1 sent 0 received 0 under 0\nquiet no\n")),
+    ("audit", b"trace 2\nnodes 1\njudge\n", (2, "syntax line 3\n")),
+    ("audit", b"trace 1\nnodes 1\nready 0\nstart\ngive 0\njudge ended 1\n", (2, "line 6 unjustified\n")),
+])
+def test_second_model(command, text, expected):
+    assert second_model.expected(command, text) == expected
+
+
+def test_random_texts_have_what_is_rare():
+    outputs = [second_model.expected(*case)[1] for case in random_texts.random_texts(random.Random(2), 60)]
+    assert all(any(rare in output for output in outputs) for rare in ("unjustified", "Stranger", "ended ", "syntax "))
+
+
+def test_another_output_than_the_models_is_a_failure():
+    tally = running.Tally()
+    texts.try_all(tally, "/bin/echo", [("sim", b"nodes 1\n")])
+    assert (tally.passed, tally.failed) == (0, 1)
+
+
+def test_mutants_are_read_and_written():
+    file = mutant_files.parse("mutants", MUTANTS)
+    edit = mutant_files.parse_edit("in_gate", "file: src/a.rt\nold: x\nnew: y\nold: z\nnew:\n")
+    assert edit.text == "file: src/a.rt\nold: x\nnew: y\nold: z\nnew: \n"
+    assert mutant_files.rendered([edit, *file.mutants], file.killers, file.notes).split("\n")[1:] == MUTANTS.split("\n")[1:]
+    for line in MUTANTS.split("\n")[5:8]:
+        with pytest.raises(mutant_files.Fault):
+            mutant_files.parse("mutants", MUTANTS.replace(line + "\n", ""))
+
+
+def test_parts_without_a_closing_line_fail():
+    assert checks.counts_of("SKIPPED for lack of gcc: all\n3 passed, 0 failed, 1 skipped\n", 0) == [3, 0, 1]
+    assert checks.counts_of("3 passed, 0 failed", 1)[1] == 1 and checks.counts_of("Traceback", 0)[1] == 1
+    part = checks.run_part("slow", ["sleep", "9"], 0.001, False)
+    assert part.counts[1] == 1 and "did not end" in part.output
+
+
+def test_runs_have_a_status_and_a_limit():
+    assert running.run(["sh", "-c", "cat; kill -9 $$"], b"a") == running.Result(137, b"a", b"")
+    assert running.run(["sleep", "9"], timeout=0.1).status == running.NOT_ENDED
+    assert running.run(["/nowhere"]).status == running.NOT_STARTED
+
+
+def test_terminals():
+    is_terminal = ["sh", "-c", "test -t 2 && echo error >&2; test -t 0 && read line; echo $line"]
+    assert terminal.run_at_terminal(is_terminal) == running.Result(0, b"\n", b"error\n")
+    assert terminal.run_at_terminal(is_terminal, b"typed\n", is_typed=True) == running.Result(0, b"typed\n", b"error\n")
