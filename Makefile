@@ -1,6 +1,6 @@
 # make          proves the programs with all that they use, and builds them: bin/tp and bin/samples (half an hour on four
 #               cores the first time); tp comes first, and `make bin/tp` builds nothing else
-# make demo     two runs of the program, without proofs (a minute)
+# make demo     two runs of the program, without proofs, on the cases of tools/data/demo (a minute)
 # make test     every test and every program, without proofs: those in C, C++, Fortran and Python with the library of
 #               `make lib`, and the cases of the programs with those of `make` (some minutes; see docs/GATE.md)
 # make mpi      tree search with the detector for distributed programs, and Cholesky with a task graph in each process, over
@@ -9,7 +9,7 @@
 #               that an earlier run on this machine passed is reused)
 # make mutants  tries all mutants of the crates that changed (ALL=1: of every crate; CRATE=tp_wave: of one)
 # make times    the gate, and the processor time that it takes
-# make soak     runs each sample pool 200 times at 8 nodes with 8 workers each, compares the outputs and audits the traces;
+# make soak     runs sample pools 600 times, half of them at 8 nodes with 8 workers each, compares the outputs and audits the traces;
 #               then runs the program with unusual streams and texts, at a terminal, with every stored text truncated after
 #               each byte, and with random texts; the programs over borrowed data at a terminal; and random calls of the
 #               library for C, compared with a model
@@ -20,11 +20,11 @@
 #               docs/PERFORMANCE.md; see bench/README.md)
 # make docs     draws the pictures of docs/figures again: runs by bin/samples, a page by Chromium, Cholesky by the library of
 #               make lib (without these two, their pictures stay), plots and the crates by matplotlib and graphviz
-#               (tools/bench-packages); and writes out/guarantees, an index of all contracts
-# make install  installs the proved programs and the library, with the manual, the completion for bash, the documents, and
-#               packages for pkg-config and CMake. It takes DESTDIR, PREFIX (/usr/local), EXEC_PREFIX, BINDIR, LIBDIR,
-#               INCLUDEDIR, DATADIR, MANDIR, DOCDIR and PYTHONDIR (defaults: `tools/dev install --help`), also in small
-#               letters; BUILT=FOLDER installs what is in FOLDER/bin and FOLDER/lib instead of building it
+#               (tools/bench-packages)
+# make install  installs the proved programs and the library, with the manual (if pandoc is installed), the completion for bash,
+#               the documents, and packages for pkg-config and CMake. It takes DESTDIR, PREFIX (/usr/local), EXEC_PREFIX, BINDIR,
+#               LIBDIR, INCLUDEDIR, DATADIR, MANDIR, DOCDIR and PYTHONDIR (defaults: below), also in small letters;
+#               BUILT=FOLDER installs what is in FOLDER/bin and FOLDER/lib instead of building it
 # make uninstall  removes what make install put there; it takes the same DESTDIR, PREFIX and DATADIR
 # make dist     packs the committed files into gerfmuod-VERSION.tar.gz
 # make clean    removes everything that was proved and built
@@ -51,7 +51,7 @@ lib/libgerfmuod.a: $(SOURCES) crates.txt $(addprefix capi/,$(HEADERS) $(PARTS))
 	@tools/dev lib
 
 demo:
-	@tools/dev demo
+	cd crates/tp && rt try --cases ../../tools/data/demo
 
 test:
 	@tools/dev test
@@ -70,7 +70,7 @@ times:
 	@bash -c 'time $(MAKE) --no-print-directory gate'
 
 soak: bin/samples lib/libgerfmuod.a
-	tools/dev soak bin/tp --runs 200
+	tools/dev soak bin/tp
 	tools/dev limits strange bin/tp
 	tools/dev limits reasons bin/tp
 	tools/dev limits cuts bin/tp
@@ -85,21 +85,30 @@ bench: bin/samples lib/libgerfmuod.a
 docs: bin/samples
 	@tools/dev draw
 	@tools/dev plot
-	@tools/dev proved
 
 BUILT ?= .
-FOLDERS := DESTDIR PREFIX EXEC_PREFIX BINDIR LIBDIR INCLUDEDIR DATADIR MANDIR DOCDIR PYTHONDIR
-FOLDERS += prefix exec_prefix bindir libdir includedir datadir mandir docdir pythondir
-GIVEN = $(foreach name,$(FOLDERS),$(if $($(name)),'$(name)=$($(name))'))
+PREFIX ?= $(or $(prefix),/usr/local)
+EXEC_PREFIX ?= $(or $(exec_prefix),$(PREFIX))
+BINDIR ?= $(or $(bindir),$(EXEC_PREFIX)/bin)
+LIBDIR ?= $(or $(libdir),$(EXEC_PREFIX)/lib)
+INCLUDEDIR ?= $(or $(includedir),$(PREFIX)/include)
+DATADIR ?= $(or $(datadir),$(PREFIX)/share)
+MANDIR ?= $(or $(mandir),$(DATADIR)/man)
+DOCDIR ?= $(or $(docdir),$(DATADIR)/doc/gerfmuod)
+PYTHONDIR ?= $(or $(pythondir),$(LIBDIR)/gerfmuod/python)
+VERSION = $(shell sed -n 's/^version = "\(.*\)"/\1/p' python/pyproject.toml)
+FOLDERS := PREFIX EXEC_PREFIX BINDIR LIBDIR INCLUDEDIR DATADIR MANDIR DOCDIR PYTHONDIR
+GIVEN = DESTDIR='$(abspath $(DESTDIR))' BUILT='$(abspath $(BUILT))' VERSION='$(VERSION)' HEADERS='$(addprefix capi/,$(HEADERS))' \
+        $(foreach name,$(FOLDERS),$(name)='$($(name))')
 
 install: $(BUILT)/bin/samples $(BUILT)/lib/libgerfmuod.a
-	@tools/dev install --built '$(BUILT)' $(GIVEN)
+	@$(GIVEN) tools/install
 
 uninstall:
-	@tools/dev install --remove $(GIVEN)
+	@$(GIVEN) tools/install --remove
 
 dist:
-	@tools/dev dist
+	git -c tar.umask=0022 archive --prefix=gerfmuod-$(VERSION)/ --output=gerfmuod-$(VERSION).tar.gz HEAD
 
 clean:
 	rm -rf bin lib crates/*/out

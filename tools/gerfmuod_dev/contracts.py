@@ -4,7 +4,7 @@ The files have the layout of `rt fmt`, so the beginning of a line shows what the
 """
 import functools
 import re
-from dataclasses import dataclass, replace
+from dataclasses import dataclass
 
 from . import repository
 from .repository import text_of
@@ -13,14 +13,12 @@ VISIBLE = r"(pub(?:\([^)]*\))? )?"
 FUNCTION = re.compile(rf'( *){VISIBLE}(?:const )?(?:unsafe )?(?:extern "C" )?fn (\w+)')
 TYPE = re.compile(rf"{VISIBLE}(struct|enum|trait|type|const|static) (\w+)")
 BLOCK = re.compile(rf"{VISIBLE}(?:unsafe )?(impl|trait)\b")
-# an impl for each type, whose calls are those of the trait
-FOR_EACH_TYPE = re.compile(r"impl<(\w+)\b.*> \w+ for \1\b")
 CLAUSE = re.compile(r"^ +(ensures|requires)\*?(?: (\w+))? \{", re.M)
 GHOST_ITEM = re.compile(r"^    ghost (\w+): \{(.*?)\}(?: by .*)?[,;]$", re.M | re.S)
 # a ghost item that states something; others are data
 STATEMENT = re.compile(r"[≡≢≤<↔]|\b(?:Is|Are|Has|Keeps)[A-Z]")
-INVARIANT = re.compile(r"^    ghost invariant = \{(.*?)\};$", re.M | re.S)
-EXPORT = re.compile(r"^pub use ([\w:]+?)(?:::\{([^}]*)\})?;$", re.M)
+INVARIANT = re.compile(r"^    ghost invariant = \{", re.M)
+EXPORT = re.compile(r"^pub use ([^;]*);$", re.M)
 DECLARED_IN_LIB = re.compile(r"^pub (?:const )?(?:fn|struct|enum|trait|type|const) (\w+)", re.M)
 
 
@@ -41,59 +39,19 @@ class Function:
         """Its path in its crate, as `Core::step`."""
         return f"{self.owner}::{self.name}" if self.owner else self.name
 
-    @property
-    def clauses(self):
-        return self.names_of("ensures")
-
-    @property
-    def preconditions(self):
-        return self.names_of("requires")
-
     def names_of(self, kind):
-        """Returns the names of its clauses of a kind; the name of an unnamed one is empty."""
+        """Returns the names of its clauses of a kind, `ensures` or `requires`; the name of an unnamed one is empty."""
         return [name for found, name in CLAUSE.findall(self.head) if found == kind]
-
-    @property
-    def is_law(self):
-        """Whether it has no arguments and no result, so that its clauses are all that it is."""
-        return not self.owner and bool(self.clauses) and f"fn {self.name}()" in self.head and "->" not in self.head.splitlines()[0]
-
-
-@dataclass(frozen=True)
-class GhostItem:
-    """A ghost item of a type or a trait that states something: its name and its statement."""
-
-    name: str
-    statement: str
 
 
 @dataclass(frozen=True)
 class Type:
-    """A type, trait or constant of a crate, with the ghost items that state something. Its invariant's
-    text and file are empty if it has none."""
+    """A type, trait or constant of a crate, with the names of the ghost items that state something."""
 
     kind: str
     name: str
-    file: str
-    docstring: str
     is_public: bool
     ghost_items: tuple
-    invariant: str = ""
-    invariant_file: str = ""
-
-    @property
-    def is_kept(self):
-        """Whether each of its values keeps something."""
-        return bool(self.invariant) or self.kind == "struct" and bool(self.ghost_items)
-
-
-@dataclass(frozen=True)
-class Contracts:
-    """What a crate is for, in a sentence, and its functions and types by their path in the crate."""
-
-    purpose: str
-    functions: dict
-    types: dict
 
 
 def owner_of(line):
@@ -106,24 +64,13 @@ def owner_of(line):
     return parts[-1] if len(parts) > 1 else ""
 
 
-def sentence_of(text):
-    """Returns the first sentence of a docstring on one line, without the links of `rustdoc`."""
-    paragraph = " ".join(text.strip().split("\n\n")[0].split())
-    plain = re.sub(r"\[(`[^`]+`)\](?:\([^)]*\))?", r"\1", paragraph)
-    sentence = re.match(r"(?:`[^`]*`|[^`])*?(?<![ (][A-Z])[.!?](?= |$)", plain)
-    return sentence[0] if sentence else re.sub(":$", ".", plain)
-
-
-def head_at(lines, place, indent):
+def head_at(lines, place):
     """Returns the lines of a function from its name to its body, or to the semicolon that it has instead of one."""
     depth = 0
     for last in range(place, len(lines)):
-        line = lines[last]
-        if line.lstrip().startswith("//"):
-            continue
+        line = lines[last].split("//")[0].rstrip()
         depth += sum(map(line.count, "({")) - sum(map(line.count, ")}"))
-        is_body = line.startswith((f"{indent}{{", f"{indent})")) or last == place
-        if depth == 1 and is_body and line.endswith("{") or depth == 0 and line.endswith((";", "{}")):
+        if depth == 1 and line.endswith("{") or depth == 0 and line.endswith((";", "{}")):
             return "\n".join(lines[place : last + 1])
     return "\n".join(lines[place:])
 
@@ -138,82 +85,64 @@ def block_at(lines, place):
 
 def items_in(lines):
     """Gives the places of the lines that are no docstring, attribute or comment, each with the docstring and the attributes above."""
-    docstring, attributes = [], ""
+    docstring, attributes = "", ""
     for place, line in enumerate(lines):
         text = line.strip()
-        if attributes.count("[") > attributes.count("]") or text.startswith("#["):
+        if text.startswith("#["):
             attributes += text
         elif text.startswith("///"):
-            docstring.append(text[3:].strip())
+            docstring += f"{text[3:].strip()}\n"
         elif not text.startswith("//"):
-            yield place, "\n".join(docstring), attributes
-            docstring, attributes = [], ""
+            yield place, docstring, attributes
+            docstring, attributes = "", ""
 
 
 @functools.lru_cache(maxsize=None)
 def exported(crate):
-    """Returns the public names of a crate that its lib.rt exports. A name that it passes on from another crate is that crate's."""
+    """Returns the public names of a crate: those that its lib.rt declares or exports."""
     text = text_of(f"crates/{crate}/src/lib.rt", "")
-    names = set(DECLARED_IN_LIB.findall(text))
-    modules = re.findall(r"^mod (\w+);", text, re.M)
-    for path, several in EXPORT.findall(text):
-        if path.split("::")[0] in modules:
-            names.update(re.findall(r"\w+", several) if several else [path.split("::")[-1]])
-    return names
+    return {*DECLARED_IN_LIB.findall(text), *(name for path in EXPORT.findall(text) for name in re.findall(r"\w+", path))}
 
 
 @functools.lru_cache(maxsize=None)
 def items_of(crate, path):
     """Returns the functions and the types of a file of a crate."""
-    return tuple(read_items(crate, path))
+    return tuple(read_items(text_of(path).split("\n"), path, exported(crate)))
 
 
-def read_items(crate, path):
-    lines, public = text_of(path).split("\n"), exported(crate)
+def read_items(lines, path, public):
     owner, is_trait = "", False
     for place, docstring, attributes in items_in(lines):
         line = lines[place]
         function, declared, block = FUNCTION.match(line), TYPE.match(line), BLOCK.match(line)
         if declared:
             visible, kind, name = declared.groups()
-            items = GHOST_ITEM.findall(block_at(lines, place))
-            ghost_items = tuple(GhostItem(item, " ".join(text.split())) for item, text in items if STATEMENT.search(text))
-            yield Type(kind, name, path, docstring, visible == "pub " and name in public, ghost_items)
+            items = tuple(item for item, text in GHOST_ITEM.findall(block_at(lines, place)) if STATEMENT.search(text))
+            yield Type(kind, name, visible == "pub " and name in public, items)
         if block and not line.endswith("}"):
-            owner, is_trait = "" if FOR_EACH_TYPE.match(line) else owner_of(line), block[2] == "trait"
+            owner, is_trait = owner_of(line), block[2] == "trait"
         elif line.startswith("}"):
             owner, is_trait = "", False
         elif function and function[1] == ("    " if owner else ""):
-            indent, visible, name = function.groups()
+            _, visible, name = function.groups()
             is_declared = visible == "pub " or is_trait
             is_public = is_declared and (owner or name) in public or "no_mangle" in attributes
-            yield Function(owner, name, path, docstring, head_at(lines, place, indent), is_declared, is_public)
-
-
-def invariants_of(path):
-    """Returns the invariants that a file of a crate gives types, and the file, by type."""
-    lines = text_of(path).split("\n")
-    blocks = {owner_of(line): block_at(lines, place) for place, line in enumerate(lines) if re.match(r"impl\b.* Model for ", line)}
-    found = {name: INVARIANT.search(block) for name, block in blocks.items()}
-    return {name: {"invariant": " ".join(match[1].split()), "invariant_file": path} for name, match in found.items() if match}
+            yield Function(owner, name, path, docstring, head_at(lines, place), is_declared, is_public)
 
 
 @functools.lru_cache(maxsize=None)
 def contracts_of(crate):
-    """Returns the contracts of a crate."""
-    functions, types, invariants = {}, {}, {}
+    """Returns the functions and the types of a crate by their path in it; of functions of one path a public one."""
     paths = [path for path in repository.files_in(f"crates/{crate}/src") if path.endswith(".rt")]
-    for path in paths:
-        invariants.update(invariants_of(path))
-    for path in paths:
-        for item in items_of(crate, path):
-            if isinstance(item, Function):
-                known = functions.get(item.path)
-                if not known or not known.is_public:
-                    functions[item.path] = item
-            else:
-                types.setdefault(item.name, item)
-    types = {name: replace(item, **invariants.get(name, {})) for name, item in types.items()}
-    main = next((path for path in paths if path.endswith(("src/lib.rt", "src/main.rt"))), "")
-    purpose = "\n".join(line[3:].strip() for line in text_of(main, "").splitlines() if line.startswith("//!"))
-    return Contracts(sentence_of(purpose), functions, types)
+    items = [item for path in paths for item in items_of(crate, path)]
+    types = {item.name: item for item in reversed(items) if isinstance(item, Type)}
+    functions = sorted((item for item in items if isinstance(item, Function)), key=lambda function: function.is_public)
+    return {function.path: function for function in functions}, types
+
+
+@functools.lru_cache(maxsize=None)
+def types_with_invariant(crate):
+    """Returns the names of the types of a crate that have an invariant."""
+    texts = [text_of(path) for path in repository.files_in(f"crates/{crate}/src") if path.endswith(".rt")]
+    models = [found for text in texts for found in re.finditer(r"^impl\b.* Model for .*\n(?:[^}\n].*\n|\n)*", text, re.M)]
+    return {owner_of(found[0].split("\n")[0]) for found in models if INVARIANT.search(found[0])}

@@ -8,8 +8,6 @@ PAGE = "docs/ARCHITECTURE.md"
 ROW = re.compile(r"^\|([^|\n]*)\| *([a-z]\w*) *\|([^|\n]*)\|[^|\n]*\|$", re.M)
 # a colour for each group, in the order of crates.txt
 FILLS = ["#e8e8e8", "#fde2b8", "#cfe3f7", "#d8efd0", "#e6dbf3", "#fbd5d5", "#f2f0c8", "#ffffff"]
-# the word of the table for a crate of the second tier
-SECOND_TIER = "safe"
 GRAPH = """\
 digraph crates {{
   graph [fontname="Helvetica,Arial,sans-serif" fontsize=13 rankdir=LR nodesep=0.18 ranksep=0.5 labeljust=l]
@@ -20,31 +18,17 @@ digraph crates {{
 """
 
 
-def table():
-    """Returns the group, the crate and the tier of each row of the table in docs/ARCHITECTURE.md."""
-    rows, group = [], ""
-    for first, crate, tier in ROW.findall(text_of(PAGE)):
-        group = first.strip() or group
-        rows.append((group, crate, tier.strip()))
-    return rows
-
-
-def groups():
-    return [(title, name) for title, names in repository.groups() for name in names]
-
-
 def check(tally):
-    """Judges whether the table has the crates of crates.txt, in the same groups and in the same order."""
-    expected, rows = groups(), [row[:2] for row in table()]
-    differing = next((pair for pair in zip(expected, rows) if pair[0] != pair[1]), None)
-    if len(expected) != len(rows) and not differing:
-        differing = len(expected), len(rows)
-    tally.judge(not differing, f"{PAGE}: the table differs from crates.txt: {differing and '; '.join(map(str, differing))}")
+    """Judges whether the table in docs/ARCHITECTURE.md has the crates of crates.txt, in the same groups and in the same order."""
+    expected = [[title if name == names[0] else "", name] for title, names in repository.groups() for name in names]
+    rows = [[first.strip(), crate] for first, crate, _ in ROW.findall(text_of(PAGE))]
+    differing = [pair for pair in zip([*expected, None], [*rows, None]) if pair[0] != pair[1]][:1]
+    tally.judge(not differing, f"{PAGE}: the table differs from crates.txt: {differing}")
 
 
 def graph():
-    """Returns the graph: a cluster for each group, a box for each crate, and an arrow to each crate that it depends on."""
-    second_tier = {crate for _, crate, tier in table() if tier == SECOND_TIER}
+    """Returns the graph: a cluster for each group, a box for each crate, dashed in the second tier, and an arrow to each below it."""
+    second_tier = {crate for _, crate, tier in ROW.findall(text_of(PAGE)) if tier.strip() == "safe"}
     lines = []
     for (title, names), fill in zip(repository.groups(), FILLS):
         lines.append(f'  subgraph "cluster {title}" {{\n    label="{title}" style=filled color="#f6f6f6"')
@@ -52,6 +36,5 @@ def graph():
             style = "rounded,filled,dashed" if name in second_tier else "rounded,filled"
             lines.append(f'    {name} [fillcolor="{fill}" style="{style}"]')
         lines.append("  }")
-    for name, crate in repository.crates().items():
-        lines += [f"  {name} -> {lower}" for lower in crate.below]
+    lines += [f"  {name} -> {lower}" for name, crate in repository.crates().items() for lower in crate.below]
     return GRAPH.format(lines="\n".join(lines))

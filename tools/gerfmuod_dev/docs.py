@@ -1,49 +1,47 @@
 """Compares the documents with the code and with each other.
 
-- the list of docs/measurements/out-of-memory.md has each public call that can run out of memory, and no other
+- each relative link of README.md, CONTRIBUTING.md, CHANGELOG.md, bench/README.md and docs leads to a file, and to a heading if it
+  names one; each path of the repository, each subcommand of `tools/dev` and each target of `make` that a document names exists
+- a line has at most 120 columns, except in tables, in code, and with a link; README.md has at most 130 lines
 - each block of code in docs/RUNNING-A-POOL.md and docs/PROVING-A-POOL.md is part of the file that the line above it names
-- each relative link of README.md, CONTRIBUTING.md, CHANGELOG.md, bench/README.md and docs leads to
-  a file, and to a heading if it names one
 - a count in a document, such as `23<!-- files crates/gerfmuod/proofs/**/Proof.antt -->`, is the number of these files
-- each subcommand of `tools/dev` and each target of `make` that a document names exists
-- README.md has at most 130 lines, and none of over 120 columns: only warnings, unless --strict is given
 - the table of docs/ARCHITECTURE.md has the groups of crates.txt, and the plots are drawn from what is stored (`tools/dev plot`)
-- docs/PROVED.md names only calls and clauses that exist
-- the runtime and the library's C code use no atomic operation
+- the contracts, the tests and the calls that documents cite are in the code (`tools/dev proved`)
+- the runtime and the library's C code use no atomic operation: all shared state is behind locks
 
-Prints each difference, and a line for each kind of check. The last line is `N passed, M failed`; the status is 1 if one
-failed.
+Prints each difference. The last line is `N passed, M failed`; the status is 1 if one failed.
 """
 import glob
 import os
 import re
 from urllib.parse import unquote
 
-from . import atomics, crate_map, memory_table, plots, proved, repository
+from . import crate_map, plots, proved, repository
 from .bench import figures
 from .repository import text_of
 from .running import Tally
 
 GUIDE = "docs/RUNNING-A-POOL.md", "docs/PROVING-A-POOL.md"
+# what documents name that is of its day, of the toolchain, or written by a build
+OF_ITS_DAY, ELSEWHERE = "CHANGELOG.md", ("docs/ANSWERS.md", "crates/*/out")
 BLOCK = re.compile(r"(?:`(crates/[^`\n]+)`:\n\n)?```(\w+)\n(.*?\n)```\n", re.S)
 CODE = re.compile(r"^ *```.*?^ *```[^\n]*$|`[^`\n]*`", re.S | re.M)
 LINK = re.compile(r'\]\(<?([^()\s>]+)>?(?:\s+"[^"]*")?\)|^ *\[[^\]\n]+\]: *(\S+)|\b(?:src|srcset|href)="([^"]+)"', re.M)
-ELSEWHERE = re.compile(r"[a-z][a-z0-9+.-]*:|//", re.I)
+URL = re.compile(r"[a-z][a-z0-9+.-]*:|//", re.I)
+# a path of the repository, unless it has NAME or CRATE for any name
+NAMED = re.compile(r"`((?:crates|capi|docs|tools|python|bench)/(?:(?!NAME|CRATE)[\w./*-])+)`", re.A)
 COUNT = re.compile(r"(\d+)<!-- files (\S+) -->")
+GENERATED, FENCED, OTHERS = r"<!-- bench \w+ -->\n.*?<!-- end of bench -->", r"^ *```.*?^ *```[^\n]*$", r"^(?:\||    |[^\n]*\]\()[^\n]*$"
+NOT_PROSE = re.compile(f"{GENERATED}|{FENCED}|{OTHERS}", re.S | re.M)
 MOST_COLUMNS, MOST_LINES = 120, 130
+ATOMIC = re.compile(r"\bsync::atomic\b|\batomic::|\bAtomic[A-Z]\w*|__atomic\w*|__sync_\w+|\b_Atomic\b|\bstdatomic\b|\batomic_\w+")
+COMMENT = re.compile(r"/\*.*?\*/|//[^\n]*", re.S)
 
 
-def check_page(page, tally):
-    """Compares the blocks of a page of the guide with the files that it names."""
-    blocks = [block.groups() for block in BLOCK.finditer(text_of(page))]
-    unknown = 0
-    for path, kind, code in blocks:
-        if not path and kind == "text" or path and code in text_of(path, ""):
-            tally.passes()
-        else:
-            unknown += 1
-            tally.fails(f"{page}: not in {path or 'any file'}: {code.splitlines()[0]}")
-    print(f"{page}: {len(blocks)} blocks, {unknown} of them not in the code")
+def documents():
+    """Returns the paths of the documents of the repository."""
+    paths = [path for folder in ("docs", "docs/measurements") for path in glob.glob(f"{folder}/*.md")]
+    return ["README.md", "CONTRIBUTING.md", "CHANGELOG.md", "bench/README.md", *sorted(paths)]
 
 
 def headings_of(text):
@@ -59,7 +57,7 @@ def headings_of(text):
 def links_of(path):
     """Returns the relative links of a document, each once."""
     links = ["".join(groups) for groups in LINK.findall(CODE.sub("``", text_of(path)))]
-    return [link for link in dict.fromkeys(links) if not ELSEWHERE.match(link)]
+    return [link for link in dict.fromkeys(links) if not URL.match(link)]
 
 
 def exists(path, link):
@@ -71,74 +69,72 @@ def exists(path, link):
     return not heading or not target.endswith(".md") or heading in headings_of(text_of(target))
 
 
-def check_links(tally):
-    links = [(path, link) for path in documents() for link in links_of(path)]
-    dead = [(path, link) for path, link in links if not exists(path, link)]
-    tally.passes(len(links) - len(dead))
-    for path, link in dead:
-        tally.fails(f"{path}: there is no {link}")
-    print(f"{len(documents())} documents: {len(links)} links to places of the repository, {len(dead)} of them dead")
+def dead_links(path):
+    return [link for link in links_of(path) if not exists(path, link)]
 
 
-def documents():
-    """Returns the paths of the documents of the repository."""
-    paths = [path for folder in ("docs", "docs/measurements") for path in glob.glob(f"{folder}/*.md")]
-    return ["README.md", "CONTRIBUTING.md", "CHANGELOG.md", "bench/README.md", *sorted(paths)]
-
-
-def check_counts(tally):
-    """Compares each count of files with the repository."""
-    for page in documents():
-        for number, pattern in COUNT.findall(text_of(page)):
-            files = len(glob.glob(pattern, recursive=True))
-            tally.judge(files == int(number), f"{page}: {pattern} are {files} files, and not {number}")
-
-
-def check_commands(tally, subcommands):
-    """Judges whether each command that a document names exists; CHANGELOG.md also names those of its day."""
+def unknown_names(text, subcommands):
+    """Returns the commands and the paths in a text that do not exist."""
     targets = set(re.findall(r"^([a-z]+):", text_of("Makefile"), re.M))
-    for page in documents():
-        if page != "CHANGELOG.md":
-            text = text_of(page)
-            unknown = set(re.findall(r"tools/dev ([a-z][a-z-]*)", text)) - subcommands
-            unknown |= set(re.findall(r"(?:`|^    )make ([a-z]+)", text, re.M)) - targets
-            tally.judge(not unknown, f"{page}: no such command: {', '.join(sorted(unknown))}")
+    commands = set(re.findall(r"tools/dev ([a-z][a-z-]*)", text)) - subcommands
+    commands |= set(re.findall(r"(?:`|^    )make ([a-z]+)", text, re.M)) - targets
+    paths = {path for path in NAMED.findall(text) if not glob.glob(path)}
+    return sorted({*commands, *paths}.difference(ELSEWHERE))
 
 
-def check_readme(tally, is_strict):
-    lines = text_of("README.md").splitlines()
-    wide = [number for number, line in enumerate(lines, 1) if len(line) > MOST_COLUMNS]
-    faults = [
-        wide and f"{len(wide)} lines over {MOST_COLUMNS} columns, the first is line {wide[0]}",
-        len(lines) > MOST_LINES and f"{len(lines)} lines, of at most {MOST_LINES}",
-    ]
-    for fault in faults:
-        if not fault or is_strict:
-            tally.judge(not fault, f"README.md: {fault}")
-        else:
-            print(f"warning: README.md: {fault}")
+def wide_lines(text):
+    """Returns the numbers of the lines of prose that are too wide."""
+    prose = NOT_PROSE.sub(lambda found: "\n" * found[0].count("\n"), text)
+    return [number for number, line in enumerate(prose.split("\n"), 1) if len(line) > MOST_COLUMNS]
+
+
+def wrong_counts(text):
+    """Returns the counts of files that differ from the repository."""
+    return [pattern for number, pattern in COUNT.findall(text) if len(glob.glob(pattern, recursive=True)) != int(number)]
+
+
+def unknown_blocks(text):
+    """Returns the first lines of the blocks of a page of the guide that are not in the files that it names."""
+    blocks = [block.groups() for block in BLOCK.finditer(text)]
+    return [code.split("\n")[0] for path, kind, code in blocks if (path or kind != "text") and not (path and code in text_of(path, ""))]
+
+
+def check_documents(tally, subcommands):
+    for path in documents():
+        text = text_of(path)
+        faults = {
+            "there is no": dead_links(path),
+            "nothing has the name": [] if path == OF_ITS_DAY else unknown_names(text, subcommands),
+            "another number of files": wrong_counts(text),
+            f"over {MOST_COLUMNS} columns: line": wide_lines(text),
+            "not in the code:": unknown_blocks(text) if path in GUIDE else [],
+        }
+        for fault, places in faults.items():
+            tally.judge(not places, f"{path}: {fault} {', '.join(map(str, places))}")
+    lines = text_of("README.md").count("\n")
+    tally.judge(lines <= MOST_LINES, f"README.md: {lines} lines, of at most {MOST_LINES}")
+    print(f"{len(documents())} documents")
+
+
+def check_atomics(tally):
+    runtime = [path for path in glob.glob("crates/*/src/**/*.rt", recursive=True) if not path.startswith("crates/test_")]
+    library = [path for path in glob.glob("capi/gerfmuod*") if path.endswith((".c", ".h", ".hpp"))]
+    for path in runtime + library:
+        found = [use[0] for use in ATOMIC.finditer(COMMENT.sub("", text_of(path)))]
+        tally.judge(not found, f"{path}: {', '.join(found)}: shared state has to be behind a lock")
+    print(f"{len(runtime)} files of the runtime and {len(library)} of the library's C code: no atomic operation")
 
 
 def arguments(parser):
-    parser.add_argument("--strict", action="store_true", help="the warnings about README.md are faults")
-    parser.add_argument("--calls", action="store_true", help="print the public calls that can run out of memory, and check nothing")
+    del parser
 
 
 def run(options):
     repository.go_to_top()
-    if options.calls:
-        print("\n".join(sorted(memory_table.calls())))
-        return 0
     tally = Tally()
-    memory_table.check(tally)
-    for page in GUIDE:
-        check_page(page, tally)
-    check_links(tally)
-    check_counts(tally)
-    check_commands(tally, set(options.subcommands))
-    check_readme(tally, options.strict)
+    check_documents(tally, set(options.subcommands))
     crate_map.check(tally)
     plots.check(tally, [name for name in plots.PLOTS if name not in figures.PLOTS])
     proved.check(tally)
-    atomics.check(tally)
+    check_atomics(tally)
     return tally.end()

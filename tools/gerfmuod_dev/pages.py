@@ -1,13 +1,12 @@
 """Tries the trace events and the page that `samples draw run` writes, and the times of runs.
 
-Has the program write 40 random runs as events. Each file has to be as the Trace Event Format says (event_format.py); each
-task, message and wave of the trace has to be in it once, and its events have to be those of a second writer
-(trace_events.py). Then the programs run with `--profile FILE`: each file has to have each task of the run once, in time, and
-counters that rise to the numbers of the run (run_profiles.py), and `tools/dev summary` has to find them. If Chromium is
-installed (`tools/page-packages` prints the packages), opens the page of a run of 100,000 events in it, zooms, moves, searches,
-and holds the pointer over a task, a message and a wave, in light and dark colours, and opens the pages of the short runs;
-none may report an error. A viewer of Chromium's DevTools has to find the slices of all files (viewer.py). The last line is
-`N passed, M failed, K skipped`; the status is 1 if one failed.
+Has the program write 40 random runs as events. Each file has to be as the Trace Event Format says (event_format.py), its events have to be
+those of a second writer (trace_events.py), and each task, end of a message and wave of the trace has to have one. Then the programs run
+with `--profile FILE`: each file has to have each task of the run once, in time, and counters that rise to the numbers of the run
+(run_profiles.py), and `tools/dev summary` has to find them. If Chromium is installed (`tools/page-packages` prints the packages), opens
+the page of a run of 100,000 events in it, zooms, moves, searches, and holds the pointer over a task, a message and a wave, in light and
+dark colours, and opens the pages of the short runs; none may report an error. A viewer of Chromium's DevTools has to find the slices of
+all files (viewer.py). The last line is `N passed, M failed, K skipped`; the status is 1 if one failed.
 """
 import collections
 import io
@@ -24,10 +23,11 @@ from .trace_events import events_of
 
 RUNS = 40
 PAGE, EMPTY = "page", "trace 1\nnodes 1\n"
-# a run with events of all kinds, of which faulty ones are made
-SPOILED = "busy-00"
 DATA = re.compile(r'(<script type="application/json" id="events">\n).*?(</script>)', re.S)
 LINES = 100_000
+# the category and the phase of what a line of a trace shows
+SHOWN = {"begin": ("task", "X"), "send": ("message", "s"), "recv": ("message", "f"), "give 0": ("wave", "i")}
+BOX = "(box => [box.left, box.top, box.right, box.bottom])(canvas.getBoundingClientRect())"
 
 
 def traces():
@@ -43,10 +43,8 @@ def traces():
 
 
 def written(texts, folder):
-    """Runs the program: it writes each trace as events, and one as a page, and the times of runs into a folder.
-
-    Returns what it printed of each trace, and the results of all runs.
-    """
+    """Has the program write each trace as events, one as a page, and the times of runs into a folder; returns what it printed of
+    each trace, and the results of all runs."""
     with tempfile.TemporaryDirectory() as cases:
         forms = {**dict.fromkeys(texts, "events"), PAGE: "html"}
         for name, form in forms.items():
@@ -57,46 +55,22 @@ def written(texts, folder):
     return {name: results[name][1] for name in forms if results.get(name, (None,))[0] == 0}, results
 
 
-def things_of(trace):
-    """Counts the tasks that began, the two ends of each message, and the waves of a trace, each with its generation."""
-    things, generation, wave = collections.Counter(), 1, 0
-    for word, *numbers in map(str.split, trace.splitlines()[2:]):
-        if word == "reopen":
-            generation, wave = generation + 1, 0
-        wave += [word, *numbers] == ["give", "0"]
-        found = {"begin": ("X", "task"), "send": ("s", "message"), "recv": ("f", "message"), "give": ("i", "wave")}.get(word)
-        number = {"send": numbers[2:3], "recv": numbers[1:2], "give": [wave] if numbers == ["0"] else []}.get(word, numbers)
-        things.update((*found, generation, int(number[0])) for _ in number[:1] if found)
-    return things
-
-
-def things_in(events):
-    """Counts the same in trace events. A task that runs has its event at the end, in the last generation."""
-    things, generation = collections.Counter(), 1
-    for event in events:
-        category, _, number = event.get("cat", ""), *event["name"].partition(" ")[1:]
-        if category == "generation":
-            generation = int(number)
-        if event["ph"] in "Xsfi" and category in ("task", "message", "wave"):
-            things[event["ph"], category, generation, int(number)] += 1
-    return things
-
-
 def check_events(tally, texts, outputs):
+    """Judges the events of each trace."""
     total = collections.Counter()
     for name, trace in texts.items():
-        found = json.loads(outputs.get(name, "null")) or {"traceEvents": []}
-        things, events = things_of(trace), found["traceEvents"]
-        tally.judge(things == things_in(events) and set(things.values()) <= {1}, f"{name}: not each thing of this trace once: {trace}")
-        expected = events_of(trace)
+        lines = [line if line in SHOWN else line.split()[0] for line in trace.splitlines()]
+        shown = collections.Counter(SHOWN[line] for line in lines if line in SHOWN)
+        found, expected = json.loads(outputs.get(name, "null")) or {"traceEvents": []}, events_of(trace)
+        events = found["traceEvents"]
+        kinds = collections.Counter((event.get("cat"), event["ph"]) for event in events)
         is_same = found.get("otherData") == expected["otherData"] and sorted(map(str, events)) == sorted(map(str, expected["traceEvents"]))
-        tally.judge(is_same, f"{name}: the second writer has other events for this trace: {trace}")
+        is_well = is_same and all(kinds[kind] == shown[kind] for kind in SHOWN.values())
+        tally.judge(is_well, f"{name}: other events than those of the second writer, which are {shown}, for this trace: {trace}")
         faults = event_format.faults(outputs.get(name, ""))
         tally.judge(not faults, f"{name}: not in the Trace Event Format: {faults[:3]}")
-        total.update(category for _, category, _, _ in things)
-    for number, text in enumerate(event_format.spoiled(outputs[SPOILED]) if SPOILED in outputs else ()):
-        tally.judge(event_format.faults(text), f"fault {number} of trace events was not found")
-    print(f"{len(texts)} runs as events: {total['task']} tasks, {total['message']} ends of messages, {total['wave']} waves", flush=True)
+        total += shown
+    print(f"{len(texts)} runs as events: {dict(total)}", flush=True)
 
 
 class Reader:
@@ -104,10 +78,9 @@ class Reader:
 
     def __init__(self, tally, browser):
         self.tally, self.browser = tally, browser
-        box = "(box => [box.left, box.top, box.right, box.bottom])(canvas.getBoundingClientRect())"
-        self.left, self.top, self.right, self.bottom = browser.value(box)
+        left, self.top, right, self.bottom = browser.value(BOX)
         # (64 pixels of the canvas are to the left of the lanes, and 24 to the right)
-        self.middle = (self.left + 64 + self.right - 24) / 2
+        self.middle = (left + 64 + right - 24) / 2
 
     def text(self, name):
         return self.browser.value(f"(part => part.hidden ? '' : part.textContent)(document.getElementById('{name}'))")
@@ -121,6 +94,7 @@ class Reader:
         self.tally.judge(is_well, f"the page: {what}: it shows {self.text('shown')}, and says {self.text('tip')!r}")
 
     def zooms(self, events):
+        """Zooms and moves by the wheel, by keys and by dragging."""
         y, every = (self.top + self.bottom) / 2, (1, events)
         self.expect("all is in view", self.shown() == every)
         self.browser.mouse("mouseWheel", self.middle, y, deltaX=0, deltaY=-1500)
@@ -132,9 +106,8 @@ class Reader:
         self.browser.key("ArrowLeft")
         moved = self.shown()
         self.expect("an arrow moves", moved[0] < wider[0] and moved[1] < wider[1])
-        self.browser.mouse("mousePressed", self.middle, y, button="left", buttons=1)
-        self.browser.mouse("mouseMoved", self.middle - 200, y, button="left", buttons=1)
-        self.browser.mouse("mouseReleased", self.middle - 200, y, button="left")
+        for kind, x in (("Pressed", self.middle), ("Moved", self.middle - 200), ("Released", self.middle - 200)):
+            self.browser.mouse(f"mouse{kind}", x, y, button="left", buttons=int(kind != "Released"))
         self.expect("dragging moves", self.shown()[0] > moved[0])
         self.browser.key("0")
         self.expect("the key 0 shows all", self.shown() == every)
@@ -147,37 +120,33 @@ class Reader:
         self.browser.key("Enter", "\r")
         self.expect(f"search for {query}", self.text("tip") == expected)
         self.browser.key("Escape")
-        for y in range(int(self.top) + 60, int(self.bottom) - 30, 4):
-            for x in (self.middle, *(self.middle + apart for apart in range(-20, 21, 4))):
-                self.browser.call("Input.dispatchMouseEvent", type="mouseMoved", x=x, y=y)
-                if self.text("tip") == expected:
-                    self.tally.passes()
-                    return
-        self.expect(f"a pointer over {query}", False)
+        heights, columns = range(int(self.top) + 60, int(self.bottom) - 30, 4), (0, *range(-20, 21, 4))
+        self.expect(f"a pointer over {query}", any(self.tip_at(self.middle + x, y) == expected for y in heights for x in columns))
+
+    def tip_at(self, x, y):
+        self.browser.call("Input.dispatchMouseEvent", type="mouseMoved", x=x, y=y)
+        return self.text("tip")
 
 
 def texts_of(trace):
-    """Returns queries for a task, a message and a wave in the middle of a trace, and what the page has to say of them."""
-    steps = [line.split() for line in trace.splitlines()[2:]]
-    places = {}
-    for at, step in enumerate(steps, 1):
-        places.setdefault((step[0], step[-1] if step[0] in ("send", "recv") else " ".join(step[1:])), []).append(at)
-    task = next(step[1] for step in steps[len(steps) // 2 :] if step[0] == "begin" and ("supply", step[1]) in places)
-    node, inputs = next((step[1], step[3]) for step in steps if step[0] == "insert" and step[2] == task)
-    supplied, began, done = (places[word, task][-1] for word in ("supply", "begin", "done"))
-    inserted = places["insert", f"{node} {task} {inputs}"][0]
+    """Yields queries for a task, a message and a wave in the middle of a trace, and what the page has to say of them."""
+    lines = trace.splitlines()[2:]
+    steps = [line.split() for line in lines]
+    later, at = steps[len(steps) // 2 :], {line: place for place, line in enumerate(lines, 1)}
+    task = next(step[1] for step in later if step[0] == "begin" and f"supply {step[1]}" in at)
+    node, count = next((step[1], step[3]) for step in steps if step[0] == "insert" and step[2] == task)
     yield f"task {task}", (
-        f"task {task} at node {node}\n{inputs} input{'s' * (inputs != '1')}, inserted at {inserted:,}, ready at {supplied:,}\n"
-        f"ran from {began:,} to {done:,}"
+        f"task {task} at node {node}\n{count} input{'s' * (count != '1')}, inserted at {at[f'insert {node} {task} {count}']:,}, "
+        f"ready at {at[f'supply {task}']:,}\nran from {at[f'begin {task}']:,} to {at[f'done {task}']:,}"
     )
-    _, sender, receiver, message = next(step for step in steps[len(steps) // 2 :] if step[0] == "send")
-    sent, received = places["send", message][0], places["recv", message][0]
-    yield f"message {message}", f"message {message} from node {sender} to node {receiver}\nsent at {sent:,}, received at {received:,}"
-    wave = len(places["give", "0"]) // 2
-    end = places["give", "0"][wave - 1]
-    gives = {step[1]: at for at, step in enumerate(steps[:end], 1) if step[0] == "give"}
-    sent = sum(steps[at][:2] == ["send", node] for node, give in gives.items() for at in range(give))
-    received = sum(steps[at][:2] == ["recv", node] for node, give in gives.items() for at in range(give))
+    send = next(step for step in later if step[0] == "send")
+    _, sender, receiver, message = send
+    places = f"sent at {at[' '.join(send)]:,}, received at {at[f'recv {receiver} {message}']:,}"
+    yield f"message {message}", f"message {message} from node {sender} to node {receiver}\n{places}"
+    ends = [place for place, line in enumerate(lines, 1) if line == "give 0"]
+    wave, end = len(ends) // 2, ends[len(ends) // 2 - 1]
+    gives = {step[1]: place for place, step in enumerate(steps[:end], 1) if step[0] == "give"}
+    sent, received = (sum(step[:2] == [word, node] for node in gives for step in steps[: gives[node]]) for word in ("send", "recv"))
     yield f"wave {wave}", f"wave {wave}: {sent:,} sent, {received:,} received\nended at {end:,}"
 
 

@@ -1,206 +1,140 @@
-"""Writes out/guarantees: which contract each public call has, as the code of crates/ states it.
+"""Checks that what documents cite is in the code: contracts, tests, mutants, and calls without memory. It is part of `tools/dev docs`.
 
-Each crate that has public calls gets a page: its types with what each of their values keeps, its calls with the names of their clauses
-and the first sentence of their docstring, and its laws (theorems as calls without arguments). README.md there lists the pages in the
-order of crates.txt. Prints how many pages it wrote. They are not part of the repository.
+- A path is `crate::Type::name`, `crate::name` or `crate::Type`; each path in README.md and docs/*.md names a call or a type.
+- In docs/PROVED.md a sentence that begins with *By* cites paths. The brackets after a path, or after several with a comma between them,
+  name clauses that each of these has: (`refused`, `kept`), (one clause), (keeps) for what a type keeps, (requires `small`) for a
+  precondition. A path after *private* is one that only its own crate can use; any other is public.
+- After `test_parts` or `test_whole` comes the name of a test of that crate, and after *Mutants: in* and a crate names of its mutants.
+- The last section of docs/measurements/out-of-memory.md has each public call that can run out of memory, and no other: a call whose
+  docstring, type or contract says so, and that returns a `Result` or a refusal.
 
---check writes nothing. It prints each call, type or clause that docs/PROVED.md names and the code does not have, and each such call or
-type that another document names. The last line is `N passed, M failed`; the status is 1 if one failed. `tools/dev docs` checks the same.
+The last line is `N passed, M failed`; the status is 1 if one failed.
 """
-import os
+import glob
 import re
-import shutil
-import textwrap
 
-from . import citations, repository
-from .contracts import contracts_of, sentence_of
+from . import mutant_files, repository
+from .contracts import Function, contracts_of, types_with_invariant
 from .repository import text_of
 from .running import Tally
 
-FOLDER = "out/guarantees"
-COLUMNS = 120
-NOTE = "<!-- Written by `tools/dev proved` from the code of crates/. -->"
-# a definition that an invariant uses, and where a file of code takes definitions from
-DEFINITION = re.compile(r"\b(?:Is|Are|Has|Keeps|Shares)[A-Z]\w*")
-IMPORT = re.compile(r"ghost use Rattle\.(\w+)\.specs\.(\w+)\.\{([^}]*)\};")
-LONGEST_STATEMENT = 100
-INDEX = """\
-# Which contract does a public call have?
-
-{note}
-
-Each public call of the libraries is on the page of its crate, with the names of its clauses. The claims in prose are in
-[PROVED](../../docs/PROVED.md), which cites the same clauses; the definitions that clauses use are in
-[DEFINITIONS](../../docs/DEFINITIONS.md).
-
-## How to read a page
-
-- The link of a call leads to the file that has its contract, next to its signature.
-- Names in brackets are its clauses: `ensures NAME {{ .. }}` states what holds after the call. *One clause* has no name.
-  A call with *no clause* is proved safe and total, and no more.
-- After *requires* are the names of its preconditions, which the prover checks at each call.
-- What *each value keeps* is the invariant of a type: the prover checks it wherever a value is created or changed, and
-  each call may rely on it.
-- A *law* is a theorem, written as a call without arguments and without a result: its clauses are what it states.
-- The sentence after the colon is the first one of the docstring. It may be shorter than the clauses.
-
-## The crates
-
-{crates}
-Programs ({programs}) and tests ({tests}) have no public calls.
-"""
+PAGE, OUT_OF_MEMORY = "docs/PROVED.md", "docs/measurements/out-of-memory.md"
+PATH = re.compile(r"`(\w+)::(\w+(?:::\w+)?)`")
+EVIDENCE = re.compile(r"\bBy\s.*?(?=\n\n|\n *- |\n#|\Z)", re.S)
+# within a sentence of evidence: a path, brackets, the word private, or the end of a part (`the trait T:` too)
+PART = re.compile(r"`(?P<path>\w+::\w+(?:::\w+)?)`|\((?P<brackets>[^()]*)\)|\b(?P<private>private)\b|(?P<end>;|\. |:\s)")
+TEST = re.compile(r"\b(test_\w+)`?,? `([a-z]\w+_\w+)`")
+MUTANTS = re.compile(r"\bMutants?(?::| in) .*?(?=\n\n|\n *- |\n#|\Z)", re.S)
+SAYS_MEMORY = re.compile(r"\b(NoMemory|AllocError|AllocFailed|TextFault|\w*Fault>|no memory for)")
+FALLIBLE = re.compile(r"->[^{]*(Result|Option<Refusal>)")
+# calls of traits of the standard library are not looked for, but this one has a row
+OF_STANDARD_TRAITS = {"tp_graph::Only::clone"}
 
 
-def wrapped(text, indent=""):
-    """Returns a text in lines of at most 120 columns, unless a single link is longer. No line begins with a sign that would make it an
-    item of a list."""
-    joined = re.sub(r" ([-+*]|\d+[.)]) ", "\0\\1 ", text)
-    lines = textwrap.fill(joined, COLUMNS, subsequent_indent=indent, break_long_words=False, break_on_hyphens=False)
-    return lines.replace("\0", " ")
+def item_at(path):
+    """Returns what a path names, or nothing."""
+    crate, _, rest = path.partition("::")
+    functions, types = contracts_of(crate) if crate in repository.crates() else ({}, {})
+    return functions.get(rest) or types.get(rest)
 
 
-def link(name, path):
-    return f"[`{name}`](../../{path})"
+def citations_in(text):
+    """Yields the citations of a sentence of evidence: a path, what the brackets behind it say, and whether it is private."""
+    paths, is_private = [], False
+    for part in [*PART.finditer(text), None]:
+        if part and part["path"]:
+            paths.append((part["path"], is_private))
+        elif part and part["private"]:
+            is_private = True
+        else:
+            brackets = part and part["brackets"]
+            yield from ((path, brackets or "", private) for path, private in paths)
+            paths, is_private = [], is_private and brackets is not None
 
 
-def file_link(path):
-    return link(os.path.basename(path), path)
+def faults_of(path, brackets, is_private):
+    """Returns what is wrong with a citation, a line each."""
+    item = item_at(path)
+    if item is None:
+        return [f"{path} is not in the code"]
+    is_function, kind = isinstance(item, Function), "requires" if re.search(r"\brequires\b|\basks for\b", brackets) else "ensures"
+    known = item.names_of(kind) if is_function else item.ghost_items
+    faults = [f"{path} is {'public' if item.is_public else 'private'}"] if is_private == item.is_public else []
+    faults += [f"{path} has no clause {name}" for name in re.findall(r"`(\w+)`", brackets) if name not in known]
+    if "one clause" in brackets and known != [""]:
+        faults.append(f"{path} has these clauses: {', '.join(name or 'one without a name' for name in known) or 'none'}")
+    if re.search(r"\bkeeps?\b", brackets) and "`" not in brackets:
+        is_kept = not is_function and (item.name in types_with_invariant(path.split("::")[0]) or item.kind == "struct" and known)
+        faults += [] if is_kept else [f"{path} has no invariant"]
+    return faults
 
 
-def quoted(names, unnamed):
-    """Returns names in quotes; a single name that is empty is called as `unnamed` says."""
-    return ", ".join(f"`{name}`" if name else unnamed for name in names)
+def check_contracts(tally):
+    """Judges each citation of PROVED.md, and each path outside of them and in the other documents, where `gerfmuod::` is of C++."""
+    sentences = EVIDENCE.findall(text_of(PAGE))
+    cited = [citation for sentence in sentences for citation in citations_in(sentence)]
+    for citation in cited:
+        faults = faults_of(*citation)
+        tally.judge(not faults, f"{PAGE}: {'; '.join(faults)}")
+    for page in ["README.md", *sorted(glob.glob("docs/*.md"))]:
+        for crate, rest in PATH.findall(text_of(page) if page != PAGE else EVIDENCE.sub("", text_of(page))):
+            if crate in repository.crates() and (crate != "gerfmuod" or page == PAGE):
+                tally.judge(item_at(f"{crate}::{rest}"), f"{page}: {crate}::{rest} is not in the code")
+    print(f"{PAGE}: {len(cited)} citations of contracts")
 
 
-def clauses_of(function):
-    """Returns the names of a call's clauses and of its preconditions."""
-    clauses = quoted(function.clauses, "one clause") or "no clause"
-    preconditions = quoted(function.preconditions, "one condition")
-    return f"{clauses}; requires {preconditions}" if preconditions else clauses
+def check_tests(tally):
+    """Judges whether each test that a document names is in its crate."""
+    for page in sorted(glob.glob("docs/**/*.md", recursive=True)):
+        for crate, name in TEST.findall(" ".join(text_of(page).split())):
+            is_here = any(function.name == name for function in contracts_of(crate)[0].values())
+            tally.judge(is_here, f"{page}: {crate} has no test {name}")
 
 
-def entry_of(function):
-    text = f"- {link(function.path, function.file)} ({clauses_of(function)}): {sentence_of(function.docstring)}"
-    return wrapped(text.rstrip(": "), "  ")
+def check_mutants(tally):
+    """Judges whether each mutant that a document names is one of the crate that is named before it, or of any after `below`."""
+    for page in sorted(glob.glob("docs/**/*.md", recursive=True)):
+        for sentence in MUTANTS.findall(text_of(page)):
+            crates = []
+            for word, name in re.findall(r"\b(\w+)\b|`(\w+)`", sentence):
+                crates = [word] if word in repository.crates() else repository.crates() if word == "below" else crates
+                if name:
+                    is_here = any(name in mutant_files.mutants_of(crate) for crate in crates)
+                    tally.judge(is_here, f"{page}: no mutant {name} in {' '.join(crates)}")
 
 
-def comment_on(name, path):
-    """Returns the first sentence of the comment on a definition, or an empty text; `What a node keeps: ..` is not repeated."""
-    found = re.search(rf"((?:^ *--.*\n)+) *(?:(?:abbrev|opaque|record|data|pub) )+{name}\b", text_of(path, ""), re.M)
-    comment = sentence_of(re.sub(r"^ *-- ?", "", found[1], flags=re.M)) if found else ""
-    comment = re.sub(r"^what [^:]* keeps?\b[^:]*: ", "", comment, flags=re.I).rstrip(".")
-    return comment[:1].lower() + comment[1:]
+def calls_without_memory():
+    """Returns each public call of the libraries that can run out of memory."""
+    libraries = [crate.name for crate in repository.crates().values() if not crate.name.startswith("test_") and not crate.is_program]
+    functions = [(name, function) for name in libraries for function in contracts_of(name)[0].values() if function.is_declared_public]
+    fallible = [(name, function) for name, function in functions if FALLIBLE.search(function.head)]
+    calls = {f"{name}::{function.path}" for name, function in fallible if SAYS_MEMORY.search(function.docstring + function.head)}
+    return calls | OF_STANDARD_TRAITS
 
 
-def described(statement, path):
-    """Returns the definitions that a statement in a file of code uses, each with the first sentence of its comment; or the statement
-    itself, if it uses none and is short; or an empty text."""
-    imports = IMPORT.findall(text_of(path))
-    sources = {name.strip(): f"crates/{crate}/specs/{file}.antt" for crate, file, names in imports for name in names.split(",")}
-    names = [name for name in dict.fromkeys(DEFINITION.findall(statement)) if name in sources]
-    if names:
-        parts = [(link(name, sources[name]), comment_on(name, sources[name])) for name in names]
-        return "; ".join(": ".join(filter(None, part)) for part in parts)
-    return f"`{statement}`" if len(statement) <= LONGEST_STATEMENT else ""
-
-
-def kept_by(declared):
-    """Returns what each value of a type keeps, or each implementation of a trait states, as a sentence; an empty text if nothing."""
-    parts = [f"`{item.name}`: {described(item.statement, declared.file)}".rstrip(": ") for item in declared.ghost_items]
-    if declared.invariant:
-        invariant = described(declared.invariant, declared.invariant_file)
-        parts.append(invariant or f"the invariant in {file_link(declared.invariant_file)}")
-    who = "Each implementation states" if declared.kind == "trait" else "Each value keeps"
-    return f"{who} {'; '.join(parts)}." if parts else ""
-
-
-def section_of(declared, functions):
-    """Returns the lines of the section of a type or a trait."""
-    kind = "Trait" if declared.kind == "trait" else "Type"
-    introduction = f"{kind} in {file_link(declared.file)}. {sentence_of(declared.docstring)}"
-    lines = [f"## `{declared.name}`", "", wrapped(introduction.strip()), ""]
-    if kept_by(declared):
-        lines += [wrapped(kept_by(declared)), ""]
-    return lines + ([*map(entry_of, functions), ""] if functions else [])
-
-
-def public_calls(crate):
-    return [function for function in contracts_of(crate).functions.values() if function.is_public]
-
-
-def page_of(crate):
-    """Returns the text of the page of a crate."""
-    contracts, public = contracts_of(crate), public_calls(crate)
-    lines = [f"# The contracts of `{crate}`", "", NOTE, "", wrapped(contracts.purpose), ""]
-    lines += ["[How to read this page](README.md#how-to-read-a-page)", ""]
-    for declared in sorted(contracts.types.values(), key=lambda declared: declared.name):
-        functions = [function for function in public if function.owner == declared.name]
-        if declared.is_public and (functions or declared.is_kept):
-            lines += section_of(declared, functions)
-    calls = [function for function in public if not function.owner and not function.is_law]
-    laws = [function for function in public if function.is_law]
-    for title, functions in (("Functions", calls), ("Laws", laws)):
-        if functions:
-            lines += [f"## {title}", "", *map(entry_of, functions), ""]
-    return "\n".join(lines[:-1]) + "\n"
-
-
-def counted(count, noun):
-    return f"{count} {noun}{'' if count == 1 else 's'}"
-
-
-def index():
-    """Returns the text of the page that lists the other pages."""
-    lines, without = [], []
-    for title, names in repository.groups():
-        having = [name for name in names if public_calls(name)]
-        without += [name for name in names if name not in having]
-        if having:
-            lines += [f"### {title[0].upper()}{title[1:]}", ""]
-        for name in having:
-            laws = sum(function.is_law for function in public_calls(name))
-            counts = counted(len(public_calls(name)) - laws, "call") + (f", {counted(laws, 'law')}" if laws else "")
-            lines.append(wrapped(f"- [`{name}`]({name}.md) ({counts}): {contracts_of(name).purpose}", "  "))
-        lines += [""] if having else []
-    tests = [name for name in without if name.startswith("test_")]
-    programs = [name for name in without if name not in tests]
-    return INDEX.format(note=NOTE, crates="\n".join(lines), programs=quoted(programs, ""), tests=quoted(tests, ""))
-
-
-def pages():
-    """Returns the text of each page by its path."""
-    crates = [name for name in repository.crates() if public_calls(name)]
-    return {f"{FOLDER}/README.md": index(), **{f"{FOLDER}/{name}.md": page_of(name) for name in crates}}
+def check_memory(tally):
+    section = text_of(OUT_OF_MEMORY).partition("\n## Which test covers which call\n")[2]
+    expected, listed = calls_without_memory(), set(re.findall(r"`((?:tp|pool)_\w+?::[\w:]+)`", section))
+    tally.passes(len(expected & listed))
+    for call in sorted(expected ^ listed):
+        tally.fails(f"{OUT_OF_MEMORY} lacks {call}" if call in expected else f"{OUT_OF_MEMORY} has {call}, which cannot run out")
+    print(f"{OUT_OF_MEMORY}: {len(expected & listed)} calls as in the code")
 
 
 def check(tally):
-    """Compares the names in docs/PROVED.md with the code, and judges whether the pages can be written and name files that exist."""
-    for path, text in pages().items():
-        missing = [link for link in re.findall(r"\]\(\.\./\.\./([^)#]+)", text) if not os.path.exists(link)]
-        tally.judge(not missing, f"{path} names what does not exist: {', '.join(missing)}")
-    citations.check(tally)
-
-
-def write():
-    """Writes the pages, and no others remain."""
-    expected = pages()
-    shutil.rmtree(FOLDER, ignore_errors=True)
-    os.makedirs(FOLDER)
-    for path, text in expected.items():
-        with open(path, "w", encoding="utf-8") as file:
-            file.write(text)
-    print(f"{FOLDER}: wrote {counted(len(expected), 'page')}")
+    check_contracts(tally)
+    check_tests(tally)
+    check_mutants(tally)
+    check_memory(tally)
 
 
 def arguments(parser):
-    parser.add_argument("--check", action="store_true", help="write nothing: compare docs/PROVED.md with the code")
+    del parser
 
 
 def run(options):
+    del options
     repository.go_to_top()
-    if not options.check:
-        write()
-        return 0
     tally = Tally()
     check(tally)
     return tally.end()

@@ -4,13 +4,13 @@ A function is proved by the contracts of what it calls, not by their bodies. So 
 body of another function, and none of these functions calls another one, what the prover refuses in a function is due to
 the mutant that is there. A mutant that survives in its own function needs a check of its own.
 """
-import contextlib
 import re
 import subprocess
 from dataclasses import dataclass
 
 from .build import renew
 from .repository import text_of
+from .running import write
 
 # what is lost if a check with all of them does not compile
 MOST = 14
@@ -33,18 +33,9 @@ class Body:
     text: str
 
 
-@dataclass(frozen=True, order=True)
-class Edit:
-    """A change of a text: where the old text begins, the old text, and the new one."""
-
-    start: int
-    old: str
-    new: str
-
-
 @dataclass(frozen=True)
 class PlacedMutant:
-    """A mutant of one function: its name, the function, and its edits."""
+    """A mutant of one function: its name, the function, and its edits: where the old text begins, the old text, and the new one."""
 
     name: str
     body: Body
@@ -52,31 +43,28 @@ class PlacedMutant:
 
 
 def bodies_in(file, text):
-    """Returns the bodies of the functions of a file that has the layout of `rt fmt`."""
-    lines, found = text.split("\n"), []
+    """Yields the bodies of the functions of a file that has the layout of `rt fmt`."""
+    lines = text.split("\n")
     for number, line in enumerate(lines):
         head = HEAD.match(line)
         if not head or line.endswith(("}", ";")):
             continue
         last = next((row for row in range(number, len(lines)) if lines[row] == f"{head[1]}}}"), None)
-        if last is None:
-            continue
-        opening = number if line.endswith("{") else last
-        first = next((row for row in range(number, last) if lines[row] == f"{head[1]}{{"), opening)
-        found.append(Body(file, head[2], number, first + 1, last - 1, "\n".join(lines[number + 1 : last])))
-    return found
+        if last is not None:
+            opening = number if line.endswith("{") else last
+            first = next((row for row in range(number, last) if lines[row] == f"{head[1]}{{"), opening)
+            yield Body(file, head[2], number, first + 1, last - 1, "\n".join(lines[number + 1 : last]))
 
 
 def place(mutant, crate):
     """Returns a mutant with the function that it changes, or nothing if it changes more than the body of one function."""
     file = mutant.changes[0].file
-    if not file.startswith("src/") or any(change.file != file for change in mutant.changes):
-        return None
     text = text_of(f"crates/{crate}/{file}", "")
-    if not all(text.count(change.old) == 1 for change in mutant.changes):
+    is_in_code = file.startswith("src/") and all(change.file == file for change in mutant.changes)
+    if not is_in_code or not all(text.count(change.old) == 1 for change in mutant.changes):
         return None
-    edits = tuple(Edit(text.index(change.old), change.old, change.new) for change in mutant.changes)
-    lines = [text.count("\n", 0, edit.start) for edit in edits]
+    edits = tuple((text.index(change.old), change.old, change.new) for change in mutant.changes)
+    lines = [text.count("\n", 0, start) for start, _, _ in edits]
     inside = [body for body in bodies_in(file, text) if all(body.first <= line <= body.last for line in lines)]
     return PlacedMutant(mutant.name, inside[-1], edits) if inside else None
 
@@ -92,38 +80,21 @@ def groups_of(mutants):
     groups = []
     for mutant in mutants:
         fits = (group for group in groups if len(group) < MOST and all(are_apart(mutant.body, other.body) for other in group))
-        group = next(fits, None)
-        if group is None:
-            groups.append([mutant])
-        else:
-            group.append(mutant)
+        group = next(fits, [])
+        groups += [] if group else [group]
+        group.append(mutant)
     return groups
 
 
-def edited(text, edits):
-    """Returns a text with these edits."""
-    for edit in sorted(edits, reverse=True):
-        text = text[: edit.start] + edit.new + text[edit.start + len(edit.old) :]
-    return text
-
-
-@contextlib.contextmanager
-def changed(folder, group):
-    """Applies the mutants of a group to a copy of the crate, and restores it."""
-    originals = {file: text_of(f"{folder}/{file}") for file in {mutant.body.file for mutant in group}}
-    try:
-        for file, text in originals.items():
-            edits = [edit for mutant in group if mutant.body.file == file for edit in mutant.edits]
-            write(f"{folder}/{file}", edited(text, edits))
-        yield
-    finally:
-        for file, text in originals.items():
-            write(f"{folder}/{file}", text)
-
-
-def write(path, text):
-    with open(path, "w", encoding="utf-8") as file:
-        file.write(text)
+def apply(folder, group):
+    """Applies the mutants of a group to a copy of the crate; returns the texts before, by their paths."""
+    originals = {mutant.body.file: text_of(f"{folder}/{mutant.body.file}") for mutant in group}
+    for file, text in originals.items():
+        edits = [edit for mutant in group if mutant.body.file == file for edit in mutant.edits]
+        for start, old, new in sorted(edits, reverse=True):
+            text = text[:start] + new + text[start + len(old) :]
+        write(f"{folder}/{file}", text)
+    return originals
 
 
 def is_in(error, mutant):
@@ -140,9 +111,13 @@ def try_group(crate, room, proved, group):
     first error there. `proved` is what the check of the crate without mutants left."""
     folder = f"{room}/crates/{crate}"
     renew(proved, f"{folder}/out/incremental")
-    with changed(folder, group):
+    originals = apply(folder, group)
+    try:
         streams = {"stdin": subprocess.DEVNULL, "stdout": subprocess.PIPE, "stderr": subprocess.STDOUT}
         result = subprocess.run(["rt", "check", "--jobs", "1"], cwd=folder, text=True, errors="replace", **streams)
+    finally:
+        for file, text in originals.items():
+            write(f"{folder}/{file}", text)
     lines = result.stdout.splitlines()
     if result.returncode != 1 or not any(line.startswith("logic=not-proved") for line in lines):
         return {}

@@ -7,20 +7,19 @@ import re
 from .repository import text_of
 
 PLACE = "crates/gerfmuod/src/exports.rt"
-NUMBER = re.compile(r"const VERSION: u32 = (\d+);")
 # the sources that repeat the version, as the number that the library returns or as a text
 REPEATED = (
-    ("capi/gerfmuod.h", re.compile(r"#define GERFMUOD_VERSION (\d+)u")),
-    ("capi/gerfmuod.h", re.compile(r"/\* ([\d.]+)\. gerfmuod_version\(\)")),
-    (PLACE, re.compile(r"The version of the library, ([\d.]+):")),
-    ("crates/tp_shell/src/options.rt", re.compile(r'static VERSION: &str = "([^"]*)"')),
-    ("python/pyproject.toml", re.compile(r'^version = "([^"]*)"', re.M)),
+    ("capi/gerfmuod.h", r"#define GERFMUOD_VERSION (\d+)u"),
+    ("capi/gerfmuod.h", r"/\* ([\d.]+)\. gerfmuod_version\(\)"),
+    (PLACE, r"The version of the library, ([\d.]+):"),
+    ("crates/tp_shell/src/options.rt", r'static VERSION: &str = "([^"]*)"'),
+    ("python/pyproject.toml", r'(?m)^version = "([^"]*)"'),
 )
 
 
 def number():
     """Returns 10,000 x major + 100 x minor + patch."""
-    return int(NUMBER.search(text_of(PLACE))[1])
+    return int(re.search(r"const VERSION: u32 = (\d+);", text_of(PLACE))[1])
 
 
 def parts():
@@ -30,10 +29,11 @@ def parts():
 
 def version():
     """Returns the version as a text, such as 0.1.0."""
-    return ".".join(str(part) for part in parts())
+    return ".".join(map(str, parts()))
 
 
-def differing():
-    """Returns the paths of the sources that repeat no version, or another one."""
-    allowed = ([str(number())], [version()])
-    return [path for path, pattern in REPEATED if pattern.findall(text_of(path)) not in allowed]
+def check(tally):
+    """Judges whether each source that repeats the version has this one."""
+    for path, pattern in REPEATED:
+        found = re.findall(pattern, text_of(path))
+        tally.judge(found in ([str(number())], [version()]), f"{path} has the version {found}, and {PLACE} {version()}")

@@ -7,7 +7,7 @@ followed to what they name; bodies and private fields are not. What is reached b
 import functools
 import os
 import re
-from dataclasses import dataclass
+from dataclasses import dataclass, replace
 
 from . import repository
 from .contracts import TYPE, Function, block_at, contracts_of, items_of, owner_of
@@ -22,6 +22,7 @@ DECLARATION = re.compile(r"(?:pub(?:\([^)]*\))? )?(?:struct|enum|trait|type|cons
 # what an `impl` says of its type
 GHOST_VALUE = re.compile(r"^    ghost \w+ = \{.*?\};$", re.M | re.S)
 # a field of a struct that other crates cannot use
+STRUCT = re.compile(r"(?:pub(?:\([^)]*\))? )?struct ")
 PRIVATE_FIELD = re.compile(r"^    (?!pub |ghost )\w+: .*,\n", re.M)
 
 
@@ -31,9 +32,12 @@ class Part:
     code declares under a name, or all that it declares if the name is empty, and `interface` for the declaration and the contracts."""
 
     kind: str
-    crate: str
     path: str
     name: str = ""
+
+    @property
+    def crate(self):
+        return self.path.split("/")[1]
 
 
 @functools.lru_cache(maxsize=None)
@@ -60,49 +64,34 @@ def blocks_in(path):
 def files_with(crate, name):
     """Returns the files of a crate that declare a type or a call of a name, or implement the type, as a tuple. A name that its lib.rt
     passes on from another crate is looked up there."""
-    contracts = contracts_of(crate)
-    files = {function.file for function in contracts.functions.values() if name == (function.owner or function.name)}
+    files = {function.file for function in contracts_of(crate)[0].values() if name == (function.owner or function.name)}
     files.update(path for path in repository.files_in(f"crates/{crate}/src") if any(name == declared for declared, _ in blocks_in(path)))
     exports = IMPORT.findall(text_of(f"crates/{crate}/src/lib.rt", ""))
     others = [other for other, several, single in exports if known(other) and name in listed(several, single)]
     return tuple(sorted(files.union(*(files_with(other, name) for other in others if other != crate))))
 
 
-def without_private_fields(block):
-    declared = TYPE.match(block)
-    return PRIVATE_FIELD.sub("", block) if declared and declared[2] == "struct" else block
+def interfaces(crate, names):
+    """Returns the interfaces of these names of a crate, as pairs of a name and a part."""
+    return [(name, Part("interface", path, name)) for name in names if known(crate) for path in files_with(crate, name)]
 
 
-def crate_of(path):
-    return path.split("/")[1]
-
-
-def interfaces(crate, name):
-    return [Part("interface", crate_of(path), path, name) for path in files_with(crate, name)]
-
-
-def declarations(crate, parts, names):
-    """Returns what `Rattle.CRATE.specs.declared.PARTS.{NAMES}` declares."""
-    paths = [f"crates/{crate}/src/{'/'.join(parts[:count])}.rt" for count in range(len(parts), 0, -1)]
-    paths = [path for path in paths if os.path.exists(path)][:1] or sorted({path for part in parts for path in files_with(crate, part)})
-    found = [
-        Part("declaration", crate_of(path), path, name)
-        for path in paths
-        for name in dict.fromkeys(name for name, _ in blocks_in(path))
-        if name in parts or name in names
-    ]
-    return found or [Part("declaration", crate_of(path), path) for path in paths]
+def first_of(crate, folder, parts, end):
+    """Returns the path of the file that the first of these parts of a name lead to, as a list, which may be empty."""
+    paths = [f"crates/{crate}/{folder}/{'/'.join(parts[:count])}{end}" for count in range(len(parts), 0, -1)]
+    return [path for path in paths if os.path.exists(path)][:1]
 
 
 @functools.lru_cache(maxsize=None)
 def definitions(crate, file, names):
     """Returns what `Rattle.CRATE.specs.FILE.{NAMES}` is, as a list. A fault says that there is no such thing."""
-    parts = file.split(".")
-    if parts[0] in ("declared", "contracts"):
-        found = declarations(crate, parts[1:], names)
+    first, *parts = file.split(".")
+    if first not in ("declared", "contracts"):
+        found = [Part("definitions", path) for path in first_of(crate, "specs", [first, *parts], ".antt")]
     else:
-        paths = [f"crates/{crate}/specs/{'/'.join(parts[:count])}.antt" for count in range(len(parts), 0, -1)]
-        found = [Part("definitions", crate, path) for path in paths if os.path.exists(path)][:1]
+        paths = first_of(crate, "src", parts, ".rt") or sorted({path for part in parts for path in files_with(crate, part)})
+        declared = [(path, name) for path in paths for name, _ in blocks_in(path) if name in parts or name in names]
+        found = [Part("declaration", *pair) for pair in dict.fromkeys(declared)] or [Part("declaration", path) for path in paths]
     if not found:
         raise Fault(f"Rattle.{crate}.specs.{file} is imported, and is in no file")
     return found
@@ -113,15 +102,14 @@ def ghost_imports_in(text):
     found = []
     for crate, file, several, alias in GHOST_IMPORT.findall(text):
         names = listed(several, alias or file.split(".")[-1])
-        found += [(name, part) for name in names for part in (definitions(crate, file, (name,)) if known(crate) else [])]
+        found += [(name, part) for name in names if known(crate) for part in definitions(crate, file, (name,))]
     rest = GHOST_IMPORT.sub("", text)
     return found + [("", part) for crate, file in GHOST_PATH.findall(rest) if known(crate) for part in definitions(crate, file, ())]
 
 
 def paths_in(text):
     """Returns the interfaces that the paths `CRATE::NAME` in a text name."""
-    found = [(crate, name) for crate, several, single in PATH.findall(text) if known(crate) for name in listed(several, single)]
-    return [part for crate, name in found for part in interfaces(crate, name)]
+    return [part for crate, several, single in PATH.findall(text) for _, part in interfaces(crate, listed(several, single))]
 
 
 @functools.lru_cache(maxsize=None)
@@ -129,17 +117,21 @@ def imports_of(path):
     """Returns what a file of code imports, as pairs of a name and a part."""
     text, found = text_of(path), []
     for first, several, single in IMPORT.findall(text):
-        crate = crate_of(path) if first in ("crate", "super", "self") else first
-        found += [(name, part) for name in listed(several, single) if known(crate) for part in interfaces(crate, name)]
+        crate = path.split("/")[1] if first in ("crate", "super", "self") else first
+        found += interfaces(crate, listed(several, single))
     return ghost_imports_in(text) + found
+
+
+def declared_in(part):
+    """Returns what a part of a file of code declares, without private fields if it is an interface."""
+    texts = [text for name, text in blocks_in(part.path) if part.name in (name, "")]
+    is_open = part.kind == "declaration"
+    return [text if is_open or not STRUCT.match(text) else PRIVATE_FIELD.sub("", text) for text in texts]
 
 
 def text_of_part(part):
     """Returns the text of definitions or of declarations; the contracts of an interface are not part of it."""
-    if part.kind == "definitions":
-        return text_of(part.path)
-    texts = [text for name, text in blocks_in(part.path) if part.name in (name, "")]
-    return "\n".join(texts if part.kind == "declaration" else map(without_private_fields, texts))
+    return text_of(part.path) if part.kind == "definitions" else "\n".join(declared_in(part))
 
 
 @functools.lru_cache(maxsize=None)
@@ -147,7 +139,7 @@ def parts_named_in(part):
     """Returns what a part of a file names, in lower crates and in its own."""
     if part.kind == "definitions":
         return [named for _, named in ghost_imports_in(text_of(part.path))]
-    texts = [without_private_fields(text) for name, text in blocks_in(part.path) if part.name in (name, "")]
+    texts = declared_in(replace(part, kind="interface"))
     if part.kind == "interface":
         functions = [item for item in items_of(part.crate, part.path) if isinstance(item, Function) and item.is_declared_public]
         texts += [function.head for function in functions if part.name == (function.owner or function.name)]
@@ -159,9 +151,8 @@ def parts_named_in(part):
 
 def definitions_seen(crate):
     """Returns the parts of files of lower crates that a crate can see and that define or declare something, in a fixed order."""
-    paths = [path for folder in ("src", "specs", "proofs") for path in repository.files_in(f"crates/{crate}/{folder}")]
-    texts = [text_of(path) for path in paths]
-    left = [part for text in texts for _, part in ghost_imports_in(text)] + [part for text in texts for part in paths_in(text)]
+    paths = [path for folder in repository.SOURCES for path in repository.files_in(f"crates/{crate}/{folder}")]
+    left = [part for text in map(text_of, paths) for part in [*(named for _, named in ghost_imports_in(text)), *paths_in(text)]]
     found = set()
     while left:
         part = left.pop()
