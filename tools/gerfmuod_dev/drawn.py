@@ -66,7 +66,7 @@ def draw_cholesky(library_folder):
         if not any(dag_programs.succeeds(build.command(way, path)) for way in ways):
             return False
         for _ in range(RUNS):
-            command = [path, "--profile", file, str(ORDER), str(TILE), "1", f"1x{THREADS}"]
+            command = [path, "--profile", file, str(ORDER), str(TILE), "1", str(THREADS)]
             if running.run(command, env={**os.environ, "OPENBLAS_NUM_THREADS": "1"}).status:
                 return False
             texts.append(text_of(file))
