@@ -101,6 +101,15 @@ static void check_refusals(void) {
     check_refusal("record after a stop", gerfmuod_team_record(own, 9), GERFMUOD_GRAPH_STOPPED);
     gerfmuod_team_close(own);
 
+    for (int is_started = 0; is_started < 2; is_started++) { /* a run that is not started, and one that a fault ends */
+        own = team_with(9, 1);
+        if (is_started) check_ok("start", gerfmuod_team_start(own, 1));
+        check_refusal("a task that does not run", gerfmuod_team_turn(own, 0).refused, GERFMUOD_GRAPH_WRONG_LIFE);
+        if (is_started) free(text_of(own, gerfmuod_team_profile));
+        else check_refusal("profile without a run", gerfmuod_team_profile(own, stdout), GERFMUOD_GRAPH_WRONG_LIFE);
+        gerfmuod_team_close(own);
+    }
+
     team = team_with(9, 0);
     check_ok("no more recording", gerfmuod_team_record(team, 0));
     check_ok("run", gerfmuod_team_run(team, 1, nothing, NULL));
