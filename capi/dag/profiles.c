@@ -121,6 +121,7 @@ static void check_streams(void) {
     gerfmuod_team *team = team_with(MANY, MANY);
     check_ok("run", gerfmuod_team_run(team, 1, nothing, NULL));
     FILE *full = fopen("/dev/full", "w"), *reading = fopen("/dev/null", "r");
+    if (full) check_refusal("a short text", gerfmuod_team_summary(team, full), GERFMUOD_TEAM_NOT_WRITTEN), clearerr(full);
     if (full) check_refusal("a full disk", gerfmuod_team_profile(team, full), GERFMUOD_TEAM_NOT_WRITTEN);
     if (reading) check_refusal("a stream to read", gerfmuod_team_summary(team, reading), GERFMUOD_TEAM_NOT_WRITTEN);
     if (full) fclose(full);
