@@ -189,6 +189,23 @@ static void check_threads(void) {
     gerfmuod_team_close(team);
 }
 
+/* A turn that waits reads the clock as it begins, as it is first told to wait, and as it ends, however often it polls. */
+static void check_wait(void) {
+    pthread_t waiting;
+    gerfmuod_team *team = team_with(MANY, 0);
+    uint64_t before = readings, of_start = 8;
+    if (pthread_create(&waiting, NULL, turns, team)) exit(3);
+    while (gerfmuod_team_again(team) != GERFMUOD_GRAPH_RUNNING) sleep_for(100000);
+    sleep_for(10000000);
+    check_ok("start", gerfmuod_team_start(team, 1));
+    pthread_join(waiting, NULL);
+    check("three readings", readings == before + of_start + 3);
+    char *text = text_of(team, gerfmuod_team_profile);
+    check("one wait", count_of(text, "\"cat\":\"wait\"") == 1);
+    free(text);
+    gerfmuod_team_close(team);
+}
+
 /* A body that runs another team, which records too; a body that fails; and a second run with other threads. */
 static void check_teams(void) {
     gerfmuod_team *outer = team_with(MANY, 1), *inner = team_with(MANY, TASKS);
@@ -223,6 +240,7 @@ int main(void) {
     for (size_t i = 0; i < sizeof rings / sizeof *rings; i++) check_full_ring(rings[i]);
     check_clock();
     check_threads();
+    check_wait();
     check_teams();
     return print_checks();
 }
