@@ -101,6 +101,15 @@ static void check_refusals(void) {
     check_refusal("record after a stop", gerfmuod_team_record(own, 9), GERFMUOD_GRAPH_STOPPED);
     gerfmuod_team_close(own);
 
+    for (int is_started = 0; is_started < 2; is_started++) { /* a run that is not started, and one that a fault ends */
+        own = team_with(9, 1);
+        if (is_started) check_ok("start", gerfmuod_team_start(own, 1));
+        check_refusal("a task that does not run", gerfmuod_team_turn(own, 0).refused, GERFMUOD_GRAPH_WRONG_LIFE);
+        if (is_started) free(text_of(own, gerfmuod_team_profile));
+        else check_refusal("profile without a run", gerfmuod_team_profile(own, stdout), GERFMUOD_GRAPH_WRONG_LIFE);
+        gerfmuod_team_close(own);
+    }
+
     team = team_with(9, 0);
     check_ok("no more recording", gerfmuod_team_record(team, 0));
     check_ok("run", gerfmuod_team_run(team, 1, nothing, NULL));
@@ -112,6 +121,7 @@ static void check_streams(void) {
     gerfmuod_team *team = team_with(MANY, MANY);
     check_ok("run", gerfmuod_team_run(team, 1, nothing, NULL));
     FILE *full = fopen("/dev/full", "w"), *reading = fopen("/dev/null", "r");
+    if (full) check_refusal("a short text", gerfmuod_team_summary(team, full), GERFMUOD_TEAM_NOT_WRITTEN), clearerr(full);
     if (full) check_refusal("a full disk", gerfmuod_team_profile(team, full), GERFMUOD_TEAM_NOT_WRITTEN);
     if (reading) check_refusal("a stream to read", gerfmuod_team_summary(team, reading), GERFMUOD_TEAM_NOT_WRITTEN);
     if (full) fclose(full);
@@ -179,6 +189,23 @@ static void check_threads(void) {
     gerfmuod_team_close(team);
 }
 
+/* A turn that waits reads the clock as it begins, as it is first told to wait, and as it ends, however often it polls. */
+static void check_wait(void) {
+    pthread_t waiting;
+    gerfmuod_team *team = team_with(MANY, 0);
+    uint64_t before = readings, of_start = 8;
+    if (pthread_create(&waiting, NULL, turns, team)) exit(3);
+    while (gerfmuod_team_again(team) != GERFMUOD_GRAPH_RUNNING) sleep_for(100000);
+    sleep_for(10000000);
+    check_ok("start", gerfmuod_team_start(team, 1));
+    pthread_join(waiting, NULL);
+    check("three readings", readings == before + of_start + 3);
+    char *text = text_of(team, gerfmuod_team_profile);
+    check("one wait", count_of(text, "\"cat\":\"wait\"") == 1);
+    free(text);
+    gerfmuod_team_close(team);
+}
+
 /* A body that runs another team, which records too; a body that fails; and a second run with other threads. */
 static void check_teams(void) {
     gerfmuod_team *outer = team_with(MANY, 1), *inner = team_with(MANY, TASKS);
@@ -213,6 +240,7 @@ int main(void) {
     for (size_t i = 0; i < sizeof rings / sizeof *rings; i++) check_full_ring(rings[i]);
     check_clock();
     check_threads();
+    check_wait();
     check_teams();
     return print_checks();
 }
