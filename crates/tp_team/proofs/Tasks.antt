@@ -87,6 +87,7 @@ and_both false b h k = cc
 pub finished_test : (a : State) (r : Bool) → r ≡ (a.pool.started && is_over a.pool)
     → (IsTrue r → HasFinished a) × (HasFinished a → IsTrue r)
 finished_test a r e = (
-  λ h. (let both = and_parts a.pool.started _ (sym e ∙ h) in record { started = both.0; over = all_done a.pool.tasks (zero_test _ both.1) }),
+  λ h. (let both = and_parts a.pool.started _ (sym e ∙ h) in
+      record { started = both.0; over = all_done a.pool.tasks (zero_test _ both.1) }),
   λ h. e ∙ and_both a.pool.started _ h.started (is_zero _ (none_unfinished a.pool.tasks h.over)),
 )
