@@ -67,7 +67,7 @@ enum gerfmuod_graph_refusal {
     GERFMUOD_GRAPH_NO_TASK = 4,       /* there is no such task, or an input is not lower than its task */
     GERFMUOD_GRAPH_WRONG_LIFE = 5,    /* the task, or the graph, is not in the state that the call needs */
     GERFMUOD_GRAPH_ENDED = 15,        /* all tasks of the run are done */
-    GERFMUOD_GRAPH_HISTORY_FULL = 16, /* a number would be above its limit, which is in `number` of the result */
+    GERFMUOD_GRAPH_HISTORY_FULL = 16, /* a number would be above its limit */
     GERFMUOD_GRAPH_NO_MEMORY = 17,    /* an allocation failed: the call may be repeated */
     GERFMUOD_GRAPH_NO_POOL = 24,      /* the graph is not open */
     GERFMUOD_GRAPH_BAD_SPEC = 26,     /* there is no such call or class, or the arrays do not describe a graph */
@@ -94,7 +94,7 @@ enum gerfmuod_graph_next {
 typedef struct gerfmuod_graph_answer {
     uint32_t refused; /* GERFMUOD_GRAPH_OK, or why the call was refused */
     uint32_t next;    /* an enum gerfmuod_graph_next, or as the call says */
-    uint32_t number;  /* a task or a count, as the call says; if the refusal is HISTORY_FULL, the limit; else 0 */
+    uint32_t number;  /* as the call says; if another call than a turn or describe is refused as HISTORY_FULL, the limit; else 0 */
     uint32_t signals; /* how many sleeping threads to signal before the mutex is unlocked */
 } gerfmuod_graph_answer;
 
