@@ -1,233 +1,250 @@
-//! The pool of tasks that a caller runs, call by call: an input that is sent, one from outside, tasks that a running task adds.
+//! The pool of tasks that a caller runs, against a plain model: random calls, and after each call the refusal or the task that was
+//! returned, and the numbers of tasks.
 
-use tp_base::{MAX_STEPS, NodeId, Refusal, Step, TaskId};
-use tp_dag::{MAX_INPUTS, MAX_TASKS, Next, Pool};
+use std::alloc::Global;
+use tp_base::{MAX_STEPS, Refusal};
+use tp_dag::{Next, Pool};
 
-/// A call of `Pool`.
+/// So many tasks the model has at most.
+const MOST: u32 = 12;
+
+/// A call of `Pool`; a spawned task reads two tasks.
 #[derive(Clone, Copy, Debug, PartialEq, Eq)]
 enum Call {
-    Task(u32, u32),
+    Task(u32),
+    Spawn(u32, u32, u32, u32),
     Input(u32),
     Outside(u32),
     Release(u32),
     Start,
-    Next(u32),
-    Done(u32, u32),
+    Next,
+    Done(u32),
     Again,
 }
 
-/// What a call returns: of `next` the task to be run, or one of these. The end has the number of the wave behind it: the pool had ended
-/// when its first wave ended.
-type Answer = Result<u32, Refusal>;
+/// Of each task its class, for how many inputs from outside it waits, and bits of the tasks that it reads; and bits of those that were
+/// dispatched, and that are done.
+#[derive(Clone, Copy, Debug, PartialEq, Eq)]
+struct Model {
+    started: bool,
+    grown: bool,
+    count: u32,
+    tasks: [(u32, u32, u32); 12],
+    begun: u32,
+    done: u32,
+}
 
-const WAIT: Answer = Ok(100);
+const EMPTY: Model = Model {
+    started: false,
+    grown: false,
+    count: 0,
+    tasks: [(0, 0, 0); 12],
+    begun: 0,
+    done: 0,
+};
 
-const FINISHED: Answer = Ok(201);
+fn bit(task: u32) -> u32 {
+    1u32.checked_shl(task).unwrap_or(0)
+}
 
-type Row = (Call, Answer);
+fn has(bits: u32, task: u32) -> bool {
+    bits & bit(task) != 0
+}
 
-fn of_unit(returned: Result<(), Refusal>) -> Answer {
-    match returned {
-        Ok(()) => Ok(0),
-        Err(refusal) => Err(refusal),
+fn refuse(missing: bool, wrong: bool) -> Option<Refusal> {
+    match (missing, wrong) {
+        (true, _) => Some(Refusal::NoTask),
+        (_, true) => Some(Refusal::WrongLife),
+        _ => None,
     }
 }
 
-fn of_next(returned: Result<Next, Refusal>) -> Answer {
-    match returned {
-        Ok(Next::Run(task)) => Ok(task),
-        Ok(Next::Wait) => WAIT,
-        Ok(Next::Finished(wave)) => Ok(wave.saturating_add(200)),
-        Err(refusal) => Err(refusal),
+impl Model {
+    fn at(&self, task: u32) -> (u32, u32, u32) {
+        self.tasks.get(task as usize).copied().unwrap_or((0, 0, 0))
     }
-}
 
-fn returned(pool: &mut Pool, what: Call) -> Answer {
-    match what {
-        Call::Task(node, class) => pool.task(node, class),
-        Call::Input(source) => of_unit(pool.input(source)),
-        Call::Outside(task) => of_unit(pool.outside(task)),
-        Call::Release(task) => pool.release(task),
-        Call::Start => of_unit(pool.start()),
-        Call::Next(node) => of_next(pool.next(node)),
-        Call::Done(node, task) => pool.done(node, task),
-        Call::Again => of_unit(pool.again()),
-    }
-}
-
-/// The first row whose call returns something else, and what it returns.
-fn first_wrong(pool: &mut Pool, rows: &[Row]) -> Option<Row> {
-    for (what, answer) in rows {
-        let result = returned(pool, *what);
-        if result != *answer {
-            return Some((*what, result));
+    fn put(&mut self, task: u32, class: u32, outside: u32, reads: u32) {
+        if let Some(place) = self.tasks.get_mut(task as usize) {
+            *place = (class, outside, reads);
         }
     }
-    None
-}
 
-#[test]
-fn a_task_waits_for_a_message_and_for_the_outside(rt: HostRuntime) {
-    let rows = [
-        (Call::Task(0, 0), Ok(0)),
-        (Call::Task(1, 3), Ok(1)),
-        (Call::Input(0), Ok(0)),
-        (Call::Outside(1), Ok(0)),
-        (Call::Next(0), Err(Refusal::WrongLife)),
-        (Call::Start, Ok(0)),
-        // task 0 may be dispatched at any time, task 1 lacks an input
-        (Call::Outside(0), Err(Refusal::WrongLife)),
-        (Call::Outside(1), Ok(0)),
-        (Call::Next(1), WAIT),
-        (Call::Next(0), Ok(0)),
-        (Call::Next(0), WAIT),
-        (Call::Release(1), Ok(0)),
-        (Call::Done(0, 0), Ok(2)),
-        (Call::Next(1), WAIT),
-        (Call::Release(1), Ok(2)),
-        (Call::Release(1), Err(Refusal::WrongLife)),
-        (Call::Next(1), Ok(1)),
-        (Call::Done(1, 1), Ok(0)),
-        (Call::Next(0), FINISHED),
-        (Call::Next(1), FINISHED),
-    ];
-    let mut pool = Pool::new(rt.alloc(), 2, true);
-    assert_eq!(rt; first_wrong(&mut pool, rows.as_slice()), None);
-}
+    fn is_ready(&self, task: u32) -> bool {
+        let (_, outside, reads) = self.at(task);
+        let waits = outside != 0 || reads & !self.done != 0;
+        task < self.count && !has(self.begun, task) && !waits
+    }
 
-#[test]
-fn the_largest_graph_has_these_numbers(rt: HostRuntime) {
-    assert_eq!(rt; (MAX_TASKS, MAX_INPUTS), (134_217_728, 536_870_912));
-}
+    /// Whether a task waits for no more inputs: it was dispatched, or may be at any time.
+    fn is_closed(&self, task: u32) -> bool {
+        has(self.begun, task) || self.started && self.is_ready(task)
+    }
 
-#[test]
-fn a_lower_class_is_dispatched_first(rt: HostRuntime) {
-    let rows = [
-        (Call::Task(0, 3), Ok(0)),
-        (Call::Task(0, 1), Ok(1)),
-        (Call::Task(0, 2), Ok(2)),
-        (Call::Start, Ok(0)),
-        (Call::Next(0), Ok(1)),
-        (Call::Next(0), Ok(2)),
-        (Call::Next(0), Ok(0)),
-    ];
-    let mut pool = Pool::new(rt.alloc(), 1, true);
-    assert_eq!(rt; first_wrong(&mut pool, rows.as_slice()), None);
-}
+    /// The number of ready tasks of a class below this one.
+    fn ready_below(&self, class: u32) -> u32 {
+        let mut ready = 0u32;
+        for task in 0..MOST {
+            if self.is_ready(task) && self.at(task).0 < class {
+                ready = ready.saturating_add(1);
+            }
+        }
+        ready
+    }
 
-#[test]
-fn a_running_task_adds_tasks(rt: HostRuntime) {
-    let rows = [
-        (Call::Task(0, 0), Ok(0)),
-        (Call::Task(1, 0), Ok(1)),
-        (Call::Start, Ok(0)),
-        (Call::Next(0), Ok(0)),
-        (Call::Task(0, 1), Ok(2)),
-        // task 2 is held, and waits for the running task that added it and for one at another node
-        (Call::Next(0), WAIT),
-        (Call::Input(0), Ok(0)),
-        (Call::Outside(2), Ok(0)),
-        (Call::Input(1), Ok(0)),
-        (Call::Input(2), Err(Refusal::NoTask)),
-        (Call::Release(2), Ok(0)),
-        (Call::Release(2), Ok(0)),
-        (Call::Next(0), WAIT),
-        (Call::Done(0, 0), Ok(0)),
-        (Call::Next(1), Ok(1)),
-        (Call::Done(1, 1), Ok(1)),
-        (Call::Task(1, 0), Err(Refusal::Inactive)),
-        (Call::Next(0), Ok(2)),
-        (Call::Input(0), Err(Refusal::WrongLife)),
-        (Call::Task(0, 0), Ok(3)),
-        (Call::Input(1), Ok(0)),
-        (Call::Release(3), Ok(1)),
-        (Call::Input(1), Err(Refusal::WrongLife)),
-        (Call::Next(0), Ok(3)),
-        (Call::Done(0, 2), Ok(0)),
-        (Call::Done(0, 3), Ok(0)),
-        (Call::Next(1), FINISHED),
-        (Call::Task(0, 0), Err(Refusal::Ended)),
-        (Call::Again, Err(Refusal::WrongLife)),
-    ];
-    // where steps are kept, only `task` and `input` take from those that are left for what is added
-    for keeps_steps in [false, true] {
-        let mut pool = Pool::new(rt.alloc(), 2, keeps_steps);
-        assert_eq!(rt;
-            first_wrong(&mut pool, rows.as_slice()),
-            None,
-            "{keeps_steps}"
-        );
+    fn newest(&self) -> u32 {
+        self.count.saturating_sub(1)
+    }
+
+    fn left(&self) -> u32 {
+        self.count.saturating_sub(self.done.count_ones())
+    }
+
+    fn is_like(&self, pool: &Pool) -> bool {
+        pool.tasks() == self.count
+            && pool.ready() == self.ready_below(4)
+            && pool.running() == (self.begun & !self.done).count_ones()
+            && pool.left() == self.left()
+            && pool.awaits_outside() == self.tasks.iter().any(|task| task.1 != 0)
+    }
+
+    fn refusal(&self, call: Call) -> Option<Refusal> {
+        match call {
+            Call::Task(class) | Call::Spawn(class, ..) if class > 3 => Some(Refusal::BadSpec),
+            Call::Task(_) => None,
+            Call::Spawn(_, a, b, _) => refuse(a.max(b) >= self.count, false),
+            Call::Input(source) => refuse(source >= self.newest(), self.is_closed(self.newest())),
+            Call::Outside(task) => refuse(task >= self.count, self.is_closed(task)),
+            Call::Release(task) => refuse(task >= self.count, self.at(task).1 == 0),
+            Call::Start => refuse(false, self.started),
+            Call::Next => refuse(false, !self.started),
+            Call::Done(task) => refuse(task >= self.count, !has(self.begun & !self.done, task)),
+            Call::Again => refuse(false, !self.started || self.left() != 0 || self.grown),
+        }
+    }
+
+    fn add(&mut self, class: u32, outside: u32, reads: u32) {
+        self.put(self.count, class, outside, reads);
+        self.count = self.count.saturating_add(1);
+        self.grown = self.grown || self.started;
+    }
+
+    /// What an accepted call changes, other than `next`.
+    fn apply(&mut self, call: Call) {
+        let task = match call {
+            Call::Outside(task) | Call::Release(task) | Call::Done(task) => task,
+            _ => self.newest(),
+        };
+        let (class, outside, reads) = self.at(task);
+        match call {
+            Call::Task(class) => self.add(class, self.started as u32, 0),
+            Call::Spawn(class, a, b, outside) => self.add(class, outside, bit(a) | bit(b)),
+            Call::Input(source) => {
+                self.put(task, class, outside, reads | bit(source));
+                self.grown = self.grown || self.started;
+            }
+            Call::Outside(_) => self.put(task, class, outside.saturating_add(1), reads),
+            Call::Release(_) => self.put(task, class, outside.saturating_sub(1), reads),
+            Call::Start => self.started = true,
+            Call::Next => {}
+            Call::Done(_) => self.done |= bit(task),
+            Call::Again => {
+                self.started = false;
+                self.begun = 0;
+                self.done = 0;
+                for number in 0..MOST {
+                    let (class, _, reads) = self.at(number);
+                    self.put(number, class, 0, reads);
+                }
+            }
+        }
+    }
+
+    /// Whether `next` may return this; then the task runs.
+    fn take(&mut self, next: Next) -> bool {
+        match next {
+            Next::Run(task) => {
+                let right = self.is_ready(task) && self.ready_below(self.at(task).0) == 0;
+                self.begun |= bit(task);
+                right
+            }
+            Next::Wait => self.ready_below(4) == 0 && self.left() != 0,
+            Next::Finished => self.left() == 0,
+        }
     }
 }
 
-fn add_tasks(pool: &mut Pool, count: u32) {
-    for _ in 0..count {
-        let _ = pool.task(0, 3);
+fn random_call(random: u32, count: u32) -> Call {
+    let count = count.min(MOST);
+    let (task, other) = (random / 64 % (count + 2), random / 4096 % (count + 1));
+    match random % 16 {
+        0 if count < MOST => Call::Task(random / 16 % 5),
+        1 if count < MOST => Call::Spawn(random / 16 % 5, task, other, random / 65_536 % 3),
+        2 => Call::Input(task),
+        3 => Call::Outside(task),
+        4..7 => Call::Release(task),
+        7 => Call::Start,
+        8..11 => Call::Next,
+        11 => Call::Again,
+        _ => Call::Done(task),
+    }
+}
+
+/// Makes the call, and returns whether the pool does what the model says.
+fn agrees(pool: &mut Pool, model: &mut Model, call: Call) -> bool {
+    let wanted = model.refusal(call);
+    let refused = match call {
+        Call::Task(class) => pool.task(class).err(),
+        Call::Spawn(class, a, b, outside) => pool.spawn(class, &[a, b], outside).err(),
+        Call::Input(source) => pool.input(source).err(),
+        Call::Outside(task) => pool.outside(task).err(),
+        Call::Release(task) => pool.release(task).err(),
+        Call::Start => pool.start().err(),
+        Call::Done(task) => pool.done(task).err(),
+        Call::Again => pool.again().err(),
+        Call::Next => match pool.next() {
+            Ok(next) => return wanted == None && model.take(next),
+            Err(refusal) => Some(refusal),
+        },
+    };
+    if refused == None {
+        model.apply(call);
+    }
+    refused == wanted
+}
+
+/// The number of calls before the first that does something else: all of them, if there is none.
+fn calls_that_agree(alloc: Global, calls: u32, seed: u32) -> u32 {
+    let (mut pool, mut model, mut random) = (Pool::new(alloc, false), EMPTY, seed);
+    for number in 0..calls {
+        random = random.wrapping_mul(1_664_525).wrapping_add(1_013_904_223);
+        let call = random_call(random / 256, model.count);
+        if !agrees(&mut pool, &mut model, call) || !model.is_like(&pool) {
+            return number;
+        }
+        if pool.is_over() && model.grown {
+            pool = Pool::new(alloc, true);
+            model = EMPTY;
+        }
+    }
+    calls
+}
+
+#[test]
+fn random_calls_agree_with_the_model(rt: HostRuntime) {
+    for seed in [1, 2, 3, 4] {
+        assert_eq!(rt; calls_that_agree(rt.alloc(), 5_000, seed), 5_000);
     }
 }
 
 #[test]
 fn steps_are_counted_ahead(rt: HostRuntime) {
-    let full = Err(Refusal::HistoryFull(MAX_STEPS));
-    // the graph needs all steps but 5: 3 a task and 10 a node
-    let rows = [
-        (Call::Task(1, 0), Ok(349_516)),
-        (Call::Start, Ok(0)),
-        (Call::Task(1, 0), Ok(349_517)),
-        (Call::Input(0), full),
-        (Call::Input(349_516), Ok(0)),
-        (Call::Task(0, 0), full),
-    ];
-    let mut pool = Pool::new(rt.alloc(), 2, true);
-    add_tasks(&mut pool, 349_516);
-    assert_eq!(rt; first_wrong(&mut pool, rows.as_slice()), None);
-}
-
-#[test]
-fn steps_that_are_not_kept_are_not_counted_ahead(rt: HostRuntime) {
-    let rows = [
-        (Call::Task(1, 0), Ok(349_523)),
-        (Call::Start, Ok(0)),
-        (Call::Task(1, 0), Ok(349_524)),
-        (Call::Input(0), Ok(0)),
-    ];
-    let mut pool = Pool::new(rt.alloc(), 2, false);
-    add_tasks(&mut pool, 349_523);
-    assert_eq!(rt; first_wrong(&mut pool, rows.as_slice()), None);
-    assert_eq!(rt; pool.step(0), None);
-}
-
-#[test]
-fn a_graph_runs_again(rt: HostRuntime) {
-    let rows = [
-        (Call::Task(0, 0), Ok(0)),
-        (Call::Task(1, 0), Ok(1)),
-        (Call::Input(0), Ok(0)),
-        (Call::Start, Ok(0)),
-        (Call::Again, Err(Refusal::WrongLife)),
-        (Call::Next(0), Ok(0)),
-        (Call::Done(0, 0), Ok(2)),
-        (Call::Next(1), Ok(1)),
-        (Call::Done(1, 1), Ok(0)),
-        (Call::Next(0), FINISHED),
-        (Call::Again, Ok(0)),
-        (Call::Next(1), WAIT),
-        (Call::Next(0), Ok(0)),
-        // a graph that runs again may grow as well
-        (Call::Task(0, 0), Ok(2)),
-        (Call::Release(2), Ok(1)),
-        (Call::Done(0, 0), Ok(2)),
-        (Call::Next(0), Ok(2)),
-        (Call::Done(0, 2), Ok(0)),
-        (Call::Next(1), Ok(1)),
-        (Call::Done(1, 1), Ok(0)),
-        (Call::Next(1), FINISHED),
-    ];
-    let mut kept = Pool::new(rt.alloc(), 2, true);
-    assert_eq!(rt; first_wrong(&mut kept, rows.as_slice()), None);
-    assert_eq!(rt; kept.step(3), Some(Step::Ready(NodeId(1))));
-    assert_eq!(rt; kept.step(4), Some(Step::Begin(TaskId(0))));
-    let mut unkept = Pool::new(rt.alloc(), 2, false);
-    assert_eq!(rt; first_wrong(&mut unkept, rows.as_slice()), None);
-    assert_eq!(rt; unkept.step(3), None);
+    // a trace has 3 steps a task and 10
+    let mut pool = Pool::new(rt.alloc(), true);
+    for _ in 0..349_522 {
+        let _ = pool.task(3);
+    }
+    assert!(rt; pool.start() == Ok(()));
+    let full = Refusal::HistoryFull(MAX_STEPS);
+    assert_eq!(rt; pool.spawn(0, &[0], 0), Err(full));
 }
