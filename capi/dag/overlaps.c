@@ -1,7 +1,7 @@
 /* overlaps.c: calls on a team that come while other threads are in calls. Built with AddressSanitizer or ThreadSanitizer, it shows
  * whether they touch what another one frees. Prints each check that fails; the exit status is 1 if one failed.
  *
- *   overlaps [stop | again | record | done | start]     all, or one of them */
+ *   overlaps [stop | again | record | done | start | calls]     all, or one of them */
 #define _POSIX_C_SOURCE 200809L
 #include "check.h"
 #include "limit.h"
@@ -134,6 +134,40 @@ static void run_beside_turn(void) {
     gerfmuod_team_close(team);
 }
 
+/* ---- each call that several threads may make, on a team whose run is over: it changes nothing */
+enum { CALLS = 1000, KINDS = 8 };
+static uint32_t differing; /* the number of other results than there should be; all threads have it in common */
+
+static uint32_t call(gerfmuod_team *team, int kind) {
+    switch (kind) {
+    case 0: return gerfmuod_team_turn(team, GERFMUOD_GRAPH_NONE).next != GERFMUOD_GRAPH_OVER;
+    case 1: gerfmuod_team_stop(team, 0); return 0;
+    case 2: return gerfmuod_team_task(team, 0, NULL, 0, NULL) != GERFMUOD_GRAPH_ENDED;
+    case 3: return gerfmuod_team_outside(team, 0) != GERFMUOD_GRAPH_WRONG_LIFE;
+    case 4: return gerfmuod_team_release(team, 0) != GERFMUOD_GRAPH_WRONG_LIFE;
+    case 5: return gerfmuod_team_fault(team) || gerfmuod_team_failed(team) != GERFMUOD_GRAPH_NONE;
+    case 6: return gerfmuod_team_start(team, 1) != GERFMUOD_GRAPH_ENDED;
+    default: return gerfmuod_team_describe(team, 0, NULL, &(uint32_t){0}, NULL, NULL) != GERFMUOD_GRAPH_WRONG_LIFE;
+    }
+}
+
+static void *make_calls(void *team) {
+    uint32_t own = 0;
+    for (int k = 0; k < KINDS * CALLS; k++) own += call(team, k % KINDS);
+    __atomic_fetch_add(&differing, own, __ATOMIC_RELAXED);
+    return NULL;
+}
+
+static void calls_beside_calls(void) {
+    pthread_t threads[4];
+    gerfmuod_team *team = recording_team(TASKS);
+    check_ok("run", gerfmuod_team_run(team, 2, nothing, NULL));
+    for (int k = 0; k < 4; k++) threads[k] = begin(make_calls, team);
+    for (int k = 0; k < 4; k++) pthread_join(threads[k], NULL);
+    check("calls of several threads", !differing);
+    gerfmuod_team_close(team);
+}
+
 static const struct part {
     const char *name;
     void (*run)(void);
@@ -141,7 +175,8 @@ static const struct part {
              {"again", again_beside_turn},
              {"record", record_beside_turn},
              {"done", wrong_done},
-             {"start", run_beside_turn}};
+             {"start", run_beside_turn},
+             {"calls", calls_beside_calls}};
 
 int main(int argc, char **argv) {
     limit_time();
