@@ -3,7 +3,7 @@
 Plots of measurements are drawn from the rows of docs/measurements, the run of Cholesky from cholesky-run.csv there, and the map from
 crates.txt and the table of docs/ARCHITECTURE.md. A file ends with a digest of what it shows and of the code that draws it; `make
 test` compares these digests, without matplotlib and graphviz, and so does --check. `tools/bench-packages` prints the packages. The
-status is 1 if a plot could not be drawn: a package is missing, or a row of its measurement is impossible.
+status is 1 if a plot could not be drawn: a package is missing.
 """
 import functools
 import hashlib
@@ -71,7 +71,7 @@ def plot_of(name, path):
 
 
 def write(names=PLOTS):
-    """Draws these plots; returns how many could not be drawn, and prints why. One of no rows, or of impossible ones, is removed."""
+    """Draws these plots; returns how many could not be drawn, and prints why. One of no rows is removed."""
     faults = 0
     for name in names:
         path = figures.path_of(name)
@@ -81,21 +81,17 @@ def write(names=PLOTS):
                 drawn(plot, path)
                 with open(path, "a", encoding="utf-8") as file:
                     file.write(f"<!-- digest of its inputs: {digest_of(plot)} -->\n")
-        except (figures.Impossible, FileNotFoundError, subprocess.CalledProcessError) as error:
+        except (FileNotFoundError, subprocess.CalledProcessError) as error:
             faults += 1
             print(f"{name} is not drawn: {error}", file=sys.stderr)
     return faults
 
 
 def check(tally, names=PLOTS):
-    """Judges whether each plot is drawn from what is stored now. A plot of impossible rows must not be there."""
+    """Judges whether each plot is drawn from what is stored now."""
     for name in names:
         text, path = text_of(figures.path_of(name), ""), os.path.relpath(figures.path_of(name), repository.TOP)
-        try:
-            plot = PLOTS[name]()
-        except figures.Impossible as error:
-            print(f"warning: {path} is not drawn: {error}")
-            plot = None
+        plot = PLOTS[name]()
         if plot:
             minidom.parseString(text or "<nothing/>")
         is_well = DIGEST.findall(text) == ([digest_of(plot)] if plot else [])

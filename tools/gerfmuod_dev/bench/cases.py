@@ -4,7 +4,7 @@ import dataclasses
 from ..repository import TOP
 from . import inputs, processes
 from .dag import dag
-from .measuring import Candidate, Case, by_workers, measure
+from .measuring import Candidate, Case, Kernel, by_workers, compare, measure
 
 TP, SAMPLES = f"{TOP}/bin/tp", f"{TOP}/bin/samples"
 HEAT, PRODUCT, PATTERNS, POOL = ([SAMPLES, name] for name in ("heat", "product", "patterns", "pool"))
@@ -40,8 +40,8 @@ PATTERN_OPTIONS = {
 # iterations of the kernel in a task, and which of these sizes one worker has, and four workers
 ITERATIONS = [50 * 2**power for power in range(11)]
 ALONE, TOGETHER = ITERATIONS[:8], ITERATIONS[3:]
-# how many the one task has by which an iteration is timed
-KERNEL_ITERATIONS = 20_000_000
+# how many the one task has by which an iteration is timed: at least 100 times as long as all else in its run
+KERNEL_ITERATIONS = 5_000_000
 
 
 def there(*candidates):
@@ -120,28 +120,29 @@ def grid_programs(bench, arguments, places):
     )
 
 
-def kernel(bench):
-    """One task whose iterations take at least 100 times as long as all else."""
+def kernel_of(bench):
+    """Returns what times an iteration: one task of many. All programs print the same for it."""
     candidates = grid_programs(bench, ["no_comm", "1", "1", str(KERNEL_ITERATIONS)], GRID_PLACES[:1])
-    return measure(bench, Case("patterns", f"one task, {KERNEL_ITERATIONS:,} iterations", "task", 1), candidates)
+    case = Case("patterns", f"one task, {KERNEL_ITERATIONS:,} iterations", "task", 1)
+    compare(case, candidates)
+    return Kernel(case, candidates, KERNEL_ITERATIONS)
 
 
-def grid(bench, pattern, iterations, places):
+def grid(bench, pattern, iterations, places, kernel):
     case = Case("patterns", f"{pattern}, {iterations:,} iterations", "task", GRID_TASKS)
     arguments = [pattern, str(GRID_WIDTH), str(GRID_STEPS), str(iterations), *PATTERN_OPTIONS.get(pattern, [])]
-    return measure(bench, case, grid_programs(bench, arguments, places))
+    return measure(bench, case, grid_programs(bench, arguments, places), kernel)
 
 
 def grids(bench):
     """`patterns` on grids of Task Bench, with tasks of many sizes."""
     bench = dataclasses.replace(bench, counts=False)
     names = [name for name in (QUICK_PATTERNS if bench.is_quick else PATTERNS_OF_TASKS) if chosen(bench, name)]
-    if names:
-        yield from kernel(bench)
+    kernel = kernel_of(bench) if names else None
     for name in names:
         for iterations in ITERATIONS[::2] if bench.is_quick else ITERATIONS:
             places = [place for place in GRID_PLACES if iterations in (ALONE if place == (1, 1) else TOGETHER)]
-            yield from grid(bench, name, iterations, places)
+            yield from grid(bench, name, iterations, places, kernel)
 
 
 def rod_peers(bench, arguments, places):

@@ -11,12 +11,6 @@ RUNTIMES = ["tp", "runtime by hand", "oneTBB flow graph", "OpenMP tasks"]
 POOLS = [pool for pool in TASKS if pool != "product:64:1:0"]
 GRID_PROGRAMS = ["patterns", "runtime by hand", "oneTBB flow graph", "OpenMP tasks", "threads and a barrier"]
 CURVES = ["stencil", "spread"]
-# kernels are timed in runs of their own, so noise may bring an efficiency this far above 1
-MOST_EFFICIENCY = 1.1
-
-
-class Impossible(Exception):
-    """A stored row that no run can have had; the text names it."""
 
 
 def lines_plot(names, panels, x, y, is_log_y=False, places=()):
@@ -55,15 +49,8 @@ def grid_programs(rows):
 
 
 def efficiencies(rows, pattern, program):
-    """Returns the points of a program's curve at one node with four workers; fails if a row cannot be right."""
-    curve = metg.curve(rows, pattern, program, 1, 4)
-    sizes = [(row.program, row.nodes, row.workers, metg.pattern_of(row.case), metg.iterations_of(row.case)) for row in rows]
-    sizes = sorted(size[4] for size in sizes if size[:4] == (program, 1, 4, pattern) and size[4] is not None)
-    for point, iterations in zip(curve, sizes):
-        if point.task <= 0 or not 0 < point.efficiency <= MOST_EFFICIENCY:
-            row = f"patterns.csv: {pattern}, {iterations:,} iterations, {program} at 1 by 4"
-            raise Impossible(f"{row}: a task of {point.task:.3g} microseconds with a kernel of {point.kernel:.3g}")
-    return [(point.task, point.efficiency) for point in curve]
+    """Returns the points of a program's curve at one node with four workers."""
+    return [(point.task, point.efficiency) for point in metg.curve(rows, pattern, program, 1, 4)]
 
 
 def efficiency_by_task(rows):

@@ -6,6 +6,7 @@ import shutil
 import statistics
 import subprocess
 import sys
+from collections import defaultdict
 from dataclasses import astuple, dataclass, fields
 
 from .. import running
@@ -40,6 +41,22 @@ class Candidate:
     nodes: int = 1
     workers: int = 1
     counted: list = None
+
+
+@dataclass(frozen=True)
+class Kernel:
+    """One task of many iterations with which each program times an iteration, once in each round."""
+
+    case: Case
+    candidates: list
+    iterations: int
+
+    def nanoseconds(self, bench):
+        """Runs each program. Returns the nanoseconds of an iteration by program, one number for each run."""
+        return {
+            candidate.program: [time / self.iterations for time in cost_of(bench, candidate, self.case)[1]]
+            for candidate in self.candidates
+        }
 
 
 @dataclass(frozen=True)
@@ -176,21 +193,24 @@ def row_of(case, candidate, bench, measured, counted):
     )
 
 
-def measure(bench, case, candidates):
+def measure(bench, case, candidates, kernel=None):
     """Returns a row for each program: their outputs are compared, and then all of them run once in each round."""
     places = ", ".join(dict.fromkeys(f"{candidate.nodes} by {candidate.workers}" for candidate in candidates))
     print(f"{case.measurement}: {case.name}, {places}", file=sys.stderr, flush=True)
     compare(case, candidates)
-    measured = [[] for _ in candidates]
+    measured, iterations = [[] for _ in candidates], defaultdict(list)
     with busy_processes(bench.load):
         for _ in range(bench.rounds):
             for candidate, own in zip(candidates, measured):
                 own.append(cost_of(bench, candidate, case))
+            for program, times in kernel.nanoseconds(bench).items() if kernel else ():
+                iterations[program] += times
     rows = []
     for candidate, own in zip(candidates, measured):
         is_counted = bench.counts and not bench.load and candidate.nodes * candidate.workers == 1
         counted = instructions(candidate, case) if is_counted else None
-        rows.append(row_of(case, candidate, bench, own, counted))
+        row = row_of(case, candidate, bench, own, counted)
+        rows.append(row._replace(kernel_nanoseconds=statistics.median(iterations[candidate.program])) if kernel else row)
     return rows
 
 

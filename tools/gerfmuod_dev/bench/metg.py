@@ -1,8 +1,9 @@
 """METG(50%) of a program, from the rows of `patterns`: the smallest task at which it uses half of the machine.
 
-The part of the machine that works at kernels is the sequential time of all tasks' kernels, by the time of an iteration of
-that program, divided by the workers and by the time of the run. A task's size is the time of the run times the workers,
-divided by the tasks, so it includes the runtime's overhead. All times are those that the programs take of their own runs.
+The part of the machine that works at kernels is the sequential time of all tasks' kernels, divided by the workers and by
+the time of the run. The time of an iteration is that of one task of many, which the program runs in the same rounds, since
+a machine's speed drifts. A task's size is the time of the run times the workers, divided by the tasks, so it includes the
+runtime's overhead. All times are those that the programs take of their own runs.
 """
 from dataclasses import dataclass
 
@@ -46,13 +47,11 @@ def spelt_by_quartiles(curve_of):
 
 
 def pattern_of(case):
-    """Returns the pattern of a case; an empty text for the cases of one task."""
-    name = case.split(", ")[0]
-    return "" if name == "one task" else name
+    return case.split(", ")[0]
 
 
 def patterns_of(rows):
-    return [pattern for pattern in dict.fromkeys(pattern_of(row.case) for row in rows) if pattern]
+    return list(dict.fromkeys(pattern_of(row.case) for row in rows))
 
 
 def iterations_of(case):
@@ -60,24 +59,17 @@ def iterations_of(case):
     return int(case.split(", ")[1].split()[0].replace(",", ""))
 
 
-def kernels(rows):
-    """Returns the nanoseconds of one iteration by program: those of one task of many."""
-    return {row.program: row.milliseconds * 1e6 / iterations_of(row.case) for row in rows if not pattern_of(row.case)}
-
-
-def point_of(row, each, time="milliseconds"):
-    """Returns the size of the tasks of a row, if an iteration takes `each` nanoseconds; a quartile can stand for its time."""
+def point_of(row, time="milliseconds"):
+    """Returns the size of the tasks of a row; a quartile can stand for its time."""
     task = getattr(row, time) * 1000 * row.nodes * row.workers / row.units
-    return Point(task, iterations_of(row.case) * each / 1000)
+    return Point(task, iterations_of(row.case) * row.kernel_nanoseconds / 1000)
 
 
 def curve(rows, pattern, program, nodes, workers, time="milliseconds"):
     """Returns the sizes of tasks that were measured, the smallest first."""
-    each = kernels(rows).get(program)
     own = [row for row in rows if (row.program, row.nodes, row.workers) == (program, nodes, workers)]
-    own = [row for row in own if pattern_of(row.case) == pattern]
-    points = [point_of(row, each, time) for row in own] if each else []
-    return sorted(points, key=lambda point: point.kernel)
+    own = sorted((row for row in own if pattern_of(row.case) == pattern), key=lambda row: iterations_of(row.case))
+    return [point_of(row, time) for row in own]
 
 
 def metg(points):

@@ -12,13 +12,11 @@ def has_times(row):
     return 0 < row.lower_quartile <= row.milliseconds <= row.upper_quartile
 
 
-def of_row(row, kernels):
+def of_row(row):
     """Returns what is impossible in a row of `patterns`; an empty text if nothing is."""
-    if not metg.pattern_of(row.case):
-        return ""
-    if row.program not in kernels:
-        return "its program has no time of an iteration"
-    efficiency = metg.point_of(row, kernels[row.program]).efficiency
+    if not row.kernel_nanoseconds:
+        return "it has no time of an iteration"
+    efficiency = metg.point_of(row).efficiency
     return f"its kernels take {efficiency:.2f} of the workers' time" if efficiency > MOST_EFFICIENCY else ""
 
 
@@ -32,7 +30,7 @@ def of_bodies(rows):
 
 def missing(rows):
     """Yields the sizes of tasks that a full series of `patterns` has and these rows have not."""
-    places = dict.fromkeys((row.program, row.nodes, row.workers) for row in rows if metg.pattern_of(row.case))
+    places = dict.fromkeys((row.program, row.nodes, row.workers) for row in rows)
     for pattern in PATTERNS_OF_TASKS:
         for program, nodes, workers in places:
             due, has = len(ALONE if nodes * workers == 1 else TOGETHER), len(metg.curve(rows, pattern, program, nodes, workers))
@@ -49,6 +47,5 @@ def impossible(measurement, rows):
     if found:
         return found
     if measurement == "patterns":
-        kernels = metg.kernels(rows)
-        found = [f"{names[id(row)]}: {reason}" for row in rows if (reason := of_row(row, kernels))]
+        found = [f"{names[id(row)]}: {reason}" for row in rows if (reason := of_row(row))]
     return found + (list(of_bodies(rows)) if measurement == "body" else [])

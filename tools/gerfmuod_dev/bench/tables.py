@@ -1,4 +1,5 @@
 """The tables that are printed, and that docs/PERFORMANCE.md has between marks."""
+import statistics
 from dataclasses import dataclass
 
 from . import dag_tables, metg
@@ -160,7 +161,7 @@ def size_with_quartiles(rows, pattern, column):
 
 def smallest_tasks(rows, places):
     """Returns a line for each pattern, with METG(50%) of each program at the places at which it was measured."""
-    measured = {(row.program, row.nodes, row.workers) for row in rows if metg.pattern_of(row.case)}
+    measured = {(row.program, row.nodes, row.workers) for row in rows}
     programs = list(dict.fromkeys(row.program for row in rows))
     columns = [(name, *place) for name in programs for place in places if (name, *place) in measured]
     lines = []
@@ -177,8 +178,12 @@ def grids(rows):
 
 def kernels(rows):
     """Returns the time of an iteration of the kernel in each program."""
-    lines = [[program, cell(nanoseconds)] for program, nanoseconds in metg.kernels(rows).items()]
-    return "One worker at one task of many iterations:\n\n" + table(["Program", "nanoseconds an iteration"], lines)
+    lines = []
+    for program in dict.fromkeys(row.program for row in rows):
+        times = [row.kernel_nanoseconds for row in rows if row.program == program]
+        lines.append([program, *map(cell, (min(times), statistics.median(times), max(times)))])
+    head = ["Program", "least", "median", "most"]
+    return "Nanoseconds an iteration, by one task of many, timed again for each pattern and size:\n\n" + table(head, lines)
 
 
 # ---- rods and products
