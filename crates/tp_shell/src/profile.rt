@@ -1,11 +1,19 @@
-//! A profile: the file that is asked for, and the log of the run.
-use crate::events::{Run, events_of};
-use crate::log::Log;
+//! A profile: the file that is asked for, and the log of when the bodies of a run's tasks began and ended. No contract
+//! speaks of these times. A run without a log is not slower: only a graph that is wrapped in [`Timed`] reads the clock.
+mod events;
+mod log;
+mod timed;
+mod tracks;
+
+pub use events::Run;
+use events::events_of;
+pub use log::Log;
 use std::alloc::Global;
 use std::fs;
 use std::io::{self, ErrorKind};
 use std::rt::{Clock, Files};
 use std::sync::Wait;
+pub use timed::Timed;
 
 /// The profile of a run, if one is asked for.
 #[derive(Drop)]

@@ -1,6 +1,6 @@
 //! The times of a run as Chrome's trace events in JSON, which viewers of timelines read.
-use crate::log::{Bodies, Body, Log};
-use crate::tracks::Tracks;
+use super::log::{Bodies, Body, Log};
+use super::tracks::Tracks;
 use std::alloc::{AllocError, Global};
 use std::fmt;
 use std::rt::Clock;

@@ -1,7 +1,7 @@
 //! A graph whose bodies are timed while it runs.
 ghost use Rattle.std.specs.Prelude.{◌≡◌, ⊤};
 
-use crate::log::Log;
+use super::log::Log;
 use std::alloc::{AllocError, Global};
 use std::rt::Clock;
 use std::sync::Wait;
