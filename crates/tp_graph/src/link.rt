@@ -2,7 +2,7 @@
 ghost use Rattle.std.specs.Prelude.{◌≡◌, ◌==◌, ◌+◌, ◌<◌, ◌≤◌, ◌↔◌, ℕ, [], ◌∷◌, ◌++◌, length, option_to_list, option_copied, slice_get};
 ghost use Rattle.std.specs.Prelude.{drop, IsOk, IsSome, IfErr, IfOk, OnOk, OnErr};
 ghost use Rattle.tp_base.specs.declared.Refusal.TheVariants.{NoMemory};
-ghost use Rattle.tp_link.specs.Link.{IsUnchanged};
+ghost use Rattle.tp_graph.specs.Link.{IsUnchanged};
 
 use crate::routed::Routed;
 use std::alloc::{AllocError, Global};
@@ -22,7 +22,7 @@ pub struct Link<M: Routed> {
 impl<M: Routed> Model for Link<M> {
     ghost use Rattle.std.specs.Prelude.{◌-◌};
     ghost use Rattle.std.specs.VecDeque.{deque_len, deque_capacity};
-    ghost use Rattle.tp_link.specs.Link.{Line};
+    ghost use Rattle.tp_graph.specs.Link.{Line};
 
     ghost Value = { Line M };
 
