@@ -3,7 +3,7 @@
 FOLDER gets the crate NAME, a program that runs a graph by threads and prints the results, and the crates that it is built on, without
 their mutants, with what `make` proved of them. With `--like chain` NAME is a copy of the crate chain, a chain of tasks that add; with
 `--like prefix` of the crate prefix, rows of tasks by a relation and a kernel, with a program that reads numbers; with `--like rod` of the
-rod of pool_stencil, cells in blocks, with the program of tools/data/rod_run. docs/RUNNING-A-POOL.md describes the next steps.
+rod of pool_blocks, cells in blocks, with the program of tools/data/rod_run. docs/RUNNING-A-POOL.md describes the next steps.
 
 Prints what to type next. The status is 1 if nothing was created, because the folder is not empty or the name is not free.
 """
@@ -16,8 +16,8 @@ from . import repository
 from .build import keep
 from .repository import text_of
 
-# for each kind the crate that it copies; of the rod's these parts, next to a program
-KINDS = {"chain": "chain", "prefix": "prefix", "rod": "pool_stencil"}
+# for each kind the crate that it copies; of the rod's these parts, next to a program, and the rest stays a crate below
+KINDS = {"chain": "chain", "prefix": "prefix", "rod": "pool_blocks"}
 PROGRAM = "tools/data/rod_run"
 PARTS = (
     "src/heat.rt", "src/rod_mix.rt", "src/rod_result.rt", "specs/Heats.antt", "specs/HeatLaws.antt",
@@ -48,11 +48,17 @@ def fault_of(folder, name):
     return f"{name} is the name of a crate of this repository or of the toolchain" if is_taken else ""
 
 
-def rename(folder, old, new):
-    """Gives the crate in this folder its new name, in each file that names it, and templates the names of their copies."""
+def rename(folder, kind, new):
+    """Gives the copied modules the new name of their crate, in each file that names it, and templates the names of their copies."""
+    old, modules = KINDS[kind], r"\w+"
+    if kind == "rod":
+        modules = "|".join(os.path.splitext(os.path.basename(part))[0] for part in PARTS)
     for path in repository.files_in(folder):
         # only as a crate: the chain's own name is a plain word elsewhere
-        text = re.sub(rf"\bRattle\.{old}\b", f"Rattle.{new}", text_of(path))
+        text = re.sub(rf"\bRattle\.{old}(?=\.(?:specs|proofs)\.(?:{modules})\b)", f"Rattle.{new}", text_of(path))
+        if kind == "rod":
+            # what a part takes from the root of its crate
+            text = text.replace("use crate::{", f"use {old}::{{")
         os.remove(path)
         with open(path[: -len(TEMPLATE)] if path.endswith(TEMPLATE) else path, "w", encoding="utf-8") as out:
             out.write(text)
@@ -75,7 +81,7 @@ def create(folder, name, kind):
     for crate in lower:
         shutil.copytree(f"crates/{crate}", f"{folder}/crates/{crate}", ignore=NOT_COPIED)
     copy(kind, f"{folder}/crates/{name}")
-    rename(f"{folder}/crates/{name}", source, name)
+    rename(f"{folder}/crates/{name}", kind, name)
     with open(f"{folder}/crates.txt", "w", encoding="utf-8") as out:
         out.write("# NAME: the crates that it is built on\n")
         out.writelines(row + "\n" for row in (*(lines[crate] for crate in lower), "", line))

@@ -9,7 +9,7 @@ use Rattle.std.proofs.lemmas.Bool.Decides.{nat_tests}
 use Rattle.tp_graph.proofs.Made.{gathered, inputs_of, some_same, then_some-is}
 use Rattle.tp_graph.specs.Blocks.{block_of}
 use Rattle.tp_graph.specs.Values.{gather, value_of}
-use Rattle.pool_blocks.proofs.Lists.{block-past, lt-tells}
+use Rattle.pool_blocks.specs.ListLaws.{block-past, lt-tells}
 use Rattle.pool_blocks.specs.Joined.{in_a_row, numbers_from}
 use Rattle.pool_blocks.specs.Lists.{block_before, block_behind}
 use Rattle.pool_blocks.specs.StencilLaws.{block_lawful}

@@ -11,7 +11,7 @@ use Rattle.tp_graph.proofs.Counted.{events_counted}
 use Rattle.tp_graph.proofs.Totals.{total-add, total-const, total-plus}
 use Rattle.tp_graph.specs.Events.{crossing, messages_from, messages_of, task_events}
 use Rattle.pool_blocks.proofs.Crossings.{apart, home_of, messages_counted}
-use Rattle.pool_blocks.proofs.Lists.{lt-tells}
+use Rattle.pool_blocks.specs.ListLaws.{lt-tells}
 use Rattle.pool_blocks.specs.Events.{BlockEventsLaw, BlockMessagesLaw, BlockStepsLaw, step_inputs, step_messages}
 use Rattle.pool_blocks.specs.Stencils.{BlockStep, befores, block_graph, target}
 

@@ -8,7 +8,7 @@ use Rattle.tp_graph.specs.Blocks.{block_of}
 use Rattle.tp_graph.specs.Graphs.{TaskGraph}
 use Rattle.tp_graph.specs.Serial.{IsSerialRefusal}
 use Rattle.tp_graph.specs.Values.{all_fit, fitting, value_of}
-use Rattle.pool_blocks.proofs.Fits.{drop-fits, one-list-fits, take-fits}
+use Rattle.pool_blocks.specs.Fits.{drop-fits, one-list-fits, take-fits}
 use Rattle.pool_blocks.specs.StencilLaws.{block_lawful}
 use Rattle.pool_blocks.specs.Stencils.{BlockStep, KeepsFit, befores, block_graph, next_of}
 

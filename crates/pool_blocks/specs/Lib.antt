@@ -4,6 +4,17 @@ pub mod Outcomes
 pub mod Runs
 pub mod Joined
 pub mod Lists
+pub mod ListLaws
+pub mod Sums
+pub mod Fits
 pub mod Stencils
 pub mod StencilLaws
 pub mod Events
+pub mod Heats
+pub mod HeatLaws
+pub mod RodEvents
+pub mod RodFaults
+pub mod Grids
+pub mod Windows
+pub mod GridLaws
+pub mod GridFaults

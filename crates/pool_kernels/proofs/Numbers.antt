@@ -3,8 +3,8 @@ use Rattle.std.proofs.Common.{◌≡◌, ◌<◌, ◌+◌, ℕ, zero, suc, ℤ, 
 use Rattle.std.proofs.Common.{if◌then◌else◌, refl, ap, sym, ◌∙◌, arith, w64, to_z, of_z}
 use Rattle.std.proofs.lemmas.Int.{to_z-of_z}
 use Rattle.tp_graph.specs.Values.{all_fit, fits, fitting}
-use Rattle.pool_blocks.proofs.Lists.{list-more}
-use Rattle.pool_blocks.proofs.Sums.{fits-signed}
+use Rattle.pool_blocks.specs.ListLaws.{list-more}
+use Rattle.pool_blocks.specs.Sums.{fits-signed}
 use Rattle.pool_blocks.specs.Lists.{list_of}
 use Rattle.pool_kernels.specs.Numbers.{checked}
 

@@ -5,7 +5,7 @@ use Rattle.std.proofs.Common.{ap, sym, ◌∙◌, arith}
 use Rattle.std.proofs.lemmas.Nat.{pow-add}
 use Rattle.tp_graph.proofs.Made.{some_same, then_some-is}
 use Rattle.tp_graph.specs.Values.{all_fit, fitting, then_some}
-use Rattle.pool_blocks.proofs.Lists.{list-at}
+use Rattle.pool_blocks.specs.ListLaws.{list-at}
 use Rattle.pool_blocks.specs.Lists.{at, list_of}
 use Rattle.pool_kernels.proofs.Cells.{cell_first, cell_from_two, if_some}
 use Rattle.pool_kernels.proofs.Rows.{list_same, row_of_blocks}

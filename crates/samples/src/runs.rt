@@ -3,17 +3,17 @@
 
 ghost use Rattle.std.specs.Prelude.{◌≡◌, ◌*◌, ◌/◌, IfOk};
 ghost use Rattle.pool_blocks.specs.Runs.{HasRun, HasRunInParts};
-ghost use Rattle.pool_stencil.specs.Grids.{block_relaxed, relaxed};
-ghost use Rattle.pool_stencil.specs.Grids as grids;
+ghost use Rattle.pool_blocks.specs.Grids.{block_relaxed, relaxed};
+ghost use Rattle.pool_blocks.specs.Grids as grids;
 ghost use Rattle.pool_matrix.specs.Matrices.{matrix_graph, product_of};
-ghost use Rattle.pool_stencil.specs.Heats.{block_heated, heated};
-ghost use Rattle.pool_stencil.specs.Heats as rods;
+ghost use Rattle.pool_blocks.specs.Heats.{block_heated, heated};
+ghost use Rattle.pool_blocks.specs.Heats as rods;
 ghost use Rattle.tp_work.specs.Outcomes.{IsWithinLimits};
 
 use crate::fault::{Fault, InputFault};
 use crate::watched::{Watch, run_in_parts_watched, run_pool_watched};
+use pool_blocks::{ThreePoints, row_blocks};
 use pool_matrix::{Product, matrix_of};
-use pool_stencil::{ThreePoints, row_blocks};
 use std::alloc::Global;
 use std::rt::Clock;
 use std::sync::Wait;

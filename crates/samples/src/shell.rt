@@ -19,8 +19,7 @@ use std::rt::{Clock, Files};
 use std::str;
 use std::sync::Wait;
 use std::thread::Threads;
-use tp_profile::{Log, Profile, Run};
-use tp_shell::{Source, show, write_text};
+use tp_shell::{Log, Profile, Run, Source, show, write_text};
 use tp_work::{Config, Progress, Screen, watched};
 
 /// Writes what the arguments ask for, or help or the version. A screen shows what is read, and how far the run is. If

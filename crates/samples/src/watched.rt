@@ -12,7 +12,7 @@ use std::rt::Clock;
 use std::sync::Wait;
 use std::thread::Threads;
 use tp_graph::Graph;
-use tp_profile::{Log, Timed};
+use tp_shell::{Log, Timed};
 use tp_work::{Config, Outcome, Progress, run_pool_counted};
 
 /// What watches a run.

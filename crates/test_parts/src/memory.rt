@@ -11,8 +11,7 @@ use tp_base::{
     ActionId, Generation, History, Inputs, MessageId, NodeId, Refusal, Step, Table, TaskId,
 };
 use tp_core::{Core, Reply};
-use tp_graph::{ValueBuilder, serial};
-use tp_link::{Link, Routed};
+use tp_graph::{Link, Routed, ValueBuilder, serial};
 use tp_slots::{Command, RawSlots, SlabSlots, run_slots};
 use tp_store::{Counts, Life, TaskItem, TaskStore};
 

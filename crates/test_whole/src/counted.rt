@@ -1,7 +1,6 @@
 //! Runs whose tasks are counted while a terminal shows the progress.
 
-use pool_blocks::run_in_parts_counted;
-use pool_stencil::{ThreePoints, heat_of};
+use pool_blocks::{ThreePoints, heat_of, run_in_parts_counted};
 use std::io::{self, IsTerminal, Write};
 use std::test::Fail;
 use tp_work::{Config, Plan, Progress, Screen, run_pool_counted, watched};

@@ -2,7 +2,7 @@
 
 ghost use Rattle.std.specs.Prelude.{◌≤◌};
 
-use pool_stencil::{grid_by_one, grid_in_blocks, run_grid, run_grid_in_parts};
+use pool_blocks::{grid_by_one, grid_in_blocks, run_grid, run_grid_in_parts};
 use std::alloc::{AllocError, Global};
 use std::sync::Wait;
 use std::test::Fail;

@@ -2,9 +2,8 @@
 
 ghost use Rattle.std.specs.Prelude.{◌≤◌};
 
-use pool_blocks::LentFault;
+use pool_blocks::{LentFault, heat_of, run_heat, run_heat_in_parts};
 use pool_matrix::run_product;
-use pool_stencil::{heat_of, run_heat, run_heat_in_parts};
 use std::alloc::{AllocError, Global};
 use std::sync::Wait;
 use std::test::Fail;

@@ -20,8 +20,7 @@ use std::sync::Wait;
 use std::thread::Threads;
 use tp_base::{Refusal, TaskId};
 use tp_graph::{Graph, Value};
-use tp_profile::{Log, Profile, Timed};
-use tp_shell::{Status, write_text};
+use tp_shell::{Log, Profile, Run, Status, Timed, write_text};
 use tp_text::print_trace;
 use tp_work::{Config, Outcome, Progress, Screen, run_pool_counted, watched};
 
@@ -84,8 +83,8 @@ pub(crate) fn run<O: Write, R: Threads + Wait + Sync + Clock + Files, W: Write +
 }
 
 /// Returns how a profile shows a run.
-fn profiled(config: Config) -> tp_profile::Run {
-    tp_profile::Run {
+fn profiled(config: Config) -> Run {
+    Run {
         nodes: config.nodes,
         workers: config.workers,
         has_tasks: true,

@@ -16,7 +16,7 @@ use std::sync::Wait;
 use std::thread::Threads;
 use tp_base::Refusal;
 use tp_graph::Graph;
-use tp_profile::{Log, Timed};
+use tp_shell::{Log, Timed};
 use tp_text::print_trace;
 use tp_work::{Counted, Fault, OpenGate, Progress, Round, Series, run_generations};
 

@@ -5,6 +5,7 @@ pub mod Carried
 pub mod Found
 pub mod Graphs
 pub mod Left
+pub mod Link
 pub mod Named
 pub mod Numbers
 pub mod Producers

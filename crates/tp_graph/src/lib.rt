@@ -3,7 +3,8 @@
 //!
 //! A pool is a type that implements [`Graph`]. A feed to another node is sent as a [`Message`], which becomes a
 //! [`Parcel`] when it is received. Each of these types has the invariant that the value it carries is the one that the
-//! graph defines. [`run_body`] runs one task, and [`serial`] computes a graph on one thread.
+//! graph defines. A [`Link`] is a FIFO queue of the messages from one node to another. [`run_body`] runs one task, and
+//! [`serial`] computes a graph on one thread.
 #![tactic(auto)]
 
 mod blocks;
@@ -14,10 +15,12 @@ mod feed;
 mod found;
 mod graph;
 mod laws;
+mod link;
 mod message;
 mod numbers;
 mod one_thread;
 mod only;
+mod routed;
 mod value;
 
 pub use blocks::Blocks;
@@ -28,7 +31,9 @@ pub use feed::{Feed, feed_of};
 pub use found::{in_order, places, value_at};
 pub use graph::{Comparable, Graph, is_same};
 pub use laws::{all_results_are_values, results_have_what_is_kept, value_is_what_the_rule_makes};
+pub use link::Link;
 pub use message::{Message, Parcel};
 pub use one_thread::serial;
 pub use only::{Named, Only};
+pub use routed::Routed;
 pub use value::Value;

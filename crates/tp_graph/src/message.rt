@@ -5,10 +5,10 @@ ghost use Rattle.tp_graph.specs.Values.{value_of, IsInput};
 
 use crate::feed::Feed;
 use crate::graph::Graph;
+use crate::routed::Routed;
 use crate::value::Value;
 use std::marker::Model;
 use tp_base::{Generation, MessageId, NodeId};
-use tp_link::Routed;
 
 /// A value in flight to a task at another node.
 #[derive(Drop)]

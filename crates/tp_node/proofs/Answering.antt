@@ -22,7 +22,7 @@ use Rattle.tp_node.specs.Locals.{LocalState}
 use Rattle.tp_node.specs.Nodes.{HasBrought, NodeState, with_received}
 use Rattle.tp_node.specs.PoolLinks.{IsOnWay, IsPoolLink}
 use Rattle.tp_board.specs.Numbers.{LinkNumbers}
-use Rattle.tp_link.specs.Link.{Line}
+use Rattle.tp_graph.specs.Link.{Line}
 use Rattle.tp_node.specs.Locals.{Numbers}
 use Rattle.tp_base.specs.Checks.{Check, first_refusal}
 

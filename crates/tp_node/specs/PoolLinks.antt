@@ -5,7 +5,7 @@ use Rattle.tp_board.specs.States.{BoardState}
 use Rattle.tp_graph.specs.Carried.{Carried}
 use Rattle.tp_graph.specs.Graphs.{TaskGraph}
 use Rattle.tp_graph.specs.declared.feed.Feed.{Feed}
-use Rattle.tp_link.specs.Link.{Line}
+use Rattle.tp_graph.specs.Link.{Line}
 use Rattle.tp_wave.specs.Generations.{generation}
 use Rattle.tp_wave.specs.Machine.{steps_of}
 use Rattle.std.specs.Prelude.{ℤ}

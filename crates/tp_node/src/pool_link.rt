@@ -15,8 +15,7 @@ use std::alloc::Global;
 use std::marker::Model;
 use tp_base::{MessageId, NodeId, Refusal};
 use tp_board::{Board, Ledgers, LinkShare, Shares};
-use tp_graph::{Feed, Graph, Message, Value};
-use tp_link::Link;
+use tp_graph::{Feed, Graph, Link, Message, Value};
 
 /// A link of messages from one node to another, with its share of the messages in flight. Its invariant: the share is
 /// the number of its messages, and each message goes from the one node to the other, to which the target of its feed

@@ -1,10 +1,11 @@
-//! What the command-line programs share: the options of a pool, error lines, input and output, and exit statuses. What
-//! each program does is not here.
+//! What the command-line programs share: the options of a pool, error lines, input and output, exit statuses, and the
+//! times of a run as Chrome's trace events. What each program does is not here.
 #![tactic(auto)]
 
 mod diagnostics;
 mod environment;
 mod options;
+mod profile;
 mod status;
 mod streams;
 mod words;
@@ -12,6 +13,7 @@ mod words;
 pub use diagnostics::{Diagnostics, Told, complain};
 pub use environment::{HasArguments, arguments, without_words, words_of};
 pub use options::{VERSION, config_of, count_of, count_option, with_counts};
+pub use profile::{Log, Profile, Run, Timed};
 pub use status::Status;
 pub use streams::{ReadFault, Source, write_text};
 pub use words::{ParserError, WordsFault, show};

@@ -1,6 +1,6 @@
 use Rattle.std.proofs.Common.{◌∙◌, ap}
-use Rattle.pool_stencil.specs.Grids.{evolve}
-use Rattle.pool_stencil.proofs.GridRefused.{grid_ran}
+use Rattle.pool_blocks.specs.Grids.{evolve}
+use Rattle.pool_blocks.proofs.GridRefused.{grid_ran}
 use Rattle.samples.proofs.runs.relax.Goals as goal
 
 pub returns : goal.returns

@@ -1,1 +1,0 @@
--- No definitions: the contracts of this crate use those of the crates below it.
