@@ -1,0 +1,29 @@
+/* check.h: the checks of the tests of task graphs, with cmocka: each says what it is about. */
+#ifndef CHECK_H
+#define CHECK_H
+#include "../cases.h"
+#include "gerfmuod_team.h"
+#include <time.h>
+
+static inline void check_at(int line, const char *file, const char *what, bool holds) {
+    if (!holds) print_error("%s\n", what), _fail(file, line);
+}
+#define check(what, holds) check_at(__LINE__, __FILE__, what, holds)
+
+/* Compares a refusal with the expected one. */
+static inline void check_refusal_at(int line, const char *file, const char *what, uint32_t got, uint32_t wanted) {
+    if (got != wanted) print_error("%u (%s), expected %u (%s)\n", got, gerfmuod_team_name(got), wanted, gerfmuod_team_name(wanted));
+    check_at(line, file, what, got == wanted);
+}
+#define check_refusal(what, got, wanted) check_refusal_at(__LINE__, __FILE__, what, got, wanted)
+#define check_ok(what, got) check_refusal(what, got, GERFMUOD_GRAPH_OK)
+
+static inline void sleep_for(long nanoseconds) { nanosleep(&(struct timespec){.tv_nsec = nanoseconds}, NULL); }
+
+/* A thread of the program that takes turns until it has to leave, and does nothing else; returns why it was refused. */
+static inline uint32_t take_turns(gerfmuod_team *team) {
+    gerfmuod_graph_answer answer = gerfmuod_team_turn(team, GERFMUOD_GRAPH_NONE);
+    while (answer.next == GERFMUOD_GRAPH_RUN) answer = gerfmuod_team_turn(team, answer.number);
+    return answer.refused;
+}
+#endif
