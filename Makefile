@@ -43,11 +43,9 @@ bin/samples: $(SOURCES) crates.txt
 
 lib: lib/libgerfmuod.a
 
-HEADERS := gerfmuod.h gerfmuod_tsan.h gerfmuod_process.h gerfmuod_graph.h gerfmuod_team.h gerfmuod.hpp gerfmuod.f90
+HEADERS := $(wildcard capi/include/* capi/fortran/*)
 
-PARTS := gerfmuod_calls.c gerfmuod_team.c gerfmuod_profile.h gerfmuod.map gerfmuod.pc.in
-
-lib/libgerfmuod.a: $(SOURCES) crates.txt $(addprefix capi/,$(HEADERS) $(PARTS))
+lib/libgerfmuod.a: $(SOURCES) crates.txt $(HEADERS) $(wildcard capi/src/*.*)
 	@tools/dev lib
 
 demo:
@@ -98,7 +96,7 @@ DOCDIR ?= $(or $(docdir),$(DATADIR)/doc/gerfmuod)
 PYTHONDIR ?= $(or $(pythondir),$(LIBDIR)/gerfmuod/python)
 VERSION = $(shell sed -n 's/^version = "\(.*\)"/\1/p' python/pyproject.toml)
 FOLDERS := PREFIX EXEC_PREFIX BINDIR LIBDIR INCLUDEDIR DATADIR MANDIR DOCDIR PYTHONDIR
-GIVEN = DESTDIR='$(abspath $(DESTDIR))' BUILT='$(abspath $(BUILT))' VERSION='$(VERSION)' HEADERS='$(addprefix capi/,$(HEADERS))' \
+GIVEN = DESTDIR='$(abspath $(DESTDIR))' BUILT='$(abspath $(BUILT))' VERSION='$(VERSION)' HEADERS='$(HEADERS)' \
         $(foreach name,$(FOLDERS),$(name)='$($(name))')
 
 install: $(BUILT)/bin/samples $(BUILT)/lib/libgerfmuod.a

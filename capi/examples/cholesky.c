@@ -225,8 +225,9 @@ int main(int argc, char **argv) {
     size_t bytes = (size_t)order * (size_t)order * sizeof(double);
     size_t units = (size_t)tiles * (size_t)(tiles + 1) * (size_t)(tiles + 2) / 6;
     start = random_matrix(), wanted = malloc(bytes), copy = malloc(bytes);
-    work = aligned_alloc(64, (bytes + 63) / 64 * 64);
-    if (!start || !wanted || !copy || !work || tiles * tile != order) return 1;
+    void *aligned;
+    if (!start || !wanted || !copy || posix_memalign(&aligned, 64, bytes) || tiles * tile != order) return 1;
+    work = aligned;
 #ifdef HAVE_STARPU
     need(starpu_init(NULL) != 0, "starpu_init");
 #endif

@@ -1,7 +1,7 @@
 """Proves all that the library for other languages is built on, and builds it: lib/libgerfmuod.a and libgerfmuod.so.0.
 
 The proved archive, lib/proved/libgerfmuod.a, is of Rattle alone. What is not proved is added to it whenever that changes: the
-inline calls as symbols, capi/gerfmuod_calls.c, and the team of threads, capi/gerfmuod_team.c. Then the archive has all that it
+inline calls as symbols, and the team of threads: the parts in C of capi/src. Then the archive has all that it
 links except the C library and POSIX threads. Next to it are the headers for C and C++, the module for Fortran, `gerfmuod.pc`
 for pkg-config, and `SOURCES`, a digest of what was added. Prints a line for each crate as it ends.
 
@@ -25,15 +25,15 @@ CRATE = build.LIBRARIES[0]
 PROVED = built.RESULTS[CRATE][1]
 ARCHIVE = "lib/libgerfmuod.a"
 SHARED = f"lib/{shared_object.SONAME}"
-HEADERS = ["capi/gerfmuod.h", "capi/gerfmuod_process.h", *shared_object.HEADERS]
-PACKAGE = "capi/gerfmuod.pc.in"
+HEADERS = shared_object.HEADERS
+PACKAGE = f"{shared_object.SOURCES}/gerfmuod.pc.in"
 DIGEST = "lib/SOURCES"
 
 
 def digest():
-    """Returns a hash of what the library is made of: the proved archive, the headers and the parts in C."""
-    result = hashlib.sha256(text_of(f"{PROVED}.sources").encode())
-    for path in [*HEADERS, *shared_object.PARTS, shared_object.PROFILE, shared_object.VISIBLE, PACKAGE]:
+    """Returns a hash of what the library is made of: the proved archive, the headers, and the parts in C and their compiler."""
+    result = hashlib.sha256(f"{text_of(f'{PROVED}.sources')}{shared_object.COMPILE}{shared_object.LINK}".encode())
+    for path in [*HEADERS, *repository.files_in(shared_object.SOURCES)]:
         result.update(text_of(path).encode())
     return result.hexdigest()
 

@@ -22,7 +22,7 @@ from .c_programs import output_of
 from .repository import TOP
 from .running import Tally
 
-COMPILER = ["mpicc", "-std=c11", "-Wall", "-Wextra", "-Werror", "-Wno-unused-function", "-O2", "-Icapi"]
+COMPILER = ["mpicc", "-std=c11", "-Wall", "-Wextra", "-Werror", "-Wno-unused-function", "-O2", "-Icapi/include"]
 LINK = ["-Llib", "-lgerfmuod", "-pthread", "-lm"]
 BLAS = ["-DHAVE_BLAS", "-lopenblas"]
 MPIRUN = ["mpirun", "--oversubscribe", "--mca", "mpi_yield_when_idle", "1"]

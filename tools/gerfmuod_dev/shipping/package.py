@@ -107,11 +107,11 @@ def examples(tree, program):
     documents, headers, flags = tree.path(*DOCUMENTS), tree.path("INCLUDEDIR"), "$(pkg-config --cflags --libs gerfmuod)"
     fortran = f"gfortran -J {os.path.dirname(program)} {headers}/gerfmuod.f90"
     rust = f"rustc --edition 2024 -O -L native={tree.path('LIBDIR')} -l static=gerfmuod"
-    yield "cc", f"cc {documents}/capi/two_waves.c -o {program} {flags} && {program}", "two generations"
-    yield "cc", f"cc {documents}/capi/dag/first.c -o {program} {flags} -lm && {program}", "3.844231"
-    yield "c++", f"c++ -std=c++17 {documents}/capi/dag/first.cpp -o {program} {flags} && {program}", "3.844231"
-    yield "gfortran", f"{fortran} {documents}/capi/dag/first.f90 -o {program} {flags} && {program}", "3.844231"
-    yield "rustc", f"{rust} {documents}/capi/ring.rs -o {program} && {program}", "none was left"
+    yield "cc", f"cc {documents}/capi/examples/two_waves.c -o {program} {flags} && {program}", "two generations"
+    yield "cc", f"cc {documents}/capi/examples/first.c -o {program} {flags} -lm && {program}", "3.844231"
+    yield "c++", f"c++ -std=c++17 {documents}/capi/examples/first.cpp -o {program} {flags} && {program}", "3.844231"
+    yield "gfortran", f"{fortran} {documents}/capi/examples/first.f90 -o {program} {flags} && {program}", "3.844231"
+    yield "rustc", f"{rust} {documents}/capi/examples/ring.rs -o {program} && {program}", "none was left"
     yield sys.executable, f"{sys.executable} {documents}/python/examples/first.py", "3.844231"
 
 
