@@ -32,16 +32,21 @@ static long resident(void) {
     return here * sysconf(_SC_PAGESIZE);
 }
 
-/* Tasks of three steps each, at eight nodes. */
-static unsigned long tasks(gerfmuod_core *core, uint32_t steps) {
+/* Tasks of three steps each, at eight nodes, with numbers that are `factor` apart. */
+static inline unsigned long numbered(gerfmuod_core *core, uint32_t steps, uint32_t factor, uint32_t first) {
     unsigned long refused = 0;
     for (uint32_t t = 0; t < steps / 3; t++) {
-        refused += gerfmuod_insert(core, t & 7, t, 0).refused != 0;
-        refused += gerfmuod_begin(core, t).refused != 0;
-        refused += gerfmuod_done(core, t).refused != 0;
+        refused += gerfmuod_insert(core, t & 7, t * factor + first, 0).refused != 0;
+        refused += gerfmuod_begin(core, t * factor + first).refused != 0;
+        refused += gerfmuod_done(core, t * factor + first).refused != 0;
     }
     return refused;
 }
+
+static unsigned long tasks(gerfmuod_core *core, uint32_t steps) { return numbered(core, steps, 1, 0); }
+static unsigned long sparse_tasks(gerfmuod_core *core, uint32_t steps) { return numbered(core, steps, 3, 0); }
+static unsigned long large_tasks(gerfmuod_core *core, uint32_t steps) { return numbered(core, steps, 1, 3000000000u); }
+static unsigned long hashed_tasks(gerfmuod_core *core, uint32_t steps) { return numbered(core, steps, 2654435761u, 0); }
 
 /* Messages of three steps each, from node to node. */
 static unsigned long messages(gerfmuod_core *core, uint32_t steps) {
@@ -66,32 +71,6 @@ static unsigned long made_tasks(gerfmuod_core *core, uint32_t steps) {
     return refused;
 }
 
-static unsigned long multiples(gerfmuod_core *core, uint32_t steps, uint32_t factor) {
-    unsigned long refused = 0;
-    for (uint32_t t = 0; t < steps / 3; t++) {
-        refused += gerfmuod_insert(core, t & 7, t * factor, 0).refused != 0;
-        refused += gerfmuod_begin(core, t * factor).refused != 0;
-        refused += gerfmuod_done(core, t * factor).refused != 0;
-    }
-    return refused;
-}
-
-/* Tasks whose numbers are consecutive and large, or spread over all 32 bits. */
-static unsigned long large_tasks(gerfmuod_core *core, uint32_t steps) {
-    unsigned long refused = 0;
-    for (uint32_t t = 0; t < steps / 3; t++) {
-        refused += gerfmuod_insert(core, t & 7, t + 3000000000u, 0).refused != 0;
-        refused += gerfmuod_begin(core, t + 3000000000u).refused != 0;
-        refused += gerfmuod_done(core, t + 3000000000u).refused != 0;
-    }
-    return refused;
-}
-
-static unsigned long hashed_tasks(gerfmuod_core *core, uint32_t steps) { return multiples(core, steps, 2654435761u); }
-
-/* Tasks whose numbers are 3 apart. */
-static unsigned long sparse_tasks(gerfmuod_core *core, uint32_t steps) { return multiples(core, steps, 3); }
-
 typedef struct {
     const char *name;
     unsigned long (*run)(gerfmuod_core *, uint32_t);
@@ -108,21 +87,37 @@ static const kind kinds[] = {
 };
 enum { KINDS = sizeof kinds / sizeof *kinds };
 
-static gerfmuod_answer locked(gerfmuod_core *core, uint32_t kind, uint32_t first, uint32_t second) {
-    pthread_mutex_lock(&lock);
-    gerfmuod_answer it = gerfmuod_step(core, kind, first, second, 0, 0);
-    pthread_mutex_unlock(&lock);
-    return it;
+typedef struct {
+    pthread_t thread;
+    gerfmuod_core *core;
+    uint32_t from, to;
+    bool spins;
+} reporter;
+
+static pthread_spinlock_t spin;
+
+static gerfmuod_answer step_of(const reporter *r, uint32_t kind, uint32_t first, uint32_t second) {
+    if (r->spins) pthread_spin_lock(&spin);
+    else pthread_mutex_lock(&lock);
+    gerfmuod_answer answer = gerfmuod_step(r->core, kind, first, second, 0, 0);
+    if (r->spins) pthread_spin_unlock(&spin);
+    else pthread_mutex_unlock(&lock);
+    return answer;
+}
+
+static void *report(void *argument) {
+    const reporter *r = argument;
+    for (uint32_t t = r->from; t < r->to; t++) {
+        if (step_of(r, GERFMUOD_STEP_INSERT, t & 7, t).refused) exit(1);
+        if (step_of(r, GERFMUOD_STEP_BEGIN, t, 0).refused) exit(1);
+        if (step_of(r, GERFMUOD_STEP_DONE, t, 0).refused) exit(1);
+    }
+    return NULL;
 }
 
 static unsigned long locked_tasks(gerfmuod_core *core, uint32_t steps) {
-    unsigned long refused = 0;
-    for (uint32_t t = 0; t < steps / 3; t++) {
-        refused += locked(core, GERFMUOD_STEP_INSERT, t & 7, t).refused != 0;
-        refused += locked(core, GERFMUOD_STEP_BEGIN, t, 0).refused != 0;
-        refused += locked(core, GERFMUOD_STEP_DONE, t, 0).refused != 0;
-    }
-    return refused;
+    reporter all = {.core = core, .to = steps / 3};
+    return report(&all) != NULL;
 }
 
 static unsigned long counted(gerfmuod_core *core, uint32_t steps) {
@@ -226,34 +221,6 @@ static int stacks(void) {
 
 /* ---- locks */
 
-typedef struct {
-    pthread_t thread;
-    gerfmuod_core *core;
-    uint32_t from, to;
-    bool spins;
-} reporter;
-
-static pthread_spinlock_t spin;
-
-static gerfmuod_answer step_of(const reporter *r, uint32_t kind, uint32_t first, uint32_t second) {
-    if (r->spins) pthread_spin_lock(&spin);
-    else pthread_mutex_lock(&lock);
-    gerfmuod_answer answer = gerfmuod_step(r->core, kind, first, second, 0, 0);
-    if (r->spins) pthread_spin_unlock(&spin);
-    else pthread_mutex_unlock(&lock);
-    return answer;
-}
-
-static void *report(void *argument) {
-    const reporter *r = argument;
-    for (uint32_t t = r->from; t < r->to; t++) {
-        if (step_of(r, GERFMUOD_STEP_INSERT, t & 7, t).refused) exit(1);
-        if (step_of(r, GERFMUOD_STEP_BEGIN, t, 0).refused) exit(1);
-        if (step_of(r, GERFMUOD_STEP_DONE, t, 0).refused) exit(1);
-    }
-    return NULL;
-}
-
 /* The best of three runs, in nanoseconds per step of all threads together. */
 static double contended(uint32_t threads, bool spins, uint32_t steps) {
     double least = 1e300;
@@ -264,10 +231,7 @@ static double contended(uint32_t threads, bool spins, uint32_t steps) {
         if (gerfmuod_open(&core, 8)) exit(1);
         double from = now();
         for (uint32_t i = 0; i < threads; i++) {
-            reporters[i].core = &core;
-            reporters[i].from = i * each;
-            reporters[i].to = (i + 1) * each;
-            reporters[i].spins = spins;
+            reporters[i] = (reporter){.core = &core, .from = i * each, .to = (i + 1) * each, .spins = spins};
             if (pthread_create(&reporters[i].thread, NULL, report, &reporters[i])) exit(1);
         }
         for (uint32_t i = 0; i < threads; i++) pthread_join(reporters[i].thread, NULL);
@@ -310,6 +274,6 @@ int main(int argc, char **argv) {
     if (argc == 3 && strcmp(argv[1], "locks") == 0) return locks(steps);
     if (argc == 4 && strcmp(argv[1], "count") == 0) return count(argv[2], steps);
     if (argc == 2 && strcmp(argv[1], "stack") == 0) return stacks();
-    fputs("bench time N | bench locks N | bench count KIND N | bench stack\n", stderr);
+    fputs("steps time N | steps locks N | steps count KIND N | steps stack\n", stderr);
     return 2;
 }

@@ -83,20 +83,10 @@ def add_heap():
         subprocess.run(["ar", "rs", archive, *sorted(os.listdir(folder))], cwd=folder, check=True, capture_output=True)
 
 
-def filled(template, values):
-    """Returns a template with the values of its names, which are between two signs @."""
-    return re.sub(r"@(\w+)@", lambda found: values[found[1]], template)
-
-
-def package(folders):
-    """Returns the description for pkg-config of a library in these folders."""
-    return filled(text_of(PACKAGE), {**folders, "VERSION": version.version()})
-
-
 def write_package():
     """Writes the description for pkg-config, of this folder."""
-    with open("lib/gerfmuod.pc", "w", encoding="utf-8") as file:
-        file.write(package(dict.fromkeys(("PREFIX", "EXEC_PREFIX", "LIBDIR", "INCLUDEDIR"), "${pcfiledir}")))
+    values = {**dict.fromkeys(("PREFIX", "EXEC_PREFIX", "LIBDIR", "INCLUDEDIR"), "${pcfiledir}"), "VERSION": version.version()}
+    running.write("lib/gerfmuod.pc", re.sub(r"@(\w+)@", lambda found: values[found[1]], text_of(PACKAGE)))
 
 
 def compile_over(libraries):

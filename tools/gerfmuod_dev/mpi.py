@@ -18,12 +18,13 @@ import sys
 import tempfile
 
 from . import library, profiles, repository, running
-from .c_programs import output_of
+from .c_programs import WARNINGS, output_of
 from .repository import TOP
 from .running import Tally
+from .shared_object import INCLUDE, environment_options
 
-COMPILER = ["mpicc", "-std=c11", "-Wall", "-Wextra", "-Werror", "-Wno-unused-function", "-O2", "-Icapi/include"]
-LINK = ["-Llib", "-lgerfmuod", "-pthread", "-lm"]
+COMPILER = ["mpicc", "-std=c11", *WARNINGS, "-Wno-unused-function", "-O2", f"-I{INCLUDE}", *environment_options("CFLAGS")]
+LINK = [f"-L{TOP}/lib", "-lgerfmuod", "-pthread", "-lm", *environment_options("LDFLAGS")]
 BLAS = ["-DHAVE_BLAS", "-lopenblas"]
 MPIRUN = ["mpirun", "--oversubscribe", "--mca", "mpi_yield_when_idle", "1"]
 ROOT = {"OMPI_ALLOW_RUN_AS_ROOT": "1", "OMPI_ALLOW_RUN_AS_ROOT_CONFIRM": "1"}
@@ -76,7 +77,7 @@ def judge_fault(tally, program, runs, seconds):
 
 def compile_program(name, folder, options=()):
     """Links capi/mpi/NAME.c with the library; returns its path in the folder."""
-    output_of([*COMPILER, f"capi/mpi/{name}.c", "-o", f"{folder}/{name}", *LINK, *options], cwd=TOP)
+    output_of([*COMPILER, f"{TOP}/capi/mpi/{name}.c", "-o", f"{folder}/{name}", *LINK, *options])
     return f"{folder}/{name}"
 
 

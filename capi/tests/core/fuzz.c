@@ -2,13 +2,14 @@
  * ones, whose audits are compared with traces.h. Of some calls an allocation is refused: they have to change nothing, and to
  * succeed when they are repeated.
  *
- *   cc -O2 -Icapi/include capi/tests/core/fuzz.c -Llib -lgerfmuod -Wl,--wrap=malloc,--wrap=realloc -o fuzz
- *   ./fuzz CALLS [SEED [forgets|early]]    forgets: the model sometimes loses a message; early: it sometimes finishes a task. Both
- *                                          have to be detected
+ *   fuzz CALLS [SEED [forgets|early]]    forgets: the model sometimes loses a message; early: it sometimes finishes a task. Both
+ *                                        have to be detected
  *
  * Each core has up to 100 random steps in a generation. Then it is mostly run to its end, and reopened, restarted or closed. In
  * half of the cores the numbers of tasks, actions and messages are spread over 32 bits. The exit status is 1 at the first
  * difference. */
+#include "../random.h"
+#include "../wrap.h"
 #include "traces.h"
 #include <inttypes.h>
 #include <stdlib.h>
@@ -16,27 +17,20 @@
 enum { STEPS = 100, FEW = 24, SEVERAL = 4, MANY = 3000 };
 enum count { REFUSED, TAKEN, QUIET, ENDED, REOPENED, RESTARTED, RESERVED, NO_MEMORY, SOUND, UNSOUND, COUNTS };
 
-static uint64_t seed, calls, counts[COUNTS];
+static uint64_t calls, counts[COUNTS];
 static gerfmuod_core core;
 static model m;
 static bool is_far, forgets, is_early;
 static uint32_t refuse_in; /* the allocation that is refused, counted from 1; 0: none */
 
-void *__real_malloc(size_t bytes);
-void *__real_realloc(void *old, size_t bytes);
-void *__wrap_malloc(size_t bytes);
-void *__wrap_realloc(void *old, size_t bytes);
+WRAP(void *, malloc, (size_t bytes));
+WRAP(void *, realloc, (void *old, size_t bytes));
 
 static bool is_refused(void) { return refuse_in != 0 && --refuse_in == 0; }
 
 void *__wrap_malloc(size_t bytes) { return is_refused() ? NULL : __real_malloc(bytes); }
 
 void *__wrap_realloc(void *old, size_t bytes) { return is_refused() ? NULL : __real_realloc(old, bytes); }
-
-static uint32_t below(uint32_t limit) {
-    seed ^= seed << 13, seed ^= seed >> 7, seed ^= seed << 17;
-    return (uint32_t)((seed >> 11) % limit);
-}
 
 /* A step, with what makes it if `is_by`. */
 typedef struct {

@@ -5,12 +5,12 @@
  * memory if no allocation failed in it, and gerfmuod_open may not allocate. One list reserves memory first: its steps, and the
  * settling, may not allocate.
  *
- *   cc -O2 -Icapi/include capi/tests/core/out_of_memory.c -Llib -lgerfmuod -Wl,--wrap=malloc,--wrap=realloc -o out_of_memory
- *   ./out_of_memory [takes|changes|lies|forgets]   takes: opening allocates; changes: a call that is out of memory takes a step;
- *                                                  lies: one says so although it has memory; forgets: nothing is reserved. Each
- *                                                  has to be detected
+ *   out_of_memory [takes|changes|lies|forgets]   takes: opening allocates; changes: a call that is out of memory takes a step;
+ *                                                lies: one says so although it has memory; forgets: nothing is reserved. Each
+ *                                                has to be detected
  *
  * The exit status is 1 if a check fails. */
+#include "../wrap.h"
 #include "gerfmuod.h"
 #include <stdio.h>
 #include <stdlib.h>
@@ -53,10 +53,8 @@ static bool is_lasting, has_failed;
 /* Whether memory was reserved for all further steps. */
 static bool is_reserved;
 
-void *__real_malloc(size_t bytes);
-void *__real_realloc(void *old, size_t bytes);
-void *__wrap_malloc(size_t bytes);
-void *__wrap_realloc(void *old, size_t bytes);
+WRAP(void *, malloc, (size_t bytes));
+WRAP(void *, realloc, (void *old, size_t bytes));
 
 static bool fails(void) {
     allocations++;

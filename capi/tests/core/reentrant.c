@@ -1,19 +1,16 @@
 /* reentrant.c: calls on a core from inside of a call on it, as a malloc that reports to the core would make them. Each of them has
- * to be refused as Busy, and the call that runs has to return what it returns without them.
- * Link with -Wl,--wrap=NAME for malloc, realloc and free. */
+ * to be refused as Busy, and the call that runs has to return what it returns without them. */
 #include "../cases.h"
+#include "../wrap.h"
 #include "gerfmuod.h"
 
 static gerfmuod_core core;
 static uint32_t expected;   /* the refusal of calls from inside; 0: no call is made */
 static unsigned from_inside; /* how often all calls were made */
 
-void *__real_malloc(size_t bytes);
-void *__real_realloc(void *old, size_t bytes);
-void __real_free(void *old);
-void *__wrap_malloc(size_t bytes);
-void *__wrap_realloc(void *old, size_t bytes);
-void __wrap_free(void *old);
+WRAP(void *, malloc, (size_t bytes));
+WRAP(void *, realloc, (void *old, size_t bytes));
+WRAP(void, free, (void *old));
 
 /* Makes each call on the core that a call may run on, unless this is a call of malloc from inside of such a call. */
 static void call_all(void) {

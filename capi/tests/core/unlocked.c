@@ -1,7 +1,6 @@
 /* unlocked.c: two threads make calls on one core, one of them with or without the mutex that protects it.
  *
- *   cc -O1 -g -pthread -fsanitize=thread -Icapi/include capi/tests/core/unlocked.c -Llib -lgerfmuod -o unlocked
- *   ./unlocked step|settle|read [unlocked]
+ *   unlocked step|settle|read [unlocked]     built with -fsanitize=thread
  *
  * ThreadSanitizer reports the missing mutex as a data race, although the library is compiled without it: see gerfmuod_tsan.h.
  * The threads take turns by a counter that orders nothing else, so their calls never overlap, and nothing else is wrong. */

@@ -1,31 +1,21 @@
 /* failures.c: a graph and a team when an allocation fails, a thread cannot be created, or a lock or a condition variable not be
  * initialized. For each N, the Nth allocation of the same run fails: the call is refused as NO_MEMORY, changes nothing, is repeated,
- * and succeeds; the graph then runs to its end, twice. Then the memory of a large graph is measured.
- *
- * Link with -Wl,--wrap=NAME for each function below whose name begins with __wrap_. */
+ * and succeeds; the graph then runs to its end, twice. Then the memory of a large graph is measured. */
 #define _GNU_SOURCE
+#include "../wrap.h"
 #include "check.h"
 #include <malloc.h>
 #include <pthread.h>
 
-void *__real_malloc(size_t);
-void *__real_calloc(size_t, size_t);
-void *__real_realloc(void *, size_t);
-void __real_free(void *);
-int __real_pthread_create(pthread_t *, const pthread_attr_t *, void *(*)(void *), void *);
-int __real_pthread_mutex_init(pthread_mutex_t *, const pthread_mutexattr_t *);
-int __real_pthread_cond_init(pthread_cond_t *, const pthread_condattr_t *);
-int __real_pthread_mutex_destroy(pthread_mutex_t *);
-int __real_pthread_cond_destroy(pthread_cond_t *);
-void *__wrap_malloc(size_t);
-void *__wrap_calloc(size_t, size_t);
-void *__wrap_realloc(void *, size_t);
-void __wrap_free(void *);
-int __wrap_pthread_create(pthread_t *, const pthread_attr_t *, void *(*)(void *), void *);
-int __wrap_pthread_mutex_init(pthread_mutex_t *, const pthread_mutexattr_t *);
-int __wrap_pthread_cond_init(pthread_cond_t *, const pthread_condattr_t *);
-int __wrap_pthread_mutex_destroy(pthread_mutex_t *);
-int __wrap_pthread_cond_destroy(pthread_cond_t *);
+WRAP(void *, malloc, (size_t));
+WRAP(void *, calloc, (size_t, size_t));
+WRAP(void *, realloc, (void *, size_t));
+WRAP(void, free, (void *));
+WRAP(int, pthread_create, (pthread_t *, const pthread_attr_t *, void *(*)(void *), void *));
+WRAP(int, pthread_mutex_init, (pthread_mutex_t *, const pthread_mutexattr_t *));
+WRAP(int, pthread_cond_init, (pthread_cond_t *, const pthread_condattr_t *));
+WRAP(int, pthread_mutex_destroy, (pthread_mutex_t *));
+WRAP(int, pthread_cond_destroy, (pthread_cond_t *));
 
 static long allocations_left = -1, threads_left = -1, inits_left = -1; /* until one fails; if negative, none fails */
 static size_t allocated;                              /* bytes, in all threads */

@@ -7,6 +7,7 @@
  * The others are run by threads that do as they are told: those that sleep come back when they are signalled, and sometimes
  * unasked. Such a run comes to its end: whenever no thread can go on, an input from outside is awaited. Many run again. The exit
  * status is 1 at the first difference. */
+#include "../random.h"
 #include "model.h"
 #include <inttypes.h>
 #include <stdio.h>
@@ -15,7 +16,7 @@
 enum { MOST_THREADS = 6 };
 enum state { AWAY, RUNS, SPINS, SLEEPS, SIGNALLED, LEFT };
 
-static uint64_t seed, calls, refused, ran, waited, signalled, reruns, later;
+static uint64_t calls, refused, ran, waited, signalled, reruns, later;
 static gerfmuod_graph graph;
 static model m;
 static char fault; /* the first letter of the model's fault */
@@ -25,11 +26,6 @@ static struct {
     enum state state;
     uint32_t task; /* if it runs one */
 } thread[MOST_THREADS];
-
-static uint32_t below(uint32_t limit) {
-    seed ^= seed << 13, seed ^= seed >> 7, seed ^= seed << 17;
-    return (uint32_t)((seed >> 11) % limit);
-}
 
 /* Returns mostly a number below the limit, sometimes one of the next numbers, and sometimes any number. */
 static uint32_t about(uint32_t limit) {

@@ -11,10 +11,11 @@
  * the beginning is described: its bodies make the other tasks. Many graphs run again, with gerfmuod_team_again. If the
  * library has gerfmuod_audit, it judges the trace of each run. The exit status is 1 if a check failed, and 124 if a round did not end. */
 #define _POSIX_C_SOURCE 200809L
+#include "../../examples/timing.h"
+#include "../random.h"
 #include "gerfmuod.h"
 #include "gerfmuod_team.h"
 #include "limit.h"
-#include "../../examples/timing.h"
 #include <pthread.h>
 #include <sched.h>
 #include <string.h>
@@ -23,7 +24,6 @@
 
 enum { MOST = 300, MOST_THREADS = 16, INPUTS = 4, OUTSIDE = 2 };
 
-static uint64_t seed = 88172645463325253u;
 static uint32_t tasks, threads, failing;
 static uint32_t described;        /* the number of tasks that are there before the run; bodies make the others */
 static uint32_t made;             /* the number of tasks that are there, if some are made by bodies; `making` protects it */
@@ -41,11 +41,6 @@ static bool is_early;
 static const char *folder; /* for the traces and events; NULL if there are none */
 static unsigned written;
 static gerfmuod_team *team;
-
-static uint32_t below(uint32_t limit) {
-    seed ^= seed << 13, seed ^= seed >> 7, seed ^= seed << 17;
-    return (uint32_t)((seed >> 11) % limit);
-}
 
 static void clear_run(void) {
     arrived = release_count = 0;

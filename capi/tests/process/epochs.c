@@ -1,7 +1,6 @@
 /* epochs.c: n processes in one program, epoch after epoch, over a network that delays, reorders and duplicates messages.
  *
- *   cc -O2 -Icapi/include capi/tests/process/epochs.c -Llib -lgerfmuod -o epochs
- *   ./epochs PROCESSES EPOCHS RUNS [right|unmarked|dropped]
+ *   epochs PROCESSES EPOCHS RUNS [right|unmarked|dropped]
  *
  * Each process reopens at a random time. Checked: when a process learns of the end of an epoch, all processes have come to the
  * epoch, none in it has work, and no message of it is under way; no message comes after the end of its epoch; no message is
@@ -9,6 +8,7 @@
  *
  * The others are faulty variants, which have to be detected. unmarked: counts a message under its receiver's epoch. dropped:
  * drops messages that are refused as NOT_YET. The exit status is 1 for a wrong end, 2 if a run does not end. */
+#include "../random.h"
 #include "gerfmuod_process.h"
 #include <inttypes.h>
 #include <stdio.h>
@@ -32,32 +32,24 @@ static uint64_t budget[MAX_EPOCHS];
 static uint64_t *known; /* for each process, the number of epochs whose end it knows */
 static uint64_t ends, early, after_the_end, far_apart, late_messages, late_controls, kept;
 
-static uint64_t seed;
-static uint32_t draw(uint32_t below) {
-    seed ^= seed << 13;
-    seed ^= seed >> 7;
-    seed ^= seed << 17;
-    return (uint32_t)((seed >> 32) * below >> 32);
-}
-
 static void do_work(uint32_t i) {
     gerfmuod_process *p = &process[i];
-    if (!budget[p->epoch] || !draw(3)) {
+    if (!budget[p->epoch] || !below(3)) {
         gerfmuod_process_finish_work(p);
         return;
     }
     budget[p->epoch]--;
-    if (draw(2)) {
+    if (below(2)) {
         gerfmuod_process_add_work(p);
     } else if (in_flight < room && !gerfmuod_process_count_sent(p)) {
-        messages[in_flight].to = draw(n);
+        messages[in_flight].to = below(n);
         messages[in_flight++].epoch = p->epoch;
     }
 }
 
 /* A message arrives. Returns its receiver. */
 static uint32_t message_comes(void) {
-    size_t which = draw((uint32_t)in_flight);
+    size_t which = below((uint32_t)in_flight);
     uint32_t i = messages[which].to;
     uint32_t refused = gerfmuod_process_count_received(&process[i], is_unmarked ? process[i].epoch : messages[which].epoch);
     late_messages += refused == GERFMUOD_PROCESS_LATE;
@@ -72,13 +64,13 @@ static uint32_t message_comes(void) {
 }
 
 static uint32_t control_comes(void) {
-    size_t which = draw((uint32_t)controls_in_flight);
+    size_t which = below((uint32_t)controls_in_flight);
     gerfmuod_control_message c = controls[which];
     uint32_t i = (uint32_t)c.to, refused = gerfmuod_process_take(&process[i], &c);
     bool is_kept = refused == GERFMUOD_PROCESS_NOT_YET && !is_dropping;
     late_controls += refused == GERFMUOD_PROCESS_LATE;
     kept += refused == GERFMUOD_PROCESS_NOT_YET;
-    if (!is_kept && (refused == GERFMUOD_PROCESS_LATE || draw(4))) controls[which] = controls[--controls_in_flight];
+    if (!is_kept && (refused == GERFMUOD_PROCESS_LATE || below(4))) controls[which] = controls[--controls_in_flight];
     return i;
 }
 
@@ -130,19 +122,19 @@ static bool run(void) {
     }
     for (uint32_t e = 0; e < epochs; e++) budget[e] = 16ull * n;
     while (done < n && events--) {
-        uint32_t i = draw(n), what = draw(8);
+        uint32_t i = below(n), what = below(8);
         if (what < 2) {
             if (process[i].pending) do_work(i);
         } else if (what < 4) {
             if (in_flight) i = message_comes();
         } else if (what < 7) {
             if (controls_in_flight) i = control_comes();
-        } else if (process[i].epoch + 1 < epochs && !draw(4)) {
+        } else if (process[i].epoch + 1 < epochs && !below(4)) {
             gerfmuod_process_reopen(&process[i]);
         }
         ask_detector(i);
         ask_detector(0);
-        if (draw(n) < 4) done = informed();
+        if (below(n) < 4) done = informed();
     }
     return done == n;
 }

@@ -5,6 +5,7 @@
  * with a struct that C wrote. Each field is read by some call and written by some call. With the argument `swapped` two fields
  * of the expected structs are swapped: then each case that compares them has to fail. */
 #include "../cases.h"
+#include "../random.h"
 #include "gerfmuod_process.h"
 
 enum { BYTES = offsetof(gerfmuod_process, over_right) + 1 };
@@ -245,16 +246,13 @@ CASE(any_flags) {
 
 /* Random bytes as a control message are refused and change nothing. */
 CASE(any_bytes) {
-    uint64_t seed = 0x9e3779b97f4a7c15u;
+    seed = 0x9e3779b97f4a7c15u;
     for (int k = 0; k < 100000; k++) {
         gerfmuod_process p = known_bytes(mark), as = p;
         gerfmuod_control_message c;
         unsigned char *bytes = (unsigned char *)&c;
         for (size_t b = 0; b < sizeof c; b++) {
-            seed ^= seed << 13;
-            seed ^= seed >> 7;
-            seed ^= seed << 17;
-            bytes[b] = (unsigned char)(seed >> 32);
+            bytes[b] = (unsigned char)below(256);
         }
         check(gerfmuod_process_take(&p, &c), GERFMUOD_PROCESS_MALFORMED, &p, &as);
         c.token %= 3;

@@ -1,7 +1,6 @@
 /* storm.c: n processes in one program, over a network that delays, reorders, duplicates or loses messages.
  *
- *   cc -O2 -Icapi/include capi/tests/process/storm.c -Llib -lgerfmuod -o storm
- *   ./storm PROCESSES RUNS [right|fifo|lossy|late|early|uncounted|twice]
+ *   storm PROCESSES RUNS [right|fifo|lossy|late|early|uncounted|twice]
  *
  * Each run is a random program. A process with work adds work, sends messages or finishes a piece of work. The program
  * counts the open work and the messages under way independently of the detector, and checks:
@@ -14,6 +13,7 @@
  * 64 control messages and one in 256 messages is lost, so a run may be silent, but not early.
  * The others are faulty variants, which show that the checks can fail. late: counts a receipt only when its work is done.
  * early: closes the work of a message when it comes. uncounted: does not count what it sends. twice: counts receipts twice. */
+#include "../random.h"
 #include "gerfmuod_process.h"
 #include <inttypes.h>
 #include <stdio.h>
@@ -42,14 +42,6 @@ static size_t messages, message_room;
 static uint64_t all_work, lost, controls_sent, refused, budget, quiet_wave;
 static uint32_t informed;
 static bool is_quiet, was_early;
-
-static uint64_t seed;
-static uint32_t draw(uint32_t below) {
-    seed ^= seed << 13;
-    seed ^= seed >> 7;
-    seed ^= seed << 17;
-    return (uint32_t)((seed >> 32) * below >> 32);
-}
 
 static void *grown(void *old, size_t bytes) {
     void *room = realloc(old, bytes);
@@ -108,13 +100,13 @@ static void send(uint32_t i) {
         message_room = 2 * message_room + 1024;
         message = grown(message, message_room * sizeof *message);
     }
-    message[messages++] = draw(n);
+    message[messages++] = below(n);
 }
 
 static void do_work(uint32_t i) {
-    if (budget && draw(3)) {
+    if (budget && below(3)) {
         budget--;
-        if (draw(2)) {
+        if (below(2)) {
             send(i);
         } else if (!unreported[i]) {
             refused += gerfmuod_process_add_work(&process[i]) != 0;
@@ -131,10 +123,10 @@ static void do_work(uint32_t i) {
 }
 
 static void message_comes(void) {
-    size_t k = draw((uint32_t)messages);
+    size_t k = below((uint32_t)messages);
     uint32_t i = message[k];
     message[k] = message[--messages];
-    if (mode == LOSSY && !draw(256)) {
+    if (mode == LOSSY && !below(256)) {
         lost++;
         return;
     }
@@ -148,12 +140,12 @@ static void message_comes(void) {
 
 /* A control message arrives. Returns its receiver. */
 static uint32_t control_comes(void) {
-    size_t k = mode == FIFO ? head : head + draw((uint32_t)(tail - head));
+    size_t k = mode == FIFO ? head : head + below((uint32_t)(tail - head));
     gerfmuod_control_message c = control[k];
     uint32_t i = (uint32_t)c.to;
-    bool is_lost = mode == LOSSY && !draw(64);
+    bool is_lost = mode == LOSSY && !below(64);
     if (mode == FIFO) head++;
-    else if (is_lost || draw(4)) control[k] = control[--tail];
+    else if (is_lost || below(4)) control[k] = control[--tail];
     if (head == tail) head = tail = 0;
     if (!is_lost) gerfmuod_process_take(&process[i], &c);
     return i;
@@ -174,10 +166,10 @@ static bool run(uint64_t events) {
         knows[i] = has_ended[i] = false;
     }
     while (informed < n && events--) {
-        uint32_t i = draw(n), what = draw(8);
+        uint32_t i = below(n), what = below(8);
         if (what < 2) {
             if (active_count) {
-                i = active[draw(active_count)];
+                i = active[below(active_count)];
                 do_work(i);
             }
         } else if (what < 4) {
