@@ -28,6 +28,8 @@
 # make uninstall  removes what make install put there; it takes the same DESTDIR, PREFIX and DATADIR
 # make dist     packs the committed files into gerfmuod-VERSION.tar.gz
 # make clean    removes everything that was proved and built
+# The compilers of C, C++ and Fortran and their options are CC, CXX, FC, CFLAGS, CXXFLAGS, FFLAGS and LDFLAGS, of make or of the
+# environment.
 .PHONY: all lib demo test mpi gate mutants times soak bench docs install uninstall dist clean
 
 all: bin/samples

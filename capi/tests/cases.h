@@ -1,4 +1,4 @@
-/* cases.h: cmocka, and what all tests that use it include. CASE begins a case, which RUN lists by its name. */
+/* cases.h: cmocka, and what all tests that use it include. CASE begins a case; RUN runs an array of cases. */
 #ifndef CASES_H
 #define CASES_H
 #include <setjmp.h>
@@ -13,6 +13,6 @@
 #include <cmocka.h>
 
 #define CASE(name) static void name(void **unused __attribute__((unused)))
-/* Runs an array of cases, and returns how many failed. */
+/* Returns how many cases of the array failed. */
 #define RUN(cases) cmocka_run_group_tests(cases, NULL, NULL)
 #endif

@@ -96,9 +96,10 @@ def output_of(command, **options):
 
 
 def judge(tally, command, expected, **options):
-    """Runs a command, and counts whether its status and output are the expected ones, and the cases of cmocka that it reports."""
+    """Runs a command, and counts whether its status and output are the expected ones, and the cases of cmocka that it reports.
+    Returns the output."""
     given = {"CMOCKA_MESSAGE_OUTPUT": "TAP", "OPENBLAS_NUM_THREADS": "1", **os.environ}
-    result = start(command, timeout=tally.seconds, **{"env": given, **options})
+    result = start(command, **{"timeout": tally.seconds, "env": given, **options})
     if result.status == NOT_ENDED:
         tally.seconds = SECONDS_AFTER_A_HANG
     output, is_failure = result.out.decode(errors="replace"), expected.status == FAILURE
@@ -107,6 +108,7 @@ def judge(tally, command, expected, **options):
     has_status = result.status not in (0, NOT_ENDED) if is_failure else result.status == expected.status
     wanted = f"status {result.status}, expected {'any but 0' if is_failure else expected.status}, with {expected.output!r}"
     tally.judge(has_status and expected.output in output, f"{' '.join(command)}: {wanted}: {short(result.out + result.err, 2000)}")
+    return output
 
 
 class Build:
@@ -165,8 +167,8 @@ def run_kind(tally, build, program, kind):
     for run in checked:
         judge(tally, [*VALGRIND, path, *run.arguments], run)
     more = f", {len(checked)} under valgrind" if checked else ""
-    print(f"capi/{program.source}{''.join(f' {option}' for option in options[:1])}: {len(own)} runs{more}"
-          f"{', FAILED' * (tally.failed > before)}", flush=True)
+    count = f"{len(own)} run{'s' * (len(own) != 1)}{more}{', FAILED' * (tally.failed > before)}"
+    print(f"capi/{program.source}{''.join(f' {option}' for option in options[:1])}: {count}", flush=True)
 
 
 def run_programs(tally, build, own):

@@ -18,6 +18,18 @@ static inline void check_refusal_at(int line, const char *file, const char *what
 #define check_refusal(what, got, wanted) check_refusal_at(__LINE__, __FILE__, what, got, wanted)
 #define check_ok(what, got) check_refusal(what, got, GERFMUOD_GRAPH_OK)
 
+static inline gerfmuod_team *new_team(void) {
+    gerfmuod_team *team;
+    check_ok("open", gerfmuod_team_open(&team));
+    return team;
+}
+
+/* A body. */
+static inline int nothing(void *context, uint32_t task) {
+    (void)context, (void)task;
+    return 0;
+}
+
 static inline void sleep_for(long nanoseconds) { nanosleep(&(struct timespec){.tv_nsec = nanoseconds}, NULL); }
 
 /* A thread of the program that takes turns until it has to leave, and does nothing else; returns why it was refused. */

@@ -199,8 +199,7 @@ static void check_team_describe(bool is_recording) {
     for (long n = 1; has_failed; n++) {
         uint8_t ran[TASKS] = {0};
         uint32_t at;
-        gerfmuod_team *team;
-        check_ok("open", gerfmuod_team_open(&team));
+        gerfmuod_team *team = new_team();
         if (is_recording) check_ok("record", gerfmuod_team_record(team, 1));
         allocations_left = n;
         uint32_t refused = gerfmuod_team_describe(team, TASKS, NULL, offsets, inputs, &at);
@@ -218,8 +217,7 @@ static void check_team_describe(bool is_recording) {
 CASE(too_few_threads) {
     for (long n = 1; n <= 3; n++) {
         uint8_t ran[TASKS] = {0};
-        gerfmuod_team *team;
-        check_ok("open", gerfmuod_team_open(&team));
+        gerfmuod_team *team = new_team();
         check_ok("a graph", gerfmuod_team_describe(team, TASKS, NULL, offsets, inputs, NULL));
         threads_left = n;
         check_refusal("a thread that is not created", gerfmuod_team_run(team, 4, body, ran), GERFMUOD_TEAM_NOT_STARTED);

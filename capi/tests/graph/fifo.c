@@ -34,7 +34,7 @@ static int body(void *context, uint32_t task) {
 
 CASE(order_of_ready_tasks) {
     uint32_t ran = 0;
-    check_ok("open", gerfmuod_team_open(&team));
+    team = new_team();
     for (uint32_t t = 0; t < 2 * FIRST; t++) {
         uint32_t input = reader_of(t), is_reader = t >= FIRST;
         check_ok("a task", gerfmuod_team_spawn(team, class_of(t), &input, is_reader, is_reader && awaits(t), NULL, NULL, NULL));

@@ -14,8 +14,7 @@ enum { ROUNDS = 20, TASKS = 20, SLICES = 9 };
     static void name##_once(void)
 
 static gerfmuod_team *recording_team(uint32_t tasks) {
-    gerfmuod_team *team;
-    if (gerfmuod_team_open(&team)) exit(3);
+    gerfmuod_team *team = new_team();
     check_ok("record", gerfmuod_team_record(team, SLICES));
     for (uint32_t t = 0; t < tasks; t++) check_ok("task", gerfmuod_team_task(team, 0, NULL, 0, NULL));
     return team;
@@ -25,11 +24,6 @@ static pthread_t begin(void *(*body)(void *), gerfmuod_team *team) {
     pthread_t thread;
     if (pthread_create(&thread, NULL, body, team)) exit(3);
     return thread;
-}
-
-static int nothing(void *context, uint32_t task) {
-    (void)context, (void)task;
-    return 0;
 }
 
 static void *turns(void *team) { return (void *)(uintptr_t)take_turns(team); }

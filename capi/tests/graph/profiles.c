@@ -43,8 +43,7 @@ static uint64_t number_after(const char *text, const char *key) {
 }
 
 static gerfmuod_team *team_with(uint32_t slices, uint32_t tasks) {
-    gerfmuod_team *team;
-    if (gerfmuod_team_open(&team)) exit(3);
+    gerfmuod_team *team = new_team();
     check_ok("record", gerfmuod_team_record(team, slices));
     for (uint32_t t = 0; t < tasks; t++) {
         uint32_t before = t - 1;
@@ -57,10 +56,6 @@ static gerfmuod_team *team_with(uint32_t slices, uint32_t tasks) {
 static gerfmuod_team *own;
 static uint32_t inside; /* what gerfmuod_team_profile returned inside of a body */
 
-static int nothing(void *context, uint32_t task) {
-    (void)context, (void)task;
-    return 0;
-}
 static int profile_inside(void *context, uint32_t task) {
     (void)context, (void)task;
     inside = gerfmuod_team_profile(own, stdout);
@@ -76,8 +71,7 @@ static int run_other(void *context, uint32_t task) {
 
 /* ---- the checks */
 CASE(refusals) {
-    gerfmuod_team *team;
-    if (gerfmuod_team_open(&team)) exit(3);
+    gerfmuod_team *team = new_team();
     check_refusal("profile before a run", gerfmuod_team_profile(team, stdout), GERFMUOD_GRAPH_WRONG_LIFE);
     check_ok("task", gerfmuod_team_task(team, 0, NULL, 0, NULL));
     check_refusal("record after a task", gerfmuod_team_record(team, 9), GERFMUOD_GRAPH_WRONG_LIFE);

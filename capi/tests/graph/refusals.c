@@ -330,8 +330,7 @@ static int body(void *context, uint32_t task) {
 }
 
 static gerfmuod_team *team_of(uint32_t tasks) {
-    gerfmuod_team *team;
-    if (gerfmuod_team_open(&team)) exit(3);
+    gerfmuod_team *team = new_team();
     for (uint32_t t = 0; t < tasks; t++) check_ok("task", gerfmuod_team_task(team, 0, NULL, 0, NULL));
     return team;
 }
