@@ -13,6 +13,18 @@
 #include <cmocka.h>
 
 #define CASE(name) static void name(void **unused __attribute__((unused)))
+/* Fails the case with a text, unless a condition holds. */
+#define check_that(holds, ...) check_text(__FILE__, __LINE__, holds, __VA_ARGS__)
+static inline void check_text(const char *file, int line, bool holds, const char *format, ...) {
+    char text[512];
+    va_list arguments;
+    if (holds) return;
+    va_start(arguments, format);
+    vsnprintf(text, sizeof text, format, arguments);
+    va_end(arguments);
+    _assert_true(0, text, file, line);
+}
+
 /* Returns how many cases of the array failed. */
 #define RUN(cases) cmocka_run_group_tests(cases, NULL, NULL)
 #endif

@@ -5,17 +5,14 @@
 #include "gerfmuod_team.h"
 #include <time.h>
 
-static inline void check_at(int line, const char *file, const char *what, bool holds) {
-    if (!holds) print_error("%s\n", what), _fail(file, line);
-}
-#define check(what, holds) check_at(__LINE__, __FILE__, what, holds)
+#define check(what, holds) check_that(holds, "%s", what)
 
 /* Compares a refusal with the expected one. */
-static inline void check_refusal_at(int line, const char *file, const char *what, uint32_t got, uint32_t wanted) {
-    if (got != wanted) print_error("%u (%s), expected %u (%s)\n", got, gerfmuod_team_name(got), wanted, gerfmuod_team_name(wanted));
-    check_at(line, file, what, got == wanted);
+#define check_refusal(what, got, wanted) compare_refusals(__FILE__, __LINE__, what, got, wanted)
+static inline void compare_refusals(const char *file, int line, const char *what, uint32_t got, uint32_t wanted) {
+    const char *name = gerfmuod_team_name(got), *wanted_name = gerfmuod_team_name(wanted);
+    check_text(file, line, got == wanted, "%s: %u (%s), expected %u (%s)", what, got, name, wanted, wanted_name);
 }
-#define check_refusal(what, got, wanted) check_refusal_at(__LINE__, __FILE__, what, got, wanted)
 #define check_ok(what, got) check_refusal(what, got, GERFMUOD_GRAPH_OK)
 
 static inline gerfmuod_team *new_team(void) {

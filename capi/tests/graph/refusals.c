@@ -26,10 +26,8 @@ static gerfmuod_graph_answer spawn(uint32_t class_, const uint32_t *inputs, size
 /* Compares each field of a result. */
 static void is(const char *what, gerfmuod_graph_answer got, uint32_t refused, uint32_t next, uint32_t number, uint32_t signals) {
     bool is_same = got.refused == refused && got.next == next && got.number == number && got.signals == signals;
-    if (!is_same)
-        print_error("refused %u next %u number %u signals %u, expected %u %u %u %u\n", got.refused, got.next, got.number, got.signals,
-                    refused, next, number, signals);
-    check(what, is_same);
+    check_that(is_same, "%s: refused %u next %u number %u signals %u, expected %u %u %u %u", what, got.refused, got.next, got.number,
+               got.signals, refused, next, number, signals);
 }
 static void ok(const char *what, gerfmuod_graph_answer got) { is(what, got, 0, 0, 0, 0); }
 static void refused(const char *what, gerfmuod_graph_answer got, uint32_t refusal) { is(what, got, refusal, 0, 0, 0); }

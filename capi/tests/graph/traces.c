@@ -87,8 +87,7 @@ static void check_damage(const char *what, int from, int to, bool is_twice) {
     bool has_ended;
     join(text, from, to, is_twice);
     bool is_refused = !is_sound(text, &has_ended);
-    if (!is_refused) print_error("line %d: %s\n", from + 1, lines[from]);
-    check(what, is_refused);
+    check_that(is_refused, "%s: line %d: %s", what, from + 1, lines[from]);
     judged++;
 }
 

@@ -19,9 +19,8 @@ static void check_at(int line, uint32_t got, uint32_t wanted, const gerfmuod_pro
         expected.taken_sent = as->taken_received;
         expected.taken_received = as->taken_sent;
     }
-    if (got == wanted && !memcmp(p, &expected, BYTES)) return;
-    print_error("returned %u, not %u, or another struct\n", (unsigned)got, (unsigned)wanted);
-    _fail(__FILE__, line);
+    bool is_same = got == wanted && !memcmp(p, &expected, BYTES);
+    check_text(__FILE__, line, is_same, "returned %u, not %u, or another struct", (unsigned)got, (unsigned)wanted);
 }
 #define check(got, wanted, p, as) check_at(__LINE__, got, wanted, p, as)
 
@@ -36,20 +35,10 @@ static void check_control(const gerfmuod_control_message *got, gerfmuod_control_
 
 /* Process 5 of 13: its children are 11 and 12, its parent is 2. Each number has bytes of its own. */
 static gerfmuod_process known_bytes(uint64_t own_mark) {
-    gerfmuod_process p;
-    memset(&p, 0, sizeof p);
-    p.mark = own_mark;
-    p.epoch = 0x0102030405060708u;
-    p.number = 5;
-    p.processes = 13;
-    p.pending = 0x010213141516u;
-    p.sent = 0x010223242526u;
-    p.received = 0x010233343536u;
-    p.wave = 0x4142434445464748u;
-    p.taken_sent = 0x5152535455565758u;
-    p.taken_received = 0x6162636465666768u;
-    p.last_received = 0x7172737475767778u;
-    return p;
+    return (gerfmuod_process){.mark = own_mark, .epoch = 0x0102030405060708u, .number = 5, .processes = 13,
+                              .pending = 0x010213141516u, .sent = 0x010223242526u, .received = 0x010233343536u,
+                              .wave = 0x4142434445464748u, .taken_sent = 0x5152535455565758u,
+                              .taken_received = 0x6162636465666768u, .last_received = 0x7172737475767778u};
 }
 
 CASE(readers) {
@@ -188,12 +177,7 @@ CASE(end) {
     check(gerfmuod_process_take(&p, &c), GERFMUOD_PROCESS_NOT_DUE, &p, &as);
     p.over_left = p.over_right = false;
 
-    memset(&as, 0, sizeof as);
-    as.mark = mark;
-    as.epoch = p.epoch + 1;
-    as.number = 5;
-    as.processes = 13;
-    as.pending = 1;
+    as = (gerfmuod_process){.mark = mark, .epoch = p.epoch + 1, .number = 5, .processes = 13, .pending = 1};
     check(gerfmuod_process_reopen(&p), GERFMUOD_PROCESS_OK, &p, &as);
     p.over = as.over = true;
     p.epoch = as.epoch = UINT64_MAX;
@@ -263,18 +247,13 @@ CASE(any_bytes) {
 }
 
 CASE(beginnings) {
-    gerfmuod_process p, none, as;
-    memset(&none, 0, sizeof none);
-    none.pending = 1;
+    gerfmuod_process p, none = {.pending = 1};
+    const gerfmuod_process as = {.mark = 0x676572666d756f64u, .number = 0x01020304, .processes = 0x81020304u, .pending = 1};
     memset(&p, 0xff, sizeof p);
     check(gerfmuod_process_init(&p, 0, 0), GERFMUOD_PROCESS_NO_PROCESS, &p, &none);
     check(gerfmuod_process_init(&p, 7, 7), GERFMUOD_PROCESS_NO_PROCESS, &p, &none);
     assert_int_equal(gerfmuod_process_is_open(&p), 0);
     memset(&p, 0xff, sizeof p);
-    as = none;
-    as.mark = 0x676572666d756f64u;
-    as.number = 0x01020304;
-    as.processes = 0x81020304u;
     check(gerfmuod_process_init(&p, as.number, as.processes), GERFMUOD_PROCESS_OK, &p, &as);
 }
 
