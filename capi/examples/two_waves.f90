@@ -15,25 +15,6 @@ module detector
   integer(c_int32_t), parameter :: gerfmuod_first_generation = 1
   integer(c_int16_t), parameter :: gerfmuod_told_not = 2, gerfmuod_told_ended = 3, gerfmuod_told_quiet = 5
 
-  abstract interface
-    function call_of_core(core) bind(c) result(answer)
-      import
-      type(gerfmuod_core) :: core
-      type(gerfmuod_answer) :: answer
-    end function
-    function call_of_node(core, node) bind(c) result(answer)
-      import
-      type(gerfmuod_core) :: core
-      integer(c_int32_t), value :: node
-      type(gerfmuod_answer) :: answer
-    end function
-    function call_of_receiver(core, node, message, generation) bind(c) result(answer)
-      import
-      type(gerfmuod_core) :: core
-      integer(c_int32_t), value :: node, message, generation
-      type(gerfmuod_answer) :: answer
-    end function
-  end interface
   interface
     function gerfmuod_open(core, nodes) bind(c) result(refused)
       import
@@ -46,16 +27,59 @@ module detector
       type(gerfmuod_core) :: core
       integer(c_int32_t) :: refused
     end function
+    function gerfmuod_ready(core, node) bind(c) result(answer)
+      import
+      type(gerfmuod_core) :: core
+      integer(c_int32_t), value :: node
+      type(gerfmuod_answer) :: answer
+    end function
     function gerfmuod_send(core, from, to, message, generation) bind(c) result(answer)
       import
       type(gerfmuod_core) :: core
       integer(c_int32_t), value :: from, to, message, generation
       type(gerfmuod_answer) :: answer
     end function
+    function gerfmuod_receive(core, node, message, generation) bind(c) result(answer)
+      import
+      type(gerfmuod_core) :: core
+      integer(c_int32_t), value :: node, message, generation
+      type(gerfmuod_answer) :: answer
+    end function
+    function gerfmuod_message_end(core, node, message, generation) bind(c) result(answer)
+      import
+      type(gerfmuod_core) :: core
+      integer(c_int32_t), value :: node, message, generation
+      type(gerfmuod_answer) :: answer
+    end function
+    function gerfmuod_start(core) bind(c) result(answer)
+      import
+      type(gerfmuod_core) :: core
+      type(gerfmuod_answer) :: answer
+    end function
+    function gerfmuod_down(core, node) bind(c) result(answer)
+      import
+      type(gerfmuod_core) :: core
+      integer(c_int32_t), value :: node
+      type(gerfmuod_answer) :: answer
+    end function
+    function gerfmuod_give(core, node) bind(c) result(answer)
+      import
+      type(gerfmuod_core) :: core
+      integer(c_int32_t), value :: node
+      type(gerfmuod_answer) :: answer
+    end function
+    function gerfmuod_up(core, node) bind(c) result(answer)
+      import
+      type(gerfmuod_core) :: core
+      integer(c_int32_t), value :: node
+      type(gerfmuod_answer) :: answer
+    end function
+    function gerfmuod_judge(core) bind(c) result(answer)
+      import
+      type(gerfmuod_core) :: core
+      type(gerfmuod_answer) :: answer
+    end function
   end interface
-  procedure(call_of_core), bind(c) :: gerfmuod_start, gerfmuod_judge
-  procedure(call_of_node), bind(c) :: gerfmuod_ready, gerfmuod_down, gerfmuod_give, gerfmuod_up
-  procedure(call_of_receiver), bind(c) :: gerfmuod_receive, gerfmuod_message_end
 contains
   ! The step must not be refused. Returns what it showed.
   function taken(answer) result(told)

@@ -36,40 +36,22 @@ module gerfmuod
       type(c_ptr), value :: data
       integer(c_int32_t), value :: task
     end subroutine
+  end interface
 
-    function opening(team) bind(c) result(refused)
+  interface
+    function gerfmuod_team_open(team) bind(c) result(refused)
       import :: c_ptr, c_int32_t
       type(c_ptr), intent(out) :: team
       integer(c_int32_t) :: refused
     end function
 
-    function call_of_team(team) bind(c) result(refused)
+    ! The same, but the team keeps the events of each run for gerfmuod_team_trace.
+    function gerfmuod_team_open_traced(team) bind(c) result(refused)
       import :: c_ptr, c_int32_t
-      type(c_ptr), value :: team
+      type(c_ptr), intent(out) :: team
       integer(c_int32_t) :: refused
     end function
 
-    function call_with_number(team, number) bind(c) result(refused)
-      import :: c_ptr, c_int32_t
-      type(c_ptr), value :: team
-      integer(c_int32_t), value :: number
-      integer(c_int32_t) :: refused
-    end function
-
-    function writing(team, file) bind(c) result(refused)
-      import :: c_ptr, c_int32_t
-      type(c_ptr), value :: team, file
-      integer(c_int32_t) :: refused
-    end function
-
-    function text_in_c(refused) bind(c) result(text)
-      import :: c_ptr, c_int32_t
-      integer(c_int32_t), value :: refused
-      type(c_ptr) :: text
-    end function
-  end interface
-
-  interface
     subroutine gerfmuod_team_close(team) bind(c)
       import :: c_ptr
       type(c_ptr), value :: team
@@ -110,6 +92,22 @@ module gerfmuod
       integer(c_int32_t) :: refused
     end function
 
+    ! One more input from outside for a task: it does not run before gerfmuod_team_release was called once for each.
+    function gerfmuod_team_outside(team, task) bind(c) result(refused)
+      import :: c_ptr, c_int32_t
+      type(c_ptr), value :: team
+      integer(c_int32_t), value :: task
+      integer(c_int32_t) :: refused
+    end function
+
+    ! One input from outside of a task is there. Any thread may call it.
+    function gerfmuod_team_release(team, task) bind(c) result(refused)
+      import :: c_ptr, c_int32_t
+      type(c_ptr), value :: team
+      integer(c_int32_t), value :: task
+      integer(c_int32_t) :: refused
+    end function
+
     ! body is c_funloc of a gerfmuod_body.
     function gerfmuod_team_run(team, threads, body, context) bind(c) result(refused)
       import :: c_ptr, c_funptr, c_int32_t
@@ -119,12 +117,60 @@ module gerfmuod
       integer(c_int32_t) :: refused
     end function
 
+    ! The same graph once more, after a run that ended.
+    function gerfmuod_team_again(team) bind(c) result(refused)
+      import :: c_ptr, c_int32_t
+      type(c_ptr), value :: team
+      integer(c_int32_t) :: refused
+    end function
+
+    ! The fault that ended the team, or gerfmuod_ok; and the task that it is about, or gerfmuod_none.
+    function gerfmuod_team_fault(team) bind(c) result(refused)
+      import :: c_ptr, c_int32_t
+      type(c_ptr), value :: team
+      integer(c_int32_t) :: refused
+    end function
+
+    function gerfmuod_team_failed(team) bind(c) result(task)
+      import :: c_ptr, c_int32_t
+      type(c_ptr), value :: team
+      integer(c_int32_t) :: task
+    end function
+
+    function gerfmuod_team_start(team, threads) bind(c) result(refused)
+      import :: c_ptr, c_int32_t
+      type(c_ptr), value :: team
+      integer(c_int32_t), value :: threads
+      integer(c_int32_t) :: refused
+    end function
+
     ! Reports that task `done` is done, or gerfmuod_none, and returns the next one.
     function gerfmuod_team_turn(team, done) bind(c) result(answer)
       import :: c_ptr, c_int32_t, gerfmuod_answer
       type(c_ptr), value :: team
       integer(c_int32_t), value :: done
       type(gerfmuod_answer) :: answer
+    end function
+
+    ! Records each later run; each thread keeps its newest `slices` bodies and waits. Call it before the first task.
+    function gerfmuod_team_record(team, slices) bind(c) result(refused)
+      import :: c_ptr, c_int32_t
+      type(c_ptr), value :: team
+      integer(c_int32_t), value :: slices
+      integer(c_int32_t) :: refused
+    end function
+
+    ! Writes the last run as trace events. file is a stream of C, as its fopen returns it; so is that of gerfmuod_team_summary.
+    function gerfmuod_team_profile(team, file) bind(c) result(refused)
+      import :: c_ptr, c_int32_t
+      type(c_ptr), value :: team, file
+      integer(c_int32_t) :: refused
+    end function
+
+    function gerfmuod_team_summary(team, file) bind(c) result(refused)
+      import :: c_ptr, c_int32_t
+      type(c_ptr), value :: team, file
+      integer(c_int32_t) :: refused
     end function
 
     subroutine gerfmuod_team_stop(team, task) bind(c)
@@ -144,45 +190,40 @@ module gerfmuod
   end interface
 
   interface
+    function name_in_c(refused) bind(c, name='gerfmuod_team_name') result(text)
+      import :: c_ptr, c_int32_t
+      integer(c_int32_t), value :: refused
+      type(c_ptr) :: text
+    end function
+
+    function meaning_in_c(refused) bind(c, name='gerfmuod_team_meaning') result(text)
+      import :: c_ptr, c_int32_t
+      integer(c_int32_t), value :: refused
+      type(c_ptr) :: text
+    end function
+
     function length_in_c(text) bind(c, name='strlen') result(length)
       import :: c_ptr, c_size_t
       type(c_ptr), value :: text
       integer(c_size_t) :: length
     end function
   end interface
-
-  ! gerfmuod_team_open_traced: the team keeps the events of each run for gerfmuod_team_trace.
-  procedure(opening), bind(c) :: gerfmuod_team_open, gerfmuod_team_open_traced
-  ! The same graph once more, after a run that ended. The fault that ended the team, or gerfmuod_ok; and the task that it is
-  ! about, or gerfmuod_none.
-  procedure(call_of_team), bind(c) :: gerfmuod_team_again, gerfmuod_team_fault, gerfmuod_team_failed
-  ! Begins a run on a number of threads, which take turns.
-  procedure(call_with_number), bind(c) :: gerfmuod_team_start
-  ! One more input from outside for a task, which does not run before gerfmuod_team_release was called once for each; and: one
-  ! input from outside of a task is there. Any thread may call it.
-  procedure(call_with_number), bind(c) :: gerfmuod_team_outside, gerfmuod_team_release
-  ! Records each later run; each thread keeps its newest bodies and waits, this number. Call it before the first task.
-  procedure(call_with_number), bind(c) :: gerfmuod_team_record
-  ! Writes the last run as trace events, or a summary of it, to a stream of C, as its fopen returns it.
-  procedure(writing), bind(c) :: gerfmuod_team_profile, gerfmuod_team_summary
-  private :: opening, call_of_team, call_with_number, writing, text_in_c, length_in_c, text_of
+  private :: name_in_c, meaning_in_c, length_in_c, text_of
 
 contains
 
   ! Returns the name of a refusal, such as 'NoTask'.
   function gerfmuod_name(refused) result(text)
-    procedure(text_in_c), bind(c, name='gerfmuod_team_name') :: in_c
     integer(c_int32_t), intent(in) :: refused
     character(:), allocatable :: text
-    text = text_of(in_c(refused))
+    text = text_of(name_in_c(refused))
   end function
 
   ! Returns a sentence that explains a refusal.
   function gerfmuod_meaning(refused) result(text)
-    procedure(text_in_c), bind(c, name='gerfmuod_team_meaning') :: in_c
     integer(c_int32_t), intent(in) :: refused
     character(:), allocatable :: text
-    text = text_of(in_c(refused))
+    text = text_of(meaning_in_c(refused))
   end function
 
   function text_of(pointer) result(text)
