@@ -22,6 +22,7 @@ static inline void check_text(const char *file, int line, bool holds, const char
     va_start(arguments, format);
     vsnprintf(text, sizeof text, format, arguments);
     va_end(arguments);
+    print_error("%s:%d: %s\n", file, line, text); /* if this is not the thread of the case, the program exits at once */
     _assert_true(0, text, file, line);
 }
 

@@ -96,6 +96,7 @@ CASE(closing) {
     assert_int_equal(gerfmuod_close(&core), GERFMUOD_REFUSED_NO_POOL);
 }
 
+/* Each case goes on with the core of the one before. */
 int main(void) {
     const struct CMUnitTest cases[] = {cmocka_unit_test(steps_that_allocate), cmocka_unit_test(steps_up_to_the_end),
                                        cmocka_unit_test(settling), cmocka_unit_test(restart), cmocka_unit_test(closing)};
