@@ -28,6 +28,8 @@
 # make uninstall  removes what make install put there; it takes the same DESTDIR, PREFIX and DATADIR
 # make dist     packs the committed files into gerfmuod-VERSION.tar.gz
 # make clean    removes everything that was proved and built
+# The compilers of C, C++ and Fortran and their options are CC, CXX, FC, CFLAGS, CXXFLAGS, FFLAGS and LDFLAGS, of make or of the
+# environment.
 .PHONY: all lib demo test mpi gate mutants times soak bench docs install uninstall dist clean
 
 all: bin/samples
@@ -43,11 +45,9 @@ bin/samples: $(SOURCES) crates.txt
 
 lib: lib/libgerfmuod.a
 
-HEADERS := gerfmuod.h gerfmuod_tsan.h gerfmuod_process.h gerfmuod_graph.h gerfmuod_team.h gerfmuod.hpp gerfmuod.f90
+HEADERS := $(wildcard capi/include/* capi/fortran/*)
 
-PARTS := gerfmuod_calls.c gerfmuod_team.c gerfmuod_profile.h gerfmuod.map gerfmuod.pc.in
-
-lib/libgerfmuod.a: $(SOURCES) crates.txt $(addprefix capi/,$(HEADERS) $(PARTS))
+lib/libgerfmuod.a: $(SOURCES) crates.txt $(HEADERS) $(wildcard capi/src/*.*)
 	@tools/dev lib
 
 demo:
@@ -98,7 +98,7 @@ DOCDIR ?= $(or $(docdir),$(DATADIR)/doc/gerfmuod)
 PYTHONDIR ?= $(or $(pythondir),$(LIBDIR)/gerfmuod/python)
 VERSION = $(shell sed -n 's/^version = "\(.*\)"/\1/p' python/pyproject.toml)
 FOLDERS := PREFIX EXEC_PREFIX BINDIR LIBDIR INCLUDEDIR DATADIR MANDIR DOCDIR PYTHONDIR
-GIVEN = DESTDIR='$(abspath $(DESTDIR))' BUILT='$(abspath $(BUILT))' VERSION='$(VERSION)' HEADERS='$(addprefix capi/,$(HEADERS))' \
+GIVEN = DESTDIR='$(abspath $(DESTDIR))' BUILT='$(abspath $(BUILT))' VERSION='$(VERSION)' HEADERS='$(HEADERS)' \
         $(foreach name,$(FOLDERS),$(name)='$($(name))')
 
 install: $(BUILT)/bin/samples $(BUILT)/lib/libgerfmuod.a

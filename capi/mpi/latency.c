@@ -1,6 +1,6 @@
 /* latency.c: the latency from the end of all work until all processes know of it, over MPI, with nothing else to do.
  *
- *   mpicc -O2 -Icapi capi/mpi/latency.c -Llib -lgerfmuod -o latency
+ *   mpicc -O2 -Icapi/include capi/mpi/latency.c -Llib -lgerfmuod -o latency
  *   mpirun -n 4 ./latency proved|hand|safra|reductions ROUNDS
  *
  * Each round begins a detector, finishes its only piece of work at a barrier, and takes the time until the last process

@@ -1,7 +1,7 @@
 /* mpi_cholesky.c: Cholesky factorization of a matrix of doubles in tiles, over MPI. Each process owns tiles (block cyclic), and
  * runs a task graph of its own on threads. A tile that another process finished is an input from outside of that graph.
  *
- *   mpicc -O2 -Icapi capi/mpi/mpi_cholesky.c -Llib -lgerfmuod -pthread -lm -o mpi_cholesky
+ *   mpicc -O2 -Icapi/include capi/mpi/mpi_cholesky.c -Llib -lgerfmuod -pthread -lm -o mpi_cholesky
  *   mpirun -n 4 ./mpi_cholesky ORDER TILE THREADS [early]     early: a tile is released before it is received, which has to be
  *                                                             found out
  *
@@ -18,7 +18,7 @@
  * Process 0 compares the result with one factorization of the whole matrix. The exit status is not 0 if they differ by 1e-9. */
 #define _POSIX_C_SOURCE 200809L
 #include <mpi.h>
-#include "../dag/kernels.h"
+#include "../examples/kernels.h"
 #include "gerfmuod_team.h"
 #include <math.h>
 #include <pthread.h>

@@ -24,7 +24,7 @@ typedef struct tree {
 
 static const tree T1 = {1, 4, 0, 0, 10, 19, "T1", 4130071, 3305118, 10};
 static const tree T3 = {0, 2000, 0.124875, 8, 0, 42, "T3", 4112897, 3599034, 1572};
-/* T1 cut at depth 7, for quick runs: counted by uts_serial.c */
+/* T1 cut at depth 7, for quick runs: counted in one process */
 static const tree T0 = {1, 4, 0, 0, 7, 19, "T0", 63914, 51124, 7};
 
 static inline const tree *uts_tree(const char *name) { return !strcmp(name, "T3") ? &T3 : !strcmp(name, "T0") ? &T0 : &T1; }

@@ -1,7 +1,7 @@
 /* uts_mpi.c: the Unbalanced Tree Search over MPI. Each process searches a part of the tree; a process with nothing left asks
  * a random other one for some of its nodes. A detector reports when the whole tree is searched.
  *
- *   mpicc -O2 -Icapi capi/mpi/uts_mpi.c -Llib -lgerfmuod -lm -o uts_mpi
+ *   mpicc -O2 -Icapi/include capi/mpi/uts_mpi.c -Llib -lgerfmuod -lm -o uts_mpi
  *   mpirun -n 4 ./uts_mpi [--profile FILE] T1|T3|T0 [proved|hand|safra|reductions] [right|late|late_kept|early|uncounted] [seed]
  *
  * Messages with nodes are counted. Requests and refusals of requests create no work, so they need not be counted.

@@ -1,4 +1,4 @@
-"""The shared object, and the types of its calls. They are those of capi/gerfmuod_team.h."""
+"""The shared object, and the types of its calls. They are those of capi/include/gerfmuod_team.h."""
 from __future__ import annotations
 
 import ctypes

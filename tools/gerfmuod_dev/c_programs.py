@@ -1,48 +1,41 @@
-"""Checks the C and C++ sources of capi/ with each compiler, and runs programs whose statuses and outputs are known.
+"""Compiles the programs of capi/ and runs them: tools/data/capi.json has them in the order of their runs, in two parts.
 
-Each run has a time limit. After one that did not end, the next ones get less, so that a library that hangs does not take hours.
+A row has a program, further options of the compiler, its runs, and its runs under valgrind and with the sanitizers of
+SANITIZERS; "full" has those of the long form. A run is its arguments, if it succeeds, or a list: the expected status (-1: any but
+0), a text that the output contains, and the arguments of one or more runs. Each case of a test over cmocka counts. CC, CXX, FC,
+CFLAGS, CXXFLAGS, FFLAGS and LDFLAGS are those of the environment. After a run that did not end, the time limit is shorter, so
+that a library that hangs does not take hours.
 """
+import functools
+import json
 import os
-import shutil
+import re
 import subprocess
-from dataclasses import dataclass
+from dataclasses import dataclass, field
 
 from . import running
+from .repository import TOP, text_of
 from .running import NOT_ENDED, short
+from .shared_object import FORTRAN_MODULE, INCLUDE, TEAM, environment_options, tool
 
-WARNINGS = ["-Wall", "-Wextra", "-pedantic", "-Werror"]
+WARNINGS = ["-Wall", "-Wextra", "-Wpedantic", "-Wcast-qual", "-Wredundant-decls", "-Werror"]
+C = [*tool("CC", "gcc", "cc", "clang"), "-std=c11", *WARNINGS, "-O2", "-g", f"-I{INCLUDE}", *environment_options("CFLAGS")]
+CPP = [*tool("CXX", "g++", "c++", "clang++"), "-std=c++17", *WARNINGS, "-O2", "-g", f"-I{INCLUDE}", *environment_options("CXXFLAGS")]
+FORTRAN = [*tool("FC", "gfortran"), "-std=f2018", "-Wall", "-Wextra", "-Wno-unused-dummy-argument", "-Werror", "-O2", "-fopenmp"]
+FORTRAN += [*environment_options("FFLAGS"), FORTRAN_MODULE]
+COMPILE = {".c": C, ".cpp": CPP, ".f90": FORTRAN, ".rs": ["rustc", "--edition", "2024", "-O"]}
 VALGRIND = ["valgrind", "-q", "--error-exitcode=99", "--leak-check=full", "--errors-for-leak-kinds=all"]
-ADDRESS = ["-fsanitize=address,undefined", "-fno-sanitize-recover=all"]
-THREAD = ["-fsanitize=thread"]
+SANITIZERS = {"address": ["-fsanitize=address,undefined", "-fno-sanitize-recover=all"], "thread": ["-fsanitize=thread"]}
+KINDS = ("runs", "valgrind", *SANITIZERS)
+# the packages of libraries that a program may need
+PACKAGES = {"-lcmocka": "libcmocka-dev", "-lopenblas": "libopenblas-dev"}
+# the compilers that check all sources, with the standards of headers and of programs
+COMPILERS = {"gcc": ["c99", "c11"], "clang": ["c99", "c11"], "g++": ["c++11", "c++17"], "clang++": ["c++11", "c++17"]}
 # instead of an expected exit status: any but 0
 FAILURE = -1
-# the time limit of a run after one that did not end
 SECONDS_AFTER_A_HANG = 15
-
-
-def installed(*names):
-    """Returns the first of these commands that is installed, or the first one if none is."""
-    return next(filter(shutil.which, names), names[0])
-
-
-CC, CXX = installed("gcc", "cc", "clang"), installed("g++", "c++", "clang++")
-
-
-@dataclass(frozen=True)
-class Compiler:
-    """A compiler, the language of its option -x, and the standards of that language."""
-
-    name: str
-    language: str
-    standards: tuple
-
-
-COMPILERS = [
-    Compiler("gcc", "c", ("c99", "c11")),
-    Compiler("clang", "c", ("c99", "c11")),
-    Compiler("g++", "c++", ("c++17",)),
-    Compiler("clang++", "c++", ("c++17",)),
-]
+# a case of cmocka, and what it printed if it failed
+CASE = re.compile(r"^(not )?ok \d+ - (\w+)((?:\n# .*)*)", re.M)
 
 
 @dataclass(frozen=True)
@@ -50,23 +43,39 @@ class Run:
     """The arguments of a run, its expected exit status or FAILURE, and a text that its output contains."""
 
     arguments: list
-    status: int
-    output: str
+    status: int = 0
+    output: str = ""
 
 
 @dataclass(frozen=True)
 class Program:
-    """A source of capi/, the command that compiles it, its runs, the arguments of further runs under valgrind, and its libraries."""
+    """A source below capi/, options of the compiler, files that are linked with it, and its runs: "runs", "valgrind" or a sanitizer."""
 
     source: str
-    compiler: list
-    runs: list
-    small: list = ()
-    libraries: list = ()
+    options: tuple = ()
+    files: tuple = ()
+    runs: dict = field(default_factory=dict)
 
-    @property
-    def sanitizer(self):
-        return [option for option in self.compiler if option in (*ADDRESS, *THREAD)]
+
+def runs_of(rows):
+    """Yields the runs of a list of the table."""
+    for row in rows:
+        status, output, *lines = row if isinstance(row, list) else (0, "", row)
+        yield from (Run(line.split(), status, output) for line in lines)
+
+
+def programs(part, is_full=False):
+    """Returns the programs of a part of the table, or those that have a long form, in that form. Task graphs are linked with the
+    source of the team, so that a sanitizer checks the team too."""
+    rows = json.loads(text_of(f"{TOP}/tools/data/capi.json"))[part]
+    return [
+        Program(
+            row["program"], tuple(row.get("options", ())),
+            (TEAM,) if part == "dag" and row["program"].endswith(".c") else (),
+            {kind: [*runs_of(runs)] for kind, runs in (row["full"] if is_full else row).items() if kind in KINDS},
+        )
+        for row in rows if not is_full or "full" in row
+    ]
 
 
 def start(command, **options):
@@ -78,12 +87,6 @@ def succeeds(command):
     return start(command).status == 0
 
 
-def has_sanitizer(options, folder):
-    """Whether a program with this sanitizer can be built and run here."""
-    source, path = running.write(f"{folder}/empty.c", "int main(void) { return 0; }\n"), f"{folder}/empty"
-    return succeeds([CC, *options, source, "-o", path]) and succeeds([path])
-
-
 def output_of(command, **options):
     """Returns what a command prints; exits with status 1 if it fails."""
     result = start(command, **options)
@@ -93,62 +96,99 @@ def output_of(command, **options):
 
 
 def judge(tally, command, expected, **options):
-    """Runs a command, and counts whether its status and output are the expected ones."""
-    result = start(command, timeout=tally.seconds, **options)
+    """Runs a command, and counts whether its status and output are the expected ones, and the cases of cmocka that it reports.
+    Returns the output."""
+    given = {"CMOCKA_MESSAGE_OUTPUT": "TAP", "OPENBLAS_NUM_THREADS": "1", **os.environ}
+    result = start(command, **{"timeout": tally.seconds, "env": given, **options})
     if result.status == NOT_ENDED:
         tally.seconds = SECONDS_AFTER_A_HANG
-    has_status = result.status not in (0, NOT_ENDED) if expected.status == FAILURE else result.status == expected.status
-    is_well = has_status and expected.output in result.out.decode(errors="replace")
-    status = "any but 0" if expected.status == FAILURE else expected.status
-    tally.judge(is_well, f"{' '.join(command)}: status {result.status}, expected {status}: {short(result.out + result.err, 2000)}")
+    output, is_failure = result.out.decode(errors="replace"), expected.status == FAILURE
+    for fails, name, about in CASE.findall(output) if expected.status == 0 else ():
+        tally.judge(not fails, f"{' '.join(command)}: case {name}: {about[:2000].strip()}")
+    has_status = result.status not in (0, NOT_ENDED) if is_failure else result.status == expected.status
+    wanted = f"status {result.status}, expected {'any but 0' if is_failure else expected.status}, with {expected.output!r}"
+    tally.judge(has_status and expected.output in output, f"{' '.join(command)}: {wanted}: {short(result.out + result.err, 2000)}")
+    return output
 
 
-def run_program(tally, program, path):
-    """Does the runs of a compiled program, and its small ones under valgrind; prints how many there were."""
-    before = tally.failed
-    for expected in program.runs:
-        judge(tally, [path, *expected.arguments], expected)
-    checked = [arguments for arguments in program.small if tally.has("valgrind", f"{program.source} under it")]
-    for arguments in checked:
-        judge(tally, [*VALGRIND, path, *arguments], Run([], 0, ""))
-    options = "".join(f" {option}" for option in program.sanitizer[:1])
-    more = f", {len(checked)} more under valgrind" if checked else ""
-    count = f"{len(program.runs)} run{'s' * (len(program.runs) != 1)}"
-    print(f"{program.source}{options}: {count}{more}{', FAILED' * (tally.failed > before)}", flush=True)
+class Build:
+    """Compiles programs in a folder, and links them with libgerfmuod.a of another one."""
+
+    def __init__(self, library_folder, folder):
+        self.library, self.folder = library_folder, folder
+
+    def command(self, program, path, *options):
+        """Returns the command that compiles a program with further options, and links it."""
+        source, ending = os.path.join("capi", program.source), os.path.splitext(program.source)[1]
+        modules = ["-J", self.folder] if ending == ".f90" else []
+        command = [*COMPILE[ending], *options, *modules, source, *program.files, "-o", path]
+        if ending == ".rs":
+            return [*command, "-L", f"native={self.library}", "-l", "static=gerfmuod"]
+        libraries = [f"-L{self.library}", "-lgerfmuod", "-pthread", "-lm"]
+        return [*command, *program.options, *libraries, *environment_options("LDFLAGS")]
+
+    def compiled(self, tally, program, *options):
+        """Returns the path of a compiled program, or None; counts whether it compiles."""
+        path = f"{self.folder}/{program.source.replace('/', '_').replace('.', '_')}{''.join(options)[:12]}"
+        command = self.command(program, path, *options)
+        result = start(command)
+        tally.judge(not result.status, f"{' '.join(command)}: status {result.status}: {short(result.out + result.err, 2000)}")
+        return None if result.status else path
+
+    @functools.lru_cache(maxsize=None)
+    def can_link(self, *options):
+        """Whether a program with these options can be linked and run here."""
+        source, path = running.write(f"{self.folder}/empty.c", "int main(void) { return 0; }\n"), f"{self.folder}/empty"
+        return succeeds([*C, *options, source, "-o", path]) and succeeds([path])
+
+    def without_missing(self, tally, own):
+        """Returns those of the programs whose libraries are here; skips the others, once for each library."""
+        for option, package in PACKAGES.items():
+            lacking = [program for program in own if option in program.options and not self.can_link(option)]
+            if lacking:
+                tally.skips(f"{len(lacking)} programs, such as {lacking[0].source}", package)
+            own = [program for program in own if program not in lacking]
+        return own
 
 
-def run_programs(tally, programs, command_of, folder):
-    """Compiles programs and does their runs; `command_of` returns the command that writes a program to a path."""
-    is_available = {tuple(options): has_sanitizer(options, folder) for options in (ADDRESS, THREAD)}
-    for number, program in enumerate(programs):
-        if not tally.has(program.compiler[0], program.source):
-            continue
-        if not is_available.get(tuple(program.sanitizer), True):
-            tally.skips(program.source, f"{CC} with {program.sanitizer[0]}")
-            continue
-        path = f"{folder}/{number}-{os.path.basename(program.source).replace('.', '_')}"
-        if compiles(tally, command_of(program, path)):
-            run_program(tally, program, path)
+def run_kind(tally, build, program, kind):
+    """Does the runs of a program without a sanitizer and those under valgrind, or those with a sanitizer; prints how many there were."""
+    options, before = SANITIZERS.get(kind, ()), tally.failed
+    own, small = program.runs.get(kind, []), program.runs.get("valgrind", []) if kind == "runs" else []
+    if options and own and not build.can_link(*options):
+        tally.skips(program.source, f"{C[0]} with {options[0]}")
+        return
+    path = build.compiled(tally, program, *options) if own or small else None
+    if not path:
+        return
+    for run in own:
+        judge(tally, [path, *run.arguments], run)
+    checked = [run for run in small if tally.has("valgrind", f"{program.source} under it")]
+    for run in checked:
+        judge(tally, [*VALGRIND, path, *run.arguments], run)
+    more = f", {len(checked)} under valgrind" if checked else ""
+    count = f"{len(own)} run{'s' * (len(own) != 1)}{more}{', FAILED' * (tally.failed > before)}"
+    print(f"capi/{program.source}{''.join(f' {option}' for option in options[:1])}: {count}", flush=True)
 
 
-def compiles(tally, command):
-    """Runs a compiler, and counts and returns whether it succeeds."""
-    result = start(command)
-    tally.judge(not result.status, f"{' '.join(command)}: status {result.status}: {short(result.out + result.err, 2000)}")
-    return not result.status
+def run_programs(tally, build, own):
+    """Compiles programs and does their runs."""
+    for program in build.without_missing(tally, own):
+        if tally.has(COMPILE[os.path.splitext(program.source)[1]][0], program.source):
+            for kind in ("runs", *SANITIZERS):
+                run_kind(tally, build, program, kind)
 
 
-def check_source(tally, compiler, standard, path):
-    """Counts whether a compiler accepts a source, or a header that it includes first, without a warning."""
-    source = ["-include", path, "/dev/null"] if path.endswith((".h", ".hpp")) else [path]
-    command = [compiler.name, "-x", compiler.language, f"-std={standard}", *WARNINGS, "-Icapi", "-fsyntax-only", *source]
-    result = running.run(command)
-    tally.judge(not result.status, f"{' '.join(command)}: {short(result.err, 2000)}")
-
-
-def check_sources(tally, paths_of):
-    """Checks sources with each installed compiler; `paths_of` returns those of a language and a standard."""
-    for compiler in COMPILERS:
-        for standard in compiler.standards if tally.has(compiler.name, "the check of the sources by it") else ():
-            for path in paths_of(compiler.language, standard):
-                check_source(tally, compiler, standard, path)
+def check_sources(tally, headers, sources):
+    """Counts whether each compiler accepts each header, also with ThreadSanitizer, and each source, without a warning."""
+    for compiler, standards in COMPILERS.items():
+        language = standards[0].rstrip("0123456789")
+        for standard in standards if tally.has(compiler, "the check of the sources by it") else ():
+            own = [path for path in headers if path.endswith(".h") or standard == "c++17"]
+            checked = [["-include", path, *options, "/dev/null"] for path in own for options in ([], SANITIZERS["thread"])]
+            if standard != "c++11":
+                checked += [[path] for path in sources if path.endswith(".c" if language == "c" else ".cpp")]
+            for arguments in checked:
+                command = [compiler, "-x", language, f"-std={standard}", *WARNINGS, f"-I{INCLUDE}", "-fsyntax-only", *arguments]
+                result = start(command)
+                tally.judge(not result.status, f"{' '.join(command)}: {short(result.out, 2000)}")

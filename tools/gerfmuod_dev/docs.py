@@ -41,7 +41,7 @@ COMMENT = re.compile(r"/\*.*?\*/|//[^\n]*", re.S)
 def documents():
     """Returns the paths of the documents of the repository."""
     paths = [path for folder in ("docs", "docs/measurements") for path in glob.glob(f"{folder}/*.md")]
-    return ["README.md", "CONTRIBUTING.md", "CHANGELOG.md", "bench/README.md", *sorted(paths)]
+    return ["README.md", "CONTRIBUTING.md", "CHANGELOG.md", "bench/README.md", "capi/README.md", *sorted(paths)]
 
 
 def headings_of(text):
@@ -118,7 +118,7 @@ def check_documents(tally, subcommands):
 
 def check_atomics(tally):
     runtime = [path for path in glob.glob("crates/*/src/**/*.rt", recursive=True) if not path.startswith("crates/test_")]
-    library = [path for path in glob.glob("capi/gerfmuod*") if path.endswith((".c", ".h", ".hpp"))]
+    library = [path for path in glob.glob("capi/[is]*/*") if path.endswith((".c", ".h", ".hpp"))]
     for path in runtime + library:
         found = [use[0] for use in ATOMIC.finditer(COMMENT.sub("", text_of(path)))]
         tally.judge(not found, f"{path}: {', '.join(found)}: shared state has to be behind a lock")

@@ -1,7 +1,7 @@
 """Draws the pictures of runs in docs/figures: of stored traces, with bin/samples, of a page, and of a run of Cholesky.
 
 `tools/dev try samples` compares the pictures of traces with what the program draws unproved. The page is a screenshot of
-Chromium (`tools/page-packages` prints the packages). Cholesky (capi/dag/cholesky.c) runs with lib/libgerfmuod.a, over OpenBLAS
+Chromium (`tools/page-packages` prints the packages). Cholesky (capi/examples/cholesky.c) runs with lib/libgerfmuod.a, over OpenBLAS
 if that is installed; the times of the fastest of a few runs are stored and drawn. Prints a line for each picture. The status is 1
 if one could not be drawn; without Chromium, or without a library that was built from these sources, its picture is left as it is.
 """

@@ -1,7 +1,7 @@
 """Proves all that the library for other languages is built on, and builds it: lib/libgerfmuod.a and libgerfmuod.so.0.
 
 The proved archive, lib/proved/libgerfmuod.a, is of Rattle alone. What is not proved is added to it whenever that changes: the
-inline calls as symbols, capi/gerfmuod_calls.c, and the team of threads, capi/gerfmuod_team.c. Then the archive has all that it
+inline calls as symbols, and the team of threads: the parts in C of capi/src. Then the archive has all that it
 links except the C library and POSIX threads. Next to it are the headers for C and C++, the module for Fortran, `gerfmuod.pc`
 for pkg-config, and `SOURCES`, a digest of what was added. Prints a line for each crate as it ends.
 
@@ -25,15 +25,15 @@ CRATE = build.LIBRARIES[0]
 PROVED = built.RESULTS[CRATE][1]
 ARCHIVE = "lib/libgerfmuod.a"
 SHARED = f"lib/{shared_object.SONAME}"
-HEADERS = ["capi/gerfmuod.h", "capi/gerfmuod_process.h", *shared_object.HEADERS]
-PACKAGE = "capi/gerfmuod.pc.in"
+HEADERS = shared_object.HEADERS
+PACKAGE = f"{shared_object.SOURCES}/gerfmuod.pc.in"
 DIGEST = "lib/SOURCES"
 
 
 def digest():
-    """Returns a hash of what the library is made of: the proved archive, the headers and the parts in C."""
-    result = hashlib.sha256(text_of(f"{PROVED}.sources").encode())
-    for path in [*HEADERS, *shared_object.PARTS, shared_object.PROFILE, shared_object.VISIBLE, PACKAGE]:
+    """Returns a hash of what the library is made of: the proved archive, the headers, and the parts in C and their compiler."""
+    result = hashlib.sha256(f"{text_of(f'{PROVED}.sources')}{shared_object.COMPILE}{shared_object.LINK}".encode())
+    for path in [*HEADERS, *repository.files_in(shared_object.SOURCES)]:
         result.update(text_of(path).encode())
     return result.hexdigest()
 
@@ -83,20 +83,10 @@ def add_heap():
         subprocess.run(["ar", "rs", archive, *sorted(os.listdir(folder))], cwd=folder, check=True, capture_output=True)
 
 
-def filled(template, values):
-    """Returns a template with the values of its names, which are between two signs @."""
-    return re.sub(r"@(\w+)@", lambda found: values[found[1]], template)
-
-
-def package(folders):
-    """Returns the description for pkg-config of a library in these folders."""
-    return filled(text_of(PACKAGE), {**folders, "VERSION": version.version()})
-
-
 def write_package():
     """Writes the description for pkg-config, of this folder."""
-    with open("lib/gerfmuod.pc", "w", encoding="utf-8") as file:
-        file.write(package(dict.fromkeys(("PREFIX", "EXEC_PREFIX", "LIBDIR", "INCLUDEDIR"), "${pcfiledir}")))
+    values = {**dict.fromkeys(("PREFIX", "EXEC_PREFIX", "LIBDIR", "INCLUDEDIR"), "${pcfiledir}"), "VERSION": version.version()}
+    running.write("lib/gerfmuod.pc", re.sub(r"@(\w+)@", lambda found: values[found[1]], text_of(PACKAGE)))
 
 
 def compile_over(libraries):

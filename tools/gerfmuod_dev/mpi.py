@@ -13,17 +13,17 @@ import collections
 import itertools
 import os
 import shutil
-import subprocess
 import sys
 import tempfile
 
 from . import library, profiles, repository, running
-from .c_programs import output_of
+from .c_programs import WARNINGS, Run, judge, output_of, start
 from .repository import TOP
 from .running import Tally
+from .shared_object import INCLUDE, environment_options
 
-COMPILER = ["mpicc", "-std=c11", "-Wall", "-Wextra", "-Werror", "-Wno-unused-function", "-O2", "-Icapi"]
-LINK = ["-Llib", "-lgerfmuod", "-pthread", "-lm"]
+COMPILER = ["mpicc", "-std=c11", *WARNINGS, "-Wno-unused-function", "-O2", f"-I{INCLUDE}", *environment_options("CFLAGS")]
+LINK = [f"-L{TOP}/lib", "-lgerfmuod", "-pthread", "-lm", *environment_options("LDFLAGS")]
 BLAS = ["-DHAVE_BLAS", "-lopenblas"]
 MPIRUN = ["mpirun", "--oversubscribe", "--mca", "mpi_yield_when_idle", "1"]
 ROOT = {"OMPI_ALLOW_RUN_AS_ROOT": "1", "OMPI_ALLOW_RUN_AS_ROOT_CONFIRM": "1"}
@@ -54,29 +54,22 @@ def environment():
     return {**os.environ, **ROOT, "OPENBLAS_NUM_THREADS": "1"}
 
 
-def run_processes(program, processes, arguments, seconds):
-    """Runs a program with this number of processes, with its standard error in its output."""
-    command = command_of(program, processes, arguments, seconds)
-    return running.run(command, stderr=subprocess.STDOUT, env=environment(), timeout=seconds + running.SECONDS)
-
-
 def judge_processes(tally, program, processes, arguments, seconds=300):
     """Runs a program, prints its output, and counts whether it succeeds."""
-    result = run_processes(program, processes, arguments, seconds)
-    print(result.out.decode(errors="replace").strip(), flush=True)
-    name = " ".join([os.path.basename(program), *arguments])
-    tally.judge(not result.status, f"{name} with {processes} processes: status {result.status}")
+    options = {"env": environment(), "timeout": seconds + running.SECONDS}
+    print(judge(tally, command_of(program, processes, arguments, seconds), Run([]), **options).strip(), flush=True)
 
 
 def judge_fault(tally, program, runs, seconds):
     """Counts whether a program with a fault misses something, or does not end, in one of these runs."""
-    has_failed = any(run_processes(program, 4, arguments, seconds).status for arguments in runs)
+    commands = [command_of(program, 4, arguments_of, seconds) for arguments_of in runs]
+    has_failed = any(start(command, env=environment(), timeout=seconds + running.SECONDS).status for command in commands)
     tally.judge(has_failed, f"{os.path.basename(program)} with a fault passed each time: {runs}")
 
 
 def compile_program(name, folder, options=()):
     """Links capi/mpi/NAME.c with the library; returns its path in the folder."""
-    output_of([*COMPILER, f"capi/mpi/{name}.c", "-o", f"{folder}/{name}", *LINK, *options], cwd=TOP)
+    output_of([*COMPILER, f"{TOP}/capi/mpi/{name}.c", "-o", f"{folder}/{name}", *LINK, *options])
     return f"{folder}/{name}"
 
 

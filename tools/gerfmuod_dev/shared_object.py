@@ -1,40 +1,51 @@
 """Adds the parts in C to the library for other languages, and links it as a shared object: libgerfmuod.so.0.
 
-The parts are capi/gerfmuod_calls.c, the symbols of the calls that are inline for C, and capi/gerfmuod_team.c with
+The parts are in capi/src: gerfmuod_calls.c, the symbols of the calls that are inline for C, and gerfmuod_team.c with
 gerfmuod_profile.h, which is over POSIX threads. No proof covers them. The archive and the shared object define only names
-gerfmuod_* for others; the shared object has a soname and needs only the C library.
+gerfmuod_* for others; the shared object has a soname and needs only the C library. CC, CFLAGS and LDFLAGS are those of the
+environment.
 """
-import fnmatch
 import os
 import re
+import shlex
 import shutil
 import subprocess
 import tempfile
 
-from .repository import TOP
+from .repository import TOP, files_in
 
-HEADERS = [f"capi/{name}" for name in ("gerfmuod_tsan.h", "gerfmuod_graph.h", "gerfmuod_team.h", "gerfmuod.hpp", "gerfmuod.f90")]
-CALLS = "capi/gerfmuod_calls.c"
-TEAM = "capi/gerfmuod_team.c"
+INCLUDE, SOURCES = f"{TOP}/capi/include", f"{TOP}/capi/src"
+FORTRAN_MODULE = f"{TOP}/capi/fortran/gerfmuod.f90"
+# what is installed for compilers
+HEADERS = [*files_in(INCLUDE), FORTRAN_MODULE]
+TEAM = f"{SOURCES}/gerfmuod_team.c"
 # each part in C, and a symbol of it
-PARTS = {CALLS: "gerfmuod_insert", TEAM: "gerfmuod_team_open"}
+PARTS = {f"{SOURCES}/gerfmuod_calls.c": "gerfmuod_insert", TEAM: "gerfmuod_team_open"}
 # what an archive defines for programs that are linked with it
 PUBLIC = "gerfmuod_*"
-# part of the team: a header that no other file includes, and that is not installed
-PROFILE = "capi/gerfmuod_profile.h"
-VISIBLE = "capi/gerfmuod.map"
 SONAME = "libgerfmuod.so.0"
-COMPILE = ["-std=c11", "-Wall", "-Wextra", "-pedantic", "-Werror", "-O2", "-fPIC", "-pthread"]
 
 
-def compiler():
-    return os.environ.get("CC") or next((name for name in ("cc", "gcc", "clang") if shutil.which(name)), "cc")
+def tool(variable, *names):
+    """Returns the command in a variable of the environment, as arguments, or else the first of these that is installed."""
+    return shlex.split(os.environ.get(variable, "")) or [next(filter(shutil.which, names), names[0])]
+
+
+def environment_options(variable):
+    return shlex.split(os.environ.get(variable, ""))
+
+
+CC = tool("CC", "cc", "gcc", "clang")
+COMPILE = [*CC, "-std=c11", "-Wall", "-Wextra", "-pedantic", "-Werror", "-O2", "-fPIC", "-pthread", f"-I{INCLUDE}"]
+COMPILE += environment_options("CFLAGS")
+LINK = [*CC, "-shared", "-pthread", f"-Wl,-soname,{SONAME}", f"-Wl,--version-script={SOURCES}/gerfmuod.map", "-Wl,-z,defs"]
+LINK += environment_options("LDFLAGS")
 
 
 def compile_part(part, folder):
     """Compiles a part in C; returns the path of its object file in the folder."""
     path = f"{folder}/{os.path.basename(part)[: -len('.c')]}.o"
-    subprocess.run([compiler(), *COMPILE, f"-I{TOP}/capi", "-c", f"{TOP}/{part}", "-o", path], check=True)
+    subprocess.run([*COMPILE, "-c", part, "-o", path], check=True)
     return path
 
 
@@ -47,8 +58,7 @@ def seal(archive):
     with tempfile.TemporaryDirectory() as folder:
         joined, archive = f"{folder}/gerfmuod.o", os.path.abspath(archive)
         subprocess.run(["ar", "x", archive], cwd=folder, check=True)
-        parts = [f"{folder}/{name}" for name in sorted(os.listdir(folder))]
-        subprocess.run([compiler(), "-r", "-nostdlib", *parts, "-o", f"{folder}/joined"], check=True)
+        subprocess.run([*CC, "-r", "-nostdlib", *files_in(folder), "-o", f"{folder}/joined"], check=True)
         subprocess.run(["objcopy", "--wildcard", f"--keep-global-symbol={PUBLIC}", f"{folder}/joined", joined], check=True)
         os.remove(archive)
         subprocess.run(["ar", "rcs", archive, joined], check=True)
@@ -71,11 +81,9 @@ def link(archive, path):
     with tempfile.TemporaryDirectory() as folder:
         there = symbols(archive)
         parts = [compile_part(part, folder) for part, symbol in PARTS.items() if symbol not in there]
-        command = [compiler(), "-shared", "-pthread", f"-Wl,-soname,{SONAME}", f"-Wl,--version-script={TOP}/{VISIBLE}", "-Wl,-z,defs"]
-        command += ["-Wl,--whole-archive", archive, "-Wl,--no-whole-archive", *parts, "-o", path]
-        subprocess.run(command, check=True)
+        subprocess.run([*LINK, "-Wl,--whole-archive", archive, "-Wl,--no-whole-archive", *parts, "-o", path], check=True)
 
 
 def foreign_names(path):
     """Returns the names that a shared object exports although they do not begin with gerfmuod_."""
-    return sorted(name for name in symbols(path, "-D") if not fnmatch.fnmatch(name, PUBLIC))
+    return sorted(name for name in symbols(path, "-D") if not name.startswith(PUBLIC[:-1]))

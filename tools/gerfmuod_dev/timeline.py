@@ -1,4 +1,4 @@
-"""A run of capi/dag/cholesky.c as a plot: its bodies by thread, from docs/measurements/cholesky-run.csv, and its critical path.
+"""A run of capi/examples/cholesky.c as a plot: its bodies by thread, from docs/measurements/cholesky-run.csv, and its critical path.
 
 `tools/dev draw` runs the program, and stores the times of the fastest run.
 """

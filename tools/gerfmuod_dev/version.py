@@ -9,8 +9,8 @@ from .repository import text_of
 PLACE = "crates/gerfmuod/src/exports.rt"
 # the sources that repeat the version, as the number that the library returns or as a text
 REPEATED = (
-    ("capi/gerfmuod.h", r"#define GERFMUOD_VERSION (\d+)u"),
-    ("capi/gerfmuod.h", r"/\* ([\d.]+)\. gerfmuod_version\(\)"),
+    ("capi/include/gerfmuod.h", r"#define GERFMUOD_VERSION (\d+)u"),
+    ("capi/include/gerfmuod.h", r"/\* ([\d.]+)\. gerfmuod_version\(\)"),
     (PLACE, r"The version of the library, ([\d.]+):"),
     ("crates/tp_shell/src/options.rt", r'static VERSION: &str = "([^"]*)"'),
     ("python/pyproject.toml", r'(?m)^version = "([^"]*)"'),

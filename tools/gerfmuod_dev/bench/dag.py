@@ -1,4 +1,4 @@
-"""Task graphs with the caller's bodies: the programs of capi/dag, compared with OpenMP, oneTBB, StarPU and OpenBLAS.
+"""Task graphs with the caller's bodies: the programs of capi/examples and capi/bench, compared with OpenMP, oneTBB, StarPU and OpenBLAS.
 
 Each program measures all configurations of one process in turn, in each round, and checks each result against another
 method; a first round is not counted. Peers that need a process of their own run between. A program that cannot be
@@ -17,8 +17,8 @@ from .measuring import CACHEGRIND, busy_processes, quartiles
 from .peers import Peers
 from .rows import Row
 
-SOURCES = f"{TOP}/capi/dag"
-C = ("gcc", "-std=gnu11", "-O2", "-fopenmp", f"-I{TOP}/capi")
+SOURCES = f"{TOP}/capi"
+C = ("gcc", "-std=gnu11", "-O2", "-fopenmp", f"-I{TOP}/capi/include")
 CPP = ("g++", "-std=c++17", "-O2")
 WORKERS = 4
 # how many rounds a process does before the next process runs
@@ -78,27 +78,27 @@ class Times:
 
 
 class Programs(Peers):
-    """The compiled programs of capi/dag."""
+    """The compiled programs of capi/examples and capi/bench."""
 
     def __init__(self, folder):
         super().__init__(folder, SOURCES)
         self.over = shared_object.compile_team(folder), f"-L{TOP}/lib", "-lgerfmuod", "-pthread"
 
-    def own(self, name):
-        return self.program(name, C, f"{name}.c", (*self.over, "-lm"))
+    def own(self, name, folder="examples"):
+        return self.program(name, C, f"{folder}/{name}.c", (*self.over, "-lm"))
 
     def cholesky(self):
-        return self.program("cholesky", (*C, "-DHAVE_BLAS"), "cholesky.c", (*self.over, "-lopenblas", "-lm"))
+        return self.program("cholesky", (*C, "-DHAVE_BLAS"), "examples/cholesky.c", (*self.over, "-lopenblas", "-lm"))
 
     def starpu(self):
         output = running.run(["pkg-config", "--cflags", "--libs", "starpu-1.3"]).out
         options = output.decode().split()
         libraries = [option for option in options if option.startswith("-l")]
         compiler = (*C, "-DHAVE_BLAS", "-DHAVE_STARPU", *(option for option in options if option not in libraries))
-        return self.program("cholesky_starpu", compiler, "cholesky.c", (*self.over, "-lopenblas", "-lm", *libraries))
+        return self.program("cholesky_starpu", compiler, "examples/cholesky.c", (*self.over, "-lopenblas", "-lm", *libraries))
 
     def tbb(self):
-        return self.program("grain_tbb", CPP, "peers/grain_tbb.cpp", ("-pthread", "-ltbb"))
+        return self.program("grain_tbb", CPP, "bench/peers/grain_tbb.cpp", ("-pthread", "-ltbb"))
 
 
 def times_of(process, rounds):
@@ -197,7 +197,7 @@ def instructions_by_way(bench, programs, shape):
     if not bench.counts or bench.load or not shutil.which("valgrind"):
         return {}
     size = size_of(shape, COUNTED_TASKS, 0)
-    processes = [Process(programs.own("grain"), size, [way]) for way in (POOL[0], TRACED, OPENMP_ALONE)]
+    processes = [Process(programs.own("grain", "bench"), size, [way]) for way in (POOL[0], TRACED, OPENMP_ALONE)]
     processes.append(on_tbb(programs, size, 1))
     found = {process.ways[0]: instructions(process) for process in processes if process.program}
     return {way: count and count * EMPTY_TASKS // COUNTED_TASKS for way, count in found.items()}
@@ -210,12 +210,12 @@ def empty(bench, programs):
         case = f"{shape}, empty bodies"
         if bench.only in f"dag {case}":
             counted, size = instructions_by_way(bench, programs, shape), size_of(shape, EMPTY_TASKS, 0)
-            own = Process(programs.own("grain"), size, ways)
+            own = Process(programs.own("grain", "bench"), size, ways)
             yield from compare(bench, case, [own, *(on_tbb(programs, size, threads) for threads in (1, WORKERS))], counted)
 
 
 def iterations_per_microsecond(programs):
-    times, = times_of(Process(programs.own("grain"), size_of("wide", 1, CALIBRATION), [LOOP]), 3)
+    times, = times_of(Process(programs.own("grain", "bench"), size_of("wide", 1, CALIBRATION), [LOOP]), 3)
     return CALIBRATION / (min(times.milliseconds) * 1000)
 
 
@@ -227,7 +227,7 @@ def bodies(bench, programs):
         for microseconds in BODIES[1::2] if bench.is_quick else BODIES:
             size = size_of(shape, BODY_TASKS, round(microseconds * speed))
             case = f"{shape}, bodies of {microseconds:g} us"
-            yield from compare(bench, case, [Process(programs.own("grain"), size, ways), on_tbb(programs, size, WORKERS)])
+            yield from compare(bench, case, [Process(programs.own("grain", "bench"), size, ways), on_tbb(programs, size, WORKERS)])
 
 
 def dag(bench):

@@ -48,11 +48,11 @@ class Peers:
         return self.program(name, (*CPP, "-fopenmp"), f"{name}.cpp")
 
     def library_steps(self):
-        words = ("gcc", "-std=c11", "-O2", f"-I{TOP}/capi")
+        words = ("gcc", "-std=c11", "-O2", f"-I{TOP}/capi/include")
         return self.program("library_steps", words, "library_steps.c", (f"-L{TOP}/lib", "-lgerfmuod", "-pthread"))
 
     def processes(self):
-        words = ("gcc", "-std=c11", "-O2", f"-I{TOP}/capi")
+        words = ("gcc", "-std=c11", "-O2", f"-I{TOP}/capi/include")
         return self.program("processes", words, "processes.c", (f"-L{TOP}/lib", "-lgerfmuod"))
 
     @property

@@ -166,9 +166,10 @@ def storms(program, sizes):
 
 
 def compile_storm(folder):
-    """Returns the path of the compiled program capi/storm.c."""
+    """Returns the path of the compiled program capi/tests/process/storm.c."""
     path = f"{folder}/storm"
-    output_of(["gcc", "-std=c11", "-O2", f"-I{TOP}/capi", "-o", path, f"{TOP}/capi/storm.c", f"-L{TOP}/lib", "-lgerfmuod"])
+    source = f"{TOP}/capi/tests/process/storm.c"
+    output_of(["gcc", "-std=c11", "-O2", f"-I{TOP}/capi/include", "-o", path, source, f"-L{TOP}/lib", "-lgerfmuod"])
     return path
 
 

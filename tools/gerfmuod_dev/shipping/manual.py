@@ -51,7 +51,7 @@ def helps(command):
 
 def header_page(name):
     """Returns the page of a header. Its first comment begins with its name and says in a sentence what it is."""
-    parts = PART.findall(text_of(f"capi/{name}"))
+    parts = PART.findall(text_of(f"capi/include/{name}"))
     comments = [re.sub(r"^ \* ?", "", comment, flags=re.M).strip() for comment, _ in parts]
     about, comments[0] = re.split(r"\.\s+", comments[0][len(f"{name}: ") :], maxsplit=1)
     body = "".join(f"{plain(comment)}\n\n" if comment else lines_kept(code) for comment, (_, code) in zip(comments, parts))
@@ -60,7 +60,7 @@ def header_page(name):
 
 def functions_of(name):
     """Returns the names of the functions in a header."""
-    code = re.sub(r"/\*.*?\*/", "", text_of(f"capi/{name}"), flags=re.S)
+    code = re.sub(r"/\*.*?\*/", "", text_of(f"capi/include/{name}"), flags=re.S)
     return sorted({*re.findall(r"\b(gerfmuod_\w+)\(", code)})
 
 

@@ -22,6 +22,7 @@ SONAME = shared_object.SONAME
 USUAL = {"PREFIX": "/usr/gerfmuod", "LIBDIR": "/usr/gerfmuod/lib", "INCLUDEDIR": "/usr/gerfmuod/include"}
 OTHER = {"PREFIX": "/usr", "LIBDIR": "/usr/lib/x86_64-linux-gnu", "INCLUDEDIR": "/usr/include/gerfmuod", "MANDIR": "/srv/man"}
 LIST, DOCUMENTS = ("PREFIX", "/share/gerfmuod/installed"), ("PREFIX", "/share/doc/gerfmuod")
+CC, CXX, FORTRAN = "${CC:-cc} $CFLAGS", "${CXX:-c++} -std=c++17 $CXXFLAGS", "${FC:-gfortran} $FFLAGS"
 ALLOWED = ("PKG_CONFIG_ALLOW_SYSTEM_CFLAGS", "PKG_CONFIG_ALLOW_SYSTEM_LIBS", "PYTHONDONTWRITEBYTECODE")
 
 
@@ -40,9 +41,9 @@ class Tree:
     variables: dict
     built: str
 
-    def path(self, name, below=""):
+    def path(self, name, *below):
         """Returns where a folder of the installation is now, or what is below it."""
-        return self.destination + self.variables[name] + below
+        return "".join([self.destination, self.variables[name], *below])
 
     def make(self, target):
         """Runs make with a narrow umask, without the variables of a make around this program."""
@@ -84,9 +85,9 @@ def by_pkg_config(tree, program):
     yield "sh", moved, f"/moved{include[len(tree.variables['PREFIX']):]}"
     number = f"version {version.number()}"
     shared, static = (f"$(pkg-config {option} --cflags --libs gerfmuod) && {program}" for option in ("--shared", "--static"))
-    yield "cc", f"cc {PROJECT}/version.c -o {program} {shared} && grep -q {SONAME} {program}", number
-    yield "cc", f"cc -static {PROJECT}/version.c -o {program} {static} && ! grep -q {SONAME} {program}", number
-    yield "c++", f"c++ -std=c++17 {PROJECT}/version.cpp -o {program} {shared} && grep -q {SONAME} {program}", number
+    yield "cc", f"{CC} {PROJECT}/version.c -o {program} {shared} && grep -q {SONAME} {program}", number
+    yield "cc", f"{CC} -static {PROJECT}/version.c -o {program} {static} && ! grep -q {SONAME} {program}", number
+    yield "c++", f"{CXX} {PROJECT}/version.cpp -o {program} {shared} && grep -q {SONAME} {program}", number
 
 
 def by_cmake(tree, folder):
@@ -104,15 +105,15 @@ def by_cmake(tree, folder):
 
 def examples(tree, program):
     """Yields the same for each line that compiles and runs a program of the installed documents with the installed files."""
-    documents, headers, flags = tree.path(*DOCUMENTS), tree.path("INCLUDEDIR"), "$(pkg-config --cflags --libs gerfmuod)"
-    fortran = f"gfortran -J {os.path.dirname(program)} {headers}/gerfmuod.f90"
+    own, flags = tree.path(*DOCUMENTS, "/capi/examples"), "$(pkg-config --cflags --libs gerfmuod)"
+    fortran = f"{FORTRAN} -J {os.path.dirname(program)} {tree.path('INCLUDEDIR')}/gerfmuod.f90"
     rust = f"rustc --edition 2024 -O -L native={tree.path('LIBDIR')} -l static=gerfmuod"
-    yield "cc", f"cc {documents}/capi/two_waves.c -o {program} {flags} && {program}", "two generations"
-    yield "cc", f"cc {documents}/capi/dag/first.c -o {program} {flags} -lm && {program}", "3.844231"
-    yield "c++", f"c++ -std=c++17 {documents}/capi/dag/first.cpp -o {program} {flags} && {program}", "3.844231"
-    yield "gfortran", f"{fortran} {documents}/capi/dag/first.f90 -o {program} {flags} && {program}", "3.844231"
-    yield "rustc", f"{rust} {documents}/capi/ring.rs -o {program} && {program}", "none was left"
-    yield sys.executable, f"{sys.executable} {documents}/python/examples/first.py", "3.844231"
+    yield "cc", f"{CC} {own}/two_waves.c -o {program} {flags} && {program}", "two generations"
+    yield "cc", f"{CC} {own}/first.c -o {program} {flags} -lm && {program}", "3.844231"
+    yield "c++", f"{CXX} {own}/first.cpp -o {program} {flags} && {program}", "3.844231"
+    yield "gfortran", f"{fortran} {own}/first.f90 -o {program} {flags} && {program}", "3.844231"
+    yield "rustc", f"{rust} {own}/ring.rs -o {program} && {program}", "none was left"
+    yield sys.executable, f"{sys.executable} {own}/../../python/examples/first.py", "3.844231"
 
 
 def check_programs(tally, tree, folder):

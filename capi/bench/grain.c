@@ -1,0 +1,84 @@
+/* grain.c: the overhead of a task: graphs of small tasks with bodies of a chosen length.
+ *
+ *   grain [--profile FILE] SHAPE TASKS ITERATIONS ROUNDS WAY..     shapes.h describes the SHAPEs; a WAY is
+ *     T       a team of T threads
+ *     Tt      the same, and the team is traced
+ *     loop    the bodies in sequence
+ *     omp:T   OpenMP's tasks with `depend`     (built with -fopenmp)
+ *
+ * With --profile teams record their runs, and FILE gets the trace events of the last one. Each body checks that its inputs are
+ * done and that it runs for the first time. The times include describing the graph and running it.
+ */
+#define _POSIX_C_SOURCE 200809L
+#include "../examples/profiled.h"
+#include "shapes.h"
+#include "../examples/timing.h"
+
+static int body(void *context, uint32_t task) {
+    (void)context;
+    run_shape_task(task);
+    return 0;
+}
+
+static void by_team(uint32_t threads, int is_traced) {
+    gerfmuod_team *team = open_team(is_traced);
+    need(gerfmuod_team_describe(team, task_count, NULL, offsets, inputs, NULL), "describe");
+    need(gerfmuod_team_run(team, threads, body, NULL), "run");
+    close_team(team);
+}
+
+#ifdef _OPENMP
+static void by_openmp(int threads) {
+#pragma omp parallel num_threads(threads)
+#pragma omp single
+    for (uint32_t t = 0; t < task_count; t++) {
+        uint32_t k = offsets[t], count = offsets[t + 1] - k;
+        char *out = &has_ended[t], *a = &has_ended[count > 0 ? inputs[k] : t];
+        char *b = &has_ended[count > 1 ? inputs[k + 1] : t], *c = &has_ended[count > 2 ? inputs[k + 2] : t];
+        (void)out, (void)a, (void)b, (void)c;
+        switch (count) {
+        case 0:
+#pragma omp task depend(out : out[0]) firstprivate(t)
+            run_shape_task(t);
+            break;
+        case 1:
+#pragma omp task depend(out : out[0]) depend(in : a[0]) firstprivate(t)
+            run_shape_task(t);
+            break;
+        case 2:
+#pragma omp task depend(out : out[0]) depend(in : a[0], b[0]) firstprivate(t)
+            run_shape_task(t);
+            break;
+        default:
+#pragma omp task depend(out : out[0]) depend(in : a[0], b[0], c[0]) firstprivate(t)
+            run_shape_task(t);
+        }
+    }
+}
+#endif
+
+static void go(const char *way) {
+    unsigned threads;
+    char end = 0;
+    if (sscanf(way, "%u%c", &threads, &end) > 0) by_team(threads, end == 't');
+    else if (!strcmp(way, "loop"))
+        for (uint32_t t = 0; t < task_count; t++) run_shape_task(t);
+#ifdef _OPENMP
+    else if (!strncmp(way, "omp:", 4)) by_openmp(atoi(way + 4));
+#endif
+    else need(1, way);
+}
+
+static int all_ran(void) { return !memchr(has_ended, 0, task_count); }
+
+int main(int argc, char **argv) {
+    take_profile_option(&argc, &argv);
+    if (argc < 6) return 1;
+    size_t units = task_count = (uint32_t)atol(argv[2]);
+    iterations = atol(argv[3]);
+    if (!draw_shape(argv[1])) return 1;
+    measure((struct measured){clear_shape, go, all_ran, &units}, argv[4], argv + 5, argc - 5);
+    write_profile();
+    free(offsets), free(inputs), free(has_ended);
+    return 0;
+}

@@ -1,0 +1,411 @@
+/* fuzz.c: random calls on cores, lawful and unlawful ones, compared with the plain model of model.h; and traces, sound and damaged
+ * ones, whose audits are compared with traces.h. Of some calls an allocation is refused: they have to change nothing, and to
+ * succeed when they are repeated.
+ *
+ *   fuzz CALLS [SEED [forgets|early]]    forgets: the model sometimes loses a message; early: it sometimes finishes a task. Both
+ *                                        have to be detected
+ *
+ * Each core has up to 100 random steps in a generation. Then it is mostly run to its end, and reopened, restarted or closed. In
+ * half of the cores the numbers of tasks, actions and messages are spread over 32 bits. The exit status is 1 at the first
+ * difference. */
+#include "../random.h"
+#include "../wrap.h"
+#include "traces.h"
+#include <inttypes.h>
+#include <stdlib.h>
+
+enum { STEPS = 100, FEW = 24, SEVERAL = 4, MANY = 3000 };
+enum count { REFUSED, TAKEN, QUIET, ENDED, REOPENED, RESTARTED, RESERVED, NO_MEMORY, SOUND, UNSOUND, COUNTS };
+
+static uint64_t calls, counts[COUNTS];
+static gerfmuod_core core;
+static model m;
+static bool is_far, forgets, is_early;
+static uint32_t refuse_in; /* the allocation that is refused, counted from 1; 0: none */
+
+WRAP(void *, malloc, (size_t bytes));
+WRAP(void *, realloc, (void *old, size_t bytes));
+
+static bool is_refused(void) { return refuse_in != 0 && --refuse_in == 0; }
+
+void *__wrap_malloc(size_t bytes) { return is_refused() ? NULL : __real_malloc(bytes); }
+
+void *__wrap_realloc(void *old, size_t bytes) { return is_refused() ? NULL : __real_realloc(old, bytes); }
+
+/* A step, with what makes it if `is_by`. */
+typedef struct {
+    bool is_by;
+    uint32_t maker_kind, maker, kind, a, b, c, generation;
+} call;
+
+static void fail(const char *what, const call *c) {
+    printf("call %" PRIu64 ", %s", calls, what);
+    if (c) printf(": kind %u (%u, %u, %u), generation %u", c->kind, c->a, c->b, c->c, c->generation);
+    if (c && c->is_by) printf(", maker %u %u", c->maker_kind, c->maker);
+    printf(": not as the model says\n");
+    exit(1);
+}
+
+static bool is_same(gerfmuod_answer x, gerfmuod_answer y) {
+    return x.refused == y.refused && x.told == y.told && x.number == y.number && x.sent == y.sent && x.received == y.received;
+}
+
+static bool is_same_pool(gerfmuod_pool x, gerfmuod_pool y) {
+    return x.steps == y.steps && x.room == y.room && x.under_way == y.under_way && x.quiet == y.quiet;
+}
+
+/* Compares what the calls that read return. */
+static void compare(const model *as, const call *c) {
+    if (!is_same_pool(gerfmuod_whole(&core), model_whole(as))) fail("whole", c);
+    if (gerfmuod_length(&core) != as->steps || gerfmuod_room(&core) != model_room(as)) fail("length and room", c);
+    for (uint32_t node = 0; node <= as->nodes; node++) {
+        gerfmuod_counters got = gerfmuod_numbers(&core, node), want = model_numbers(as, node);
+        if (memcmp(&got, &want, sizeof got)) fail("numbers", c);
+    }
+}
+
+static gerfmuod_answer take(const call *c) {
+    if (c->is_by) return gerfmuod_step_by(&core, c->maker_kind, c->maker, c->kind, c->a, c->b, c->c, c->generation);
+    return gerfmuod_step(&core, c->kind, c->a, c->b, c->c, c->generation);
+}
+
+static gerfmuod_answer model_take(const call *c) {
+    if (c->is_by) return model_step_by(&m, c->maker_kind, c->maker, c->kind, c->a, c->b, c->c, c->generation);
+    return model_step(&m, c->kind, c->a, c->b, c->c, c->generation);
+}
+
+static gerfmuod_answer check(const call *c) {
+    static model before;
+    bool refuses = below(8) == 0;
+    calls++;
+    if (refuses) before = m, refuse_in = 1 + below(2);
+    gerfmuod_answer want = model_take(c), got = take(c);
+    refuse_in = 0;
+    if (refuses && got.refused == GERFMUOD_REFUSED_NO_MEMORY) {
+        if (want.refused || got.told || got.number) fail("out of memory", c);
+        compare(&before, c);
+        counts[NO_MEMORY]++;
+        got = take(c);
+    }
+    if (!is_same(got, want)) {
+        printf("refused %u told %u number %u sent %u received %u\n", got.refused, got.told, got.number, got.sent, got.received);
+        printf("refused %u told %u number %u sent %u received %u\n", want.refused, want.told, want.number, want.sent, want.received);
+        fail("a step", c);
+    }
+    counts[got.refused ? REFUSED : TAKEN]++;
+    counts[QUIET] += got.told == GERFMUOD_TOLD_QUIET;
+    counts[ENDED] += got.told == GERFMUOD_TOLD_ENDED;
+    if (refuses || below(16) == 0) compare(&m, c);
+    if (forgets && m.in_flight && below(200) == 0) m.in_flight--;
+    if (is_early && m.tasks && below(200) == 0) m.task[below(m.tasks)].life = DONE;
+    return got;
+}
+
+static gerfmuod_answer step(uint32_t kind, uint32_t a, uint32_t b, uint32_t c, uint32_t generation) {
+    call it = {false, 0, 0, kind, a, b, c, generation};
+    return check(&it);
+}
+
+/* ---- random arguments */
+
+static uint32_t any_node(void) { return below(16) ? below(m.nodes + 1 - (m.nodes && below(8))) : UINT32_MAX - below(2); }
+
+static uint32_t any_number(void) {
+    uint32_t k = below(FEW);
+    return is_far ? k * 2654435761u : k;
+}
+
+/* Mostly the number of a task of this generation. */
+static uint32_t any_task(void) { return m.tasks && below(8) ? m.task[below(m.tasks)].number : any_number(); }
+
+/* Sets the node and the number to those of an open action, if there is one, mostly. */
+static void any_action(call *c, enum action_kind kind) {
+    uint32_t from = below(m.actions + 1);
+    c->a = any_node();
+    c->b = any_number();
+    for (uint32_t k = 0; below(16) && k < m.actions; k++) {
+        uint32_t place = (from + k) % m.actions;
+        if (m.action[place].kind != kind) continue;
+        c->a = m.action[place].node;
+        c->b = m.action[place].number;
+        return;
+    }
+}
+
+static void any_message(call *c) {
+    c->a = any_node();
+    c->b = any_number();
+    if (!m.in_flight || !below(8)) return;
+    uint32_t place = below(m.in_flight);
+    c->a = m.message[place].to;
+    c->b = m.message[place].number;
+}
+
+static void any_maker(call *c) {
+    call other = *c;
+    c->is_by = true;
+    c->maker_kind = below(32) ? below(5) : 5 + below(3);
+    if (c->maker_kind == GERFMUOD_BY_TASK) c->maker = any_task();
+    else if (c->maker_kind == GERFMUOD_BY_THREAD) c->maker = any_node();
+    else if (c->maker_kind == GERFMUOD_BY_ACTION) any_action(&other, NAMED), c->maker = other.b;
+    else any_action(&other, OF_MESSAGE), c->maker = other.b;
+}
+
+/* A step without a maker. */
+static call any_step(void) {
+    static const uint32_t kinds[] = {0, 0, 0, 0, 1, 1, 2, 2, 2, 3, 3,  3,  4,  4,  5,  5, 6,
+                                     7, 7, 7, 8, 8, 8, 9, 9, 9, 10, 11, 12, 12, 13, 14, 15};
+    call c = {false, 0, 0, 0, 0, 0, 0, m.generation};
+    c.kind = kinds[below(sizeof kinds / sizeof *kinds)];
+    c.a = any_node();
+    c.b = any_number();
+    c.c = below(4) ? below(3) : below(18);
+    if (c.kind >= GERFMUOD_STEP_SUPPLY && c.kind <= GERFMUOD_STEP_DONE) c.a = any_task();
+    else if (c.kind == GERFMUOD_STEP_ACTION_CLOSE) any_action(&c, NAMED);
+    else if (c.kind == GERFMUOD_STEP_MESSAGE_END) any_action(&c, OF_MESSAGE);
+    else if (c.kind == GERFMUOD_STEP_RECEIVE) any_message(&c);
+    else if (c.kind == GERFMUOD_STEP_SEND) c.b = any_node(), c.c = any_number();
+    if (below(64) == 0) c.kind = 16 + below(3);
+    if (below(64) == 0) c.generation += 1 - below(3);
+    return c;
+}
+
+static void random_step(void) {
+    call c = any_step();
+    if (below(3) == 0) any_maker(&c);
+    check(&c);
+}
+
+/* Compares the results of several steps with the model, which takes them one by one. Returns how many were taken. */
+static uint32_t check_results(const gerfmuod_event *events, uint32_t most, const gerfmuod_answer *answers, bool refuses) {
+    static model before;
+    for (uint32_t k = 0; k < most; k++) {
+        const gerfmuod_event *e = &events[k];
+        before = m;
+        gerfmuod_answer want = model_step(&m, e->kind, e->first, e->second, e->third, e->generation);
+        if (refuses && !want.refused && answers[k].refused == GERFMUOD_REFUSED_NO_MEMORY) {
+            m = before;
+            counts[NO_MEMORY]++;
+            return k;
+        }
+        if (!is_same(answers[k], want)) fail("the result of one of several steps", NULL);
+        counts[want.refused ? REFUSED : TAKEN]++;
+        counts[QUIET] += want.told == GERFMUOD_TOLD_QUIET;
+        counts[ENDED] += want.told == GERFMUOD_TOLD_ENDED;
+        if (want.refused) return k;
+    }
+    return most;
+}
+
+/* Several steps in one call; the places for their results may be more or fewer. */
+static void random_steps(void) {
+    gerfmuod_event events[SEVERAL];
+    gerfmuod_answer answers[SEVERAL], none;
+    uint32_t length = below(SEVERAL + 1), places = below(SEVERAL + 1), most = length < places ? length : places;
+    bool refuses = below(8) == 0;
+    for (uint32_t k = 0; k < length; k++) {
+        call c = any_step();
+        events[k] = (gerfmuod_event){c.kind, c.a, c.b, c.c, c.generation};
+    }
+    memset(&none, 171, sizeof none);
+    for (uint32_t k = 0; k < SEVERAL; k++) answers[k] = none;
+    calls++;
+    refuse_in = refuses ? 1 + below(3) : 0;
+    size_t taken = gerfmuod_steps(&core, length ? events : NULL, length, places ? answers : NULL, places);
+    refuse_in = 0;
+    if (taken != check_results(events, most, answers, refuses)) fail("the number of steps that were taken", NULL);
+    for (size_t k = taken + (taken < most); k < SEVERAL; k++)
+        if (!is_same(answers[k], none)) fail("the results of steps that were not taken", NULL);
+    compare(&m, NULL);
+}
+
+/* ---- to the end */
+
+static void finish_task(uint32_t k) {
+    uint32_t task = m.task[k].number;
+    while (m.task[k].life == WAITING) step(GERFMUOD_STEP_SUPPLY, task, 0, 0, 0);
+    if (m.task[k].life == READY) step(GERFMUOD_STEP_BEGIN, task, 0, 0, 0);
+    if (m.task[k].life == RUNNING) step(GERFMUOD_STEP_DONE, task, 0, 0, 0);
+}
+
+/* Ends everything that is left. */
+static void finish(void) {
+    static const uint32_t kinds[] = {GERFMUOD_STEP_READY, GERFMUOD_STEP_ACTION_CLOSE, GERFMUOD_STEP_MESSAGE_END};
+    while (m.in_flight) step(GERFMUOD_STEP_RECEIVE, m.message[0].to, m.message[0].number, 0, m.generation);
+    for (uint32_t k = 0; k < m.tasks; k++) finish_task(k);
+    while (m.actions) step(kinds[m.action[0].kind], m.action[0].node, m.action[0].number, 0, m.generation);
+    if (!m.has_ended && !gerfmuod_whole(&core).quiet) fail("not quiet at the end", NULL);
+}
+
+static void settle(void) {
+    bool refuses = below(4) == 0;
+    calls++;
+    if (refuses) refuse_in = 1;
+    gerfmuod_settled got = gerfmuod_settle(&core);
+    refuse_in = 0;
+    if (refuses && got.refused == GERFMUOD_REFUSED_NO_MEMORY) {
+        compare(&m, NULL);
+        counts[NO_MEMORY]++;
+        got = gerfmuod_settle(&core);
+    }
+    gerfmuod_settled want = model_settle(&m);
+    if (memcmp(&got, &want, sizeof got)) fail("settle", NULL);
+    counts[ENDED] += got.refused == 0;
+    compare(&m, NULL);
+}
+
+/* Waves by the steps of the nodes, in a random order. */
+static void waves(void) {
+    while (!m.has_ended) step(GERFMUOD_STEP_START + below(5), below(m.nodes), 0, 0, 0);
+}
+
+static void restart(void) {
+    calls++;
+    if (gerfmuod_restart(&core) != model_restart(&m)) fail("restart", NULL);
+    counts[RESTARTED] += m.steps == 0;
+    compare(&m, NULL);
+}
+
+/* How many steps, tasks or messages to reserve memory for: mostly more than there are, seldom more than there can be. */
+static uint32_t any_count(void) { return below(1000) ? below(below(2) ? FEW : MANY) : UINT32_MAX - below(MANY); }
+
+static void reserve(void) {
+    const uint32_t steps = any_count(), tasks = any_count(), messages = any_count();
+    bool refuses = below(4) == 0;
+    calls++;
+    if (refuses) refuse_in = 1 + below(4);
+    uint32_t got = gerfmuod_reserve(&core, steps, tasks, messages);
+    refuse_in = 0;
+    if (refuses && got == GERFMUOD_REFUSED_NO_MEMORY) {
+        compare(&m, NULL);
+        counts[NO_MEMORY]++;
+        got = gerfmuod_reserve(&core, steps, tasks, messages);
+    }
+    if (got != model_reserve(&m)) fail("reserve", NULL);
+    counts[RESERVED] += got == 0;
+    compare(&m, NULL);
+}
+
+/* ---- traces */
+
+/* Compares the audit of a trace with the model's. */
+static void audit(const char *text, size_t length) {
+    char got[256], want[256];
+    bool is_sound = model_audit(text, length, want, sizeof want);
+    calls++;
+    refuse_in = below(16) ? 0 : 1 + below(3);
+    gerfmuod_written written = gerfmuod_audit(text, length, got, sizeof got);
+    if (written.outcome == GERFMUOD_OUT_OF_MEMORY) {
+        counts[NO_MEMORY]++;
+        written = gerfmuod_audit(text, length, got, sizeof got);
+    }
+    refuse_in = 0;
+    counts[is_sound ? SOUND : UNSOUND]++;
+    bool is_same_text = written.length == strlen(want) && !memcmp(got, want, written.length);
+    if (is_same_text && written.outcome == (is_sound ? GERFMUOD_WRITTEN : GERFMUOD_COMPLAINT)) return;
+    printf("%.*s\naudited as %.*snot as %s", (int)length, text, (int)written.length, got, want);
+    fail("audit", NULL);
+}
+
+/* Returns the place behind the line that has the byte at a place. */
+static size_t line_end(const char *text, size_t length, size_t place) {
+    while (place < length && text[place] != '\n') place++;
+    return place < length ? place + 1 : length;
+}
+
+/* Damages a text: drops, doubles or moves a line, or changes, inserts or cuts off bytes. Returns its new length. */
+static size_t damaged(char *text, size_t length) {
+    static const char bytes[] = "0123456789 \nabdeginprstu";
+    size_t place = below((uint32_t)length), first = line_end(text, length, place), second = line_end(text, length, first);
+    char line[64];
+    size_t size = second - first;
+    switch (below(6)) {
+    case 0: memmove(text + first, text + second, length - second); return length - size;
+    case 1:
+    case 2: /* the line is repeated, here or further down */
+        if (size >= sizeof line) return length;
+        memcpy(line, text + first, size);
+        place = below(2) ? second : line_end(text, length, second + below(40));
+        memmove(text + place + size, text + place, length - place);
+        memcpy(text + place, line, size);
+        return length + size;
+    case 3: return place;
+    case 4:
+        memmove(text + place + 1, text + place, length - place);
+        text[place] = bytes[below(sizeof bytes - 1)];
+        return length + 1;
+    default: text[place] = bytes[below(sizeof bytes - 1)]; return length;
+    }
+}
+
+static void audit_trace(void) {
+    gerfmuod_written size = gerfmuod_trace(&core, NULL, 0);
+    if (size.outcome == GERFMUOD_NO_TEXT && is_far) return;
+    char *text = malloc(size.length + 256), *copy = malloc(size.length + 256);
+    if (!text || !copy || gerfmuod_trace(&core, text, size.length).outcome) fail("trace", NULL);
+    audit(text, size.length);
+    for (uint32_t k = 0; k < 8 && size.length; k++) {
+        size_t length = size.length;
+        memcpy(copy, text, length);
+        for (uint32_t times = 1 + below(2); times > 0 && length; times--) length = damaged(copy, length);
+        audit(copy, length);
+    }
+    free(text);
+    free(copy);
+}
+
+/* One generation. Returns whether another one follows. */
+static bool generation(void) {
+    for (uint32_t k = below(STEPS); k > 0; k--) {
+        random_step();
+        if (below(8) == 0) random_steps();
+        if (below(20) == 0) settle();
+        if (below(20) == 0) reserve();
+        if (below(50) == 0) restart();
+    }
+    if (below(8) == 0) return false; /* it is closed in the middle */
+    finish();
+    if (below(2)) settle();
+    if (below(4) == 0) waves();
+    settle();
+    if (below(4) == 0) return restart(), true;
+    if (below(2)) return false;
+    step(GERFMUOD_STEP_REOPEN, 0, 0, 0, 0);
+    counts[REOPENED]++;
+    return true;
+}
+
+/* Every call on a core that is not open. */
+static void closed(void) {
+    char room[8];
+    for (uint32_t k = 0; k < 4; k++) random_step(), random_steps();
+    settle();
+    restart();
+    reserve();
+    compare(&m, NULL);
+    if (gerfmuod_trace(&core, room, sizeof room).outcome != GERFMUOD_NO_TEXT) fail("trace of a closed core", NULL);
+    if (gerfmuod_close(&core) != GERFMUOD_REFUSED_NO_POOL) fail("close of a closed core", NULL);
+}
+
+int main(int argc, char **argv) {
+    uint64_t most = argc > 1 ? strtoull(argv[1], NULL, 10) : 100000, cores = 0;
+    seed = argc > 2 ? strtoull(argv[2], NULL, 10) * 2 + 1 : 88172645463325253u;
+    forgets = argc > 3 && argv[3][0] == 'f', is_early = argc > 3 && argv[3][0] == 'e';
+    for (; calls < most; cores++) {
+        uint32_t nodes = below(20) ? 1 + below(8) : below(2) ? 0 : 9 + below(3);
+        is_far = below(2);
+        if (gerfmuod_open(&core, nodes) != model_open(&m, nodes)) fail("open", NULL);
+        while (m.is_open && generation()) continue;
+        if (m.is_open && below(4) == 0) audit_trace();
+        if (gerfmuod_close(&core) != model_close(&m)) fail("close", NULL);
+        if (below(4) == 0) closed();
+        if (below(16) == 0) memset(&core, (int)below(256), sizeof core), closed();
+    }
+    printf("%" PRIu64 " calls on %" PRIu64 " cores, %" PRIu64 " steps taken and %" PRIu64 " refused, ", calls, cores, counts[TAKEN],
+           counts[REFUSED]);
+    printf("%" PRIu64 " times quiet, %" PRIu64 " ends, %" PRIu64 " reopened, %" PRIu64 " restarted, %" PRIu64 " reserved, ",
+           counts[QUIET], counts[ENDED], counts[REOPENED], counts[RESTARTED], counts[RESERVED]);
+    printf("%" PRIu64 " sound and %" PRIu64 " damaged traces, %" PRIu64 " allocations refused: as the model says\n", counts[SOUND],
+           counts[UNSOUND], counts[NO_MEMORY]);
+    return 0;
+}
