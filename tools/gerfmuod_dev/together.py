@@ -6,24 +6,26 @@ the mutant that is there. A mutant that survives in its own function needs a che
 """
 import re
 import subprocess
-from dataclasses import dataclass
+from typing import NamedTuple
 
 from .build import renew
+from .mutant_files import mutants_of
 from .repository import text_of
-from .running import write
+from .running import run, write
 
 # what is lost if a check with all of them does not compile
 MOST = 14
 HEAD = re.compile(r"( *)(?:pub(?:\(\w+\))? )?(?:const )?fn (\w+)")
+# what is above the head of a function and belongs to it
+ABOVE = ("#[", "///")
 PLACE = re.compile(r"(?:note: )?(?:\./)?(\S+?):(\d+):\d+: ")
 # a proof file that names what a mutant took away says nothing of a contract, and nor does what cites that proof
 NAMES_ONLY = re.compile(r"(note: )?(\./)?proofs/.*(has no field|is not in scope|has no `|was not admitted)")
 
 
-@dataclass(frozen=True)
-class Body:
-    """The body of a function: its file, its name, the line where the function begins, the body's first and last line, from 0, and
-    the text below the name."""
+class Body(NamedTuple):
+    """The body of a function: its file, its name, the line where the function begins with its attributes, the body's first and last line,
+    from 0, and the text below the name."""
 
     file: str
     name: str
@@ -33,8 +35,7 @@ class Body:
     text: str
 
 
-@dataclass(frozen=True)
-class PlacedMutant:
+class PlacedMutant(NamedTuple):
     """A mutant of one function: its name, the function, and its edits: where the old text begins, the old text, and the new one."""
 
     name: str
@@ -46,14 +47,15 @@ def bodies_in(file, text):
     """Yields the bodies of the functions of a file that has the layout of `rt fmt`."""
     lines = text.split("\n")
     for number, line in enumerate(lines):
-        head = HEAD.match(line)
-        if not head or line.endswith(("}", ";")):
+        found = HEAD.match(line)
+        if not found or line.endswith(("}", ";")):
             continue
-        last = next((row for row in range(number, len(lines)) if lines[row] == f"{head[1]}}}"), None)
+        last = next((row for row in range(number, len(lines)) if lines[row] == f"{found[1]}}}"), None)
         if last is not None:
             opening = number if line.endswith("{") else last
-            first = next((row for row in range(number, last) if lines[row] == f"{head[1]}{{"), opening)
-            yield Body(file, head[2], number, first + 1, last - 1, "\n".join(lines[number + 1 : last]))
+            first = next((row for row in range(number, last) if lines[row] == f"{found[1]}{{"), opening)
+            head = next(row for row in range(number, -1, -1) if not row or not lines[row - 1].strip().startswith(ABOVE))
+            yield Body(file, found[2], head, first + 1, last - 1, "\n".join(lines[number + 1 : last]))
 
 
 def place(mutant, crate):
@@ -75,10 +77,10 @@ def are_apart(one, other):
     return one.name != other.name and not any(calls)
 
 
-def groups_of(mutants):
-    """Puts each mutant into the first group that it fits."""
+def groups_in(crate, names):
+    """Returns those of these mutants of a crate that can be tried together, as groups: each is in the first group that it fits."""
     groups = []
-    for mutant in mutants:
+    for mutant in filter(None, (place(mutants_of(crate)[name], crate) for name in names)):
         fits = (group for group in groups if len(group) < MOST and all(are_apart(mutant.body, other.body) for other in group))
         group = next(fits, [])
         groups += [] if group else [group]
@@ -113,13 +115,12 @@ def try_group(crate, room, proved, group):
     renew(proved, f"{folder}/out/incremental")
     originals = apply(folder, group)
     try:
-        streams = {"stdin": subprocess.DEVNULL, "stdout": subprocess.PIPE, "stderr": subprocess.STDOUT}
-        result = subprocess.run(["rt", "check", "--jobs", "1"], cwd=folder, text=True, errors="replace", **streams)
+        result = run(["rt", "check", "--jobs", "1"], cwd=folder, stderr=subprocess.STDOUT, timeout=None)
     finally:
         for file, text in originals.items():
             write(f"{folder}/{file}", text)
-    lines = result.stdout.splitlines()
-    if result.returncode != 1 or not any(line.startswith("logic=not-proved") for line in lines):
+    lines = result.out.decode(errors="replace").splitlines()
+    if result.status != 1 or not any(line.startswith("logic=not-proved") for line in lines):
         return {}
     placed = [line for line in lines if PLACE.match(line) and not NAMES_ONLY.match(line)]
     errors = [line for line in placed if ": error" in line or line.startswith("note: ")]

@@ -5,7 +5,7 @@ It shows the slices of each process and thread, under their names. It has no arr
 import collections
 import json
 
-from .event_format import nanoseconds
+from .event_format import Profile, nanoseconds
 
 DEVTOOLS = "devtools://devtools/bundled"
 # reads the events as the panel does when it loads a file, and returns the slices that it would show, or null without such modules
@@ -24,14 +24,11 @@ READ = """(async text => {
 
 
 def slices_in(text):
-    """Returns the slices of a text: process, thread, their names, and the slice's name, begin and length."""
-    events = json.loads(text)["traceEvents"]
-    names = {(event["name"], event["pid"], event.get("tid")): event["args"]["name"] for event in events if event["ph"] == "M"}
-    processes = {pid: name for (kind, pid, _), name in names.items() if kind == "process_name"}
-    for event in events:
-        if event["ph"] == "X":
-            pid, tid = event["pid"], event["tid"]
-            yield (pid, tid, processes.get(pid), names.get(("thread_name", pid, tid)), event["name"], event["ts"], event["dur"])
+    """Yields the slices of a text: process, thread, their names, and the slice's name, begin and length."""
+    profile = Profile(text)
+    for event in profile.slices:
+        pid, tid = event["pid"], event["tid"]
+        yield pid, tid, profile.processes.get(pid), profile.threads.get((pid, tid)), event["name"], event["ts"], event["dur"]
 
 
 def in_nanoseconds(slices):
@@ -40,13 +37,14 @@ def in_nanoseconds(slices):
 
 def check(tally, browser, texts):
     """Counts whether the viewer has each slice of each of these texts once, under the names of the file."""
+    what = f"the events of {len(texts)} run{'s' * (len(texts) != 1)}"
     is_open = browser.navigate(f"{DEVTOOLS}/devtools_app.html")
     for name, text in texts.items():
         found = browser.value(f"{READ}({json.dumps(text)})") if is_open else None
         if found is None:
-            print("This Chromium's DevTools have no such modules: no trace events were read there.")
+            tally.skips(f"{what} in DevTools", "a Chromium whose DevTools have the module models/trace")
             return
         expected, shown = in_nanoseconds(slices_in(text)), in_nanoseconds(found)
         differing = [*(expected - shown), *(shown - expected)]
         tally.judge(not differing, f"{name}: {len(differing)} slices differ in DevTools, such as {differing[:2]}")
-    print(f"the events of {len(texts)} run{'s' * (len(texts) != 1)}: read by the panel Performance of Chromium's DevTools", flush=True)
+    print(f"{what}: read by the panel Performance of Chromium's DevTools", flush=True)
