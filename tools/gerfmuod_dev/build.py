@@ -14,7 +14,7 @@ import subprocess
 import time
 from concurrent.futures import FIRST_COMPLETED, ThreadPoolExecutor, wait
 
-from . import built, repository
+from . import built, repository, running
 from .rooms import rooms
 
 PROGRAMS = ["tp", "samples"]
@@ -38,11 +38,10 @@ def prove(crate, room, jobs):
     """Proves a crate in a copy and builds it; returns whether that succeeded, the output, and the seconds."""
     began, verb = time.time(), "run" if crate.name in PROGRAMS else "check" if crate.is_program else "lib"
     command = ["rt", verb, f"--jobs={jobs}", *["--", "--help"] * (verb == "run")]
-    streams = {"stdin": subprocess.DEVNULL, "stdout": subprocess.PIPE, "stderr": subprocess.STDOUT}
-    result = subprocess.run(command, cwd=f"{room}/crates/{crate.name}", text=True, errors="replace", check=False, **streams)
-    if crate.name in built.RESULTS and not result.returncode:
+    result = running.run(command, cwd=f"{room}/crates/{crate.name}", stderr=subprocess.STDOUT, timeout=None)
+    if crate.name in built.RESULTS and not result.status:
         built.take(crate.name, room)
-    return not result.returncode, result.stdout, time.time() - began
+    return not result.status, result.out.decode(errors="replace"), time.time() - began
 
 
 def renew(source, target):

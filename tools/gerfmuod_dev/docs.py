@@ -6,7 +6,7 @@
 - each block of code in docs/RUNNING-A-POOL.md and docs/PROVING-A-POOL.md is part of the file that the line above it names
 - a count in a document, such as `23<!-- files crates/gerfmuod/proofs/**/Proof.antt -->`, is the number of these files
 - the table of docs/ARCHITECTURE.md has the groups of crates.txt, and the plots are drawn from what is stored (`tools/dev plot`)
-- the contracts, the tests and the calls that documents cite are in the code (`tools/dev proved`)
+- the contracts, the tests, the mutants and the calls that documents cite are in the code (proved.py)
 - the runtime and the library's C code use no atomic operation: all shared state is behind locks
 
 Prints each difference. The last line is `N passed, M failed`; the status is 1 if one failed.
@@ -123,10 +123,6 @@ def check_atomics(tally):
         found = [use[0] for use in ATOMIC.finditer(COMMENT.sub("", text_of(path)))]
         tally.judge(not found, f"{path}: {', '.join(found)}: shared state has to be behind a lock")
     print(f"{len(runtime)} files of the runtime and {len(library)} of the library's C code: no atomic operation")
-
-
-def arguments(parser):
-    del parser
 
 
 def run(options):
