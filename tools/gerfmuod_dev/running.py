@@ -103,10 +103,10 @@ def run(command, stdin=os.devnull, **options):
     return Result(status_of(process.returncode), process.stdout or b"", process.stderr or b"")
 
 
-def instructions(command, stdin=os.devnull):
+def instructions(command, stdin=os.devnull, **options):
     """Returns the instructions of a command, counted by cachegrind: they do not depend on the load of the machine."""
-    options = ["--tool=cachegrind", "--cache-sim=no", "--cachegrind-out-file=/dev/null"]
-    report = run(["valgrind", *options, *command], stdin, timeout=None).err
+    cachegrind = ["valgrind", "--tool=cachegrind", "--cache-sim=no", "--cachegrind-out-file=/dev/null"]
+    report = run([*cachegrind, *command], stdin, timeout=None, **options).err
     return int(re.search(rb"I +refs: +([0-9,]+)", report)[1].replace(b",", b""))
 
 
