@@ -57,10 +57,9 @@ class Type(NamedTuple):
 
 def owner_of(line):
     """Returns the type of an `impl`, or the name of a trait."""
-    plain, depth = "", 0
-    for letter in line.replace("->", "  "):
-        depth += (letter == "<") - (letter == ">")
-        plain += letter if depth == 0 and letter != ">" else ""
+    plain, count = line.replace("->", ""), 1
+    while count:
+        plain, count = re.subn(r"<[^<>]*>", "", plain)
     parts = re.split(r"\bwhere\b|\{|:", plain)[0].replace("pub ", "").split()
     return parts[-1] if len(parts) > 1 else ""
 

@@ -54,23 +54,18 @@ def headings_of(text):
     return {f"{name}-{count}" if count else name for name, count in zip(names, counts)}
 
 
-def links_of(path):
-    """Returns the relative links of a document, each once."""
-    links = ["".join(groups) for groups in LINK.findall(CODE.sub("``", text_of(path)))]
-    return [link for link in dict.fromkeys(links) if not URL.match(link)]
-
-
 def exists(path, link):
     """Whether the target of a document's link exists."""
     file, _, heading = unquote(link).partition("#")
     target = os.path.join(os.path.dirname(path), file) if file else path
-    if not os.path.exists(target):
-        return False
-    return not heading or not target.endswith(".md") or heading in headings_of(text_of(target))
+    is_here = os.path.exists(target)
+    return is_here and (not heading or not target.endswith(".md") or heading in headings_of(text_of(target)))
 
 
 def dead_links(path):
-    return [link for link in links_of(path) if not exists(path, link)]
+    """Returns the relative links of a document that lead nowhere, each once."""
+    links = dict.fromkeys("".join(groups) for groups in LINK.findall(CODE.sub("``", text_of(path))))
+    return [link for link in links if not URL.match(link) and not exists(path, link)]
 
 
 def unknown_names(text, subcommands):

@@ -79,17 +79,13 @@ def check_contracts(tally):
     print(f"{PAGE}: {len(cited)} citations of contracts")
 
 
-def check_tests(tally):
-    """Judges whether each test that a document names is in its crate."""
+def check_names(tally):
+    """Judges whether each test that a document names is in its crate, and each mutant in the crate that is named before it, or in any
+    after `below`."""
     for page in sorted(glob.glob("docs/**/*.md", recursive=True)):
         for crate, name in TEST.findall(" ".join(text_of(page).split())):
             is_here = any(function.name == name for function in contracts_of(crate)[0].values())
             tally.judge(is_here, f"{page}: {crate} has no test {name}")
-
-
-def check_mutants(tally):
-    """Judges whether each mutant that a document names is one of the crate that is named before it, or of any after `below`."""
-    for page in sorted(glob.glob("docs/**/*.md", recursive=True)):
         for sentence in MUTANTS.findall(text_of(page)):
             crates = []
             for word, name in re.findall(r"\b(\w+)\b|`(\w+)`", sentence):
@@ -120,6 +116,5 @@ def check_memory(tally):
 
 def check(tally):
     check_contracts(tally)
-    check_tests(tally)
-    check_mutants(tally)
+    check_names(tally)
     check_memory(tally)
