@@ -25,7 +25,7 @@ import tempfile
 
 from .. import plots, running
 from ..repository import processors
-from . import conditions, document, figures, origin, rows, soundness, tables, test_bench
+from . import conditions, document, figures, origin, rows, soundness, tables
 from .cases import FRONT, MEASUREMENTS, PROGRAMS
 from .measuring import TIMED, Bench
 from .peers import Peers
@@ -70,8 +70,7 @@ def measured(options, name, folder, peers):
             found.append(row)
             if reasons := soundness.impossible(name, found):
                 raise ImpossibleRow("; ".join(reasons))
-    path = f"{folder}/rows.csv"
-    kind = rows.kind_of(name)
+    path, kind = f"{folder}/rows.csv", rows.kind_of(name)
     rows.write(path, found, kind)
     return rows.read(path, kind)
 
@@ -85,13 +84,6 @@ def store(name, found, its_origin, is_anyway):
         return False
     rows.keep(name, found, its_origin._replace(marked=faults))
     return True
-
-
-def wait_for_rest(names):
-    """Waits until the machine is at rest after a series, and notes how long that took."""
-    print("waits until the load average has fallen", file=sys.stderr, flush=True)
-    seconds, known = conditions.seconds_to_rest(), rows.origins()
-    rows.keep_origins({name: known[name]._replace(seconds_to_rest=seconds) for name in names})
 
 
 def measure_all(options, names, folder):
@@ -118,7 +110,9 @@ def measure_all(options, names, folder):
         if options.write:
             (stored if store(name, found, its_origin, options.anyway) else failed).append(name)
     if stored:
-        wait_for_rest(stored)
+        print("waits until the load average has fallen", file=sys.stderr, flush=True)
+        seconds, known = conditions.seconds_to_rest(), rows.origins()
+        rows.keep_origins({name: known[name]._replace(seconds_to_rest=seconds) for name in stored})
     return 1 if failed else 0
 
 
@@ -131,13 +125,6 @@ def draw():
 
 def check():
     tally = running.Tally()
-    for name, test in vars(test_bench).items():
-        if name.startswith("test_"):
-            try:
-                test()
-                tally.passes()
-            except AssertionError as error:
-                tally.fails(f"{name}, line {error.__traceback__.tb_next.tb_lineno} of test_bench.py")
     plots.check(tally, figures.PLOTS)
     document.check(tally)
     return tally.end()

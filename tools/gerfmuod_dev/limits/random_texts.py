@@ -29,18 +29,14 @@ def helpful_steps(version, world):
         yield ("reopen",)
 
 
-def is_lawful(world, step):
-    return not copy.deepcopy(world).take(step).startswith("refused")
-
-
 def random_steps(generator, version, nodes, count):
     """Returns steps, each with its reply."""
     world, steps = World(nodes), []
     while len(steps) < count:
         step = any_step(generator, version, world)
         if generator.random() < 0.7:
-            lawful = [other for other in helpful_steps(version, world) if is_lawful(world, other)]
-            step = generator.choice(lawful) if lawful else step
+            helpful = helpful_steps(version, world)
+            step = generator.choice([other for other in helpful if not copy.deepcopy(world).take(other).startswith("refused")] or [step])
         steps.append((step, world.take(step)))
     return steps
 

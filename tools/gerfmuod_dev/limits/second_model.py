@@ -56,9 +56,6 @@ class World:
         """Returns how often a node sent, or received."""
         return sum(step[:2] == (name, i) for step in self.list)
 
-    def is_quiet(self):
-        return not self.actions and not self.under and all(life == "done" for life in self.life.values())
-
     def take(self, step):
         """Takes a step, and returns the line that the program prints for it."""
         try:
@@ -197,7 +194,8 @@ def simulated(nodes, steps):
     counts = [(world.pending(i), world.counted("send", i), world.counted("recv", i)) for i in range(nodes)]
     out += ["node {} pending {} sent {} received {}".format(i, *count) for i, count in enumerate(counts)]
     out += ["total pending {} sent {} received {} under {}".format(*map(sum, zip(*counts)), len(world.under))]
-    return "\n".join([*out, f"quiet {'yes' if world.is_quiet() else 'no'}", ""])
+    is_quiet = not world.actions and not world.under and all(life == "done" for life in world.life.values())
+    return "\n".join([*out, f"quiet {'yes' if is_quiet else 'no'}", ""])
 
 
 def audited(version, nodes, first, steps):
