@@ -35,8 +35,8 @@ def random_steps(generator, version, nodes, count):
     while len(steps) < count:
         step = any_step(generator, version, world)
         if generator.random() < 0.7:
-            helpful = helpful_steps(version, world)
-            step = generator.choice([other for other in helpful if not copy.deepcopy(world).take(other).startswith("refused")] or [step])
+            lawful = [other for other in helpful_steps(version, world) if not copy.deepcopy(world).take(other).startswith("refused")]
+            step = generator.choice(lawful) if lawful else step
         steps.append((step, world.take(step)))
     return steps
 
