@@ -6,21 +6,10 @@ import collections
 import json
 
 from .event_format import Profile, nanoseconds
+from .repository import TOP, text_of
 
-DEVTOOLS = "devtools://devtools/bundled"
-# reads the events as the panel does when it loads a file, and returns the slices that it would show, or null without such modules
-READ = """(async text => {
-    const model = await import('DEVTOOLS/models/trace/trace.js').catch(() => null);
-    if (!model?.TraceModel?.Model?.createWithAllHandlers) return null;
-    const reader = model.TraceModel.Model.createWithAllHandlers(model.Types.Configuration.defaults());
-    await reader.parse(JSON.parse(text).traceEvents, {metadata: {}, isFreshRecording: false});
-    const {Meta, Renderer} = reader.parsedTrace(0).data, found = [];
-    for (const [pid, {threads}] of Renderer.processes)
-        for (const [tid, {name, entries}] of threads)
-            for (const entry of entries)
-                found.push([pid, tid, Meta.processNames.get(pid)?.args.name, name, entry.name, entry.ts, entry.dur]);
-    return found;
-})""".replace("DEVTOOLS", DEVTOOLS)
+# reads the events, and returns the slices that the panel would show, or null without such modules
+READ = text_of(f"{TOP}/tools/data/devtools.js")
 
 
 def slices_in(text):
@@ -38,7 +27,7 @@ def in_nanoseconds(slices):
 def check(tally, browser, texts):
     """Counts whether the viewer has each slice of each of these texts once, under the names of the file."""
     what = f"the events of {len(texts)} run{'s' * (len(texts) != 1)}"
-    is_open = browser.navigate(f"{DEVTOOLS}/devtools_app.html")
+    is_open = browser.navigate("devtools://devtools/bundled/devtools_app.html")
     for name, text in texts.items():
         found = browser.value(f"{READ}({json.dumps(text)})") if is_open else None
         if found is None:

@@ -25,7 +25,7 @@ import tempfile
 
 from .. import plots, running
 from ..repository import processors
-from . import conditions, document, figures, origin, rows, soundness, tables
+from . import conditions, document, figures, rows, soundness, tables
 from .cases import FRONT, MEASUREMENTS, PROGRAMS
 from .measuring import TIMED, Bench
 from .peers import Peers
@@ -104,7 +104,7 @@ def measure_all(options, names, folder):
             print(f"{name}: no case has {options.only!r} in its name", file=sys.stderr)
             continue
         end = conditions.now()
-        its_origin = origin.origin_of(name, form, found, end[0] - start[0], load_average, conditions.others(start, end))
+        its_origin = conditions.origin_of(name, form, found, end[0] - start[0], load_average, conditions.others(start, end))
         parts = [f"## {name}", rows.text_of(found, rows.kind_of(name)), tables.of(name, found), tables.of_origins([its_origin]), ""]
         print("\n\n".join(parts), flush=True)
         if options.write:

@@ -141,19 +141,15 @@ def cholesky(bench, programs):
         ])
 
 
-def jacobi(bench, programs):
-    """Measures Jacobi steps on a grid in blocks."""
+def jacobi_and_sort(bench, programs):
+    """Measures Jacobi steps on a grid in blocks, and merge sort, whose tasks add further ones."""
     ways = [LOOP, *POOL, Way("OpenMP parallel for", f"omp:{WORKERS}", 1, WORKERS), OPENMP._replace(argument=f"dep:{WORKERS}")]
-    for side, block, steps in [(512, 64, 20)] if bench.is_quick else JACOBI:
-        name = f"Jacobi, {side} by {side} in blocks of {block}, {steps} steps"
-        yield from compare(bench, name, [Process(programs.own("jacobi"), [str(side), str(block), str(steps)], ways)])
-
-
-def recursion(bench, programs):
-    """Measures merge sort, whose tasks add further ones."""
-    for length, leaf in [(200_000, 2_000)] if bench.is_quick else SORT:
-        name = f"merge sort, {length:,} numbers, leaves of {leaf:,}"
-        yield from compare(bench, name, [Process(programs.own("recursion"), [str(length), str(leaf)], [LOOP, *POOL, OPENMP])])
+    for name, case, sizes, quick_size, its_ways in (
+        ("jacobi", "Jacobi, {0} by {0} in blocks of {1}, {2} steps", JACOBI, (512, 64, 20), ways),
+        ("recursion", "merge sort, {:,} numbers, leaves of {:,}", SORT, (200_000, 2_000), [LOOP, *POOL, OPENMP]),
+    ):
+        for size in [quick_size] if bench.is_quick else sizes:
+            yield from compare(bench, case.format(*size), [Process(programs.own(name), [*map(str, size)], its_ways)])
 
 
 def instructions(process):
@@ -210,5 +206,5 @@ def bodies(bench, programs):
 
 def dag(bench):
     programs = Programs(bench.folder)
-    for part in (cholesky, jacobi, recursion, empty, bodies):
+    for part in (cholesky, jacobi_and_sort, empty, bodies):
         yield from part(bench, programs)

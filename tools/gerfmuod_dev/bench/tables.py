@@ -1,9 +1,10 @@
 """The tables that are printed, and that docs/PERFORMANCE.md has between marks."""
 import functools
+import re
 import statistics
 from typing import NamedTuple
 
-from . import dag_tables, metg
+from . import metg
 from .cases import GRID_PLACES, LIBRARY_STEPS, MEASUREMENTS, PLACES, PRODUCT_PLACES, ROD_PLACES, TASKS
 from .rows import Origin
 
@@ -314,6 +315,70 @@ def library(rows):
     return table(["Steps of", "Program", "nanoseconds a step", "instructions a step", "bytes a step"], lines)
 
 
+# a case of task graphs with bodies: its shape
+GRAPH_BODY = re.compile(r"(\w+), bodies of ([\d.]+) us$")
+GRAPH_WORKERS = 4
+
+
+def columns_of(rows):
+    """Returns a column for each program with its nodes and workers."""
+    return {f"{row.program}, {row.where}": {"program": row.program, "where": row.where} for row in rows}
+
+
+def by_case(rows, text_of):
+    """Returns a table with a line for each case and a column for each program with its nodes and workers."""
+
+    def cell_at(case, column):
+        row = found(rows, case=case, **column)
+        return text_of(row) if row else ""
+
+    return pivot("", distinct(rows, "case"), columns_of(rows), cell_at)
+
+
+def time_of(row):
+    return with_quartiles(row) if row.nodes * row.workers > 1 else f"{row.milliseconds:.1f}"
+
+
+def time_of_a_task(row):
+    median, lower, upper = (time * 1e6 / row.units for time in (row.milliseconds, row.lower_quartile, row.upper_quartile))
+    return f"{median:,.0f} ({lower:,.0f}–{upper:,.0f})" if row.nodes * row.workers > 1 else f"{median:,.0f}"
+
+
+def instructions_of_a_task(row):
+    return cell(each_unit(row), "{:,.0f}")
+
+
+def smallest_bodies(rows):
+    """Returns a table of METG(50%) of each program with four workers, in microseconds, with a line for each shape."""
+    own = [row for row in rows if row.nodes * row.workers == GRAPH_WORKERS]
+
+    def points(shape, column, time):
+        for row in having(own, **column):
+            if GRAPH_BODY.match(row.case)[1] == shape:
+                kernel = found(rows, case=row.case, program="one after the other").milliseconds
+                yield metg.Point(getattr(row, time) * 1000 * GRAPH_WORKERS / row.units, kernel * 1000 / row.units)
+
+    def size(shape, column):
+        return metg.spelt_by_quartiles(lambda time: sorted(points(shape, column, time), key=lambda point: point.kernel))
+
+    return pivot("", dict.fromkeys(GRAPH_BODY.match(row.case)[1] for row in own), columns_of(own), size)
+
+
+def task_graphs(rows):
+    """Returns all tables of task graphs, each with its title."""
+    whole = [row for row in rows if row.case.startswith(("Cholesky", "Jacobi", "merge sort"))]
+    empty = [row for row in rows if row.case.endswith("empty bodies")]
+    counted = [row for row in empty if row.instructions]
+    small = [row for row in rows if GRAPH_BODY.match(row.case)]
+    parts = (
+        ("Milliseconds:", whole, lambda: by_case(whole, time_of)),
+        ("Nanoseconds a task, with its description:", empty, lambda: by_case(empty, time_of_a_task)),
+        ("Instructions a task, with its description, one thread:", counted, lambda: by_case(counted, instructions_of_a_task)),
+        ("METG(50%) in microseconds, four workers:", small, lambda: smallest_bodies(small)),
+    )
+    return "\n\n".join(f"{title}\n\n{table_of()}" for title, own, table_of in parts if own)
+
+
 def by_processes(rows, cell_of):
     """Returns a line for each detector, with a cell for its row at each number of processes."""
 
@@ -353,7 +418,7 @@ def detectors(rows):
 
 TABLES = {
     "sim": texts, "audit": texts, "run": pools, "patterns": grids, "rod": functools.partial(milliseconds, ROD_PLACES), "body": body,
-    "product": functools.partial(milliseconds, PRODUCT_PLACES), "library": library, "dag": dag_tables.table, "processes": detectors,
+    "product": functools.partial(milliseconds, PRODUCT_PLACES), "library": library, "dag": task_graphs, "processes": detectors,
 }
 assert TABLES.keys() == MEASUREMENTS.keys()
 
