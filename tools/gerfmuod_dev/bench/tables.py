@@ -62,6 +62,13 @@ def pivot(head, lines, columns, cell_of):
     return table([head, *columns], [[line, *(cell_of(line, key) for key in columns.values())] for line in lines])
 
 
+def grid(head, rows, field, column_of, text_of):
+    """Returns a table of rows: a line for each value of this field, a column for each name of one, and the text of the row there."""
+    columns = dict.fromkeys(map(column_of, rows))
+    texts_of_rows = {(getattr(row, field), column_of(row)): text_of(row) for row in rows}
+    return pivot(head, distinct(rows, field), dict(zip(columns, columns)), lambda *key: texts_of_rows.get(key, ""))
+
+
 def spelt(places):
     return [f"{nodes} by {workers}" for nodes, workers in places]
 
@@ -320,19 +327,8 @@ GRAPH_BODY = re.compile(r"(\w+), bodies of ([\d.]+) us$")
 GRAPH_WORKERS = 4
 
 
-def columns_of(rows):
-    """Returns a column for each program with its nodes and workers."""
-    return {f"{row.program}, {row.where}": {"program": row.program, "where": row.where} for row in rows}
-
-
-def by_case(rows, text_of):
-    """Returns a table with a line for each case and a column for each program with its nodes and workers."""
-
-    def cell_at(case, column):
-        row = found(rows, case=case, **column)
-        return text_of(row) if row else ""
-
-    return pivot("", distinct(rows, "case"), columns_of(rows), cell_at)
+def program_and_place(row):
+    return f"{row.program}, {row.where}"
 
 
 def time_of(row):
@@ -344,49 +340,40 @@ def time_of_a_task(row):
     return f"{median:,.0f} ({lower:,.0f}–{upper:,.0f})" if row.nodes * row.workers > 1 else f"{median:,.0f}"
 
 
-def instructions_of_a_task(row):
-    return cell(each_unit(row), "{:,.0f}")
-
-
 def smallest_bodies(rows):
     """Returns a table of METG(50%) of each program with four workers, in microseconds, with a line for each shape."""
-    own = [row for row in rows if row.nodes * row.workers == GRAPH_WORKERS]
+    own = {}
+    for row in (row for row in rows if row.nodes * row.workers == GRAPH_WORKERS):
+        own.setdefault((GRAPH_BODY.match(row.case)[1], program_and_place(row)), []).append(row)
 
-    def points(shape, column, time):
-        for row in having(own, **column):
-            if GRAPH_BODY.match(row.case)[1] == shape:
-                kernel = found(rows, case=row.case, program="one after the other").milliseconds
-                yield metg.Point(getattr(row, time) * 1000 * GRAPH_WORKERS / row.units, kernel * 1000 / row.units)
+    def point_of(row, time):
+        kernel = found(rows, case=row.case, program="one after the other").milliseconds
+        return metg.Point(getattr(row, time) * 1000 * GRAPH_WORKERS / row.units, kernel * 1000 / row.units)
 
-    def size(shape, column):
-        return metg.spelt_by_quartiles(lambda time: sorted(points(shape, column, time), key=lambda point: point.kernel))
+    def size(*key):
+        points = own.get(key, [])
+        return metg.spelt_by_quartiles(lambda time: sorted((point_of(row, time) for row in points), key=lambda point: point.kernel))
 
-    return pivot("", dict.fromkeys(GRAPH_BODY.match(row.case)[1] for row in own), columns_of(own), size)
+    shapes, columns = (dict.fromkeys(keys) for keys in zip(*own))
+    return pivot("", shapes, dict(zip(columns, columns)), size)
 
 
 def task_graphs(rows):
     """Returns all tables of task graphs, each with its title."""
-    whole = [row for row in rows if row.case.startswith(("Cholesky", "Jacobi", "merge sort"))]
-    empty = [row for row in rows if row.case.endswith("empty bodies")]
-    counted = [row for row in empty if row.instructions]
     small = [row for row in rows if GRAPH_BODY.match(row.case)]
-    parts = (
-        ("Milliseconds:", whole, lambda: by_case(whole, time_of)),
-        ("Nanoseconds a task, with its description:", empty, lambda: by_case(empty, time_of_a_task)),
-        ("Instructions a task, with its description, one thread:", counted, lambda: by_case(counted, instructions_of_a_task)),
-        ("METG(50%) in microseconds, four workers:", small, lambda: smallest_bodies(small)),
-    )
-    return "\n\n".join(f"{title}\n\n{table_of()}" for title, own, table_of in parts if own)
-
-
-def by_processes(rows, cell_of):
-    """Returns a line for each detector, with a cell for its row at each number of processes."""
-
-    def cell_at(detector, count):
-        row = found(rows, detector=detector, processes=count)
-        return cell_of(row) if row else ""
-
-    return pivot("Detector", distinct(rows, "detector"), {f"{count:,}": count for count in distinct(rows, "processes")}, cell_at)
+    empty = [row for row in rows if row.case.endswith("empty bodies")]
+    whole, counted = [row for row in rows if row not in small + empty], [row for row in empty if row.instructions]
+    parts = [
+        f"{title}:\n\n{grid('', own, 'case', program_and_place, text_of)}"
+        for title, own, text_of in (
+            ("Milliseconds", whole, time_of),
+            ("Nanoseconds a task, with its description", empty, time_of_a_task),
+            ("Instructions a task, with its description, one thread", counted, lambda row: cell(each_unit(row), "{:,.0f}")),
+        ) if own
+    ]
+    if small:
+        parts.append(f"METG(50%) in microseconds, four workers:\n\n{smallest_bodies(small)}")
+    return "\n\n".join(parts)
 
 
 def times_and_messages(row):
@@ -405,8 +392,9 @@ def detectors(rows):
     shown += [("simulated", "steps, control messages, waves", steps_and_messages)]
     shown += [("random programs", "control messages, waves", steps_and_messages)]
     parts = [
-        f"{case[0].upper()}{case[1:]}, by processes: {what}:\n\n{by_processes(having(rows, case=case), cell_of)}"
-        for case, what, cell_of in shown
+        f"{case[0].upper()}{case[1:]}, by processes: {what}:\n\n"
+        + grid("Detector", having(rows, case=case), "detector", lambda row: f"{row.processes:,}", text_of)
+        for case, what, text_of in shown
     ]
     lines = [
         [row.case[len("calls: ") :], row.detector, cell(row.nanoseconds_a_call, "{:.1f}"), cell(row.instructions, "{:.0f}")]
