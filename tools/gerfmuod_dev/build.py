@@ -14,7 +14,7 @@ import subprocess
 import time
 from concurrent.futures import FIRST_COMPLETED, ThreadPoolExecutor, wait
 
-from . import built, repository
+from . import built, repository, running
 from .rooms import rooms
 
 PROGRAMS = ["tp", "samples"]
@@ -25,24 +25,14 @@ LINES_OF_A_JOB = 500
 QUIET = re.compile(r"(== |logic|statements|library|crate|by-macro|only=|so far:|empty contracts|rt: chose)|.*: proved$")
 
 
-def longest_chains(crates):
-    """Returns for each crate the lines of the longest chain of crates that begins with it and goes up."""
-    longest = {}
-    for name in reversed(crates):
-        above = [longest[upper] for upper in longest if name in crates[upper].below]
-        longest[name] = crates[name].lines + max(above, default=0)
-    return longest
-
-
 def prove(crate, room, jobs):
     """Proves a crate in a copy and builds it; returns whether that succeeded, the output, and the seconds."""
     began, verb = time.time(), "run" if crate.name in PROGRAMS else "check" if crate.is_program else "lib"
     command = ["rt", verb, f"--jobs={jobs}", *["--", "--help"] * (verb == "run")]
-    streams = {"stdin": subprocess.DEVNULL, "stdout": subprocess.PIPE, "stderr": subprocess.STDOUT}
-    result = subprocess.run(command, cwd=f"{room}/crates/{crate.name}", text=True, errors="replace", check=False, **streams)
-    if crate.name in built.RESULTS and not result.returncode:
+    result = running.run(command, cwd=f"{room}/crates/{crate.name}", stderr=subprocess.STDOUT, timeout=None)
+    if crate.name in built.RESULTS and not result.status:
         built.take(crate.name, room)
-    return not result.returncode, result.stdout, time.time() - began
+    return not result.status, result.out.decode(errors="replace"), time.time() - began
 
 
 def renew(source, target):
@@ -72,7 +62,9 @@ def keep(crates, source, target="."):
 def shares(crates, done, begun, free, most):
     """Yields the crates that can begin, and how many of the free processors each gets: the first one what the others leave. The crate
     with the most lines on the chains above it gets up to `most`, also those that are not free: everything waits for it."""
-    longest, first = longest_chains(crates), repository.crates(PROGRAMS[:1])
+    longest, first = {}, repository.crates(PROGRAMS[:1])
+    for name in reversed(crates):
+        longest[name] = crates[name].lines + max((longest[upper] for upper in longest if name in crates[upper].below), default=0)
     ready = [crate for crate in crates.values() if crate.name not in begun and done.issuperset(crate.below)]
     ready.sort(key=lambda crate: (crate.name not in first, -longest[crate.name]))
     head = max((name for name in crates if name not in done), key=longest.get, default=None)

@@ -5,14 +5,13 @@ They work on the repository that they are in, from whatever folder they are call
 import argparse
 
 from . import bench, build, capi, checks, dag_programs, docs, drawn, lanes, library, limits, lines
-from . import mpi, mutants, new_pool, pages, plots, proved, soak, summary, tries
+from . import mpi, mutants, new_pool, pages, plots, soak, summary, tries
 from .shipping import manual, package
 
 COMMANDS = {
     "build": build, "lib": library, "test": checks, "capi": capi, "dag": dag_programs, "mpi": mpi, "try": tries,
-    "pages": pages, "mutants": mutants, "lanes": lanes, "lines": lines, "docs": docs, "proved": proved, "draw": drawn, "plot": plots,
-    "summary": summary, "new-pool": new_pool, "soak": soak, "bench": bench, "manual": manual,
-    "package": package,
+    "pages": pages, "mutants": mutants, "lanes": lanes, "lines": lines, "docs": docs, "draw": drawn, "plot": plots,
+    "summary": summary, "new-pool": new_pool, "soak": soak, "bench": bench, "manual": manual, "package": package,
 }
 
 
@@ -23,7 +22,8 @@ def described(text):
 
 def add(parsers, name, module):
     parser = parsers.add_parser(name, help=module.__doc__.splitlines()[0], **described(module.__doc__))
-    module.arguments(parser)
+    if hasattr(module, "arguments"):
+        module.arguments(parser)
     parser.set_defaults(run=module.run, parser=parser)
 
 

@@ -1,10 +1,10 @@
 """Reads the contracts of a crate: its functions with their clauses and docstrings, and its types with what they keep.
 
-The files have the layout of `rt fmt`, so the beginning of a line shows what the line begins. Bodies are not read.
+The files have the layout of `rt fmt`, so the beginning of a line shows what the line begins. Of bodies only the places are read.
 """
 import functools
 import re
-from dataclasses import dataclass
+from typing import NamedTuple
 
 from . import repository
 from .repository import text_of
@@ -22,9 +22,9 @@ EXPORT = re.compile(r"^pub use ([^;]*);$", re.M)
 DECLARED_IN_LIB = re.compile(r"^pub (?:const )?(?:fn|struct|enum|trait|type|const) (\w+)", re.M)
 
 
-@dataclass(frozen=True)
-class Function:
-    """A function of a crate. `owner` is its type or trait, or empty; `head` is its text from its name to its body."""
+class Function(NamedTuple):
+    """A function of a crate. `owner` is its type or trait, or empty; `head` is its text from its name to its body; its first line, with
+    the docstring and attributes, and the lines of its body count from 0."""
 
     owner: str
     name: str
@@ -33,6 +33,8 @@ class Function:
     head: str
     is_declared_public: bool
     is_public: bool
+    first: int
+    body: range
 
     @property
     def path(self):
@@ -44,8 +46,7 @@ class Function:
         return [name for found, name in CLAUSE.findall(self.head) if found == kind]
 
 
-@dataclass(frozen=True)
-class Type:
+class Type(NamedTuple):
     """A type, trait or constant of a crate, with the names of the ghost items that state something."""
 
     kind: str
@@ -56,10 +57,9 @@ class Type:
 
 def owner_of(line):
     """Returns the type of an `impl`, or the name of a trait."""
-    plain, depth = "", 0
-    for letter in line.replace("->", "  "):
-        depth += (letter == "<") - (letter == ">")
-        plain += letter if depth == 0 and letter != ">" else ""
+    plain, count = line.replace("->", ""), 1
+    while count:
+        plain, count = re.subn(r"<[^<>]*>", "", plain)
     parts = re.split(r"\bwhere\b|\{|:", plain)[0].replace("pub ", "").split()
     return parts[-1] if len(parts) > 1 else ""
 
@@ -89,7 +89,7 @@ def items_in(lines):
     for place, line in enumerate(lines):
         text = line.strip()
         if text.startswith("#["):
-            attributes += text
+            attributes += f"{text}\n"
         elif text.startswith("///"):
             docstring += f"{text[3:].strip()}\n"
         elif not text.startswith("//"):
@@ -124,10 +124,13 @@ def read_items(lines, path, public):
         elif line.startswith("}"):
             owner, is_trait = "", False
         elif function and function[1] == ("    " if owner else ""):
-            _, visible, name = function.groups()
+            blanks, visible, name = function.groups()
             is_declared = visible == "pub " or is_trait
             is_public = is_declared and (owner or name) in public or "no_mangle" in attributes
-            yield Function(owner, name, path, docstring, head_at(lines, place), is_declared, is_public)
+            first, head = place - (docstring + attributes).count("\n"), head_at(lines, place)
+            begin = place + head.count("\n") + 1
+            end = next((row for row in range(begin, len(lines)) if lines[row] == f"{blanks}}}"), begin) if head.endswith("{") else begin
+            yield Function(owner, name, path, docstring, head, is_declared, is_public, first, range(begin, end))
 
 
 @functools.lru_cache(maxsize=None)

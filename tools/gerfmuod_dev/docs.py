@@ -6,7 +6,7 @@
 - each block of code in docs/RUNNING-A-POOL.md and docs/PROVING-A-POOL.md is part of the file that the line above it names
 - a count in a document, such as `23<!-- files crates/gerfmuod/proofs/**/Proof.antt -->`, is the number of these files
 - the table of docs/ARCHITECTURE.md has the groups of crates.txt, and the plots are drawn from what is stored (`tools/dev plot`)
-- the contracts, the tests and the calls that documents cite are in the code (`tools/dev proved`)
+- the contracts, the tests, the mutants and the calls that documents cite are in the code (proved.py)
 - the runtime and the library's C code use no atomic operation: all shared state is behind locks
 
 Prints each difference. The last line is `N passed, M failed`; the status is 1 if one failed.
@@ -54,23 +54,18 @@ def headings_of(text):
     return {f"{name}-{count}" if count else name for name, count in zip(names, counts)}
 
 
-def links_of(path):
-    """Returns the relative links of a document, each once."""
-    links = ["".join(groups) for groups in LINK.findall(CODE.sub("``", text_of(path)))]
-    return [link for link in dict.fromkeys(links) if not URL.match(link)]
-
-
 def exists(path, link):
     """Whether the target of a document's link exists."""
     file, _, heading = unquote(link).partition("#")
     target = os.path.join(os.path.dirname(path), file) if file else path
-    if not os.path.exists(target):
-        return False
-    return not heading or not target.endswith(".md") or heading in headings_of(text_of(target))
+    is_here = os.path.exists(target)
+    return is_here and (not heading or not target.endswith(".md") or heading in headings_of(text_of(target)))
 
 
 def dead_links(path):
-    return [link for link in links_of(path) if not exists(path, link)]
+    """Returns the relative links of a document that lead nowhere, each once."""
+    links = dict.fromkeys("".join(groups) for groups in LINK.findall(CODE.sub("``", text_of(path))))
+    return [link for link in links if not URL.match(link) and not exists(path, link)]
 
 
 def unknown_names(text, subcommands):
@@ -123,10 +118,6 @@ def check_atomics(tally):
         found = [use[0] for use in ATOMIC.finditer(COMMENT.sub("", text_of(path)))]
         tally.judge(not found, f"{path}: {', '.join(found)}: shared state has to be behind a lock")
     print(f"{len(runtime)} files of the runtime and {len(library)} of the library's C code: no atomic operation")
-
-
-def arguments(parser):
-    del parser
 
 
 def run(options):

@@ -11,7 +11,7 @@ import tempfile
 
 from . import dag_programs, library, plots, repository, running, timeline
 from .browser import Browser, program
-from .profiles import Profile
+from .event_format import Profile
 from .repository import text_of
 
 EXAMPLES = "crates/tp_examples/data/a-trace-of"

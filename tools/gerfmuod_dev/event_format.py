@@ -1,4 +1,4 @@
-"""Checks a text against the Trace Event Format: its JSON Object Format, and what an importer needs to place each event.
+"""Reads texts in the Trace Event Format, and checks them: the JSON Object Format, and what an importer needs to place each event.
 
 Strict JSON: no key twice, no NaN. Each event has the fields that its phase requires, of their types, and no other one. The
 slices of a track nest. A flow begins once and ends at most once, not earlier, each time in a slice of its track; of two
@@ -24,6 +24,27 @@ FIELDS = {
 METADATA = {"process_name": "name", "thread_name": "name", "process_sort_index": "sort_index", "thread_sort_index": "sort_index"}
 
 
+class Profile:
+    """The events of a text by phase, the slices among them, what `otherData` says, and the names of processes and threads."""
+
+    def __init__(self, text):
+        content = json.loads(text)
+        self.about, self.events = content.get("otherData", {}), collections.defaultdict(list)
+        for event in content["traceEvents"]:
+            self.events[event["ph"]].append(event)
+        self.slices = self.events["X"]
+        self.processes, self.threads = {}, {}
+        for event in self.events["M"]:
+            if event["name"] == "process_name":
+                self.processes[event["pid"]] = event["args"]["name"]
+            elif event["name"] == "thread_name":
+                self.threads[event["pid"], event.get("tid", 0)] = event["args"]["name"]
+
+
+def is_text(value):
+    return isinstance(value, str) and value
+
+
 def is_time(value):
     return type(value) in (int, float) and math.isfinite(value) and value >= 0
 
@@ -32,19 +53,12 @@ def is_whole(value):
     return type(value) is int and 0 <= value < 2**31
 
 
-def is_text(value):
-    return isinstance(value, str) and value
-
-
-def is_number_of_flow(value):
-    return isinstance(value, str) and re.fullmatch("0x[0-9a-f]{1,16}", value) or is_whole(value)
-
-
 VALID = {
     "name": is_text, "cat": is_text, "pid": is_whole, "tid": is_whole, "ts": is_time, "dur": is_time,
     "s": lambda value: value in ("g", "p", "t"),
     "bp": lambda value: value == "e",
-    "id": lambda value: is_number_of_flow(value) or is_text(value),
+    # (the format allows any text, but some importers only take numbers)
+    "id": lambda value: isinstance(value, str) and re.fullmatch("0x[0-9a-f]{1,16}", value) or is_whole(value),
     "args": lambda value: isinstance(value, dict),
 }
 
@@ -85,61 +99,49 @@ def nanoseconds(microseconds):
 
 
 def overlaps(slices):
-    """Yields each slice that begins in another one and ends after it, of those of a track in the order of their times."""
+    """Yields each slice of a track that begins in another one and ends after it."""
     ends = []
-    for begin, end, _ in slices:
+    for begin, minus_end, _ in slices:
         while ends and ends[-1] <= begin:
             ends.pop()
-        if ends and end > ends[-1]:
-            yield f"a slice from {begin} to {end} overlaps one that ends at {ends[-1]}"
-        ends.append(end)
+        if ends and -minus_end > ends[-1]:
+            yield f"a slice from {begin} to {-minus_end} overlaps one that ends at {ends[-1]}"
+        ends.append(-minus_end)
 
 
 def has(slices, at, place):
-    """Whether a slice that is open at this time, or has no length and is at it, comes before this place of the file."""
+    """Whether a slice that is open at this time, or begins then, comes before this place of the file."""
     last = bisect.bisect_right(slices, (at, math.inf))
-    return any(at < end or begin == at for begin, end, first in reversed(slices[:last]) if begin < at or first < place)
-
-
-def flow_faults(flows, tracks, has_one_clock):
-    """Yields what is wrong with the ends of flows, which are given with their places in the file."""
-    ends = collections.defaultdict(lambda: {"s": [], "f": []})
-    for place, event in flows:
-        at = nanoseconds(event["ts"])
-        ends[event["cat"], event["name"], event["id"]][event["ph"]].append(at)
-        if not is_number_of_flow(event["id"]):
-            yield f"the id of a flow is no number: {event}"
-        if not has(tracks[event["pid"], event["tid"]], at, place):
-            yield f"an end of a flow that is in no slice: {event}"
-    for flow, found in ends.items():
-        if len(found["s"]) != 1 or len(found["f"]) > 1 or has_one_clock and found["f"] and found["f"] < found["s"]:
-            yield f"flow {flow} begins at {found['s']}, ends at {found['f']}"
+    return any(begin < at < -minus_end or begin == at and first < place for begin, minus_end, first in reversed(slices[:last]))
 
 
 def placing_faults(events, has_one_clock):
     """Yields what is wrong with where events whose fields are valid are shown."""
-    tracks, flows, names = collections.defaultdict(list), [], collections.Counter()
+    # of each track the slices in the order of their times, a longer one first: begin, minus the end, and the place in the file
+    tracks, flows, names = collections.defaultdict(list), collections.defaultdict(lambda: {"s": [], "f": []}), collections.Counter()
     for place, event in enumerate(events):
         if event["ph"] == "X":
             begin = nanoseconds(event["ts"])
-            tracks[event["pid"], event["tid"]].append((begin, begin + nanoseconds(event["dur"]), place))
+            bisect.insort(tracks[event["pid"], event["tid"]], (begin, -begin - nanoseconds(event["dur"]), place))
         elif event["ph"] == "M":
             names[event["name"], event["pid"], event.get("tid") if event["name"].startswith("thread") else None] += 1
-        elif event["ph"] in "sf":
-            flows.append((place, event))
     for slices in tracks.values():
-        slices.sort(key=lambda part: (part[0], -part[1], part[2]))
         yield from overlaps(slices)
     yield from (f"{name} comes {count} times" for name, count in names.items() if count > 1)
-    yield from flow_faults(flows, tracks, has_one_clock)
+    for place, event in enumerate(events):
+        if event["ph"] in "sf":
+            at = nanoseconds(event["ts"])
+            flows[event["cat"], event["name"], event["id"]][event["ph"]].append(at)
+            if not has(tracks[event["pid"], event["tid"]], at, place):
+                yield f"an end of a flow that is in no slice: {event}"
+    for flow, ends in flows.items():
+        if len(ends["s"]) != 1 or len(ends["f"]) > 1 or has_one_clock and ends["f"] and ends["f"] < ends["s"]:
+            yield f"flow {flow} begins at {ends['s']}, ends at {ends['f']}"
 
 
 def faults(text, has_one_clock=True):
-    """Returns what is wrong with a text, as lines; none if it is as the format has it.
-
-    If the times come from several clocks, flows may end before they begin. The format allows any text as the id of a flow,
-    but some importers only take numbers, so other texts are a fault.
-    """
+    """Returns what is wrong with a text, as lines; none if it is as the format has it. If the times come from several clocks, flows may
+    end before they begin."""
     try:
         content = json.loads(text, object_pairs_hook=once, parse_constant=no_number)
     except ValueError as error:
@@ -151,6 +153,18 @@ def faults(text, has_one_clock=True):
         found.append(f"the unit of time is {content['displayTimeUnit']}")
     found += [fault for event in content["traceEvents"] for fault in field_faults(event)]
     return found or list(placing_faults(content["traceEvents"], has_one_clock))
+
+
+def turn_faults(slices, elapsed=math.inf):
+    """Yields each slice that begins before the one before it on its track has ended, or that ends after the run."""
+    ends = collections.Counter()
+    for event in slices:
+        track, begin = (event["pid"], event["tid"]), nanoseconds(event["ts"])
+        if begin < ends[track]:
+            yield f"{event} begins before {ends[track]}"
+        ends[track] = begin + nanoseconds(event["dur"])
+        if ends[track] > elapsed:
+            yield f"{event} ends after the run, {elapsed}"
 
 
 def spoiled(text):

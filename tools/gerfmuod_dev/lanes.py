@@ -2,10 +2,6 @@
 from . import repository
 
 
-def arguments(_):
-    """(There are none.)"""
-
-
 def run(_):
     print(repository.lanes(repository.MEMORY_OF_A_CHECK))
     return 0

@@ -27,9 +27,9 @@ ROW = "{:<14}" + "{:>13,}" * (len(KINDS) + 1)
 
 def lines_of(crate):
     """Returns how many lines a crate has of each kind."""
-    folder, counts = f"crates/{crate}", dict.fromkeys(KINDS, 0)
-    for path in repository.files_in(folder):
-        kind = next((kind for kind, pattern in KINDS.items() if re.match(pattern, path[len(folder) + 1 :])), None)
+    counts = dict.fromkeys(KINDS, 0)
+    for path in repository.files_in(f"crates/{crate}"):
+        kind = next((kind for kind, pattern in KINDS.items() if re.match(pattern, path.split("/", 2)[2])), None)
         if kind:
             is_test = crate.startswith("test_") and kind not in ("mutants", "data")
             counts["tests" if is_test else kind] += text_of(path).count("\n")
@@ -42,19 +42,15 @@ def lines_in(*patterns):
     return sum(GENERATED.sub("", text_of(path)).count("\n") for path in paths)
 
 
-def arguments(parser):
-    del parser
-
-
-def run(options):
-    del options
+def run(_):
     repository.go_to_top()
     rows = {name: lines_of(name) for name in repository.crates()}
+    crates = len(rows)
     rows["all"] = {kind: sum(counts[kind] for counts in rows.values()) for kind in KINDS}
     print(f"{'crate':<14}" + "".join(f"{kind:>13}" for kind in (*KINDS, "all")))
     for name, counts in rows.items():
-        print(ROW.format(name, *counts.values(), sum(counts.values())))
-    crates, lines = len(rows) - 1, sum(rows["all"].values())
+        lines = sum(counts.values())
+        print(ROW.format(name, *counts.values(), lines))
     proved = lines - rows["all"]["mutants"] - rows["all"]["data"]
     print(f"{crates} crates: {lines:,} lines, {proved:,} of them code, tests, definitions and proofs\n\nbudget:")
     for name, count, limit in (

@@ -6,8 +6,9 @@ others, and for each mutant of the crate what killed it. Its format is described
 import collections
 import functools
 import re
-from dataclasses import dataclass
+from typing import NamedTuple
 
+from . import running
 from .repository import files_in, text_of
 
 HEAD = "# The crate's mutants that the gate does not try, and what killed each mutant. The format: CONTRIBUTING.md, A mutant."
@@ -19,10 +20,12 @@ LINE = re.compile(
     r"|(?P<name>\w+)(?: in (?P<first>\S+?))?(?::(?: (?P<killer>.*))?)?|#.*|"
 )
 EDIT = re.compile(r"^(file|old|new): ?(.*)$", re.M)
+# how lines in the format of `rt` begin in a file `mutants`
+SIGNS = {"file": "in", "old": "-", "new": "+"}
 
 
 class Fault(Exception):
-    """A file of mutants that cannot be read, or a mutant that cannot be applied; its text says why."""
+    """A file of mutants that cannot be read; its text says why."""
 
 
 Change = collections.namedtuple("Change", "file old new")
@@ -30,8 +33,7 @@ Change = collections.namedtuple("Change", "file old new")
 MutantFile = collections.namedtuple("MutantFile", "mutants killers notes")
 
 
-@dataclass(frozen=True)
-class Mutant:
+class Mutant(NamedTuple):
     """A mutant: its name, whether the gate tries it, and its changes. The first change's `old` is in its file exactly once, and each
     further one in what the changes before it made of its file."""
 
@@ -59,20 +61,8 @@ def path_of(crate):
 
 def parse_edit(name, text):
     """Returns a mutant that is written in the format of `rt`."""
-    file, old, changes = None, None, []
-    for key, value in EDIT.findall(text):
-        if key == "file":
-            file = value.strip()
-        elif key == "old":
-            old = value
-        elif not file or not old:
-            raise Fault(f"{name}.edit: a line `new:` comes before `file:` or `old:`")
-        else:
-            changes.append(Change(file, old, value))
-            old = None
-    if not changes:
-        raise Fault(f"{name}.edit: it has no lines `old:` and `new:`")
-    return Mutant(name, True, tuple(changes))
+    lines = "\n".join(f"{SIGNS[key]} {value}" for key, value in EDIT.findall(text))
+    return parse(f"{name}.edit", f"{name} {lines}").mutants[0]._replace(in_gate=True)
 
 
 def parse(path, text):
@@ -84,18 +74,15 @@ def parse(path, text):
         is_in_place = part and (old is not None) == bool(part["plus"]) and (file or not part["old"] and not part["file"])
         if not is_in_place or part["name"] in {*changes, *killers}:
             raise Fault(f"{path}:{number}: a line without the one before it, a second entry, or of an unknown form: {line}")
-        if part["old"]:
-            old = part["old"]
-        elif part["plus"]:
+        if part["plus"]:
             changes[name].append(Change(file, old, part["new"] or ""))
-            old = None
         elif part["note"]:
             notes.setdefault(part["note"], part["value"])
         elif part["name"]:
             name, file = part["name"], part["first"]
             changes.update({name: []} if file else {})
             killers.update({name: part["killer"]} if part["killer"] else {})
-        file = part["file"] or file
+        old, file = part["old"], part["file"] or file
     empty = [name for name, found in changes.items() if not found]
     if empty or old is not None:
         raise Fault(f"{path}: {' '.join(empty) or name} has no lines `-` and `+`, or only the first of two")
@@ -113,24 +100,23 @@ def mutants_of(crate):
     """Returns all mutants of a crate by name: first those of the gate, then the others in the order of their file."""
     folder = f"crates/{crate}/must-fail"
     edits = [path for path in files_in(folder) if path.endswith(".edit")]
-    in_gate = [parse_edit(path[len(folder) + 1 : -len(".edit")], text_of(path)) for path in edits]
-    mutants = [*in_gate, *file_of(crate).mutants]
-    found = {mutant.name: mutant for mutant in mutants}
-    twice = [mutant.name for mutant in mutants if mutant is not found[mutant.name]]
+    mutants = [parse_edit(path[len(folder) + 1 : -len(".edit")], text_of(path)) for path in edits] + [*file_of(crate).mutants]
+    twice = [name for name, count in collections.Counter(mutant.name for mutant in mutants).items() if count > 1]
     if twice:
         raise Fault(f"{crate}: two mutants have one name: {' '.join(twice)}")
-    return found
+    return {mutant.name: mutant for mutant in mutants}
 
 
-def check(crate, mutant):
-    """Raises a fault unless each text that a mutant replaces is in its file exactly once."""
+def fault_of(crate, mutant):
+    """Returns why a mutant cannot be applied: a text that it replaces is not in its file exactly once; an empty text if it can."""
     texts = {}
     for change in mutant.changes:
         text = texts.get(change.file, text_of(f"crates/{crate}/{change.file}", ""))
         found = text.count(change.old)
         if found != 1:
-            raise Fault(f"{crate}/{mutant.name}: its text is in {change.file} {found} times, and not once: {change.old.strip()}")
+            return f"{crate}/{mutant.name}: its text is in {change.file} {found} times, and not once: {change.old.strip()}"
         texts[change.file] = text.replace(change.old, change.new)
+    return ""
 
 
 def rendered(mutants, killers, notes):
@@ -146,8 +132,6 @@ def rendered(mutants, killers, notes):
 
 def write(crate, killers, notes):
     """Writes a crate's file `mutants`."""
-    text = rendered(mutants_of(crate).values(), killers, notes)
-    with open(path_of(crate), "w", encoding="utf-8") as file:
-        file.write(text)
+    running.write(path_of(crate), rendered(mutants_of(crate).values(), killers, notes))
     file_of.cache_clear()
     mutants_of.cache_clear()

@@ -22,7 +22,7 @@ from concurrent.futures import ThreadPoolExecutor
 from . import mutant_files, repository, running, together, visible
 from .build import prove_all, renew
 from .mutant_files import Fault, mutants_of
-from .repository import files_in, text_of
+from .repository import text_of
 from .rooms import rooms
 
 # a string, a character, a comment, a bracket or a mark, or a word
@@ -68,9 +68,8 @@ def hash_of(texts):
 def texts_seen(crate):
     """Returns the texts that a crate's proofs depend on, by their names: its own files, and the definitions of lower crates that it can
     see."""
-    paths = [path for part in repository.SOURCES for path in files_in(f"crates/{crate.name}/{part}")]
-    seen = [(f"{part.kind} {part.path} {part.name}", meaning_seen(part)) for part in visible.definitions_seen(crate.name)]
-    return [(path, meaning(text_of(path))) for path in paths] + seen
+    seen = [(f"{part.kind} {part.path} {part.name}", meaning_seen(part)) for part in visible.definitions_seen(crate)]
+    return [(path, meaning(text_of(path))) for path in crate.sources()] + seen
 
 
 def digest(crate):
@@ -93,8 +92,8 @@ def goals_with(step, answers):
     parts = {match[1]: match[0] for match in DECLARED.finditer(answers)}
     named = [step]
     for name in named:
-        used = re.compile(rf"(?<![\w.-]){re.escape(name)}(?![\w-])")
-        named += [other for other, text in parts.items() if other not in named and used.search(text)]
+        used = rf"(?<![\w.-]){re.escape(name)}(?![\w-])"
+        named += [other for other, text in parts.items() if other not in named and re.search(used, text)]
     return [name for name in parts if name in named and f" : goal.{name}\n" in parts[name]]
 
 
@@ -105,8 +104,7 @@ def killer_of(crate, message):
         return ""
     proof = re.search(r"\./proofs/(\S+)/\w+\.antt:\d+:\d+: \w+: (?:.* depend on )?`([^`]+)`", message)
     # (the prover's line may be cut off)
-    code = re.search(r"(src/\S+\.rt):\d+:\d+: .*\(`([^`]+)", message)
-    place = proof or code
+    place = proof or re.search(r"(src/\S+\.rt):\d+:\d+: .*\(`([^`]+)", message)
     if not place:
         return re.sub(r"^refused, as it must be:? ?", "", message)
     goals = goals_with(place[2], text_of(f"crates/{crate}/proofs/{place[1]}/Answers.antt", "")) if proof else []
@@ -120,25 +118,9 @@ def try_alone(crate, names, lanes, room):
     os.makedirs(folder)
     for name in names:
         running.write(f"{folder}/{name}.edit", mutants_of(crate.name)[name].text)
-    options = {"env": {**os.environ, "RT_JOBS": str(lanes)}, "stdin": subprocess.DEVNULL, "stdout": subprocess.PIPE, "text": True}
-    output = subprocess.run(["rt", "must-fail", crate.name], cwd=room, check=False, **options).stdout
+    result = running.run(["rt", "must-fail", crate.name], cwd=room, env={**os.environ, "RT_JOBS": str(lanes)}, stderr=None, timeout=None)
     shutil.rmtree(folder)
-    return dict(re.findall(r"^rt: must-fail \w+/(\S+)\.edit: (.*)", output, re.M))
-
-
-def in_copies(copies, action, jobs):
-    """Yields what an action returns for each job: they run in parallel, each in a copy of the repository."""
-    free = [*copies]
-
-    def run_job(job):
-        room = free.pop()
-        try:
-            return action(room, *job)
-        finally:
-            free.append(room)
-
-    with ThreadPoolExecutor(len(copies)) as lanes:
-        yield from lanes.map(run_job, jobs)
+    return dict(re.findall(r"^rt: must-fail \w+/(\S+)\.edit: (.*)", result.out.decode(errors="replace"), re.M))
 
 
 class Verdicts:
@@ -180,12 +162,6 @@ class Verdicts:
         return is_well
 
 
-def groups_in(crate, names):
-    """Returns those of these mutants of a crate that can be tried together, as groups."""
-    places = (together.place(mutants_of(crate.name)[name], crate.name) for name in names)
-    return together.groups_of(filter(None, places))
-
-
 def keep_proofs(crates, top, copies):
     """Copies what the check of each crate without mutants left, which a further check begins with; returns the copy's folder by crate."""
     kept = {crate: f"{top}/kept/{crate.name}" for crate in crates}
@@ -201,14 +177,24 @@ def keep_proofs(crates, top, copies):
 def try_all(crates, top, copies):
     """Tries the mutants of crates that are proved in these copies, the longest crate first; returns whether each was killed. Those of
     different functions are tried in one check, and then those that survived it each in a check of its own."""
-    kept, verdicts = keep_proofs(crates, top, copies), {crate: Verdicts(crate) for crate in crates}
+    kept, verdicts, free = keep_proofs(crates, top, copies), {crate: Verdicts(crate) for crate in crates}, [*copies]
 
     def run_jobs(action, jobs):
-        for (crate, *_), messages in zip(jobs, in_copies(copies, action, jobs)):
-            verdicts[crate].add(messages)
+        """Runs an action for each job, each in a copy that no other one uses, and keeps the verdicts that it returns."""
+
+        def run_job(job):
+            room = free.pop()
+            try:
+                return action(room, *job)
+            finally:
+                free.append(room)
+
+        with ThreadPoolExecutor(len(copies)) as lanes:
+            for (crate, *_), messages in zip(jobs, lanes.map(run_job, jobs)):
+                verdicts[crate].add(messages)
 
     longest_first = sorted(crates, key=lambda crate: -crate.lines)
-    groups = [(crate, group) for crate in longest_first for group in groups_in(crate, verdicts[crate].left)]
+    groups = [(crate, group) for crate in longest_first for group in together.groups_in(crate.name, verdicts[crate].left)]
     run_jobs(lambda room, crate, group: together.try_group(crate.name, room, kept[crate], group), groups)
     left = [(crate, verdicts[crate].left) for crate in crates if verdicts[crate].left]
     for (crate, _), room in itertools.product(left, copies):
@@ -220,46 +206,39 @@ def try_all(crates, top, copies):
 
 def redigest(crate):
     """Writes a crate's digest anew and keeps what killed its mutants; returns whether each of them had been tried."""
-    file = mutant_files.file_of(crate.name)
-    day = file.notes.get("on", "").partition(",")[0]
-    for name in untried(crate):
+    file, missing = mutant_files.file_of(crate.name), untried(crate)
+    for name in missing:
         print(f"{crate.name}/{name} was never tried: make mutants CRATE={crate.name}")
-    if not untried(crate) and not is_current(crate):
-        notes = {"of": digest(crate), "by": file.notes["by"], "on": f"{day}, carried over a change of names on {datetime.date.today()}"}
-        mutant_files.write(crate.name, file.killers, notes)
+    if not missing and not is_current(crate):
+        day = f"{file.notes['on'].partition(',')[0]}, carried over a change of names on {datetime.date.today()}"
+        mutant_files.write(crate.name, file.killers, {**file.notes, "of": digest(crate), "on": day})
         print(f"{crate.name}: carried over {len(mutants_of(crate.name))} mutants")
-    return not untried(crate)
+    return not missing
 
 
 def faults_of(name):
     """Returns why mutants of a crate cannot be read or applied, a line each."""
     try:
-        mutants, faults = mutants_of(name), []
+        return list(filter(None, (mutant_files.fault_of(name, mutant) for mutant in mutants_of(name).values())))
     except Fault as fault:
         return [str(fault)]
-    for mutant in mutants.values():
-        try:
-            mutant_files.check(name, mutant)
-        except Fault as fault:
-            faults.append(str(fault))
-    return faults
 
 
 def print_stale(crates):
     """Prints the mutants that cannot be applied, the crates whose mutants have to be tried anew, and how many mutants there are;
     returns the exit status."""
-    tally, in_gate, elsewhere = running.Tally(), [], 0
+    tally, of_gate, elsewhere = running.Tally(), [], 0
     for name, crate in crates.items():
         faults = faults_of(name)
         for line in faults:
             tally.fails(line)
         if not faults and mutants_of(name):
             tally.judge(is_current(crate), f"{name} changed since its mutants were tried: make mutants")
-            in_gate += [name for mutant in mutants_of(name).values() if mutant.in_gate]
+            of_gate += [name for mutant in mutants_of(name).values() if mutant.in_gate]
             elsewhere += len(mutant_files.file_of(name).mutants)
-    is_rule = len(in_gate) <= MOST_MUTANTS and len({*in_gate}) <= MOST_CRATES
+    is_rule = len(of_gate) <= MOST_MUTANTS and len({*of_gate}) <= MOST_CRATES
     most = "" if is_rule else f" (at most {MOST_MUTANTS} in {MOST_CRATES} is the rule)"
-    print(f"The gate has {len(in_gate)} mutants in {len({*in_gate})} crates{most}; {elsewhere} more are in crates/*/mutants.")
+    print(f"The gate has {len(of_gate)} mutants in {len({*of_gate})} crates{most}; {elsewhere} more are in crates/*/mutants.")
     return tally.end()
 
 

@@ -2,8 +2,8 @@
 
 Plots of measurements are drawn from the rows of docs/measurements, the run of Cholesky from cholesky-run.csv there, and the map from
 crates.txt and the table of docs/ARCHITECTURE.md. A file ends with a digest of what it shows and of the code that draws it; `make
-test` compares these digests, without matplotlib and graphviz, and so does --check. `tools/bench-packages` prints the packages. The
-status is 1 if a plot could not be drawn: a package is missing.
+test` compares these digests, without matplotlib and graphviz. `tools/bench-packages` prints the packages. The status is 1 if a
+plot could not be drawn: a package is missing.
 """
 import functools
 import hashlib
@@ -15,7 +15,7 @@ import subprocess
 import sys
 from xml.dom import minidom
 
-from . import crate_map, repository, running, timeline
+from . import crate_map, repository, timeline
 from .bench import figures
 from .repository import text_of
 
@@ -38,7 +38,7 @@ def digest_of(plot):
     return hashlib.sha256(text.encode()).hexdigest()[:32]
 
 
-@functools.lru_cache()
+@functools.lru_cache(maxsize=None)
 def interpreter():
     """Returns an interpreter of Python that has matplotlib."""
     for path in (sys.executable, "/usr/bin/python3"):
@@ -47,40 +47,30 @@ def interpreter():
     raise FileNotFoundError(f"no matplotlib: {PACKAGES}")
 
 
-def drawn(plot, path):
-    """Draws a plot into a file."""
-    if not isinstance(plot, str):
+def draw(plot, path):
+    """Draws a plot into a file, and appends its digest."""
+    if isinstance(plot, str):
+        if not shutil.which("dot"):
+            raise FileNotFoundError(f"no graphviz: {PACKAGES}")
+        # (tred removes the arrows that others imply)
+        graph = subprocess.run(["tred"], input=plot, stdout=subprocess.PIPE, text=True, check=True).stdout
+        subprocess.run(["dot", f"-T{path[-3:]}", "-o", path], input=graph, text=True, check=True)
+    else:
         subprocess.run([interpreter(), DRAWING, path], input=json.dumps(plot), text=True, check=True)
-        return
-    if not shutil.which("dot"):
-        raise FileNotFoundError(f"no graphviz: {PACKAGES}")
-    # (tred removes the arrows that others imply)
-    graph = subprocess.run(["tred"], input=plot, stdout=subprocess.PIPE, text=True, check=True).stdout
-    subprocess.run(["dot", f"-T{path[-3:]}", "-o", path], input=graph, text=True, check=True)
-
-
-def plot_of(name, path):
-    """Returns what a plot shows; if that is nothing, removes the plot."""
-    plot = None
-    try:
-        plot = PLOTS[name]()
-    finally:
-        if not plot and os.path.exists(path):
-            os.remove(path)
-    return plot
+    with open(path, "a", encoding="utf-8") as file:
+        file.write(f"<!-- digest of its inputs: {digest_of(plot)} -->\n")
 
 
 def write(names=PLOTS):
     """Draws these plots; returns how many could not be drawn, and prints why. One of no rows is removed."""
     faults = 0
     for name in names:
-        path = figures.path_of(name)
+        plot, path = PLOTS[name](), figures.path_of(name)
         try:
-            plot = plot_of(name, path)
             if plot:
-                drawn(plot, path)
-                with open(path, "a", encoding="utf-8") as file:
-                    file.write(f"<!-- digest of its inputs: {digest_of(plot)} -->\n")
+                draw(plot, path)
+            elif os.path.exists(path):
+                os.remove(path)
         except (FileNotFoundError, subprocess.CalledProcessError) as error:
             faults += 1
             print(f"{name} is not drawn: {error}", file=sys.stderr)
@@ -90,8 +80,8 @@ def write(names=PLOTS):
 def check(tally, names=PLOTS):
     """Judges whether each plot is drawn from what is stored now."""
     for name in names:
-        text, path = text_of(figures.path_of(name), ""), os.path.relpath(figures.path_of(name), repository.TOP)
-        plot = PLOTS[name]()
+        plot, path = PLOTS[name](), figures.path_of(name)
+        text, path = text_of(path, ""), os.path.relpath(path, repository.TOP)
         if plot:
             minidom.parseString(text or "<nothing/>")
         is_well = DIGEST.findall(text) == ([digest_of(plot)] if plot else [])
@@ -100,7 +90,6 @@ def check(tally, names=PLOTS):
 
 def arguments(parser):
     parser.add_argument("names", nargs="*", metavar="NAME", help=f"all by default: {', '.join(PLOTS)}")
-    parser.add_argument("--check", action="store_true", help="draw nothing: compare the digests of the files with what is stored")
 
 
 def run(options):
@@ -108,9 +97,4 @@ def run(options):
     if unknown:
         options.parser.error(f"no plot: {' '.join(unknown)}")
     repository.go_to_top()
-    names = options.names or list(PLOTS)
-    if not options.check:
-        return 1 if write(names) else 0
-    tally = running.Tally()
-    check(tally, names)
-    return tally.end()
+    return 1 if write(options.names or PLOTS) else 0

@@ -7,8 +7,6 @@
 - After `test_parts` or `test_whole` comes the name of a test of that crate, and after *Mutants: in* and a crate names of its mutants.
 - The last section of docs/measurements/out-of-memory.md has each public call that can run out of memory, and no other: a call whose
   docstring, type or contract says so, and that returns a `Result` or a refusal.
-
-The last line is `N passed, M failed`; the status is 1 if one failed.
 """
 import glob
 import re
@@ -16,7 +14,6 @@ import re
 from . import mutant_files, repository
 from .contracts import Function, contracts_of, types_with_invariant
 from .repository import text_of
-from .running import Tally
 
 PAGE, OUT_OF_MEMORY = "docs/PROVED.md", "docs/measurements/out-of-memory.md"
 PATH = re.compile(r"`(\w+)::(\w+(?:::\w+)?)`")
@@ -71,8 +68,7 @@ def faults_of(path, brackets, is_private):
 
 def check_contracts(tally):
     """Judges each citation of PROVED.md, and each path outside of them and in the other documents, where `gerfmuod::` is of C++."""
-    sentences = EVIDENCE.findall(text_of(PAGE))
-    cited = [citation for sentence in sentences for citation in citations_in(sentence)]
+    cited = [citation for sentence in EVIDENCE.findall(text_of(PAGE)) for citation in citations_in(sentence)]
     for citation in cited:
         faults = faults_of(*citation)
         tally.judge(not faults, f"{PAGE}: {'; '.join(faults)}")
@@ -83,17 +79,13 @@ def check_contracts(tally):
     print(f"{PAGE}: {len(cited)} citations of contracts")
 
 
-def check_tests(tally):
-    """Judges whether each test that a document names is in its crate."""
+def check_names(tally):
+    """Judges whether each test that a document names is in its crate, and each mutant in the crate that is named before it, or in any
+    after `below`."""
     for page in sorted(glob.glob("docs/**/*.md", recursive=True)):
         for crate, name in TEST.findall(" ".join(text_of(page).split())):
             is_here = any(function.name == name for function in contracts_of(crate)[0].values())
             tally.judge(is_here, f"{page}: {crate} has no test {name}")
-
-
-def check_mutants(tally):
-    """Judges whether each mutant that a document names is one of the crate that is named before it, or of any after `below`."""
-    for page in sorted(glob.glob("docs/**/*.md", recursive=True)):
         for sentence in MUTANTS.findall(text_of(page)):
             crates = []
             for word, name in re.findall(r"\b(\w+)\b|`(\w+)`", sentence):
@@ -107,9 +99,10 @@ def calls_without_memory():
     """Returns each public call of the libraries that can run out of memory."""
     libraries = [crate.name for crate in repository.crates().values() if not crate.name.startswith("test_") and not crate.is_program]
     functions = [(name, function) for name in libraries for function in contracts_of(name)[0].values() if function.is_declared_public]
-    fallible = [(name, function) for name, function in functions if FALLIBLE.search(function.head)]
-    calls = {f"{name}::{function.path}" for name, function in fallible if SAYS_MEMORY.search(function.docstring + function.head)}
-    return calls | OF_STANDARD_TRAITS
+    return OF_STANDARD_TRAITS.union(
+        f"{name}::{function.path}" for name, function in functions
+        if FALLIBLE.search(function.head) and SAYS_MEMORY.search(function.docstring + function.head)
+    )
 
 
 def check_memory(tally):
@@ -123,18 +116,5 @@ def check_memory(tally):
 
 def check(tally):
     check_contracts(tally)
-    check_tests(tally)
-    check_mutants(tally)
+    check_names(tally)
     check_memory(tally)
-
-
-def arguments(parser):
-    del parser
-
-
-def run(options):
-    del options
-    repository.go_to_top()
-    tally = Tally()
-    check(tally)
-    return tally.end()

@@ -18,13 +18,10 @@ def go_to_top():
 
 def text_of(path, otherwise=None):
     """Returns the text of a file; if it does not exist, the other text, if one is given."""
-    try:
-        with open(path, encoding="utf-8") as text:
-            return text.read()
-    except FileNotFoundError:
-        if otherwise is None:
-            raise
+    if otherwise is not None and not os.path.exists(path):
         return otherwise
+    with open(path, encoding="utf-8") as text:
+        return text.read()
 
 
 def files_in(folder):

@@ -1,12 +1,11 @@
 """Checks what `--profile FILE` of `tp run` and of `samples` writes, with a JSON parser and the numbers of the run."""
 import collections
-import json
 import os
 import re
 import tempfile
 
 from . import event_format, repository, running, summary, tries
-from .event_format import nanoseconds
+from .event_format import Profile, nanoseconds, turn_faults
 
 COUNTS = ["--nodes", "3", "--workers", "2"]
 # a run: its program and arguments, its number of tasks, its input, how often each task runs, and whether the file numbers them
@@ -30,31 +29,20 @@ def write_cases(program, cases, folder):
             running.write(f"{cases}/{name}.args", [*case.arguments, "--profile", f"{folder}/{name}"])
 
 
-def time_faults(about, slices, counts):
-    """Yields each body that begins before the one before it on its track has ended, or ends after the run, and each node whose counter
-    does not rise in time, or does not end at the number of its bodies."""
-    ends, bodies = collections.Counter(), collections.Counter(event["pid"] for event in slices)
-    for event in sorted(slices, key=lambda event: event["ts"]):
-        track, begin = (event["pid"], event["tid"]), nanoseconds(event["ts"])
-        if begin < ends[track]:
-            yield f"{event} begins before {ends[track]}"
-        ends[track] = begin + nanoseconds(event["dur"])
-    if max(ends.values()) > nanoseconds(about["elapsed_us"]):
-        yield f"a body ends after the run: {about}"
+def run_faults(profile, case, text):
+    """Yields what is wrong with a file: its times, the counter of each node, which rises in time to the number of its bodies, the numbers
+    of the bodies, and the summary, in which the shares of bodies and of the rest are 100% together."""
+    about, slices, count = profile.about, profile.slices, case.tasks * case.times
+    yield from turn_faults(sorted(slices, key=lambda event: event["ts"]), nanoseconds(about["elapsed_us"]))
     last = collections.defaultdict(lambda: (0, 0))
-    for event in counts:
-        now = event["args"]["done"], event["ts"]
-        if now[0] <= last[event["pid"]][0] or now[1] < last[event["pid"]][1]:
-            yield f"{event} after {last[event['pid']]}"
+    for event in profile.events["C"]:
+        before, now = last[event["pid"]], (event["args"]["done"], event["ts"])
+        if now[0] <= before[0] or now[1] < before[1]:
+            yield f"{event} after {before}"
         last[event["pid"]] = now
+    bodies = collections.Counter(event["pid"] for event in slices)
     if {node: done for node, (done, _) in last.items()} != bodies:
         yield f"the counters end at {last}, the bodies are {bodies}"
-
-
-def number_faults(about, slices, case, text):
-    """Yields what is wrong with the numbers of bodies, and with the summary: its tasks, and the shares of bodies and of the rest, which are
-    100% together."""
-    count = case.tasks * case.times
     if (about["bodies"], about["lost_bodies"], len(slices)) != (count, 0, count):
         yield f"{len(slices)} slices, and the file says {about}"
     tasks = collections.Counter(event.get("args", {}).get("task") for event in slices)
@@ -67,16 +55,8 @@ def number_faults(about, slices, case, text):
 
 def faults(text, case):
     """Returns what is wrong with a file, as lines; none if all is well."""
-    found = event_format.faults(text)
-    if found:
-        return found
-    content = json.loads(text)
-    by_phase = collections.defaultdict(list)
-    for event in content["traceEvents"]:
-        by_phase[event["ph"]].append(event)
     try:
-        about, slices = content["otherData"], by_phase["X"]
-        return [*time_faults(about, slices, by_phase["C"]), *number_faults(about, slices, case, text)]
+        return event_format.faults(text) or list(run_faults(Profile(text), case, text))
     except (ValueError, KeyError) as error:
         return [f"not the events of a run: {error!r}"]
 

@@ -5,7 +5,7 @@ import shutil
 import subprocess
 import sys
 from concurrent.futures import ThreadPoolExecutor
-from dataclasses import dataclass
+from typing import NamedTuple
 
 from . import built
 from .repository import TOP, processors
@@ -21,8 +21,7 @@ PACKAGES = {
 }
 
 
-@dataclass(frozen=True)
-class Result:
+class Result(NamedTuple):
     """The exit status of a run as a shell has it (128 and the number for a signal), its output, and its standard error."""
 
     status: int
@@ -91,11 +90,12 @@ def require(*programs):
 
 def run(command, stdin=os.devnull, **options):
     """Runs a command; its input is the file of that name, or the bytes themselves. After SECONDS it is ended."""
-    streams = {"stdout": subprocess.PIPE, "stderr": subprocess.PIPE, "timeout": SECONDS}
-    with open(os.devnull if isinstance(stdin, bytes) else stdin, "rb") as file:
-        source = {"input": stdin} if isinstance(stdin, bytes) else {"stdin": file}
+    is_text = isinstance(stdin, bytes)
+    with open(os.devnull if is_text else stdin, "rb") as file:
+        streams = {"input": stdin} if is_text else {"stdin": file}
+        streams.update(stdout=subprocess.PIPE, stderr=subprocess.PIPE, timeout=SECONDS)
         try:
-            process = subprocess.run(command, **{**streams, **source, **options})
+            process = subprocess.run(command, **{**streams, **options})
         except OSError as error:
             return Result(NOT_STARTED, b"", f"{error}\n".encode())
         except subprocess.TimeoutExpired as error:
@@ -103,10 +103,10 @@ def run(command, stdin=os.devnull, **options):
     return Result(status_of(process.returncode), process.stdout or b"", process.stderr or b"")
 
 
-def instructions(command, stdin=os.devnull):
+def instructions(command, stdin=os.devnull, **options):
     """Returns the instructions of a command, counted by cachegrind: they do not depend on the load of the machine."""
-    options = ["--tool=cachegrind", "--cache-sim=no", "--cachegrind-out-file=/dev/null"]
-    report = run(["valgrind", *options, *command], stdin, timeout=None).err
+    cachegrind = ["valgrind", "--tool=cachegrind", "--cache-sim=no", "--cachegrind-out-file=/dev/null"]
+    report = run([*cachegrind, *command], stdin, timeout=None, **options).err
     return int(re.search(rb"I +refs: +([0-9,]+)", report)[1].replace(b",", b""))
 
 
@@ -127,7 +127,7 @@ def preload_library(tally, name, folder, what):
         return None
     result = run(["cc", "-O1", "-shared", "-fPIC", "-o", path, f"{TOP}/tools/c/{name}.c"])
     tally.judge(not result.status, f"tools/c/{name}.c: {short(result.err, 2000)}")
-    return path if not result.status else None
+    return None if result.status else path
 
 
 def write(path, text):

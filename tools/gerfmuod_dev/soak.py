@@ -18,23 +18,19 @@ AUDITED = r"steps \d+\ntasks {0} done {0}\nmessages (\d+) received \1\nended \d+
 UNSOUND = "unsound-trace"
 
 
-def command_of(program, pool, nodes, workers):
-    return [program, "run", pool, "--nodes", str(nodes), "--workers", str(workers)]
-
-
-def output_of(command):
+def output_of(program, *run):
     """Returns what a run prints without its number of messages, which depends on the nodes."""
-    result = running.run(command)
+    result = running.run([program, "run", *run])
     return re.sub(r"^messages .*\n", "", (result.out + result.err).decode(errors="replace"), flags=re.M)
 
 
-def fault_of(command, expected):
+def fault_of(program, run, expected):
     """Returns what is wrong with a run, and with the trace of another one, or an empty text."""
-    output, tasks = output_of(command), re.search(r"^tasks (\d+)\nended$", expected, re.M)
+    output, tasks = output_of(program, *run), re.search(r"^tasks (\d+)\nended$", expected, re.M)
     if output != expected or not tasks:
         return f"it prints\n{output}and not\n{expected}"
-    trace = running.run([*command, "--trace"])
-    audited = running.run([command[0], "audit"], trace.out)
+    trace = running.run([program, "run", *run, "--trace"])
+    audited = running.run([program, "audit"], trace.out)
     if not trace.status and not audited.status and re.fullmatch(AUDITED.format(tasks[1]), audited.out.decode(errors="replace")):
         return ""
     running.write(UNSOUND, trace.out)
@@ -52,14 +48,14 @@ def run(options):
     running.require(options.tp)
     print(f"seed {options.seed}", flush=True)
     generator, runs, end = random.Random(options.seed), 0, time.monotonic() + (options.seconds or 0)
-    expected = {pool: output_of(command_of(options.tp, pool, 1, 1)) for pool in POOLS}
+    expected = {pool: output_of(options.tp, pool) for pool in POOLS}
     while runs < options.runs if options.seconds is None else time.monotonic() < end:
         runs += 1
-        nodes, workers = (8, 8) if runs % 2 else (generator.randint(1, 8), generator.randint(1, 8))
-        command = command_of(options.tp, generator.choice(POOLS), nodes, workers)
-        fault = fault_of(command, expected[command[2]])
+        pool, (nodes, workers) = generator.choice(POOLS), (8, 8) if runs % 2 else (generator.randint(1, 8), generator.randint(1, 8))
+        run_of_pool = [pool, "--nodes", str(nodes), "--workers", str(workers)]
+        fault = fault_of(options.tp, run_of_pool, expected[pool])
         if fault:
-            print(f"{' '.join(command)}, run {runs}: {fault}", file=sys.stderr)
+            print(f"run {runs}, {' '.join(run_of_pool)}: {fault}", file=sys.stderr)
             return 1
     print(f"{runs} runs, all alike, and each trace sound and ended")
     return 0

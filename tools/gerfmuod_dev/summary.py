@@ -6,10 +6,10 @@ counted are the kinds of their slices). The last line has the time of the run, a
 file has it. The status is 1 if the file is not in the Trace Event Format.
 """
 import collections
-import json
 import sys
 
 from . import event_format
+from .repository import text_of
 
 LABELS = {"task": "bodies", "wait": "waiting"}
 # a thread, a node or a track: its name, its number of tasks, and the microseconds of each kind and in all
@@ -23,22 +23,22 @@ def rows_of_workers(workers):
         yield Row(f"thread {worker['thread']}", worker["tasks"], parts, sum(parts.values()) + worker["runtime_us"])
 
 
-def rows_of_slices(about, events, elapsed):
+def rows_of_slices(profile, elapsed):
     """Returns the rows of the nodes if the file says how many workers there are, else of the tracks."""
-    names = {(event["name"], event["pid"], event.get("tid", 0)): event["args"].get("name") for event in events if event["ph"] == "M"}
-    processes = {pid: name for (kind, pid, _), name in names.items() if kind == "process_name"}
-    is_by_node, keys, time = "workers" in about, {(pid, 0): name for pid, name in processes.items()}, elapsed
+    about, processes, time = profile.about, profile.processes, elapsed
+    is_by_node = "workers" in about
     if is_by_node:
         time *= about["workers"] * about["nodes"] / max(1, len(processes))
+        names = {(pid, 0): name for pid, name in processes.items()}
     else:
-        keys = {(pid, tid): f"{processes.get(pid, pid)}, {name}" for (kind, pid, tid), name in names.items() if kind == "thread_name"}
-    parts, tasks = collections.defaultdict(collections.Counter), collections.Counter()
-    for event in (event for event in events if event["ph"] == "X"):
+        names = {track: f"{processes.get(track[0], track[0])}, {name}" for track, name in profile.threads.items()}
+    parts = collections.defaultdict(collections.Counter, {key: collections.Counter() for key in names})
+    tasks = collections.Counter()
+    for event in profile.slices:
         key, kind = (event["pid"], 0 if is_by_node else event["tid"]), event.get("cat") or event["name"].split()[0]
-        kind = LABELS.get(kind, kind)
-        parts[key][kind] += event["dur"]
-        tasks[key] += kind == "bodies"
-    return [Row(keys.get(key, "without a name"), tasks[key], parts[key], time) for key in sorted({*keys, *parts})]
+        parts[key][LABELS.get(kind, kind)] += event["dur"]
+        tasks[key] += kind == "task"
+    return [Row(names.get(key, "without a name"), tasks[key], parts[key], time) for key in sorted(parts)]
 
 
 def line_of(row, width, kinds):
@@ -49,11 +49,10 @@ def line_of(row, width, kinds):
 
 def summary(text):
     """Returns the lines of the summary of a text in the Trace Event Format."""
-    content = json.loads(text)
-    about, events = content.get("otherData", {}), content["traceEvents"]
-    elapsed = about.get("elapsed_us", max((event["ts"] + event["dur"] for event in events if event["ph"] == "X"), default=0))
-    is_team = isinstance(about.get("workers"), list)
-    rows = list(rows_of_workers(about["workers"]) if is_team else rows_of_slices(about, events, elapsed))
+    profile = event_format.Profile(text)
+    about, ends = profile.about, [event["ts"] + event["dur"] for event in profile.slices]
+    elapsed, is_team = about.get("elapsed_us", max(ends, default=0)), isinstance(about.get("workers"), list)
+    rows = list(rows_of_workers(about["workers"]) if is_team else rows_of_slices(profile, elapsed))
     kinds = list(dict.fromkeys(kind for row in rows for kind in row.parts))
     width = max((len(row.name) for row in rows), default=0)
     heads = "".join(f" {head:>9}" for head in [*kinds, "runtime" if is_team else "rest"])
@@ -71,8 +70,7 @@ def arguments(parser):
 
 def run(options):
     try:
-        with open(options.file, encoding="utf-8") as file:
-            text = file.read()
+        text = text_of(options.file)
         found = event_format.faults(text, has_one_clock=False)
         if found:
             sys.exit(f"{options.file}: {found[0]}")

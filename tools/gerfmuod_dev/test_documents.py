@@ -55,8 +55,8 @@ def test_faults_of_documents_are_found():
     (version.check, "python/pyproject.toml", "version = ", "# version = "),
     (crate_map.check, crate_map.PAGE, "| tp_core |", "| tp_cores |"),
     (proved.check_memory, proved.OUT_OF_MEMORY, "`tp_base::Table::insert`", ""),
-    (proved.check_mutants, "docs/TOUR.md", "`takes_sums_twice`", "`no_such_mutant`"),
-    (proved.check_tests, "docs/measurements/mutants-killed-by-tests.md", "`faults_of_writing`", "`no_such_test`"),
+    (proved.check_names, "docs/TOUR.md", "`takes_sums_twice`", "`no_such_mutant`"),
+    (proved.check_names, "docs/measurements/mutants-killed-by-tests.md", "`faults_of_writing`", "`no_such_test`"),
 ])
 def test_a_changed_text_is_a_failure(monkeypatch, check, path, old, new):
     def changed(name, *otherwise):

@@ -6,7 +6,7 @@ import shutil
 
 import pytest
 
-from . import checks, event_format, mutant_files, repository, running, summary, timeline, trace_events, tries
+from . import checks, contracts, event_format, mutant_files, repository, running, summary, timeline, together, trace_events, tries
 from .limits import random_texts, second_model, terminal, texts
 
 EVENTS = {"0-draw-a-run-as-events", "0-draw-two-generations-as-events", "0-draw-a-run-that-has-not-ended-as-events"}
@@ -90,6 +90,12 @@ def test_mutants_are_read_and_written():
     for line in MUTANTS.split("\n")[5:8]:
         with pytest.raises(mutant_files.Fault):
             mutant_files.parse("mutants", MUTANTS.replace(line + "\n", ""))
+
+
+def test_attributes_of_a_function_are_its_own():
+    function, = contracts.read_items("}\n/// One.\n#[inline]\nfn one() {\n    1\n}\n".split("\n"), "crates/a/src/a.rt", ())
+    mutant = together.PlacedMutant("one_is_two", function, "", ())
+    assert [together.is_in(f"src/a.rt:{line}:1: error", mutant) for line in range(1, 8)] == [False, *[True] * 5, False]
 
 
 def test_crates_are_proved_and_mutants_that_survive_are_found(tmp_path):

@@ -6,7 +6,7 @@ import csv
 import io
 import math
 
-from .profiles import Profile
+from .event_format import Profile
 from .repository import TOP, text_of
 
 PATH = f"{TOP}/docs/measurements/cholesky-run.csv"
@@ -32,23 +32,20 @@ def tasks_of(tiles):
 
 def critical_path(tasks, lengths):
     """Returns the tasks of the longest chain of bodies that wait for each other, and its length."""
-    chains, before = [], []
-    for number, (_, inputs) in enumerate(tasks):
-        last = max(inputs, key=chains.__getitem__, default=None)
-        before.append(last)
-        chains.append((0 if last is None else chains[last]) + lengths[number])
-    path = [max(range(len(tasks)), key=chains.__getitem__)]
-    while before[path[-1]] is not None:
-        path.append(before[path[-1]])
-    return path, max(chains)
+    chains = []
+    for (_, inputs), length in zip(tasks, lengths):
+        path, before = max((chains[task] for task in inputs), key=lambda chain: chain[1], default=([], 0))
+        chains.append(([len(chains), *path], before + length))
+    return max(chains, key=lambda chain: chain[1])
 
 
 def rows_of(events, tiles):
     """Returns the rows of a run with this number of tiles in a row, from its trace events, as the file stores them."""
     profile, tasks, text = Profile(events), tasks_of(tiles), io.StringIO()
     rows = [COLUMNS, [len(profile.about["workers"]), len(tasks), RUN, 0.0, profile.about["elapsed_us"]]]
-    for body in sorted(profile.bodies, key=lambda body: body.task):
-        rows.append([body.thread, body.task, tasks[body.task][0], body.begin / 1000, (body.end - body.begin) / 1000])
+    for event in sorted((event for event in profile.slices if "task" in event["args"]), key=lambda event: event["args"]["task"]):
+        task = event["args"]["task"]
+        rows.append([event["tid"], task, tasks[task][0], event["ts"], event["dur"]])
     csv.writer(text, lineterminator="\n").writerows(rows)
     return text.getvalue()
 

@@ -29,25 +29,23 @@ OUTPUTS = "tools/data/outputs"
 SECONDS = "900"
 # an output of more bytes, such as a picture, is stored as its length and a digest
 MOST_STORED = 4_000
+# what a try came to: what was tried, how many tests or cases, how many of them failed, and what to print then
+Outcome = collections.namedtuple("Outcome", "what count failed details")
 
 
-# what a try came to: a line, how many of its tests or cases passed and failed, and what to print if one failed
-Outcome = collections.namedtuple("Outcome", "line passed failed details")
-
-
-def rt_try(crate, *options):
-    """Returns the output of an unproved run in a crate's folder, and its status."""
-    command, limit = ["rt", "try", "--seconds", SECONDS, *options], 2 * int(SECONDS)
-    result = running.run(command, cwd=f"crates/{crate}", stderr=subprocess.STDOUT, timeout=limit)
-    return result.out.decode(errors="replace"), result.status
+def rt_try(crate, *options, stdin=os.devnull, stderr=subprocess.STDOUT):
+    """Runs a crate's program or tests unproved, in its folder."""
+    command = ["rt", "try", "--seconds", SECONDS, *options]
+    return running.run(command, stdin, cwd=f"crates/{crate}", stderr=stderr, timeout=2 * int(SECONDS))
 
 
 def try_tests(crate):
-    output, status = rt_try(crate, "--test")
+    result = rt_try(crate, "--test")
+    output = result.out.decode(errors="replace")
     counts = re.search(r"^test result: .*?(\d+) passed; (\d+) failed", output, re.M)
     passed, failed = (int(counts[1]), int(counts[2])) if counts else (0, 1)
-    failed = max(failed, int(status != 0))
-    return Outcome(f"{crate}: {passed} tests passed, {failed} failed", passed, failed, output)
+    failed = max(failed, int(result.status != 0))
+    return Outcome(f"{crate}: tests", passed + failed, failed, output)
 
 
 def difference(expected, output):
@@ -76,13 +74,10 @@ def try_program(crate):
         result = run_built(crate, stdin, arguments_of, files)
     else:
         data = [word for path in files for word in ("--data", f"{os.path.basename(path)}={path}")]
-        command = ["rt", "try", "--seconds", SECONDS, *data, "--", *arguments_of]
-        result = running.run(command, stdin, cwd=folder, timeout=2 * int(SECONDS))
+        result = rt_try(crate, *data, "--", *arguments_of, stdin=stdin, stderr=subprocess.PIPE)
     expected, status, out = text_of(f"{folder}/stdout", ""), int(text_of(f"{folder}/status", "") or 0), result.out.decode()
-    is_well = (result.status, out) == (status, expected)
     details = f"status {result.status}, expected {status}\n{difference(expected, out)}{result.err.decode(errors='replace')}"
-    line = f"{crate}: the program {'printed what is stored' if is_well else 'FAILED'}"
-    return Outcome(line, int(is_well), int(not is_well), details)
+    return Outcome(f"{crate}: the program", 1, int((result.status, out) != (status, expected)), details)
 
 
 def stored(text):
@@ -97,21 +92,17 @@ def case_names(cases):
     return sorted(name for name in os.listdir(cases) if not name.endswith(".args"))
 
 
-def results_in(output):
-    """Returns the status and the output of each case that ended, by its name, from what `rt try --cases` printed."""
-    found = re.findall(r"^== (\S+)\n(.*?)^case=\1 run=ended status=(\d+)", output, re.M | re.S)
-    return {name: (int(status), text) for name, text, status in found}
-
-
 def run_cases(program, cases, names=None):
     """Runs a program on these or all cases of a folder: the built one, or unproved if it is not of these sources. Returns the status of
-    each, and its output with what it printed on standard error after it."""
+    each that ended, and its output with what it printed on standard error after it."""
     names = case_names(cases) if names is None else names
     if not is_built(program):
         with tempfile.TemporaryDirectory() as folder:
             for name in (name for case in names for name in (case, f"{case}.args") if os.path.exists(f"{cases}/{name}")):
                 shutil.copy(f"{cases}/{name}", folder)
-            return results_in(rt_try(program, "--cases", folder)[0])
+            output = rt_try(program, "--cases", folder).out.decode(errors="replace")
+        found = re.findall(r"^== (\S+)\n(.*?)^case=\1 run=ended status=(\d+)", output, re.M | re.S)
+        return {name: (int(status), text) for name, text, status in found}
 
     def run_case(name):
         result = run_built(program, f"{cases}/{name}", text_of(f"{cases}/{name}.args", "").splitlines())
@@ -144,8 +135,7 @@ def try_cases(crate, names):
         has_text = not expected or stored(text) == expected.get(name)
         if f"{status}" != name[0] or not has_text or is_rejected(name, text):
             details.append(f"{name}: status {status}, {difference(expected.get(name, ''), stored(text))}\n")
-    line = f"{crate}: {len(names) - len(details)} of {len(names)} cases ended{' and printed' if expected else ''} as expected"
-    return Outcome(line, len(names) - len(details), len(details), "".join(details))
+    return Outcome(f"{crate}: cases with their {'outputs' if expected else 'statuses'}", len(names), len(details), "".join(details))
 
 
 def write_cases(crate):
@@ -165,8 +155,7 @@ def try_pictures(crate):
         (status, text), expected = results.get(name, (None, "")), text_of(path_of(name))
         if status != picture.status or not text.startswith(expected) or status == 0 and text != expected:
             differing.append(name)
-    passed = len(PICTURES) - len(differing)
-    return Outcome(f"{crate}: {passed} of {len(PICTURES)} pictures are as in docs/figures", passed, len(differing), " ".join(differing))
+    return Outcome(f"{crate}: pictures of docs/figures", len(PICTURES), len(differing), " ".join(differing))
 
 
 def jobs_of(crates):
@@ -200,10 +189,10 @@ def run(options):
     jobs, tally = list(jobs_of(options.crates or crates)), running.Tally()
     # the crates at the top take longest
     with ThreadPoolExecutor(repository.lanes(repository.MEMORY_OF_A_TRIAL)) as pool:
-        for outcome in pool.map(lambda job: job(), reversed(jobs)):
-            print(outcome.line, flush=True)
-            tally.passes(outcome.passed)
-            tally.failed += outcome.failed
-            if outcome.failed:
-                print(f"FAILED: {outcome.line}\n{outcome.details}", flush=True)
+        for what, count, failed, details in pool.map(lambda job: job(), reversed(jobs)):
+            print(f"{what}: {count - failed} of {count} passed", flush=True)
+            tally.passes(count - failed)
+            if failed:
+                tally.fails(f"{what}\n{details}")
+                tally.failed += failed - 1
     return tally.end()

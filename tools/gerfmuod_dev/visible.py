@@ -7,7 +7,7 @@ followed to what they name; bodies and private fields are not. What is reached b
 import functools
 import os
 import re
-from dataclasses import dataclass, replace
+from typing import NamedTuple
 
 from . import repository
 from .contracts import TYPE, Function, block_at, contracts_of, items_of, owner_of
@@ -26,23 +26,17 @@ STRUCT = re.compile(r"(?:pub(?:\([^)]*\))? )?struct ")
 PRIVATE_FIELD = re.compile(r"^    (?!pub |ghost )\w+: .*,\n", re.M)
 
 
-@dataclass(frozen=True)
-class Part:
+class Part(NamedTuple):
     """A part of a file that a crate can see. The kind is `definitions` for all of a file of specs/, `declaration` for what a file of
     code declares under a name, or all that it declares if the name is empty, and `interface` for the declaration and the contracts."""
 
-    kind: str
     path: str
-    name: str = ""
+    name: str
+    kind: str
 
     @property
     def crate(self):
         return self.path.split("/")[1]
-
-
-@functools.lru_cache(maxsize=None)
-def known(crate):
-    return crate in repository.crates()
 
 
 def listed(several, single=""):
@@ -67,13 +61,13 @@ def files_with(crate, name):
     files = {function.file for function in contracts_of(crate)[0].values() if name == (function.owner or function.name)}
     files.update(path for path in repository.files_in(f"crates/{crate}/src") if any(name == declared for declared, _ in blocks_in(path)))
     exports = IMPORT.findall(text_of(f"crates/{crate}/src/lib.rt", ""))
-    others = [other for other, several, single in exports if known(other) and name in listed(several, single)]
-    return tuple(sorted(files.union(*(files_with(other, name) for other in others if other != crate))))
+    others = [other for other, several, single in exports if other != crate and name in listed(several, single)]
+    return tuple(sorted(files.union(*(files_with(other, name) for other in others))))
 
 
 def interfaces(crate, names):
     """Returns the interfaces of these names of a crate, as pairs of a name and a part."""
-    return [(name, Part("interface", path, name)) for name in names if known(crate) for path in files_with(crate, name)]
+    return [(name, Part(path, name, "interface")) for name in names for path in files_with(crate, name)]
 
 
 def first_of(crate, folder, parts, end):
@@ -84,15 +78,15 @@ def first_of(crate, folder, parts, end):
 
 @functools.lru_cache(maxsize=None)
 def definitions(crate, file, names):
-    """Returns what `Rattle.CRATE.specs.FILE.{NAMES}` is, as a list. A fault says that there is no such thing."""
+    """Returns what `Rattle.CRATE.specs.FILE.{NAMES}` of a crate of this repository is, as a list. A fault says that there is no such thing."""
     first, *parts = file.split(".")
     if first not in ("declared", "contracts"):
-        found = [Part("definitions", path) for path in first_of(crate, "specs", [first, *parts], ".antt")]
+        found = [Part(path, "", "definitions") for path in first_of(crate, "specs", [first, *parts], ".antt")]
     else:
         paths = first_of(crate, "src", parts, ".rt") or sorted({path for part in parts for path in files_with(crate, part)})
         declared = [(path, name) for path in paths for name, _ in blocks_in(path) if name in parts or name in names]
-        found = [Part("declaration", *pair) for pair in dict.fromkeys(declared)] or [Part("declaration", path) for path in paths]
-    if not found:
+        found = [Part(*pair, "declaration") for pair in dict.fromkeys(declared or [(path, "") for path in paths])]
+    if not found and crate in repository.crates():
         raise Fault(f"Rattle.{crate}.specs.{file} is imported, and is in no file")
     return found
 
@@ -102,9 +96,9 @@ def ghost_imports_in(text):
     found = []
     for crate, file, several, alias in GHOST_IMPORT.findall(text):
         names = listed(several, alias or file.split(".")[-1])
-        found += [(name, part) for name in names if known(crate) for part in definitions(crate, file, (name,))]
+        found += [(name, part) for name in names for part in definitions(crate, file, (name,))]
     rest = GHOST_IMPORT.sub("", text)
-    return found + [("", part) for crate, file in GHOST_PATH.findall(rest) if known(crate) for part in definitions(crate, file, ())]
+    return found + [("", part) for crate, file in GHOST_PATH.findall(rest) for part in definitions(crate, file, ())]
 
 
 def paths_in(text):
@@ -139,7 +133,7 @@ def parts_named_in(part):
     """Returns what a part of a file names, in lower crates and in its own."""
     if part.kind == "definitions":
         return [named for _, named in ghost_imports_in(text_of(part.path))]
-    texts = declared_in(replace(part, kind="interface"))
+    texts = declared_in(part._replace(kind="interface"))
     if part.kind == "interface":
         functions = [item for item in items_of(part.crate, part.path) if isinstance(item, Function) and item.is_declared_public]
         texts += [function.head for function in functions if part.name == (function.owner or function.name)]
@@ -151,12 +145,12 @@ def parts_named_in(part):
 
 def definitions_seen(crate):
     """Returns the parts of files of lower crates that a crate can see and that define or declare something, in a fixed order."""
-    paths = [path for folder in repository.SOURCES for path in repository.files_in(f"crates/{crate}/{folder}")]
-    left = [part for text in map(text_of, paths) for part in [*(named for _, named in ghost_imports_in(text)), *paths_in(text)]]
+    texts = [text_of(path) for path in crate.sources()]
+    left = [part for text in texts for part in [*(named for _, named in ghost_imports_in(text)), *paths_in(text)]]
     found = set()
     while left:
         part = left.pop()
-        if part.crate != crate and part not in found:
+        if part.crate != crate.name and part not in found:
             found.add(part)
             left += parts_named_in(part)
-    return sorted((part for part in found if text_of_part(part)), key=lambda part: (part.path, part.name, part.kind))
+    return sorted(part for part in found if text_of_part(part))

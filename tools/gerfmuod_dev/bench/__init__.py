@@ -19,13 +19,13 @@ series that has an impossible row fails, and --write stores none that began on a
 others worked. `make` and `make lib` build what is measured; bench/README.md says what the others need and how to read the
 numbers.
 """
-import argparse
 import os
 import sys
 import tempfile
 
 from .. import plots, running
-from . import conditions, document, figures, origin, rows, soundness, tables, test_bench
+from ..repository import processors
+from . import conditions, document, figures, rows, soundness, tables
 from .cases import FRONT, MEASUREMENTS, PROGRAMS
 from .measuring import TIMED, Bench
 from .peers import Peers
@@ -40,14 +40,8 @@ class ImpossibleRow(Exception):
     """A series has a row that cannot be: the series fails."""
 
 
-def measurement(name):
-    if name not in ("front", *MEASUREMENTS):
-        raise argparse.ArgumentTypeError(f"there is no {name}; there are front, {', '.join(MEASUREMENTS)}")
-    return name
-
-
 def arguments(parser):
-    parser.add_argument("measurements", nargs="*", metavar="NAME", type=measurement, help=", ".join(["front", *MEASUREMENTS]))
+    parser.add_argument("measurements", nargs="*", metavar="NAME", help=", ".join(["front", *MEASUREMENTS]))
     form = parser.add_mutually_exclusive_group()
     for name, what in (("quick", ": the default"), ("full", ", instructions, load")):
         rounds = f"{ROUNDS[name]} rounds, or {PROCESSES[name]} of {RUNS[name]} timed runs"
@@ -63,24 +57,12 @@ def arguments(parser):
     stored.add_argument("--check", action="store_true", help="measure nothing: compare plots and tables with the stored rows")
 
 
-def measures(options):
-    """Whether the options ask to measure something."""
-    has_numbers = options.rounds is not None or options.load is not None
-    return has_numbers or any([options.measurements, options.full, options.quick, options.instructions, options.only])
-
-
-def loads(options, name):
-    """Returns the numbers of busy processes: the full form measures `run` without any, and again with one for each processor."""
-    if options.load is not None:
-        return [options.load]
-    return [0, len(os.sched_getaffinity(0))] if options.full and name == "run" else [0]
-
-
 def measured(options, name, folder, peers):
     """Returns the rows of a measurement, as a file would have them."""
-    form = "full" if options.full else "quick"
-    found = []
-    for load in loads(options, name):
+    form, found = "full" if options.full else "quick", []
+    # (the full form measures `run` without busy processes, and again with one for each processor)
+    loads = [0, processors()] if options.full and name == "run" else [0]
+    for load in loads if options.load is None else [options.load]:
         rounds = options.rounds or (PROCESSES if name in TIMED else ROUNDS)[form]
         counts = options.full or options.instructions
         bench = Bench(peers, folder, rounds, RUNS[form], load, counts, form == "quick", options.only)
@@ -88,8 +70,7 @@ def measured(options, name, folder, peers):
             found.append(row)
             if reasons := soundness.impossible(name, found):
                 raise ImpossibleRow("; ".join(reasons))
-    path = f"{folder}/rows.csv"
-    kind = rows.kind_of(name)
+    path, kind = f"{folder}/rows.csv", rows.kind_of(name)
     rows.write(path, found, kind)
     return rows.read(path, kind)
 
@@ -103,13 +84,6 @@ def store(name, found, its_origin, is_anyway):
         return False
     rows.keep(name, found, its_origin._replace(marked=faults))
     return True
-
-
-def wait_for_rest(names):
-    """Waits until the machine is at rest after a series, and notes how long that took."""
-    print("waits until the load average has fallen", file=sys.stderr, flush=True)
-    seconds, known = conditions.seconds_to_rest(), rows.origins()
-    rows.keep_origins({name: known[name]._replace(seconds_to_rest=seconds) for name in names})
 
 
 def measure_all(options, names, folder):
@@ -130,13 +104,15 @@ def measure_all(options, names, folder):
             print(f"{name}: no case has {options.only!r} in its name", file=sys.stderr)
             continue
         end = conditions.now()
-        its_origin = origin.origin_of(name, form, found, end[0] - start[0], load_average, conditions.others(start, end))
+        its_origin = conditions.origin_of(name, form, found, end[0] - start[0], load_average, conditions.others(start, end))
         parts = [f"## {name}", rows.text_of(found, rows.kind_of(name)), tables.of(name, found), tables.of_origins([its_origin]), ""]
         print("\n\n".join(parts), flush=True)
         if options.write:
             (stored if store(name, found, its_origin, options.anyway) else failed).append(name)
     if stored:
-        wait_for_rest(stored)
+        print("waits until the load average has fallen", file=sys.stderr, flush=True)
+        seconds, known = conditions.seconds_to_rest(), rows.origins()
+        rows.keep_origins({name: known[name]._replace(seconds_to_rest=seconds) for name in stored})
     return 1 if failed else 0
 
 
@@ -149,30 +125,32 @@ def draw():
 
 def check():
     tally = running.Tally()
-    for name, test in vars(test_bench).items():
-        if name.startswith("test_"):
-            try:
-                test()
-                tally.passes()
-            except AssertionError as error:
-                tally.fails(f"{name}, line {error.__traceback__.tb_next.tb_lineno} of test_bench.py")
     plots.check(tally, figures.PLOTS)
     document.check(tally)
     return tally.end()
 
 
+def fault_of(options):
+    """Returns why these options do not go together; an empty text if they do."""
+    unknown = [name for name in options.measurements if name not in ("front", *MEASUREMENTS)]
+    numbers = [number for number in (options.rounds, options.load) if number is not None]
+    asked = [options.measurements, options.full, options.quick, options.instructions, options.only, numbers]
+    faults = {
+        f"no measurement: {' '.join(unknown)}": unknown,
+        "--draw and --check measure nothing, and take no other option": (options.draw or options.check) and any(asked),
+        "--write stores whole measurements: not with --only": options.write and options.only,
+        "--rounds is 1 or more, --load 0 or more": options.rounds == 0 or min(numbers, default=0) < 0,
+        "--anyway is for --write": options.anyway and not options.write,
+    }
+    return next((fault for fault, holds in faults.items() if holds), "")
+
+
 def run(options):
-    if (options.draw or options.check) and measures(options):
-        options.parser.error("--draw and --check measure nothing, and take no other option")
-    if options.write and options.only:
-        options.parser.error("--write stores whole measurements: not with --only")
-    if options.rounds is not None and options.rounds < 1 or options.load is not None and options.load < 0:
-        options.parser.error("--rounds is 1 or more, --load 0 or more")
-    if options.anyway and not options.write:
-        options.parser.error("--anyway is for --write")
-    status = 0
+    if fault_of(options):
+        options.parser.error(fault_of(options))
     if options.check:
         return check()
+    status = 0
     if not options.draw:
         asked = {*(options.measurements or MEASUREMENTS), *(FRONT if "front" in options.measurements else [])}
         names = [name for name in MEASUREMENTS if name in asked]

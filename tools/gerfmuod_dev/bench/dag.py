@@ -7,13 +7,12 @@ compiled is named and left out.
 import os
 import re
 import shutil
-import subprocess
 import sys
-from dataclasses import dataclass, field, replace
+from typing import NamedTuple
 
 from .. import running, shared_object
 from ..repository import TOP
-from .measuring import CACHEGRIND, busy_processes, quartiles
+from .measuring import busy_processes, quartiles
 from .peers import Peers
 from .rows import Row
 
@@ -40,8 +39,7 @@ STRINGS = [f"glibc.cpu.x86_rep_{name}_threshold=1000000000" for name in ("movsb"
 NO_STRING_MOVES = {"GLIBC_TUNABLES": ":".join(STRINGS)}
 
 
-@dataclass(frozen=True)
-class Way:
+class Way(NamedTuple):
     """A program of a comparison, the argument by which a process knows it, and its nodes and workers."""
 
     program: str
@@ -56,25 +54,16 @@ LOOP, OPENMP = Way("one after the other", "loop"), Way("OpenMP tasks", f"omp:{WO
 OPENMP_ALONE = Way("OpenMP tasks", "omp:1")
 
 
-@dataclass(frozen=True)
-class Process:
+class Process(NamedTuple):
     """One process of a comparison: its program, or None if that does not compile; its first arguments; and the ways that it measures."""
 
     program: str
     size: list
     ways: list
-    environment: dict = field(default_factory=dict)
+    environment: dict = {}
 
     def command(self, rounds):
         return [self.program, *self.size, str(rounds), *(way.argument for way in self.ways)]
-
-
-@dataclass(frozen=True)
-class Times:
-    """The number of tasks of a way, and the milliseconds of each of its rounds."""
-
-    tasks: int
-    milliseconds: list
 
 
 class Programs(Peers):
@@ -91,8 +80,7 @@ class Programs(Peers):
         return self.program("cholesky", (*C, "-DHAVE_BLAS"), "examples/cholesky.c", (*self.over, "-lopenblas", "-lm"))
 
     def starpu(self):
-        output = running.run(["pkg-config", "--cflags", "--libs", "starpu-1.3"]).out
-        options = output.decode().split()
+        options = running.run(["pkg-config", "--cflags", "--libs", "starpu-1.3"]).out.decode().split()
         libraries = [option for option in options if option.startswith("-l")]
         compiler = (*C, "-DHAVE_BLAS", "-DHAVE_STARPU", *(option for option in options if option not in libraries))
         return self.program("cholesky_starpu", compiler, "examples/cholesky.c", (*self.over, "-lopenblas", "-lm", *libraries))
@@ -102,23 +90,21 @@ class Programs(Peers):
 
 
 def times_of(process, rounds):
-    """Returns the times of each way of a process, in order; exits with status 1 if it fails."""
+    """Returns the number of tasks and the milliseconds of each way of a process, in order; exits with status 1 if it fails."""
     command = process.command(rounds)
-    result = subprocess.run(command, capture_output=True, text=True, env={**os.environ, **process.environment})
-    if result.returncode:
-        raise SystemExit(f"{' '.join(command)}: status {result.returncode}: {result.stdout} {result.stderr}")
-    lines = [line.split() for line in result.stdout.splitlines() if re.match(r"\S+ \d+( [\d.]+)+$", line)]
-    if len(lines) != len(process.ways):
-        raise SystemExit(f"{' '.join(command)}: {len(lines)} lines for {len(process.ways)} ways")
-    return [Times(int(tasks), [float(time) for time in times]) for _, tasks, *times in lines]
+    result = running.run(command, env={**os.environ, **process.environment}, timeout=None)
+    lines = [line.split() for line in result.out.decode().splitlines() if re.match(r"\S+ \d+( [\d.]+)+$", line)]
+    if result.status or len(lines) != len(process.ways):
+        raise SystemExit(f"{' '.join(command)}: {running.short(result.out, 2000)}, {result.description(2000)}")
+    return [(int(tasks), [float(time) for time in times]) for _, tasks, *times in lines]
 
 
-def row_of(bench, case, way, times, counted):
+def row_of(bench, case, way, tasks, times, counted):
     """Returns the row of a way, with its instructions if they were counted."""
-    numbers = sorted(times.milliseconds)
+    numbers = sorted(times)
     lower, median, upper = quartiles(numbers)
     return Row(
-        "dag", case, "task", times.tasks, way.program, way.nodes, way.workers, bench.load, len(numbers), median,
+        "dag", case, "task", tasks, way.program, way.nodes, way.workers, bench.load, len(numbers), median,
         lower, upper, numbers[int(0.9 * (len(numbers) - 1))], None, None, None, None, counted,
     )
 
@@ -134,10 +120,10 @@ def compare(bench, case, processes, counted=None):
         while left > 0:
             rounds = min(left, ROUNDS_IN_TURN)
             for process in processes:
-                for way, times in zip(process.ways, times_of(process, rounds)):
-                    found.setdefault(way, Times(times.tasks, [])).milliseconds.extend(times.milliseconds)
+                for way, (tasks, times) in zip(process.ways, times_of(process, rounds)):
+                    found.setdefault(way, (tasks, []))[1].extend(times)
             left -= rounds
-    return [row_of(bench, case, way, times, (counted or {}).get(way)) for way, times in found.items()]
+    return [row_of(bench, case, way, *found[way], (counted or {}).get(way)) for way in found]
 
 
 def cholesky(bench, programs):
@@ -155,32 +141,21 @@ def cholesky(bench, programs):
         ])
 
 
-def jacobi(bench, programs):
-    """Measures Jacobi steps on a grid in blocks."""
-    ways = [LOOP, *POOL, Way("OpenMP parallel for", f"omp:{WORKERS}", 1, WORKERS), replace(OPENMP, argument=f"dep:{WORKERS}")]
-    for side, block, steps in [(512, 64, 20)] if bench.is_quick else JACOBI:
-        name = f"Jacobi, {side} by {side} in blocks of {block}, {steps} steps"
-        yield from compare(bench, name, [Process(programs.own("jacobi"), [str(side), str(block), str(steps)], ways)])
-
-
-def recursion(bench, programs):
-    """Measures merge sort, whose tasks add further ones."""
-    for length, leaf in [(200_000, 2_000)] if bench.is_quick else SORT:
-        name = f"merge sort, {length:,} numbers, leaves of {leaf:,}"
-        yield from compare(bench, name, [Process(programs.own("recursion"), [str(length), str(leaf)], [LOOP, *POOL, OPENMP])])
+def jacobi_and_sort(bench, programs):
+    """Measures Jacobi steps on a grid in blocks, and merge sort, whose tasks add further ones."""
+    ways = [LOOP, *POOL, Way("OpenMP parallel for", f"omp:{WORKERS}", 1, WORKERS), OPENMP._replace(argument=f"dep:{WORKERS}")]
+    for name, case, sizes, quick_size, its_ways in (
+        ("jacobi", "Jacobi, {0} by {0} in blocks of {1}, {2} steps", JACOBI, (512, 64, 20), ways),
+        ("recursion", "merge sort, {:,} numbers, leaves of {:,}", SORT, (200_000, 2_000), [LOOP, *POOL, OPENMP]),
+    ):
+        for size in [quick_size] if bench.is_quick else sizes:
+            yield from compare(bench, case.format(*size), [Process(programs.own(name), [*map(str, size)], its_ways)])
 
 
 def instructions(process):
-    """Returns the instructions of one round, by the difference of processes with one round and none; None if nothing counts them."""
-    command, form = CACHEGRIND
-    counts = []
-    for rounds in (0, 1):
-        report = running.run([*command, *process.command(rounds)], env={**os.environ, **NO_STRING_MOVES}).err
-        found = re.search(form, report)
-        if not found:
-            return None
-        counts.append(int(found[1].replace(b",", b"")))
-    return counts[1] - counts[0]
+    """Returns the instructions of one round, by the difference of processes with one round and none."""
+    none, one = (running.instructions(process.command(rounds), env={**os.environ, **NO_STRING_MOVES}) for rounds in (0, 1))
+    return one - none
 
 
 def on_tbb(programs, size, threads):
@@ -199,8 +174,7 @@ def instructions_by_way(bench, programs, shape):
     size = size_of(shape, COUNTED_TASKS, 0)
     processes = [Process(programs.own("grain", "bench"), size, [way]) for way in (POOL[0], TRACED, OPENMP_ALONE)]
     processes.append(on_tbb(programs, size, 1))
-    found = {process.ways[0]: instructions(process) for process in processes if process.program}
-    return {way: count and count * EMPTY_TASKS // COUNTED_TASKS for way, count in found.items()}
+    return {process.ways[0]: instructions(process) * EMPTY_TASKS // COUNTED_TASKS for process in processes if process.program}
 
 
 def empty(bench, programs):
@@ -215,8 +189,8 @@ def empty(bench, programs):
 
 
 def iterations_per_microsecond(programs):
-    times, = times_of(Process(programs.own("grain", "bench"), size_of("wide", 1, CALIBRATION), [LOOP]), 3)
-    return CALIBRATION / (min(times.milliseconds) * 1000)
+    (_, times), = times_of(Process(programs.own("grain", "bench"), size_of("wide", 1, CALIBRATION), [LOOP]), 3)
+    return CALIBRATION / (min(times) * 1000)
 
 
 def bodies(bench, programs):
@@ -232,5 +206,5 @@ def bodies(bench, programs):
 
 def dag(bench):
     programs = Programs(bench.folder)
-    for part in (cholesky, jacobi, recursion, empty, bodies):
+    for part in (cholesky, jacobi_and_sort, empty, bodies):
         yield from part(bench, programs)

@@ -1,6 +1,7 @@
 """The tables in docs/PERFORMANCE.md, docs/measurements/details.md and README.md, between marks."""
 import re
 
+from .. import running
 from ..repository import TOP, text_of
 from . import figures, tables
 from .cases import FRONT, MEASUREMENTS
@@ -38,39 +39,33 @@ def refusal_of(measurements, folder):
     return ""
 
 
-def block(name, folder="measurements/"):
+def block(name, folder):
     """Returns what is between the marks of a measurement, or of the table of all of them; its rows are in a folder next to the page."""
     if name == "origins":
         known = origins()
         return tables.of_origins([known[name] for name in MEASUREMENTS if name in known]) if known else "Nothing is stored yet."
-    measurement, more = MORE.get(name, (name, None))
+    measurement, table_of = MORE.get(name, (name, tables.TABLES.get(name)))
     if refusal := refusal_of(FRONT if name == "front" else [measurement], folder):
         return refusal
     if name == "front":
         return tables.front(*map(kept, FRONT))
-    rows = kept(measurement)
-    if more:
-        return f"{more(rows)}\n\nAll rows: [{measurement}.csv]({folder}{measurement}.csv)."
     pictures = "figures/" if folder else "../figures/"
     plots = [f"![{PLOT_TITLES[plot]}]({pictures}{plot}.svg)" for plot in figures.of(name)]
-    return "\n\n".join([tables.of(name, rows), *plots, f"All rows: [{name}.csv]({folder}{name}.csv)."])
+    return "\n\n".join([table_of(kept(measurement)), *plots, f"All rows: [{measurement}.csv]({folder}{measurement}.csv)."])
 
 
-def folder_of(page):
-    """Returns the folder of the rows, as the page links it."""
-    return "" if page == DETAILS else "measurements/"
-
-
-def updated(page):
-    """Returns the page with the blocks of the stored rows."""
-    return BLOCK.sub(lambda found: f"{found[1]}\n{block(found[2], folder_of(page))}\n\n{found[3]}", text_of(f"{TOP}/{page}"))
+def blocks(page):
+    """Yields the name of each block of a page, its text, and what it is by the stored rows."""
+    for found in BLOCK.finditer(text_of(f"{TOP}/{page}")):
+        yield found[2], found[0], f"{found[1]}\n{block(found[2], '' if page == DETAILS else 'measurements/')}\n\n{found[3]}"
 
 
 def write():
     for page in PAGES:
-        text = updated(page)
-        with open(f"{TOP}/{page}", "w", encoding="utf-8") as file:
-            file.write(text)
+        text = text_of(f"{TOP}/{page}")
+        for _, old, new in blocks(page):
+            text = text.replace(old, new)
+        running.write(f"{TOP}/{page}", text)
 
 
 def check(tally):
@@ -81,10 +76,9 @@ def check(tally):
         tally.judge(not reasons, f"{name}.csv: {'; '.join(reasons)}")
     for name, origin in known.items():
         tally.judge(not origin.marked, f"{name}.csv: its rows are marked, so pages have no table of them: {origin.marked}")
-    names = [found[2] for page in PAGES for found in BLOCK.finditer(text_of(f"{TOP}/{page}"))]
+    names = [name for page in PAGES for name, _, _ in blocks(page)]
     for name in ["origins", "front", *MORE, *MEASUREMENTS]:
         tally.judge(names.count(name) == 1, f"{' and '.join(PAGES)} have {names.count(name)} blocks for {name}")
     for page in PAGES:
-        for found in BLOCK.finditer(text_of(f"{TOP}/{page}")):
-            is_well = found[0] == f"{found[1]}\n{block(found[2], folder_of(page))}\n\n{found[3]}"
-            tally.judge(is_well, f"{page}: the tables of {found[2]} are not those of the stored rows: tools/dev bench --draw")
+        for name, old, new in blocks(page):
+            tally.judge(old == new, f"{page}: the tables of {name} are not those of the stored rows: tools/dev bench --draw")

@@ -5,7 +5,7 @@ from ..repository import TOP
 from . import metg
 from .cases import PLACES, TASKS
 from .rows import kept
-from .tables import BODY_PLACES, bodies, rest
+from .tables import BODY_PLACES, bodies, having, rest
 
 RUNTIMES = ["tp", "runtime by hand", "oneTBB flow graph", "OpenMP tasks"]
 POOLS = [pool for pool in TASKS if pool != "product:64:1:0"]
@@ -22,12 +22,16 @@ def bars_plot(names, groups, y):
     return {"kind": "bars", "names": names, "groups": groups, "y": y}
 
 
+def programs_in(rows, names):
+    return [name for name in names if having(rows, program=name)]
+
+
 def time_by_nodes(rows):
     """Microseconds a task against nodes and workers, a panel for each pool."""
     rows, panels = rest(rows), []
-    programs = [name for name in RUNTIMES if any(row.program == name for row in rows)]
+    programs = programs_in(rows, RUNTIMES)
     for pool in POOLS:
-        own = [[row for row in rows if (row.case, row.program) == (pool, program)] for program in programs]
+        own = [having(rows, case=pool, program=program) for program in programs]
         lines = [[(PLACES.index((row.nodes, row.workers)), row.milliseconds * 1000 / row.units) for row in line] for line in own]
         panels.append((pool, lines))
     places = [f"{nodes}×{workers}" for nodes, workers in PLACES]
@@ -44,25 +48,17 @@ def instructions_a_task(rows):
     return bars_plot(names, groups, "instructions a task")
 
 
-def grid_programs(rows):
-    return [name for name in GRID_PROGRAMS if any(row.program == name for row in rows)]
-
-
-def efficiencies(rows, pattern, program):
-    """Returns the points of a program's curve at one node with four workers."""
-    return [(point.task, point.efficiency) for point in metg.curve(rows, pattern, program, 1, 4)]
-
-
 def efficiency_by_task(rows):
     """The part of four workers' time that is kernels, against the size of a task, a panel for each of two patterns."""
-    programs = grid_programs(rows)
-    panels = [(pattern, [efficiencies(rows, pattern, name) for name in programs]) for pattern in CURVES]
+    programs = programs_in(rows, GRID_PROGRAMS)
+    curves = [(pattern, [metg.curve(rows, pattern, name, 1, 4) for name in programs]) for pattern in CURVES]
+    panels = [(pattern, [[(point.task, point.efficiency) for point in line] for line in lines]) for pattern, lines in curves]
     return lines_plot(programs, panels, "microseconds a task", "kernels by time of four workers")
 
 
 def metg_by_pattern(rows):
     """METG(50%) of each program at one node with four workers, a group of bars for each pattern."""
-    programs, groups, signs = grid_programs(rows), [], {"under": "<", "over": ">"}
+    programs, groups, signs = programs_in(rows, GRID_PROGRAMS), [], {"under": "<", "over": ">"}
     for pattern in metg.patterns_of(rows):
         found = [metg.metg(metg.curve(rows, pattern, name, 1, 4)) for name in programs]
         groups.append((pattern, [size and (signs.get(size.bound, ""), size.microseconds) for size in found]))

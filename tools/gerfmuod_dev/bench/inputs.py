@@ -51,27 +51,26 @@ class Writer:
         first = self.generator.randrange(NODES)
         return next((number % NODES for number in range(first, first + NODES) if self.pending[number % NODES]), None)
 
-    def insert(self):
-        node, inputs, task = self.active(), self.generator.choice([0, 1, 1, 2, 2, 3]), len(self.home)
-        if node is None:
-            return
-        self.write("insert", node, task, inputs)
-        self.pending[node] += 1
-        self.home.append(node)
+    def wait(self, task, inputs):
+        """Has a task wait for so many more inputs."""
         if inputs:
             self.waiting.append((task, inputs))
         else:
             self.ready.append(task)
 
+    def insert(self):
+        node, inputs, task = self.active(), self.generator.choice([0, 1, 1, 2, 2, 3]), len(self.home)
+        if node is not None:
+            self.write("insert", node, task, inputs)
+            self.pending[node] += 1
+            self.home.append(node)
+            self.wait(task, inputs)
+
     def supply(self):
-        if not self.waiting:
-            return
-        task, inputs = self.waiting.popleft()
-        self.write("supply", task)
-        if inputs > 1:
-            self.waiting.append((task, inputs - 1))
-        else:
-            self.ready.append(task)
+        if self.waiting:
+            task, inputs = self.waiting.popleft()
+            self.write("supply", task)
+            self.wait(task, inputs - 1)
 
     def begin(self):
         if self.ready:
@@ -122,8 +121,7 @@ class Writer:
 
     def refused(self):
         """Writes a step that is refused in every state."""
-        fresh = len(self.home)
-        self.write(self.generator.choice(REFUSED).format(fresh))
+        self.write(self.generator.choice(REFUSED).format(len(self.home)))
 
     def drain(self, left):
         """Ends everything except for this number of messages."""
@@ -138,30 +136,22 @@ class Writer:
 
     def wave(self):
         """Writes a wave over idle nodes, and its judgement."""
-        self.write("start")
-        for node in range(1, NODES):
-            self.write("down", node)
-        for node in reversed(range(1, NODES)):
-            self.write("give", node)
-            self.write("up", node)
-        self.write("give", 0)
-        self.waves += 1
         sums = self.messages, self.taken
-        is_over = self.last == sums and sums[0] == sums[1]
-        claim = f" ended {self.waves - 1}" if is_over else " not"
-        self.write("judge" + claim * self.is_trace)
-        self.last = sums
+        claim = f"ended {self.waves}" if self.last == sums and sums[0] == sums[1] else "not"
+        self.lines += ["start", *(f"down {node}" for node in range(1, NODES))]
+        self.lines += [f"{step} {node}" for node in reversed(range(1, NODES)) for step in ("give", "up")]
+        self.lines += ["give 0", f"judge {claim}" if self.is_trace else "judge"]
+        self.waves, self.last = self.waves + 1, sums
 
 
 def busy(writer, lines):
     """Writes lines of all kinds of work, up to this number of lines."""
     steps = [getattr(writer, kind) for kind in KINDS]
-    weights = list(KINDS.values())
     while len(writer.lines) < lines:
         if not writer.is_trace and writer.generator.random() < 0.08:
             writer.refused()
         else:
-            writer.generator.choices(steps, weights)[0]()
+            writer.generator.choices(steps, KINDS.values())[0]()
 
 
 def write_all_steps(out, lines, is_trace):

@@ -1,10 +1,9 @@
 """Compiles the programs of bench/peers, with which this repository's are compared."""
 import functools
 import os
-import shutil
-import subprocess
 import sys
 
+from .. import running
 from ..repository import TOP
 
 SOURCES = f"{TOP}/bench/peers"
@@ -26,16 +25,11 @@ class Peers:
     @functools.lru_cache(maxsize=None)
     def program(self, name, compiler, source, libraries=()):
         path = f"{self.folder}/{name}"
-        reason = f"{compiler[0]} is not installed"
-        if shutil.which(compiler[0]):
-            command = [*compiler, "-o", path, f"{self.sources}/{source}", *libraries]
-            result = subprocess.run(command, capture_output=True, text=True)
-            if result.returncode == 0:
-                return path
-            needs = " or ".join(NEEDED[option] for option in (*compiler, *libraries) if option in NEEDED)
-            message = (result.stderr.splitlines() or ["?"])[0]
-            reason = f"it does not compile{', and needs ' + needs if needs else ''}: {message}"
-        print(f"{source} is left out: {reason}", file=sys.stderr)
+        result = running.run([*compiler, "-o", path, f"{self.sources}/{source}", *libraries])
+        if not result.status:
+            return path
+        needs = " or ".join(NEEDED[option] for option in (*compiler, *libraries) if option in NEEDED)
+        print(f"{source} is left out{', and needs ' + needs if needs else ''}: {running.short(result.err)}", file=sys.stderr)
         return None
 
     def rust(self, name, source, *more):

@@ -1,8 +1,10 @@
 """The tables that are printed, and that docs/PERFORMANCE.md has between marks."""
+import functools
+import re
 import statistics
-from dataclasses import dataclass
+from typing import NamedTuple
 
-from . import dag_tables, metg
+from . import metg
 from .cases import GRID_PLACES, LIBRARY_STEPS, MEASUREMENTS, PLACES, PRODUCT_PLACES, ROD_PLACES, TASKS
 from .rows import Origin
 
@@ -12,9 +14,19 @@ def rest(rows):
     return [row for row in rows if row.load == 0]
 
 
+def having(rows, **values):
+    """Returns the rows with these values."""
+    return [row for row in rows if all(getattr(row, name) == value for name, value in values.items())]
+
+
 def found(rows, **values):
-    """Returns the row with these values, or None."""
-    return next((row for row in rows if all(getattr(row, name) == value for name, value in values.items())), None)
+    """Returns the first row with these values, or None."""
+    return next(iter(having(rows, **values)), None)
+
+
+def distinct(rows, field):
+    """Returns the values of a field, each once."""
+    return list(dict.fromkeys(getattr(row, field) for row in rows))
 
 
 def ratio(one, other):
@@ -45,37 +57,42 @@ def table(head, lines):
     return "\n".join([first, "|" + "---|" * len(head), *others])
 
 
+def pivot(head, lines, columns, cell_of):
+    """Returns a table with a line for each of these keys, and a cell of the line's key and the column's for each column by its name."""
+    return table([head, *columns], [[line, *(cell_of(line, key) for key in columns.values())] for line in lines])
+
+
+def grid(head, rows, field, column_of, text_of):
+    """Returns a table of rows: a line for each value of this field, a column for each name of one, and the text of the row there."""
+    columns = dict.fromkeys(map(column_of, rows))
+    texts_of_rows = {(getattr(row, field), column_of(row)): text_of(row) for row in rows}
+    return pivot(head, distinct(rows, field), dict(zip(columns, columns)), lambda *key: texts_of_rows.get(key, ""))
+
+
 def spelt(places):
     return [f"{nodes} by {workers}" for nodes, workers in places]
 
 
-# ---- texts
-
-
 def texts(rows):
     """Returns a line for each text, with the numbers of all programs in their order."""
-    lines = []
-    for case in dict.fromkeys(row.case for row in rows):
-        own = [row for row in rows if row.case == case]
-        times = ", ".join(f"{row.milliseconds * 1e6 / row.units:.0f}" for row in own)
-        counts = ", ".join(f"{each_unit(row):.0f}" for row in own if row.instructions)
-        memory = ", ".join(f"{row.MiB * 2**20 / row.units:.0f}" for row in own)
-        lines.append([case, times, counts, memory])
-    names = dict.fromkeys(row.program for row in rows)
-    head = ["Text", "nanoseconds a line", "instructions a line", "bytes of memory a line"]
-    return f"The whole process, in this order: {', '.join(names)}.\n\n{table(head, lines)}"
+    columns = {
+        "nanoseconds a line": lambda row: row.milliseconds * 1e6 / row.units,
+        "instructions a line": each_unit,
+        "bytes of memory a line": lambda row: row.MiB * 2**20 / row.units,
+    }
 
+    def numbers(case, number_of):
+        return ", ".join(f"{number:.0f}" for number in map(number_of, having(rows, case=case)) if number is not None)
 
-# ---- pools
+    names = ", ".join(distinct(rows, "program"))
+    return f"The whole process, in this order: {names}.\n\n{pivot('Text', distinct(rows, 'case'), columns, numbers)}"
 
 
 def instructions_of_pools(rows):
     """Returns a line for each pool: the instructions of each program at one node with one worker."""
-    programs = list(dict.fromkeys(row.program for row in rows if row.instructions))
-    lines = []
+    programs, lines = distinct([row for row in rows if row.instructions], "program"), []
     for pool, tasks in TASKS.items():
-        alone = [row for row in rows if (row.case, row.nodes, row.workers) == (pool, 1, 1)]
-        counts = {name: each_unit(found(alone, program=name)) for name in programs}
+        counts = {name: each_unit(found(rows, case=pool, nodes=1, workers=1, program=name)) for name in programs}
         if any(counts.values()):
             by_hand = ratio(counts.get("tp"), counts.get("runtime by hand"))
             lines.append([pool, f"{tasks:,}", *(cell(count, "{:,.0f}") for count in counts.values()), cell(by_hand)])
@@ -86,28 +103,14 @@ def instructions_of_pools(rows):
 
 def by_places(rows, cell_of):
     """Returns a line for each pool, with a cell for tp's row and the row of the hand-written runtime at each place."""
-    places = [place for place in PLACES if any((row.nodes, row.workers) == place for row in rows)]
-    lines = []
-    for pool in dict.fromkeys(row.case for row in rows):
-        cells = []
-        for nodes, workers in places:
-            here = [row for row in rows if (row.case, row.nodes, row.workers) == (pool, nodes, workers)]
-            pair = found(here, program="tp"), found(here, program="runtime by hand")
-            cells.append(cell_of(*pair) if all(pair) else "")
-        lines.append([pool, *cells])
-    return table(["Pool", *spelt(places)], lines)
 
+    def cell_at(pool, place):
+        here = having(rows, case=pool, where=place)
+        pair = found(here, program="tp"), found(here, program="runtime by hand")
+        return cell_of(*pair) if all(pair) else ""
 
-def ratio_of(median, lower, upper):
-    """Returns the function that spells the ratio of two rows with its quartiles, or that their quartiles overlap."""
-
-    pairs = (median, median), (lower, upper), (upper, lower)
-
-    def spelt_ratio(tp, other):
-        ratios = [ratio(getattr(tp, own), getattr(other, its)) for own, its in pairs]
-        return ratio_text(*ratios) if all(ratios) else ""
-
-    return spelt_ratio
+    places = [place for place in spelt(PLACES) if having(rows, where=place)]
+    return pivot("Pool", distinct(rows, "case"), dict(zip(places, places)), cell_at)
 
 
 NO_DIFFERENCE = "no difference seen"
@@ -117,8 +120,15 @@ def ratio_text(middle, least, most):
     return NO_DIFFERENCE if least <= 1 <= most else f"{middle:.2f} ({least:.2f}–{most:.2f})"
 
 
-TIME = ratio_of("milliseconds", "lower_quartile", "upper_quartile")
-PROCESSOR_TIME = ratio_of("processor_milliseconds", "processor_lower_quartile", "processor_upper_quartile")
+def ratio_of_rows(median, lower, upper, tp, other):
+    """Returns the ratio of two rows with its quartiles, of a number whose median and quartiles are in these fields."""
+    pairs = (median, median), (lower, upper), (upper, lower)
+    ratios = [ratio(getattr(tp, own), getattr(other, its)) for own, its in pairs]
+    return ratio_text(*ratios) if all(ratios) else ""
+
+
+TIME = functools.partial(ratio_of_rows, "milliseconds", "lower_quartile", "upper_quartile")
+PROCESSOR_TIME = functools.partial(ratio_of_rows, "processor_milliseconds", "processor_lower_quartile", "processor_upper_quartile")
 
 
 def switches(tp, other):
@@ -145,30 +155,24 @@ def pools(rows):
 def more_of_pools(rows):
     """Returns what else was measured: processor time and context switches, and all of it on a machine that has other work."""
     parts = processors(rest(rows))
-    for load in dict.fromkeys(row.load for row in rows if row.load):
-        own, busy = [row for row in rows if row.load == load], f", next to {load} busy processes"
+    for load in filter(None, distinct(rows, "load")):
+        own, busy = having(rows, load=load), f", next to {load} busy processes"
         parts += [*times(own, busy), *processors(own, busy)]
     return "\n\n".join(parts)
 
 
-# ---- patterns
-
-
-def size_with_quartiles(rows, pattern, column):
-    """Returns METG(50%) by the medians of the times, and by their lower and their upper quartiles."""
-    return metg.spelt_by_quartiles(lambda time: metg.curve(rows, pattern, *column, time))
-
-
 def smallest_tasks(rows, places):
     """Returns a line for each pattern, with METG(50%) of each program at the places at which it was measured."""
-    measured = {(row.program, row.nodes, row.workers) for row in rows}
-    programs = list(dict.fromkeys(row.program for row in rows))
-    columns = [(name, *place) for name in programs for place in places if (name, *place) in measured]
-    lines = []
-    for pattern in metg.patterns_of(rows):
-        lines.append([pattern, *(size_with_quartiles(rows, pattern, column) for column in columns)])
-    heads = [f"{name}, {nodes} by {workers}" if len(places) > 1 else name for name, nodes, workers in columns]
-    return table(["Pattern", *heads], lines)
+    columns = {}
+    for name in distinct(rows, "program"):
+        for nodes, workers in places:
+            if having(rows, program=name, nodes=nodes, workers=workers):
+                columns[f"{name}, {nodes} by {workers}" if len(places) > 1 else name] = name, nodes, workers
+
+    def size(pattern, column):
+        return metg.spelt_by_quartiles(lambda time: metg.curve(rows, pattern, *column, time))
+
+    return pivot("Pattern", metg.patterns_of(rows), columns, size)
 
 
 def grids(rows):
@@ -178,25 +182,23 @@ def grids(rows):
 
 def kernels(rows):
     """Returns the time of an iteration of the kernel in each program."""
-    lines = []
-    for program in dict.fromkeys(row.program for row in rows):
-        times = [row.kernel_nanoseconds for row in rows if row.program == program]
-        lines.append([program, *map(cell, (min(times), statistics.median(times), max(times)))])
-    head = ["Program", "least", "median", "most"]
-    return "Nanoseconds an iteration, by one task of many, timed again for each pattern and size:\n\n" + table(head, lines)
+
+    def number(program, number_of):
+        return cell(number_of([row.kernel_nanoseconds for row in having(rows, program=program)]))
+
+    columns = {"least": min, "median": statistics.median, "most": max}
+    title = "Nanoseconds an iteration, by one task of many, timed again for each pattern and size:\n\n"
+    return title + pivot("Program", distinct(rows, "program"), columns, number)
 
 
-# ---- rods and products
-
-
-def milliseconds(rows, places):
+def milliseconds(places, rows):
     """Returns a table for each case, with a line for each program: its time at each place, and its memory at the last."""
     parts = []
-    for case in dict.fromkeys(row.case for row in rows):
+    for case in distinct(rows, "case"):
         lines = []
-        for program in dict.fromkeys(row.program for row in rows if row.case == case):
-            own = [row for row in rows if (row.case, row.program) == (case, program)]
-            here = [found(own, nodes=nodes, workers=workers) for nodes, workers in places]
+        for program in distinct(having(rows, case=case), "program"):
+            own = having(rows, case=case, program=program)
+            here = [found(own, where=place) for place in spelt(places)]
             counted = next(filter(None, map(each_unit, own)), None)
             lines.append([program, *map(with_quartiles, here), f"{own[-1].MiB:.0f}", cell(counted, "{:.1f}")])
         whose = "a run" if rows[0].runs else "the whole process"
@@ -205,21 +207,10 @@ def milliseconds(rows, places):
     return "\n\n".join(parts)
 
 
-def rods(rows):
-    return milliseconds(rows, ROD_PLACES)
-
-
-def products(rows):
-    return milliseconds(rows, PRODUCT_PLACES)
-
-
-# ---- bodies
-
 BODY_PLACES = [("heat", 1, 4), ("heat", 2, 2), ("heat", 4, 1), ("oneTBB flow graph", 1, 4), ("OpenMP tasks", 1, 4)]
 
 
-@dataclass(frozen=True)
-class Body:
+class Body(NamedTuple):
     """A size of blocks: microseconds of a body with one worker by program, and at each place the speed-up and its quartiles."""
 
     block: str
@@ -228,9 +219,7 @@ class Body:
     quartiles: dict
 
     def spelt(self, place):
-        if place not in self.speed_ups:
-            return ""
-        return ratio_text(self.speed_ups[place], *self.quartiles[place])
+        return ratio_text(self.speed_ups[place], *self.quartiles[place]) if place in self.speed_ups else ""
 
 
 def body_of(block, rows):
@@ -245,10 +234,7 @@ def body_of(block, rows):
 
 
 def bodies(rows):
-    blocks = {}
-    for row in rows:
-        blocks.setdefault(row.case.split(", ")[0].replace("blocks of ", ""), []).append(row)
-    return [body_of(block, own) for block, own in blocks.items()]
+    return [body_of(case.split(", ")[0].replace("blocks of ", ""), having(rows, case=case)) for case in distinct(rows, "case")]
 
 
 def twice_as_fast(sizes, place):
@@ -265,10 +251,7 @@ def twice_as_fast(sizes, place):
 
 def body(rows):
     sizes = bodies(rows)
-    lines = []
-    for size in sizes:
-        faster = [size.spelt(place) for place in BODY_PLACES]
-        lines.append([size.block, cell(size.microseconds.get("heat"), "{:.1f}"), *faster])
+    lines = [[size.block, cell(size.microseconds.get("heat"), "{:.1f}"), *map(size.spelt, BODY_PLACES)] for size in sizes]
     lines.append(["twice as fast from", "", *(twice_as_fast(sizes, place) for place in BODY_PLACES)])
     names = [f"{name}, {nodes} by {workers}" for name, nodes, workers in BODY_PLACES]
     title = (
@@ -277,8 +260,6 @@ def body(rows):
     )
     return f"{title}\n\n{table(['Cells of a block', 'microseconds of a body', *names], lines)}"
 
-
-# ---- the front page
 
 # the columns of the table of README, and by which program each is measured: of a pool, of a rod
 FRONT = {
@@ -290,6 +271,7 @@ FRONT = {
     "a loop, 1 thread": ("one after the other", "plain loop"),
 }
 WITHOUT_RUNTIME = list(FRONT)[-2:]
+FRONT_POOLS = ["wavefront:64:64:0", "reduce:1024:0"]
 
 
 def front_line(head, rows, form):
@@ -301,43 +283,37 @@ def front_line(head, rows, form):
 
 def front_rows(all_rows, case, place, names):
     """Returns the row of each program; the loop has one thread at each place."""
-    here = [found(all_rows, case=case, program=name, nodes=place[0], workers=place[1]) for name in names]
-    return [*here[:-1], found(all_rows, case=case, program=names[-1], nodes=1, workers=1)]
+    places = [place] * (len(names) - 1) + ["1 by 1"]
+    return [found(all_rows, case=case, program=name, where=where) for name, where in zip(names, places)]
 
 
 def front(runs, body_rows, rod_rows):
     """Returns the table of README: some rows of three measurements, and where threads or a loop are better than a runtime."""
-    lines, without = [], []
+    lines, without, runs, sizes = [], [], rest(runs), bodies(body_rows)
     pools, rods = ([names[order] for names in FRONT.values()] for order in (0, 1))
-    for pool in ("wavefront:64:64:0", "reduce:1024:0"):
-        counts = [each_unit(row) for row in front_rows(rest(runs), pool, (1, 1), pools)]
+    for pool in FRONT_POOLS:
+        counts = [each_unit(row) for row in front_rows(runs, pool, "1 by 1", pools)]
         least = min(filter(None, counts), default=None)
         cells = [f"**{count:,.0f}**" if count == least else cell(count, "{:,.0f}") for count in counts]
         lines.append([f"Instructions per task, `{pool}`, 1 worker", *cells])
-    sizes = bodies(body_rows)
     least = [twice_as_fast(sizes, (name, 1, 4)) if (name, 1, 4) in BODY_PLACES else "" for name in rods]
     lines.append(["Shortest body that 4 workers run at least twice as fast as 1, µs", *least])
-    cases = [(f"`{pool}`", front_rows(rest(runs), pool, (1, 4), pools), "{:.2f}") for pool in ("wavefront:64:64:0", "reduce:1024:0")]
-    cases += [(case, front_rows(rod_rows, case, (1, 4), rods), "{:.1f}") for case in dict.fromkeys(row.case for row in rod_rows)]
+    cases = [(f"`{pool}`", front_rows(runs, pool, "1 by 4", pools), "{:.2f}") for pool in FRONT_POOLS]
+    cases += [(case, front_rows(rod_rows, case, "1 by 4", rods), "{:.1f}") for case in distinct(rod_rows, "case")]
     for case, here, form in cases:
         lines.append(front_line(f"{'' if case[0] == '`' else 'Rod: '}{case}, 4 workers, ms", here, form))
-        best = min(range(len(here)), key=lambda place: here[place].milliseconds if here[place] else float("inf"))
-        if list(FRONT)[best] in WITHOUT_RUNTIME:
-            without.append(f"{case} ({list(FRONT)[best]})")
+        _, best = min((row.milliseconds, name) for row, name in zip(here, FRONT) if row)
+        without += [f"{case} ({best})"] * (best in WITHOUT_RUNTIME)
     parts = [table(["On four cores, a run (quartiles)", *FRONT], lines)]
     return "\n\n".join(parts + [f"No runtime pays, with four workers, for {'; '.join(without)}."] * bool(without))
-
-
-# ---- the library
 
 
 def library(rows):
     """Returns a line for each kind of steps and program: the difference of no step and all of them."""
     lines = []
     for kind in ("tasks", "messages"):
-        for program in dict.fromkeys(row.program for row in rows):
-            none = found(rows, case=f"0 steps of {kind}", program=program)
-            many = found(rows, case=f"{LIBRARY_STEPS:,} steps of {kind}", program=program)
+        for program in distinct(rows, "program"):
+            none, many = (found(rows, case=f"{steps:,} steps of {kind}", program=program) for steps in (0, LIBRARY_STEPS))
             if none and many:
                 counted = many.instructions - none.instructions if many.instructions and none.instructions else None
                 time, memory = (many.milliseconds - none.milliseconds) * 1e6, (many.MiB - none.MiB) * 2**20
@@ -346,17 +322,58 @@ def library(rows):
     return table(["Steps of", "Program", "nanoseconds a step", "instructions a step", "bytes a step"], lines)
 
 
-# ---- the detectors for distributed programs
+# a case of task graphs with bodies: its shape
+GRAPH_BODY = re.compile(r"(\w+), bodies of ([\d.]+) us$")
+GRAPH_WORKERS = 4
 
 
-def by_processes(rows, head, cell_of):
-    """Returns a line for each detector, with a cell for its row at each number of processes."""
-    counts = list(dict.fromkeys(row.processes for row in rows))
-    lines = []
-    for detector in dict.fromkeys(row.detector for row in rows):
-        own = [found(rows, detector=detector, processes=count) for count in counts]
-        lines.append([detector, *("" if row is None else cell_of(row) for row in own)])
-    return table([head, *(f"{count:,}" for count in counts)], lines)
+def program_and_place(row):
+    return f"{row.program}, {row.where}"
+
+
+def time_of(row):
+    return with_quartiles(row) if row.nodes * row.workers > 1 else f"{row.milliseconds:.1f}"
+
+
+def time_of_a_task(row):
+    median, lower, upper = (time * 1e6 / row.units for time in (row.milliseconds, row.lower_quartile, row.upper_quartile))
+    return f"{median:,.0f} ({lower:,.0f}–{upper:,.0f})" if row.nodes * row.workers > 1 else f"{median:,.0f}"
+
+
+def smallest_bodies(rows):
+    """Returns a table of METG(50%) of each program with four workers, in microseconds, with a line for each shape."""
+    own = {}
+    for row in (row for row in rows if row.nodes * row.workers == GRAPH_WORKERS):
+        own.setdefault((GRAPH_BODY.match(row.case)[1], program_and_place(row)), []).append(row)
+
+    def point_of(row, time):
+        kernel = found(rows, case=row.case, program="one after the other").milliseconds
+        return metg.Point(getattr(row, time) * 1000 * GRAPH_WORKERS / row.units, kernel * 1000 / row.units)
+
+    def size(*key):
+        points = own.get(key, [])
+        return metg.spelt_by_quartiles(lambda time: sorted((point_of(row, time) for row in points), key=lambda point: point.kernel))
+
+    shapes, columns = (dict.fromkeys(keys) for keys in zip(*own))
+    return pivot("", shapes, dict(zip(columns, columns)), size)
+
+
+def task_graphs(rows):
+    """Returns all tables of task graphs, each with its title."""
+    small = [row for row in rows if GRAPH_BODY.match(row.case)]
+    empty = [row for row in rows if row.case.endswith("empty bodies")]
+    whole, counted = [row for row in rows if row not in small + empty], [row for row in empty if row.instructions]
+    parts = [
+        f"{title}:\n\n{grid('', own, 'case', program_and_place, text_of)}"
+        for title, own, text_of in (
+            ("Milliseconds", whole, time_of),
+            ("Nanoseconds a task, with its description", empty, time_of_a_task),
+            ("Instructions a task, with its description, one thread", counted, lambda row: cell(each_unit(row), "{:,.0f}")),
+        ) if own
+    ]
+    if small:
+        parts.append(f"METG(50%) in microseconds, four workers:\n\n{smallest_bodies(small)}")
+    return "\n\n".join(parts)
 
 
 def times_and_messages(row):
@@ -370,31 +387,27 @@ def steps_and_messages(row):
 
 
 def detectors(rows):
-    parts = []
-    for case in dict.fromkeys(row.case for row in rows if row.microseconds is not None):
-        parts += [
-            f"{case[0].upper()}{case[1:]}, by processes: microseconds to the last process that knows the end (quartiles); "
-            "control messages; "
-            "waves, rounds of the token, reductions:",
-            by_processes([row for row in rows if row.case == case], "Detector", times_and_messages),
-        ]
-    calls = [row for row in rows if row.nanoseconds_a_call is not None]
+    what = "microseconds to the last process that knows the end (quartiles); control messages; waves, rounds of the token, reductions"
+    shown = [(case, what, times_and_messages) for case in distinct([row for row in rows if row.microseconds is not None], "case")]
+    shown += [("simulated", "steps, control messages, waves", steps_and_messages)]
+    shown += [("random programs", "control messages, waves", steps_and_messages)]
+    parts = [
+        f"{case[0].upper()}{case[1:]}, by processes: {what}:\n\n"
+        + grid("Detector", having(rows, case=case), "detector", lambda row: f"{row.processes:,}", text_of)
+        for case, what, text_of in shown
+    ]
     lines = [
         [row.case[len("calls: ") :], row.detector, cell(row.nanoseconds_a_call, "{:.1f}"), cell(row.instructions, "{:.0f}")]
-        for row in calls
+        for row in rows if row.nanoseconds_a_call is not None
     ]
-    parts += ["A call, the loop around it included:", table(["Calls", "Detector", "nanoseconds", "instructions"], lines)]
-    for case, what in (("simulated", "steps, control messages, waves"), ("random programs", "control messages, waves")):
-        own = [row for row in rows if row.case == case]
-        parts += [f"{case[0].upper()}{case[1:]}, by processes: {what}:", by_processes(own, "Detector", steps_and_messages)]
-    return "\n\n".join(parts)
+    calls = table(["Calls", "Detector", "nanoseconds", "instructions"], lines)
+    return "\n\n".join([*parts[:-2], f"A call, the loop around it included:\n\n{calls}", *parts[-2:]])
 
 
-TABLES = dict(
-    sim=texts, audit=texts, run=pools, patterns=grids, rod=rods, body=body, product=products, library=library,
-    dag=dag_tables.table,
-    processes=detectors,
-)
+TABLES = {
+    "sim": texts, "audit": texts, "run": pools, "patterns": grids, "rod": functools.partial(milliseconds, ROD_PLACES), "body": body,
+    "product": functools.partial(milliseconds, PRODUCT_PLACES), "library": library, "dag": task_graphs, "processes": detectors,
+}
 assert TABLES.keys() == MEASUREMENTS.keys()
 
 
@@ -405,12 +418,13 @@ def of(measurement, rows):
 def of_origins(origins):
     """Returns the table of the day, the commit and the machine of each measurement."""
     shown = ["date", "commit", "form", "rounds", "seconds", "load_average", "others", "seconds_to_rest", "marked"]
-    shown = [name for name in shown if any(getattr(origin, name) not in (None, "") for origin in origins)]
-    lines = []
-    for origin in origins:
-        values = (getattr(origin, name) for name in shown)
-        lines.append([f"`{origin.measurement}`", *("" if value is None else str(value) for value in values)])
-    parts = [table(["Measurement", *(name.replace("_", " ") for name in shown)], lines)]
+    columns = {name.replace("_", " "): name for name in shown if any(getattr(origin, name) not in (None, "") for origin in origins)}
+    known = {f"`{origin.measurement}`": origin for origin in origins}
+
+    def value(measurement, name):
+        return cell(getattr(known[measurement], name), "{}")
+
+    parts = [pivot("Measurement", known, columns, value)]
     fields = [Origin._fields.index(name) for name in ("processor", "others")]
     for machine in dict.fromkeys(tuple(origin)[fields[0] : fields[1]] for origin in origins):
         name, processors, memory, system, compilers, counter = machine

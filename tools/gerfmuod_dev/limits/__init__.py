@@ -7,14 +7,14 @@ import inspect
 import tempfile
 
 from .. import repository, running
-from . import costs, memory, strange, terminal, texts
+from . import memory, strange, terminal, texts
 
 
 class Limit:
     """A subcommand: a function that counts cases, the programs that it runs, and options: a number by default, and what it is."""
 
-    def __init__(self, action, programs, **options):
-        self.action, self.programs, self.options = action, programs.split(), options
+    def __init__(self, action, *programs, **options):
+        self.action, self.programs, self.options = action, programs, options
         self.__doc__ = inspect.getdoc(action)
 
     def arguments(self, parser):
@@ -22,7 +22,7 @@ class Limit:
             running.program_argument(parser, name)
         for name, (default, what) in self.options.items():
             kind = {"action": "store_true"} if default is False else {"type": int, "metavar": "N", "default": default}
-            parser.add_argument(f"--{name.replace('_', '-')}", help=what if default is False else f"{what} ({default:,})", **kind)
+            parser.add_argument(f"--{name}", help=what, **kind)
 
     def run(self, options):
         """Runs the function in a folder of its own; returns the exit status."""
@@ -36,15 +36,13 @@ class Limit:
 
 QUICK = False, "a few cases: the form of make test"
 LIMITS = {
-    "refuse": Limit(memory.refuse, "tp samples", quick=QUICK),
-    "refuse-tests": Limit(memory.refuse_tests, ""),
+    "refuse": Limit(memory.refuse, "tp", "samples", quick=QUICK),
+    "refuse-tests": Limit(memory.refuse_tests),
     "memory": Limit(memory.address_space, "tp"),
     "live": Limit(memory.live, "samples"),
-    "hostile-numbers": Limit(costs.hostile_numbers, "tp", rounds=(12_500, "rounds of eight lines a script")),
-    "pictures": Limit(costs.pictures, "tp samples", lines=(990_000, "lines of a trace"), bytes_alone=(False, "count no instructions")),
     "strange": Limit(strange.strange, "tp", quick=QUICK),
     "progress": Limit(terminal.progress, "samples"),
     "reasons": Limit(terminal.reasons, "tp"),
     "cuts": Limit(texts.cuts, "tp"),
-    "random": Limit(texts.random_cases, "tp", texts=(400, "scripts, and as many traces"), seed=(1, "the generator's seed")),
+    "random": Limit(texts.random_cases, "tp", texts=(400, "scripts, and as many traces (400)"), seed=(1, "the generator's seed (1)")),
 }

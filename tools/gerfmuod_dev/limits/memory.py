@@ -1,5 +1,7 @@
 """Runs the built programs, and the tests of memory, without enough memory, and measures how much a stencil has at a time."""
 import collections
+import contextlib
+import itertools
 import os
 import re
 import resource
@@ -36,67 +38,55 @@ def steps_of_tasks(count):
         yield f"send {node} {other} {number}\nrecv {other} {number}\nend {other} {number}\nopen 0 {number}"
 
 
-def write_inputs(folder):
-    """Writes the inputs of the commands to a folder."""
+def commands(name, programs, folder):
+    """Yields the commands of a stored table: the word before each, its text, itself, and the path of its input, which is written."""
     steps, long_steps = [*steps_of_tasks(300)], [*steps_of_tasks(30_000)]
-    for name, lines in {
+    for path, lines in {
         "script": ["nodes 8", *steps], "trace": ["trace 1", "nodes 8", *steps], "fault": ["nodes 1", "ready"],
         "long_script": ["nodes 8", *long_steps], "long_trace": ["trace 1", "nodes 8", *long_steps],
         "drawn": ["trace 1", "nodes 8", *steps[:80]], "rod": range(0, 401, 7), "long_rod": range(1, 4001),
         "matrices": [*ROW * 8, "", *ROW * 8], "grid": ROW * 8,
     }.items():
-        running.write(f"{folder}/{name}", lines)
-
-
-def commands(name):
-    """Returns the command lines of a stored table, each with the word before it and the name of its input, which may be empty."""
-    return COMMAND.findall(text_of(f"tools/data/limits/{name}"))
-
-
-class Trial:
-    """Runs of a command without enough memory: counts those that were refused, and those that printed the whole output."""
-
-    def __init__(self, tally, programs, folder, line, stdin):
+        running.write(f"{folder}/{path}", lines)
+    for word, line, stdin in COMMAND.findall(text_of(f"tools/data/limits/{name}")):
         program, *rest = line.split()
-        self.tally, self.name, self.command = tally, line, [getattr(programs, program), *rest]
-        self.stdin = f"{folder}/{stdin}" if stdin else os.devnull
-        self.messages = MESSAGES.get(" ".join([program, *rest[:1]]), MESSAGES[program])
-        self.expected, self.counts = running.run(self.command, self.stdin), collections.Counter()
-
-    def is_refused(self, result):
-        """Whether a run has status 3, and one of the messages alone, or a line for each pool, one of which was refused."""
-        lines = result.out.splitlines()
-        is_of_pools = any(line.endswith(b" NoMemory") for line in lines) and all(map(LINE_OF_A_POOL.fullmatch, lines))
-        return result.status == 3 and (not result.out and result.err in self.messages or not result.err and is_of_pools)
-
-    def take(self, result, place):
-        is_whole = (result.status, result.out, result.err) == (self.expected.status, self.expected.out, b"")
-        kind = "refused" if self.is_refused(result) else "whole" if is_whole else "wrong"
-        self.counts[kind] += 1
-        self.tally.judge(kind != "wrong", f"{self.name}, {place}: {result.description()}")
-
-    def end(self, kinds, where):
-        print(f"{self.name}, {where}: refused {self.counts['refused']} times, whole {self.counts['whole']} times", flush=True)
-        self.tally.judge(all(self.counts[kind] for kind in kinds), f"{self.name} was not tried both with and without enough memory")
+        yield word, line, [getattr(programs, program), *rest], f"{folder}/{stdin}" if stdin else os.devnull
 
 
-class Refusing:
-    """Runs commands with an allocation that fails."""
+def is_refused(result, line):
+    """Whether a run has status 3, and one of the messages alone, or a line for each pool, one of which was refused."""
+    lines, (program, *rest) = result.out.splitlines(), line.split()
+    is_of_pools = any(line.endswith(b" NoMemory") for line in lines) and all(map(LINE_OF_A_POOL.fullmatch, lines))
+    messages = MESSAGES.get(" ".join([program, *rest[:1]]), MESSAGES[program])
+    return result.status == 3 and (not result.out and result.err in messages or not result.err and is_of_pools)
 
-    def __init__(self, tally, folder):
-        self.library = running.preload_library(tally, "refuse", folder, "allocations that fail in turn")
-        self.report = f"{folder}/report"
 
-    def results(self, command, stdin=os.devnull, also_later=False):
-        """Yields the number of the allocation that fails, and the result: for each allocation, and last for one more than the run has."""
-        number, is_reached = 0, True
-        while is_reached:
-            number += 1
-            if os.path.exists(self.report):
-                os.remove(self.report)
-            variables = {"REFUSE": str(number), "REFUSE_REPORT": self.report, "LD_PRELOAD": self.library}
-            yield number, running.run(command, stdin, env={**os.environ, **variables, **({"REFUSE_ON": "1"} if also_later else {})})
-            is_reached = os.path.exists(self.report)
+def judge(tally, line, expected, runs, kinds):
+    """Counts whether each run, given with what it lacks, was refused or is as expected without an error, and whether all kinds came."""
+    counts = collections.Counter()
+    for lack, result in runs:
+        is_whole = result == running.Result(expected.status, expected.out, b"")
+        kind = "refused" if is_refused(result, line) else "whole" if is_whole else "wrong"
+        counts[kind] += 1
+        tally.judge(kind != "wrong", f"{line}, {lack}: {result.description()}")
+    print(f"{line}, up to {lack}: refused {counts['refused']} times, whole {counts['whole']} times", flush=True)
+    tally.judge(all(counts[kind] for kind in kinds), f"{line} was not tried both with and without enough memory")
+
+
+def refusing(command, stdin, library, folder, also_later=False):
+    """Yields the number of the allocation that fails, and the result: for each allocation, and last for one more than the run has."""
+    report = f"{folder}/report"
+    for number in itertools.count(1):
+        with contextlib.suppress(FileNotFoundError):
+            os.remove(report)
+        variables = {"REFUSE": str(number), "REFUSE_REPORT": report, "LD_PRELOAD": library, **({"REFUSE_ON": "1"} if also_later else {})}
+        yield number, running.run(command, stdin, env={**os.environ, **variables})
+        if not os.path.exists(report):
+            return
+
+
+def library_of(tally, folder):
+    return running.preload_library(tally, "refuse", folder, "allocations that fail in turn")
 
 
 def refuse(tally, options, folder):
@@ -107,14 +97,13 @@ def refuse(tally, options, folder):
     nothing on standard output, with status 3; `pools` may also print a line for each pool. Each command has to be refused at
     least once. Needs a C compiler. With --quick it tries a few commands, each with one allocation failing at a time.
     """
-    refusing = Refusing(tally, folder)
-    write_inputs(folder)
-    for form, *command in commands("refuse") if refusing.library else ():
+    library = library_of(tally, folder)
+    for form, line, command, stdin in commands("refuse", options, folder) if library else ():
         for also_later in (False, True) if not options.quick else (False,) if form == "quick" else ():
-            trial, later = Trial(tally, options, folder, *command), " and all after it" if also_later else ""
-            for number, result in refusing.results(trial.command, trial.stdin, also_later):
-                trial.take(result, f"allocation {number}{later} failed")
-            trial.end(["refused"], f"each of {number - 1} allocations{later} failed in turn")
+            runs = refusing(command, stdin, library, folder, also_later)
+            later = " and all after it" * also_later
+            named = ((f"allocation {number}{later} failing", result) for number, result in runs)
+            judge(tally, line, running.run(command, stdin), named, ["refused"])
 
 
 def refuse_tests(tally, _, folder):
@@ -124,17 +113,26 @@ def refuse_tests(tally, _, folder):
     Prints the number of allocations of each test, and then how often each call failed, as the tests name it. Needs a C
     compiler, and the programs of tests that `rt test` leaves in crates/*/out.
     """
-    refusing, calls = Refusing(tally, folder), collections.Counter()
-    for program in (f"crates/{crate}/out/{crate}_tests" for crate in CRATES if refusing.library):
+    library, calls = library_of(tally, folder), collections.Counter()
+    for program in (f"crates/{crate}/out/{crate}_tests" for crate in CRATES if library):
         tests = TESTS.findall(running.run([program, "--list"]).out.decode(errors="replace"))
         tally.judge(tests, f"{program} is missing, or has no tests of memory: `rt test` builds it")
         for test in tests:
-            for number, result in refusing.results([program, test]):
+            for number, result in refusing([program, test], os.devnull, library, folder):
                 is_well = not result.status and re.search(rb"^test result: ok", result.out, re.M)
                 tally.judge(is_well, f"{test}, allocation {number} failed: {short(result.err, 300)}")
                 calls.update(re.findall(r"^refused: (.*)", result.err.decode(errors="replace"), re.M))
             print(f"{test}: {number - 1} allocations", flush=True)
     print("\n".join(f"{count:7} {call}" for call, count in sorted(calls.items())))
+
+
+def limited(command, stdin, growth):
+    """Yields runs of a command at limits of its address space, which grow by so many percent."""
+    limit = FIRST_LIMIT
+    for _ in range(LIMITS):
+        limits = 1024 * limit, 1024 * limit
+        yield f"{limit} KB", running.run(command, stdin, preexec_fn=lambda: resource.setrlimit(resource.RLIMIT_AS, limits))
+        limit += limit * growth // 100
 
 
 def address_space(tally, options, folder):
@@ -143,15 +141,8 @@ def address_space(tally, options, folder):
     Each command runs at 50 limits of its address space (as `ulimit -v` sets them) from 8 MB up. Each time it has to print its
     whole output, or else that it is out of memory. It has to be refused at least once, and to succeed at least once.
     """
-    write_inputs(folder)
-    for growth, *command in commands("memory"):
-        trial, limit = Trial(tally, options, folder, *command), FIRST_LIMIT
-        for _ in range(LIMITS):
-            limits = 1024 * limit, 1024 * limit
-            result = running.run(trial.command, trial.stdin, preexec_fn=lambda: resource.setrlimit(resource.RLIMIT_AS, limits))
-            trial.take(result, f"at {limit} KB")
-            limit += limit * int(growth) // 100
-        trial.end(["refused", "whole"], f"at {LIMITS} limits up to {limit} KB")
+    for growth, line, command, stdin in commands("memory", options, folder):
+        judge(tally, line, running.run(command, stdin), limited(command, stdin, int(growth)), ["refused", "whole"])
 
 
 def most_at_a_time(command, stdin, library, report):
@@ -170,19 +161,16 @@ def live(tally, options, folder):
     may have only some rows more memory at a time than one of a single step: a value is dropped once its last reader has run.
     """
     library = running.preload_library(tally, "live", folder, "the memory that a stencil has at a time")
-    if not library:
-        return
     with open(f"{folder}/heat", "w", encoding="utf-8") as file:
         inputs.write_cells(file, CELLS)
     rows = (" ".join(str(row * column % 1009) for column in range(WIDTH)) for row in range(CELLS // WIDTH))
     running.write(f"{folder}/relax", rows)
-    for count in "12":
-        for name, size in (("heat", "8000"), ("relax", "8")):
-            first = None
-            for steps in map(str, STEPS):
-                command = [options.samples, name, steps, size, "--nodes", count, "--workers", count]
-                most = most_at_a_time(command, f"{folder}/{name}", library, f"{folder}/report")
-                first = first or most
-                print(f"{' '.join(command[1:])}: {'failed' if most is None else f'{most / 1e6:.1f} MB at a time'}", flush=True)
-                is_well = most is not None and most <= first + ROWS * 8 * CELLS
-                tally.judge(is_well, f"{' '.join(command[1:])}: {most} bytes at a time, the first run {first}")
+    for count, (name, size) in itertools.product("12", (("heat", "8000"), ("relax", "8"))) if library else ():
+        first = None
+        for steps in map(str, STEPS):
+            command = [options.samples, name, steps, size, "--nodes", count, "--workers", count]
+            most = most_at_a_time(command, f"{folder}/{name}", library, f"{folder}/report")
+            first = first or most
+            line = f"{' '.join(command[1:])}: {'failed' if most is None else f'{most / 1e6:.1f} MB at a time'}"
+            print(line, flush=True)
+            tally.judge(most is not None and most <= first + ROWS * 8 * CELLS, f"{line}, the first run {first} bytes")

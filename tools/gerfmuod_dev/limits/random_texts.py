@@ -29,17 +29,13 @@ def helpful_steps(version, world):
         yield ("reopen",)
 
 
-def is_lawful(world, step):
-    return not copy.deepcopy(world).take(step).startswith("refused")
-
-
 def random_steps(generator, version, nodes, count):
     """Returns steps, each with its reply."""
     world, steps = World(nodes), []
     while len(steps) < count:
         step = any_step(generator, version, world)
         if generator.random() < 0.7:
-            lawful = [other for other in helpful_steps(version, world) if is_lawful(world, other)]
+            lawful = [other for other in helpful_steps(version, world) if not copy.deepcopy(world).take(other).startswith("refused")]
             step = generator.choice(lawful) if lawful else step
         steps.append((step, world.take(step)))
     return steps

@@ -4,6 +4,7 @@ It is written from the rules alone: the steps' table of checks, the grammar, and
 over the steps of the present generation at each wave. The tools that try the built program use it.
 """
 import collections
+import functools
 import re
 
 NAMES = {
@@ -23,7 +24,7 @@ JUDGED = re.compile(r"judge (not|ended [1-9][0-9]{0,5})", re.ASCII)
 
 
 class Refused(Exception):
-    """A step is refused; the argument is the number of the refusal."""
+    """A step is refused; the arguments are the number of the refusal and its name."""
 
 
 class Wrong(Exception):
@@ -32,9 +33,9 @@ class Wrong(Exception):
 
 def check(checks):
     """Refuses the step with the number of the first check that holds."""
-    for number, holds in checks.items():
-        if holds:
-            raise Refused(number)
+    number = next((number for number, holds in checks.items() if holds), None)
+    if number:
+        raise Refused(number, NAMES[number])
 
 
 class World:
@@ -55,21 +56,12 @@ class World:
         """Returns how often a node sent, or received."""
         return sum(step[:2] == (name, i) for step in self.list)
 
-    def is_quiet(self):
-        return not self.actions and not self.under and all(life == "done" for life in self.life.values())
-
-    def since_start(self):
-        """Returns the steps since the last `start`, including it; an empty list if there was none."""
-        places = [place for place, step in enumerate(self.list) if step[0] == "start"]
-        return self.list[places[-1] :] if places else []
-
     def take(self, step):
         """Takes a step, and returns the line that the program prints for it."""
         try:
             reply = getattr(self, step[0])(*step[1:])
         except Refused as refused:
-            number = refused.args[0]
-            return f"refused {number} {NAMES[number]}"
+            return "refused {} {}".format(*refused.args)
         if step[0] != "reopen":
             self.list.append(step)
         return reply or "ok"
@@ -86,28 +78,20 @@ class World:
         check({4: t not in self.home, 5: self.life.get(t) != before})
         self.life[t] = after
 
-    def begin(self, t):
-        self.change(t, "ready", "running")
-
-    def done(self, t):
-        self.change(t, "running", "done")
+    begin = functools.partialmethod(change, before="ready", after="running")
+    done = functools.partialmethod(change, before="running", after="done")
 
     def open(self, i, a):
         check({1: i >= self.nodes, 7: ("named", i, a) in self.actions, 6: not self.pending(i)})
         self.actions.add(("named", i, a))
 
-    def shut(self, kind, i, a, g=None):
+    def shut(self, i, a=0, g=None, *, kind):
         check({1: i >= self.nodes, 19: g not in (None, self.generation), 8: (kind, i, a) not in self.actions})
         self.actions.remove((kind, i, a))
 
-    def close(self, i, a):
-        self.shut("named", i, a)
-
-    def ready(self, i):
-        self.shut("opening", i, 0)
-
-    def end(self, i, m, g=1):
-        self.shut("message", i, m, g)
+    close = functools.partialmethod(shut, kind="named")
+    ready = functools.partialmethod(shut, kind="opening")
+    end = functools.partialmethod(shut, kind="message")
 
     def send(self, i, j, m, g=1):
         check({1: max(i, j) >= self.nodes, 19: g != self.generation, 2: i == j, 9: m in self.used, 6: not self.pending(i)})
@@ -119,9 +103,10 @@ class World:
         del self.under[m]
         self.actions.add(("message", j, m))
 
-    def start(self):
-        since = self.since_start()
-        check({15: self.over, 13: since and ("judge",) not in since})
+    def since_start(self):
+        """Returns the steps since the last `start`, including it; an empty list if there was none."""
+        last = max((place for place, step in enumerate(self.list) if step[0] == "start"), default=len(self.list))
+        return self.list[last:]
 
     def wave(self):
         """Returns the steps of the open wave; an empty list if none is open."""
@@ -130,6 +115,10 @@ class World:
 
     def is_reached(self, i, wave):
         return bool(wave) and (i == 0 or ("down", i) in wave)
+
+    def start(self):
+        since = self.since_start()
+        check({15: self.over, 13: since and ("judge",) not in since})
 
     def down(self, i):
         wave = self.wave()
@@ -140,7 +129,7 @@ class World:
         is_left = any(("up", child) not in wave for child in (2 * i + 1, 2 * i + 2) if child < self.nodes)
         has_no_token = not self.is_reached(i, wave) or ("give", i) in wave or is_left
         check({1: i >= self.nodes, 15: self.over, 12: has_no_token, 11: self.pending(i)})
-        return "wave {} sent {} received {}".format(*self.sums(self.list + [("give", 0)])[-1]) if i == 0 else None
+        return "wave {} sent {} received {}".format(*self.sums([*self.list, ("give", 0)])[-1]) if i == 0 else None
 
     def up(self, i):
         wave = self.wave()
@@ -152,7 +141,7 @@ class World:
         for place, step in enumerate(steps):
             if step[0] == "start":
                 visits, number = {}, number + 1
-            if step[0] == "give":
+            elif step[0] == "give":
                 visits[step[1]] = place
                 if step[1] == 0:
                     before = [other[0] for node, visit in visits.items() for other in steps[:visit] if other[1:2] == (node,)]
@@ -180,8 +169,8 @@ def parsed(line, version, command):
     if judged or word not in COUNTS_OF[version] or line == "judge" and command == "audit":
         return (("judge",), judged[1]) if judged else None
     found = re.fullmatch(word + rf" {NUMBER}" * COUNTS_OF[version][word], line, re.ASCII)
-    numbers = tuple(map(int, found.groups())) if found else ()
-    return None if not found or word == "insert" and numbers[2] > 16 else ((word, *numbers), None)
+    is_step = found and not (word == "insert" and int(found[3]) > 16)
+    return ((word, *map(int, found.groups())), None) if is_step else None
 
 
 def read(text, command):
@@ -205,7 +194,8 @@ def simulated(nodes, steps):
     counts = [(world.pending(i), world.counted("send", i), world.counted("recv", i)) for i in range(nodes)]
     out += ["node {} pending {} sent {} received {}".format(i, *count) for i, count in enumerate(counts)]
     out += ["total pending {} sent {} received {} under {}".format(*map(sum, zip(*counts)), len(world.under))]
-    return "\n".join([*out, f"quiet {'yes' if world.is_quiet() else 'no'}", ""])
+    is_quiet = not world.actions and not world.under and all(life == "done" for life in world.life.values())
+    return "\n".join([*out, f"quiet {'yes' if is_quiet else 'no'}", ""])
 
 
 def audited(version, nodes, first, steps):

@@ -1,11 +1,13 @@
 """Runs the programs with pseudo-terminals as their standard error and standard input, and without."""
-import dataclasses
+import contextlib
+import io
 import json
 import os
 import pty
 import re
 import signal
 import subprocess
+import tempfile
 import threading
 import time
 
@@ -17,8 +19,6 @@ LINE = rb"\r[0-9,]+ of [0-9,]+ tasks(, [0-9,]+ of [0-9,]+ steps)?"
 # lines of progress, the last of them cleared
 PROGRESS = re.compile(rb"(" + LINE + rb")+\r\x1b\[K")
 END_OF_INPUT = b"\x04"
-# the seconds after which a run must have printed its progress
-PATIENCE = 120
 # a run of `tp` that takes over a second if it is stopped on its way
 LONG = ["run", "product:64:2:0", "--workers", "2", "--generations", "9"]
 # runs by kind: `reasons` has for each way to an error of `tp` the arguments, the input, the result, and the reason at a terminal, which
@@ -28,26 +28,7 @@ CASES = json.loads(text_of(f"{TOP}/tools/data/limits/terminal.json"))
 MOST_CELLS = 131_072
 
 
-class Terminal(threading.Thread):
-    """A pseudo-terminal, whose text it reads until no process has it open."""
-
-    def __init__(self):
-        super().__init__()
-        self.master, self.slave = pty.openpty()
-        self.text = b""
-
-    def run(self):
-        piece = b"first"
-        while piece:
-            try:
-                piece = os.read(self.master, 65_536)
-            except OSError:
-                break
-            self.text += piece
-        os.close(self.master)
-
-
-def pause(process, _):
+def pause(process):
     """Stops a process for a second once it has several threads."""
     while process.poll() is None and len(os.listdir(f"/proc/{process.pid}/task")) == 1:
         time.sleep(0.001)
@@ -57,41 +38,39 @@ def pause(process, _):
     process.send_signal(signal.SIGCONT)
 
 
-def kill_after_progress(process, terminal):
-    """Kills a process once it has printed its progress, or PATIENCE is over."""
-    last = time.monotonic() + PATIENCE
-    while not re.match(LINE, terminal.text) and time.monotonic() < last and process.poll() is None:
-        time.sleep(0.1)
-    process.kill()
-
-
-def run_at_terminal(command, stdin=os.devnull, is_typed=False, meanwhile=None):
-    """Runs a program with a terminal as its standard error. Its input is a file or a text, which may be typed at another terminal."""
-    terminal, (master, slave) = Terminal(), pty.openpty()
-    text = None if isinstance(stdin, str) else stdin
-    with open(stdin if text is None else os.devnull, "rb") as file:
-        source = slave if is_typed else file if text is None else subprocess.PIPE
-        process = subprocess.Popen(command, stdin=source, stdout=subprocess.PIPE, stderr=terminal.slave)
-    os.close(terminal.slave)
-    terminal.start()
-    if is_typed:
-        os.write(master, text + END_OF_INPUT)
-    if meanwhile:
-        meanwhile(process, terminal)
-    out, _ = process.communicate(None if is_typed else text)
-    terminal.join()
-    os.close(slave)
-    os.close(master)
-    return Result(running.status_of(process.returncode), out, terminal.text.replace(b"\r\n", b"\n"))
-
-
-def result_of(status, out, err):
-    return Result(status, out.encode(), err.encode())
+def run_at_terminal(command, stdin=os.devnull, is_typed=False, first=None, until=None):
+    """Runs a program with a terminal as its standard error. Its input is a file, or a text, which may be typed at another terminal. After
+    its start `first` is called, and it is killed once the terminal shows what `until` matches, or the time limit is over."""
+    (master, slave), (keyboard, typed), text = pty.openpty(), pty.openpty(), b""
+    with tempfile.TemporaryFile() as out, open(stdin, "rb") if isinstance(stdin, str) else tempfile.TemporaryFile() as source:
+        if isinstance(stdin, bytes) and not is_typed:
+            source.write(stdin)
+            source.seek(0)
+        process = subprocess.Popen(command, stdin=typed if is_typed else source, stdout=out, stderr=slave)
+        os.close(slave)
+        timer = threading.Timer(running.SECONDS, process.kill)
+        timer.start()
+        if is_typed:
+            os.write(keyboard, stdin + END_OF_INPUT)
+        if first:
+            first(process)
+        # (reading fails once no process has the terminal open)
+        with contextlib.suppress(OSError):
+            while piece := os.read(master, io.DEFAULT_BUFFER_SIZE):
+                text += piece
+                if until and re.match(until, text):
+                    process.kill()
+        status = running.status_of(process.wait())
+        timer.cancel()
+        for descriptor in (master, keyboard, typed):
+            os.close(descriptor)
+        out.seek(0)
+        return Result(status, out.read(), text.replace(b"\r\n", b"\n"))
 
 
 def judge(tally, command, expected, result):
     """Counts whether a result is the expected one; any progress that was cleared is left out."""
-    result = dataclasses.replace(result, err=PROGRESS.sub(b"", result.err))
+    result = result._replace(err=PROGRESS.sub(b"", result.err))
     tally.judge(result == expected, f"{command[1:]}: {result.description()}, expected {expected.description()}")
 
 
@@ -101,18 +80,17 @@ def reasons(tally, options, _):
     Output and status are the same. At a terminal a second line gives the reason of an error, if there is one, and the program
     announces that it reads from the terminal. A run of over a second prints its progress there, and clears it at its end.
     """
-    for arguments, text, *expected, reason in CASES["reasons"]:
-        command, expected = [options.tp, *arguments], result_of(*expected)
-        judge(tally, command, expected, running.run(command, text.encode()))
-        at_terminal = dataclasses.replace(expected, err=expected.err + reason.encode())
-        judge(tally, command, at_terminal, run_at_terminal(command, text.encode()))
-    piped, paused = running.run([options.tp, *LONG]), run_at_terminal([options.tp, *LONG], meanwhile=pause)
+    for arguments, text, status, out, err, reason in CASES["reasons"]:
+        command, text = [options.tp, *arguments], text.encode()
+        judge(tally, command, Result(status, out.encode(), err.encode()), running.run(command, text))
+        judge(tally, command, Result(status, out.encode(), (err + reason).encode()), run_at_terminal(command, text))
+    piped, paused = running.run([options.tp, *LONG]), run_at_terminal([options.tp, *LONG], first=pause)
     tally.judge(not piped.status and piped.out and not piped.err, f"a long run, piped: {piped.description()}")
     is_well = (paused.status, paused.out) == (0, piped.out) and PROGRESS.fullmatch(paused.err)
     tally.judge(is_well, f"a long run at a terminal: {paused.description()}")
     for name, text in ("sim", b"nodes 1\n"), ("audit", b"trace 1\nnodes 1\n"):
         command, announced = [options.tp, name], f"reads standard input: tp {name} < FILE\n"
-        expected = dataclasses.replace(running.run(command, text), err=announced.encode())
+        expected = running.run(command, text)._replace(err=announced.encode())
         judge(tally, command, expected, run_at_terminal(command, text, is_typed=True))
 
 
@@ -134,7 +112,7 @@ def progress(tally, options, folder):
     """
     write_inputs(folder)
     for name, arguments in CASES["endless"]:
-        result = run_at_terminal([options.samples, *arguments], f"{folder}/{name}", meanwhile=kill_after_progress)
+        result = run_at_terminal([options.samples, *arguments], f"{folder}/{name}", until=LINE)
         tally.judge(re.match(LINE, result.err), f"{arguments} printed no progress: {result.description()}")
     for name, arguments in CASES["ending"]:
         command, stdin = [options.samples, *arguments], f"{folder}/{name}"
@@ -146,9 +124,9 @@ def progress(tally, options, folder):
     for text, arguments, what, lines in CASES["typed"]:
         command, help_command, text = [options.samples, *arguments], [options.samples, arguments[0], "--help"], text.encode()
         piped, announced = running.run(command, text), f"Reading {what} from standard input up to Ctrl-D, {lines} < FILE\n"
-        judge(tally, command, dataclasses.replace(piped, err=announced.encode()), run_at_terminal(command, text, is_typed=True))
+        judge(tally, command, piped._replace(err=announced.encode()), run_at_terminal(command, text, is_typed=True))
         judge(tally, command, piped, run_at_terminal([*command, "--quiet"], text, is_typed=True))
         judge(tally, help_command, running.run(help_command), run_at_terminal(help_command, b"", is_typed=True))
-    for name, arguments, *expected in CASES["refused"]:
+    for name, arguments, status, out, err in CASES["refused"]:
         command = [options.samples, *arguments]
-        judge(tally, command, result_of(*expected), running.run(command, f"{folder}/{name}"))
+        judge(tally, command, Result(status, out.encode(), err.encode()), running.run(command, f"{folder}/{name}"))
