@@ -165,10 +165,7 @@ int main(int argc, char **argv) {
            " receipts after the end, %" PRIu64 " times too far apart, %" PRIu64 " messages LATE, %" PRIu64 " control messages LATE, %" PRIu64
            " times NOT_YET, %" PRIu64 " SILENT\n",
            how, n, epochs, runs, ends, early, after_the_end, far_apart, late_messages, late_controls, kept, silent);
-    free(process);
-    free(known);
-    free(messages);
-    free(controls);
+    free(process), free(known), free(messages), free(controls);
     if (early || after_the_end || far_apart || late_messages) return 1;
     return silent ? 2 : 0;
 }

@@ -217,15 +217,7 @@ int main(int argc, char **argv) {
     printf("%s: %" PRIu32 " processes, %" PRIu64 " runs, %" PRIu64 " waves, %" PRIu64 " control messages, at most %" PRIu64
            " waves after the end: %" PRIu64 " EARLY, %" PRIu64 " SILENT, %" PRIu64 " counted wrongly, %" PRIu64 " calls refused\n",
            NAMES[mode], n, runs, waves, sent, most_after, early, silent, wrong_counts, refused);
-    free(process);
-    free(work);
-    free(active);
-    free(place);
-    free(unreported);
-    free(knows);
-    free(has_ended);
-    free(control);
-    free(message);
+    free(process), free(work), free(active), free(place), free(unreported), free(knows), free(has_ended), free(control), free(message);
     if (early) return 1;
     if (silent && mode != LOSSY) return 2;
     if (wrong_counts && mode != LOSSY) return 3;
