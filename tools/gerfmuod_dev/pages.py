@@ -1,7 +1,7 @@
 """Tries the trace events and the page that `samples draw run` writes, and the times of runs.
 
-Has the program write 40 random runs as events. Each file has to be as the Trace Event Format says (event_format.py), its events have to be
-those of a second writer (trace_events.py), and each task, end of a message and wave of the trace has to have one. Then the programs run
+Has the program write 40 random runs as events. Each file has to be as the Trace Event Format says (event_format.py), and to have each
+task, end of a message and wave of the trace once, at the time of its line, and no other. Then the programs run
 with `--profile FILE`: each file has to have each task of the run once, in time, and counters that rise to the numbers of the run
 (run_profiles.py), and `tools/dev summary` has to find them. If Chromium is installed (`tools/page-packages` prints the packages), opens
 the page of a run of 100,000 events in it, zooms, moves, searches, and holds the pointer over a task, a message and a wave, in light and
@@ -10,7 +10,6 @@ all files (viewer.py). The last line is `N passed, M failed, K skipped`; the sta
 """
 import collections
 import io
-import json
 import random
 import re
 import tempfile
@@ -19,14 +18,14 @@ from . import event_format, repository, run_profiles, running, tries, viewer
 from .bench import inputs
 from .browser import Browser, is_here
 from .limits.random_texts import random_steps, sound_trace
-from .trace_events import events_of
 
 RUNS = 40
-PAGE, EMPTY = "page", "trace 1\nnodes 1\n"
+PAGE, LONG, EMPTY = "page", "long", "trace 1\nnodes 1\n"
 DATA = re.compile(r'(<script type="application/json" id="events">\n).*?(</script>)', re.S)
-LINES = 100_000
-# the category and the phase of what a line of a trace shows
-SHOWN = {"begin": ("task", "X"), "send": ("message", "s"), "recv": ("message", "f"), "give 0": ("wave", "i")}
+# the lines of the long trace, and of one that fits into what `rt try` takes of a program that is not built
+LINES, UNBUILT_LINES = 100_000, 4_000
+# for a line of a trace the phase of its event, its name, and which number of the line belongs to that
+SHOWN = {"begin": ("X", "task", 0), "send": ("s", "message", 2), "recv": ("f", "message", 1)}
 BOX = "(box => [box.left, box.top, box.right, box.bottom])(canvas.getBoundingClientRect())"
 
 
@@ -42,8 +41,15 @@ def traces():
     return found
 
 
+def long_trace():
+    """Returns a trace of all kinds of steps."""
+    text = io.StringIO()
+    inputs.write_all_steps(text, LINES if tries.is_built("samples") else UNBUILT_LINES, True)
+    return text.getvalue()
+
+
 def written(texts, folder):
-    """Has the program write each trace as events, one as a page, and the times of runs into a folder; returns what it printed of
+    """Has the program write each trace as events, an empty one as a page, and the times of runs into a folder; returns what it printed of
     each trace, and the results of all runs."""
     with tempfile.TemporaryDirectory() as cases:
         forms = {**dict.fromkeys(texts, "events"), PAGE: "html"}
@@ -55,22 +61,33 @@ def written(texts, folder):
     return {name: results[name][1] for name in forms if results.get(name, (None,))[0] == 0}, results
 
 
+def shown_in(trace):
+    """Yields the phase, the name and the time of each task, end of a message and wave of a trace."""
+    wave = 0
+    for time, line in enumerate(trace.splitlines()[2:], 1):
+        word, *numbers = line.split()
+        wave = 0 if word == "reopen" else wave + (line == "give 0")
+        if word in SHOWN:
+            phase, name, place = SHOWN[word]
+            yield phase, f"{name} {numbers[place]}", time
+        elif line == "give 0":
+            yield "i", f"wave {wave}", time
+
+
 def check_events(tally, texts, outputs):
     """Judges the events of each trace."""
-    total = collections.Counter()
+    total = 0
     for name, trace in texts.items():
-        lines = [line if line in SHOWN else line.split()[0] for line in trace.splitlines()]
-        shown = collections.Counter(SHOWN[line] for line in lines if line in SHOWN)
-        found, expected = json.loads(outputs.get(name, "null")) or {"traceEvents": []}, events_of(trace)
-        events = found["traceEvents"]
-        kinds = collections.Counter((event.get("cat"), event["ph"]) for event in events)
-        is_same = found.get("otherData") == expected["otherData"] and sorted(map(str, events)) == sorted(map(str, expected["traceEvents"]))
-        is_well = is_same and all(kinds[kind] == shown[kind] for kind in SHOWN.values())
-        tally.judge(is_well, f"{name}: other events than those of the second writer, which are {shown}, for this trace: {trace}")
-        faults = event_format.faults(outputs.get(name, ""))
+        text, expected = outputs.get(name, ""), collections.Counter(shown_in(trace))
+        faults = event_format.faults(text)
         tally.judge(not faults, f"{name}: not in the Trace Event Format: {faults[:3]}")
-        total += shown
-    print(f"{len(texts)} runs as events: {dict(total)}", flush=True)
+        events = event_format.Profile(text or '{"traceEvents": []}').events
+        shown = [(phase, event["name"], event["ts"]) for phase in "Xsfi" for event in events[phase]]
+        found = collections.Counter(key for key in shown if key[1].startswith(("task ", "message ", "wave ")))
+        differing = [*(expected - found), *(found - expected)]
+        tally.judge(not differing, f"{name}: {differing[:3]} differ from this trace: {trace}")
+        total += sum(expected.values())
+    print(f"{len(texts)} runs as events: {total} tasks, ends of messages and waves", flush=True)
 
 
 class Reader:
@@ -150,23 +167,19 @@ def texts_of(trace):
     yield f"wave {wave}", f"wave {wave}: {sent:,} sent, {received:,} received\nended at {end:,}"
 
 
-def open_page(browser, page, trace):
-    """Opens the page of a trace: a page with its events as the second writer writes them."""
+def open_page(browser, page, events):
+    """Opens the page of a run: a page with its events."""
     with tempfile.NamedTemporaryFile("w", suffix=".html") as file:
-        data = json.dumps(events_of(trace))
-        file.write(DATA.sub(lambda found: f"{found[1]}{data}\n{found[2]}", page))
+        file.write(DATA.sub(lambda found: f"{found[1]}{events}{found[2]}", page) if events else page)
         file.flush()
         browser.open(file.name)
 
 
-def check_page(tally, page, texts):
-    text = io.StringIO()
-    inputs.write_all_steps(text, LINES, True)
-    trace = text.getvalue()
+def check_page(tally, page, texts, trace, events_of_trace):
+    """Opens the pages of short runs and of a long one, and does with the last one what a reader does."""
     with Browser() as browser:
-        for short in (EMPTY, *texts):
-            open_page(browser, page, short)
-        open_page(browser, page, trace)
+        for events in ("", *texts, events_of_trace):
+            open_page(browser, page, events)
         reader = Reader(tally, browser)
         events = len(trace.splitlines()) - 2
         reader.zooms(events)
@@ -189,16 +202,15 @@ def run(options):
     del options
     repository.go_to_top()
     tally = running.Tally()
-    texts = traces()
+    texts, trace = traces(), long_trace()
     with tempfile.TemporaryDirectory() as folder:
-        outputs, results = written(texts, folder)
+        outputs, results = written({**texts, LONG: trace}, folder)
         check_events(tally, texts, outputs)
         profiles = run_profiles.check(tally, folder, results)
-    if PAGE not in outputs:
-        tally.fails("the program wrote no page")
-    elif is_here(tally, "the page"):
-        page = outputs.pop(PAGE)
-        check_page(tally, page, texts.values())
+    page, long_events = outputs.pop(PAGE, None), outputs.pop(LONG, None)
+    tally.judge(page and long_events, "the program wrote no page, or no events of a long trace")
+    if page and long_events and is_here(tally, "the page"):
+        check_page(tally, page, outputs.values(), trace, long_events)
         with Browser() as browser:
             viewer.check(tally, browser, {**outputs, **profiles})
     return tally.end()

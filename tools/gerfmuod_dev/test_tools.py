@@ -6,7 +6,7 @@ import shutil
 
 import pytest
 
-from . import checks, contracts, event_format, mutant_files, repository, running, summary, timeline, together, trace_events, tries
+from . import checks, contracts, event_format, mutant_files, pages, repository, running, summary, timeline, together, tries
 from .limits import random_texts, second_model, terminal, texts
 
 EVENTS = {"0-draw-a-run-as-events", "0-draw-two-generations-as-events", "0-draw-a-run-that-has-not-ended-as-events"}
@@ -30,13 +30,13 @@ def top():
 
 
 @pytest.mark.parametrize("name", EVENTS)
-def test_stored_events_are_those_of_the_second_writer(name):
+def test_stored_events_are_those_of_their_traces(name):
     text = tries.stored_outputs(f"{tries.OUTPUTS}/samples")[name]
-    trace = repository.text_of(f"{tries.STATUSES}/samples/{name}")
-    found, expected = json.loads(text), trace_events.events_of(trace)
-    assert found["otherData"] == expected["otherData"]
-    assert sorted(map(str, found["traceEvents"])) == sorted(map(str, expected["traceEvents"]))
-    assert not event_format.faults(text)
+    trace, tally = repository.text_of(f"{tries.STATUSES}/samples/{name}"), running.Tally()
+    pages.check_events(tally, {"": trace}, {"": text})
+    assert (tally.passed, tally.failed) == (2, 0)
+    pages.check_events(tally, {"": trace.replace("begin ", "supply ", 1)}, {"": text})
+    assert (tally.passed, tally.failed) == (3, 1)
 
 
 def test_each_fault_of_events_is_found():
