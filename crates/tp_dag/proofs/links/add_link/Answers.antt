@@ -1,5 +1,4 @@
-use Rattle.tp_dag.proofs.Words.{arith, not}
-use Rattle.tp_dag.proofs.Lemmas.{link_places, link_few, inputs_few, linked_one, bit_few}
+use Rattle.tp_dag.proofs.Lemmas.{arith, not, link_places, link_few, inputs_few, linked_one, bit_few}
 use Rattle.tp_dag.proofs.links.add_link.Goals as goal
 
 pub at-to-requires : goal.at-to-requires

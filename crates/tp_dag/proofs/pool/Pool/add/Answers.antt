@@ -1,5 +1,5 @@
-use Rattle.tp_dag.proofs.Words.{◌∙◌, List, map, length, arith, refl, ap, Event, entry_of}
-use Rattle.tp_dag.proofs.Lemmas.{both_true, room_same, room_added, fits_more, settled_more, new_task, spawn_may}
+use Rattle.tp_dag.proofs.Lemmas.{◌∙◌, List, map, length, arith, refl, ap, Event, entry_of, both_true, room_same, room_added, fits_more}
+use Rattle.tp_dag.proofs.Lemmas.{settled_more, new_task, spawn_may}
 use Rattle.tp_dag.proofs.pool.Pool.add.Goals as goal
 
 pub add_links-requires : goal.add_links-requires

@@ -1,5 +1,5 @@
-use Rattle.tp_dag.proofs.Words.{◌∙◌, ◌+◌, arith, refl, ap, Task, Entry, one_more}
-use Rattle.tp_dag.proofs.Lemmas.{link_few, room_set, place_at, seen_at, facts_set, becomes_at, fresh_keeps}
+use Rattle.tp_dag.proofs.Lemmas.{◌∙◌, ◌+◌, arith, refl, ap, Task, Entry, one_more, link_few, room_set, place_at, seen_at, facts_set}
+use Rattle.tp_dag.proofs.Lemmas.{becomes_at, fresh_keeps}
 use Rattle.tp_dag.proofs.pool.Pool.add_outside.Goals as goal
 
 pub at-was-requires : goal.at-was-requires

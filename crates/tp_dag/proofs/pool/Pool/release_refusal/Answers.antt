@@ -1,5 +1,4 @@
-use Rattle.tp_dag.proofs.Words.{◌≤◌, arith, sym, nat_tests}
-use Rattle.tp_dag.proofs.Lemmas.{awaits_if}
+use Rattle.tp_dag.proofs.Lemmas.{◌≤◌, arith, sym, nat_tests, awaits_if}
 use Rattle.tp_dag.proofs.pool.Pool.release_refusal.Goals as goal
 
 pub returns-clause-awaits : goal.returns-clause-awaits

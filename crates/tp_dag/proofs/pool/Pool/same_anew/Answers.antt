@@ -1,5 +1,4 @@
-use Rattle.tp_dag.proofs.Words.{◌∙◌}
-use Rattle.tp_dag.proofs.Lemmas.{empty_is}
+use Rattle.tp_dag.proofs.Lemmas.{◌∙◌, empty_is}
 use Rattle.tp_dag.proofs.pool.Pool.same_anew.Goals as goal
 
 pub returns : goal.returns

@@ -1,5 +1,5 @@
-use Rattle.tp_dag.proofs.Words.{◌-◌, arith, refl, Task, one_less}
-use Rattle.tp_dag.proofs.Lemmas.{room_set, place_at, await_at, awaits_fresh, facts_set, becomes_at, fresh_keeps}
+use Rattle.tp_dag.proofs.Lemmas.{◌-◌, arith, refl, Task, one_less, room_set, place_at, await_at, awaits_fresh, facts_set, becomes_at}
+use Rattle.tp_dag.proofs.Lemmas.{fresh_keeps}
 use Rattle.tp_dag.proofs.pool.Pool.take_outside.Goals as goal
 
 pub at-was-requires : goal.at-was-requires

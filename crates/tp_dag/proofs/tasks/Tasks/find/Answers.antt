@@ -1,5 +1,4 @@
-use Rattle.tp_dag.proofs.Words.{◌≡◌, ◌≢◌, ◌∙◌, arith, sym, nat_tests, NoneReady}
-use Rattle.tp_dag.proofs.Counted.{first_of, found_of, none_more}
+use Rattle.tp_dag.proofs.Lemmas.{◌≡◌, ◌≢◌, ◌∙◌, arith, sym, nat_tests, NoneReady, first_of, found_of, none_more}
 use Rattle.tp_dag.proofs.tasks.Tasks.find.Goals as goal
 
 pub returns-then-ready_of-ne0-clause-some : goal.returns-then-ready_of-ne0-clause-some
