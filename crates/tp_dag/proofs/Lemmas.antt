@@ -148,22 +148,13 @@ module _ (a : PoolState) (c : IsConsistent a) (runs : (t : ℕ) → IsAt stage.R
     inputs = λ s r. before s (c.lower r.0 _ r.1).0;
   }))
 
-  below : (n t : ℕ) → t < n → t < length a.tasks → IsAt stage.Done t a
-  below zero t l inside = absurd (omega (arith, l))
-  below (suc n) t l inside = let x = at_below a.tasks t inside in record {
-    task = x.0;
-    is = x.1;
-    stage = by_stage t x.0 x.1 (λ u m. below n u (omega (arith, l, m)) (omega (arith, m, inside))) x.0.stage refl;
-  }
-
-  over : IsOver a
-  over t x is = by_stage t x is (λ u m. below t u m (inside u t x m is)) x.stage refl
-    where
-      inside : (u t : ℕ) (x : Entry) → u < t → slice_get a.tasks t ≡ Some x → u < length a.tasks
-      inside u t x m is = let l = slice_get_within a.tasks t x is in omega (arith, m, l)
+  below : (n t : ℕ) (x : Entry) → t < n → slice_get a.tasks t ≡ Some x → x.stage ≡ stage.Done
+  below zero t x l is = absurd (omega (arith, l))
+  below (suc n) t x l is = by_stage t x is (λ u m. let w = slice_get_within a.tasks t x is in let y = at_below a.tasks u (omega (arith, m, w)) in
+      record { task = y.0; is = y.1; stage = below n u y.0 (omega (arith, l, m)) y.1 }) x.stage refl
 
 pub never_silent : NeverSilent
-never_silent a c runs awaited ready = over a c runs awaited ready
+never_silent a c runs awaited ready t x is = below a c runs awaited ready (t + 1) t x (omega arith) is
 
 -- ==== Sequences of calls: how far a task is, by the calls of this run.
 abbrev stage_begun : Stage → ℕ
@@ -179,13 +170,7 @@ begun_at (Some x) = stage_begun x.stage
 abbrev ended_at : Option Entry → ℕ
 ended_at o = one (is_done_at o)
 
--- the numbers of dispatches, of reports, of releases, and of inputs from outside that were announced
-record Follows (o : Option Entry) (dispatches reports releases announced : ℕ) : Type 0 where
-  pub begun : begun_at o ≡ dispatches
-  pub ended : ended_at o ≡ reports
-  pub outside : outside_at o + releases ≡ announced
-
--- what a call changes by these numbers
+-- what calls change: the numbers of dispatches, of reports, of releases, and of inputs from outside that were announced
 record Moves (o p : Option Entry) (dispatches reports releases announced : ℕ) : Type 0 where
   pub begun : begun_at p ≡ begun_at o + dispatches
   pub ended : ended_at p ≡ ended_at o + reports
@@ -270,11 +255,11 @@ step t (Reports u) a b l e = wrote t (Reports u) a b l.was _ l.is (ap tasks_of l
 step t Repeats a b l e = cc
 
 abbrev FollowsCalls : ℕ → List Call → PoolState → Type 0
-FollowsCalls t calls a = Follows (slice_get a.tasks t) (times dispatched t calls) (times reported t calls) (times released t calls) (times expected t calls)
+FollowsCalls t calls a = Moves None (slice_get a.tasks t) (times dispatched t calls) (times reported t calls) (times released t calls) (times expected t calls)
 
 follows : (t : ℕ) (calls : List Call) (a : PoolState) → Lead calls a → FollowsCalls t calls a
-follows t [] a h = subst (λ (xs : List Entry). Follows (slice_get xs t) 0 0 0 0) (sym h) (record { begun = refl; ended = refl; outside = refl })
-follows t (c ∷ calls) b h = elim (is_repeats c) as (λ r. is_repeats c ≡ r → Follows (slice_get b.tasks t)
+follows t [] a h = subst (λ (xs : List Entry). Moves None (slice_get xs t) 0 0 0 0) (sym h) (record { begun = refl; ended = refl; outside = refl })
+follows t (c ∷ calls) b h = elim (is_repeats c) as (λ r. is_repeats c ≡ r → Moves None (slice_get b.tasks t)
     (if r then 0 else times dispatched t calls + weight dispatched t c) (if r then 0 else times reported t calls + weight reported t c)
     (if r then 0 else times released t calls + weight released t c) (if r then 0 else times expected t calls + weight expected t c)) [
       | true ↦ (λ e. again c h.0 b h.1.1 e)
@@ -286,13 +271,13 @@ follows t (c ∷ calls) b h = elim (is_repeats c) as (λ r. is_repeats c ≡ r �
     ] refl
   where
     fresh : (xs : List Entry) (k : ℕ)
-        → Follows (slice_get (map (λ (x : Entry). record { class = x.class; stage = stage.Fresh; outside = 0 }) xs) k) 0 0 0 0
+        → Moves None (slice_get (map (λ (x : Entry). record { class = x.class; stage = stage.Fresh; outside = 0 }) xs) k) 0 0 0 0
     fresh [] k = record { begun = refl; ended = refl; outside = refl }
     fresh (x ∷ xs) zero = record { begun = refl; ended = refl; outside = refl }
     fresh (x ∷ xs) (suc k) = fresh xs k
 
-    again : (c : Call) (a b : PoolState) → Leads c a b → is_repeats c ≡ true → Follows (slice_get b.tasks t) 0 0 0 0
-    again Repeats a b l e = subst (λ (xs : List Entry). Follows (slice_get xs t) 0 0 0 0) (sym (ap tasks_of l)) (fresh a.tasks t)
+    again : (c : Call) (a b : PoolState) → Leads c a b → is_repeats c ≡ true → Moves None (slice_get b.tasks t) 0 0 0 0
+    again Repeats a b l e = subst (λ (xs : List Entry). Moves None (slice_get xs t) 0 0 0 0) (sym (ap tasks_of l)) (fresh a.tasks t)
     again _ a b l e = cc
 
 -- ---- the theorems

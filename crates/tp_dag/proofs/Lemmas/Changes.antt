@@ -200,12 +200,13 @@ facts_new {ts} {ls} f = record {
     free t i = and_not (i.target == t) _ (new_at ts i.source)
 
 pub room_new : {b : Bool} (ts : List Task) {e c : ℕ} → e ≡ 0 → HasRoom false b (map entry_of (map as_new ts)) e c
-room_new ts z = record { fits = λ h. cc; room = λ h. cc; none = λ h. z; fresh = λ h t x is. all_new ts t x is }
-  where
-    all_new : (xs : List Task) (t : ℕ) (x : Entry) → slice_get (map entry_of (map as_new xs)) t ≡ Some x → x.stage ≡ stage.Fresh
-    all_new [] t x is = cc
-    all_new (y ∷ ys) zero x is = sym (ap (λ (v : Entry). v.stage) (some_same (entry_of (as_new y)) x is))
-    all_new (y ∷ ys) (suc t) x is = all_new ys t x is
+room_new ts z = record {
+  fits = λ h. cc;
+  room = λ h. cc;
+  none = λ h. z;
+  fresh = λ h t x is. let g = map_got entry_of (map as_new ts) t x is in let n = map_got as_new ts t g.0 g.1 in
+      sym (ap (λ (v : Entry). v.stage) g.2) ∙ sym (ap (λ (v : Task). v.stage) n.2);
+}
 
 -- a pool with these tasks, which was not started, has no events
 abbrev pub anew : PoolState → Bool → List Task → PoolState

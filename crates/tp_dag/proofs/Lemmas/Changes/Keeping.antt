@@ -87,18 +87,15 @@ facts_push {tasks} {links} y f class outside missing fresh bare none = record {
           omega (arith, z, missing));
       inputs = bare ∙ sym (count_zero (is_into u) links
           (λ k i h. let w = (f.linked k i h).within in ap one (ne_eqb i.target u (λ n. omega (arith, w, n, e)))));
-      outputs = none ∙ sym (no_output (length links));
+      outputs = none ∙ sym (no_output (newest u links (length links)) refl);
       begun = fresh_keeps fresh;
     }
       where
-        no_output : (n : ℕ) → newest u links n ≡ 0
-        no_output zero = refl
-        no_output (suc n) = by_link (slice_get links n) refl (no_output n)
-          where
-            by_link : (o : Option Link) → slice_get links n ≡ o → newest u links n ≡ 0 → newest u links (suc n) ≡ 0
-            by_link None h r = rw h r
-            by_link (Some i) h r = let p = f.linked n i h in let b = p.before in let w = p.within in
-                rw h (rw (ne_eqb i.source u (λ m. omega (arith, b, w, m, e))) r)
+        no_output : (m : ℕ) → newest u links (length links) ≡ m → newest u links (length links) ≡ 0
+        no_output zero h = h
+        no_output (suc k) h = let w = newest_at u links (length links) k h in let g = at_below links k w.within in
+            let q = eqb-true g.0.source u (sym (ap (is_of u) g.1) ∙ w.from) in let p = f.linked k g.0 g.1 in
+            let b = p.before in let v = p.within in absurd (omega (arith, b, v, q, e))
 
 -- ==== Room for the events to come, when a task is written or added
 to_come_set : (xs : List Entry) (t : ℕ) (x y : Entry) → slice_get xs t ≡ Some x
@@ -285,12 +282,7 @@ test_ready a {ts} {ls} t x f is = ap (is_ready_entry (shown a ts ls) t) (map_get
     lacks n k o g e h = grind (arith, nat_tests, e, h)
 
 pub test_none : (a : PoolState) (ts : List Task) (ls : List Link) (t : ℕ) → slice_get ts t ≡ None → is_ready_now (shown a ts ls) t ≡ false
-test_none a ts ls t h = ap (is_ready_entry (shown a ts ls) t) (map_none ts t h)
-  where
-    map_none : (xs : List Task) (k : ℕ) → slice_get xs k ≡ None → slice_get (map entry_of xs) k ≡ None
-    map_none [] k e = refl
-    map_none (x ∷ xs) zero e = cc
-    map_none (x ∷ xs) (suc k) e = map_none xs k e
+test_none a ts ls t h = ap (is_ready_entry (shown a ts ls) t) (slice_get-map entry_of ts t ∙ ap (option_map entry_of) h)
 
 -- ---- the number of ready tasks
 by_class : (k : ℕ) (b : Bool) → k < 4 → one b ≡ one ((k == 0) && b) + one ((k == 1) && b) + one ((k == 2) && b) + one ((k == 3) && b)

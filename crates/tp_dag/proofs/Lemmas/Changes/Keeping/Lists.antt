@@ -27,13 +27,6 @@ set_there (z ∷ xs) zero (suc k) y o = refl
 set_there (z ∷ xs) (suc i) zero y o = refl
 set_there (z ∷ xs) (suc i) (suc k) y o = set_there xs i k y (λ h. o (ap suc h))
 
-pub last_cases : {A : Type 0} (xs : List A) (k : ℕ) (x y : A) → slice_get (xs ++ y ∷ []) k ≡ Some x
-    → (slice_get xs k ≡ Some x) ⊎ ((k ≡ length xs) × (x ≡ y))
-last_cases [] zero x y e = inr (refl, cc)
-last_cases [] (suc k) x y e = inl e
-last_cases (z ∷ xs) zero x y e = inl e
-last_cases (z ∷ xs) (suc k) x y e = elim (last_cases xs k x y e) [ inl h ↦ inl h | inr h ↦ inr (ap suc h.0, h.1) ]
-
 -- the place that is added, and the others
 pub get_push : {A : Type 0} (xs : List A) (k : ℕ) (y : A)
     → ((k ≢ length xs) × (slice_get (xs ++ y ∷ []) k ≡ slice_get xs k)) ⊎ ((k ≡ length xs) × (slice_get (xs ++ y ∷ []) k ≡ Some y))
@@ -48,6 +41,11 @@ get_push (z ∷ xs) (suc k) y = elim (get_push xs k y) [
 pub some_same : {A : Type 0} (x y : A) → Some x ≡ Some y → x ≡ y
 some_same x y e = cc
 
+pub last_cases : {A : Type 0} (xs : List A) (k : ℕ) (x y : A) → slice_get (xs ++ y ∷ []) k ≡ Some x
+    → (slice_get xs k ≡ Some x) ⊎ ((k ≡ length xs) × (x ≡ y))
+last_cases xs k x y e =
+    elim (get_push xs k y) [ inl h ↦ inl (sym h.1 ∙ e) | inr h ↦ inr (h.0, some_same x y (sym e ∙ h.1)) ]
+
 pub at_below : {A : Type 0} (xs : List A) (k : ℕ) → k < length xs → (x : A) × (slice_get xs k ≡ Some x)
 at_below [] k l = absurd (omega (arith, l))
 at_below (x ∷ xs) zero l = (x, refl)
@@ -55,9 +53,7 @@ at_below (x ∷ xs) (suc k) l = at_below xs k (omega (arith, l))
 
 -- ---- what a function makes of a list
 pub map_get : {A B : Type 0} (f : A → B) (xs : List A) (k : ℕ) (x : A) → slice_get xs k ≡ Some x → slice_get (map f xs) k ≡ Some (f x)
-map_get f [] k x e = cc
-map_get f (z ∷ xs) zero x e = (let same : z ≡ x = cc in ap (λ y. Some (f y)) same)
-map_get f (z ∷ xs) (suc k) x e = map_get f xs k x e
+map_get f xs k x e = slice_get-map f xs k ∙ ap (option_map f) e
 
 pub map_got : {A B : Type 0} (f : A → B) (xs : List A) (k : ℕ) (y : B) → slice_get (map f xs) k ≡ Some y
     → (x : A) × (slice_get xs k ≡ Some x) × (f x ≡ y)

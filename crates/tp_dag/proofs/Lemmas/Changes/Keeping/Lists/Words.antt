@@ -9,9 +9,9 @@ pub use Rattle.std.proofs.lemmas.Grind.{common_steps}
 pub use Rattle.std.proofs.lemmas.List.{get_or-set_same, get_or-set_other, length_push, append-nil, length-map, map-append, map-set, take_all, length-append, take-append-drop}
 pub use Rattle.std.proofs.lemmas.List.{drop_all}
 pub use Rattle.std.proofs.lemmas.List.Edits.{map_over_more}
-pub use Rattle.std.proofs.lemmas.Option.{slice_get_within, slice_get_past, slice_get-get_or, get_or_from_slice_get}
+pub use Rattle.std.proofs.lemmas.Option.{slice_get_within, slice_get_past, slice_get-get_or, get_or_from_slice_get, slice_get-map}
 pub use Rattle.std.specs.List.{slice_index_or, list_all}
-pub use Rattle.std.specs.Option.{is_some}
+pub use Rattle.std.specs.Option.{is_some, option_map}
 pub use Rattle.std.specs.Prelude.{slice_get, ◌&&◌, not, ◌==◌, if◌then◌else◌, ◌||◌, nat_lt}
 pub use Rattle.std.specs.Vec.{vec_capacity}
 pub use Rattle.tp_base.specs.declared.limits.TheConstants.{MAX_STEPS}
