@@ -10,6 +10,7 @@ use crate::queues::Queues;
 use crate::tasks::Tasks;
 
 /// Lets task `target` read what task `source` makes.
+#[tactic(auto, using(crate::proofs::Lemmas::link_places, crate::proofs::Lemmas::link_few, crate::proofs::Lemmas::inputs_few))]
 pub(crate) fn add_link(tasks: &mut Tasks, links: &mut Vec<Link>, source: u32, target: u32)
     requires { MayLink target (source ∷ []) tasks.old links.old.items (vec_capacity links.old) }
     ensures linked { Linked target (source ∷ []) tasks.old tasks.new links.old.items links.new.items }

@@ -91,6 +91,7 @@ impl Tasks {
 
     /// Returns the number of ready tasks of a class.
     #[inline]
+    #[tactic(auto, using(crate::proofs::Lemmas::ready_few))]
     pub(crate) fn ready_of(&self, class: u8) -> u32
         requires { class < 4 }
         ensures count { result ≡ count_where (is_ready class) self.now }
@@ -101,6 +102,7 @@ impl Tasks {
 
     /// Returns the number of tasks that are not done.
     #[inline]
+    #[tactic(auto, using(crate::proofs::Lemmas::tally_few))]
     pub(crate) fn left(&self) -> u32
         ensures count { result ≡ count_where is_unfinished (map entry_of self.now) }
         ensures few { result ≤ MAX_TASKS }

@@ -3,10 +3,6 @@ pub mod Keeping
 pub use Keeping.*
 
 -- ==== What a contract says of a task, and what is stored of it.
-pub place_at : (p : Inside) {now : PoolState} (t : ℕ) (e : Entry) → state_of p ≡ now → slice_get now.tasks t ≡ Some e → t < length p.tasks
-place_at p t e same is = let l = slice_get_within (map entry_of p.tasks) t e (ap (λ (a : PoolState). slice_get a.tasks t) same ∙ is) in
-    let n = length-map p.tasks entry_of in omega (arith, l, n)
-
 pub seen_at : (p : Inside) {now : PoolState} (t : ℕ) (x : Task) (e : Entry) → state_of p ≡ now → slice_get now.tasks t ≡ Some e
     → slice_get p.tasks t ≡ Some x → entry_of x ≡ e
 seen_at p t x e same is h = some_same (entry_of x) e (sym (map_get entry_of p.tasks t x h)
@@ -236,10 +232,6 @@ pub record Passing (s : ℕ) (first ts : List Task) (ls : List Link) (left : ℕ
   pub facts : Owing (owed s ls seen) ts ls
   pub same : map entry_of ts ≡ map entry_of first
 
-pub passing_first : {ts : List Task} {ls : List Link} (s outputs : ℕ) → outputs ≡ newest s ls (length ls)
-    → Owing (owed s ls (length ls)) ts ls → Passing s ts ts ls outputs
-passing_first {ts} {ls} s outputs e f = record { seen = length ls; few = omega arith; place = e; facts = f; same = refl }
-
 -- all is passed on
 pub passed_all : {first ts : List Task} {ls : List Link} {s left : ℕ} → Passing s first ts ls left → left ≡ 0 → Facts ts ls
 passed_all {first} {ts} {ls} {s} p z = record {
@@ -464,10 +456,6 @@ link_few {ts} {ls} n x f is = let c = f.counted n x is in let m = c.missing in l
 pub inputs_few : {ts : List Task} {ls : List Link} (n : ℕ) (x : Task) → Facts ts ls → slice_get ts n ≡ Some x → x.inputs ≤ MAX_INPUTS
 inputs_few {ts} {ls} n x f is =
     let m = (f.counted n x is).inputs in let l = f.few_links in let k = count_few (is_into n) ls in omega (arith, m, l, k)
-
-pub bit_few : (b : Bool) → (if b then 1 else 0) ≤ 1
-bit_few true = omega arith
-bit_few false = omega arith
 
 one_if : (b : Bool) → (if b then 1 else 0) ≡ one b
 one_if true = refl

@@ -179,6 +179,7 @@ impl Pool {
     }
 
     // the first check of `release` that holds
+    #[tactic(auto, using(crate::proofs::Lemmas::awaits_if))]
     fn release_refusal(&self, task: u32) -> Option<Refusal>
         ensures refusal { result ≡ first_refusal (release_checks self.now task) }
         ensures awaits { IfNone result (Awaits task self.now) }

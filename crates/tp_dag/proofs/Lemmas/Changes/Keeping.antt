@@ -183,15 +183,6 @@ fits_more p {now} same h st tr =
     right_false true b x y = x
     right_false false b x y = cc
 
--- ---- a pool that was not started has not grown
-pub settled_more : {g s : Bool} (h : Bool) → (IsFalse s → IsFalse g) → h ≡ (g || s) → IsFalse s → IsFalse h
-settled_more {g} {s} h i e f = e ∙ neither g s (i f) f
-  where
-    neither : (a b : Bool) → IsFalse a → IsFalse b → IsFalse (a || b)
-    neither false false x y = refl
-    neither true _ x y = cc
-    neither false true x y = cc
-
 -- ==== The test of a ready task: it says what the relation says, and what the pool stores of a task decides it.
 pub fresh_stage : (s : Stage) → IsTrue (is_fresh s) → s ≡ stage.Fresh
 fresh_stage stage.Fresh h = refl

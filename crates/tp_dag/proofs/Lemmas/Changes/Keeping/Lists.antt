@@ -324,18 +324,9 @@ push_classes ts y h l u z g = elim (last_cases ts u z y g) [
 abbrev pub reset_to : ℕ → List Task → List Task
 reset_to n ts = map as_new (take n ts) ++ drop n ts
 
-pub reset_long : {ts : List Task} (first : List Task) (n : ℕ) → ts ≡ reset_to n first → length ts ≡ length first
-reset_long {ts} first n e = let a = ap (λ (xs : List Task). length xs) e in let b = length-append (map as_new (take n first)) (drop n first) in
-    let c = length-map (take n first) as_new in let d = length-append (take n first) (drop n first) in
-    let f = ap (λ (xs : List Task). length xs) (take-append-drop n first) in omega (arith, a, b, c, d, f)
-
 pub reset_at : {ts : List Task} (first : List Task) (n : ℕ) (x : Task) → ts ≡ reset_to n first → n < length first → slice_get ts n ≡ Some x
     → set ts n (as_new x) ≡ reset_to (n + 1) first
 reset_at {ts} first n x e l is = map_over_more as_new first ts n x l e (sym (get_or_from_slice_get ts n x x is))
-
-pub reset_all : {ts : List Task} (first : List Task) (n : ℕ) → ts ≡ reset_to n first → length first ≤ n → ts ≡ map as_new first
-reset_all first n e l = e ∙ (ap (λ (xs : List Task). xs ++ drop n first) (ap (map as_new) (take_all n first l))
-    ∙ (ap (λ (xs : List Task). map as_new first ++ xs) (drop_all n first l) ∙ append-nil (map as_new first)))
 
 -- the numbers of these items are right
 pub counted_items : {ts : List Task} (p : TasksInside) → p.items.items ≡ ts → length ts ≤ MAX_TASKS

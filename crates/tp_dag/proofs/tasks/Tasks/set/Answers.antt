@@ -2,10 +2,6 @@ use Rattle.tp_dag.proofs.Lemmas.{arith, ap, refl, length-set, not, Task, is_unfi
 use Rattle.tp_dag.proofs.Lemmas.{ready_set, tally_set, set_classes, counted_items, read_at}
 use Rattle.tp_dag.proofs.tasks.Tasks.set.Goals as goal
 
-pub bounds-self-inside-class-2 : goal.bounds-self-inside-class-2
-bounds-self-inside-class-2 c = let x : Task = c.index-was.result.now in
-    c.self.invariant.classes c.args.number x (read_at c.args.number x c.self.view_is c.requires c.index-was.ensures).0
-
 pub index_mut-requires : goal.index_mut-requires
 index_mut-requires c = let x : Task = c.index-was.result.now in
     let l = slice_get_within c.self.inside.items.items c.args.number x (read_at c.args.number x c.self.view_is c.requires c.index-was.ensures).0 in
