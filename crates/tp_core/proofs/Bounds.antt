@@ -1,17 +1,37 @@
--- No counter of a core overflows, or falls below 0.
-use Rattle.tp_core.proofs.Words.{ℕ, zero, suc, ◌+◌, ◌≡◌, ◌<◌, ◌≤◌, List, [], ◌∷◌, Bool, true, Some, length, refl, ap, ◌∙◌, arith, zero-le}
-use Rattle.tp_core.proofs.Words.{nat_tests, not, slice_index_or, Step, MAX_STEPS, MAX_NODES, count, is_send_of, is_recv_at, Inside, NodeId}
-use Rattle.tp_core.proofs.Words.{Held, Life, NodeNumbers, present, World, Task, Action, Kind, OfMessage, is_under_way, is_action}
-use Rattle.tp_core.proofs.Words.{is_message, is_open, is_done, is_at, is_unfinished_at, how_many, openings, pending, with_life, without}
-use Rattle.tp_core.proofs.Words.{after, world, world_of, accepted, IsKept, all_left, is_kept_open, lookup}
-use Rattle.tp_core.proofs.Counting.{active_home, active_open, some_message}
-use Rattle.tp_core.proofs.Sets.{lists_are_sets}
+-- What the tables of a core imply for its world; and no counter of a core overflows, or falls below 0.
+use Rattle.tp_core.proofs.Words.{ℕ, ◌≡◌, ◌<◌, Option, Some, None, ap, ◌∙◌, arith, is_some, ◌==◌, unwrap_or, find, option_map, MAX_NODES}
+use Rattle.tp_core.proofs.Words.{Inside, Held, Task, life_of, home_of, lookup, present, world_of, accepted, held, IsKept, zero, suc, ◌+◌}
+use Rattle.tp_core.proofs.Words.{◌≤◌, List, [], ◌∷◌, Bool, true, length, refl, zero-le, nat_tests, not, slice_index_or, Step, MAX_STEPS}
+use Rattle.tp_core.proofs.Words.{count, is_send_of, is_recv_at, NodeId, Life, NodeNumbers, World, Action, Kind, OfMessage, is_under_way}
+use Rattle.tp_core.proofs.Words.{is_action, is_message, is_open, is_done, is_at, is_unfinished_at, how_many, openings, pending, with_life}
+use Rattle.tp_core.proofs.Words.{without, after, world, all_left, is_kept_open}
+use Rattle.tp_core.proofs.Counting.{home_inside, active_home, active_open, some_message}
+use Rattle.tp_core.proofs.Tables.{lists_are_sets}
 use Rattle.tp_core.proofs.Keeping.{zeros}
-use Rattle.tp_core.proofs.Reading.{Lives}
 use Rattle.tp_core.proofs.Generations.{length-present}
 use Rattle.tp_core.specs.declared.posted.Stage.TheVariants as stage
 use Rattle.tp_core.specs.declared.life.Life.TheVariants as life
 
+-- a task that is in the table
+pub record Lives (c : Inside) (t : ℕ) (h : Held) : Type 0 where
+  pub life : life_of t (world_of (accepted c)) ≡ Some h.life
+  pub home : home_of t (world_of (accepted c)) ≡ h.home.0
+  pub inside : h.home.0 < MAX_NODES
+
+of_held : (o : Option Task) (h : Held) → Some h ≡ option_map held o
+    → (option_map (λ x. x.life) o ≡ Some h.life) × (unwrap_or (option_map (λ x. x.home) o) 0 ≡ h.home.0)
+of_held None h e = cc
+of_held (Some x) h e = let same : held x ≡ h = cc in (ap (λ (k : Held). Some k.life) same, ap (λ (k : Held). k.home.0) same)
+
+pub lives : {c : Inside} → IsKept c → (t : ℕ) (h : Held) → Some h ≡ lookup c.tasks t → Lives c t h
+lives {c} agree t h e =
+    let both = of_held (find (λ x. x.number == t) (world_of (accepted c)).tasks) h (e ∙ agree.tasks.found t) in
+    let below = home_inside c.nodes (present (accepted c).steps) agree.is_run t (ap is_some both.0) in
+    let few = agree.few_nodes in
+    let same = both.1 in
+    record { life = both.0; home = both.1; inside = omega arith }
+
+-- ==== No counter of a core overflows, or falls below 0.
 pub length-openings : (n : ℕ) → length (openings n) ≡ n
 length-openings zero = refl
 length-openings (suc n) = grind (arith, length-openings n)

@@ -1,15 +1,92 @@
--- Safety: the detector is never early. From the end of the wave that a judgement names on, the pool was quiet.
-use Rattle.tp_core.proofs.Words.{ℕ, suc, ◌+◌, ◌≡◌, ◌<◌, ◌≤◌, List, [], ◌∷◌, ◌++◌, Bool, true, false, Option, Some, None, length, refl, ap}
-use Rattle.tp_core.proofs.Words.{sym, ◌∙◌, inl, inr, arith, append_assoc, cases_lt, not, list_any, Step, Insert, Give, Judge, before, any}
-use Rattle.tp_core.proofs.Words.{count, is_give, judgement, visited_at, in_wave, has_ended, History, before-all, before-past}
-use Rattle.tp_core.proofs.Words.{ended_law, Life, Task, is_done, life_of, IsQuiet, world, history, node_of, IsLawfulRun, is_insert_of}
-use Rattle.tp_core.proofs.Words.{HasRunOnce, IsOverFrom, IsNeverEarly}
-use Rattle.tp_core.proofs.Counting.{life_in, steps_of-history, is_run}
+-- In a generation each task is inserted, begun and done at most once; the detector is never early; and control steps lead from a quiet world
+-- to the detection of termination.
+use Rattle.tp_core.proofs.Words.{Option, Bool, ◌<◌, ℕ, ◌-◌, ◌≡◌, List, [], ◌∷◌, true, false, Some, refl, arith, nat_tests, ◌==◌}
+use Rattle.tp_core.proofs.Words.{if◌then◌else◌, option_map, Step, Insert, Supply, Begin, Done, count, Life, Task, life_of, with_life}
+use Rattle.tp_core.proofs.Words.{supplied, lacking, world, IsLawfulRun, is_insert_of, is_begin_of, is_done_of, inserts, begins, IsOnce, suc}
+use Rattle.tp_core.proofs.Words.{◌+◌, ◌≤◌, ◌++◌, None, length, ap, sym, ◌∙◌, inl, inr, append_assoc, cases_lt, not, list_any, Give, Judge}
+use Rattle.tp_core.proofs.Words.{before, any, is_give, judgement, visited_at, in_wave, has_ended, History, before-all, before-past}
+use Rattle.tp_core.proofs.Words.{ended_law, is_done, IsQuiet, history, node_of, HasRunOnce, IsOverFrom, IsNeverEarly, IsTrue, Event, NodeId}
+use Rattle.tp_core.proofs.Words.{Start, Down, Up, is_control, IsControlStep, steps_of, pending_at, ComesNext, quiet_law, soon_law}
+use Rattle.tp_core.proofs.Words.{goes_on_law, IsLawful, JudgedSoon}
+use Rattle.tp_core.specs.Laws.{ends}
+use Rattle.tp_core.proofs.Counting.{life_in, steps_of-history, is_run, pending_is}
 use Rattle.tp_core.proofs.Quiet.{quiet_seen, nothing_pending_when_quiet}
-use Rattle.tp_core.proofs.Once.{tasks_run_once}
-use Rattle.tp_wave.specs.Machine as machine
 use Rattle.tp_core.specs.declared.life.Life.TheVariants as life
+use Rattle.tp_wave.specs.Machine as machine
+use Rattle.tp_wave.specs.Cut as cut
 
+life-with_life : (t u : ℕ) (f : Life → Life) (xs : List Task)
+    → life_in t (with_life u f xs) ≡ (if u == t then option_map f (life_in t xs) else life_in t xs)
+life-with_life t u f [] = grind arith
+life-with_life t u f (x ∷ xs) = grind (arith, nat_tests, life-with_life t u f xs)
+
+begins-lacking : (k : ℕ) → begins (Some (lacking k)) ≡ 0
+begins-lacking k = elim (k == 0) as (λ b. begins (Some (if b then life.Ready else life.Waiting k)) ≡ 0) [ true ↦ refl | false ↦ refl ]
+
+ends-lacking : (k : ℕ) → ends (Some (lacking k)) ≡ 0
+ends-lacking k = elim (k == 0) as (λ b. ends (Some (if b then life.Ready else life.Waiting k)) ≡ 0) [ true ↦ refl | false ↦ refl ]
+
+once : (n t : ℕ) (steps : List Step) → IsLawfulRun n steps
+    → (count (is_insert_of t) steps ≡ inserts (life_of t (world n steps)))
+    × (count (is_begin_of t) steps ≡ begins (life_of t (world n steps)))
+    × (count (is_done_of t) steps ≡ ends (life_of t (world n steps)))
+once n t [] r = (refl, refl, refl)
+once n t (Insert i u k ∷ past) r = let before = once n t past r.1 in let b = begins-lacking k.count in let e =
+    ends-lacking k.count in grind (arith, nat_tests, b, e, before.0, before.1, before.2)
+once n t (Supply u ∷ past) r =
+    let before = once n t past r.1 in
+    let b = begins-lacking (r.0.0 - 1) in let e = ends-lacking (r.0.0 - 1) in
+    let now = life-with_life t u.0 supplied (world n past).tasks in
+    grind (arith, nat_tests, now, b, e, r.0.1, before.0, before.1, before.2)
+once n t (Begin u ∷ past) r =
+    let before = once n t past r.1 in
+    let now = life-with_life t u.0 (λ _. life.Running) (world n past).tasks in
+    grind (arith, nat_tests, now, r.0, before.0, before.1, before.2)
+once n t (Done u ∷ past) r =
+    let before = once n t past r.1 in
+    let now = life-with_life t u.0 (λ _. life.Done) (world n past).tasks in
+    grind (arith, nat_tests, now, r.0, before.0, before.1, before.2)
+once n t (s ∷ past) r = once n t past r.1
+
+pub tasks_run_once : (n t : ℕ) (steps : List Step) → IsLawfulRun n steps → IsOnce t n steps
+tasks_run_once n t steps r =
+    let all = once n t steps r in record { inserted = all.0; begun = all.1; done = all.2 }
+
+-- ---- a waiting task lacks an input
+abbrev waits_for_none : Option Life → Bool
+waits_for_none (Some (life.Waiting k)) = k == 0
+waits_for_none _ = false
+
+lacking_some : (k : ℕ) → waits_for_none (Some (lacking k)) ≡ false
+lacking_some k = choose (k == 0) refl
+  where
+    choose : (b : Bool) → (k == 0) ≡ b → waits_for_none (Some (if b then life.Ready else life.Waiting k)) ≡ false
+    choose true is = refl
+    choose false is = is
+
+none_for_none : (n t : ℕ) (steps : List Step) → IsLawfulRun n steps → waits_for_none (life_of t (world n steps)) ≡ false
+none_for_none n t [] r = refl
+none_for_none n t (Insert i u k ∷ past) r =
+    let before = none_for_none n t past r.1 in let some = lacking_some k.count in grind (arith, before, some)
+none_for_none n t (Supply u ∷ past) r =
+    let before = none_for_none n t past r.1 in
+    let some = lacking_some (r.0.0 - 1) in
+    let now = life-with_life t u.0 supplied (world n past).tasks in
+    grind (arith, nat_tests, now, some, r.0.1, before)
+none_for_none n t (Begin u ∷ past) r =
+    let before = none_for_none n t past r.1 in
+    let now = life-with_life t u.0 (λ _. life.Running) (world n past).tasks in grind (arith, nat_tests, now, r.0, before)
+none_for_none n t (Done u ∷ past) r =
+    let before = none_for_none n t past r.1 in
+    let now = life-with_life t u.0 (λ _. life.Done) (world n past).tasks in grind (arith, nat_tests, now, r.0, before)
+none_for_none n t (s ∷ past) r = none_for_none n t past r.1
+
+pub waiting_lacks_inputs : (n t k : ℕ) (steps : List Step) → IsLawfulRun n steps → life_of t (world n steps) ≡ Some (life.Waiting k) → 0 < k
+waiting_lacks_inputs n t k steps r h =
+    let none = none_for_none n t steps r in
+    let at_k : (k == 0) ≡ false = rw h at none in grind (arith, nat_tests, at_k)
+
+-- ==== Safety: the detector is never early. From the end of the wave that a judgement names on, the pool was quiet.
 -- ---- positions in a list and in its history
 pub length-history : (n : ℕ) (steps : List Step) → length (history n steps) ≡ length steps
 length-history n [] = refl
@@ -144,3 +221,36 @@ over_from n w later past r judged =
 
 pub never_early : (n : ℕ) (steps : List Step) → IsLawfulRun n steps → IsNeverEarly n steps
 never_early n steps r w later past e judged = rw e (over_from n w later past (rw e at r) judged)
+
+-- ==== Control steps lead from a quiet world to the detection of termination.
+-- A control step that the machine may take is lawful for the core.
+lawful_control : (n : ℕ) (past : List Step) (node : NodeId) (s : Step) → IsLawfulRun n past → IsTrue (is_control s)
+    → machine.IsNext n (history n past) (node, s) → IsLawful n past s
+lawful_control n past node Start r c next = rw (steps_of-history n past) at (next.control refl)
+lawful_control n past node (Down j) r c next = rw (steps_of-history n past) at (next.control refl)
+lawful_control n past node (Give j) r c next =
+    let due : IsControlStep n past (Give j) = rw (steps_of-history n past) at (next.control refl) in
+    (due, sym (pending_is n past r j.0 due.1.0) ∙ ap (λ i. pending_at i (history n past)) next.beside ∙ next.needed)
+lawful_control n past node (Up j) r c next = rw (steps_of-history n past) at (next.control refl)
+lawful_control n past node Judge r c next = rw (steps_of-history n past) at (next.control refl)
+lawful_control n past node (s) r c next = cc
+
+pub judged_soon : JudgedSoon
+judged_soon n later steps pos r q =
+    let front : History = events_after n later steps in
+    let whole : history n (later ++ steps) ≡ front ++ history n steps = history-append n later steps in
+    let run : machine.IsRun n (history n (later ++ steps)) = is_run n (later ++ steps) pos r in
+    let old : IsLawfulRun n steps = IsLawfulRun-past n later steps r in
+    let quiet : cut.IsQuietHistory n (history n steps) = (quiet_seen n steps pos old).1 q in
+    let soon = soon_law n front (history n steps) pos (rw whole at run) quiet in
+    let after : cut.IsQuietHistory n (front ++ history n steps) = (quiet_law n front (history n steps) (rw whole at run) quiet).0 in
+    let still : cut.IsQuietHistory n (history n (later ++ steps)) = rw whole after in
+    let now : steps_of (front ++ history n steps) ≡ later ++ steps = ap steps_of (sym whole) ∙ steps_of-history n (later ++ steps) in
+    let then' : steps_of (history n steps) ≡ steps = steps_of-history n steps in (
+      omega (arith, soon.0, length-after n later steps),
+      rw (now, then') at (soon.1),
+      λ open'.
+          let found : (e : Event) × ComesNext n (history n (later ++ steps)) e =
+          goes_on_law n (history n (later ++ steps)) pos run still (rw (steps_of-history n (later ++ steps)) open') in
+          (found.0.1, found.1.control, lawful_control n (later ++ steps) found.0.0 found.0.1 r found.1.control found.1.next),
+    )

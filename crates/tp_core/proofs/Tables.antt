@@ -1,12 +1,160 @@
--- The tables of a core after a change of its world.
-use Rattle.tp_core.proofs.Words.{ℕ, ◌≡◌, ◌≤◌, List, [], ◌∷◌, Bool, true, false, Option, Some, None, refl, sym, ◌∙◌, arith, eqb-true}
-use Rattle.tp_core.proofs.Words.{nat_tests, ◌==◌, ◌&&◌, if◌then◌else◌, find, list_any, option_map, NodeId, Held, Life, NodeSet, Posted}
-use Rattle.tp_core.proofs.Words.{Table, lookup, Puts, has, Task, Action, Message, Kind, Opening, Named, OfMessage, same_kind, is_action}
-use Rattle.tp_core.proofs.Words.{is_message, how_many, with_life, without, opened, closed, held, HasTasks, HasActions, HasMessages, has_in}
-use Rattle.tp_core.proofs.Words.{is_posted, is_under_way_stage, is_kept_open}
-use Rattle.tp_core.proofs.Sets.{same_kind_equal}
+-- No list of a world has an element twice; and the tables of a core after a change of its world.
+use Rattle.tp_core.proofs.Words.{ℕ, zero, suc, ◌+◌, ◌≡◌, ◌≤◌, zero-le, List, [], ◌∷◌, Bool, true, false, None, refl, ap, sym, arith}
+use Rattle.tp_core.proofs.Words.{eqb-true, nat_lt, nat_tests, ◌==◌, ◌&&◌, if◌then◌else◌, list_any, Step, Insert, Supply, Begin, Done}
+use Rattle.tp_core.proofs.Words.{ActionOpen, ActionClose, Ready, Send, Recv, MessageEnd, Life, Task, Action, Message, Kind, Opening, Named}
+use Rattle.tp_core.proofs.Words.{OfMessage, same_kind, is_action, is_message, is_known_message, how_many, openings, with_life, without}
+use Rattle.tp_core.proofs.Words.{supplied, world, IsLawfulRun, HasSets, Option, Some, ◌∙◌, find, option_map, NodeId, Held, NodeSet, Posted}
+use Rattle.tp_core.proofs.Words.{Table, lookup, Puts, has, opened, closed, held, HasTasks, HasActions, HasMessages, has_in, is_posted}
+use Rattle.tp_core.proofs.Words.{is_under_way_stage, is_kept_open}
+use Rattle.tp_core.proofs.Counting.{life_in, one_if}
+use Rattle.tp_core.specs.declared.life.Life.TheVariants as life
 use Rattle.tp_core.specs.declared.posted.Stage.TheVariants as stage
 
+-- ---- lists and tests
+none_there : {A : Type 0} (p : A → Bool) (xs : List A) → list_any p xs ≡ false → how_many p xs ≡ 0
+none_there p [] h = refl
+none_there p (x ∷ xs) h = grind (arith, none_there p xs)
+
+how_many-without-le : {A : Type 0} (p q : A → Bool) (xs : List A) → how_many p (without q xs) ≤ how_many p xs
+how_many-without-le p q [] = zero-le
+how_many-without-le p q (x ∷ xs) = grind (arith, how_many-without-le p q xs)
+
+-- ---- tasks
+abbrev is_numbered : ℕ → Task → Bool
+is_numbered t x = x.number == t
+
+how_many_numbered : (t u : ℕ) (f : Life → Life) (xs : List Task) → how_many (is_numbered t) (with_life u f xs) ≡ how_many (is_numbered t) xs
+how_many_numbered t u f [] = refl
+how_many_numbered t u f (x ∷ xs) = grind (arith, how_many_numbered t u f xs)
+
+no_life : (t : ℕ) (xs : List Task) → life_in t xs ≡ None → how_many (is_numbered t) xs ≡ 0
+no_life t [] h = refl
+no_life t (x ∷ xs) h = grind (arith, no_life t xs)
+
+one_task : (n : ℕ) (steps : List Step) → IsLawfulRun n steps → (t : ℕ) → how_many (is_numbered t) (world n steps).tasks ≤ 1
+one_task n [] r t = zero-le
+one_task n (Insert i u k ∷ past) r t =
+    let before = one_task n past r.1 t in let fresh = no_life u.0 (world n past).tasks r.0.1 in grind (arith, nat_tests, before, fresh)
+one_task n (Supply u ∷ past) r t = rw (how_many_numbered t u.0 supplied (world n past).tasks) (one_task n past r.1 t)
+one_task n (Begin u ∷ past) r t = rw (how_many_numbered t u.0 (λ _. life.Running) (world n past).tasks) (one_task n past r.1 t)
+one_task n (Done u ∷ past) r t = rw (how_many_numbered t u.0 (λ _. life.Done) (world n past).tasks) (one_task n past r.1 t)
+one_task n (s ∷ past) r t = one_task n past r.1 t
+
+-- ---- message numbers
+one_number : (n : ℕ) (steps : List Step) → IsLawfulRun n steps → (m : ℕ) → how_many (λ k. k == m) (world n steps).numbers ≤ 1
+one_number n [] r m = zero-le
+one_number n (Send i j k g ∷ past) r m =
+    let before = one_number n past r.1 m in let fresh =
+    none_there (λ x. x == k.0) (world n past).numbers r.0.3 in grind (arith, nat_tests, before, fresh)
+one_number n (s ∷ past) r m = one_number n past r.1 m
+
+-- ---- a message is in flight or its action is open, and not both
+abbrev has_number : ℕ → Message → Bool
+has_number m x = x.number == m
+
+abbrev is_of_message : ℕ → Action → Bool
+is_of_message m x = same_kind x.kind (OfMessage m)
+
+taken : (m k j : ℕ) (xs : List Message) → list_any (is_message k j) xs ≡ true
+    → how_many (has_number m) (without (is_message k j) xs) + one_if (k == m) ≡ how_many (has_number m) xs
+taken m k j [] h = grind arith
+taken m k j (x ∷ xs) h = grind (arith, nat_tests, taken m k j xs)
+
+openings_none : (m n : ℕ) → how_many (is_of_message m) (openings n) ≡ 0
+openings_none m zero = refl
+openings_none m (suc n) = grind (arith, openings_none m n)
+
+one_place : (n : ℕ) (steps : List Step) → IsLawfulRun n steps → (m : ℕ)
+    → how_many (has_number m) (world n steps).messages + how_many (is_of_message m) (world n steps).actions ≤ one_if
+    (is_known_message m (world n steps))
+one_place n [] r m = let none = openings_none m n in omega arith
+one_place n (Send i j k g ∷ past) r m =
+    let before = one_place n past r.1 m in let fresh = r.0.3 in grind (arith, nat_tests, before, fresh)
+one_place n (Recv j k g ∷ past) r m =
+    let before = one_place n past r.1 m in let moved =
+    taken m k.0 j.0 (world n past).messages r.0.1 in grind (arith, nat_tests, before, moved)
+one_place n (ActionOpen i a ∷ past) r m = let before = one_place n past r.1 m in grind (arith, before)
+one_place n (ActionClose i a ∷ past) r m =
+    let before = one_place n past r.1 m in let fewer =
+    how_many-without-le (is_of_message m) (is_action i.0 (Named a.0)) (world n past).actions in omega arith
+one_place n (Ready i ∷ past) r m =
+    let before = one_place n past r.1 m in let fewer =
+    how_many-without-le (is_of_message m) (is_action i.0 Opening) (world n past).actions in omega arith
+one_place n (MessageEnd j k g ∷ past) r m =
+    let before = one_place n past r.1 m in let fewer =
+    how_many-without-le (is_of_message m) (is_action j.0 (OfMessage k.0)) (world n past).actions in omega arith
+one_place n (s ∷ past) r m = one_place n past r.1 m
+
+-- ---- actions
+pub same_kind_equal : (a b : Kind) → same_kind a b ≡ true → a ≡ b
+same_kind_equal Opening Opening h = refl
+same_kind_equal (Named a) (Named b) h = ap Named (eqb-true a b h)
+same_kind_equal (OfMessage a) (OfMessage b) h = ap OfMessage (eqb-true a b h)
+same_kind_equal Opening (Named b) h = cc
+same_kind_equal Opening (OfMessage b) h = cc
+same_kind_equal (Named a) Opening h = cc
+same_kind_equal (Named a) (OfMessage b) h = cc
+same_kind_equal (OfMessage a) Opening h = cc
+same_kind_equal (OfMessage a) (Named b) h = cc
+
+-- one more action, if it was not open
+one_more : (i j : ℕ) (kind new : Kind) (xs : List Action) → how_many (is_action j new) xs ≡ 0 → how_many (is_action i kind) xs ≤ 1
+    → how_many (is_action i kind) (record { node = j; kind = new } ∷ xs) ≤ 1
+one_more i j kind new xs none before = choose ((j == i) && same_kind new kind) refl
+  where
+    choose : (b : Bool) → ((j == i) && same_kind new kind) ≡ b → (if b then 1 else 0) + how_many (is_action i kind) xs ≤ 1
+    choose true is =
+        let node : j ≡ i = (let both = is in grind (arith, nat_tests)) in
+        let kinds : new ≡ kind = same_kind_equal new kind (grind (arith, is)) in
+        let zero_here : how_many (is_action i kind) xs ≡ 0 = rw (sym node, sym kinds) none in
+        omega arith
+    choose false is = omega arith
+
+opening_once : (i n : ℕ) (kind : Kind) → how_many (is_action i kind) (openings n) ≤ one_if (nat_lt i n)
+opening_once i zero kind = zero-le
+opening_once i (suc n) kind = grind (arith, nat_tests, opening_once i n kind)
+
+fewer_of_message : (j m : ℕ) (xs : List Action) → how_many (is_action j (OfMessage m)) xs ≤ how_many (is_of_message m) xs
+fewer_of_message j m [] = zero-le
+fewer_of_message j m (x ∷ xs) = grind (arith, fewer_of_message j m xs)
+
+one_if-le : (b : Bool) → one_if b ≤ 1
+one_if-le true = omega arith
+one_if-le false = zero-le
+
+one_action : (n : ℕ) (steps : List Step) → IsLawfulRun n steps → (i : ℕ) (kind : Kind)
+    → how_many (is_action i kind) (world n steps).actions ≤ 1
+one_action n [] r i kind = let first = opening_once i n kind in let most = one_if-le (nat_lt i n) in omega arith
+one_action n (ActionOpen j a ∷ past) r i kind =
+    one_more i j.0 kind (Named a.0) (world n past).actions (none_there (is_action j.0 (Named a.0)) (world n past).actions r.0.1)
+    (one_action n past r.1 i kind)
+one_action n (ActionClose j a ∷ past) r i kind =
+    let before = one_action n past r.1 i kind in let fewer =
+    how_many-without-le (is_action i kind) (is_action j.0 (Named a.0)) (world n past).actions in omega arith
+one_action n (Ready j ∷ past) r i kind =
+    let before = one_action n past r.1 i kind in let fewer =
+    how_many-without-le (is_action i kind) (is_action j.0 Opening) (world n past).actions in omega arith
+one_action n (Recv j m g ∷ past) r i kind =
+    let place = one_place n past r.1 m.0 in
+    let moved = taken m.0 m.0 j.0 (world n past).messages r.0.1 in
+    let most = one_if-le (is_known_message m.0 (world n past)) in
+    let there = fewer_of_message j.0 m.0 (world n past).actions in
+    one_more i j.0 kind (OfMessage m.0) (world n past).actions (grind (arith, nat_tests, place, moved, most, there))
+    (one_action n past r.1 i kind)
+one_action n (MessageEnd j m g ∷ past) r i kind =
+    let before = one_action n past r.1 i kind in let fewer =
+    how_many-without-le (is_action i kind) (is_action j.0 (OfMessage m.0)) (world n past).actions in omega arith
+one_action n (s ∷ past) r i kind = one_action n past r.1 i kind
+
+pub lists_are_sets : (n : ℕ) (steps : List Step) → IsLawfulRun n steps → HasSets (world n steps)
+lists_are_sets n steps r = record {
+  tasks = one_task n steps r;
+  actions = one_action n steps r;
+  messages = λ m. let place = one_place n steps r m in let most = one_if-le (is_known_message m (world n steps)) in omega arith;
+  numbers = one_number n steps r;
+}
+
+-- ==== The tables of a core after a change of its world.
 -- ---- tasks
 pub task_added : {table : Table Held} {tasks : List Task} → HasTasks table tasks → (new : Table Held) (x : Task)
     → Puts table new x.number (held x)

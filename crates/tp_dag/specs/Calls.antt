@@ -27,7 +27,7 @@ outside_at (Some x) = x.outside
 outside_at None = 0
 
 -- ---- the checks of each call
--- a trace of so many tasks would be too long
+-- a trace of this number of tasks would be too long
 abbrev pub lacks_steps : PoolState → ℕ → Bool
 lacks_steps a tasks = is_traced a && nat_lt MAX_STEPS (steps_of_trace tasks)
 
@@ -103,12 +103,17 @@ pub record Becomes (t : ℕ) (f : Entry → Entry) (old new : PoolState) : Type 
   pub is : slice_get old.tasks t ≡ Some was
   pub becomes : new ≡ record old { tasks = slice_set old.tasks t (f was) }
 
--- A task that is added after the start is held: it waits for one input from outside.
-abbrev pub with_task : ℕ → PoolState → PoolState
-with_task class a = record a {
+-- `spawn`: a task with these inputs, which waits for this number of inputs from outside.
+abbrev pub with_spawned : ℕ → List ℕ → ℕ → PoolState → PoolState
+with_spawned class inputs outside a = record a {
   grown = a.grown || a.started;
-  tasks = a.tasks ++ record { class = class; stage = stage.Fresh; outside = if a.started then 1 else 0 } ∷ [];
+  tasks = a.tasks ++ record { class = class; stage = stage.Fresh; outside = outside } ∷ [];
+  inputs = a.inputs ++ map (λ s. record { source = s; target = length a.tasks }) inputs;
 }
+
+-- `task`: `spawn` without inputs. A task that is added after the start is held: it waits for one input from outside.
+abbrev pub with_task : ℕ → PoolState → PoolState
+with_task class a = with_spawned class [] (if a.started then 1 else 0) a
 
 abbrev pub with_input : ℕ → PoolState → PoolState
 with_input source a = record a {
@@ -184,11 +189,3 @@ pub record MaySpawn (class : ℕ) (inputs : List ℕ) (outside : ℕ) (a : PoolS
   pub few_tasks : length a.tasks < MAX_TASKS
   pub few_inputs : length a.inputs + length inputs ≤ MAX_INPUTS
   pub fits : IsFalse (a.started && lacks_steps a (length a.tasks + 1))
-
--- `spawn`: a task with these inputs, which waits for so many inputs from outside.
-abbrev pub with_spawned : ℕ → List ℕ → ℕ → PoolState → PoolState
-with_spawned class inputs outside a = record a {
-  grown = a.grown || a.started;
-  tasks = a.tasks ++ record { class = class; stage = stage.Fresh; outside = outside } ∷ [];
-  inputs = a.inputs ++ map (λ s. record { source = s; target = length a.tasks }) inputs;
-}

@@ -46,11 +46,6 @@ pub record ComesFirst (t : ℕ) (tasks : List Task) : Type 0 where
 abbrev pub as_new : Task → Task
 as_new x = record x { stage = stage.Fresh; missing = x.inputs; outside = 0 }
 
--- a number can count one less, and one more
-pub record MayMove (from : Bool) (count : ℕ) : Type 0 where
-  pub some : IsTrue from → 1 ≤ count
-  pub few : count ≤ MAX_TASKS
-
 -- a task of this class is there
 pub record HasClass (t class : ℕ) (tasks : List Task) : Type 0 where
   pub task : Task

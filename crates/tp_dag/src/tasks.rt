@@ -6,7 +6,7 @@ ghost use Rattle.tp_dag.specs.declared.limits.TheConstants.{MAX_TASKS};
 ghost use Rattle.tp_dag.specs.declared.entry.Stage.TheVariants as stage;
 ghost use Rattle.tp_dag.specs.State.{count_where, is_unfinished, is_dispatched, is_awaiting};
 ghost use Rattle.tp_dag.specs.Counted.{one, may_begin, is_ready, entry_of, as_new, ready_at};
-ghost use Rattle.tp_dag.specs.Counted.{MayMove, HasClass, NoneOf, NoneReady, ComesFirst};
+ghost use Rattle.tp_dag.specs.Counted.{HasClass, NoneOf, NoneReady, ComesFirst};
 
 use crate::entry::{Stage, Task, is_done, is_fresh, is_running};
 use crate::queues::Queues;
@@ -52,13 +52,12 @@ fn is_ready_task(task: Task, class: u8) -> bool
 /// Returns a count of tasks when one is written that was counted if `from`, and is counted now if `to`.
 #[inline]
 fn moved(count: u32, from: bool, to: bool) -> u32
-    requires { MayMove from count }
-    ensures { result + one from ≡ count + one to }
+    ensures { one from ≤ count → count ≤ MAX_TASKS → result + one from ≡ count + one to }
 {
     if from {
-        if to { count } else { count - 1 }
+        if to { count } else { count.saturating_sub(1) }
     } else {
-        if to { count + 1 } else { count }
+        if to { count.saturating_add(1) } else { count }
     }
 }
 
@@ -92,6 +91,7 @@ impl Tasks {
 
     /// Returns the number of ready tasks of a class.
     #[inline]
+    #[tactic(auto, using(crate::proofs::Lemmas::ready_few))]
     pub(crate) fn ready_of(&self, class: u8) -> u32
         requires { class < 4 }
         ensures count { result ≡ count_where (is_ready class) self.now }
@@ -102,6 +102,7 @@ impl Tasks {
 
     /// Returns the number of tasks that are not done.
     #[inline]
+    #[tactic(auto, using(crate::proofs::Lemmas::tally_few))]
     pub(crate) fn left(&self) -> u32
         ensures count { result ≡ count_where is_unfinished (map entry_of self.now) }
         ensures few { result ≤ MAX_TASKS }

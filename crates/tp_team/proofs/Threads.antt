@@ -18,7 +18,7 @@ use Rattle.tp_team.specs.declared.state.State.{State}
 use Rattle.tp_team.specs.State.{in_turns, left, signalled_by, LosesNoWakeUp, Settles}
 use Rattle.tp_team.specs.Calls.{TakesTurn, Reports, Decides, Starts, stopped_by, came, opened, with_pool}
 use Rattle.tp_team.specs.Laws.{Described, Spawned, Expected, Released, Started, Turned, Stopped, Repeated}
-use Rattle.tp_team.specs.Laws.{WasTold, waits, returns, CountsThreads, NeverLosesWakeUp}
+use Rattle.tp_team.specs.Laws.{HasWaited, waits, returns, CountsThreads, NeverLosesWakeUp}
 use Rattle.tp_team.proofs.Waking.{needed_few, settled, unstarted, none_sleeps, described_started}
 
 same_waiting : {a b : State} → a ≡ b → a.waiting ≡ b.waiting
@@ -38,7 +38,7 @@ came_turns arrival.New w = omega arith
 came_turns arrival.Spun w = omega arith
 came_turns arrival.Woken w = grind (arith, nat_tests)
 
-returned_turns : (v : Arrival) (a : State) → WasTold v a → in_turns (left v a.waiting) + returns v ≡ in_turns a.waiting
+returned_turns : (v : Arrival) (a : State) → HasWaited v a → in_turns (left v a.waiting) + returns v ≡ in_turns a.waiting
 returned_turns arrival.New a h = omega arith
 returned_turns arrival.Spun a h = omega arith
 returned_turns arrival.Woken a h = grind (arith, nat_tests)
@@ -84,7 +84,7 @@ stopped_waiting true task a = refl
 stopped_waiting false task a = refl
 
 -- ---- the threads are counted
-turn_turns : {v : Arrival} {done : Option ℕ} {polls : ℕ} {a b : State} {r : Reply} → WasTold v a → TakesTurn v done polls a b r
+turn_turns : {v : Arrival} {done : Option ℕ} {polls : ℕ} {a b : State} {r : Reply} → HasWaited v a → TakesTurn v done polls a b r
     → in_turns b.waiting + returns v ≡ in_turns a.waiting + waits r.turn
 turn_turns {v} {done} {polls} {a} {b} {r} w h =
     let s = settled_turns h.settles in

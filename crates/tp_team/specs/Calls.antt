@@ -184,7 +184,7 @@ Decides polls turn.Sleep old new = Sleeps polls old new
 Decides polls turn.Over old new = Leaves old new
 Decides polls (turn.Refused f) old new = ((old.fault ≡ Some f) × (new ≡ old)) ⊎ IsCrowded f old new
 
--- A turn: the thread comes back, reports its task, and is told what to do next.
+-- A turn: the thread comes back, reports its task, and the turn returns what it is to do next.
 pub record TakesTurn (arrival : Arrival) (done : Option ℕ) (polls : ℕ) (old new : State) (reply : Reply) : Type 0 where
   pub reported : State
   pub reports : Reports done (came arrival old) reported

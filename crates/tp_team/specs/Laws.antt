@@ -41,11 +41,11 @@ pub data Call : Type 0 where
   -- `again`
   Repeated : Call
 
--- A thread that comes back was told to wait.
-abbrev pub WasTold : Arrival → State → Type 0
-WasTold arrival.New a = Unit {0}
-WasTold arrival.Spun a = 1 ≤ a.waiting.spinning
-WasTold arrival.Woken a = 1 ≤ a.waiting.sleeping + a.waiting.signalled
+-- A thread that comes back waited.
+abbrev pub HasWaited : Arrival → State → Type 0
+HasWaited arrival.New a = Unit {0}
+HasWaited arrival.Spun a = 1 ≤ a.waiting.spinning
+HasWaited arrival.Woken a = 1 ≤ a.waiting.sleeping + a.waiting.signalled
 
 -- What the call's contract says of the states before and after it. A graph is described before the start alone.
 abbrev pub Does : Call → State → State → Type 0
@@ -54,7 +54,7 @@ Does (Spawned class inputs outside signals) a b = Settles (with_pool (with_spawn
 Does (Expected task signals) a b = Changes (Becomes task one_more) a b signals
 Does (Released task signals) a b = Changes (Becomes task one_less) a b signals
 Does (Started threads signals) a b = Starts threads a b signals
-Does (Turned arrival done polls reply) a b = WasTold arrival a × TakesTurn arrival done polls a b reply
+Does (Turned arrival done polls reply) a b = HasWaited arrival a × TakesTurn arrival done polls a b reply
 Does (Stopped task signals) a b = Stops task a b signals
 Does Repeated a b = b ≡ repeated a
 
@@ -75,11 +75,11 @@ returns arrival.New = 0
 returns arrival.Spun = 1
 returns arrival.Woken = 1
 
--- how many turns told their thread to wait
-abbrev pub told : List Call → ℕ
-told [] = 0
-told (Turned _ _ _ reply ∷ past) = told past + waits reply.turn
-told (_ ∷ past) = told past
+-- how many turns made their thread wait
+abbrev pub waited : List Call → ℕ
+waited [] = 0
+waited (Turned _ _ _ reply ∷ past) = waited past + waits reply.turn
+waited (_ ∷ past) = waited past
 
 -- how many threads came back after that
 abbrev pub returned : List Call → ℕ
@@ -87,10 +87,10 @@ returned [] = 0
 returned (Turned arrival _ _ _ ∷ past) = returned past + returns arrival
 returned (_ ∷ past) = returned past
 
--- The threads that a team counts are those that were told to wait and have not come back.
+-- The threads that a team counts are those that turns made wait and that have not come back.
 abbrev pub CountsThreads : Type 0
 CountsThreads = (traced : Bool) (processors : ℕ) (calls : List Call) (a : State) → LeadTo traced processors calls a
-    → in_turns a.waiting + returned calls ≡ told calls
+    → in_turns a.waiting + returned calls ≡ waited calls
 
 -- If a task is ready in a run, then no thread sleeps, or some thread spins or was signalled. Once the team has ended, each thread that
 -- sleeps was signalled.
@@ -101,14 +101,14 @@ abbrev pub runs : ℕ → Turn → Bool
 runs t (turn.Run u) = u == t
 runs t _ = false
 
--- how many turns of this run, which are those since the last `again`, told their thread to run task t
+-- how many turns of this run, which are those since the last `again`, made their thread run task t
 abbrev pub dispatches : ℕ → List Call → ℕ
 dispatches t [] = 0
 dispatches t (Repeated ∷ past) = 0
 dispatches t (Turned _ _ _ reply ∷ past) = if runs t reply.turn then dispatches t past + 1 else dispatches t past
 dispatches t (_ ∷ past) = dispatches t past
 
--- Within a run, no two turns tell a thread to run the same task.
+-- Within a run, no two turns make a thread run the same task.
 abbrev pub DispatchesOnce : Type 0
 DispatchesOnce = (traced : Bool) (processors : ℕ) (calls : List Call) (a : State) (t : ℕ) → LeadTo traced processors calls a
     → dispatches t calls ≤ 1

@@ -1,7 +1,7 @@
-//! What follows from the contracts alone, whatever calls are made, if each thread comes back only as it was told.
+//! What follows from the contracts alone, whatever calls are made, if each thread comes back only as its last turn returned.
 ghost use Rattle.tp_team.specs.Laws.{CountsThreads, DispatchesOnce, NeverLosesWakeUp};
 
-/// The threads that a team counts are those that were told to wait and have not come back.
+/// The threads that a team counts are those whose last turn returned `Spin` or `Sleep` and that have not come back.
 #[tactic(auto, using(crate::proofs::Threads::counts_threads))]
 pub fn counts_threads()
     ensures { CountsThreads }

@@ -1,10 +1,13 @@
 //! A team's parts, and the steps that its calls are made of. Between two steps a wake-up may be missing.
-ghost use Rattle.std.specs.Prelude.{◌&&◌, ◌==◌, ◌≡◌, ◌≤◌, ◌<◌, ◌+◌, ◌↔◌, ◌⊎◌, ◌∷◌, [], ℕ, IsTrue};
-ghost use Rattle.std.specs.Prelude.{IsSome, IfSome, IfNone, Some, None, Ok, Err};
+ghost use Rattle.std.specs.Prelude.{◌&&◌, ◌==◌, ◌≡◌, ◌≤◌, ◌<◌, ◌+◌, ◌↔◌, ◌⊎◌, ◌∷◌, [], ℕ, IsTrue, length};
+ghost use Rattle.std.specs.Prelude.{IsSome, IfSome, IfNone, IfOk, IfErr, OnOk, OnErr, Some, None, Ok, Err};
+ghost use Rattle.tp_base.specs.declared.refusal.Refusal.TheVariants as refusal;
+ghost use Rattle.tp_dag.specs.Calls as dag;
+ghost use Rattle.tp_team.specs.declared.refusal.TeamRefusal.TheVariants as team;
 ghost use Rattle.tp_team.specs.declared.limits.TheConstants.{MAX_THREADS};
 ghost use Rattle.tp_team.specs.declared.state.State.{State};
 ghost use Rattle.tp_team.specs.State.{in_turns, HasEnded, HasFinished, HasReady, Settles, LosesNoWakeUp};
-ghost use Rattle.tp_team.specs.Calls.{first, fault_check, again_checks, spawn_checks, start_checks};
+ghost use Rattle.tp_team.specs.Calls.{first, of_pool, fault_check, again_checks, spawn_checks, start_checks, with_pool};
 ghost use Rattle.tp_team.specs.Calls.{Reports, Decides, HasToWait, stopped_by, may_spin};
 ghost use Rattle.tp_team.specs.Calls as of_calls;
 
@@ -95,10 +98,35 @@ impl State {
     }
 
     /// Why no task may be added now, but for the pool's reasons.
-    pub(crate) fn spawn_refusal(&self) -> Option<TeamRefusal>
+    fn spawn_refusal(&self) -> Option<TeamRefusal>
         ensures { result ≡ first (spawn_checks self.now []) }
     {
         self.fault_or(self.has_finished(), TeamRefusal::Pool(Refusal::Ended))
+    }
+
+    /// Adds a task to the pool. A sleeping thread may have to be signalled then.
+    pub(crate) fn spawn(
+        &mut self,
+        class: u32,
+        inputs: &[u32],
+        outside: u32,
+    ) -> Result<u32, TeamRefusal>
+        ensures task { IfOk result (λ t. t ≡ length self.old.pool.tasks) }
+        ensures ok { OnOk result (self.new ≡ with_pool (dag.with_spawned class inputs.now outside self.old.pool) self.old) }
+        ensures err { OnErr result (self.new ≡ self.old) }
+        ensures checks { IfSome (first (spawn_checks self.old (of_pool (dag.spawn_checks self.old.pool class inputs.now outside))))
+            (λ r. result ≡ Err r) }
+        ensures exact { IfErr result (λ r.
+            (first (spawn_checks self.old (of_pool (dag.spawn_checks self.old.pool class inputs.now outside))) ≡ Some r)
+            ⊎ (r ≡ team.Pool refusal.NoMemory)) }
+    {
+        if let Some(refusal) = self.spawn_refusal() {
+            return Err(refusal);
+        }
+        match self.pool.spawn(class, inputs, outside) {
+            Ok(task) => Ok(task),
+            Err(refusal) => Err(TeamRefusal::Pool(refusal)),
+        }
     }
 
     /// Why no run may be started now on this number of threads, but for the pool's reasons.

@@ -131,8 +131,8 @@ impl Team {
         Ok(signals)
     }
 
-    /// One turn of a thread: it comes back if it spun or slept, reports the task that it ran (`None`: none), and is told what to do next.
-    /// It may be told to spin if `polls` is not 0 and the machine has a processor for each thread of the run.
+    /// One turn of a thread: it comes back if it spun or slept, and reports the task that it ran (`None`: none). Returns what it is to do
+    /// next: to spin only if `polls` is not 0 and the machine has a processor for each thread of the run.
     ///
     /// A task that does not run ends the team: the fault is then the pool's `NoTask` or `WrongLife`, with that task. A thread that has to
     /// wait is refused as `HistoryFull` if `MAX_THREADS` wait.
@@ -212,7 +212,7 @@ impl Team {
     }
 
     /// Adds a task of a class 0 to 3, before a run or in it. It reads what the tasks `inputs` make, and waits for `outside` inputs from
-    /// outside. Before the lock is released, no thread can be told to run it. Returns its number, and how many sleeping threads are to be
+    /// outside. Before the lock is released, no thread can take it. Returns its number, and how many sleeping threads are to be
     /// signalled.
     ///
     /// Refused, and nothing changes: the fault; `Ended` if all tasks of a run are done; and as the pool's `spawn`.
@@ -232,15 +232,12 @@ impl Team {
             (first (spawn_checks self.old (of_pool (dag.spawn_checks self.old.pool class inputs.now outside))) ≡ Some r)
             ⊎ (r ≡ team.Pool refusal.NoMemory)) }
     {
-        if let Some(refusal) = self.state.spawn_refusal() {
-            return Err(refusal);
-        }
-        match self.state.pool.spawn(class, inputs, outside) {
+        match self.state.spawn(class, inputs, outside) {
             Ok(task) => Ok(Spawned {
                 task,
                 signals: self.state.settle(),
             }),
-            Err(refusal) => Err(TeamRefusal::Pool(refusal)),
+            Err(refusal) => Err(refusal),
         }
     }
 

@@ -15,7 +15,7 @@ enum Row {
     Again(Result<(), TeamRefusal>),
     Outside(u32, Result<u32, TeamRefusal>),
     Release(u32, Result<u32, TeamRefusal>),
-    /// A task without inputs that waits for so many inputs from outside.
+    /// A task without inputs that waits for this number of inputs from outside.
     Spawn(u32, Result<Spawned, TeamRefusal>),
 }
 

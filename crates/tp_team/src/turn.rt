@@ -5,11 +5,11 @@ use crate::refusal::Fault;
 /// How a thread comes to a turn.
 #[derive(Clone, Copy, Debug, PartialEq, Eq)]
 pub enum Arrival {
-    /// Its last turn told it to run a task, or it has had none.
+    /// Its last turn returned a task to run, or it has had none.
     New,
-    /// Its last turn told it to spin.
+    /// Its last turn returned `Spin`.
     Spun,
-    /// Its last turn told it to sleep.
+    /// Its last turn returned `Sleep`.
     Woken,
 }
 

@@ -10,11 +10,11 @@ use crate::turn::Arrival;
 /// The threads in turns that have not returned.
 #[derive(Clone, Copy, Debug, PartialEq, Eq)]
 pub struct Waiting {
-    /// Those that were told to spin.
+    /// Those that spin.
     pub spinning: u32,
-    /// Those that were told to sleep and were not signalled.
+    /// Those that sleep and were not signalled.
     pub sleeping: u32,
-    /// Those that were told to sleep and were signalled.
+    /// Those that slept and were signalled.
     pub signalled: u32,
 }
 

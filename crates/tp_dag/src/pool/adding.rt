@@ -10,8 +10,7 @@ ghost use Rattle.tp_dag.specs.State.{is_ready_now};
 ghost use Rattle.tp_dag.specs.Calls.{task_checks, input_checks, outside_checks, release_checks, with_task, with_input, MayHaveInput};
 ghost use Rattle.tp_dag.specs.Calls.{Becomes, one_more, one_less, MayWait, Awaits, lacks_steps};
 
-use crate::counts::{both, either, one_if};
-use crate::entry::{Task, is_fresh};
+use crate::entry::{Task, both, either, is_fresh, one_if};
 use crate::limits::{MAX_INPUTS, MAX_OUTSIDE, MAX_TASKS};
 use crate::links::add_link;
 use crate::pool::Pool;
@@ -24,7 +23,7 @@ impl Pool {
     /// After `start`, a body that runs may add tasks. Such a task is held: it waits for one input from outside, so that no thread can
     /// dispatch it half described. Its maker calls `input` for each task that it reads, and then `release`.
     ///
-    /// Refused, and nothing changes: `BadSpec` if the class is above 3; `HistoryFull` with 134,217,728 if there are so many tasks;
+    /// Refused, and nothing changes: `BadSpec` if the class is above 3; `HistoryFull` with 134,217,728 if there are as many tasks;
     /// `HistoryFull` with 1,048,576 if the pool is traced and was started, and its trace would have more steps, which are 3 a task and 10;
     /// `NoMemory`.
     pub fn task(&mut self, class: u32) -> Result<u32, Refusal>
@@ -51,7 +50,7 @@ impl Pool {
     ///
     /// Refused, and nothing changes: `NoTask` if there is no newest task or `source` is not below its number; `WrongLife` if it was
     /// dispatched, or if the pool was started and it is ready, since it may be dispatched at any time; `HistoryFull` with 536,870,912 if
-    /// there are so many inputs; `NoMemory`.
+    /// there are as many inputs; `NoMemory`.
     pub fn input(&mut self, source: u32) -> Result<(), Refusal>
         ensures ok { OnOk result (self.new ≡ with_input source self.old) }
         ensures err { OnErr result (self.new ≡ self.old) }
@@ -114,7 +113,7 @@ impl Pool {
     /// Lets a task that was not dispatched wait for one more input from outside in this run, which the caller reports by `release`.
     ///
     /// Refused, and nothing changes: `NoTask`; `WrongLife` if the task was dispatched, or if the pool was started and the task is ready,
-    /// since it may be dispatched at any time; `HistoryFull` with 1,048,576 if it waits for so many inputs from outside.
+    /// since it may be dispatched at any time; `HistoryFull` with 1,048,576 if it waits for as many inputs from outside.
     pub fn outside(&mut self, task: u32) -> Result<(), Refusal>
         ensures ok { OnOk result (Becomes task one_more self.old self.new) }
         ensures err { OnErr result (self.new ≡ self.old) }
@@ -180,6 +179,7 @@ impl Pool {
     }
 
     // the first check of `release` that holds
+    #[tactic(auto, using(crate::proofs::Lemmas::awaits_if))]
     fn release_refusal(&self, task: u32) -> Option<Refusal>
         ensures refusal { result ≡ first_refusal (release_checks self.now task) }
         ensures awaits { IfNone result (Awaits task self.now) }

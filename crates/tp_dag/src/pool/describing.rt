@@ -93,6 +93,7 @@ impl Pool {
     }
 
     // another pool in the state of this one, which has no tasks and was not started
+    #[tactic(auto, using(crate::proofs::Lemmas::empty_is))]
     fn same_anew(&self) -> Pool
         requires started { IsFalse self.now.started }
         requires empty { length self.now.tasks ≡ 0 }

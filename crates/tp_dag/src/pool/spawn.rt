@@ -4,15 +4,14 @@ ghost use Rattle.std.specs.List.{list_all};
 ghost use Rattle.tp_base.specs.Checks.{first_refusal};
 ghost use Rattle.tp_dag.specs.Calls.{spawn_checks, with_spawned, MaySpawn};
 
-use crate::counts::{both, either};
-use crate::entry::{Stage, Task};
+use crate::entry::{Stage, Task, both, either};
 use crate::events::make_room;
 use crate::limits::{MAX_INPUTS, MAX_OUTSIDE, MAX_TASKS};
 use crate::links::add_links;
 use crate::pool::Pool;
 use tp_base::{MAX_STEPS, Refusal};
 
-/// Returns whether each number is that of a task, if there are so many.
+/// Returns whether each number is that of one of `tasks` tasks.
 fn all_below(numbers: &[u32], tasks: usize) -> bool
     ensures { result ≡ list_all (λ s. nat_lt s tasks) numbers.now }
 {
@@ -20,14 +19,14 @@ fn all_below(numbers: &[u32], tasks: usize) -> bool
 }
 
 impl Pool {
-    /// Adds a task of a class 0, which is dispatched first, to 3, which reads what these earlier tasks make, and which waits for so many
+    /// Adds a task of a class 0, which is dispatched first, to 3, which reads what these earlier tasks make, and which waits for `outside`
     /// inputs from outside in this run. Returns its number, which is how many tasks there were before it.
     ///
     /// It may be called before and after `start`. A task that waits for nothing is ready at once: after `start` it is in the queue of its
     /// class. An input that is listed twice counts twice, and one from a task that is done is there.
     ///
     /// Refused, and nothing changes, with the first of these: `BadSpec` if the class is above 3; `NoTask` if an input is not the number of
-    /// a task; `HistoryFull` with 1,048,576 if it would wait for more inputs from outside; `HistoryFull` with 134,217,728 if there are so
+    /// a task; `HistoryFull` with 1,048,576 if it would wait for more inputs from outside; `HistoryFull` with 134,217,728 if there are as
     /// many tasks; `HistoryFull` with 536,870,912 if there would be more inputs; `HistoryFull` with 1,048,576 if the pool is traced and
     /// was started, and its trace would have more steps, which are 3 a task and 10; `NoMemory`.
     pub fn spawn(&mut self, class: u32, inputs: &[u32], outside: u32) -> Result<u32, Refusal>

@@ -1,5 +1,4 @@
-use Rattle.tp_dag.proofs.Words.{arith}
-use Rattle.tp_dag.proofs.Lemmas.{linking_at}
+use Rattle.tp_dag.proofs.Lemmas.{arith, linking_at}
 use Rattle.tp_dag.proofs.links.add_links.Goals as goal
 
 pub loop-source-preserved : goal.loop-source-preserved

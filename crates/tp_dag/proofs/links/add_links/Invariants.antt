@@ -1,5 +1,4 @@
-use Rattle.tp_dag.proofs.Words.{drop, vec_capacity}
-use Rattle.tp_dag.proofs.Lemmas.{Linking}
+use Rattle.tp_dag.proofs.Lemmas.{drop, vec_capacity, Linking}
 use Rattle.tp_dag.proofs.links.add_links.Given as goal
 
 abbrev pub invariant-loop-source : goal.invariant-loop-source

@@ -1,6 +1,6 @@
 use Rattle.tp_core.proofs.Words.{◌≡◌, None, ◌∙◌, arith, rules, length-reverse, common_steps}
 use Rattle.tp_core.proofs.Lemmas.{goes_further, few_so_far, room_left}
-use Rattle.tp_core.proofs.Due.{ends}
+use Rattle.tp_core.proofs.Advancing.{ends}
 use Rattle.tp_core.proofs.accepting.settling.take_to_end.Goals as goal
 
 pub take_due-requires-clause-room : goal.take_due-requires-clause-room

@@ -1,5 +1,5 @@
-use Rattle.tp_dag.proofs.Words.{◌∙◌, List, map, length, arith, refl, ap, Event, entry_of}
-use Rattle.tp_dag.proofs.Lemmas.{both_true, room_same, room_added, fits_more, settled_more, new_task, spawn_may}
+use Rattle.tp_dag.proofs.Lemmas.{common_steps, ◌∙◌, List, map, length, arith, refl, ap, Event, entry_of, both_true, room_same, room_added, fits_more}
+use Rattle.tp_dag.proofs.Lemmas.{new_task, spawn_may}
 use Rattle.tp_dag.proofs.pool.Pool.add.Goals as goal
 
 pub add_links-requires : goal.add_links-requires
@@ -16,5 +16,5 @@ invariant_of-self-2 c = let l = c.add_links.ensures in record {
       (λ h g. let r = c.in_ok-make_room.ensures.room (c.both-traced.ensures ∙ both_true c.self.inside.started c.self.inside.traced h g) in
       let k = c.left.ensures.count in omega (arith, r, k)))
       (l.same ∙ ap (map entry_of) c.in_ok-push.ensures.ok);
-  settled = settled_more _ c.self.invariant.settled c.either-self-inside.ensures;
+  settled = λ h. let g = c.self.invariant.settled h in let e = c.either-self-inside.ensures in grind (arith, common_steps, h, g, e);
 }

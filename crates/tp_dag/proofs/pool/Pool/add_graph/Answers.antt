@@ -1,5 +1,4 @@
-use Rattle.tp_dag.proofs.Words.{◌+◌, ◌<◌, length, arith, Graph}
-use Rattle.tp_dag.proofs.Lemmas.{fault_at, task_at}
+use Rattle.tp_dag.proofs.Lemmas.{◌+◌, ◌<◌, length, arith, Graph, fault_at, task_at}
 use Rattle.tp_dag.proofs.pool.Pool.add_graph.Goals as goal
 
 pub returns-in-Err-clause-exact : goal.returns-in-Err-clause-exact

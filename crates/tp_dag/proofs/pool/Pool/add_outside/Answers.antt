@@ -1,9 +1,6 @@
-use Rattle.tp_dag.proofs.Words.{◌∙◌, ◌+◌, arith, refl, ap, Task, Entry, one_more}
-use Rattle.tp_dag.proofs.Lemmas.{link_few, room_set, place_at, seen_at, facts_set, becomes_at, fresh_keeps}
+use Rattle.tp_dag.proofs.Lemmas.{◌∙◌, ◌+◌, arith, refl, ap, Task, Entry, one_more, link_few, room_set, seen_at, facts_set, becomes_at}
+use Rattle.tp_dag.proofs.Lemmas.{fresh_keeps}
 use Rattle.tp_dag.proofs.pool.Pool.add_outside.Goals as goal
-
-pub at-was-requires : goal.at-was-requires
-at-was-requires c = place_at c.self.inside c.args.task _ c.self.view_is c.requires.is
 
 pub overflow_add-was : goal.overflow_add-was
 overflow_add-was c = let f = link_few c.args.task c.at-was.result c.self.invariant.facts c.at-was.ensures in omega (arith, f)

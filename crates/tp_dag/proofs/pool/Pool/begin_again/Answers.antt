@@ -1,5 +1,5 @@
-use Rattle.tp_dag.proofs.Words.{◌∙◌, List, length, map, false, ap, Event, PoolState, entry_of, kept_of, state_of}
-use Rattle.tp_dag.proofs.Lemmas.{facts_new, room_new, described_again}
+use Rattle.tp_dag.proofs.Lemmas.{◌∙◌, List, length, map, false, ap, Event, PoolState, entry_of, kept_of, state_of, facts_new, room_new}
+use Rattle.tp_dag.proofs.Lemmas.{described_again}
 use Rattle.tp_dag.proofs.pool.Pool.begin_again.Goals as goal
 
 pub invariant_of-self : goal.invariant_of-self

@@ -1,5 +1,4 @@
-use Rattle.tp_dag.proofs.Words.{◌≡◌, ◌∙◌, sym, subst, false, PoolState, is_ready_now, state_of}
-use Rattle.tp_dag.proofs.Lemmas.{test_ready, test_none}
+use Rattle.tp_dag.proofs.Lemmas.{◌≡◌, ◌∙◌, sym, subst, false, PoolState, is_ready_now, state_of, test_ready, test_none}
 use Rattle.tp_dag.proofs.pool.Pool.is_ready_at.Goals as goal
 
 pub returns-in-Some : goal.returns-in-Some

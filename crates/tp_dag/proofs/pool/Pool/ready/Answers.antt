@@ -1,5 +1,4 @@
-use Rattle.tp_dag.proofs.Words.{arith, ap, ready_tasks, state_of}
-use Rattle.tp_dag.proofs.Lemmas.{ready_count}
+use Rattle.tp_dag.proofs.Lemmas.{arith, ap, ready_tasks, state_of, ready_count}
 use Rattle.tp_dag.proofs.pool.Pool.ready.Goals as goal
 
 pub returns : goal.returns

@@ -1,9 +1,5 @@
-use Rattle.tp_dag.proofs.Words.{◌-◌, arith, refl, Task, one_less}
-use Rattle.tp_dag.proofs.Lemmas.{room_set, place_at, await_at, awaits_fresh, facts_set, becomes_at, fresh_keeps}
+use Rattle.tp_dag.proofs.Lemmas.{◌-◌, arith, refl, Task, one_less, room_set, await_at, awaits_fresh, facts_set, becomes_at, fresh_keeps}
 use Rattle.tp_dag.proofs.pool.Pool.take_outside.Goals as goal
-
-pub at-was-requires : goal.at-was-requires
-at-was-requires c = place_at c.self.inside c.args.task _ c.self.view_is c.requires.is
 
 pub overflow_sub-was : goal.overflow_sub-was
 overflow_sub-was c = let x : Task = c.at-was.result in

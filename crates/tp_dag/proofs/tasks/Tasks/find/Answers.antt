@@ -1,5 +1,4 @@
-use Rattle.tp_dag.proofs.Words.{◌≡◌, ◌≢◌, ◌∙◌, arith, sym, nat_tests, NoneReady}
-use Rattle.tp_dag.proofs.Counted.{first_of, found_of, none_more}
+use Rattle.tp_dag.proofs.Lemmas.{◌≡◌, ◌≢◌, ◌∙◌, arith, sym, nat_tests, NoneReady, first_of, found_of, none_more}
 use Rattle.tp_dag.proofs.tasks.Tasks.find.Goals as goal
 
 pub returns-then-ready_of-ne0-clause-some : goal.returns-then-ready_of-ne0-clause-some
@@ -15,6 +14,3 @@ returns-then-ready_of-ne0-clause-none c =
 pub loop-class-preserved : goal.loop-class-preserved
 loop-class-preserved c = let none : c.ready_of.result ≡ 0 = (let h = c.if-ready_of-ne0.false in grind (arith, nat_tests, h)) in
     none_more c.args.self.now c.loop-class.class c.loop-class.invariant (sym c.ready_of.ensures.count ∙ none)
-
-pub returns-clause-none : goal.returns-clause-none
-returns-clause-none c = λ k l. let t = c.loop-class-test.false in c.loop-class.invariant k (omega (arith, l, t))

@@ -1,4 +1,4 @@
-use Rattle.tp_dag.proofs.Words.{ℕ, ◌<◌, NoneOf}
+use Rattle.tp_dag.proofs.Lemmas.{ℕ, ◌<◌, NoneOf}
 use Rattle.tp_dag.proofs.tasks.Tasks.find.Given as goal
 
 abbrev pub invariant-loop-class : goal.invariant-loop-class

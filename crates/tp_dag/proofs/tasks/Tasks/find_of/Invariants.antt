@@ -1,4 +1,4 @@
-use Rattle.tp_dag.proofs.Words.{ℕ, ◌<◌, IsFalse, slice_get, ready_at}
+use Rattle.tp_dag.proofs.Lemmas.{ℕ, ◌<◌, IsFalse, slice_get, ready_at}
 use Rattle.tp_dag.proofs.tasks.Tasks.find_of.Given as goal
 
 abbrev pub invariant-loop-number : goal.invariant-loop-number

@@ -1,26 +1,13 @@
-use Rattle.tp_dag.proofs.Words.{◌∙◌, ◌++◌, ◌∷◌, [], List, length, arith, ap, refl, not, length_push, Task, is_unfinished, is_dispatched}
-use Rattle.tp_dag.proofs.Words.{is_awaiting}
-use Rattle.tp_dag.proofs.Lemmas.{new_may, tally_few, ready_push, tally_push, push_classes, counted_items}
+use Rattle.tp_dag.proofs.Lemmas.{◌∙◌, ◌++◌, ◌∷◌, [], List, length, arith, ap, refl, not, length_push, Task, is_unfinished, is_dispatched}
+use Rattle.tp_dag.proofs.Lemmas.{is_awaiting, ready_push, tally_push, push_classes, counted_items}
 use Rattle.tp_dag.proofs.tasks.Tasks.push.Goals as goal
-
-pub moved-requires : goal.moved-requires
-moved-requires c = new_may c.args.task.class c.self.invariant.ready c.self.invariant.few c.requires.class
-
-pub moved-self-inside-requires : goal.moved-self-inside-requires
-moved-self-inside-requires c = tally_few is_unfinished c.self.inside.items.items c.self.invariant.left c.self.invariant.few
-
-pub moved-self-inside-requires-2 : goal.moved-self-inside-requires-2
-moved-self-inside-requires-2 c = tally_few is_dispatched c.self.inside.items.items c.self.invariant.running c.self.invariant.few
-
-pub moved-self-inside-requires-3 : goal.moved-self-inside-requires-3
-moved-self-inside-requires-3 c = tally_few is_awaiting c.self.inside.items.items c.self.invariant.awaiting c.self.invariant.few
 
 pub invariant_of-self-2 : goal.invariant_of-self-2
 invariant_of-self-2 c = let i = c.self.invariant in let ts = c.self.inside.items.items in let y : Task = c.args.task in
     counted_items _ (c.push_reserved.ensures.items ∙ ap (λ (xs : List Task). xs ++ y ∷ []) c.reserve.ensures.items)
     (let l = length_push ts y in let f = c.requires.few in let v = ap (λ (xs : List Task). length xs) c.self.view_is in omega (arith, l, f, v))
     (push_classes ts y i.classes c.requires.class)
-    (ready_push _ y _ i.ready c.requires.class c.may_begin.ensures c.moved.ensures)
-    (tally_push is_unfinished ts y _ i.left (ap not c.is_done.ensures) c.moved-self-inside.ensures)
-    (tally_push is_dispatched ts y _ i.running c.is_running.ensures c.moved-self-inside-2.ensures)
-    (tally_push is_awaiting ts y _ i.awaiting refl c.moved-self-inside-3.ensures)
+    (ready_push _ y _ i.ready i.few c.requires.class c.may_begin.ensures c.moved.ensures)
+    (tally_push is_unfinished ts y _ i.left i.few (ap not c.is_done.ensures) c.moved-self-inside.ensures)
+    (tally_push is_dispatched ts y _ i.running i.few c.is_running.ensures c.moved-self-inside-2.ensures)
+    (tally_push is_awaiting ts y _ i.awaiting i.few refl c.moved-self-inside-3.ensures)

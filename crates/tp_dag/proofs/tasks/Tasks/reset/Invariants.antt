@@ -1,5 +1,5 @@
-use Rattle.tp_dag.proofs.Lemmas.{Resetting}
+use Rattle.tp_dag.proofs.Lemmas.{◌≡◌, reset_to}
 use Rattle.tp_dag.proofs.tasks.Tasks.reset.Given as goal
 
 abbrev pub invariant-loop-number : goal.invariant-loop-number
-invariant-loop-number l = Resetting l.fn.self l.self l.number
+invariant-loop-number l = l.self ≡ reset_to l.number l.fn.self

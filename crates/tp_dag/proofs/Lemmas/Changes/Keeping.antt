@@ -1,0 +1,360 @@
+-- What is true of the tasks and inputs of a pool stays true when a task is written or added; and when a task is ready.
+pub mod Lists
+pub use Lists.*
+
+abbrev pub at : Stage → Task → Task
+at s x = record x { stage = s }
+
+pub fresh_keeps : {P : Type 0} {s : Stage} → s ≡ stage.Fresh → is_fresh s ≡ false → P
+fresh_keeps a b = cc
+
+-- ==== What is true of the tasks and inputs of a pool stays true when a task is written or added.
+pub blocks_same : (old new : List Task) (t : ℕ) (e : Link) → done_at (slice_get new e.source) ≡ done_at (slice_get old e.source)
+    → blocks new t e ≡ blocks old t e
+blocks_same old new t e h = ap (λ (b : Bool). (e.target == t) && not b) h
+
+pub done_set : (tasks : List Task) (t s : ℕ) (x y : Task) → slice_get tasks t ≡ Some x → is_done y.stage ≡ is_done x.stage
+    → done_at (slice_get (set tasks t y) s) ≡ done_at (slice_get tasks s)
+done_set tasks t s x y is same = elim (same_or s t) [
+  | inl e ↦ subst (λ (j : ℕ). done_at (slice_get (set tasks t y) j) ≡ done_at (slice_get tasks j)) (sym e)
+      (ap done_at (set_here tasks t x y is) ∙ (same ∙ sym (ap done_at is)))
+  | inr e ↦ ap done_at (set_there tasks t s y e)
+]
+
+pub done_push : (tasks : List Task) (s : ℕ) (y : Task) → is_done y.stage ≡ false
+    → done_at (slice_get (tasks ++ y ∷ []) s) ≡ done_at (slice_get tasks s)
+done_push tasks s y h = elim (get_push tasks s y) [
+  | inl e ↦ ap done_at e.1
+  | inr e ↦ ap done_at e.1 ∙ (h ∙ sym (ap done_at (slice_get_past tasks s (let n = e.0 in omega (arith, n)))))
+]
+
+-- a task that was counted is counted, if the same tasks are done
+pub counted_as : {more more' : ℕ → ℕ} (old new : List Task) (links : List Link) (t : ℕ) (x : Task)
+    → ((s : ℕ) → done_at (slice_get new s) ≡ done_at (slice_get old s)) → more' t ≡ more t → IsCounted more old links t x
+    → IsCounted more' new links t x
+counted_as old new links t x same owed c = record {
+  class = c.class;
+  few = c.few;
+  missing = (let m = c.missing in
+      let e = count_same (blocks new t) (blocks old t) links (λ k i h. blocks_same old new t i (same i.source)) in omega (arith, m, e, owed));
+  inputs = c.inputs;
+  outputs = c.outputs;
+  begun = c.begun;
+}
+
+-- all inputs are of these tasks, if there are as many
+pub linked_in : {old new : List Task} {links : List Link} → length old ≤ length new
+    → ((k : ℕ) (e : Link) → slice_get links k ≡ Some e → IsLinked old links k e) → (k : ℕ) (e : Link) → slice_get links k ≡ Some e
+    → IsLinked new links k e
+linked_in l all k e h = let p = all k e h in
+    record { before = p.before; within = (let w = p.within in omega (arith, l, w)); older = p.older }
+
+-- a task is written, and the same are done; what is owed may change there
+pub owing_set : {more more' : ℕ → ℕ} {tasks : List Task} {links : List Link} (t : ℕ) (x y : Task) → Owing more tasks links
+    → slice_get tasks t ≡ Some x → is_done y.stage ≡ is_done x.stage → ((u : ℕ) → u ≢ t → more' u ≡ more u)
+    → IsCounted more' tasks links t y → Owing more' (set tasks t y) links
+owing_set {more} {more'} {tasks} {links} t x y f is same owed c = record {
+  few_links = f.few_links;
+  counted = λ u z h. elim (set_apart tasks t u z y h) [
+    | inl g ↦ counted_as tasks (set tasks t y) links u z (λ s. done_set tasks t s x y is same) (owed u g.1) (f.counted u z g.0)
+    | inr g ↦ subst (λ (n : ℕ). IsCounted more' (set tasks t y) links n z) (sym g.0) (subst (λ (w : Task). IsCounted more' (set tasks t y)
+        links t w) (sym g.1) (counted_as tasks (set tasks t y) links t y (λ s. done_set tasks t s x y is same) refl c))
+  ];
+  linked = linked_in (let l = length-set tasks t y in omega (arith, l)) f.linked;
+}
+
+pub facts_push : {tasks : List Task} {links : List Link} (y : Task) → Facts tasks links → y.class < 4
+    → y.outside ≤ MAX_OUTSIDE → y.missing ≡ y.outside → y.stage ≡ stage.Fresh → y.inputs ≡ 0 → y.outputs ≡ 0 → Facts (tasks ++ y ∷ []) links
+facts_push {tasks} {links} y f class outside missing fresh bare none = record {
+  few_links = f.few_links;
+  counted = λ u z h. elim (last_cases tasks u z y h) [
+    | inl g ↦ counted_as tasks (tasks ++ y ∷ []) links u z same refl (f.counted u z g)
+    | inr g ↦ subst (λ (w : Task). IsCounted (λ t. 0) (tasks ++ y ∷ []) links u w) (sym g.1) (here u g.0)
+  ];
+  linked = linked_in (let l = length_push tasks y in omega (arith, l)) f.linked;
+}
+  where
+    same : (s : ℕ) → done_at (slice_get (tasks ++ y ∷ []) s) ≡ done_at (slice_get tasks s)
+    same s = done_push tasks s y (ap is_done fresh)
+
+    -- no input is of the new task, or from it
+    here : (u : ℕ) → u ≡ length tasks → IsCounted (λ t. 0) (tasks ++ y ∷ []) links u y
+    here u e = record {
+      class = class;
+      few = outside;
+      missing = (let z = count_zero (blocks (tasks ++ y ∷ []) u) links (λ k i h. let w = (f.linked k i h).within in
+          one_else i.target u (not (done_at (slice_get (tasks ++ y ∷ []) i.source))) (λ n. omega (arith, w, n, e))) in
+          omega (arith, z, missing));
+      inputs = bare ∙ sym (count_zero (is_into u) links
+          (λ k i h. let w = (f.linked k i h).within in ap one (ne_eqb i.target u (λ n. omega (arith, w, n, e)))));
+      outputs = none ∙ sym (no_output (newest u links (length links)) refl);
+      begun = fresh_keeps fresh;
+    }
+      where
+        no_output : (m : ℕ) → newest u links (length links) ≡ m → newest u links (length links) ≡ 0
+        no_output zero h = h
+        no_output (suc k) h = let w = newest_at u links (length links) k h in let g = at_below links k w.within in
+            let q = eqb-true g.0.source u (sym (ap (is_of u) g.1) ∙ w.from) in let p = f.linked k g.0 g.1 in
+            let b = p.before in let v = p.within in absurd (omega (arith, b, v, q, e))
+
+-- ==== Room for the events to come, when a task is written or added
+to_come_set : (xs : List Entry) (t : ℕ) (x y : Entry) → slice_get xs t ≡ Some x
+    → to_come (set xs t y) + events_of x.stage ≡ to_come xs + events_of y.stage
+to_come_set [] t x y h = cc
+to_come_set (z ∷ zs) zero x y h = let o : events_of z.stage ≡ events_of x.stage = ap (λ (e : Entry). events_of e.stage) (some_same z x h) in
+    omega (arith, o)
+to_come_set (z ∷ zs) (suc t) x y h = let r = to_come_set zs t x y h in omega (arith, r)
+
+to_come_push : (xs : List Entry) (y : Entry) → to_come (xs ++ y ∷ []) ≡ to_come xs + events_of y.stage
+to_come_push [] y = omega arith
+to_come_push (z ∷ zs) y = let r = to_come_push zs y in omega (arith, r)
+
+pub to_come_few : (xs : List Entry) → to_come xs ≤ 2 * count_where is_unfinished xs
+to_come_few [] = omega arith
+to_come_few (x ∷ xs) = let r = to_come_few xs in let n = count_next is_unfinished x xs in let o = by_stage x.stage in omega (arith, r, n, o)
+  where
+    by_stage : (s : Stage) → events_of s ≤ 2 * one (not (is_done s))
+    by_stage stage.Fresh = omega arith
+    by_stage stage.Running = omega arith
+    by_stage stage.Done = omega arith
+
+-- a task with an event to come has room for it
+pub room_for_one : {s b : Bool} (ts : List Task) {e c : ℕ} (t : ℕ) (x : Task) → HasRoom s b (map entry_of ts) e c → IsTrue s → IsTrue b
+    → slice_get ts t ≡ Some x → 1 ≤ events_of x.stage → e < c
+room_for_one ts t x i h g is some = let m = i.room h g in
+    let s = to_come_set (map entry_of ts) t (entry_of x) (record (entry_of x) { stage = stage.Done }) (map_get entry_of ts t x is) in
+    omega (arith, m, s, some)
+
+-- a task is written: the events and those to come are no more
+pub room_set : {s b : Bool} (ts : List Task) {e c : ℕ} (t : ℕ) (x y : Task) (e' c' : ℕ) → HasRoom s b (map entry_of ts) e c
+    → slice_get ts t ≡ Some x → e' + events_of y.stage ≤ e + events_of x.stage → c ≤ c' → (IsFalse s → e' ≡ e)
+    → (IsFalse s → y.stage ≡ x.stage) → HasRoom s b (map entry_of (set ts t y)) e' c'
+room_set {s} {b} ts t x y e' c' i is le lc same stays = let g = map_get entry_of ts t x is in
+    subst (λ (es : List Entry). HasRoom s b es e' c') (sym (map-set entry_of ts t y)) (record {
+      fits = λ h k. let m = i.fits h k in let l = length-set (map entry_of ts) t (entry_of y) in omega (arith, m, l);
+      room = λ h k. let m = i.room h k in
+          let r = to_come_set (map entry_of ts) t (entry_of x) (entry_of y) g in omega (arith, m, r, le, lc);
+      none = λ h. same h ∙ i.none h;
+      fresh = λ h u z q. elim (set_apart (map entry_of ts) t u z (entry_of y) q) [
+        | inl o ↦ i.fresh h u z o.0
+        | inr o ↦ ap (λ (v : Entry). v.stage) o.1 ∙ (stays h ∙ i.fresh h t (entry_of x) g)
+      ];
+    })
+
+-- a task is added, for which room was made
+pub room_added : {s b : Bool} (ts : List Task) {e c : ℕ} (y : Task) (e' c' : ℕ) → HasRoom s b (map entry_of ts) e c → y.stage ≡ stage.Fresh
+    → e' ≡ e → (IsTrue s → IsTrue b → steps_of_trace (length ts + 1) ≤ MAX_STEPS)
+    → (IsTrue s → IsTrue b → e + 2 * (count_where is_unfinished (map entry_of ts) + 1) ≤ c')
+    → HasRoom s b (map entry_of (ts ++ y ∷ [])) e' c'
+room_added {s} {b} ts y e' c' i fresh ee fits room =
+    subst (λ (es : List Entry). HasRoom s b es e' c') (sym (map-append entry_of ts (y ∷ []))) (record {
+      fits = λ h k. let m = fits h k in let l = length_push (map entry_of ts) (entry_of y) in
+          let n = length-map ts entry_of in omega (arith, m, l, n);
+      room = λ h k. let m = room h k in let r = to_come_push (map entry_of ts) (entry_of y) in let f = to_come_few (map entry_of ts) in
+          let o : events_of y.stage ≡ 2 = ap events_of fresh in omega (arith, m, r, f, o, ee);
+      none = λ h. ee ∙ i.none h;
+      fresh = λ h u z q. elim (last_cases (map entry_of ts) u z (entry_of y) q) [
+        | inl o ↦ i.fresh h u z o
+        | inr o ↦ ap (λ (v : Entry). v.stage) o.1 ∙ fresh
+      ];
+    })
+
+-- the same tasks
+pub room_same : {s b : Bool} {es : List Entry} {e c : ℕ} (fs : List Entry) → HasRoom s b es e c → fs ≡ es → HasRoom s b fs e c
+room_same {s} {b} {es} {e} {c} fs i same = subst (λ (gs : List Entry). HasRoom s b gs e c) (sym same) i
+
+-- the checks of `start`, `task` and `spawn` say that a trace fits
+pub fits_if : (p : Inside) {now : PoolState} (n : ℕ) → state_of p ≡ now → IsFalse (lacks_steps now n) → IsTrue p.traced
+    → steps_of_trace n ≤ MAX_STEPS
+fits_if p n same h tr =
+    by_cases p.traced p.events.items MAX_STEPS (steps_of_trace n) (subst (λ (a : PoolState). IsFalse (lacks_steps a n)) (sym same) h) tr
+  where
+    by_cases : (b : Bool) (es : List Event) (m k : ℕ) → IsFalse (is_some (kept_of b es) && nat_lt m k) → IsTrue b → k ≤ m
+    by_cases true es m k g t = grind (arith, nat_tests, g)
+    by_cases false es m k g t = cc
+
+pub fits_more : (p : Inside) {now : PoolState} → state_of p ≡ now → IsFalse (now.started && lacks_steps now (length now.tasks + 1))
+    → IsTrue p.started → IsTrue p.traced → steps_of_trace (length p.tasks + 1) ≤ MAX_STEPS
+fits_more p {now} same h st tr =
+    let f = fits_if p (length now.tasks + 1) same (right_false now.started _ h (sym (ap (λ (a : PoolState). a.started) same) ∙ st)) tr in
+    let n = ap (λ (a : PoolState). length a.tasks) same in let l = length-map p.tasks entry_of in omega (arith, f, n, l)
+  where
+    right_false : (a b : Bool) → IsFalse (a && b) → IsTrue a → IsFalse b
+    right_false true b x y = x
+    right_false false b x y = cc
+
+-- ==== The test of a ready task: it says what the relation says, and what the pool stores of a task decides it.
+pub fresh_stage : (s : Stage) → IsTrue (is_fresh s) → s ≡ stage.Fresh
+fresh_stage stage.Fresh h = refl
+fresh_stage stage.Running h = cc
+fresh_stage stage.Done h = cc
+
+done_stage : (s : Stage) → IsTrue (is_done s) → s ≡ stage.Done
+done_stage stage.Done h = refl
+done_stage stage.Fresh h = cc
+done_stage stage.Running h = cc
+
+done_entry : (o : Option Entry) → is_done_at o ≡ true → (x : Entry) × (o ≡ Some x) × (x.stage ≡ stage.Done)
+done_entry (Some x) h = (x, refl, done_stage x.stage h)
+done_entry None h = cc
+
+-- ---- the test and the relation
+pub both_true : (a b : Bool) → IsTrue a → IsTrue b → IsTrue (a && b)
+both_true true true h g = refl
+both_true true false h g = cc
+both_true false _ h g = cc
+
+module _ (a : PoolState) (t : ℕ) where
+  -- the source of an input of t is done if that does not keep t waiting
+  by_done : (k : ℕ) (d : Bool) → IsFalse ((k == k) && not d) → d ≡ true
+  by_done k true h = refl
+  by_done k false h = absurd (grind (arith, nat_tests, h))
+
+  to_relation : (o : Option Entry) → slice_get a.tasks t ≡ o → IsTrue (is_ready_entry a t o) → IsReady t a
+  to_relation None is h = cc
+  to_relation (Some x) is h = let p = and_parts (is_fresh x.stage) _ h in
+      let q = and_parts (x.outside == 0) (count_where (keeps_waiting a.tasks t) a.inputs == 0) p.1 in
+      let z = eqb-true (count_where (keeps_waiting a.tasks t) a.inputs) 0 q.1 in record {
+        task = x;
+        is = is;
+        fresh = fresh_stage x.stage p.0;
+        outside = eqb-true x.outside 0 q.0;
+        inputs = λ s r.
+            let free = one_zero _ (count_none (keeps_waiting a.tasks t) a.inputs r.0 (record { source = s; target = t }) z r.1) in
+            let y = done_entry (slice_get a.tasks s) (by_done t (is_done_at (slice_get a.tasks s)) free) in
+            record { task = y.0; is = y.1; stage = y.2 };
+      }
+
+  to_test : IsReady t a → IsTrue (is_ready_now a t)
+  to_test r = subst (λ (o : Option Entry). IsTrue (is_ready_entry a t o)) (sym r.is)
+      (both_true (is_fresh r.task.stage) ((r.task.outside == 0) && (count_where (keeps_waiting a.tasks t) a.inputs == 0)) (ap is_fresh r.fresh)
+      (both_true (r.task.outside == 0) (count_where (keeps_waiting a.tasks t) a.inputs == 0) (eq-eqb r.task.outside 0 r.outside)
+      (eq-eqb _ 0 (count_zero (keeps_waiting a.tasks t) a.inputs (λ k i h. free k i h (same_or i.target t))))))
+    where
+      off : (b d : Bool) → d ≡ true → one (b && not d) ≡ 0
+      off true true h = refl
+      off true false h = cc
+      off false _ h = refl
+
+      free : (k : ℕ) (i : Input) → slice_get a.inputs k ≡ Some i → (i.target ≡ t) ⊎ (i.target ≢ t) → one (keeps_waiting a.tasks t i) ≡ 0
+      free k i h (inr o) = one_else i.target t (not (is_done_at (slice_get a.tasks i.source))) o
+      free k i h (inl o) =
+          let at = r.inputs i.source (k, subst (λ (n : ℕ). slice_get a.inputs k ≡ Some (record { source = i.source; target = n })) o h) in
+          off (i.target == t) (is_done_at (slice_get a.tasks i.source)) (ap is_done_at at.is ∙ ap is_done at.stage)
+
+  pub test_is : IsTrue (is_ready_now a t) ↔ IsReady t a
+  test_is = (to_relation (slice_get a.tasks t) refl, to_test)
+
+pub ready_is_this : ReadyIsThis
+ready_is_this a t = test_is a t
+
+-- ---- what the pool stores
+-- what a reader sees of these tasks and inputs; the rest is as in a
+abbrev pub shown : PoolState → List Task → List Link → PoolState
+shown a ts ls = record a { tasks = map entry_of ts; inputs = map input_of ls }
+
+done_shown : (ts : List Task) (s : ℕ) → is_done_at (slice_get (map entry_of ts) s) ≡ done_at (slice_get ts s)
+done_shown [] s = refl
+done_shown (x ∷ ts) zero = refl
+done_shown (x ∷ ts) (suc s) = done_shown ts s
+
+waiting_count : (ts : List Task) (ls : List Link) (t : ℕ)
+    → count_where (keeps_waiting (map entry_of ts) t) (map input_of ls) ≡ count_where (blocks ts t) ls
+waiting_count ts ls t = count_map (keeps_waiting (map entry_of ts) t) input_of (blocks ts t) ls
+    (λ e. ap (λ (b : Bool). (e.target == t) && not b) (done_shown ts e.source))
+
+-- a task is ready exactly if it was not dispatched and lacks nothing
+pub test_ready : (a : PoolState) {ts : List Task} {ls : List Link} (t : ℕ) (x : Task) → Facts ts ls → slice_get ts t ≡ Some x
+    → is_ready_now (shown a ts ls) t ≡ may_begin x
+test_ready a {ts} {ls} t x f is = ap (is_ready_entry (shown a ts ls) t) (map_get entry_of ts t x is)
+    ∙ ap (λ (b : Bool). is_fresh x.stage && b) (lacks _ _ x.outside x.missing (waiting_count ts ls t) (f.counted t x is).missing)
+  where
+    lacks : (n k o g : ℕ) → n ≡ k → g ≡ k + o + 0 → ((o == 0) && (n == 0)) ≡ (g == 0)
+    lacks n k o g e h = grind (arith, nat_tests, e, h)
+
+pub test_none : (a : PoolState) (ts : List Task) (ls : List Link) (t : ℕ) → slice_get ts t ≡ None → is_ready_now (shown a ts ls) t ≡ false
+test_none a ts ls t h = ap (is_ready_entry (shown a ts ls) t) (slice_get-map entry_of ts t ∙ ap (option_map entry_of) h)
+
+-- ---- the number of ready tasks
+by_class : (k : ℕ) (b : Bool) → k < 4 → one b ≡ one ((k == 0) && b) + one ((k == 1) && b) + one ((k == 2) && b) + one ((k == 3) && b)
+by_class zero b l = grind (arith, nat_tests)
+by_class (suc zero) b l = grind (arith, nat_tests)
+by_class (suc (suc zero)) b l = grind (arith, nat_tests)
+by_class (suc (suc (suc zero))) b l = grind (arith, nat_tests)
+by_class (suc (suc (suc (suc k)))) b l = absurd (omega (arith, l))
+
+count_classes : (ts : List Task) → ((t : ℕ) (x : Task) → slice_get ts t ≡ Some x → x.class < 4) → count_where may_begin ts
+    ≡ count_where (is_ready 0) ts + count_where (is_ready 1) ts + count_where (is_ready 2) ts + count_where (is_ready 3) ts
+count_classes [] h = refl
+count_classes (x ∷ ts) h = let r = count_classes ts (λ t y g. h (suc t) y g) in let o = by_class x.class (may_begin x) (h 0 x refl) in
+    let n = count_next may_begin x ts in let n0 = count_next (is_ready 0) x ts in let n1 = count_next (is_ready 1) x ts in
+    let n2 = count_next (is_ready 2) x ts in let n3 = count_next (is_ready 3) x ts in omega (arith, r, o, n, n0, n1, n2, n3)
+
+pub ready_count : (a : PoolState) {ts : List Task} {ls : List Link} → Facts ts ls → ready_tasks (shown a ts ls)
+    ≡ count_where (is_ready 0) ts + count_where (is_ready 1) ts + count_where (is_ready 2) ts + count_where (is_ready 3) ts
+ready_count a {ts} {ls} f = let long = length-map ts entry_of in
+    let e : ready_tasks (shown a ts ls) ≡ count_below (is_ready_now (shown a ts ls)) (length ts) =
+    ap (count_below (is_ready_now (shown a ts ls))) long in
+    let b = below_all (is_ready_now (shown a ts ls)) may_begin ts (λ t x is. test_ready a t x f is) in
+    let c = count_classes ts (λ t x is. (f.counted t x is).class) in omega (arith, e, b, c)
+
+-- ==== Ready tasks, and all tasks done, by what the pool stores.
+-- a ready task may begin, by what is stored of it
+pub ready_begins : (a : PoolState) {ts : List Task} {ls : List Link} (t : ℕ) (x : Task) → Facts ts ls → slice_get ts t ≡ Some x
+    → IsReady t (shown a ts ls) → IsTrue (may_begin x)
+ready_begins a {ts} {ls} t x f is r = sym (test_ready a t x f is) ∙ (test_is (shown a ts ls) t).1 r
+
+-- ---- all are done
+pub over_if : (a : PoolState) → count_where is_unfinished a.tasks ≡ 0 → IsOver a
+over_if a z t y h = by_test y.stage (one_zero (is_unfinished y) (count_none is_unfinished a.tasks t y z h))
+  where
+    by_test : (s : Stage) → IsFalse (not (is_done s)) → s ≡ stage.Done
+    by_test stage.Done h = refl
+    by_test stage.Fresh h = cc
+    by_test stage.Running h = cc
+
+pub not_over : (a : PoolState) → count_where is_unfinished a.tasks ≢ 0 → IsOver a → ⊥
+not_over a some over = let g = find_one is_unfinished a.tasks some in by_test g.1.stage (over g.0 g.1 g.2) g.3
+  where
+    by_test : (s : Stage) → s ≡ stage.Done → IsTrue (not (is_done s)) → ⊥
+    by_test s h g = cc
+
+-- ==== What a search finds.
+pub lowest_of : (b : PoolState) {ts : List Task} {ls : List Link} (o : Option ℕ) → Facts ts ls → IfSome o (λ t. ComesFirst t ts)
+    → IfSome o (λ t. IsLowest t (shown b ts ls))
+lowest_of b None f h = h
+lowest_of b {ts} {ls} (Some t) f h = let r : IsReady t (shown b ts ls) = (test_is (shown b ts ls) t).0 (test_ready b t h.task f h.is ∙ h.ready) in
+    let c = ap (λ (e : Entry). e.class) (some_same (entry_of h.task) r.task (sym (map_get entry_of ts t h.task h.is) ∙ r.is)) in record {
+      ready = r;
+      lowest = λ u q. let g = map_got entry_of ts u q.task q.is in let d = ap (λ (e : Entry). e.class) g.2 in
+          let m = h.lowest u g.0 g.1 (ready_begins b u g.0 f g.1 q) in omega (arith, c, d, m);
+    }
+
+pub none_of : (b : PoolState) {ts : List Task} {ls : List Link} (o : Option ℕ) → Facts ts ls → IfNone o (NoneReady ts)
+    → IfNone o ((t : ℕ) → IsReady t (shown b ts ls) → ⊥)
+none_of b (Some t) f h = h
+none_of b {ts} None f h = λ t r. let g = map_got entry_of ts t r.task r.is in let x : Task = g.0 in
+    not_here x.class (may_begin x) (sym (ap (ready_at x.class) g.1) ∙ h x.class (f.counted t x g.1).class t) (ready_begins b t x f g.1 r)
+
+pub left_of : (a : PoolState) (o : Option ℕ) → IfSome o (λ t. IsLowest t a) → IfSome o (λ t. IsOver a → ⊥)
+left_of a None h = h
+left_of a (Some t) h = λ over. no h.ready.task.stage h.ready.fresh (over t h.ready.task h.ready.is)
+  where
+    no : (s : Stage) → s ≡ stage.Fresh → s ≡ stage.Done → ⊥
+    no s x y = cc
+
+pub consistent : (p : Inside) → IsPool p → IsConsistent (state_of p)
+consistent p i = record {
+  lower = λ k j h.
+      let g = map_got input_of p.links.items k j h in let q = i.facts.linked k g.0 g.1 in let l = q.before in let w = q.within in
+      let s : g.0.source ≡ j.source = ap (λ (j : Input). j.source) g.2 in
+      let t : g.0.target ≡ j.target = ap (λ (j : Input). j.target) g.2 in
+      let n = length-map p.tasks entry_of in (omega (arith, l, s, t), omega (arith, w, t, n));
+  classes = λ t y h. let g = map_got entry_of p.tasks t y h in let c = (i.facts.counted t g.0 g.1).class in
+      let s : g.0.class ≡ y.class = ap (λ (e : Entry). e.class) g.2 in omega (arith, c, s);
+  fits = λ st tr. i.room.fits st (by_traced p.events.items p.traced tr);
+}
+  where
+    by_traced : (es : List Event) (b : Bool) → IsTrue (is_some (kept_of b es)) → IsTrue b
+    by_traced es true h = refl
+    by_traced es false h = cc

@@ -1,0 +1,391 @@
+-- Lists: one place written, one thing added, and how many pass a test; and the numbers that are kept of tasks.
+pub mod Words
+pub use Words.*
+use Rattle.tp_dag.specs.declared.tasks.Tasks.TheInside.{Inside as TasksInside}
+
+-- ==== Lists in which one place is written, or one thing is added, and what a function makes of them.
+-- what is at a place of a list of which one place was written
+pub set_apart : {A : Type 0} (xs : List A) (i k : ℕ) (x y : A) → slice_get (set xs i y) k ≡ Some x
+    → ((slice_get xs k ≡ Some x) × (k ≢ i)) ⊎ ((k ≡ i) × (x ≡ y))
+set_apart [] i k x y e = cc
+set_apart (z ∷ xs) zero zero x y e = inr (refl, cc)
+set_apart (z ∷ xs) zero (suc k) x y e = inl (e, λ h. omega (arith, h))
+set_apart (z ∷ xs) (suc i) zero x y e = inl (e, λ h. omega (arith, h))
+set_apart (z ∷ xs) (suc i) (suc k) x y e =
+    elim (set_apart xs i k x y e) [ inl h ↦ inl (h.0, λ g. h.1 (omega (arith, g))) | inr h ↦ inr (ap suc h.0, h.1) ]
+
+pub set_here : {A : Type 0} (xs : List A) (i : ℕ) (x y : A) → slice_get xs i ≡ Some x → slice_get (set xs i y) i ≡ Some y
+set_here [] i x y e = cc
+set_here (z ∷ xs) zero x y e = refl
+set_here (z ∷ xs) (suc i) x y e = set_here xs i x y e
+
+-- another place is as it was
+pub set_there : {A : Type 0} (xs : List A) (i k : ℕ) (y : A) → k ≢ i → slice_get (set xs i y) k ≡ slice_get xs k
+set_there [] i k y o = refl
+set_there (z ∷ xs) zero zero y o = absurd (o refl)
+set_there (z ∷ xs) zero (suc k) y o = refl
+set_there (z ∷ xs) (suc i) zero y o = refl
+set_there (z ∷ xs) (suc i) (suc k) y o = set_there xs i k y (λ h. o (ap suc h))
+
+-- the place that is added, and the others
+pub get_push : {A : Type 0} (xs : List A) (k : ℕ) (y : A)
+    → ((k ≢ length xs) × (slice_get (xs ++ y ∷ []) k ≡ slice_get xs k)) ⊎ ((k ≡ length xs) × (slice_get (xs ++ y ∷ []) k ≡ Some y))
+get_push [] zero y = inr (refl, refl)
+get_push [] (suc k) y = inl (λ e. omega (arith, e), refl)
+get_push (z ∷ xs) zero y = inl (λ e. omega (arith, e), refl)
+get_push (z ∷ xs) (suc k) y = elim (get_push xs k y) [
+  | inl h ↦ inl (λ e. h.0 (omega (arith, e)), h.1)
+  | inr h ↦ inr (ap suc h.0, h.1)
+]
+
+pub some_same : {A : Type 0} (x y : A) → Some x ≡ Some y → x ≡ y
+some_same x y e = cc
+
+pub last_cases : {A : Type 0} (xs : List A) (k : ℕ) (x y : A) → slice_get (xs ++ y ∷ []) k ≡ Some x
+    → (slice_get xs k ≡ Some x) ⊎ ((k ≡ length xs) × (x ≡ y))
+last_cases xs k x y e =
+    elim (get_push xs k y) [ inl h ↦ inl (sym h.1 ∙ e) | inr h ↦ inr (h.0, some_same x y (sym e ∙ h.1)) ]
+
+pub at_below : {A : Type 0} (xs : List A) (k : ℕ) → k < length xs → (x : A) × (slice_get xs k ≡ Some x)
+at_below [] k l = absurd (omega (arith, l))
+at_below (x ∷ xs) zero l = (x, refl)
+at_below (x ∷ xs) (suc k) l = at_below xs k (omega (arith, l))
+
+-- ---- what a function makes of a list
+pub map_get : {A B : Type 0} (f : A → B) (xs : List A) (k : ℕ) (x : A) → slice_get xs k ≡ Some x → slice_get (map f xs) k ≡ Some (f x)
+map_get f xs k x e = slice_get-map f xs k ∙ ap (option_map f) e
+
+pub map_got : {A B : Type 0} (f : A → B) (xs : List A) (k : ℕ) (y : B) → slice_get (map f xs) k ≡ Some y
+    → (x : A) × (slice_get xs k ≡ Some x) × (f x ≡ y)
+map_got f [] k y e = cc
+map_got f (z ∷ xs) zero y e = (z, refl, cc)
+map_got f (z ∷ xs) (suc k) y e = map_got f xs k y e
+
+-- a place is written with what the function cannot tell from what was there
+pub map_same : {A B : Type 0} (f : A → B) (xs : List A) (k : ℕ) (x y : A) → slice_get xs k ≡ Some x → f y ≡ f x
+    → map f (set xs k y) ≡ map f xs
+map_same f [] k x y e s = refl
+map_same f (z ∷ xs) zero x y e s = (let same : z ≡ x = cc in ap (λ (b : _). b ∷ map f xs) (s ∙ ap f (sym same)))
+map_same f (z ∷ xs) (suc k) x y e s = ap (λ ys. f z ∷ ys) (map_same f xs k x y e s)
+
+-- ==== How many of a list pass a test, when one place is written or one thing is added, and numbers that say so for each node.
+pub count_next : {A : Type 0} (test : A → Bool) (x : A) (xs : List A) → count_where test (x ∷ xs) ≡ count_where test xs + one (test x)
+count_next test x xs = elim (test x) as (λ b. cond b (count_where test xs + 1) (count_where test xs) ≡ count_where test xs + one b)
+    [ true ↦ refl | false ↦ omega arith ]
+
+one_few : (b : Bool) → one b ≤ 1
+one_few true = omega arith
+one_few false = omega arith
+
+pub one_zero : (b : Bool) → one b ≡ 0 → IsFalse b
+one_zero true h = cc
+one_zero false h = refl
+
+-- none passes if the number is 0
+pub count_none : {A : Type 0} (test : A → Bool) (xs : List A) (k : ℕ) (x : A) → count_where test xs ≡ 0 → slice_get xs k ≡ Some x
+    → one (test x) ≡ 0
+count_none test [] k x e h = cc
+count_none test (y ∷ ys) zero x e h = let n = count_next test y ys in let same : y ≡ x = cc in
+    let m : one (test y) ≡ 0 = omega (arith, n, e) in ap (λ z. one (test z)) (sym same) ∙ m
+count_none test (y ∷ ys) (suc k) x e h = let n = count_next test y ys in count_none test ys k x (omega (arith, n, e)) h
+
+-- one that passes counts
+pub count_at : {A : Type 0} (test : A → Bool) (xs : List A) (k : ℕ) (x : A) → slice_get xs k ≡ Some x → one (test x) ≤ count_where test xs
+count_at test [] k x h = cc
+count_at test (y ∷ ys) zero x h = let n = count_next test y ys in let same : y ≡ x = cc in
+    let m : one (test y) ≡ one (test x) = ap (λ z. one (test z)) same in omega (arith, n, m)
+count_at test (y ∷ ys) (suc k) x h = let n = count_next test y ys in let r = count_at test ys k x h in omega (arith, n, r)
+
+-- the number is 0 if none passes
+pub count_zero : {A : Type 0} (test : A → Bool) (xs : List A) → ((k : ℕ) (x : A) → slice_get xs k ≡ Some x → one (test x) ≡ 0)
+    → count_where test xs ≡ 0
+count_zero test [] h = refl
+count_zero test (y ∷ ys) h =
+    let n = count_next test y ys in let o = h 0 y refl in let r = count_zero test ys (λ k x g. h (suc k) x g) in omega (arith, n, o, r)
+
+pub count_few : {A : Type 0} (test : A → Bool) (xs : List A) → count_where test xs ≤ length xs
+count_few test [] = omega arith
+count_few test (y ∷ ys) = let n = count_next test y ys in let r = count_few test ys in let o = one_few (test y) in omega (arith, n, r, o)
+
+-- one place is written
+pub count_set : {A : Type 0} (test : A → Bool) (xs : List A) (k : ℕ) (x y : A) → slice_get xs k ≡ Some x
+    → count_where test (set xs k y) + one (test x) ≡ count_where test xs + one (test y)
+count_set test [] k x y h = cc
+count_set test (z ∷ zs) zero x y h = let n = count_next test y zs in let m = count_next test z zs in let same : z ≡ x = cc in
+    let o : one (test z) ≡ one (test x) = ap (λ u. one (test u)) same in omega (arith, n, m, o)
+count_set test (z ∷ zs) (suc k) x y h =
+    let n = count_next test z (set zs k y) in let m = count_next test z zs in let r = count_set test zs k x y h in omega (arith, n, m, r)
+
+pub count_push : {A : Type 0} (test : A → Bool) (xs : List A) (x : A) → count_where test (xs ++ x ∷ []) ≡ count_where test xs + one (test x)
+count_push test [] x = count_next test x []
+count_push test (y ∷ ys) x =
+    let n = count_next test y (ys ++ x ∷ []) in let m = count_next test y ys in let r = count_push test ys x in omega (arith, n, m, r)
+
+-- if the number is not 0, one passes
+pub find_one : {A : Type 0} (test : A → Bool) (xs : List A) → count_where test xs ≢ 0
+    → (k : ℕ) × (x : A) × (slice_get xs k ≡ Some x) × IsTrue (test x)
+find_one {A = A} test [] h = absurd (h refl)
+find_one {A = A} test (y ∷ ys) h = pick (test y) refl (λ e. let n = count_next test y ys in let o : one (test y) ≡ 0 = ap one e in
+    find_one test ys (λ z. h (omega (arith, n, o, z))))
+  where
+    pick : (b : Bool) → test y ≡ b → (test y ≡ false → (k : ℕ) × (x : A) × (slice_get ys k ≡ Some x) × IsTrue (test x))
+        → (k : ℕ) × (x : A) × (slice_get (y ∷ ys) k ≡ Some x) × IsTrue (test x)
+    pick true e rest = (0, y, refl, e)
+    pick false e rest = let r = rest e in (suc r.0, r.1, r.2, r.3)
+
+pub same_or : (n m : ℕ) → (n ≡ m) ⊎ (n ≢ m)
+same_or n m = grind arith
+
+-- the tests agree on each
+pub count_same : {A : Type 0} (f g : A → Bool) (xs : List A) → ((k : ℕ) (x : A) → slice_get xs k ≡ Some x → f x ≡ g x)
+    → count_where f xs ≡ count_where g xs
+count_same f g [] h = refl
+count_same f g (x ∷ xs) h = let n = count_next f x xs in let m = count_next g x xs in let o = ap one (h 0 x refl) in
+    let r = count_same f g xs (λ k y e. h (suc k) y e) in omega (arith, n, m, o, r)
+
+-- the tests f and g together are h
+pub count_sum : {A : Type 0} (f g h : A → Bool) (xs : List A)
+    → ((k : ℕ) (x : A) → slice_get xs k ≡ Some x → one (h x) ≡ one (f x) + one (g x)) → count_where h xs ≡ count_where f xs + count_where g xs
+count_sum f g h [] e = refl
+count_sum f g h (x ∷ xs) e = let l = count_next f x xs in let m = count_next g x xs in let n = count_next h x xs in let o = e 0 x refl in
+    let r = count_sum f g h xs (λ k y i. e (suc k) y i) in omega (arith, l, m, n, o, r)
+
+pub count_map : {A B : Type 0} (f : B → Bool) (g : A → B) (h : A → Bool) (xs : List A) → ((x : A) → f (g x) ≡ h x)
+    → count_where f (map g xs) ≡ count_where h xs
+count_map f g h [] e = refl
+count_map f g h (x ∷ xs) e = let n = count_next f (g x) (map g xs) in let m = count_next h x xs in let r = count_map f g h xs e in
+    let o : one (f (g x)) ≡ one (h x) = ap one (e x) in omega (arith, n, m, r, o)
+
+-- ==== How many of the first n pass a test, and the newest output of a task among them.
+first_cons : {A : Type 0} (test : A → Bool) (x : A) (xs : List A) (n : ℕ)
+    → count_first test (x ∷ xs) (suc n) ≡ one (test x) + count_first test xs n
+first_cons test x xs zero = omega arith
+first_cons test x xs (suc n) = let r = first_cons test x xs n in omega (arith, r)
+
+pub first_all : {A : Type 0} (test : A → Bool) (xs : List A) → count_first test xs (length xs) ≡ count_where test xs
+first_all test [] = refl
+first_all test (x ∷ xs) = let long : length (x ∷ xs) ≡ suc (length xs) = omega arith in
+    let e : count_first test (x ∷ xs) (length (x ∷ xs)) ≡ count_first test (x ∷ xs) (suc (length xs)) = ap (count_first test
+    (x ∷ xs)) long in
+    let c = first_cons test x xs (length xs) in let r = first_all test xs in let n = count_next test x xs in omega (arith, e, c, r, n)
+
+next_below : (f : ℕ → Bool) (n : ℕ) → count_below f (suc n) ≡ count_below f n + one (f n)
+next_below f n = elim (f n) as (λ b. cond b (count_below f n + 1) (count_below f n) ≡ count_below f n + one b)
+    [ true ↦ refl | false ↦ omega arith ]
+
+below_first : {A : Type 0} (f : ℕ → Bool) (g : A → Bool) (xs : List A) (n : ℕ) → n ≤ length xs
+    → ((t : ℕ) (x : A) → slice_get xs t ≡ Some x → f t ≡ g x) → count_below f n ≡ count_first g xs n
+below_first f g xs zero l h = refl
+below_first f g xs (suc n) l h = let x = at_below xs n (omega (arith, l)) in let r = below_first f g xs n (omega (arith, l)) h in
+    let a = next_below f n in
+    let b : one (f n) ≡ at_passes g (slice_get xs n) = ap one (h n x.0 x.1) ∙ sym (ap (at_passes g) x.1) in omega (arith, r, a, b)
+
+pub below_all : {A : Type 0} (f : ℕ → Bool) (g : A → Bool) (xs : List A) → ((t : ℕ) (x : A) → slice_get xs t ≡ Some x → f t ≡ g x)
+    → count_below f (length xs) ≡ count_where g xs
+below_all f g xs h = below_first f g xs (length xs) (omega arith) h ∙ first_all g xs
+
+-- ---- outputs
+pub newest_agree : (s : ℕ) (xs ys : List Link) (n : ℕ) → ((k : ℕ) → k < n → slice_get ys k ≡ slice_get xs k) → newest s ys n ≡ newest s xs n
+newest_agree s xs ys zero h = refl
+newest_agree s xs ys (suc n) h = let r = newest_agree s xs ys n (λ k l. h k (omega (arith, l))) in
+    ap (λ (o : Option Link). cond (is_of s o) (suc n) (newest s ys n)) (h n (omega arith))
+    ∙ ap (λ (m : ℕ). cond (is_of s (slice_get xs n)) (suc n) m) r
+
+pub newest_few : (s : ℕ) (xs : List Link) (n : ℕ) → newest s xs n ≤ n
+newest_few s xs zero = omega arith
+newest_few s xs (suc n) = elim (is_of s (slice_get xs n)) as (λ b. cond b (suc n) (newest s xs n) ≤ suc n)
+    [ true ↦ omega arith | false ↦ (let r = newest_few s xs n in omega (arith, r)) ]
+
+-- the others are not from the task
+at_skip : (s t : ℕ) (o : Option Link) → is_of s o ≡ false → at_passes (is_from_to s t) o ≡ 0
+at_skip s t None h = refl
+at_skip s t (Some e) h = ap one (ap (λ (b : Bool). b && (e.target == t)) h)
+
+-- Place k is that of the newest of the first n inputs from task s: it counts, and those behind it do not.
+pub record IsNewest (s : ℕ) (xs : List Link) (n k : ℕ) : Type 0 where
+  pub within : k < n
+  pub from : is_of s (slice_get xs k) ≡ true
+  pub rest : (t : ℕ) → owed s xs n t ≡ owed s xs k t + at_passes (is_from_to s t) (slice_get xs k)
+
+pub newest_at : (s : ℕ) (xs : List Link) (n k : ℕ) → newest s xs n ≡ suc k → IsNewest s xs n k
+newest_at s xs zero k e = absurd (omega (arith, e))
+newest_at s xs (suc n) k e = go (is_of s (slice_get xs n)) refl e (newest_at s xs n k)
+  where
+    go : (b : Bool) → is_of s (slice_get xs n) ≡ b → cond b (suc n) (newest s xs n) ≡ suc k → (newest s xs n ≡ suc k → IsNewest s xs n k)
+        → IsNewest s xs (suc n) k
+    go true h e before = let q : n ≡ k = omega (arith, e) in
+        subst (λ (j : ℕ). IsNewest s xs (suc n) j) q (record { within = omega arith; from = h; rest = λ t. refl })
+    go false h e before = let r = before e in record {
+      within = (let w = r.within in omega (arith, w));
+      from = r.from;
+      rest = λ t. let a = at_skip s t (slice_get xs n) h in let q = r.rest t in omega (arith, a, q);
+    }
+
+pub newest_none : (s t : ℕ) (xs : List Link) (n : ℕ) → newest s xs n ≡ 0 → owed s xs n t ≡ 0
+newest_none s t xs zero e = refl
+newest_none s t xs (suc n) e = go (is_of s (slice_get xs n)) refl e (newest_none s t xs n)
+  where
+    go : (b : Bool) → is_of s (slice_get xs n) ≡ b → cond b (suc n) (newest s xs n) ≡ 0 → (newest s xs n ≡ 0 → owed s xs n t ≡ 0)
+        → owed s xs (suc n) t ≡ 0
+    go true h e before = absurd (omega (arith, e))
+    go false h e before = let a = at_skip s t (slice_get xs n) h in let r = before e in omega (arith, a, r)
+
+-- ==== The numbers that are kept of tasks stay right when a task is written or added.
+pub one_here : (n m : ℕ) (b : Bool) → n ≡ m → one ((n == m) && b) ≡ one b
+one_here n m true e = grind (arith, nat_tests, e)
+one_here n m false e = grind (arith, nat_tests, e)
+
+pub one_else : (n m : ℕ) (b : Bool) → n ≢ m → one ((n == m) && b) ≡ 0
+one_else n m b o = grind (arith, nat_tests, o)
+
+-- ---- ready tasks
+-- one number is written, and the numbers of tasks change so
+ready_written : {ts new : List Task} {rs : List ℕ} (class m : ℕ) → AreCounts ts rs → class < 4
+    → ((n : ℕ) → n ≢ class → count_where (is_ready n) new ≡ count_where (is_ready n) ts)
+    → (slice_index_or rs class 0 ≡ count_where (is_ready class) ts → m ≡ count_where (is_ready class) new)
+    → AreCounts new (set rs class m)
+ready_written {ts} {new} {rs} class m c l other here = record {
+  long = length-set rs class m ∙ c.long;
+  right = λ n d b. elim (same_or n class) [
+    | inl e ↦ subst (λ (j : ℕ). slice_index_or (set rs class m) j d ≡ count_where (is_ready j) new) (sym e)
+        (let long = c.long in get_or-set_same rs class m d (omega (arith, l, long)) ∙ here (c.right class 0 l))
+    | inr e ↦ get_or-set_other rs class n m d e ∙ (c.right n d b ∙ sym (other n e))
+  ];
+}
+
+-- `moved` counts one task less and one more
+abbrev pub Moved : ℕ → ℕ → Bool → Bool → Type 0
+Moved n m from to = one from ≤ n → n ≤ MAX_TASKS → m + one from ≡ n + one to
+
+pub ready_set : {ts : List Task} {rs : List ℕ} (t m : ℕ) (x y : Task) (b d : Bool) → AreCounts ts rs → length ts ≤ MAX_TASKS
+    → slice_get ts t ≡ Some x → x.class < 4 → y.class ≡ x.class → b ≡ may_begin x → d ≡ may_begin y
+    → Moved (slice_index_or rs x.class 0) m b d → AreCounts (set ts t y) (set rs x.class m)
+ready_set {ts} {rs} t m x y b d c few is l same f g moved = ready_written x.class m c l
+    (λ n o. let s = count_set (is_ready n) ts t x y is in let u = one_else x.class n (may_begin x) (λ h. o (sym h)) in
+    let v = one_else y.class n (may_begin y) (λ h. o (sym h ∙ same)) in omega (arith, s, u, v))
+    (λ r. let s = count_set (is_ready x.class) ts t x y is in let u = one_here x.class x.class (may_begin x) refl in
+    let v = one_here y.class x.class (may_begin y) same in let p = ap one f in let q = ap one g in
+    let a = count_at (is_ready x.class) ts t x is in let k = count_few (is_ready x.class) ts in
+    let e = moved (omega (arith, r, a, u, p)) (omega (arith, r, k, few)) in omega (arith, r, s, u, v, p, q, e))
+
+pub ready_push : {ts : List Task} {rs : List ℕ} (m : ℕ) (y : Task) (d : Bool) → AreCounts ts rs → length ts ≤ MAX_TASKS → y.class < 4
+    → d ≡ may_begin y → Moved (slice_index_or rs y.class 0) m false d → AreCounts (ts ++ y ∷ []) (set rs y.class m)
+ready_push {ts} {rs} m y d c few l g moved = ready_written y.class m c l
+    (λ n o. let s = count_push (is_ready n) ts y in let v = one_else y.class n (may_begin y) (λ h. o (sym h)) in omega (arith, s, v))
+    (λ r. let s = count_push (is_ready y.class) ts y in let v = one_here y.class y.class (may_begin y) refl in let q = ap one g in
+    let k = count_few (is_ready y.class) ts in
+    let e : m + 0 ≡ slice_index_or rs y.class 0 + one d = moved (omega arith) (omega (arith, r, k, few)) in omega (arith, r, s, v, q, e))
+
+pub ready_few : {ts : List Task} {rs : List ℕ} (class : ℕ) → AreCounts ts rs → length ts ≤ MAX_TASKS → class < 4
+    → slice_index_or rs class 0 ≤ MAX_TASKS
+ready_few {ts} class c few l = let r = c.right class 0 l in let k = count_few (is_ready class) ts in omega (arith, r, k, few)
+
+-- ---- tasks that pass a test
+pub tally_few : {n : ℕ} (test : Entry → Bool) (ts : List Task) → n ≡ count_where test (map entry_of ts) → length ts ≤ MAX_TASKS → n ≤ MAX_TASKS
+tally_few test ts c few = let f = count_few test (map entry_of ts) in let l = length-map ts entry_of in omega (arith, c, f, l, few)
+
+pub tally_set : {n m : ℕ} (test : Entry → Bool) (ts : List Task) (t : ℕ) (x y : Task) (b d : Bool) → n ≡ count_where test (map entry_of ts)
+    → length ts ≤ MAX_TASKS → slice_get ts t ≡ Some x → b ≡ test (entry_of x) → d ≡ test (entry_of y) → Moved n m b d
+    → m ≡ count_where test (map entry_of (set ts t y))
+tally_set test ts t x y b d c few is f g moved = let i = map_get entry_of ts t x is in
+    let s = count_set test (map entry_of ts) t (entry_of x) (entry_of y) i in let a = count_at test (map entry_of ts) t (entry_of x) i in
+    let w : count_where test (map entry_of (set ts t y)) ≡ count_where test (set (map entry_of ts) t (entry_of y)) =
+    ap (count_where test) (map-set entry_of ts t y) in let p = ap one f in let q = ap one g in
+    let e = moved (omega (arith, c, a, p)) (tally_few test ts c few) in omega (arith, c, s, w, p, q, e)
+
+pub tally_push : {n m : ℕ} (test : Entry → Bool) (ts : List Task) (y : Task) (d : Bool) → n ≡ count_where test (map entry_of ts)
+    → length ts ≤ MAX_TASKS → d ≡ test (entry_of y) → Moved n m false d → m ≡ count_where test (map entry_of (ts ++ y ∷ []))
+tally_push {n} {m} test ts y d c few g moved = let s = count_push test (map entry_of ts) (entry_of y) in
+    let w : count_where test (map entry_of (ts ++ y ∷ [])) ≡ count_where test (map entry_of ts ++ entry_of y ∷ []) =
+    ap (count_where test) (map-append entry_of ts (y ∷ [])) in let q = ap one g in
+    let e : m + 0 ≡ n + one d = moved (omega arith) (tally_few test ts c few) in omega (arith, c, s, w, q, e)
+
+-- ---- what the bodies read
+pub read_at : {ts now : List Task} {class : ℕ} (t : ℕ) (x : Task) → ts ≡ now → HasClass t class now → x ≡ slice_index_or ts t x
+    → (slice_get ts t ≡ Some x) × (class ≡ x.class)
+read_at {ts} {now} t x same h e = let is = ap (λ (xs : List Task). slice_get xs t) same ∙ h.is in
+    let q : h.task ≡ x = sym (e ∙ get_or_from_slice_get ts t h.task x is) in (is ∙ ap Some q, h.same ∙ ap (λ (z : Task). z.class) q)
+
+pub set_classes : (ts : List Task) (t : ℕ) (x y : Task) → ((u : ℕ) (z : Task) → slice_get ts u ≡ Some z → z.class < 4) → slice_get ts t ≡ Some x
+    → y.class ≡ x.class → (u : ℕ) (z : Task) → slice_get (set ts t y) u ≡ Some z → z.class < 4
+set_classes ts t x y h is same u z g = elim (set_apart ts t u z y g) [
+  | inl o ↦ h u z o.0
+  | inr o ↦ (let l = h t x is in let q = ap (λ (w : Task). w.class) o.1 in omega (arith, l, q, same))
+]
+
+pub push_classes : (ts : List Task) (y : Task) → ((u : ℕ) (z : Task) → slice_get ts u ≡ Some z → z.class < 4) → y.class < 4
+    → (u : ℕ) (z : Task) → slice_get (ts ++ y ∷ []) u ≡ Some z → z.class < 4
+push_classes ts y h l u z g = elim (last_cases ts u z y g) [
+  | inl o ↦ h u z o
+  | inr o ↦ (let q = ap (λ (w : Task). w.class) o.1 in omega (arith, l, q))
+]
+
+-- ---- the first n tasks are as they were described
+abbrev pub reset_to : ℕ → List Task → List Task
+reset_to n ts = map as_new (take n ts) ++ drop n ts
+
+pub reset_at : {ts : List Task} (first : List Task) (n : ℕ) (x : Task) → ts ≡ reset_to n first → n < length first → slice_get ts n ≡ Some x
+    → set ts n (as_new x) ≡ reset_to (n + 1) first
+reset_at {ts} first n x e l is = map_over_more as_new first ts n x l e (sym (get_or_from_slice_get ts n x x is))
+
+-- the numbers of these items are right
+pub counted_items : {ts : List Task} (p : TasksInside) → p.items.items ≡ ts → length ts ≤ MAX_TASKS
+    → ((t : ℕ) (x : Task) → slice_get ts t ≡ Some x → x.class < 4) → AreCounts ts p.ready → p.left ≡ count_where is_unfinished (map entry_of ts)
+    → p.running ≡ count_where is_dispatched (map entry_of ts) → p.awaiting ≡ count_where is_awaiting (map entry_of ts) → AreCounted p
+counted_items p e few classes ready left running awaiting = let s = sym e in record {
+  few = subst (λ (xs : List Task). length xs ≤ MAX_TASKS) s few;
+  classes = subst (λ (xs : List Task). (t : ℕ) (x : Task) → slice_get xs t ≡ Some x → x.class < 4) s classes;
+  ready = subst (λ (xs : List Task). AreCounts xs p.ready) s ready;
+  left = subst (λ (xs : List Task). p.left ≡ count_where is_unfinished (map entry_of xs)) s left;
+  running = subst (λ (xs : List Task). p.running ≡ count_where is_dispatched (map entry_of xs)) s running;
+  awaiting = subst (λ (xs : List Task). p.awaiting ≡ count_where is_awaiting (map entry_of xs)) s awaiting;
+}
+
+-- ---- the search
+pub le_or : (n m : ℕ) → (n ≤ m) ⊎ (m < n)
+le_or n m = grind arith
+
+ready_parts : (class : ℕ) (x : Task) → IsTrue (is_ready class x) → (x.class ≡ class) × IsTrue (may_begin x)
+ready_parts class x h = let p = and_parts (x.class == class) (may_begin x) h in (eqb-true x.class class p.0, p.1)
+
+pub not_here : (k : ℕ) (b : Bool) {P : Type 0} → IsFalse ((k == k) && b) → IsTrue b → P
+not_here k true h g = absurd (grind (arith, nat_tests, h))
+not_here k false h g = cc
+
+pub first_of : (ts : List Task) (class : ℕ) (o : Option ℕ) → IfSome o (λ t. IsTrue (ready_at class (slice_get ts t)))
+    → ((k : ℕ) → k < class → NoneOf k ts) → IfSome o (λ t. ComesFirst t ts)
+first_of ts class None h below = h
+first_of ts class (Some t) h below = by_task (slice_get ts t) refl h
+  where
+    by_task : (o : Option Task) → slice_get ts t ≡ o → IsTrue (ready_at class o) → ComesFirst t ts
+    by_task None is g = cc
+    by_task (Some x) is g = let p = ready_parts class x g in record {
+      task = x;
+      is = is;
+      ready = p.1;
+      lowest = λ u y h m. elim (le_or class y.class) [
+        | inl l ↦ (let e = p.0 in omega (arith, e, l))
+        | inr l ↦ not_here y.class (may_begin y) (sym (ap (ready_at y.class) h) ∙ below y.class l u) m
+      ];
+    }
+
+-- none is found only if there is none
+pub found_of : (ts : List Task) (class : ℕ) (P : Type 0) (o : Option ℕ) → IfNone o (NoneOf class ts) → count_where (is_ready class) ts ≢ 0
+    → IfNone o P
+found_of ts class P (Some t) h some = h
+found_of ts class P None h some = let g = find_one (is_ready class) ts some in absurd (no _ g.3 (sym (ap (ready_at class) g.2) ∙ h g.0))
+  where
+    no : (b : Bool) → IsTrue b → IsFalse b → ⊥
+    no b x y = cc
+
+pub none_more : (ts : List Task) (class : ℕ) → ((k : ℕ) → k < class → NoneOf k ts) → count_where (is_ready class) ts ≡ 0
+    → (k : ℕ) → k < class + 1 → NoneOf k ts
+none_more ts class below z k l t = elim (le_or class k) [
+  | inr m ↦ below k m t
+  | inl m ↦ (let e : k ≡ class = omega (arith, l, m) in by_task k e (slice_get ts t) refl)
+]
+  where
+    by_task : (k : ℕ) → k ≡ class → (o : Option Task) → slice_get ts t ≡ o → IsFalse (ready_at k o)
+    by_task k e None is = refl
+    by_task k e (Some x) is = subst (λ (j : ℕ). IsFalse (is_ready j x)) (sym e)
+        (one_zero (is_ready class x) (count_none (is_ready class) ts t x z is))

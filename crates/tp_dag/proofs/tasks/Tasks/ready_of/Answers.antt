@@ -1,5 +1,0 @@
-use Rattle.tp_dag.proofs.Lemmas.{new_may}
-use Rattle.tp_dag.proofs.tasks.Tasks.ready_of.Goals as goal
-
-pub returns-clause-few : goal.returns-clause-few
-returns-clause-few c = (new_may c.args.class c.self.invariant.ready c.self.invariant.few c.requires).few
