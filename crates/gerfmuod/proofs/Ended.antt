@@ -1,28 +1,11 @@
 -- Safety of the results: if a call says that the pool had terminated, it had.
-use Rattle.std.proofs.Common.{ℕ, ◌≡◌, ◌+◌, ◌≤◌, ◌++◌, Bool, true, false, inl, inr, List, [], ◌∷◌, Option, Some}
-use Rattle.std.proofs.Common.{None, Result, length, refl, sym, ap, subst, ◌∙◌, arith}
-use Rattle.std.specs.Prelude.{Ok, Err, IsFalse, IsTrue, ◌&&◌, if◌then◌else◌}
-use Rattle.std.proofs.lemmas.Bool.{cases_Bool, lt-leb}
-use Rattle.tp_base.specs.declared.Refusal.{Refusal}
-use Rattle.tp_base.specs.declared.Refusal.TheVariants.{HistoryFull}
-use Rattle.tp_base.specs.declared.Step.{Step}
-use Rattle.tp_base.specs.declared.Step.TheVariants.{Give, Judge}
-use Rattle.tp_wave.specs.Generations.{present}
-use Rattle.tp_wave.specs.Sums.{judgement, until, visit, waves, visited_at}
-use Rattle.tp_core.specs.declared.Reply.{Reply}
-use Rattle.tp_core.specs.declared.Reply.TheVariants.{Plain, WaveSums, Not, Over, Opened}
-use Rattle.tp_core.specs.Accepted.{Accepted, Answers, judged, reply_to, with_step, world_of}
-use Rattle.tp_core.specs.Generations.{InEach}
-use Rattle.tp_core.specs.NeverEarly.{IsNeverEarly, IsOverFrom}
-use Rattle.tp_core.specs.Settled.{Settles}
-use Rattle.tp_core.specs.World.{is_quiet}
-use Rattle.tp_core.proofs.Generations.{present-control}
-use Rattle.tp_text.proofs.TracedEnds.{judged_wave}
-use Rattle.gerfmuod.specs.Asked.{settled, unsettled}
-use Rattle.gerfmuod.specs.Pool.{IsOver, TellsNoEarlyEnd}
-use Rattle.gerfmuod.specs.Room.{is_full}
-use Rattle.gerfmuod.specs.Told.{is_ending_if, leaves_nothing, plain, told, reply_told, refusal_told, AnswersInRoom, AnswersTo, IsTold}
-use Rattle.gerfmuod.specs.declared.answer.Answer.{Answer}
+use Rattle.gerfmuod.proofs.Words.{ℕ, ◌≡◌, ◌+◌, ◌≤◌, ◌++◌, Bool, true, false, inl, inr, List, [], ◌∷◌, Option, Some, None, Result, length}
+use Rattle.gerfmuod.proofs.Words.{refl, sym, ap, subst, ◌∙◌, arith, Ok, Err, IsFalse, IsTrue, ◌&&◌, if◌then◌else◌, cases_Bool, lt-leb}
+use Rattle.gerfmuod.proofs.Words.{Refusal, HistoryFull, Step, Give, Judge, present, judgement, until, visit, waves, visited_at, Reply}
+use Rattle.gerfmuod.proofs.Words.{Plain, WaveSums, Not, Over, Opened, Accepted, Answers, judged, reply_to, with_step, world_of, InEach}
+use Rattle.gerfmuod.proofs.Words.{IsNeverEarly, IsOverFrom, Settles, is_quiet, present-control, judged_wave, settled, unsettled, IsOver}
+use Rattle.gerfmuod.proofs.Words.{TellsNoEarlyEnd, is_full, is_ending_if, leaves_nothing, plain, told, reply_told, refusal_told}
+use Rattle.gerfmuod.proofs.Words.{AnswersInRoom, AnswersTo, IsTold, Answer}
 
 -- ---- another wave followed the one that is named, so `Judge` does not move its end
 until_judge : (w : ℕ) (past : List Step) → w + 1 ≤ waves past → until w (Judge ∷ past) ≡ until w past
@@ -92,38 +75,16 @@ told_over old new (Some s) (Err r) a never = record { ended = λ e. let none = r
 told_over old new None (Ok reply) a never = record { ended = λ e. let none = a.0 in cc; never_early = never }
 told_over old new None (Err r) a never = record { ended = λ e. let none = refusal_tells r in cc; never_early = never }
 
--- The result of a step that was taken.
-pub told_as : (old new : Accepted) (o : Option Step) (reply : Reply) (u : Answer) → AnswersTo old o (Ok reply) new
-    → InEach (IsNeverEarly new.nodes) new.steps → u ≡ told o (Ok reply) new
-    → IsTold old o u new × TellsNoEarlyEnd (u.told ≡ 3) u.number new
-told_as old new o reply u a never is = (
-  (Ok reply, a, is),
-  subst (λ (x : Answer). TellsNoEarlyEnd (x.told ≡ 3) x.number new) (sym is) (told_over old new o (Ok reply) a never),
-)
-
--- The same, if whether the step ended something was seen before.
-pub told_left : (old new : Accepted) (o : Option Step) (reply : Reply) (u : Answer) (ends : Bool) → AnswersTo old o (Ok reply) new
-    → InEach (IsNeverEarly new.nodes) new.steps → ends ≡ is_ending_if o
-    → u ≡ (if ends && is_quiet (world_of new) then plain 0 5 0 else reply_told reply)
-    → IsTold old o u new × TellsNoEarlyEnd (u.told ≡ 3) u.number new
-told_left old new o reply u ends a never e is =
-    told_as old new o reply u a never
-    (subst (λ (b : Bool). u ≡ (if b && is_quiet (world_of new) then plain 0 5 0 else reply_told reply)) e is)
-
--- A step after which nothing is left, and one after which something is left.
-pub told_quiet : (old new : Accepted) (o : Option Step) (reply : Reply) (ends left : Bool) → AnswersTo old o (Ok reply) new
-    → InEach (IsNeverEarly new.nodes) new.steps → ends ≡ is_ending_if o → left ≡ (ends && is_quiet (world_of new)) → IsTrue left
-    → IsTold old o (plain 0 5 0) new × TellsNoEarlyEnd ((plain 0 5 0).told ≡ 3) (plain 0 5 0).number new
-told_quiet old new o reply ends left a never e is all =
-    let there : IsTrue (ends && is_quiet (world_of new)) = sym is ∙ all in
-    told_left old new o reply (plain 0 5 0) ends a never e (rw there refl)
-
-pub told_plain : (old new : Accepted) (o : Option Step) (ends left : Bool) → AnswersTo old o (Ok Plain) new
-    → InEach (IsNeverEarly new.nodes) new.steps → ends ≡ is_ending_if o → left ≡ (ends && is_quiet (world_of new)) → IsFalse left
-    → IsTold old o (plain 0 0 0) new × TellsNoEarlyEnd ((plain 0 0 0).told ≡ 3) (plain 0 0 0).number new
-told_plain old new o ends left a never e is some =
-    let none : IsFalse (ends && is_quiet (world_of new)) = sym is ∙ some in
-    told_left old new o Plain (plain 0 0 0) ends a never e (rw none refl)
+-- The result of a step that was taken, if whether it left nothing was seen before.
+pub told_left : (old new : Accepted) (o : Option Step) (reply : Reply) (u : Answer) (ends left : Bool) → AnswersTo old o (Ok reply) new
+    → InEach (IsNeverEarly new.nodes) new.steps → ends ≡ is_ending_if o → left ≡ (ends && is_quiet (world_of new))
+    → u ≡ (if left then plain 0 5 0 else reply_told reply) → IsTold old o u new × TellsNoEarlyEnd (u.told ≡ 3) u.number new
+told_left old new o reply u ends left a never e l is =
+    let seen : left ≡ leaves_nothing o new = l ∙ rw e refl in
+    let now : u ≡ told o (Ok reply) new = is ∙ rw seen refl in (
+      (Ok reply, a, now),
+      subst (λ (x : Answer). TellsNoEarlyEnd (x.told ≡ 3) x.number new) (sym now) (told_over old new o (Ok reply) a never),
+    )
 
 -- ---- the same for `settle`
 unsettled_tells : (r : Refusal) → (unsettled r).refused ≡ 0 → ⊥

@@ -1,27 +1,10 @@
 -- A core keeps room for settling, so settling is never refused for lack of it.
-use Rattle.std.proofs.Common.{ℕ, ◌≡◌, ◌≢◌, ◌+◌, ◌*◌, ◌≤◌, ◌++◌, Bool, true, false, List, ◌∷◌, [], length, Result, Some, refl, sym}
-use Rattle.std.proofs.Common.{ap, subst, ◌∙◌, arith}
-use Rattle.std.specs.Prelude.{Ok, Err, None, IsFalse, IsTrue, nat_lt, not}
-use Rattle.std.proofs.lemmas.List.{length-append}
-use Rattle.std.proofs.lemmas.Bool.{both_ways}
-use Rattle.std.proofs.lemmas.Bool.Decides.{nat_tests}
-use Rattle.tp_base.specs.Checks.{first_refusal, Check}
-use Rattle.tp_base.specs.Refusals.{number_of}
-use Rattle.tp_base.specs.declared.limits.TheConstants.{MAX_STEPS}
-use Rattle.tp_base.specs.declared.Refusal.{Refusal}
-use Rattle.tp_base.specs.declared.Refusal.TheVariants.{Ended, NotIdle, HistoryFull, NoMemory}
-use Rattle.tp_base.specs.declared.Step.{Step}
-use Rattle.tp_base.specs.declared.Step.TheVariants.{Judge}
-use Rattle.tp_wave.specs.Generations.{present}
-use Rattle.tp_wave.specs.Sums.{is_ended, judgement}
-use Rattle.tp_core.specs.declared.Reply.{Reply}
-use Rattle.tp_core.specs.Accepted.{Accepted, Answers, IsRefusedFor, world_of}
-use Rattle.tp_core.specs.Settled.{ends_before, rooms_check, Settles}
-use Rattle.tp_core.specs.World.{is_quiet}
-use Rattle.tp_core.proofs.Generations.{present-control}
-use Rattle.gerfmuod.specs.Pool.{IsKept}
-use Rattle.gerfmuod.specs.Room.{is_full}
-use Rattle.gerfmuod.specs.declared.pool.CoreRoom.TheInside.{Inside}
+use Rattle.gerfmuod.proofs.Words.{ℕ, ◌≡◌, ◌≢◌, ◌+◌, ◌*◌, ◌≤◌, ◌++◌, Bool, true, false, List, ◌∷◌, [], length, Result, Some, refl, sym, ap}
+use Rattle.gerfmuod.proofs.Words.{subst, ◌∙◌, arith, Ok, Err, IsFalse, IsTrue, nat_lt, not, length-append, both_ways, nat_tests}
+use Rattle.gerfmuod.proofs.Words.{first_refusal, Check, number_of, MAX_STEPS, Refusal, Ended, NotIdle, HistoryFull, NoMemory, Step, Judge}
+use Rattle.gerfmuod.proofs.Words.{present, is_ended, judgement, Reply, Accepted, Answers, IsRefusedFor, world_of, ends_before, rooms_check}
+use Rattle.gerfmuod.proofs.Words.{Settles, is_quiet, InEach, IsNeverEarly, never_early_in_each, present-control, IsKept, is_full, Inside}
+use Rattle.gerfmuod.proofs.Words.{None}
 
 -- Until termination is detected, there is room for 9 steps for each node.
 abbrev pub HasRoom : Accepted → Type 0
@@ -93,3 +76,7 @@ kept_after_settling p (Ok answer) new k s =
       runs = rw (is.nodes, is.steps) is.run;
     }
 kept_after_settling p (Err r) new k s = subst (λ (a : Accepted). IsKept (record p { core = a })) (sym s.1) k
+
+-- The steps of a pool are runs, so its termination is never detected too early.
+pub kept_never_early : (p : Inside) → IsKept p → InEach (IsNeverEarly p.core.nodes) p.core.steps
+kept_never_early p k = never_early_in_each p.core.nodes p.core.steps k.runs

@@ -1,21 +1,10 @@
 -- Steps that are taken one after the other, and the buffer with their results.
-use Rattle.std.proofs.Common.{ℕ, ◌≡◌, ◌≢◌, ◌+◌, ◌<◌, ◌≤◌, ◌++◌, List, [], ◌∷◌, Result, length, take, drop, set, get_or, refl, sym, ap}
-use Rattle.std.proofs.Common.{subst, ◌∙◌, arith, Option, Some, None, Bool, true, false, inl, inr}
-use Rattle.std.specs.Prelude.{Ok, Err, if◌then◌else◌}
-use Rattle.std.proofs.lemmas.Bool.{cases_Bool}
-use Rattle.std.proofs.lemmas.List.{take_more, take_more_set, take-set, drop-set, drop-set-lt, drop-drop, drop_more, drop_all, length-set}
-use Rattle.tp_base.specs.declared.Refusal.{Refusal}
-use Rattle.tp_base.specs.declared.Step.{Step}
-use Rattle.tp_core.specs.declared.Reply.{Reply}
-use Rattle.tp_core.specs.declared.Reply.TheVariants.{Plain, WaveSums, Not, Over, Opened}
-use Rattle.tp_core.specs.Accepted.{Accepted}
-use Rattle.gerfmuod.specs.Batch.{AreTaken, IsBatch, IsStep}
-use Rattle.gerfmuod.specs.Calls.{IsStepsCall}
-use Rattle.gerfmuod.specs.Events.{step_asked}
-use Rattle.gerfmuod.specs.Room.{is_full}
-use Rattle.gerfmuod.specs.Slot.{CoreState, Open}
-use Rattle.gerfmuod.specs.Told.{leaves_nothing, plain, reply_told, told, AnswersInRoom, AnswersTo}
-use Rattle.gerfmuod.specs.declared.answer.Answer.{Answer}
+use Rattle.gerfmuod.proofs.Words.{ℕ, ◌≡◌, ◌≢◌, ◌+◌, ◌<◌, ◌≤◌, ◌++◌, List, [], ◌∷◌, Result, length, take, drop, set, get_or, refl, sym, ap}
+use Rattle.gerfmuod.proofs.Words.{subst, ◌∙◌, arith, Option, Some, None, Bool, true, false, inl, inr, Ok, Err, if◌then◌else◌, cases_Bool}
+use Rattle.gerfmuod.proofs.Words.{take_more, take_more_set, take-set, drop-set, drop-set-lt, drop-drop, drop_more, drop_all, length-set}
+use Rattle.gerfmuod.proofs.Words.{Refusal, Step, Reply, Plain, WaveSums, Not, Over, Opened, Accepted, AreTaken, IsBatch, IsStep}
+use Rattle.gerfmuod.proofs.Words.{IsStepsCall, step_asked, is_full, CoreState, Open, leaves_nothing, plain, reply_told, told, AnswersInRoom}
+use Rattle.gerfmuod.proofs.Words.{AnswersTo, Answer}
 use Rattle.gerfmuod.specs.declared.event.Event.{Event}
 
 -- ---- a refused step changes nothing

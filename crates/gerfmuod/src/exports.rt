@@ -203,13 +203,13 @@ pub unsafe extern "C" fn gerfmuod_settle(core: *mut u8) -> Settled
 /// Writes the trace of the steps that were taken to the start of the buffer `room`; outcome 5 if the core is not open, or
 /// another call runs on it. `tp audit` and `gerfmuod_audit` judge it.
 #[unsafe(no_mangle)]
-pub unsafe extern "C" fn gerfmuod_trace(alloc: Global, core: *mut u8, room: &mut [u8]) -> Written
+pub unsafe extern "C" fn gerfmuod_trace(core: *mut u8, alloc: Global, room: &mut [u8]) -> Written
     ghost old: { CoreState }
     requires* { sem 𝓛 (lies_at slot_row full_share core old) }
     ensures* { ∃ₛ (λ (new : CoreState). sem 𝓛 (lies_at slot_row full_share core new)
         ∗ ⌜ IsTraceCall room.old old (result, room.new) new ⌝) }
 {
-    traced(alloc, &mut *(core as *mut CoreSlot), room)
+    traced(&mut *(core as *mut CoreSlot), alloc, room)
 }
 
 /// Begins anew with the same nodes and no steps, and frees the memory of the steps that were taken. Returns 0, or why the

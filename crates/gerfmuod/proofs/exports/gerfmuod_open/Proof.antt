@@ -1,16 +1,16 @@
 -- The proof of `gerfmuod_open`: it moves a new core into the memory.
-use Rattle.gerfmuod.proofs.Walks.{◌≡◌, [], ◌∷◌, ◌++◌, ℕ, refl, w32, proved, full_share, id⊢, ftrue, froom, Ty, vint, WpFn, fact, tables, ‵}
-use Rattle.gerfmuod.proofs.Walks.{raw, ◌⊛◌, some, later, prop, ◌$◌, ◌∵◌, !, qed, done, move, keep, drop, use1, use2, split, join, fsplit}
-use Rattle.gerfmuod.proofs.Walks.{pick, await, regoal, rewrite, suffices, frame, group, enter, of_opd, init, stop, no_more, and_then}
-use Rattle.gerfmuod.proofs.Walks.{assigns, returns, alloc_all, pass_all, free_all, look_at, get, through, sets, lands_as, u32, yes, Is}
-use Rattle.gerfmuod.proofs.Walks.{shows, lone, uint_Makes, uint_vals, uint_Tells, uint_Lawful, owns, Ptr, RawPtr, block_ptr, lies_at}
-use Rattle.gerfmuod.proofs.Walks.{room_at, in_a_block, rawptr_vals, rawptr_Tells, plain, nothing, owned, peeks, heard, calls_at, lasts}
-use Rattle.gerfmuod.proofs.Walks.{triple_of, Stays, walk_of, says, stay_dropped, Goes-dropped, ends_at, framed, part_in, CoreState}
+use Rattle.gerfmuod.proofs.Borrowing.{◌≡◌, [], ◌∷◌, ◌++◌, ℕ, refl, w32, proved, full_share, id⊢, ftrue, froom, Ty, vint, WpFn, fact, tables}
+use Rattle.gerfmuod.proofs.Borrowing.{‵, raw, ◌⊛◌, some, later, prop, ◌$◌, ◌∵◌, !, qed, done, move, keep, drop, use1, use2, split, join}
+use Rattle.gerfmuod.proofs.Borrowing.{fsplit, pick, await, regoal, rewrite, suffices, frame, group, enter, of_opd, init, stop, no_more}
+use Rattle.gerfmuod.proofs.Borrowing.{and_then, assigns, returns, alloc_all, pass_all, free_all, look_at, get, through, sets, lands_as, u32}
+use Rattle.gerfmuod.proofs.Borrowing.{yes, Is, shows, lone, uint_Makes, uint_vals, uint_Tells, uint_Lawful, owns, Ptr, RawPtr, block_ptr}
+use Rattle.gerfmuod.proofs.Borrowing.{lies_at, room_at, in_a_block, rawptr_vals, rawptr_Tells, plain, nothing, owned, peeks, heard, calls_at}
+use Rattle.gerfmuod.proofs.Borrowing.{lasts, triple_of, Stays, walk_of, says, stay_dropped, Goes-dropped, ends_at, framed, part_in, CoreState}
+use Rattle.gerfmuod.proofs.Borrowing.{opened, opening}
 use Rattle.std.specs.contracts.alloc.Global.{the_row as Z}
 use Rattle.std.proofs.alloc.Global.TheLaws as heap
 use Rattle.gerfmuod.specs.contracts.slot.CoreSlot.{the_row as R}
 use Rattle.gerfmuod.proofs.slot.CoreSlot.TheLaws.{the_row_laws}
-use Rattle.gerfmuod.specs.Slot.{opened, opening}
 use Rattle.gerfmuod.specs.contracts.exports.gerfmuod_open as f
 use Rattle.gerfmuod.proofs.exports.gerfmuod_open.Statement.{statement}
 use Rattle.gerfmuod.proofs.exports.gerfmuod_open.Code as code
