@@ -6,15 +6,12 @@ ghost use Rattle.tp_core.specs.Generations.{InEach};
 ghost use Rattle.tp_core.specs.Makers.{is_maker};
 ghost use Rattle.tp_core.specs.NeverEarly.{IsNeverEarly};
 ghost use Rattle.tp_core.specs.World.{is_quiet};
-ghost use Rattle.gerfmuod.specs.Asked.{counters, unsettled, IsSettled};
-ghost use Rattle.gerfmuod.specs.Batch.{IsStep};
-ghost use Rattle.gerfmuod.specs.Calls.{IsByCall, IsClosed, IsNumbersCall, IsRestartCall, IsSettleCall, IsStepCall, IsWholeCall};
-ghost use Rattle.gerfmuod.specs.Calls.{refused_step, IsReserveCall, IsRestarted};
+ghost use Rattle.gerfmuod.specs.Calls.{counters, unsettled, IsSettled, IsStep, IsByCall, IsClosed, IsNumbersCall, IsRestartCall};
+ghost use Rattle.gerfmuod.specs.Calls.{IsSettleCall, IsStepCall, IsWholeCall, refused_step, IsReserveCall, IsRestarted, made_step};
+ghost use Rattle.gerfmuod.specs.Calls.{maker_asked, IsMade, has_plain_reply, is_ending_if, plain, refusal_told, reply_told, IsTold};
 ghost use Rattle.gerfmuod.specs.Events.{event_of};
-ghost use Rattle.gerfmuod.specs.Makers.{made_step, maker_asked, IsMade};
 ghost use Rattle.gerfmuod.specs.Pool.{TellsNoEarlyEnd};
 ghost use Rattle.gerfmuod.specs.Slot.{can_be, opened, opening, refusal_of};
-ghost use Rattle.gerfmuod.specs.Told.{has_plain_reply, is_ending_if, plain, refusal_told, reply_told, IsTold};
 
 use crate::answer::{Answer, Counters, Settled, Whole};
 use crate::event::{
@@ -85,7 +82,10 @@ const QUIET: Answer = Answer { told: 5, ..PLAIN };
 /// The refusal of a step whose maker may not make it.
 const NO_MAKER: u16 = 29;
 
-fn plain_reply(reply: Reply) -> Answer
+/// Returns the result of a step that shows more than most.
+#[cold]
+#[inline(never)]
+fn rare_reply(reply: Reply) -> Answer
     ensures { result ≡ reply_told reply }
 {
     match reply {
@@ -168,19 +168,6 @@ fn leaves_nothing(room: &CoreRoom, ends: bool) -> bool
     ends && room.core().quiet()
 }
 
-/// Returns the result of a step that was taken.
-#[cold]
-#[inline(never)]
-fn of_reply(room: &CoreRoom, ends: bool, reply: Reply) -> Answer
-    ensures { result ≡ (if ends && is_quiet (world_of room.now) then plain 0 5 0 else reply_told reply) }
-{
-    if leaves_nothing(room, ends) {
-        QUIET
-    } else {
-        plain_reply(reply)
-    }
-}
-
 /// Returns the same result, field by field: so the results of calls that are rare do not keep all others in memory.
 #[inline(always)]
 fn by_fields(answer: Answer) -> Answer
@@ -195,6 +182,18 @@ fn by_fields(answer: Answer) -> Answer
     }
 }
 
+/// Returns the result of a step that was taken and after which something is left.
+#[inline(always)]
+fn of_reply(reply: Reply) -> Answer
+    ensures { result ≡ reply_told reply }
+{
+    match reply {
+        // the case of most steps
+        Reply::Plain => PLAIN,
+        _ => by_fields(rare_reply(reply)),
+    }
+}
+
 /// Takes the next step if there is one, and returns the result for C.
 #[inline(always)]
 #[tactic(auto, using(crate::proofs::Ended::told_over))]
@@ -203,15 +202,13 @@ pub(crate) fn told(room: &mut CoreRoom, step: Option<Step>) -> Answer
 {
     let ends = is_ending(step);
     match room.take(step) {
-        // the case of most steps
-        Ok(Reply::Plain) => {
+        Ok(reply) => {
             if leaves_nothing(room, ends) {
                 QUIET
             } else {
-                PLAIN
+                of_reply(reply)
             }
         }
-        Ok(reply) => by_fields(of_reply(room, ends, reply)),
         Err(refusal) => of_refusal(refusal),
     }
 }
