@@ -196,7 +196,7 @@ fn of_reply(reply: Reply) -> Answer
 
 /// Takes the next step if there is one, and returns the result for C.
 #[inline(always)]
-#[tactic(auto, using(crate::proofs::Ended::told_over))]
+#[tactic(auto, using(crate::proofs::Steps::told_over))]
 pub(crate) fn told(room: &mut CoreRoom, step: Option<Step>) -> Answer
     ensures { IsTold room.old step result room.new × TellsNoEarlyEnd (result.told ≡ 3) result.number room.new }
 {
@@ -437,7 +437,7 @@ pub(crate) fn seen(slot: &mut CoreSlot) -> Whole
 }
 
 /// Takes control steps until termination is detected, if the pool is quiet.
-#[tactic(auto, using(crate::proofs::Ended::settled_over))]
+#[tactic(auto, using(crate::proofs::Steps::settled_over))]
 fn settled_room(room: &mut CoreRoom) -> Settled
     ensures settled { IsSettled room.old result room.new × TellsNoEarlyEnd (result.refused ≡ 0) result.wave room.new }
     ensures has_room { result.refused ≢ 16 }
