@@ -10,7 +10,6 @@ use Rattle.tp_dag.specs.State.{is_traced, ready_tasks}
 use Rattle.tp_dag.specs.Calls as pool
 use Rattle.tp_dag.specs.Calls.{Becomes, one_more, one_less, event_at, with_spawned}
 use Rattle.tp_dag.specs.Describing.{Graph, IsFirstFault, fault_of}
-use Rattle.tp_team.specs.declared.Arrival.{Arrival}
 use Rattle.tp_team.specs.declared.Arrival.TheVariants.{New, Spun, Woken}
 use Rattle.tp_team.specs.declared.Fault.{Fault}
 use Rattle.tp_team.specs.declared.Reply.{Reply}

@@ -21,8 +21,8 @@ of_process number r name others = if number == refused_as (Some r) then Some (na
 abbrev unused : List ℕ
 unused = codes "no call of this library returns it"
 
-abbrev pub pool_texts : ℕ → Texts
-pool_texts n =
+abbrev pub texts_of : ℕ → Texts
+texts_of n =
     of_pool n pool.NoNode (codes "there is no node of this number")
     (of_pool n pool.SameNode (codes "the sender and the receiver are one node")
     (of_pool n pool.TaskKnown (codes "a task of this number was inserted before")
@@ -48,11 +48,8 @@ pool_texts n =
     (of_pool n pool.StoreFull unused
     (of_pool n pool.NoPool (codes "the core or the pool is not open")
     (of_pool n pool.PoolKnown unused
-    (of_pool n pool.BadSpec (codes "there is no such step or maker, or there cannot be so many nodes") None)))))))))))))))))))))))))
-
-abbrev pub other_texts : ℕ → Texts
-other_texts n =
-    if n == 28 then Some (codes "Busy", codes "another call runs on the core")
+    (of_pool n pool.BadSpec (codes "there is no such step or maker, or there cannot be so many nodes")
+    (if n == 28 then Some (codes "Busy", codes "another call runs on the core")
     else (if n == 29 then Some (codes "NoMaker", codes "the maker does not run or is not open at the node of the step")
     else (of_process n process.Inactive (codes "Inactive")
     (of_process n process.Full (codes "Full")
@@ -62,7 +59,4 @@ other_texts n =
     (of_process n process.NotEnded (codes "NotEnded")
     (of_process n process.NotOpen (codes "NotOpen")
     (of_process n process.NoProcess (codes "NoProcess")
-    (if n == 109 then Some (codes "Malformed", process_meaning 109) else None))))))))))
-
-abbrev pub texts_of : ℕ → Texts
-texts_of n = if nat_le n 26 then pool_texts n else other_texts n
+    (if n == 109 then Some (codes "Malformed", process_meaning 109) else None))))))))))))))))))))))))))))))))))))

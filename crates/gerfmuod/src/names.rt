@@ -1,15 +1,16 @@
 //! The names and meanings of refusals, as texts for C.
 ghost use Rattle.std.specs.Prelude.{◌≡◌, option_map};
-ghost use Rattle.gerfmuod.specs.Meanings.{other_texts, pool_texts, texts_of};
+ghost use Rattle.gerfmuod.specs.Meanings.{texts_of};
 ghost use Rattle.gerfmuod.specs.Written.{IsExplained, IsNamed};
 
 use crate::answer::Written;
 use crate::process::meaning;
 use crate::text::{NO_TEXT, WRITTEN, put, unwritten};
 
-/// Returns the name and the meaning of the refusal of this number of a core or a pool of task graphs, 1 to 26.
-fn pool_texts(number: u32) -> Option<(&'static str, &'static str)>
-    ensures { option_map (λ t. (t.0.now, t.1.now)) result ≡ pool_texts number }
+/// Returns the name and the meaning of the refusal of this number, if there is one: 1 to 26 of a core or a pool of task
+/// graphs, 28 and 29 of a core, 101 to 109 of a process.
+fn texts_of(number: u32) -> Option<(&'static str, &'static str)>
+    ensures { option_map (λ t. (t.0.now, t.1.now)) result ≡ texts_of number }
 {
     Some(match number {
         1 => ("NoNode", "there is no node of this number"),
@@ -50,15 +51,6 @@ fn pool_texts(number: u32) -> Option<(&'static str, &'static str)>
             "BadSpec",
             "there is no such step or maker, or there cannot be so many nodes",
         ),
-        _ => return None,
-    })
-}
-
-/// Returns the name and the meaning of another refusal: 28 and 29 of a core, 101 to 109 of a process.
-fn other_texts(number: u32) -> Option<(&'static str, &'static str)>
-    ensures { option_map (λ t. (t.0.now, t.1.now)) result ≡ other_texts number }
-{
-    Some(match number {
         28 => ("Busy", "another call runs on the core"),
         29 => (
             "NoMaker",
@@ -75,17 +67,6 @@ fn other_texts(number: u32) -> Option<(&'static str, &'static str)>
         109 => ("Malformed", meaning(109)),
         _ => return None,
     })
-}
-
-/// Returns the name and the meaning of the refusal of this number, if there is one.
-fn texts_of(number: u32) -> Option<(&'static str, &'static str)>
-    ensures { option_map (λ t. (t.0.now, t.1.now)) result ≡ texts_of number }
-{
-    if number <= 26 {
-        pool_texts(number)
-    } else {
-        other_texts(number)
-    }
 }
 
 /// Writes the name of the refusal of a number to the start of the buffer `room`: `NoNode` for 1, to `BadSpec` for 26;
