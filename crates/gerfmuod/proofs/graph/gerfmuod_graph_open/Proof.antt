@@ -14,8 +14,8 @@ use Rattle.gerfmuod.proofs.graph.slot.GraphSlot.TheLaws.{the_row_laws}
 use Rattle.gerfmuod.specs.contracts.graph.gerfmuod_graph_open as f
 use Rattle.gerfmuod.proofs.graph.gerfmuod_graph_open.Statement.{statement}
 use Rattle.gerfmuod.proofs.graph.gerfmuod_graph_open.Code as code
-use Rattle.gerfmuod.specs.contracts.graph.calls.made as g
-use Rattle.gerfmuod.proofs.graph.calls.made.Met.{met}
+use Rattle.gerfmuod.specs.contracts.graph.slot.GraphSlot.open as g
+use Rattle.gerfmuod.proofs.graph.slot.GraphSlot.open.Met.{met}
 
 abbrev stayed : Stays f.ended.signature.params f.ended.kept
 stayed = dropped f.ended.signature.params f.ended.kept
@@ -47,7 +47,7 @@ gerfmuod_graph_open_spec 𝓤 𝓛 𝓜 𝓡 wired =
     let G = triple_of 𝓛 g.signature (g.spec 𝓛 𝓜.mem 𝓡.returns) in
     let z : G.Ghost = ((tt, tt, tt, (d, a.1.1), (dv ∷ [], vs)), tt) in
     move ! (1 ∷ []) $ nothing ! $ join ! $ nothing ! $ move ! (1 ∷ 0 ∷ []) $ use2 𝓛 (raw (G.pre z)) (id⊢ 𝓤 _) $
-    calls_at ! (framed 𝓤 𝓛.H 𝓜 𝓣) G (met 𝓤 𝓛 𝓜 𝓡 (code.calls-gerfmuod::graph::calls::made 𝓡.env wired)) z
+    calls_at ! (framed 𝓤 𝓛.H 𝓜 𝓣) G (met 𝓤 𝓛 𝓜 𝓡 (code.calls-gerfmuod::graph::slot::GraphSlot::open 𝓡.env wired)) z
     (and_then ! (get ! refl) (and_then ! (get ! refl) (and_then ! (get ! refl) (no_more !)))) (λ v.
     use1 𝓛 (later (some (λ (r : GraphState). (‵ ftrue ⊛ ‵ (R.own_val r (v ∷ []))) ⊛
     some (λ (ws : Unit {0} × (Unit {0} × (Unit {0} × Unit {0}))). ‵ (lasts g.ended z.0.0 z.0.3 ws) ⊛ raw (fact 𝓤 (r ≡ new)))))) (id⊢ 𝓤 _) $
