@@ -6,40 +6,21 @@ ghost use Rattle.tp_core.specs.Generations.{InEach};
 ghost use Rattle.tp_core.specs.Makers.{is_maker};
 ghost use Rattle.tp_core.specs.NeverEarly.{IsNeverEarly};
 ghost use Rattle.tp_core.specs.World.{is_quiet};
-ghost use Rattle.gerfmuod.specs.Calls.{counters, unsettled, IsSettled, IsStep, IsByCall, IsClosed, IsNumbersCall, IsRestartCall};
+ghost use Rattle.gerfmuod.specs.Calls.{counters, unsettled, IsSettled, IsStep, IsByCall, IsNumbersCall, IsRestartCall};
 ghost use Rattle.gerfmuod.specs.Calls.{IsSettleCall, IsStepCall, IsWholeCall, refused_step, IsReserveCall, IsRestarted, made_step};
 ghost use Rattle.gerfmuod.specs.Calls.{maker_asked, IsMade, has_plain_reply, is_ending_if, refusal_told, reply_told, IsTold};
 ghost use Rattle.gerfmuod.specs.Events.{event_of};
 ghost use Rattle.gerfmuod.specs.Pool.{TellsNoEarlyEnd};
-ghost use Rattle.gerfmuod.specs.Slot.{can_be, opened, opening, refusal_of};
+ghost use Rattle.gerfmuod.specs.Slot.{opening, refusal_of};
 
 use crate::answer::{Answer, Counters, Settled, Whole};
 use crate::event::{
     Event, insert_step, message_end_step, open_step, receive_step, send_step, step_of,
 };
 use crate::pool::CoreRoom;
-use crate::slot::CoreSlot;
-use std::alloc::Global;
-use tp_base::{ActionId, MAX_NODES, MessageId, NodeId, Refusal, Step, TaskId};
+use crate::slot::{CoreSlot, can_be};
+use tp_base::{ActionId, MessageId, NodeId, Refusal, Step, TaskId};
 use tp_core::{Maker, Reply};
-
-/// Returns whether a pool can have this number of nodes.
-fn can_be(nodes: u32) -> bool
-    ensures { result ≡ can_be nodes }
-{
-    1 <= nodes && nodes <= MAX_NODES
-}
-
-/// Returns a new core of this number of nodes; it is not open if there cannot be so many.
-pub(crate) fn made(alloc: Global, nodes: u32) -> CoreSlot
-    ensures { result ≡ opened nodes }
-{
-    if can_be(nodes) {
-        CoreSlot::new(alloc, nodes, true)
-    } else {
-        CoreSlot::new(alloc, 1, false)
-    }
-}
 
 /// Returns 0, or the number of `BadSpec` if a pool cannot have this number of nodes.
 pub(crate) fn opening(nodes: u32) -> u32
@@ -504,15 +485,4 @@ pub(crate) fn restarted(slot: &mut CoreSlot) -> u32
     let refused = begun_anew(slot);
     slot.leave();
     refused
-}
-
-/// Closes the core if it is open and no call runs on it.
-pub(crate) fn close(slot: &mut CoreSlot) -> u32
-    ensures { IsClosed slot.old result slot.new }
-{
-    if !slot.is_open() {
-        return u32::from(slot.refusal());
-    }
-    slot.close();
-    0
 }

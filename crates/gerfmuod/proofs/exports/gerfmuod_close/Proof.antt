@@ -6,15 +6,15 @@ use Rattle.gerfmuod.proofs.Borrowing.{nums, nums_go, spells, tell, typed, u32s, 
 use Rattle.gerfmuod.specs.contracts.exports.gerfmuod_close as f
 use Rattle.gerfmuod.proofs.exports.gerfmuod_close.Statement.{statement}
 use Rattle.gerfmuod.proofs.exports.gerfmuod_close.Code as code
-use Rattle.gerfmuod.specs.contracts.calls.close as g
-use Rattle.gerfmuod.proofs.calls.close.Met.{met}
+use Rattle.gerfmuod.specs.contracts.slot.CoreSlot.close as g
+use Rattle.gerfmuod.proofs.slot.CoreSlot.close.Met.{met}
 
 pub gerfmuod_close_spec : {M : Type 1} → statement M
 gerfmuod_close_spec 𝓤 𝓛 𝓜 𝓡 wired =
     exported 𝓛 𝓜 𝓡 core_row u32 u32_laws 0 (nums 0) f.ended.kept.1 (λ κs a n u out new. IsClosed n u new)
     (dropped {n = 0} (nums 0) f.ended.kept.1) (nums_go 𝓛 0 0 f.ended.kept.1) (drops 𝓛 0 (nums 0) f.ended.kept.1)
     f.Key.name code.function (code.unfolded 𝓤 𝓛.H 𝓜 𝓡 wired) (λ κs. spells 0) (λ κs. tell 0)
-    g.Key.name (triple_of 𝓛 g.signature (g.spec 𝓛 𝓜.mem 𝓡.returns)) (met 𝓤 𝓛 𝓜 𝓡 (code.calls-gerfmuod::calls::close 𝓡.env wired))
+    g.Key.name (triple_of 𝓛 g.signature (g.spec 𝓛 𝓜.mem 𝓡.returns)) (met 𝓤 𝓛 𝓜 𝓡 (code.calls-gerfmuod::slot::CoreSlot::close 𝓡.env wired))
     (λ κs qs a n b o are. gives (λ α γ. (((α ∷ [], κs), (full_share, qs), tt, (lent b o γ n, a), (vptr b o ∷ [], vals 0 a)), tt))
     (λ α γ. refl) (λ α γ. id⊢ 𝓤 _) (λ α γ v. id⊢ 𝓤 _) (λ Q.
     enter ! _ _ _ _ _ $ alloc_all ! (λ l. pass_all ! refl ((tt, tt), typed 0 a are) $

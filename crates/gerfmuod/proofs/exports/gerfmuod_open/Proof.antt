@@ -14,8 +14,8 @@ use Rattle.gerfmuod.proofs.slot.CoreSlot.TheLaws.{the_row_laws}
 use Rattle.gerfmuod.specs.contracts.exports.gerfmuod_open as f
 use Rattle.gerfmuod.proofs.exports.gerfmuod_open.Statement.{statement}
 use Rattle.gerfmuod.proofs.exports.gerfmuod_open.Code as code
-use Rattle.gerfmuod.specs.contracts.calls.made as g
-use Rattle.gerfmuod.proofs.calls.made.Met as g-thm
+use Rattle.gerfmuod.specs.contracts.slot.CoreSlot.open as g
+use Rattle.gerfmuod.proofs.slot.CoreSlot.open.Met as g-thm
 use Rattle.gerfmuod.specs.contracts.calls.opening as h
 use Rattle.gerfmuod.proofs.calls.opening.Met as h-thm
 
@@ -49,7 +49,7 @@ gerfmuod_open_spec 𝓤 𝓛 𝓜 𝓡 wired =
     let z : G.Ghost = ((tt, tt, tt, (d, (k, tt)), (dv ∷ [], (vint w32 k ∷ [], tt))), tt) in
     nothing ! $ owned ! u32 (Is u32) (uint_Makes 𝓛 w32) k _ (refl, fk) $ join ! $ move ! (2 ∷ 0 ∷ []) $ join ! $
     nothing ! $ join ! $ nothing ! $ move ! (1 ∷ 0 ∷ []) $ use2 𝓛 (raw (G.pre z)) (id⊢ 𝓤 _) $
-    calls_at ! (framed 𝓤 𝓛.H 𝓜 𝓣) G (g-thm.met 𝓤 𝓛 𝓜 𝓡 (code.calls-gerfmuod::calls::made 𝓡.env wired)) z
+    calls_at ! (framed 𝓤 𝓛.H 𝓜 𝓣) G (g-thm.met 𝓤 𝓛 𝓜 𝓡 (code.calls-gerfmuod::slot::CoreSlot::open 𝓡.env wired)) z
     (and_then ! (get ! refl) (and_then ! (get ! refl) (no_more !))) (λ v.
     use1 𝓛 (later (some (λ (r : CoreState). (‵ ftrue ⊛ ‵ (R.own_val r (v ∷ []))) ⊛
     some (λ (ws : Unit {0} × (Unit {0} × Unit {0})). ‵ (lasts g.ended z.0.0 z.0.3 ws) ⊛ raw (fact 𝓤 (r ≡ opened k)))))) (id⊢ 𝓤 _) $
