@@ -7,7 +7,7 @@ ghost use Rattle.tp_core.specs.Makers.{is_maker};
 ghost use Rattle.tp_core.specs.NeverEarly.{IsNeverEarly};
 ghost use Rattle.tp_core.specs.World.{is_quiet};
 ghost use Rattle.gerfmuod.specs.Calls.{counters, unsettled, IsSettled, IsStep, IsByCall, IsNumbersCall, IsRestartCall};
-ghost use Rattle.gerfmuod.specs.Calls.{IsSettleCall, IsStepCall, IsWholeCall, refused_step, IsReserveCall, IsRestarted, made_step};
+ghost use Rattle.gerfmuod.specs.Calls.{IsSettleCall, IsStepCall, IsWholeCall, refused_step, IsReserveCall, made_step};
 ghost use Rattle.gerfmuod.specs.Calls.{maker_asked, IsMade, has_plain_reply, is_ending_if, refusal_told, reply_told, IsTold};
 ghost use Rattle.gerfmuod.specs.Events.{event_of};
 ghost use Rattle.gerfmuod.specs.Pool.{TellsNoEarlyEnd};
@@ -463,18 +463,6 @@ fn unsettled(refusal: Refusal) -> Settled
     }
 }
 
-/// Begins anew with no steps, if termination was detected.
-fn begun_anew(slot: &mut CoreSlot) -> u32
-    ensures restarted { IsRestarted slot.old.core result slot.new.core }
-    ensures use_is { slot.new.use_is ≡ slot.old.use_is }
-{
-    if !slot.room.core().is_ended() {
-        return u32::from(Refusal::WrongLife.number());
-    }
-    slot.restart();
-    0
-}
-
 /// Restarts a core.
 pub(crate) fn restarted(slot: &mut CoreSlot) -> u32
     ensures { IsRestartCall slot.old result slot.new }
@@ -482,7 +470,7 @@ pub(crate) fn restarted(slot: &mut CoreSlot) -> u32
     if !slot.enter() {
         return u32::from(slot.refusal());
     }
-    let refused = begun_anew(slot);
+    let refused = slot.restart();
     slot.leave();
     refused
 }

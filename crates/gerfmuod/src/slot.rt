@@ -1,7 +1,7 @@
 //! The content of a `gerfmuod_core`: a core, and a mark that says whether it is open and whether a call runs on it.
 ghost use Rattle.std.specs.Prelude.{◌≡◌, ◌≢◌, ◌↔◌, IsTrue, IsFalse};
-ghost use Rattle.gerfmuod.specs.Calls.{IsClosed};
-ghost use Rattle.gerfmuod.specs.Slot.{can_be, new_core, opened, refusal_of, Busy, Open};
+ghost use Rattle.gerfmuod.specs.Calls.{IsClosed, IsRestarted};
+ghost use Rattle.gerfmuod.specs.Slot.{can_be, opened, refusal_of, Busy, Open};
 
 use crate::pool::CoreRoom;
 use std::alloc::Global;
@@ -117,11 +117,16 @@ impl CoreSlot {
         }
     }
 
-    /// Replaces the core by a new one of the same nodes.
-    pub(crate) fn restart(&mut self)
-        ensures { self.new ≡ record { use_is = self.old.use_is; core = new_core self.old.core.nodes } }
+    /// Replaces the core by a new one of the same nodes, if termination was detected.
+    pub(crate) fn restart(&mut self) -> u32
+        ensures restarted { IsRestarted self.old.core result self.new.core }
+        ensures use_is { self.new.use_is ≡ self.old.use_is }
     {
+        if !self.room.core().is_ended() {
+            return u32::from(Refusal::WrongLife.number());
+        }
         self.room = CoreRoom::new(self.alloc, self.room.nodes());
+        0
     }
 
     /// Drops the core and marks it as not open, if it is open and no call runs on it.
