@@ -1,10 +1,7 @@
 -- The files of this folder.
 pub mod Borrowing
-pub mod Ended
-pub mod Kept
-pub mod Parameters
 pub mod Recording
-pub mod Room
-pub mod Several
+pub mod Refused
+pub mod Steps
 pub mod Traced
-pub mod Walks
+pub mod Words

@@ -1,29 +1,12 @@
 -- The history that is built from the steps of a core, step by step, is the history of its runs.
-use Rattle.std.proofs.Common.{ℕ, ◌≡◌, ◌+◌, ◌<◌, ◌≤◌, ◌==◌, ◌++◌, List, [], ◌∷◌, Option, Some, true, false, cond, length, reverse, take}
-use Rattle.std.proofs.Common.{drop, get_or, refl, sym, ap, subst, ◌∙◌, inl, inr, arith, IsTrue}
-use Rattle.std.specs.List.{find}
-use Rattle.std.specs.Option.{option_map}
-use Rattle.std.proofs.lemmas.Bool.{cases_Bool}
-use Rattle.std.proofs.lemmas.List.{take_more, take-append-drop, reverse-append}
-use Rattle.tp_base.specs.History.{Event, NamesSmall}
-use Rattle.tp_base.specs.declared.NodeId.{NodeId}
-use Rattle.tp_base.specs.declared.Step.{Step}
-use Rattle.tp_base.specs.declared.Step.TheVariants.{Supply, Begin, Done, Send, Recv, MessageEnd, Reopen}
-use Rattle.tp_base.specs.declared.Table.{Table}
-use Rattle.tp_wave.specs.Machine.{History, IsOf, Needs, IsRun, steps_of}
-use Rattle.tp_wave.specs.Steps.{is_reopen}
+use Rattle.gerfmuod.proofs.Words.{ℕ, ◌≡◌, ◌+◌, ◌<◌, ◌≤◌, ◌==◌, ◌++◌, List, [], ◌∷◌, Option, Some, true, false, cond, length, reverse, take}
+use Rattle.gerfmuod.proofs.Words.{drop, get_or, refl, sym, ap, subst, ◌∙◌, inl, inr, arith, find, option_map, cases_Bool, take_more}
+use Rattle.gerfmuod.proofs.Words.{take-append-drop, reverse-append, Event, NamesSmall, NodeId, Step, Supply, Begin, Done, Send, Recv}
+use Rattle.gerfmuod.proofs.Words.{MessageEnd, Reopen, Table, History, IsOf, Needs, IsRun, steps_of, is_reopen, present, generations_law}
+use Rattle.gerfmuod.proofs.Words.{Life, AreRuns, history_after, supplied, with_life, node_of, world, Task, no_step, runs_are_counted, home}
+use Rattle.gerfmuod.proofs.Words.{tasks_after, HasHomes, IsSmall, IsTrue}
 use Rattle.tp_wave.specs.Generations as generations
-use Rattle.tp_wave.specs.Generations.{present}
-use Rattle.tp_wave.proofs.Generations.{generations_law}
-use Rattle.tp_core.specs.declared.life.Life.{Life}
-use Rattle.tp_core.specs.Generations.{AreRuns, history_after}
 use Rattle.tp_core.specs.declared.life.Life.TheVariants as life
-use Rattle.tp_core.specs.Pool.{supplied, with_life}
-use Rattle.tp_core.specs.Run.{node_of, world}
-use Rattle.tp_core.specs.World.{Task}
-use Rattle.tp_core.proofs.Answering.{no_step}
-use Rattle.tp_core.proofs.Generations.{runs_are_counted}
-use Rattle.gerfmuod.specs.Homes.{home, tasks_after, HasHomes, IsSmall}
 
 -- the k oldest of the steps, the newest first; `steps` has the oldest first
 abbrev pub oldest : ℕ → List Step → List Step

@@ -1,19 +1,8 @@
 -- Steps that have a trace fit into a history.
-use Rattle.std.proofs.Common.{ℕ, ◌≡◌, ◌-◌, ◌<◌, Bool, true, false, List, [], ◌∷◌, length, reverse, get_or, if◌then◌else◌, Result, refl, sym}
-use Rattle.std.proofs.Common.{ap, subst, ◌∙◌, inl, inr, arith}
-use Rattle.std.specs.List.{All}
-use Rattle.std.specs.Prelude.{◌⊎◌, Ok, Err, IfOk, IfErr}
-use Rattle.std.proofs.lemmas.List.{get_or-reverse, length-reverse}
-use Rattle.tp_base.specs.declared.Refusal.{Refusal}
-use Rattle.tp_base.specs.declared.Refusal.TheVariants.{BadSpec, NoMemory}
-use Rattle.tp_base.specs.declared.ids.Generation.{Generation}
-use Rattle.tp_base.specs.declared.Step.{Step}
-use Rattle.tp_base.specs.declared.Step.TheVariants.{Send, Recv, MessageEnd, Reopen}
-use Rattle.tp_wave.specs.Steps.{any, is_reopen}
-use Rattle.tp_text.specs.Spelling.{generation_number, IsNumber, IsSpelled, TellsGeneration}
-use Rattle.tp_text.specs.TraceOf.{version_of, CanBeTraced}
-use Rattle.std.proofs.lemmas.List.Elements.{All-head, All-tail}
-use Rattle.gerfmuod.specs.Homes.{IsSmall}
+use Rattle.gerfmuod.proofs.Words.{ℕ, ◌≡◌, ◌-◌, ◌<◌, Bool, true, false, List, [], ◌∷◌, length, reverse, get_or, Result, refl, sym, ap, subst}
+use Rattle.gerfmuod.proofs.Words.{◌∙◌, inl, inr, arith, All, ◌⊎◌, Ok, Err, IfOk, IfErr, get_or-reverse, length-reverse, Refusal, BadSpec}
+use Rattle.gerfmuod.proofs.Words.{NoMemory, Generation, Step, Send, Recv, MessageEnd, Reopen, any, is_reopen, generation_number, IsNumber}
+use Rattle.gerfmuod.proofs.Words.{IsSpelled, TellsGeneration, version_of, CanBeTraced, All-head, All-tail, IsSmall, if◌then◌else◌}
 
 All-reversed : {X : Type 0} (P : X → Type 0) (xs : List X) → All P (reverse xs) → All P xs
 All-reversed P xs h k d l =

@@ -1,17 +1,27 @@
--- What each exported call on a core does. On a core that is not open it is refused as 24, `NoPool`, and on a core on which
+-- What each exported call on a core returns and does. On a core that is not open it is refused as 24, `NoPool`, and on a core on which
 -- another call runs as 28, `Busy`.
-use Rattle.std.specs.Prelude.{ℕ, ◌≡◌, ◌≢◌, ◌⊎◌, false, List, ◌∷◌, IsTrue, IsFalse, length, take}
+use Rattle.std.specs.Prelude.{ℕ, ◌-◌, ◌*◌, ◌==◌, Bool, length, ◌≡◌, ◌&&◌, true, false, IsTrue, IsFalse, if◌then◌else◌, Result, Ok, Err}
+use Rattle.std.specs.Prelude.{Option, Some, None, ◌||◌, nat_le, ◌↔◌, nat_lt, ◌≢◌, ◌≤◌, ◌+◌, List, [], ◌∷◌, take, drop, ◌⊎◌}
 use Rattle.tp_base.specs.Refusals.{number_of}
-use Rattle.tp_base.specs.declared.Refusal.TheVariants.{NoMemory, NoPool, WrongLife}
+use Rattle.tp_base.specs.declared.Refusal.{Refusal}
+use Rattle.tp_base.specs.declared.Refusal.TheVariants.{HistoryFull, BadSpec, NoNode, NoMemory, NoPool, WrongLife}
+use Rattle.tp_base.specs.declared.Step.{Step}
+use Rattle.tp_base.specs.declared.Step.TheVariants.{Done, ActionClose, Ready, MessageEnd, Give, Judge, Reopen}
+use Rattle.tp_base.specs.declared.limits.TheConstants.{MAX_STEPS}
 use Rattle.tp_wave.specs.Generations.{present}
 use Rattle.tp_wave.specs.Sums.{is_ended}
-use Rattle.tp_core.specs.Accepted.{Accepted, no_numbers}
-use Rattle.gerfmuod.specs.Asked.{counters, counters_at, IsSettled, IsWhole}
-use Rattle.gerfmuod.specs.Batch.{IsStep, IsBatch}
-use Rattle.gerfmuod.specs.Makers.{made_step, maker_asked, IsMade}
+use Rattle.tp_core.specs.Accepted.{Accepted, Answers, world_of, numbers_at, no_numbers}
+use Rattle.tp_core.specs.Makers.{is_maker}
+use Rattle.tp_core.specs.Settled.{Settles}
+use Rattle.tp_core.specs.World.{is_quiet, IsQuiet}
+use Rattle.tp_core.specs.declared.Maker.{Maker}
+use Rattle.tp_core.specs.declared.Maker.TheVariants.{Task, Action, Message, Opening, Thread}
+use Rattle.tp_core.specs.declared.Reply.{Reply}
+use Rattle.tp_core.specs.declared.Reply.TheVariants.{Plain, WaveSums, Not, Over, Opened}
+use Rattle.tp_core.specs.declared.numbers.NodeNumbers.{NodeNumbers}
+use Rattle.gerfmuod.specs.Events.{node, task, action, message, step_asked}
 use Rattle.gerfmuod.specs.Pool.{TellsNoEarlyEnd}
 use Rattle.gerfmuod.specs.Slot.{CoreState, IsCall, Closed, Open, Busy, closed, new_core}
-use Rattle.gerfmuod.specs.Told.{plain}
 use Rattle.gerfmuod.specs.Written.{IsTraced}
 use Rattle.gerfmuod.specs.declared.answer.Answer.{Answer}
 use Rattle.gerfmuod.specs.declared.answer.Counters.{Counters}
@@ -20,6 +30,153 @@ use Rattle.gerfmuod.specs.declared.answer.Whole.{Whole}
 use Rattle.gerfmuod.specs.declared.answer.Written.{Written}
 use Rattle.gerfmuod.specs.declared.event.Event.{Event}
 
+-- ---- the room of a core. It keeps 9 steps for each node, which are enough for `settle`
+-- the number of steps that can still be reported
+abbrev pub room_of : Accepted → ℕ
+room_of a = MAX_STEPS - 9 * a.nodes - length a.steps
+
+abbrev pub is_full : Accepted → Bool
+is_full a = room_of a == 0
+
+-- ---- the result of a step
+abbrev pub plain : ℕ → ℕ → ℕ → Answer
+plain refused told number = record { refused = refused; told = told; number = number; sent = 0; received = 0 }
+
+abbrev pub reply_told : Reply → Answer
+reply_told Plain = plain 0 0 0
+reply_told (WaveSums s) = record { refused = 0; told = 1; number = s.wave; sent = s.sent; received = s.received }
+reply_told Not = plain 0 2 0
+reply_told (Over w) = plain 0 3 w
+reply_told (Opened g) = plain 0 4 g.0
+
+-- the result of a refusal; if the history is full, with the number of steps
+abbrev pub refusal_told : Refusal → Answer
+refusal_told (HistoryFull n) = plain 16 0 n
+refusal_told r = plain (number_of r) 0 0
+
+-- The step ends something: a task, an action, the opening of a node or a message.
+abbrev pub is_ending : Step → Bool
+is_ending (Done t) = true
+is_ending (ActionClose i a) = true
+is_ending (Ready i) = true
+is_ending (MessageEnd i m g) = true
+is_ending _ = false
+
+abbrev pub is_ending_if : Option Step → Bool
+is_ending_if None = false
+is_ending_if (Some s) = is_ending s
+
+-- The step ended something, and nothing is left after it.
+abbrev pub leaves_nothing : Option Step → Accepted → Bool
+leaves_nothing o new = is_ending_if o && is_quiet (world_of new)
+
+-- If it is taken, the step shows nothing but that: all steps but a wave's end at node 0, its judgement and the reopening.
+abbrev pub has_plain_reply : Option Step → Bool
+has_plain_reply (Some (Give i)) = false
+has_plain_reply (Some Judge) = false
+has_plain_reply (Some Reopen) = false
+has_plain_reply _ = true
+
+-- the result of a step after which the core has accepted the new steps
+abbrev pub told : Option Step → Result Reply Refusal → Accepted → Answer
+told o (Ok reply) new = if leaves_nothing o new then plain 0 5 0 else reply_told reply
+told o (Err r) new = refusal_told r
+
+-- If there is no room for the step, it is refused with the number of steps that were taken, and nothing changes. Else the
+-- core's result is returned.
+pub record AnswersInRoom (old : Accepted) (s : Step) (r : Result Reply Refusal) (new : Accepted) : Type 0 where
+  pub full : IsTrue (is_full old) → (r ≡ Err (HistoryFull (length old.steps))) × (new ≡ old)
+  pub taken : IsFalse (is_full old) → Answers old s r new
+
+-- If there is no step, the call is refused and nothing changes.
+abbrev pub AnswersTo : Accepted → Option Step → Result Reply Refusal → Accepted → Type 0
+AnswersTo old None r new = (r ≡ Err BadSpec) × (new ≡ old)
+AnswersTo old (Some s) r new = AnswersInRoom old s r new
+
+-- The result of a step, or of no step, on a core that accepted the old steps, and the core after it.
+abbrev pub IsTold : Accepted → Option Step → Answer → Accepted → Type 0
+IsTold old o answer new = (r : Result Reply Refusal) × AnswersTo old o r new × (answer ≡ told o r new)
+
+-- ---- a step with its maker, as C passes it
+-- the maker that C passes, if there is one
+abbrev pub maker_asked : ℕ → ℕ → Option Maker
+maker_asked kind m =
+    if kind == 0 then Some (Task (task m))
+    else (if kind == 1 then Some (Action (action m))
+    else (if kind == 2 then Some (Message (message m))
+    else (if kind == 3 then Some Opening
+    else (if kind == 4 then Some (Thread (node m))
+    else None))))
+
+-- the step that C passes, if it is one that has a maker: the steps of tasks, opening an action and sending a message
+abbrev pub made_step : Event → Option Step
+made_step e = if nat_le e.kind 4 || (e.kind == 7) then step_asked e else None
+
+-- A step that its maker may not make is refused as 29, `NoMaker`, before all checks of the step and of
+-- the room, and nothing changes.
+-- Any other step does and returns what it does and returns without a maker.
+pub record IsMadeBy (old : Accepted) (m : Maker) (s : Step) (answer : Answer) (new : Accepted) : Type 0 where
+  pub no_maker : IsFalse (is_maker m s (world_of old)) → (answer ≡ plain 29 0 0) × (new ≡ old)
+  pub told : IsTrue (is_maker m s (world_of old)) → IsTold old (Some s) answer new
+
+-- If there is no such step or no such maker, the call is refused and nothing changes.
+abbrev pub IsMade : Accepted → Option Maker → Option Step → Answer → Accepted → Type 0
+IsMade old (Some m) (Some s) answer new = IsMadeBy old m s answer new
+IsMade old (Some m) None answer new = (answer ≡ refusal_told BadSpec) × (new ≡ old)
+IsMade old None s answer new = (answer ≡ refusal_told BadSpec) × (new ≡ old)
+
+-- ---- the results of the calls that read the counters of a core or settle it
+abbrev pub counters : ℕ → NodeNumbers → Counters
+counters refused n = record { refused = refused; pending = n.pending; sent = n.sent; received = n.received }
+
+-- the counters of node i, or that there is no such node
+abbrev pub counters_at : ℕ → Accepted → Counters
+counters_at i a = if nat_lt i a.nodes then counters 0 (numbers_at i a) else counters (number_of NoNode) no_numbers
+
+-- The pool as a whole: the steps that were taken, the steps that can still be reported, the messages under way, and
+-- whether it is quiet.
+pub record IsWhole (a : Accepted) (answer : Whole) : Type 0 where
+  pub steps : answer.steps ≡ length a.steps
+  pub room : answer.room ≡ room_of a
+  pub under_way : answer.under_way ≡ length (world_of a).messages
+  pub quiet : IsTrue answer.quiet ↔ IsQuiet (world_of a)
+
+-- the result of a refusal; if there is no room for more steps, with the number of steps
+abbrev pub unsettled : Refusal → Settled
+unsettled (HistoryFull n) = record { refused = 16; wave = 0; steps = n }
+unsettled r = record { refused = number_of r; wave = 0; steps = 0 }
+
+abbrev pub settled : Result (ℕ × ℕ) Refusal → Settled
+settled (Ok r) = record { refused = 0; wave = r.0; steps = r.1 }
+settled (Err r) = unsettled r
+
+-- The call does what `Core::settle` does, and returns its result.
+abbrev pub IsSettled : Accepted → Settled → Accepted → Type 0
+IsSettled old answer new = (r : Result (ℕ × ℕ) Refusal) × Settles old r new × (answer ≡ settled r)
+
+-- ---- several steps in one call
+-- The result of a step on an open core, and the core after it.
+abbrev pub IsStep : Event → Accepted → Answer → Accepted → Type 0
+IsStep e old u new = IsTold old (step_asked e) u new × TellsNoEarlyEnd (u.told ≡ 3) u.number new
+
+-- The steps were taken in order, each with its result.
+abbrev pub AreTaken : Accepted → List Event → List Answer → Accepted → Type 0
+AreTaken old [] [] new = new ≡ old
+AreTaken old (e ∷ events) (u ∷ answers) new =
+    (next : Accepted) × IsStep e old u next × (u.refused ≡ 0) × AreTaken next events answers new
+AreTaken old _ _ new = ⊥
+
+-- The first `count` events were taken as steps, with their results in the first places of `answers`. If events are left, the
+-- next one was refused, and its result follows. All other places are those of the buffer before, `room`.
+pub record IsBatch (events : List Event) (room : List Answer) (old : Accepted)
+    (count : ℕ) (answers : List Answer) (new : Accepted) : Type 0 where
+  pub within : count ≤ length events
+  pub taken : AreTaken old (take count events) (take count answers) new
+  pub all : count ≡ length events → drop count answers ≡ drop count room
+  pub refused : (e : Event) (later : List Event) → drop count events ≡ e ∷ later
+      → (u : Answer) × IsStep e new u new × (u.refused ≢ 0) × (drop count answers ≡ u ∷ drop (count + 1) room)
+
+-- ---- the exported calls
 abbrev pub refused_step : ℕ → Answer
 refused_step k = plain k 0 0
 

@@ -10,7 +10,6 @@ use Rattle.tp_dag.specs.State.{is_traced, ready_tasks}
 use Rattle.tp_dag.specs.Calls as pool
 use Rattle.tp_dag.specs.Calls.{Becomes, one_more, one_less, event_at, with_spawned}
 use Rattle.tp_dag.specs.Describing.{Graph, IsFirstFault, fault_of}
-use Rattle.tp_team.specs.declared.Arrival.{Arrival}
 use Rattle.tp_team.specs.declared.Arrival.TheVariants.{New, Spun, Woken}
 use Rattle.tp_team.specs.declared.Fault.{Fault}
 use Rattle.tp_team.specs.declared.Reply.{Reply}
@@ -68,17 +67,17 @@ abbrev pub limit_of : TeamRefusal → ℕ
 limit_of (Pool r) = limit_of_pool r
 limit_of _ = 0
 
+-- the result of a call that was refused because of a task or a limit, with the number of threads to signal
+abbrev pub refused_with : TeamRefusal → ℕ → ℕ → GraphAnswer
+refused_with r number signals = record { refused = number_of r; next = 0; number = number; signals = signals }
+
 -- the result of a refused call
 abbrev pub refusal_answer : TeamRefusal → GraphAnswer
-refusal_answer r = record { refused = number_of r; next = 0; number = limit_of r; signals = 0 }
-
--- the result of a graph that cannot be described, because of a task
-abbrev pub graph_refusal_answer : TeamRefusal → ℕ → GraphAnswer
-graph_refusal_answer r task = record { refused = number_of r; next = 0; number = task; signals = 0 }
+refusal_answer r = refused_with r (limit_of r) 0
 
 -- a fault and its task, with signals
 abbrev pub fault_answer : Fault → ℕ → GraphAnswer
-fault_answer f signals = record { refused = number_of f.refusal; next = 0; number = number_or_none f.task; signals = signals }
+fault_answer f signals = refused_with f.refusal (number_or_none f.task) signals
 
 -- the result of a turn
 abbrev pub turn_answer : Turn → ℕ → GraphAnswer
@@ -120,10 +119,14 @@ call_of n =
     else (if n == 12 then Some (OfTeam call.Event) else None))))))))))))
 
 -- ---- refusals
--- The call was refused for this reason, and nothing changed.
-pub record IsRefused (r : TeamRefusal) (old : State) (answer : GraphAnswer) (new : State) : Type 0 where
-  pub result : answer ≡ refusal_answer r
+-- The call returned this, and nothing changed.
+pub record Shows {S : Type 0} (shown : GraphAnswer) (old : S) (answer : GraphAnswer) (new : S) : Type 0 where
+  pub result : answer ≡ shown
   pub same : new ≡ old
+
+-- The call was refused for this reason, and nothing changed.
+abbrev pub IsRefused : {S : Type 0} → TeamRefusal → S → GraphAnswer → S → Type 0
+IsRefused r = Shows (refusal_answer r)
 
 -- A call that may allocate is also refused if memory ran out.
 abbrev pub MayLackMemory : Bool → State → GraphAnswer → State → Type 0
@@ -140,70 +143,28 @@ IsJudged None may_allocate Accepted old answer new = Accepted ⊎ MayLackMemory 
 abbrev pub Signals : (ℕ → Type 0) → GraphAnswer → Type 0
 Signals Change answer = (signals : ℕ) × (answer ≡ plain 0 0 signals) × Change signals
 
--- START
-abbrev pub IsStart : ℕ → State → GraphAnswer → State → Type 0
-IsStart threads old answer new =
-    IsJudged (first (start_checks old threads (of_pool (pool.start_checks old.pool)))) (is_traced old.pool)
-    (Signals (λ signals. Starts threads old new signals) answer) old answer new
-
--- TURN, TURN_SPUN and TURN_WOKEN
-abbrev pub IsTurn : Arrival → ℕ → ℕ → State → GraphAnswer → State → Type 0
-IsTurn arrival done polls old answer new =
-    (reply : Reply) × (answer ≡ reply_answer reply) × TakesTurn arrival (task_named done) polls old new reply
-
--- STOP
-abbrev pub IsStop : ℕ → State → GraphAnswer → State → Type 0
-IsStop task old answer new = Signals (λ signals. Stops (task_named task) old new signals) answer
-
--- AGAIN
-abbrev pub IsAgain : State → GraphAnswer → State → Type 0
-IsAgain old answer new =
-    IsJudged (first (again_checks old (of_pool (pool.again_checks old.pool)))) false
-    ((answer ≡ plain 0 0 0) × (new ≡ repeated old)) old answer new
-
--- OUTSIDE
-abbrev pub IsOutside : ℕ → State → GraphAnswer → State → Type 0
-IsOutside task old answer new =
-    IsJudged (first (fault_check old.fault (of_pool (pool.outside_checks old.pool task)))) false
-    (Signals (λ signals. Changes (Becomes task one_more) old new signals) answer) old answer new
-
--- RELEASE
-abbrev pub IsRelease : ℕ → State → GraphAnswer → State → Type 0
-IsRelease task old answer new =
-    IsJudged (first (fault_check old.fault (of_pool (pool.release_checks old.pool task)))) false
-    (Signals (λ signals. Changes (Becomes task one_less) old new signals) answer) old answer new
-
--- MAY_RECORD
-abbrev pub IsMayRecord : State → GraphAnswer → State → Type 0
-IsMayRecord old answer new = IsJudged (first (record_checks old)) false ((answer ≡ plain 0 0 0) × (new ≡ old)) old answer new
-
--- FAULT
-pub record IsFault (old : State) (answer : GraphAnswer) (new : State) : Type 0 where
-  pub result : answer ≡ found_fault_answer old.fault
-  pub same : new ≡ old
-
--- COUNT
-pub record IsCount (old : State) (answer : GraphAnswer) (new : State) : Type 0 where
-  pub result : answer ≡ plain (ready_tasks old.pool) (length old.pool.tasks) 0
-  pub same : new ≡ old
-
--- EVENT
-pub record IsEvent (k : ℕ) (old : State) (answer : GraphAnswer) (new : State) : Type 0 where
-  pub result : answer ≡ event_answer (event_at old.pool.kept k)
-  pub same : new ≡ old
-
 -- each call on a team, with its two arguments
 abbrev pub IsTeamCall : TeamCall → ℕ → ℕ → State → GraphAnswer → State → Type 0
-IsTeamCall call.Start first second old answer new = IsStart first old answer new
-IsTeamCall (call.Turn arrival) first second old answer new = IsTurn arrival first second old answer new
-IsTeamCall call.Stop first second old answer new = IsStop first old answer new
-IsTeamCall call.Again first second old answer new = IsAgain old answer new
-IsTeamCall call.Outside first second old answer new = IsOutside first old answer new
-IsTeamCall call.Release first second old answer new = IsRelease first old answer new
-IsTeamCall call.MayRecord first second old answer new = IsMayRecord old answer new
-IsTeamCall call.Fault first second old answer new = IsFault old answer new
-IsTeamCall call.Count first second old answer new = IsCount old answer new
-IsTeamCall call.Event first second old answer new = IsEvent first old answer new
+IsTeamCall call.Start threads _ old answer new =
+    IsJudged (first (start_checks old threads (of_pool (pool.start_checks old.pool)))) (is_traced old.pool)
+    (Signals (λ signals. Starts threads old new signals) answer) old answer new
+IsTeamCall (call.Turn arrival) done polls old answer new =
+    (reply : Reply) × (answer ≡ reply_answer reply) × TakesTurn arrival (task_named done) polls old new reply
+IsTeamCall call.Stop task _ old answer new = Signals (λ signals. Stops (task_named task) old new signals) answer
+IsTeamCall call.Again _ _ old answer new =
+    IsJudged (first (again_checks old (of_pool (pool.again_checks old.pool)))) false
+    ((answer ≡ plain 0 0 0) × (new ≡ repeated old)) old answer new
+IsTeamCall call.Outside task _ old answer new =
+    IsJudged (first (fault_check old.fault (of_pool (pool.outside_checks old.pool task)))) false
+    (Signals (λ signals. Changes (Becomes task one_more) old new signals) answer) old answer new
+IsTeamCall call.Release task _ old answer new =
+    IsJudged (first (fault_check old.fault (of_pool (pool.release_checks old.pool task)))) false
+    (Signals (λ signals. Changes (Becomes task one_less) old new signals) answer) old answer new
+IsTeamCall call.MayRecord _ _ old answer new =
+    IsJudged (first (record_checks old)) false ((answer ≡ plain 0 0 0) × (new ≡ old)) old answer new
+IsTeamCall call.Fault _ _ old answer new = Shows (found_fault_answer old.fault) old answer new
+IsTeamCall call.Count _ _ old answer new = Shows (plain (ready_tasks old.pool) (length old.pool.tasks) 0) old answer new
+IsTeamCall call.Event k _ old answer new = Shows (event_answer (event_at old.pool.kept k)) old answer new
 
 -- A task that reads these inputs and awaits inputs from outside is added; `number` is its number.
 abbrev pub IsSpawn : ℕ → List ℕ → ℕ → State → GraphAnswer → State → Type 0
@@ -212,11 +173,6 @@ IsSpawn class inputs outside old answer new =
     ((signals : ℕ) × (answer ≡ plain 0 (length old.pool.tasks) signals)
     × Settles (with_pool (with_spawned class inputs outside old.pool) old) new signals)
     old answer new
-
--- The graph cannot be described because of a task, and nothing changed.
-pub record IsRefusedAt (r : TeamRefusal) (task : ℕ) (old : State) (answer : GraphAnswer) (new : State) : Type 0 where
-  pub result : answer ≡ graph_refusal_answer r task
-  pub same : new ≡ old
 
 -- The whole graph was added: no task has a fault.
 pub record IsDescribed (graph : Graph) (old : State) (answer : GraphAnswer) (new : State) : Type 0 where
@@ -227,26 +183,16 @@ pub record IsDescribed (graph : Graph) (old : State) (answer : GraphAnswer) (new
 -- A graph is refused for the first check of the call that is true, with 0; else it is described, or refused for the first task with a
 -- fault, or memory ran out.
 abbrev pub IsGraphJudged : Option TeamRefusal → Graph → State → GraphAnswer → State → Type 0
-IsGraphJudged (Some r) graph old answer new = IsRefusedAt r 0 old answer new
+IsGraphJudged (Some r) graph old answer new = Shows (refused_with r 0 0) old answer new
 IsGraphJudged None graph old answer new =
     IsDescribed graph old answer new
-    ⊎ ((r : Refusal) × (task : ℕ) × IsFirstFault graph old.pool r task × IsRefusedAt (Pool r) task old answer new)
-    ⊎ ((task : ℕ) × IsRefusedAt (Pool NoMemory) task old answer new)
+    ⊎ ((r : Refusal) × (task : ℕ) × IsFirstFault graph old.pool r task × Shows (refused_with (Pool r) task 0) old answer new)
+    ⊎ ((task : ℕ) × Shows (refused_with (Pool NoMemory) task 0) old answer new)
 
 abbrev pub IsDescribe : Graph → State → GraphAnswer → State → Type 0
 IsDescribe graph old answer new = IsGraphJudged (first (describe_checks graph old)) graph old answer new
 
 -- ---- the exported calls
--- The call was refused for this reason, and the memory did not change.
-pub record IsRefusedCall (r : Refusal) (old : GraphState) (answer : GraphAnswer) (new : GraphState) : Type 0 where
-  pub result : answer ≡ refusal_answer (Pool r)
-  pub same : new ≡ old
-
--- The graph was closed.
-pub record IsClose (answer : GraphAnswer) (new : GraphState) : Type 0 where
-  pub result : answer ≡ plain 0 0 0
-  pub becomes : new ≡ closed
-
 -- The team of the graph changes so, and the graph stays open.
 pub record OfOpen (Call : State → GraphAnswer → State → Type 0) (old : GraphState) (answer : GraphAnswer) (new : GraphState) : Type 0 where
   pub does : Call old.team answer new.team
@@ -254,13 +200,13 @@ pub record OfOpen (Call : State → GraphAnswer → State → Type 0) (old : Gra
 
 -- A graph that is not open refuses every call; one that is open takes it.
 abbrev pub IfOpen : Bool → (Taken : Type 0) → GraphState → GraphAnswer → GraphState → Type 0
-IfOpen false Taken old answer new = IsRefusedCall NoPool old answer new
+IfOpen false Taken old answer new = IsRefused (Pool NoPool) old answer new
 IfOpen true Taken old answer new = Taken
 
 -- a call of an open graph, or of no number
 abbrev pub IsOpenCall : Option Call → ℕ → ℕ → GraphState → GraphAnswer → GraphState → Type 0
-IsOpenCall None first second old answer new = IsRefusedCall BadSpec old answer new
-IsOpenCall (Some Close) first second old answer new = IsClose answer new
+IsOpenCall None first second old answer new = IsRefused (Pool BadSpec) old answer new
+IsOpenCall (Some Close) first second old answer new = (answer ≡ plain 0 0 0) × (new ≡ closed)
 IsOpenCall (Some (OfTeam c)) first second old answer new = OfOpen (IsTeamCall c first second) old answer new
 
 -- `gerfmuod_graph_call`

@@ -1,5 +1,5 @@
 -- The results of writing a text to a buffer.
-use Rattle.std.specs.Prelude.{ℕ, ◌≡◌, ◌<◌, ◌≤◌, ◌++◌, ◌⊎◌, List, IsFalse, drop, length}
+use Rattle.std.specs.Prelude.{ℕ, ◌≡◌, ◌<◌, ◌≤◌, ◌++◌, ◌⊎◌, List, Option, Some, None, drop, length, option_map}
 use Rattle.tp_core.specs.Accepted.{Accepted}
 use Rattle.tp_text.specs.declared.input.TheConstants.{MAX_TEXT}
 use Rattle.tp_text.specs.declared.verdict.Verdict.{Verdict}
@@ -7,8 +7,7 @@ use Rattle.tp_text.specs.declared.verdict.Verdict.TheVariants.{Sound, Refused}
 use Rattle.tp_text.specs.AuditText.{IsAuditText}
 use Rattle.tp_text.specs.TraceOf.{IsTraceOf, CanBeTraced}
 use Rattle.gerfmuod.specs.declared.answer.Written.{Written}
-use Rattle.gerfmuod.specs.Meanings.{cause_meaning, cause_name, cause_number, is_refusal}
-use Rattle.gerfmuod.specs.declared.names.Cause.{Cause}
+use Rattle.gerfmuod.specs.Meanings.{texts_of}
 
 -- The text is at the start of the buffer, and the rest of the buffer is unchanged; if the text does not fit, nothing is
 -- written. The result has the length of the text in both cases.
@@ -41,14 +40,14 @@ IsTraced a old answer new =
     ⊎ (((¬ CanBeTraced a.steps) × IsUnwritten 5 old answer new)
     ⊎ IsUnwritten 3 old answer new)
 
--- The text of the refusal of this number is written, or there is no such refusal.
-abbrev pub Tells : (Cause → List ℕ) → ℕ → List ℕ → Written → List ℕ → Type 0
-Tells said number old answer new =
-    ((c : Cause) × (cause_number c ≡ number) × IsPut (said c) 0 old answer new)
-    ⊎ (IsFalse (is_refusal number) × IsUnwritten 5 old answer new)
+-- The text is written, if there is one.
+abbrev pub Tells : Option (List ℕ) → List ℕ → Written → List ℕ → Type 0
+Tells (Some text) old answer new = IsPut text 0 old answer new
+Tells None old answer new = IsUnwritten 5 old answer new
 
+-- The name of the refusal of this number, or its meaning, is written, or there is no such refusal.
 abbrev pub IsNamed : ℕ → List ℕ → Written → List ℕ → Type 0
-IsNamed = Tells cause_name
+IsNamed number = Tells (option_map (λ t. t.0) (texts_of number))
 
 abbrev pub IsExplained : ℕ → List ℕ → Written → List ℕ → Type 0
-IsExplained = Tells cause_meaning
+IsExplained number = Tells (option_map (λ t. t.1) (texts_of number))

@@ -1,7 +1,6 @@
 //! Several steps in one call.
 ghost use Rattle.std.specs.Prelude.{◌≡◌, ◌≤◌, length};
-ghost use Rattle.gerfmuod.specs.Batch.{IsBatch};
-ghost use Rattle.gerfmuod.specs.Calls.{IsStepsCall};
+ghost use Rattle.gerfmuod.specs.Calls.{IsBatch, IsStepsCall};
 
 use crate::answer::Answer;
 use crate::calls::{not_taken, told};

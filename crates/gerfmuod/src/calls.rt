@@ -1,48 +1,26 @@
 //! The calls on a core, as C gets their results.
-ghost use Rattle.std.specs.Prelude.{◌≡◌, ◌≢◌, ◌&&◌, IsTrue, None, OnSome, if◌then◌else◌, option_map};
+ghost use Rattle.std.specs.Prelude.{◌≡◌, ◌≢◌, ◌&&◌, IsTrue, None, OnSome, option_map};
 ghost use Rattle.tp_base.specs.Refusals.{number_of};
 ghost use Rattle.tp_core.specs.Accepted.{no_numbers, world_of};
 ghost use Rattle.tp_core.specs.Generations.{InEach};
 ghost use Rattle.tp_core.specs.Makers.{is_maker};
 ghost use Rattle.tp_core.specs.NeverEarly.{IsNeverEarly};
 ghost use Rattle.tp_core.specs.World.{is_quiet};
-ghost use Rattle.gerfmuod.specs.Asked.{counters, unsettled, IsSettled};
-ghost use Rattle.gerfmuod.specs.Batch.{IsStep};
-ghost use Rattle.gerfmuod.specs.Calls.{IsByCall, IsClosed, IsNumbersCall, IsRestartCall, IsSettleCall, IsStepCall, IsWholeCall};
-ghost use Rattle.gerfmuod.specs.Calls.{refused_step, IsReserveCall, IsRestarted};
+ghost use Rattle.gerfmuod.specs.Calls.{counters, unsettled, IsSettled, IsStep, IsByCall, IsNumbersCall, IsRestartCall};
+ghost use Rattle.gerfmuod.specs.Calls.{IsSettleCall, IsStepCall, IsWholeCall, refused_step, IsReserveCall, made_step};
+ghost use Rattle.gerfmuod.specs.Calls.{maker_asked, IsMade, has_plain_reply, is_ending_if, refusal_told, reply_told, IsTold};
 ghost use Rattle.gerfmuod.specs.Events.{event_of};
-ghost use Rattle.gerfmuod.specs.Makers.{made_step, maker_asked, IsMade};
 ghost use Rattle.gerfmuod.specs.Pool.{TellsNoEarlyEnd};
-ghost use Rattle.gerfmuod.specs.Slot.{can_be, opened, opening, refusal_of};
-ghost use Rattle.gerfmuod.specs.Told.{has_plain_reply, is_ending_if, plain, refusal_told, reply_told, IsTold};
+ghost use Rattle.gerfmuod.specs.Slot.{opening, refusal_of};
 
 use crate::answer::{Answer, Counters, Settled, Whole};
 use crate::event::{
     Event, insert_step, message_end_step, open_step, receive_step, send_step, step_of,
 };
 use crate::pool::CoreRoom;
-use crate::slot::CoreSlot;
-use std::alloc::Global;
-use tp_base::{ActionId, MAX_NODES, MessageId, NodeId, Refusal, Step, TaskId};
+use crate::slot::{CoreSlot, can_be};
+use tp_base::{ActionId, MessageId, NodeId, Refusal, Step, TaskId};
 use tp_core::{Maker, Reply};
-
-/// Returns whether a pool can have this number of nodes.
-fn can_be(nodes: u32) -> bool
-    ensures { result ≡ can_be nodes }
-{
-    1 <= nodes && nodes <= MAX_NODES
-}
-
-/// Returns a new core of this number of nodes; it is not open if there cannot be so many.
-pub(crate) fn made(alloc: Global, nodes: u32) -> CoreSlot
-    ensures { result ≡ opened nodes }
-{
-    if can_be(nodes) {
-        CoreSlot::new(alloc, nodes, true)
-    } else {
-        CoreSlot::new(alloc, 1, false)
-    }
-}
 
 /// Returns 0, or the number of `BadSpec` if a pool cannot have this number of nodes.
 pub(crate) fn opening(nodes: u32) -> u32
@@ -85,7 +63,10 @@ const QUIET: Answer = Answer { told: 5, ..PLAIN };
 /// The refusal of a step whose maker may not make it.
 const NO_MAKER: u16 = 29;
 
-fn plain_reply(reply: Reply) -> Answer
+/// Returns the result of a step that shows more than most.
+#[cold]
+#[inline(never)]
+fn rare_reply(reply: Reply) -> Answer
     ensures { result ≡ reply_told reply }
 {
     match reply {
@@ -168,19 +149,6 @@ fn leaves_nothing(room: &CoreRoom, ends: bool) -> bool
     ends && room.core().quiet()
 }
 
-/// Returns the result of a step that was taken.
-#[cold]
-#[inline(never)]
-fn of_reply(room: &CoreRoom, ends: bool, reply: Reply) -> Answer
-    ensures { result ≡ (if ends && is_quiet (world_of room.now) then plain 0 5 0 else reply_told reply) }
-{
-    if leaves_nothing(room, ends) {
-        QUIET
-    } else {
-        plain_reply(reply)
-    }
-}
-
 /// Returns the same result, field by field: so the results of calls that are rare do not keep all others in memory.
 #[inline(always)]
 fn by_fields(answer: Answer) -> Answer
@@ -195,23 +163,33 @@ fn by_fields(answer: Answer) -> Answer
     }
 }
 
+/// Returns the result of a step that was taken and after which something is left.
+#[inline(always)]
+fn of_reply(reply: Reply) -> Answer
+    ensures { result ≡ reply_told reply }
+{
+    match reply {
+        // the case of most steps
+        Reply::Plain => PLAIN,
+        _ => by_fields(rare_reply(reply)),
+    }
+}
+
 /// Takes the next step if there is one, and returns the result for C.
 #[inline(always)]
-#[tactic(auto, using(crate::proofs::Ended::told_over))]
+#[tactic(auto, using(crate::proofs::Steps::told_over))]
 pub(crate) fn told(room: &mut CoreRoom, step: Option<Step>) -> Answer
     ensures { IsTold room.old step result room.new × TellsNoEarlyEnd (result.told ≡ 3) result.number room.new }
 {
     let ends = is_ending(step);
     match room.take(step) {
-        // the case of most steps
-        Ok(Reply::Plain) => {
+        Ok(reply) => {
             if leaves_nothing(room, ends) {
                 QUIET
             } else {
-                PLAIN
+                of_reply(reply)
             }
         }
-        Ok(reply) => by_fields(of_reply(room, ends, reply)),
         Err(refusal) => of_refusal(refusal),
     }
 }
@@ -440,7 +418,7 @@ pub(crate) fn seen(slot: &mut CoreSlot) -> Whole
 }
 
 /// Takes control steps until termination is detected, if the pool is quiet.
-#[tactic(auto, using(crate::proofs::Ended::settled_over))]
+#[tactic(auto, using(crate::proofs::Steps::settled_over))]
 fn settled_room(room: &mut CoreRoom) -> Settled
     ensures settled { IsSettled room.old result room.new × TellsNoEarlyEnd (result.refused ≡ 0) result.wave room.new }
     ensures has_room { result.refused ≢ 16 }
@@ -485,18 +463,6 @@ fn unsettled(refusal: Refusal) -> Settled
     }
 }
 
-/// Begins anew with no steps, if termination was detected.
-fn begun_anew(slot: &mut CoreSlot) -> u32
-    ensures restarted { IsRestarted slot.old.core result slot.new.core }
-    ensures use_is { slot.new.use_is ≡ slot.old.use_is }
-{
-    if !slot.room.core().is_ended() {
-        return u32::from(Refusal::WrongLife.number());
-    }
-    slot.restart();
-    0
-}
-
 /// Restarts a core.
 pub(crate) fn restarted(slot: &mut CoreSlot) -> u32
     ensures { IsRestartCall slot.old result slot.new }
@@ -504,18 +470,7 @@ pub(crate) fn restarted(slot: &mut CoreSlot) -> u32
     if !slot.enter() {
         return u32::from(slot.refusal());
     }
-    let refused = begun_anew(slot);
+    let refused = slot.restart();
     slot.leave();
     refused
-}
-
-/// Closes the core if it is open and no call runs on it.
-pub(crate) fn close(slot: &mut CoreSlot) -> u32
-    ensures { IsClosed slot.old result slot.new }
-{
-    if !slot.is_open() {
-        return u32::from(slot.refusal());
-    }
-    slot.close();
-    0
 }

@@ -3,7 +3,7 @@ ghost use Rattle.std.specs.Prelude.{◌≡◌, IsTrue, Some};
 ghost use Rattle.tp_base.specs.declared.Step.TheVariants.{ActionOpen, Send, Recv, MessageEnd};
 ghost use Rattle.gerfmuod.specs.Events.{insert_asked, other_step, step_asked, task_step, action as as_action, age, message as as_message};
 ghost use Rattle.gerfmuod.specs.Events.{node as as_node};
-ghost use Rattle.gerfmuod.specs.Told.{has_plain_reply};
+ghost use Rattle.gerfmuod.specs.Calls.{has_plain_reply};
 
 use tp_base::{ActionId, Generation, Inputs, MAX_INPUTS, MessageId, NodeId, Step, TaskId};
 
@@ -54,24 +54,17 @@ fn task_step(event: Event) -> Option<Step>
 fn other_step(event: Event) -> Option<Step>
     ensures { result ≡ other_step event }
 {
-    let Event {
-        kind,
-        first,
-        second,
-        third,
-        generation,
-    } = event;
-    match kind {
-        4 => open_step(first, second),
-        5 => Some(Step::ActionClose(NodeId(first), ActionId(second))),
-        6 => Some(Step::Ready(NodeId(first))),
-        7 => send_step(first, second, third, generation),
-        8 => receive_step(first, second, generation),
-        9 => message_end_step(first, second, generation),
+    match event.kind {
+        4 => open_step(event.first, event.second),
+        5 => Some(Step::ActionClose(NodeId(event.first), ActionId(event.second))),
+        6 => Some(Step::Ready(NodeId(event.first))),
+        7 => send_step(event.first, event.second, event.third, event.generation),
+        8 => receive_step(event.first, event.second, event.generation),
+        9 => message_end_step(event.first, event.second, event.generation),
         10 => Some(Step::Start),
-        11 => Some(Step::Down(NodeId(first))),
-        12 => Some(Step::Give(NodeId(first))),
-        13 => Some(Step::Up(NodeId(first))),
+        11 => Some(Step::Down(NodeId(event.first))),
+        12 => Some(Step::Give(NodeId(event.first))),
+        13 => Some(Step::Up(NodeId(event.first))),
         14 => Some(Step::Judge),
         15 => Some(Step::Reopen),
         _ => None,

@@ -10,9 +10,7 @@ ghost use Rattle.gerfmuod.specs.Slot.{CoreState, opened, opening};
 
 use crate::answer::{Answer, Counters, Settled, Whole, Written};
 use crate::batch::steps;
-use crate::calls::{
-    answered, answered_by, close, counted, made, opening, reserved, restarted, seen, settled,
-};
+use crate::calls::{answered, answered_by, counted, opening, reserved, restarted, seen, settled};
 use crate::event::Event;
 use crate::history::traced;
 use crate::slot::CoreSlot;
@@ -44,7 +42,7 @@ pub unsafe extern "C" fn gerfmuod_open(alloc: Global, core: *mut u8, nodes: u32)
     requires* { sem 𝓛 (room_at slot_row core) }
     ensures* { sem 𝓛 (lies_at slot_row full_share core (opened nodes)) ∗ ⌜ result ≡ opening nodes ⌝ }
 {
-    let made = made(alloc, nodes);
+    let made = CoreSlot::open(alloc, nodes);
     (core as *mut CoreSlot).write(made);
     opening(nodes)
 }
@@ -203,13 +201,13 @@ pub unsafe extern "C" fn gerfmuod_settle(core: *mut u8) -> Settled
 /// Writes the trace of the steps that were taken to the start of the buffer `room`; outcome 5 if the core is not open, or
 /// another call runs on it. `tp audit` and `gerfmuod_audit` judge it.
 #[unsafe(no_mangle)]
-pub unsafe extern "C" fn gerfmuod_trace(alloc: Global, core: *mut u8, room: &mut [u8]) -> Written
+pub unsafe extern "C" fn gerfmuod_trace(core: *mut u8, alloc: Global, room: &mut [u8]) -> Written
     ghost old: { CoreState }
     requires* { sem 𝓛 (lies_at slot_row full_share core old) }
     ensures* { ∃ₛ (λ (new : CoreState). sem 𝓛 (lies_at slot_row full_share core new)
         ∗ ⌜ IsTraceCall room.old old (result, room.new) new ⌝) }
 {
-    traced(alloc, &mut *(core as *mut CoreSlot), room)
+    traced(&mut *(core as *mut CoreSlot), alloc, room)
 }
 
 /// Begins anew with the same nodes and no steps, and frees the memory of the steps that were taken. Returns 0, or why the
@@ -234,5 +232,5 @@ pub unsafe extern "C" fn gerfmuod_close(core: *mut u8) -> u32
     ensures* { ∃ₛ (λ (new : CoreState). sem 𝓛 (lies_at slot_row full_share core new)
         ∗ ⌜ IsClosed old result new ⌝) }
 {
-    close(&mut *(core as *mut CoreSlot))
+    CoreSlot::close(&mut *(core as *mut CoreSlot))
 }

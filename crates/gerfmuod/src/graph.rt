@@ -6,7 +6,7 @@ ghost use Rattle.gerfmuod.specs.contracts.graph.slot.GraphSlot.{the_row as slot_
 ghost use Rattle.gerfmuod.specs.Graph.{opened_graph, GraphState, IsDescribeCall, IsGraphCall, IsSpawnCall};
 
 use crate::graph::answer::GraphAnswer;
-use crate::graph::calls::{call, describe, made, spawn};
+use crate::graph::calls::{call, describe, spawn};
 use crate::graph::slot::GraphSlot;
 use std::alloc::Global;
 
@@ -28,7 +28,7 @@ pub unsafe extern "C" fn gerfmuod_graph_open(
     requires* { sem 𝓛 (room_at slot_row graph) }
     ensures* { sem 𝓛 (lies_at slot_row full_share graph (opened_graph is_traced processors)) }
 {
-    let made = made(alloc, is_traced, processors);
+    let made = GraphSlot::open(alloc, is_traced, processors);
     (graph as *mut GraphSlot).write(made)
 }
 

@@ -108,7 +108,7 @@ fn trace(alloc: Global, pool: &CoreRoom) -> Result<Vec<u8>, Refusal>
 
 /// Writes the trace of the steps that a core has taken to the start of the buffer `room`; there is none if the core is
 /// not open, or another call runs on it.
-pub(crate) fn traced(alloc: Global, slot: &mut CoreSlot, room: &mut [u8]) -> Written
+pub(crate) fn traced(slot: &mut CoreSlot, alloc: Global, room: &mut [u8]) -> Written
     ensures { IsTraceCall room.old slot.old (result, room.new) slot.new }
 {
     if !slot.is_open() {

@@ -1,157 +1,72 @@
 //! The names and meanings of refusals, as texts for C.
-ghost use Rattle.std.specs.Prelude.{◌≡◌, ◌⊎◌, ◌<◌, IsFalse, MatchOption, Some};
-ghost use Rattle.tp_base.specs.Refusals.{number_of as refusal_number};
-ghost use Rattle.gerfmuod.specs.Meanings.{cause_meaning, cause_name, cause_number, is_refusal, meaning_of, process_name};
-ghost use Rattle.gerfmuod.specs.Wire.{refused_as};
+ghost use Rattle.std.specs.Prelude.{◌≡◌, option_map};
+ghost use Rattle.gerfmuod.specs.Meanings.{texts_of};
 ghost use Rattle.gerfmuod.specs.Written.{IsExplained, IsNamed};
 
 use crate::answer::Written;
-use crate::process::{meaning as process_meaning, number_of};
+use crate::process::meaning;
 use crate::text::{NO_TEXT, WRITTEN, put, unwritten};
-use tp_base::Refusal;
-use tp_process::Refusal as ProcessRefusal;
 
-/// Why a call of the library was refused.
-#[derive(Clone, Copy, Debug, PartialEq, Eq)]
-enum Cause {
-    /// A refusal of a call on a core or on a pool of task graphs: 1 to 26.
-    Pool(Refusal),
-    /// Another call runs on the core: 28.
-    Busy,
-    /// The maker of a step does not run or is not open at the node of the step: 29.
-    NoMaker,
-    /// A refusal of a call on a process: 101 to 108.
-    Process(ProcessRefusal),
-    /// There is no such control message: 109.
-    Malformed,
-}
-
-/// Returns the refusal of this number, if there is one.
-fn cause_of(number: u32) -> Option<Cause>
-    ensures { MatchOption result (IsFalse (is_refusal number)) (λ c. cause_number c ≡ number) }
+/// Returns the name and the meaning of the refusal of this number, if there is one: 1 to 26 of a core or a pool of task
+/// graphs, 28 and 29 of a core, 101 to 109 of a process.
+fn texts_of(number: u32) -> Option<(&'static str, &'static str)>
+    ensures { option_map (λ t. (t.0.now, t.1.now)) result ≡ texts_of number }
 {
     Some(match number {
-        28 => Cause::Busy,
-        29 => Cause::NoMaker,
-        101 => Cause::Process(ProcessRefusal::Inactive),
-        102 => Cause::Process(ProcessRefusal::Full),
-        103 => Cause::Process(ProcessRefusal::NotDue),
-        104 => Cause::Process(ProcessRefusal::NotYet),
-        105 => Cause::Process(ProcessRefusal::Late),
-        106 => Cause::Process(ProcessRefusal::NotEnded),
-        107 => Cause::Process(ProcessRefusal::NotOpen),
-        108 => Cause::Process(ProcessRefusal::NoProcess),
-        109 => Cause::Malformed,
-        _ => return match refusal_of(number) {
-            Some(refusal) => Some(Cause::Pool(refusal)),
-            None => None,
-        },
-    })
-}
-
-/// Returns the refusal of this number of a core or a pool, if it is 1 to 26.
-fn refusal_of(number: u32) -> Option<Refusal>
-    ensures { MatchOption result ((number ≡ 0) ⊎ (26 < number)) (λ refusal. refusal_number refusal ≡ number) }
-{
-    Some(match number {
-        1 => Refusal::NoNode,
-        2 => Refusal::SameNode,
-        3 => Refusal::TaskKnown,
-        4 => Refusal::NoTask,
-        5 => Refusal::WrongLife,
-        6 => Refusal::Inactive,
-        7 => Refusal::ActionKnown,
-        8 => Refusal::NoAction,
-        9 => Refusal::MessageKnown,
-        10 => Refusal::NoMessage,
-        11 => Refusal::NotIdle,
-        12 => Refusal::NoToken,
-        13 => Refusal::WaveOpen,
-        14 => Refusal::WaveNotEnded,
-        15 => Refusal::Ended,
-        16 => Refusal::HistoryFull(0),
-        17 => Refusal::NoMemory,
-        18 => Refusal::SlotTaken,
-        19 => Refusal::Stranger,
-        20 => Refusal::Missing,
-        21 => Refusal::Stalled(0),
-        22 => Refusal::BodyFailed,
-        23 => Refusal::StoreFull,
-        24 => Refusal::NoPool,
-        25 => Refusal::PoolKnown,
-        26 => Refusal::BadSpec,
+        1 => ("NoNode", "there is no node of this number"),
+        2 => ("SameNode", "the sender and the receiver are one node"),
+        3 => ("TaskKnown", "a task of this number was inserted before"),
+        4 => ("NoTask", "no task of this number was inserted"),
+        5 => (
+            "WrongLife",
+            "the task is not in the state that the step needs, or the end was not judged",
+        ),
+        6 => (
+            "Inactive",
+            "no task is unfinished and no action is open at the node",
+        ),
+        7 => ("ActionKnown", "the action is open there"),
+        8 => ("NoAction", "the action is not open there"),
+        9 => ("MessageKnown", "a message of this number was sent before"),
+        10 => ("NoMessage", "no such message is under way to that node"),
+        11 => (
+            "NotIdle",
+            "a task is unfinished, an action is open or a message is under way",
+        ),
+        12 => ("NoToken", "the wave has not come so far, or has passed"),
+        13 => ("WaveOpen", "a wave is open, or has ended and is not judged"),
+        14 => ("WaveNotEnded", "no ended wave waits for judgement"),
+        15 => ("Ended", "the end was judged"),
+        16 => ("HistoryFull", "there is no room for more steps"),
+        17 => ("NoMemory", "an allocation failed"),
+        18 => ("SlotTaken", "no call of this library returns it"),
+        19 => ("Stranger", "the message is of another generation"),
+        20 => ("Missing", "no call of this library returns it"),
+        21 => ("Stalled", "no call of this library returns it"),
+        22 => ("BodyFailed", "no call of this library returns it"),
+        23 => ("StoreFull", "no call of this library returns it"),
+        24 => ("NoPool", "the core or the pool is not open"),
+        25 => ("PoolKnown", "no call of this library returns it"),
+        26 => (
+            "BadSpec",
+            "there is no such step or maker, or there cannot be so many nodes",
+        ),
+        28 => ("Busy", "another call runs on the core"),
+        29 => (
+            "NoMaker",
+            "the maker does not run or is not open at the node of the step",
+        ),
+        101 => ("Inactive", meaning(101)),
+        102 => ("Full", meaning(102)),
+        103 => ("NotDue", meaning(103)),
+        104 => ("NotYet", meaning(104)),
+        105 => ("Late", meaning(105)),
+        106 => ("NotEnded", meaning(106)),
+        107 => ("NotOpen", meaning(107)),
+        108 => ("NoProcess", meaning(108)),
+        109 => ("Malformed", meaning(109)),
         _ => return None,
     })
-}
-
-/// Returns the meaning of a refusal, if a call on a core or on a pool of task graphs can return it.
-fn meaning(refusal: Refusal) -> &'static str
-    ensures { result.now ≡ meaning_of refusal }
-{
-    match refusal {
-        Refusal::NoNode => "there is no node of this number",
-        Refusal::SameNode => "the sender and the receiver are one node",
-        Refusal::TaskKnown => "a task of this number was inserted before",
-        Refusal::NoTask => "no task of this number was inserted",
-        Refusal::WrongLife => {
-            "the task is not in the state that the step needs, or the end was not judged"
-        }
-        Refusal::Inactive => "no task is unfinished and no action is open at the node",
-        Refusal::ActionKnown => "the action is open there",
-        Refusal::NoAction => "the action is not open there",
-        Refusal::MessageKnown => "a message of this number was sent before",
-        Refusal::NoMessage => "no such message is under way to that node",
-        Refusal::NotIdle => "a task is unfinished, an action is open or a message is under way",
-        Refusal::NoToken => "the wave has not come so far, or has passed",
-        Refusal::WaveOpen => "a wave is open, or has ended and is not judged",
-        Refusal::WaveNotEnded => "no ended wave waits for judgement",
-        Refusal::Ended => "the end was judged",
-        Refusal::HistoryFull(_) => "there is no room for more steps",
-        Refusal::NoMemory => "an allocation failed",
-        Refusal::Stranger => "the message is of another generation",
-        Refusal::NoPool => "the core or the pool is not open",
-        Refusal::BadSpec => "there is no such step or maker, or there cannot be so many nodes",
-        _ => "no call of this library returns it",
-    }
-}
-
-fn process_name(refusal: ProcessRefusal) -> &'static str
-    ensures { result.now ≡ process_name refusal }
-{
-    match refusal {
-        ProcessRefusal::Inactive => "Inactive",
-        ProcessRefusal::Full => "Full",
-        ProcessRefusal::NotDue => "NotDue",
-        ProcessRefusal::NotYet => "NotYet",
-        ProcessRefusal::Late => "Late",
-        ProcessRefusal::NotEnded => "NotEnded",
-        ProcessRefusal::NotOpen => "NotOpen",
-        ProcessRefusal::NoProcess => "NoProcess",
-    }
-}
-
-fn cause_name(cause: Cause) -> &'static str
-    ensures { result.now ≡ cause_name cause }
-{
-    match cause {
-        Cause::Pool(refusal) => refusal.name(),
-        Cause::Busy => "Busy",
-        Cause::NoMaker => "NoMaker",
-        Cause::Process(refusal) => process_name(refusal),
-        Cause::Malformed => "Malformed",
-    }
-}
-
-fn cause_meaning(cause: Cause) -> &'static str
-    ensures { result.now ≡ cause_meaning cause }
-{
-    match cause {
-        Cause::Pool(refusal) => meaning(refusal),
-        Cause::Busy => "another call runs on the core",
-        Cause::NoMaker => "the maker does not run or is not open at the node of the step",
-        Cause::Process(refusal) => process_meaning(number_of(refusal)),
-        Cause::Malformed => process_meaning(109),
-    }
 }
 
 /// Writes the name of the refusal of a number to the start of the buffer `room`: `NoNode` for 1, to `BadSpec` for 26;
@@ -160,8 +75,8 @@ fn cause_meaning(cause: Cause) -> &'static str
 pub extern "C" fn gerfmuod_refusal_name(number: u32, room: &mut [u8]) -> Written
     ensures { IsNamed number room.old result room.new }
 {
-    match cause_of(number) {
-        Some(cause) => put(room, cause_name(cause).as_bytes(), WRITTEN),
+    match texts_of(number) {
+        Some((name, _)) => put(room, name.as_bytes(), WRITTEN),
         None => unwritten(NO_TEXT),
     }
 }
@@ -171,8 +86,8 @@ pub extern "C" fn gerfmuod_refusal_name(number: u32, room: &mut [u8]) -> Written
 pub extern "C" fn gerfmuod_refusal_meaning(number: u32, room: &mut [u8]) -> Written
     ensures { IsExplained number room.old result room.new }
 {
-    match cause_of(number) {
-        Some(cause) => put(room, cause_meaning(cause).as_bytes(), WRITTEN),
+    match texts_of(number) {
+        Some((_, meaning)) => put(room, meaning.as_bytes(), WRITTEN),
         None => unwritten(NO_TEXT),
     }
 }

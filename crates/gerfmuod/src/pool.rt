@@ -36,8 +36,7 @@ impl CoreRoom {
     ghost use Rattle.tp_core.specs.Makers.{is_maker};
     ghost use Rattle.tp_core.specs.NeverEarly.{IsNeverEarly};
     ghost use Rattle.tp_core.specs.Settled.{Settles};
-    ghost use Rattle.gerfmuod.specs.Room.{room_of};
-    ghost use Rattle.gerfmuod.specs.Told.{AnswersTo};
+    ghost use Rattle.gerfmuod.specs.Calls.{room_of, AnswersTo};
 
     /// Returns a pool of the nodes 0 to `nodes` - 1, 1 to 8 of them. It allocates nothing.
     pub(crate) fn new(alloc: Global, nodes: u32) -> CoreRoom

@@ -46,10 +46,7 @@ pub extern "C" fn gerfmuod_process_add_work(process: &mut Process) -> u32
     ensures state { read process.new ≡ after_event opened (read process.old) }
     ensures kept { IsKept result process.old process.new }
 {
-    match process.add_work() {
-        Ok(()) => 0,
-        Err(refusal) => number_of(refusal),
-    }
+    outcome(process.add_work())
 }
 
 /// Closes a piece of work. Returns 0 or the refusal, as in `Process::finish_work`.
@@ -59,10 +56,7 @@ pub extern "C" fn gerfmuod_process_finish_work(process: &mut Process) -> u32
     ensures state { read process.new ≡ after_event closed (read process.old) }
     ensures kept { IsKept result process.old process.new }
 {
-    match process.finish_work() {
-        Ok(()) => 0,
-        Err(refusal) => number_of(refusal),
-    }
+    outcome(process.finish_work())
 }
 
 /// Counts a message as sent. Returns 0 or the refusal, as in `Process::count_sent`.
@@ -72,10 +66,7 @@ pub extern "C" fn gerfmuod_process_count_sent(process: &mut Process) -> u32
     ensures state { read process.new ≡ after_event sent (read process.old) }
     ensures kept { IsKept result process.old process.new }
 {
-    match process.count_sent() {
-        Ok(()) => 0,
-        Err(refusal) => number_of(refusal),
-    }
+    outcome(process.count_sent())
 }
 
 /// Counts a message of an epoch as received, and opens its piece of work. Returns 0 or the refusal, as in
@@ -86,10 +77,7 @@ pub extern "C" fn gerfmuod_process_count_received(process: &mut Process, epoch: 
     ensures state { read process.new ≡ if_open (read process.old) (received_in epoch (read process.old)) }
     ensures kept { IsKept result process.old process.new }
 {
-    match process.count_received(epoch) {
-        Ok(()) => 0,
-        Err(refusal) => number_of(refusal),
-    }
+    outcome(process.count_received(epoch))
 }
 
 /// The same call as `gerfmuod_process_count_sent`, under its name in the monitor interface.
@@ -99,10 +87,7 @@ pub extern "C" fn gerfmuod_process_outgoing_message_start(process: &mut Process)
     ensures state { read process.new ≡ after_event sent (read process.old) }
     ensures kept { IsKept result process.old process.new }
 {
-    match process.outgoing_message_start() {
-        Ok(()) => 0,
-        Err(refusal) => number_of(refusal),
-    }
+    outcome(process.outgoing_message_start())
 }
 
 /// The same call as `gerfmuod_process_count_received`, under its name in the monitor interface.
@@ -112,10 +97,7 @@ pub extern "C" fn gerfmuod_process_incoming_message_start(process: &mut Process,
     ensures state { read process.new ≡ if_open (read process.old) (received_in epoch (read process.old)) }
     ensures kept { IsKept result process.old process.new }
 {
-    match process.incoming_message_start(epoch) {
-        Ok(()) => 0,
-        Err(refusal) => number_of(refusal),
-    }
+    outcome(process.incoming_message_start(epoch))
 }
 
 /// The same call as `gerfmuod_process_finish_work`, under its name in the monitor interface.
@@ -125,10 +107,7 @@ pub extern "C" fn gerfmuod_process_incoming_message_end(process: &mut Process) -
     ensures state { read process.new ≡ after_event closed (read process.old) }
     ensures kept { IsKept result process.old process.new }
 {
-    match process.incoming_message_end() {
-        Ok(()) => 0,
-        Err(refusal) => number_of(refusal),
-    }
+    outcome(process.incoming_message_end())
 }
 
 /// Takes a control message. Returns 0 or the refusal: 107 if the process is not open; 109 if there is no such token;
@@ -164,10 +143,7 @@ fn take(process: &mut Process, message: &WireMessage, token: Token) -> u32
         wave: message.wave,
         token,
     };
-    match process.take(message.epoch, taken) {
-        Ok(()) => 0,
-        Err(refusal) => number_of(refusal),
-    }
+    outcome(process.take(message.epoch, taken))
 }
 
 /// Returns what the process has to do next: 0, nothing; 1, send the control message in `message_out`; 2, call again; 3,
@@ -202,10 +178,7 @@ pub extern "C" fn gerfmuod_process_reopen(process: &mut Process) -> u32
     ensures state { read process.new ≡ if_open (read process.old) (reopened (read process.old)) }
     ensures kept { IsKept result process.old process.new }
 {
-    match process.reopen() {
-        Ok(()) => 0,
-        Err(refusal) => number_of(refusal),
-    }
+    outcome(process.reopen())
 }
 
 /// Returns whether the process is open.
@@ -288,6 +261,17 @@ pub(crate) fn meaning(number: u32) -> &'static str
         108 => "the number of the process is not below the number of processes",
         109 => "no control message has such a token",
         _ => "no call refuses with this number",
+    }
+}
+
+/// Returns 0, or the number of the refusal.
+#[inline(always)]
+fn outcome(answer: Result<(), Refusal>) -> u32
+    ensures { result ≡ refused_as (result_err answer) }
+{
+    match answer {
+        Ok(()) => 0,
+        Err(refusal) => number_of(refusal),
     }
 }
 

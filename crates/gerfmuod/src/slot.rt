@@ -1,12 +1,12 @@
 //! The content of a `gerfmuod_core`: a core, and a mark that says whether it is open and whether a call runs on it.
-ghost use Rattle.std.specs.Prelude.{◌≡◌, ◌≢◌, ◌≤◌, ◌↔◌, Bool, IsTrue, IsFalse, if◌then◌else◌};
-ghost use Rattle.tp_base.specs.declared.limits.TheConstants.{MAX_NODES};
-ghost use Rattle.gerfmuod.specs.Slot.{closed, new_core, refusal_of, Busy, Closed, Open};
+ghost use Rattle.std.specs.Prelude.{◌≡◌, ◌≢◌, ◌↔◌, IsTrue, IsFalse};
+ghost use Rattle.gerfmuod.specs.Calls.{IsClosed, IsRestarted};
+ghost use Rattle.gerfmuod.specs.Slot.{can_be, opened, refusal_of, Busy, Open};
 
 use crate::pool::CoreRoom;
 use std::alloc::Global;
 use std::marker::Model;
-use tp_base::Refusal;
+use tp_base::{MAX_NODES, Refusal};
 
 /// The value of `mark` in an open core: `core` in ASCII. It has 4 bytes, so that one instruction compares or writes it.
 const OPEN: u32 = 0x636f_7265;
@@ -28,6 +28,13 @@ const _: () = prove!(align_of::<CoreSlot>() <= 8);
 /// Compiles only for a type that can be sent to another thread: a program in C may use its core from any thread.
 fn can_be_sent<T: Send>() {}
 
+/// Returns whether a pool can have this number of nodes.
+pub(crate) fn can_be(nodes: u32) -> bool
+    ensures { result ≡ can_be nodes }
+{
+    1 <= nodes && nodes <= MAX_NODES
+}
+
 /// A core that is open or not. Contracts see whether it is open, whether a call runs on it, and what the core has
 /// accepted.
 #[derive(Drop)]
@@ -48,16 +55,23 @@ impl Model for CoreSlot {
 }
 
 impl CoreSlot {
-    /// Returns a core of the nodes 0 to `nodes` - 1, which is open or not. It allocates nothing.
-    pub(crate) fn new(alloc: Global, nodes: u32, is_open: bool) -> CoreSlot
-        requires { (1 ≤ nodes) × (nodes ≤ MAX_NODES) }
-        ensures { result ≡ record { use_is = if is_open then Open else Closed; core = new_core nodes } }
+    /// Returns a new core of this number of nodes; it is not open if there cannot be so many. It allocates nothing.
+    pub(crate) fn open(alloc: Global, nodes: u32) -> CoreSlot
+        ensures { result ≡ opened nodes }
     {
         can_be_sent::<CoreSlot>();
-        CoreSlot {
-            mark: if is_open { OPEN } else { 0 },
-            room: CoreRoom::new(alloc, nodes),
-            alloc,
+        if can_be(nodes) {
+            CoreSlot {
+                mark: OPEN,
+                room: CoreRoom::new(alloc, nodes),
+                alloc,
+            }
+        } else {
+            CoreSlot {
+                mark: 0,
+                room: CoreRoom::new(alloc, 1),
+                alloc,
+            }
         }
     }
 
@@ -103,18 +117,27 @@ impl CoreSlot {
         }
     }
 
-    /// Replaces the core by a new one of the same nodes.
-    pub(crate) fn restart(&mut self)
-        ensures { self.new ≡ record { use_is = self.old.use_is; core = new_core self.old.core.nodes } }
+    /// Replaces the core by a new one of the same nodes, if termination was detected.
+    pub(crate) fn restart(&mut self) -> u32
+        ensures restarted { IsRestarted self.old.core result self.new.core }
+        ensures use_is { self.new.use_is ≡ self.old.use_is }
     {
+        if !self.room.core().is_ended() {
+            return u32::from(Refusal::WrongLife.number());
+        }
         self.room = CoreRoom::new(self.alloc, self.room.nodes());
+        0
     }
 
-    /// Drops the core, and marks it as not open.
-    pub(crate) fn close(&mut self)
-        ensures { self.new ≡ closed }
+    /// Drops the core and marks it as not open, if it is open and no call runs on it.
+    pub(crate) fn close(&mut self) -> u32
+        ensures { IsClosed self.old result self.new }
     {
+        if !self.is_open() {
+            return u32::from(self.refusal());
+        }
         self.mark = 0;
         self.room = CoreRoom::new(self.alloc, 1);
+        0
     }
 }

@@ -1,7 +1,7 @@
 //! The result that each call on a task graph returns to C.
 ghost use Rattle.std.specs.Prelude.{◌≡◌};
 ghost use Rattle.gerfmuod.specs.Graph.{event_answer, fault_answer, found_fault_answer, limit_of, plain, refusal_answer, reply_answer};
-ghost use Rattle.gerfmuod.specs.Graph.{graph_refusal_answer, number_or_none, task_named};
+ghost use Rattle.gerfmuod.specs.Graph.{number_or_none, refused_with, task_named};
 
 use tp_base::Refusal;
 use tp_dag::Event;
@@ -38,28 +38,23 @@ pub(crate) fn plain(next: u32, number: u32, signals: u32) -> GraphAnswer
     }
 }
 
+/// Returns the result of a call that was refused because of a task or a limit, with the number of threads to signal.
+pub(crate) fn refused_with(refusal: TeamRefusal, number: u32, signals: u32) -> GraphAnswer
+    ensures { result ≡ refused_with refusal number signals }
+{
+    GraphAnswer {
+        refused: refusal.number(),
+        next: 0,
+        number,
+        signals,
+    }
+}
+
 /// Returns the result of a refused call.
 pub(crate) fn refused(refusal: TeamRefusal) -> GraphAnswer
     ensures { result ≡ refusal_answer refusal }
 {
-    GraphAnswer {
-        refused: refusal.number(),
-        next: 0,
-        number: limit_of(refusal),
-        signals: 0,
-    }
-}
-
-/// Returns the result of a graph that was refused because of a task.
-pub(crate) fn refused_at(refusal: TeamRefusal, task: u32) -> GraphAnswer
-    ensures { result ≡ graph_refusal_answer refusal task }
-{
-    GraphAnswer {
-        refused: refusal.number(),
-        next: 0,
-        number: task,
-        signals: 0,
-    }
+    refused_with(refusal, limit_of(refusal), 0)
 }
 
 fn limit_of(refusal: TeamRefusal) -> u32
@@ -94,12 +89,7 @@ fn number_or_none(task: Option<u32>) -> u32
 fn of_fault(fault: Fault, signals: u32) -> GraphAnswer
     ensures { result ≡ fault_answer fault signals }
 {
-    GraphAnswer {
-        refused: fault.refusal.number(),
-        next: 0,
-        number: number_or_none(fault.task),
-        signals,
-    }
+    refused_with(fault.refusal, number_or_none(fault.task), signals)
 }
 
 /// Returns the result of a turn.

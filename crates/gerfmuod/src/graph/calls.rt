@@ -1,21 +1,12 @@
 //! The calls on a task graph, as C gets their results.
-ghost use Rattle.std.specs.Prelude.{◌≡◌, not};
-ghost use Rattle.gerfmuod.specs.Graph.{opened_graph, IsDescribeCall, IsGraphCall, IsSpawnCall};
+ghost use Rattle.gerfmuod.specs.Graph.{IsDescribeCall, IsGraphCall, IsSpawnCall};
 
 use crate::graph::answer::{GraphAnswer, plain, refused};
 use crate::graph::call::{Call, call_of};
 use crate::graph::slot::GraphSlot;
 use crate::graph::team::{called, described, spawned};
-use std::alloc::Global;
 use tp_base::Refusal;
 use tp_team::TeamRefusal;
-
-/// Returns an open graph without a task.
-pub(crate) fn made(alloc: Global, is_traced: u32, processors: u32) -> GraphSlot
-    ensures { result ≡ opened_graph is_traced processors }
-{
-    GraphSlot::open(alloc, is_traced != 0, processors)
-}
 
 /// Makes the call of a number.
 pub(crate) fn call(slot: &mut GraphSlot, number: u32, first: u32, second: u32) -> GraphAnswer

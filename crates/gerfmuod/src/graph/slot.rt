@@ -1,7 +1,6 @@
 //! The content of a `gerfmuod_graph`: a team, and a mark that says whether it is open.
-ghost use Rattle.std.specs.Prelude.{◌≡◌, true};
-ghost use Rattle.gerfmuod.specs.Graph.{closed};
-ghost use Rattle.tp_team.specs.Calls.{opened};
+ghost use Rattle.std.specs.Prelude.{◌≡◌};
+ghost use Rattle.gerfmuod.specs.Graph.{closed, opened_graph};
 
 use std::alloc::Global;
 use std::marker::Model;
@@ -40,13 +39,13 @@ impl Model for GraphSlot {
 
 impl GraphSlot {
     /// Returns an open graph without a task. It allocates nothing.
-    pub(crate) fn open(alloc: Global, traced: bool, processors: u32) -> GraphSlot
-        ensures { result ≡ record { is_open = true; team = opened traced processors } }
+    pub(crate) fn open(alloc: Global, is_traced: u32, processors: u32) -> GraphSlot
+        ensures { result ≡ opened_graph is_traced processors }
     {
         can_be_sent::<GraphSlot>();
         GraphSlot {
             mark: MARK,
-            team: Team::open(alloc, traced, processors),
+            team: Team::open(alloc, is_traced != 0, processors),
             alloc,
         }
     }

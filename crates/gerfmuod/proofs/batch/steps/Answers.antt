@@ -1,7 +1,5 @@
-use Rattle.std.proofs.Common.{◌≡◌, ◌∙◌, ap, length, refl, take}
-use Rattle.std.proofs.lemmas.List.{take_min}
-use Rattle.gerfmuod.specs.Slot.{CoreState}
-use Rattle.gerfmuod.proofs.Several.{taken_by_call}
+use Rattle.gerfmuod.proofs.Words.{◌≡◌, ◌∙◌, ap, length, refl, take, take_min, CoreState}
+use Rattle.gerfmuod.proofs.Steps.{taken_by_call}
 use Rattle.gerfmuod.proofs.batch.steps.Goals as goal
 
 pub returns : goal.returns

@@ -1,10 +1,5 @@
-use Rattle.std.proofs.Common.{◌≡◌, get_or, subst, arith, Option}
-use Rattle.tp_base.specs.declared.Step.{Step}
-use Rattle.gerfmuod.specs.Batch.{IsStep}
-use Rattle.gerfmuod.specs.Events.{event_of}
-use Rattle.gerfmuod.specs.Pool.{TellsNoEarlyEnd}
-use Rattle.gerfmuod.specs.Told.{IsTold}
-use Rattle.gerfmuod.proofs.Several.{after_one, stops_at}
+use Rattle.gerfmuod.proofs.Words.{◌≡◌, get_or, subst, arith, Option, Step, IsStep, event_of, TellsNoEarlyEnd, IsTold}
+use Rattle.gerfmuod.proofs.Steps.{after_one, stops_at}
 use Rattle.gerfmuod.proofs.batch.taken.Goals as goal
 
 pub returns-then-answer-ne0 : goal.returns-then-answer-ne0

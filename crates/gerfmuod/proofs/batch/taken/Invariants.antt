@@ -1,4 +1,4 @@
-use Rattle.gerfmuod.proofs.Several.{AfterSteps}
+use Rattle.gerfmuod.proofs.Steps.{AfterSteps}
 use Rattle.gerfmuod.proofs.batch.taken.Given as goal
 
 -- the steps so far were taken, and their results are written

@@ -1,21 +1,21 @@
 -- The proof of `gerfmuod_open`: it moves a new core into the memory.
-use Rattle.gerfmuod.proofs.Walks.{◌≡◌, [], ◌∷◌, ◌++◌, ℕ, refl, w32, proved, full_share, id⊢, ftrue, froom, Ty, vint, WpFn, fact, tables, ‵}
-use Rattle.gerfmuod.proofs.Walks.{raw, ◌⊛◌, some, later, prop, ◌$◌, ◌∵◌, !, qed, done, move, keep, drop, use1, use2, split, join, fsplit}
-use Rattle.gerfmuod.proofs.Walks.{pick, await, regoal, rewrite, suffices, frame, group, enter, of_opd, init, stop, no_more, and_then}
-use Rattle.gerfmuod.proofs.Walks.{assigns, returns, alloc_all, pass_all, free_all, look_at, get, through, sets, lands_as, u32, yes, Is}
-use Rattle.gerfmuod.proofs.Walks.{shows, lone, uint_Makes, uint_vals, uint_Tells, uint_Lawful, owns, Ptr, RawPtr, block_ptr, lies_at}
-use Rattle.gerfmuod.proofs.Walks.{room_at, in_a_block, rawptr_vals, rawptr_Tells, plain, nothing, owned, peeks, heard, calls_at, lasts}
-use Rattle.gerfmuod.proofs.Walks.{triple_of, Stays, walk_of, says, stay_dropped, Goes-dropped, ends_at, framed, part_in, CoreState}
+use Rattle.gerfmuod.proofs.Borrowing.{◌≡◌, [], ◌∷◌, ◌++◌, ℕ, refl, w32, proved, full_share, id⊢, ftrue, froom, Ty, vint, WpFn, fact, tables}
+use Rattle.gerfmuod.proofs.Borrowing.{‵, raw, ◌⊛◌, some, later, prop, ◌$◌, ◌∵◌, !, qed, done, move, keep, drop, use1, use2, split, join}
+use Rattle.gerfmuod.proofs.Borrowing.{fsplit, pick, await, regoal, rewrite, suffices, frame, group, enter, of_opd, init, stop, no_more}
+use Rattle.gerfmuod.proofs.Borrowing.{and_then, assigns, returns, alloc_all, pass_all, free_all, look_at, get, through, sets, lands_as, u32}
+use Rattle.gerfmuod.proofs.Borrowing.{yes, Is, shows, lone, uint_Makes, uint_vals, uint_Tells, uint_Lawful, owns, Ptr, RawPtr, block_ptr}
+use Rattle.gerfmuod.proofs.Borrowing.{lies_at, room_at, in_a_block, rawptr_vals, rawptr_Tells, plain, nothing, owned, peeks, heard, calls_at}
+use Rattle.gerfmuod.proofs.Borrowing.{lasts, triple_of, Stays, walk_of, says, stay_dropped, Goes-dropped, ends_at, framed, part_in, CoreState}
+use Rattle.gerfmuod.proofs.Borrowing.{opened, opening}
 use Rattle.std.specs.contracts.alloc.Global.{the_row as Z}
 use Rattle.std.proofs.alloc.Global.TheLaws as heap
 use Rattle.gerfmuod.specs.contracts.slot.CoreSlot.{the_row as R}
 use Rattle.gerfmuod.proofs.slot.CoreSlot.TheLaws.{the_row_laws}
-use Rattle.gerfmuod.specs.Slot.{opened, opening}
 use Rattle.gerfmuod.specs.contracts.exports.gerfmuod_open as f
 use Rattle.gerfmuod.proofs.exports.gerfmuod_open.Statement.{statement}
 use Rattle.gerfmuod.proofs.exports.gerfmuod_open.Code as code
-use Rattle.gerfmuod.specs.contracts.calls.made as g
-use Rattle.gerfmuod.proofs.calls.made.Met as g-thm
+use Rattle.gerfmuod.specs.contracts.slot.CoreSlot.open as g
+use Rattle.gerfmuod.proofs.slot.CoreSlot.open.Met as g-thm
 use Rattle.gerfmuod.specs.contracts.calls.opening as h
 use Rattle.gerfmuod.proofs.calls.opening.Met as h-thm
 
@@ -49,7 +49,7 @@ gerfmuod_open_spec 𝓤 𝓛 𝓜 𝓡 wired =
     let z : G.Ghost = ((tt, tt, tt, (d, (k, tt)), (dv ∷ [], (vint w32 k ∷ [], tt))), tt) in
     nothing ! $ owned ! u32 (Is u32) (uint_Makes 𝓛 w32) k _ (refl, fk) $ join ! $ move ! (2 ∷ 0 ∷ []) $ join ! $
     nothing ! $ join ! $ nothing ! $ move ! (1 ∷ 0 ∷ []) $ use2 𝓛 (raw (G.pre z)) (id⊢ 𝓤 _) $
-    calls_at ! (framed 𝓤 𝓛.H 𝓜 𝓣) G (g-thm.met 𝓤 𝓛 𝓜 𝓡 (code.calls-gerfmuod::calls::made 𝓡.env wired)) z
+    calls_at ! (framed 𝓤 𝓛.H 𝓜 𝓣) G (g-thm.met 𝓤 𝓛 𝓜 𝓡 (code.calls-gerfmuod::slot::CoreSlot::open 𝓡.env wired)) z
     (and_then ! (get ! refl) (and_then ! (get ! refl) (no_more !))) (λ v.
     use1 𝓛 (later (some (λ (r : CoreState). (‵ ftrue ⊛ ‵ (R.own_val r (v ∷ []))) ⊛
     some (λ (ws : Unit {0} × (Unit {0} × Unit {0})). ‵ (lasts g.ended z.0.0 z.0.3 ws) ⊛ raw (fact 𝓤 (r ≡ opened k)))))) (id⊢ 𝓤 _) $

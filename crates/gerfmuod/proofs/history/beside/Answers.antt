@@ -1,4 +1,4 @@
-use Rattle.std.proofs.Common.{rules}
+use Rattle.gerfmuod.proofs.Words.{rules}
 use Rattle.gerfmuod.proofs.Recording.{same_homes}
 use Rattle.gerfmuod.proofs.history.beside.Goals as goal
 

@@ -1,7 +1,4 @@
-use Rattle.std.proofs.Common.{ap, ◌∙◌, reverse, arith}
-use Rattle.std.proofs.lemmas.List.{take_all}
-use Rattle.tp_core.specs.Generations.{history_after}
-use Rattle.tp_core.proofs.Answering.{no_step}
+use Rattle.gerfmuod.proofs.Words.{ap, ◌∙◌, reverse, arith, take_all, history_after, no_step}
 use Rattle.gerfmuod.proofs.Recording.{oldest, next_run, recorded_next, homes_next, fits}
 use Rattle.gerfmuod.proofs.history.recorded.Goals as goal
 

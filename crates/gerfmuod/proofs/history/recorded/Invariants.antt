@@ -1,6 +1,4 @@
-use Rattle.std.proofs.Common.{◌≡◌, ◌+◌, ◌≤◌, length}
-use Rattle.tp_core.specs.Generations.{history_after}
-use Rattle.gerfmuod.specs.Homes.{tasks_after, HasHomes}
+use Rattle.gerfmuod.proofs.Words.{◌≡◌, ◌+◌, ◌≤◌, length, history_after, tasks_after, HasHomes}
 use Rattle.gerfmuod.proofs.Recording.{oldest}
 use Rattle.gerfmuod.proofs.history.recorded.Given as goal
 

@@ -1,10 +1,6 @@
-use Rattle.std.proofs.Common.{ℕ, ◌≡◌, List, refl, inr, subst, sym, ◌∙◌, reverse}
-use Rattle.std.specs.Prelude.{IfErr, IfOk, ◌⊎◌}
-use Rattle.tp_base.specs.declared.Refusal.TheVariants.{BadSpec, NoMemory}
-use Rattle.tp_base.specs.declared.Step.{Step}
+use Rattle.gerfmuod.proofs.Words.{ℕ, ◌≡◌, List, refl, inr, subst, sym, ◌∙◌, reverse, IfErr, IfOk, ◌⊎◌, BadSpec, NoMemory, Step, History}
+use Rattle.gerfmuod.proofs.Words.{steps_of, IsRun, IsTraceOf, CanBeTraced}
 use Rattle.tp_wave.specs.Generations.{InEach}
-use Rattle.tp_wave.specs.Machine.{History, steps_of, IsRun}
-use Rattle.tp_text.specs.TraceOf.{IsTraceOf, CanBeTraced}
 use Rattle.gerfmuod.proofs.Recording.{recorded_runs, steps_of_history, taken_runs}
 use Rattle.gerfmuod.proofs.Traced.{both, not_traced, swapped}
 use Rattle.gerfmuod.proofs.history.trace.Goals as goal

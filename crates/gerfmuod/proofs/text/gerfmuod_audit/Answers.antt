@@ -1,4 +1,4 @@
-use Rattle.tp_text.proofs.TracedEnds.{ended_over, not_ended_claims, reopened_over}
+use Rattle.gerfmuod.proofs.Words.{ended_over, not_ended_claims, reopened_over}
 use Rattle.gerfmuod.proofs.text.gerfmuod_audit.Goals as goal
 
 pub returns-clause-ended : goal.returns-clause-ended

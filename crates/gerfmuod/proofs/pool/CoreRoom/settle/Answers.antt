@@ -1,4 +1,4 @@
-use Rattle.gerfmuod.proofs.Room.{kept_after_settling}
+use Rattle.gerfmuod.proofs.Steps.{kept_after_settling}
 use Rattle.gerfmuod.proofs.pool.CoreRoom.settle.Goals as goal
 
 pub invariant_of-self : goal.invariant_of-self

@@ -1,8 +1,5 @@
-use Rattle.std.proofs.Common.{subst}
-use Rattle.tp_core.specs.Accepted.{Accepted}
-use Rattle.tp_core.specs.Generations.{InEach}
-use Rattle.tp_core.specs.NeverEarly.{IsNeverEarly}
-use Rattle.gerfmuod.proofs.Kept.{kept_never_early}
+use Rattle.gerfmuod.proofs.Words.{subst, Accepted, InEach, IsNeverEarly}
+use Rattle.gerfmuod.proofs.Steps.{kept_never_early}
 use Rattle.gerfmuod.proofs.pool.CoreRoom.take.Goals as goal
 
 pub returns-in_default-clause-never_early : goal.returns-in_default-clause-never_early

@@ -1,0 +1,307 @@
+-- The steps that a core takes: its room, the safety of what it returns, and several steps in one call.
+use Rattle.gerfmuod.proofs.Words.{ℕ, ◌≡◌, ◌≢◌, ◌+◌, ◌*◌, ◌≤◌, ◌++◌, Bool, true, false, List, ◌∷◌, [], length, Result, Some, refl, sym, ap}
+use Rattle.gerfmuod.proofs.Words.{subst, ◌∙◌, arith, Ok, Err, IsFalse, IsTrue, nat_lt, not, length-append, both_ways, nat_tests}
+use Rattle.gerfmuod.proofs.Words.{first_refusal, Check, number_of, MAX_STEPS, Refusal, Ended, NotIdle, HistoryFull, NoMemory, Step, Judge}
+use Rattle.gerfmuod.proofs.Words.{present, is_ended, judgement, Reply, Accepted, Answers, IsRefusedFor, world_of, ends_before, rooms_check}
+use Rattle.gerfmuod.proofs.Words.{Settles, is_quiet, InEach, IsNeverEarly, never_early_in_each, present-control, IsKept, is_full, Inside}
+use Rattle.gerfmuod.proofs.Words.{None, inl, inr, Option, ◌&&◌, if◌then◌else◌, cases_Bool, lt-leb, Give, until, visit, waves, visited_at}
+use Rattle.gerfmuod.proofs.Words.{Plain, WaveSums, Not, Over, Opened, judged, reply_to, with_step, IsOverFrom, judged_wave, settled}
+use Rattle.gerfmuod.proofs.Words.{unsettled, IsOver, TellsNoEarlyEnd, is_ending_if, leaves_nothing, plain, told, reply_told, refusal_told}
+use Rattle.gerfmuod.proofs.Words.{AnswersInRoom, AnswersTo, IsTold, Answer, ◌<◌, take, drop, set, get_or, take_more, take_more_set}
+use Rattle.gerfmuod.proofs.Words.{take-set, drop-set, drop-set-lt, drop-drop, drop_more, drop_all, length-set, AreTaken, IsBatch, IsStep}
+use Rattle.gerfmuod.proofs.Words.{IsStepsCall, step_asked, CoreState, Open}
+use Rattle.gerfmuod.specs.declared.event.Event.{Event}
+
+-- ---- a core keeps room for settling, so settling is never refused for lack of it
+-- Until termination is detected, there is room for 9 steps for each node.
+abbrev pub HasRoom : Accepted → Type 0
+HasRoom a = IsFalse (is_ended a.nodes (present a.steps)) → length a.steps + 9 * a.nodes ≤ MAX_STEPS
+
+room_left : (a : Accepted) → a.nodes ≤ 8 → IsFalse (is_full a) → length a.steps + 1 + 9 * a.nodes ≤ MAX_STEPS
+room_left a few left = grind (arith, nat_tests)
+
+pub room_after_step : (old new : Accepted) (s : Step) (r : Result Reply Refusal) → Answers old s r new → old.nodes ≤ 8
+    → IsFalse (is_full old)
+    → HasRoom old → HasRoom new
+room_after_step old new s (Ok reply) a few left room =
+    subst HasRoom (sym a.2) (λ e. let l = room_left old few left in omega (arith, l))
+room_after_step old new s (Err r) a few left room = subst HasRoom (sym a.1) room
+
+ended_here : (n w : ℕ) (past : List Step) → judgement n past ≡ Some w → IsTrue (is_ended n (Judge ∷ past))
+ended_here n w past e = rw e refl
+
+pub room_after_settling : (old new : Accepted) (r : Result (ℕ × ℕ) Refusal) → Settles old r new → HasRoom old → HasRoom new
+room_after_settling old new (Ok answer) s room =
+    let is = s.1 in
+    let past : List Step = is.taken ++ present old.steps in
+    let now : present new.steps ≡ Judge ∷ past =
+    ap (λ (xs : List Step). present xs) is.steps ∙ present-control (Judge ∷ is.taken) old.steps is.control in
+    let ended : IsTrue (is_ended new.nodes (present new.steps)) =
+    subst (λ (xs : List Step). IsTrue (is_ended new.nodes xs)) (sym now) (ended_here new.nodes answer.0 past (rw is.nodes is.judged)) in
+    λ e. let both = ended in cc
+room_after_settling old new (Err r) s room = subst HasRoom (sym s.1) room
+
+-- a refusal other than `HistoryFull`
+other : (r s : Refusal) → r ≡ s → number_of s ≢ 16 → number_of r ≢ 16
+other r s e differs = subst (λ (x : Refusal). number_of x ≢ 16) (sym e) differs
+
+refused_with_room : (ended busy full : Bool) (taken : ℕ) (asks : Bool) (r : Refusal) → (IsFalse ended → IsFalse full)
+    → IsRefusedFor (first_refusal ((ended, Ended) ∷ (busy, NotIdle) ∷ (full, HistoryFull taken) ∷ [])) asks r
+    → number_of r ≢ 16
+refused_with_room true busy full taken asks r room i = other r Ended i (λ e. omega (arith, e))
+refused_with_room false true full taken asks r room i = other r NotIdle i (λ e. omega (arith, e))
+refused_with_room false false true taken asks r room i = absurd (both_ways true (room refl) refl)
+refused_with_room false false false taken asks r room i = other r NoMemory i.0 (λ e. omega (arith, e))
+
+pub settled_with_room : (old new : Accepted) (r : Refusal) → Settles old (Err r) new → HasRoom old → number_of r ≢ 16
+settled_with_room old new r s room =
+    refused_with_room (is_ended old.nodes (present old.steps)) (not (is_quiet (world_of old)))
+    (nat_lt MAX_STEPS (length old.steps + 9 * old.nodes)) (length old.steps) (ends_before (length old.steps) (9 * old.nodes)) r
+    (λ e. let l = room e in grind (arith, nat_tests, l)) s.0
+
+not_ended : (b : Bool) (more : List Check) → first_refusal ((b, Ended) ∷ more) ≡ None → IsFalse b
+not_ended true more e = cc
+not_ended false more e = refl
+
+pub kept_after_settling : (p : Inside) (r : Result (ℕ × ℕ) Refusal) (new : Accepted) → IsKept p → Settles p.core r new
+    → IsKept (record p { core = new })
+kept_after_settling p (Ok answer) new k s =
+    let is = s.1 in
+    let open' = not_ended (is_ended p.core.nodes (present p.core.steps))
+    ((not (is_quiet (world_of p.core)), NotIdle) ∷ rooms_check (length p.core.steps) (9 * p.core.nodes)) s.0 in
+    let room = k.room open' in
+    let long : length new.steps ≡ answer.1 + length p.core.steps =
+    rw (is.steps, is.counted) (length-append (Judge ∷ is.taken) p.core.steps) in
+    let few = is.few in
+    record {
+      nodes = k.nodes ∙ sym is.nodes;
+      some_node = k.some_node;
+      few_nodes = k.few_nodes;
+      limit = k.limit;
+      within = omega (arith, room, long, few);
+      room = room_after_settling p.core new (Ok answer) s k.room;
+      runs = rw (is.nodes, is.steps) is.run;
+    }
+kept_after_settling p (Err r) new k s = subst (λ (a : Accepted). IsKept (record p { core = a })) (sym s.1) k
+
+-- The steps of a pool are runs, so its termination is never detected too early.
+pub kept_never_early : (p : Inside) → IsKept p → InEach (IsNeverEarly p.core.nodes) p.core.steps
+kept_never_early p k = never_early_in_each p.core.nodes p.core.steps k.runs
+
+-- ---- safety of the results: if a call says that the pool had terminated, it had
+-- ---- another wave followed the one that is named, so `Judge` does not move its end
+until_judge : (w : ℕ) (past : List Step) → w + 1 ≤ waves past → until w (Judge ∷ past) ≡ until w past
+until_judge w past l = rw (lt-leb (waves (Judge ∷ past)) w (omega arith))
+
+over_at_judge : (n w : ℕ) (past : List Step) → IsNeverEarly n (Judge ∷ past) → judgement n past ≡ Some w
+    → IsOverFrom n (visited_at w 0 (Judge ∷ past)) (Judge ∷ past)
+over_at_judge n w past never e =
+    subst (λ (u : List Step). IsOverFrom n (length (visit 0 u)) (Judge ∷ past)) (sym (until_judge w past (judged_wave n w past e)))
+    (never w [] past refl e)
+
+-- ---- a step whose result is `Over` was a judgement
+reply_over : (reply : Reply) → (reply_told reply).told ≡ 3 → reply ≡ Over (reply_told reply).number
+reply_over Plain e = cc
+reply_over (WaveSums s) e = cc
+reply_over Not e = cc
+reply_over (Over w) e = refl
+reply_over (Opened g) e = cc
+
+refusal_tells : (r : Refusal) → (refusal_told r).told ≡ 0
+refusal_tells (HistoryFull n) = refl
+refusal_tells (r) = refl
+
+judgement_over : (o : Option ℕ) (w : ℕ) → judged o ≡ Over w → o ≡ Some w
+judgement_over None w e = cc
+judgement_over (Some v) w e = cc
+
+judged_over : (n w : ℕ) (past : List Step) (s : Step) → reply_to n past s ≡ Over w → (s ≡ Judge) × (judgement n (present past) ≡ Some w)
+judged_over n w past Judge e = (refl, judgement_over (judgement n (present past)) w e)
+judged_over n w past (Give i) e = grind (arith, e)
+judged_over n w past (s) e = cc
+
+over_after : (old new : Accepted) (s : Step) (w : ℕ) → reply_to old.nodes old.steps s ≡ Over w → new ≡ with_step old s
+    → InEach (IsNeverEarly new.nodes) new.steps → IsOver new w
+over_after old new s w e n never =
+    let j = judged_over old.nodes w old.steps s e in
+    let now : new ≡ with_step old Judge = n ∙ rw j.0 refl in
+    subst (λ (a : Accepted). InEach (IsNeverEarly a.nodes) a.steps → IsOver a w) (sym now)
+    (λ each. over_at_judge old.nodes w (present old.steps) (each [] (Judge ∷ old.steps) refl) j.1) never
+
+-- the result of a step, if it says that the pool had terminated
+told_three : (left : Bool) (reply : Reply) → (if left then plain 0 5 0 else reply_told reply).told ≡ 3
+    → reply ≡ Over (if left then plain 0 5 0 else reply_told reply).number
+told_three true reply e = cc
+told_three false reply e = reply_over reply e
+
+-- ---- a step that was taken
+full_is_refused : (old : Accepted) (s : Step) (reply : Reply) (new : Accepted) → AnswersInRoom old s (Ok reply) new → IsFalse (is_full old)
+full_is_refused old s reply new a = elim (cases_Bool (is_full old)) [ inl e ↦ let none = (a.full e).0 in cc | inr e ↦ e ]
+
+answered_in_room : (old : Accepted) (s : Step) (reply : Reply) (new : Accepted) → AnswersInRoom old s (Ok reply) new
+    → Answers old s (Ok reply) new
+answered_in_room old s reply new a = a.taken (full_is_refused old s reply new a)
+
+pub told_over : (old new : Accepted) (o : Option Step) (r : Result Reply Refusal) → AnswersTo old o r new
+    → InEach (IsNeverEarly new.nodes) new.steps
+    → TellsNoEarlyEnd ((told o r new).told ≡ 3) (told o r new).number new
+told_over old new (Some s) (Ok reply) a never =
+    record {
+      ended = λ e.
+          let there = answered_in_room old s reply new a in
+          over_after old new s (told (Some s) (Ok reply) new).number
+          (sym there.1 ∙ told_three (leaves_nothing (Some s) new) reply e) there.2 never;
+      never_early = never;
+    }
+told_over old new (Some s) (Err r) a never = record { ended = λ e. let none = refusal_tells r in cc; never_early = never }
+told_over old new None (Ok reply) a never = record { ended = λ e. let none = a.0 in cc; never_early = never }
+told_over old new None (Err r) a never = record { ended = λ e. let none = refusal_tells r in cc; never_early = never }
+
+-- The result of a step that was taken, if whether it left nothing was seen before.
+pub told_left : (old new : Accepted) (o : Option Step) (reply : Reply) (u : Answer) (ends left : Bool) → AnswersTo old o (Ok reply) new
+    → InEach (IsNeverEarly new.nodes) new.steps → ends ≡ is_ending_if o → left ≡ (ends && is_quiet (world_of new))
+    → u ≡ (if left then plain 0 5 0 else reply_told reply) → IsTold old o u new × TellsNoEarlyEnd (u.told ≡ 3) u.number new
+told_left old new o reply u ends left a never e l is =
+    let seen : left ≡ leaves_nothing o new = l ∙ rw e refl in
+    let now : u ≡ told o (Ok reply) new = is ∙ rw seen refl in (
+      (Ok reply, a, now),
+      subst (λ (x : Answer). TellsNoEarlyEnd (x.told ≡ 3) x.number new) (sym now) (told_over old new o (Ok reply) a never),
+    )
+
+-- ---- the same for `settle`
+unsettled_tells : (r : Refusal) → (unsettled r).refused ≡ 0 → ⊥
+unsettled_tells (HistoryFull n) e = cc
+unsettled_tells (r) e = cc
+
+pub settled_over : (old new : Accepted) (r : Result (ℕ × ℕ) Refusal) → Settles old r new → InEach (IsNeverEarly new.nodes) new.steps
+    → TellsNoEarlyEnd ((settled r).refused ≡ 0) (settled r).wave new
+settled_over old new (Ok answer) s never =
+    let is = s.1 in
+    let past : List Step = is.taken ++ present old.steps in
+    let now : present new.steps ≡ Judge ∷ past =
+    ap (λ (xs : List Step). present xs) is.steps ∙ present-control (Judge ∷ is.taken) old.steps is.control in
+    let each : IsNeverEarly new.nodes (Judge ∷ past) =
+    subst (λ (xs : List Step). IsNeverEarly new.nodes xs) now (never [] new.steps refl) in
+    let told : judgement new.nodes past ≡ Some answer.0 = rw is.nodes is.judged in
+    record {
+      ended = λ e.
+          subst (λ (xs : List Step). IsOverFrom new.nodes (visited_at answer.0 0 xs) xs) (sym now)
+          (over_at_judge new.nodes answer.0 past each told);
+      never_early = never;
+    }
+settled_over old new (Err r) s never = record { ended = λ e. absurd (unsettled_tells r e); never_early = never }
+
+-- ---- steps that are taken one after the other, and the buffer with their results
+-- ---- a refused step changes nothing
+reply_taken : (reply : Reply) → (reply_told reply).refused ≡ 0
+reply_taken Plain = refl
+reply_taken (WaveSums s) = refl
+reply_taken Not = refl
+reply_taken (Over w) = refl
+reply_taken (Opened g) = refl
+
+told_taken : (left : Bool) (reply : Reply) → (if left then plain 0 5 0 else reply_told reply).refused ≡ 0
+told_taken true reply = refl
+told_taken false reply = reply_taken reply
+
+in_room : (old : Accepted) (s : Step) (r : Refusal) (new : Accepted) → AnswersInRoom old s (Err r) new → new ≡ old
+in_room old s r new a = elim (cases_Bool (is_full old)) [ inl e ↦ (a.full e).1 | inr e ↦ (a.taken e).1 ]
+
+err_changes_nothing : (old : Accepted) (o : Option Step) (r : Refusal) (new : Accepted) → AnswersTo old o (Err r) new → new ≡ old
+err_changes_nothing old None r new a = a.1
+err_changes_nothing old (Some s) r new a = in_room old s r new a
+
+result_changes_nothing : (old : Accepted) (o : Option Step) (r : Result Reply Refusal) (new : Accepted) → AnswersTo old o r new
+    → (told o r new).refused ≢ 0 → new ≡ old
+result_changes_nothing old o (Ok reply) new a differs = absurd (differs (told_taken (leaves_nothing o new) reply))
+result_changes_nothing old o (Err r) new a differs = err_changes_nothing old o r new a
+
+pub refused_same : (e : Event) (old : Accepted) (u : Answer) (new : Accepted) → IsStep e old u new → u.refused ≢ 0 → new ≡ old
+refused_same e old u new s differs =
+    result_changes_nothing old (step_asked e) s.0.0 new s.0.1 (subst (λ (x : Answer). x.refused ≢ 0) s.0.2 differs)
+
+-- ---- one step more
+one_more : (old mid new : Accepted) (es : List Event) (us : List Answer) (e : Event) (u : Answer) → AreTaken old es us mid
+    → IsStep e mid u new → u.refused ≡ 0 → AreTaken old (es ++ e ∷ []) (us ++ u ∷ []) new
+one_more old mid new [] [] e u t s taken = (new, subst (λ (a : Accepted). IsStep e a u new) t s, taken, refl)
+one_more old mid new (d ∷ es) (v ∷ us) e u t s taken = (t.0, t.1, t.2, one_more t.0 mid new es us e u t.3 s taken)
+one_more old mid new [] (v ∷ us) e u t s taken = absurd t
+one_more old mid new (d ∷ es) [] e u t s taken = absurd t
+
+-- Of the events, k were taken, and their results are in the first places of the buffer.
+pub record AfterSteps (events : List Event) (room : List Answer) (old : Accepted) (k : ℕ) (answers : List Answer) (now : Accepted)
+    : Type 0 where
+  pub taken : AreTaken old (take k events) (take k answers) now
+  pub rest : drop k answers ≡ drop k room
+  pub long : length answers ≡ length room
+
+pub after_none : (events : List Event) (room : List Answer) (old : Accepted) → AfterSteps events room old 0 room old
+after_none events room old = record { taken = refl; rest = refl; long = refl }
+
+rest_after : (answers room : List Answer) (k : ℕ) → drop k answers ≡ drop k room → drop (k + 1) answers ≡ drop (k + 1) room
+rest_after answers room k e = sym (drop-drop 1 k answers) ∙ ap (λ (xs : List Answer). drop 1 xs) e ∙ drop-drop 1 k room
+
+pub after_one : (events : List Event) (room : List Answer) (old : Accepted) (k : ℕ) (answers : List Answer) (mid : Accepted) (d : Event)
+    (u : Answer) (new : Accepted)
+    → k < length events → length events ≤ length room → AfterSteps events room old k answers mid → IsStep (get_or events k d) mid u new
+    → u.refused ≡ 0 → AfterSteps events room old (k + 1) (set answers k u) new
+after_one events room old k answers mid d u new below few a s taken =
+    let long = a.long in
+    let there : k < length answers = omega (arith, below, few, long) in
+    record {
+      taken = rw (take_more events k d below, take_more_set answers k u there)
+          (one_more old mid new (take k events) (take k answers) (get_or events k d) u a.taken s taken);
+      rest = drop-set-lt (k + 1) answers k u (omega arith) ∙ rest_after answers room k a.rest;
+      long = length-set answers k u ∙ a.long;
+    }
+
+next_event : (e d : Event) (later rest : List Event) → e ∷ later ≡ d ∷ rest → d ≡ e
+next_event e d later rest same = cc
+
+pub stops_at : (events : List Event) (room : List Answer) (old : Accepted) (k : ℕ) (answers : List Answer) (mid : Accepted) (d : Event)
+    (u : Answer) (new : Accepted)
+    → k < length events → length events ≤ length room → AfterSteps events room old k answers mid → IsStep (get_or events k d) mid u new
+    → u.refused ≢ 0 → IsBatch events room old k (set answers k u) new
+stops_at events room old k answers mid d u new below few a s refused =
+    let long = a.long in
+    let there : k < length answers = omega (arith, below, few, long) in
+    let same : new ≡ mid = refused_same (get_or events k d) mid u new s refused in
+    record {
+      within = omega (arith, below);
+      taken = rw (take-set answers k u, same) a.taken;
+      all = λ e. absurd (omega (arith, below, e));
+      refused = λ e later left.
+          let is : get_or events k d ≡ e =
+          next_event e (get_or events k d) later (drop (k + 1) events) (sym left ∙ drop_more events k d below) in (
+            u,
+            subst (λ (x : Event). IsStep x new u new) is (subst (λ (x : Accepted). IsStep (get_or events k d) x u new) (sym same) s),
+            refused,
+            drop-set answers k u there ∙ ap (λ (xs : List Answer). u ∷ xs) (rest_after answers room k a.rest),
+          );
+    }
+
+pub after_all : (events : List Event) (room : List Answer) (old : Accepted) (k : ℕ) (answers : List Answer) (new : Accepted)
+    → k ≡ length events → AfterSteps events room old k answers new → IsBatch events room old k answers new
+after_all events room old k answers new e a =
+    record {
+      within = omega (arith, e);
+      taken = a.taken;
+      all = λ same. a.rest;
+      refused = λ x later left. let none : drop k events ≡ [] = drop_all k events (omega (arith, e)) in cc;
+    }
+
+-- A call on an open core takes the events that have a place for their result.
+pub taken_by_call : (events given : List Event) (room : List Answer) (old new : CoreState) (first : Accepted) (count : ℕ)
+    (answers : List Answer)
+    → given ≡ take (length room) events → first ≡ old.core → old.use_is ≡ Open → new.use_is ≡ Open
+    → IsBatch given room first count answers new.core → IsStepsCall events room old (count, answers) new
+taken_by_call events given room old new first count answers same before was is taken =
+    record {
+      if_closed = λ e. cc;
+      if_busy = λ e. cc;
+      if_open = λ e. (
+        is,
+        subst (λ (xs : List Event). IsBatch xs room old.core count answers new.core) same
+            (subst (λ (a : Accepted). IsBatch given room a count answers new.core) before taken),
+      );
+    }
