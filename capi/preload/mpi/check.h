@@ -14,7 +14,8 @@ enum notice_kind {
     NOTICE_WITHDRAWN, /* a message was cancelled */
     NOTICE_ARRIVED,   /* the sender has come to a collective call */
     NOTICE_MATCHED,   /* to a synchronous sender: a receive is posted that may take the message */
-    NOTICE_UNMATCHED  /* to a synchronous sender: no such receive is posted any more */
+    NOTICE_UNMATCHED, /* to a synchronous sender: no such receive is posted any more */
+    NOTICE_PARTITIONS /* all partitions of a round are ready */
 };
 
 struct notice {
@@ -22,7 +23,7 @@ struct notice {
     uint64_t place;        /* where the program sends: an address in the sender */
     int64_t bytes;
     int32_t kind, from, tag; /* from: a rank of the communicator */
-    uint32_t number;         /* of a collective call, or of a synchronous send; else 0 */
+    uint32_t number;         /* of a collective call, a synchronous send, or a pair of partitioned requests; else 0 */
     int32_t call;            /* which collective call it is, with its root */
     int32_t unused;
 };
@@ -59,6 +60,7 @@ struct comm {
     int references;       /* requests, and the handle */
     uint32_t collectives; /* calls so far */
     int calls[RECENT_CALLS], is_mismatch_printed;
+    const void *places[RECENT_CALLS];
     struct peer *peers;
     int peer_count;
     int synchronous;                  /* messages here whose senders wait for a match */
@@ -73,7 +75,9 @@ struct need {
     int count, one, *ranks; /* ranks is NULL if `one` is the only one */
 };
 
-enum request_kind { REQUEST_RECEIVE, REQUEST_SEND, REQUEST_SYNCHRONOUS, REQUEST_COLLECTIVE };
+enum request_kind {
+    REQUEST_RECEIVE, REQUEST_SEND, REQUEST_SYNCHRONOUS, REQUEST_COLLECTIVE, REQUEST_PARTITIONED_SEND, REQUEST_PARTITIONED_RECEIVE
+};
 
 struct request {
     MPI_Request handle;
@@ -83,7 +87,9 @@ struct request {
     const void *place;
     int peer, tag;
     int64_t bytes;
-    uint32_t number; /* of a synchronous send */
+    uint32_t number;      /* of a synchronous send, or of a pair of partitioned requests */
+    int partitions, left; /* all, and those that are not ready */
+    uint32_t round;       /* how often a partitioned receive was started */
     int is_persistent, is_active, is_cancelled, is_matched, is_claimed;
     struct need need;
     MPI_Comm *duplicate; /* of MPI_Comm_idup */
@@ -101,6 +107,7 @@ struct wait {
     const void *place;
     int count;
     struct request **requests; /* NULL: one that this library does not know, which may always end */
+    int deciding;              /* the request that decided last whether the call can end: most often it does so again */
     struct comm *comm;         /* of a probe */
     int from, tag;
     const struct need *need; /* of a collective call: without these ranks it cannot end, in any MPI */
@@ -128,6 +135,7 @@ void *allocate(size_t bytes);
 void *reallocate(void *old, size_t bytes);
 
 /* places.c */
+enum { PLACE_SIZE = 200 };
 const void *caller_of(const void *address);
 void place_text(const void *address, char *room, size_t size);
 #define CALLER caller_of(__builtin_return_address(0))
@@ -149,6 +157,7 @@ void give_up(const char *reason);
 double seconds(void);
 
 /* verdict.c */
+void end_job(void) __attribute__((noreturn));
 void conclude(const struct wait *wait);
 int is_over(void);
 
@@ -175,7 +184,7 @@ int is_taken(const struct comm *comm, const struct peer *peer, const struct mess
 void posted_add(struct request *request);
 void posted_remove(struct request *request);
 int matches(int from, int tag, const struct notice *notice);
-int can_end(const struct wait *wait);
+int can_end(struct wait *wait);
 int has_arrived(const struct need *need, int rank);
 int meeting_can_end(const struct need *need);
 
@@ -198,6 +207,10 @@ void comm_track(MPI_Comm handle);
 void comm_track_as(MPI_Comm handle, uint64_t id);
 const char *comm_name(const struct comm *comm, char *room, size_t size);
 
+/* partitioned.c */
+void partitions_announced(struct comm *comm, const struct notice *notice);
+int partitions_can_end(const struct request *request);
+
 /* meeting.c: collective calls */
 struct need need_all(int has_data);
 struct need need_one(struct comm *comm, int rank, int has_data);
@@ -205,7 +218,7 @@ struct need need_none(void);
 struct need need_below(struct comm *comm, int has_data);
 struct need need_counts(struct comm *comm, const int *counts, const MPI_Datatype *types, int has_one_type);
 struct need need_ranks(int count, int *ranks);
-void meeting_begin(struct comm *comm, struct need *need, int call, int root);
+void meeting_begin(struct comm *comm, struct need *need, int call, int root, const void *place);
 void meeting_wait(struct need *need, const char *name, const void *place);
 int meeting_track(int result, struct need *need, const char *name, const void *place, MPI_Request *handle);
 void meeting_mismatch(struct comm *comm, uint32_t number, int from, int call);

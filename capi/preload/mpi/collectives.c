@@ -22,7 +22,7 @@
         ENTER;                                                                                                \
         if (!c) return PMPI_I##small(BARE arguments, handle);                                                 \
         need = needs;                                                                                         \
-        meeting_begin(c, &need, CALL_##name + CALL_NONBLOCKING, root);                                        \
+        meeting_begin(c, &need, CALL_##name + CALL_NONBLOCKING, root, CALLER);                                        \
         return meeting_track(PMPI_I##small(BARE arguments, handle), &need, "MPI_I" #small, CALLER, handle);   \
     }
 

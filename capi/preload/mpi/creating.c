@@ -67,7 +67,7 @@ int MPI_Comm_idup(MPI_Comm comm, MPI_Comm *made, MPI_Request *handle) {
     int result;
     ENTER;
     if (!old) return PMPI_Comm_idup(comm, made, handle);
-    meeting_begin(old, &need, CALL_Comm_idup, -1);
+    meeting_begin(old, &need, CALL_Comm_idup, -1, CALLER);
     result = meeting_track(PMPI_Comm_idup(comm, made, handle), &need, "MPI_Comm_idup", CALLER, handle);
     if (result == MPI_SUCCESS) {
         struct request *request = request_find(*handle);

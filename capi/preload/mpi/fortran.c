@@ -79,7 +79,8 @@ static void replace_imports(const struct dl_phdr_info *info, const ElfW(Dyn) *dy
 }
 
 static int is_binding(const char *name) {
-    return strstr(name, "libmpi_mpifh") || strstr(name, "libmpi_usempi") || strstr(name, "libmpichfort");
+    return strstr(name, "libmpi_mpifh") || strstr(name, "libmpi_usempi") || strstr(name, "libmpichfort") ||
+           strstr(name, "libmpifort");
 }
 
 static void note_range(const struct dl_phdr_info *info) {

@@ -6,6 +6,11 @@
 #include <string.h>
 #include <unistd.h>
 
+#ifdef OPEN_MPI
+enum { IS_FOR_OPEN_MPI = 1 };
+#else
+enum { IS_FOR_OPEN_MPI = 0 };
+#endif
 struct checker checker;
 static pid_t process_id;
 
@@ -42,9 +47,20 @@ static void at_exit(int status, void *unused) {
     if (!status && !checker.is_blind) wait_for_all(WAIT_EXIT, "exit without MPI_Finalize", NULL);
 }
 
+/* The handles of two MPIs differ, so a library that was compiled for one must not touch those of the other. */
+static int is_same_mpi(void) {
+    static char name[8192];
+    int length, is_open_mpi;
+    PMPI_Get_library_version(name, &length);
+    is_open_mpi = strstr(name, "Open MPI") != NULL;
+    if (is_open_mpi == IS_FOR_OPEN_MPI) return 1;
+    fprintf(stderr, "gerfmuod: this library is compiled for %s, which the program does not use: nothing is watched\n",
+            IS_FOR_OPEN_MPI ? "Open MPI" : "MPICH");
+    return 0;
+}
+
 static void begin(void) {
     fortran_hook();
-    if (!read_options()) return;
     PMPI_Comm_dup(MPI_COMM_WORLD, &checker.own);
     PMPI_Comm_dup(MPI_COMM_WORLD, &checker.report);
     PMPI_Comm_dup(MPI_COMM_WORLD, &checker.closing);
@@ -59,17 +75,18 @@ static void begin(void) {
 }
 
 int MPI_Init(int *count, char ***arguments) {
-    int result = PMPI_Init(count, arguments);
-    if (result == MPI_SUCCESS) begin();
+    int is_watched = read_options() && is_same_mpi(), result = PMPI_Init(count, arguments);
+    if (is_watched && result == MPI_SUCCESS) begin();
     return result;
 }
 
 int MPI_Init_thread(int *count, char ***arguments, int wanted, int *granted) {
     int is_multiple = wanted == MPI_THREAD_MULTIPLE, result;
+    if (!read_options() || !is_same_mpi()) return PMPI_Init_thread(count, arguments, wanted, granted);
     result = PMPI_Init_thread(count, arguments, is_multiple ? MPI_THREAD_SERIALIZED : wanted, granted);
     if (result != MPI_SUCCESS) return result;
     begin();
-    if (!is_multiple || !checker.is_on) return result;
+    if (!is_multiple) return result;
     threads_guard();
     if (*granted == MPI_THREAD_MULTIPLE) *granted = MPI_THREAD_SERIALIZED;
     if (checker.me == 0)

@@ -82,16 +82,22 @@ static int request_can_end(const struct request *request) {
     if (request->kind == REQUEST_RECEIVE) return may_receive(request->comm, request->peer, request->tag, request);
     if (request->kind == REQUEST_SYNCHRONOUS) return request->is_matched;
     if (request->kind == REQUEST_COLLECTIVE) return meeting_can_end(&request->need);
+    if (request->kind == REQUEST_PARTITIONED_RECEIVE) return partitions_can_end(request);
     return 1;
 }
 
-static int requests_can_end(const struct wait *wait) {
-    for (int n = 0; n < wait->count; n++)
-        if (request_can_end(wait->requests[n]) == (wait->kind == WAIT_ANY)) return wait->kind == WAIT_ANY;
-    return wait->kind != WAIT_ANY;
+static int requests_can_end(struct wait *wait) {
+    int is_any = wait->kind == WAIT_ANY;
+    if (wait->count && request_can_end(wait->requests[wait->deciding]) == is_any) return is_any;
+    for (int n = 0; n < wait->count; n++) {
+        if (request_can_end(wait->requests[n]) != is_any) continue;
+        wait->deciding = n;
+        return is_any;
+    }
+    return !is_any;
 }
 
-int can_end(const struct wait *wait) {
+int can_end(struct wait *wait) {
     switch (wait->kind) {
     case WAIT_ALL:
     case WAIT_ANY: return requests_can_end(wait);

@@ -4,9 +4,13 @@
  * all others. A blocking call waits for all of them, which the standard allows. A `need` has those without whose data the
  * call cannot end in any MPI. If ENDED comes while a rank has all that it needs, the program is not deadlocked for certain, but
  * it relies on what MPI does not guarantee: then all ranks are let go. */
-#include "check.h"
+#include "wrapper.h"
+#include <ctype.h>
 #include <stdio.h>
 #include <stdlib.h>
+#include <string.h>
+
+enum { CALL_SIZE = 80 };
 
 struct need need_all(int has_data) { return (struct need){.count = has_data ? -1 : 0}; }
 
@@ -37,13 +41,30 @@ struct need need_counts(struct comm *comm, const int *counts, const MPI_Datatype
 
 static int call_code(int call, int root) { return call << 16 | ((root + 1) & 0xFFFF); }
 
+/* As in "MPI_Bcast with root 0". */
+static void call_text(int code, char *room, size_t size) {
+#define CALL_NAME(name) #name,
+    static const char *const names[] = {COLLECTIVE_CALLS(CALL_NAME)};
+    int call = code >> 16, root = (code & 0xFFFF) - 1;
+    const char *name = names[call % CALL_NONBLOCKING];
+    char letter[] = {'I', (char)tolower(name[0]), 0};
+    snprintf(room, size, "MPI_%s%s%s", call < CALL_NONBLOCKING ? "" : letter, name + (call >= CALL_NONBLOCKING),
+             root < 0 ? "" : " with root ");
+    if (root >= 0) snprintf(room + strlen(room), size - strlen(room), "%d", root);
+}
+
+/* Each rank compares its calls with those of the communicator's rank 0, and rank 0 with those of all. */
 void meeting_mismatch(struct comm *comm, uint32_t number, int from, int call) {
-    char name[MPI_MAX_OBJECT_NAME];
-    int mine = comm->calls[number % RECENT_CALLS];
-    if (number > comm->collectives || comm->collectives - number >= RECENT_CALLS || mine == call) return;
-    if (comm->is_mismatch_printed++) return;
-    fprintf(stderr, "gerfmuod: MISMATCH: collective call %u of %s is not the same at rank %d and rank %d\n", number,
-            comm_name(comm, name, sizeof name), comm->world[comm->rank], comm->world[from]);
+    char name[MPI_MAX_OBJECT_NAME], place[PLACE_SIZE], mine[CALL_SIZE], other[CALL_SIZE];
+    uint32_t at = number % RECENT_CALLS;
+    if (number > comm->collectives || comm->collectives - number >= RECENT_CALLS || comm->calls[at] == call) return;
+    if ((comm->rank && from) || comm->is_mismatch_printed++) return;
+    call_text(comm->calls[at], mine, sizeof mine);
+    call_text(call, other, sizeof other);
+    place_text(comm->places[at], place, sizeof place);
+    fprintf(stderr, "gerfmuod: MISMATCH: collective call %u of %s: rank %d calls %s at %s, rank %d calls %s\n", number,
+            comm_name(comm, name, sizeof name), checker.me, mine, place, comm->world[from], other);
+    if (checker.is_strict) end_job();
 }
 
 static void tell_others(const struct need *need, int code) {
@@ -53,10 +74,11 @@ static void tell_others(const struct need *need, int code) {
 }
 
 /* Numbers the call, and announces it. In the mode `sync` no call can end before all have come. */
-void meeting_begin(struct comm *comm, struct need *need, int call, int root) {
+void meeting_begin(struct comm *comm, struct need *need, int call, int root, const void *place) {
     need->comm = comm;
     need->number = ++comm->collectives;
     comm->calls[need->number % RECENT_CALLS] = call_code(call, root);
+    comm->places[need->number % RECENT_CALLS] = place;
     if (checker.is_sync) need->count = -1;
     for (int n = 0; n < comm->peer_count; n++)
         if (comm->peers[n].arrived == need->number) meeting_mismatch(comm, need->number, n, comm->peers[n].call);

@@ -56,7 +56,8 @@ static int keep_sources(struct neighbours *all, int rank, const int *counts, con
 enum { ONE_COUNT = 1, ONE_TYPE = 2 };
 
 /* Announces the call, and returns what it needs. */
-static struct need meet_neighbours(struct comm *comm, int call, const int *counts, const MPI_Datatype *types, int is_one) {
+static struct need meet_neighbours(struct comm *comm, int call, const int *counts, const MPI_Datatype *types, int is_one,
+                                   const void *place) {
     struct neighbours all = {0};
     struct need need;
     int kind;
@@ -66,7 +67,7 @@ static struct need meet_neighbours(struct comm *comm, int call, const int *count
     else if (kind == MPI_DIST_GRAPH) distributed_graph(&all, comm->handle);
     else room_for(&all, 0, 0);
     need = need_ranks(keep_sources(&all, comm->rank, counts, types, is_one), all.sources);
-    meeting_begin(comm, &need, call, -1);
+    meeting_begin(comm, &need, call, -1, place);
     free(all.destinations);
     return need;
 }
@@ -78,7 +79,7 @@ static struct need meet_neighbours(struct comm *comm, int call, const int *count
         struct need need;                                                                                     \
         ENTER;                                                                                                \
         if (!c) return PMPI_Neighbor_##name(BARE arguments);                                                  \
-        need = meet_neighbours(c, CALL_Neighbor_##name, counts, types, is_one);                               \
+        need = meet_neighbours(c, CALL_Neighbor_##name, counts, types, is_one, CALLER);                       \
         meeting_wait(&need, "MPI_Neighbor_" #name, CALLER);                                                   \
         int result = PMPI_Neighbor_##name(BARE arguments);                                                    \
         detector_glance();                                                                                    \
@@ -89,7 +90,7 @@ static struct need meet_neighbours(struct comm *comm, int call, const int *count
         struct need need;                                                                                     \
         ENTER;                                                                                                \
         if (!c) return PMPI_Ineighbor_##name(BARE arguments, handle);                                         \
-        need = meet_neighbours(c, CALL_Neighbor_##name + CALL_NONBLOCKING, counts, types, is_one);            \
+        need = meet_neighbours(c, CALL_Neighbor_##name + CALL_NONBLOCKING, counts, types, is_one, CALLER);    \
         return meeting_track(PMPI_Ineighbor_##name(BARE arguments, handle), &need, "MPI_Ineighbor_" #name, CALLER, handle); \
     }
 

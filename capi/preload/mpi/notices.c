@@ -147,6 +147,7 @@ void notice_take(const struct notice *notice, int source) {
     comm = comm_by_id(notice->communicator);
     if (notice->kind == NOTICE_MESSAGE) add_message(comm, notice, source);
     else if (notice->kind == NOTICE_ARRIVED) arrived(comm, notice);
+    else if (notice->kind == NOTICE_PARTITIONS) partitions_announced(comm, notice);
     else if (!remove_message(comm, notice->from, notice->tag)) checker.unseen++;
 }
 

@@ -44,7 +44,7 @@ static void starting(MPI_Request handle) {
     struct request *request = request_find(handle);
     if (!request || request->is_active) return;
     request_start(request);
-    if (request->kind == REQUEST_RECEIVE) return;
+    if (request->kind != REQUEST_SEND && request->kind != REQUEST_SYNCHRONOUS) return;
     announce_message(request->comm, request->peer, request->tag, request->bytes, request->place, request->number);
 }
 

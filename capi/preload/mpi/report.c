@@ -17,6 +17,10 @@ struct account {
     int lost_count;
 };
 
+static void account_free(struct account *a) {
+    text_free(&a->rows), text_free(&a->lines), text_free(&a->waits), text_free(&a->lost);
+}
+
 static const char *wildcard(int number, int any, char room[16]) {
     if (number == any) return "any";
     snprintf(room, 16, "%d", number);
@@ -70,6 +74,8 @@ static void end_row(struct account *a, const void *place) {
 static void add_request(struct account *a, const struct request *request) {
     if (request->kind == REQUEST_COLLECTIVE) add_missing(a, &request->need);
     else if (request->kind == REQUEST_RECEIVE) add_partner(a, "message", request->comm, "from", request->peer, request->tag);
+    else if (request->kind == REQUEST_PARTITIONED_RECEIVE)
+        add_partner(a, "partitions", request->comm, "from", request->peer, request->tag);
     else add_partner(a, "receive", request->comm, "of", request->peer, request->tag);
 }
 
@@ -110,12 +116,11 @@ static void add_wait(struct account *a, const struct wait *wait) {
 }
 
 /* A message that was announced to this rank and not received. */
-static void add_unreceived(struct account *a, const char *head, const struct comm *comm, const struct message *m,
-                           const char *place) {
+static void add_unreceived(struct account *a, const struct comm *comm, const struct message *m, const char *place) {
     char name[MPI_MAX_OBJECT_NAME];
     int source = m->source;
     comm_name(comm, name, sizeof name);
-    text_add(&a->lines, "%srank %d has not received %lld bytes from rank %d, tag %d, %s, sent at %s\n", head, checker.me,
+    text_add(&a->lines, "rank %d has not received %lld bytes from rank %d, tag %d, %s, sent at %s\n", checker.me,
              (long long)m->notice.bytes, source, m->notice.tag, name, place);
     text_add(&a->lost, "%s{\"from\":%d,\"to\":%d,\"tag\":%d,\"bytes\":%lld,\"communicator\":", a->lost.length ? "," : "", source,
              checker.me, m->notice.tag, (long long)m->notice.bytes);
@@ -142,7 +147,7 @@ static int unreceived(const struct comm **comms, const struct message **messages
 }
 
 /* Collective, because the senders know the places. */
-static void add_all_unreceived(struct account *a, const char *head) {
+static void add_all_unreceived(struct account *a) {
     const struct comm *comms[MOST_ROWS];
     const struct message *messages[MOST_ROWS];
     char places[MOST_ROWS][PLACE_SIZE];
@@ -150,8 +155,8 @@ static void add_all_unreceived(struct account *a, const char *head) {
     int ranks[MOST_ROWS], left = 0, count = unreceived(comms, messages, MOST_ROWS, &left);
     for (int n = 0; n < count; n++) ranks[n] = messages[n]->source, addresses[n] = messages[n]->notice.place;
     ask_places(count, ranks, addresses, places);
-    for (int n = 0; n < count; n++) add_unreceived(a, head, comms[n], messages[n], places[n]);
-    if (left) text_add(&a->lines, "%srank %d has not received %d more\n", head, checker.me, left);
+    for (int n = 0; n < count; n++) add_unreceived(a, comms[n], messages[n], places[n]);
+    if (left) text_add(&a->lines, "rank %d has not received %d more\n", checker.me, left);
     a->lost_count = count + left;
 }
 
@@ -178,30 +183,32 @@ static struct text rank_in_json(const struct account *a, const struct wait *wait
     return json;
 }
 
-/* Gathers the accounts; rank 0 prints them. */
+/* Gathers the accounts; rank 0 writes them. Without a head it prints nothing. */
 static void publish(const char *verdict, const char *head, const struct account *a, const struct wait *wait) {
-    struct text json = rank_in_json(a, wait), all = text_gather(&json, ","), rows = text_gather(&a->rows, ""), table = {0};
+    struct text json = rank_in_json(a, wait), all = text_gather(&json, ","), rows = text_gather(&a->rows, RANKS_END), table = {0};
     struct text lines = text_gather(&a->lines, "");
     if (checker.me == 0) {
-        text_add(&table, "rank\tcall\twaits for\tplace\n%s", rows.bytes);
-        fprintf(stderr, "%s%s\n", PREFIX, head);
+        text_add(&table, "rank\tcall\twaits for\tplace\n");
+        text_add_ranks(&table, rows.bytes);
+        if (head) fprintf(stderr, "%s%s\n", PREFIX, head);
         if (wait) text_print_table(stderr, PREFIX, table.bytes);
         text_print_lines(stderr, PREFIX, lines.bytes);
         fflush(stderr);
         write_json(verdict, &all);
     }
-    text_free(&table);
+    text_free(&json), text_free(&all), text_free(&rows), text_free(&table), text_free(&lines);
 }
 
 void report_deadlock(const struct wait *wait, int is_unsafe) {
     struct account a = {0};
     char head[200];
     add_wait(&a, wait);
-    add_all_unreceived(&a, "");
-    snprintf(head, sizeof head, "%s: %d ranks wait, and no message is in flight that could end a call%s",
-             is_unsafe ? "UNSAFE" : "DEADLOCK", checker.all,
+    add_all_unreceived(&a);
+    snprintf(head, sizeof head, "%s: %d rank%s, and no message is in flight that could end a call%s",
+             is_unsafe ? "UNSAFE" : "DEADLOCK", checker.all, checker.all == 1 ? " waits" : "s wait",
              is_unsafe ? ", unless a collective call ends before all its ranks come, as MPI does not guarantee" : "");
     publish(is_unsafe ? "unsafe" : "deadlock", head, &a, wait);
+    account_free(&a);
 }
 
 int report_lost(void) {
@@ -209,14 +216,17 @@ int report_lost(void) {
     uint64_t mine[3], sums[3];
     char head[200];
     lost_verify();
-    add_all_unreceived(&a, "LOST: ");
+    add_all_unreceived(&a);
     mine[0] = (uint64_t)a.lost_count;
     mine[1] = checker.notices;
     mine[2] = checker.controls;
     PMPI_Allreduce(mine, sums, 3, MPI_UINT64_T, MPI_SUM, checker.report);
-    snprintf(head, sizeof head, "%llu messages lost (%llu notices, %llu waves, %llu control messages, %d ranks, %.3f s)",
-             (unsigned long long)sums[0], (unsigned long long)sums[1], (unsigned long long)detector_waves(),
-             (unsigned long long)sums[2], checker.all, seconds() - checker.begin);
-    if (sums[0] || checker.has_report || checker.json_path) publish(sums[0] ? "lost" : "ended", head, &a, NULL);
+    snprintf(head, sizeof head,
+             "%s%llu message%s that no rank received (%d ranks, %llu notices, %llu waves, %llu control messages, %.3f s)",
+             sums[0] ? "LOST: " : "", (unsigned long long)sums[0], sums[0] == 1 ? "" : "s", checker.all,
+             (unsigned long long)sums[1], (unsigned long long)detector_waves(), (unsigned long long)sums[2],
+             seconds() - checker.begin);
+    publish(sums[0] ? "lost" : "ended", sums[0] || checker.has_report ? head : NULL, &a, NULL);
+    account_free(&a);
     return sums[0] > 0;
 }

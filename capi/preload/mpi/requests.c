@@ -39,6 +39,8 @@ struct request *request_find(MPI_Request handle) {
 void request_start(struct request *request) {
     request->is_active = 1;
     request->is_cancelled = 0;
+    request->round++;
+    request->left = request->partitions;
     if (request->kind == REQUEST_RECEIVE) posted_add(request);
     if (request->kind == REQUEST_SYNCHRONOUS) synchronous_begin(request);
 }
@@ -74,7 +76,7 @@ void request_complete(struct request *request, const MPI_Status *status) {
     if (request->is_cancelled) PMPI_Test_cancelled(status, &is_cancelled);
     if (request->kind == REQUEST_RECEIVE && is_cancelled && request->comm->synchronous) synchronous_settle(request->comm);
     if (request->kind == REQUEST_RECEIVE && !is_cancelled) consume(request->comm, status->MPI_SOURCE, status->MPI_TAG);
-    if (request->kind != REQUEST_RECEIVE && is_cancelled) withdraw(request);
+    if ((request->kind == REQUEST_SEND || request->kind == REQUEST_SYNCHRONOUS) && is_cancelled) withdraw(request);
     if (request->duplicate) comm_track_as(*request->duplicate, request->duplicate_id);
     if (!request->is_persistent) request_drop(request);
 }

@@ -58,6 +58,24 @@ struct text text_gather(const struct text *text, const char *between) {
     return sum;
 }
 
+void text_add_ranks(struct text *text, const char *rows) {
+    while (*rows) {
+        long first = strtol(rows, NULL, 10), last = first;
+        const char *own = rows + strcspn(rows, "\t"), *next = rows;
+        size_t length = strcspn(own, RANKS_END);
+        while (*next && !strncmp(next + strcspn(next, "\t"), own, length)) {
+            const char *end = next + strcspn(next, "\t") + length;
+            if (*end && *end != *RANKS_END) break;
+            last = strtol(next, NULL, 10);
+            next = end + (*end != 0);
+        }
+        text_add(text, "%ld", first);
+        if (last > first) text_add(text, "-%ld", last);
+        text_add(text, "%.*s", (int)length, own);
+        rows = next;
+    }
+}
+
 /* The length of the column that begins here. */
 static size_t column(const char *at) { return strcspn(at, "\t\n"); }
 

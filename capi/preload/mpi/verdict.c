@@ -17,6 +17,13 @@ static double confirm_until;
 
 int is_over(void) { return step == OVER; }
 
+/* mpirun drops at an abort what it has not passed on yet. */
+void end_job(void) {
+    nanosleep(&(struct timespec){1, 0}, NULL);
+    PMPI_Abort(MPI_COMM_WORLD, DEADLOCK_STATUS);
+    exit(DEADLOCK_STATUS);
+}
+
 static void begin_agreement(const struct wait *wait) {
     states[FINALIZING] = wait->kind == WAIT_FINALIZE;
     states[DEBTS] = checker.debts > 0;
@@ -60,9 +67,7 @@ void conclude(const struct wait *wait) {
             checker.is_blind = 1; /* all ranks make their calls now, and MPI shows what follows */
             break;
         }
-        nanosleep(&(struct timespec){1, 0}, NULL); /* mpirun drops at an abort what it has not passed on yet */
-        PMPI_Abort(MPI_COMM_WORLD, DEADLOCK_STATUS);
-        exit(DEADLOCK_STATUS);
+        end_job();
     case OVER: break;
     }
 }

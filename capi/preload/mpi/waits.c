@@ -55,8 +55,21 @@ static int checked(int result) {
     return result;
 }
 
+/* MPI_Testall of MPICH 4.0.2 fails for partitioned requests, so a call that has some waits for one request after the other. */
+static int wait_each(int count, MPI_Request *handles, struct request **requests, MPI_Status *statuses, const struct wait *wait) {
+    int result = MPI_SUCCESS;
+    for (int n = 0; n < count && result == MPI_SUCCESS; n++) {
+        if (requests[n]) result = request_wait(requests[n], wait->call, wait->place, &handles[n], &statuses[n]);
+        else result = checked(PMPI_Wait(&handles[n], &statuses[n]));
+    }
+    return result;
+}
+
 int wait_all(int count, MPI_Request *handles, struct request **requests, MPI_Status *statuses, struct wait *wait) {
-    int is_done = 0, result = checked(PMPI_Testall(count, handles, &is_done, statuses));
+    int is_done = 0, result;
+    for (int n = 0; n < count; n++)
+        if (requests[n] && requests[n]->partitions) return wait_each(count, handles, requests, statuses, wait);
+    result = checked(PMPI_Testall(count, handles, &is_done, statuses));
     if (!is_done && result == MPI_SUCCESS) {
         *wait = wait_of(wait->kind, wait->call, wait->place, count, handles, requests);
         while (!is_done && result == MPI_SUCCESS) {

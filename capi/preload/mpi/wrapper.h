@@ -4,15 +4,14 @@
 #include "check.h"
 
 /* The collective calls, by the names of their functions. */
-enum collective {
-    CALL_Barrier = 1, CALL_Bcast, CALL_Gather, CALL_Gatherv, CALL_Scatter, CALL_Scatterv, CALL_Allgather, CALL_Allgatherv,
-    CALL_Alltoall, CALL_Alltoallv, CALL_Alltoallw, CALL_Reduce, CALL_Allreduce, CALL_Reduce_scatter,
-    CALL_Reduce_scatter_block, CALL_Scan, CALL_Exscan, CALL_Neighbor_allgather, CALL_Neighbor_allgatherv,
-    CALL_Neighbor_alltoall, CALL_Neighbor_alltoallv, CALL_Neighbor_alltoallw, CALL_Comm_dup, CALL_Comm_dup_with_info,
-    CALL_Comm_idup, CALL_Comm_split, CALL_Comm_split_type, CALL_Comm_create, CALL_Cart_create, CALL_Cart_sub,
-    CALL_Graph_create, CALL_Dist_graph_create, CALL_Dist_graph_create_adjacent,
-    CALL_NONBLOCKING = 64 /* is added */
-};
+#define COLLECTIVE_CALLS(DO)                                                                                            \
+    DO(Barrier) DO(Bcast) DO(Gather) DO(Gatherv) DO(Scatter) DO(Scatterv) DO(Allgather) DO(Allgatherv) DO(Alltoall)        \
+    DO(Alltoallv) DO(Alltoallw) DO(Reduce) DO(Allreduce) DO(Reduce_scatter) DO(Reduce_scatter_block) DO(Scan) DO(Exscan)   \
+    DO(Neighbor_allgather) DO(Neighbor_allgatherv) DO(Neighbor_alltoall) DO(Neighbor_alltoallv) DO(Neighbor_alltoallw)     \
+    DO(Comm_dup) DO(Comm_dup_with_info) DO(Comm_idup) DO(Comm_split) DO(Comm_split_type) DO(Comm_create) DO(Cart_create)   \
+    DO(Cart_sub) DO(Graph_create) DO(Dist_graph_create) DO(Dist_graph_create_adjacent)
+#define CALL_NUMBER(name) CALL_##name,
+enum collective { COLLECTIVE_CALLS(CALL_NUMBER) CALL_NONBLOCKING = 64 /* is added */ };
 
 /* Only for programs that asked for MPI_THREAD_MULTIPLE: two threads in calls at once are refused. */
 void threads_guard(void);
@@ -28,7 +27,7 @@ static inline int64_t bytes_of(int count, MPI_Datatype type) {
 }
 
 static inline void meet(struct comm *comm, struct need need, int call, int root, const char *name, const void *place) {
-    meeting_begin(comm, &need, call, root);
+    meeting_begin(comm, &need, call, root, place);
     meeting_wait(&need, name, place);
 }
 

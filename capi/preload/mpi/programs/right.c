@@ -1,5 +1,8 @@
-/* right.c: programs without a mistake, by name, each with a sum that it checks; some are slow. No verdict may be printed. */
+/* right.c: programs without a mistake, by name, each with a sum that it checks; some are slow. No verdict may be printed.
+ *
+ * The argument `modes` lists them, as in wrong.c. */
 #include <mpi.h>
+#include <pthread.h>
 #include <stdio.h>
 #include <stdlib.h>
 #include <string.h>
@@ -200,24 +203,71 @@ static void files(void) {
     MPI_File_close(&file);
 }
 
+static void partitions(void) {
+#if MPI_VERSION >= 4
+    int out[4] = {me, me, me, me}, in[4] = {-1, -1, -1, -1};
+    MPI_Request r[2];
+    MPI_Psend_init(out, 4, 1, MPI_INT, next, 3, WORLD, MPI_INFO_NULL, &r[0]);
+    MPI_Precv_init(in, 2, 2, MPI_INT, before, 3, WORLD, MPI_INFO_NULL, &r[1]);
+    for (int k = 0; k < 5; k++) {
+        MPI_Startall(2, r);
+        MPI_Pready(3, r[0]);
+        MPI_Pready_range(0, 2, r[0]);
+        MPI_Waitall(2, r, MPI_STATUSES_IGNORE);
+        check(in[0] == before && in[3] == before, "partitions");
+    }
+    for (int k = 0; k < 2; k++) MPI_Request_free(&r[k]);
+#endif
+}
+
+/* Many receives, whose messages come in the opposite order. */
+static void many(void) {
+    static int got[2000];
+    static MPI_Request r[2000];
+    for (int k = 0; k < 2000; k++) MPI_Irecv(&got[k], 1, MPI_INT, before, k, WORLD, &r[k]);
+    MPI_Barrier(WORLD);
+    for (int k = 1999; k >= 0; k--) MPI_Send(&k, 1, MPI_INT, next, k, WORLD);
+    MPI_Waitall(2000, r, MPI_STATUSES_IGNORE);
+    for (int k = 0; k < 2000; k++) check(got[k] == k, "many");
+}
+
+static void *other_thread(void *unused) {
+    (void)unused;
+    ring();
+    return NULL;
+}
+
+/* Another thread calls MPI while this one waits for its end. */
+static void threads(void) {
+    pthread_t other;
+    pthread_create(&other, NULL, other_thread, NULL);
+    pthread_join(other, NULL);
+    ring();
+}
+
 static const struct mode {
     const char *name;
     void (*run)(void);
 } modes[] = {
     {"ring", ring}, {"synchronous", synchronous}, {"master", master}, {"requests", requests}, {"persistent", persistent},
     {"probes", probes}, {"collectives", collectives}, {"communicators", communicators}, {"cancelled", cancelled},
-    {"intercommunicator", intercommunicator}, {"files", files}, {"slow", slow},
+    {"intercommunicator", intercommunicator}, {"files", files}, {"slow", slow}, {"partitions", partitions}, {"many", many},
+    {"threads", threads},
 };
 
 int main(int count, char **arguments) {
-    int is_all = count < 2 || !strcmp(arguments[1], "all"), found = 0;
-    MPI_Init(&count, &arguments);
+    int granted, found = 0;
+    if (count < 2 || !strcmp(arguments[1], "modes")) {
+        for (size_t k = 0; k < sizeof modes / sizeof *modes; k++) printf("%s\t2\t\n", modes[k].name);
+        return 0;
+    }
+    MPI_Init_thread(&count, &arguments, strcmp(arguments[1], "threads") ? MPI_THREAD_SINGLE : MPI_THREAD_MULTIPLE, &granted);
     MPI_Comm_rank(WORLD, &me);
     MPI_Comm_size(WORLD, &n);
     next = (me + 1) % n;
     before = (me + n - 1) % n;
     for (size_t k = 0; k < sizeof modes / sizeof *modes; k++)
-        if (is_all || !strcmp(modes[k].name, arguments[1])) modes[k].run(), found = 1;
+        if (!strcmp(modes[k].name, arguments[1])) modes[k].run(), found = 1;
     MPI_Finalize();
     if (!me && found) puts("done");
     return !found;

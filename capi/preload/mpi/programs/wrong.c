@@ -1,11 +1,14 @@
-/* wrong.c: programs with one mistake each, by name: a receive that nobody sends to, a rank that is missing, and others. */
+/* wrong.c: programs with one mistake each, by name: a receive that nobody sends to, a rank that is missing, and others.
+ *
+ * The argument `modes` lists them: the name, the fewest ranks, the value of GERFMUOD_MPI, and regular expressions of what has
+ * to be printed, in which LAST is the last rank. */
 #include <mpi.h>
 #include <stdio.h>
 #include <stdlib.h>
 #include <string.h>
 
 static int me, n, next, before, value;
-static char big[1 << 20], in[1 << 20];
+static char out[1 << 20], in[1 << 20];
 
 #define WORLD MPI_COMM_WORLD
 #define NO_STATUS MPI_STATUS_IGNORE
@@ -88,6 +91,44 @@ static void waitany(void) {
     MPI_Waitany(3, r, &index, NO_STATUS);
 }
 
+static void waitsome(void) {
+    MPI_Request r;
+    int count, index;
+    if (!is_last()) return;
+    MPI_Irecv(in, 1, MPI_INT, 0, 13, WORLD, &r);
+    MPI_Waitsome(1, &r, &count, &index, MPI_STATUSES_IGNORE);
+}
+
+static void replaced(void) {
+    MPI_Sendrecv_replace(&value, 1, MPI_INT, next, me, before, is_last() ? me : before, WORLD, NO_STATUS);
+}
+
+/* The last rank waits for a root that waits for it; no other rank has come. */
+static void root(void) {
+    MPI_Request r;
+    if (me == 0) MPI_Recv(&value, 1, MPI_INT, n - 1, 1, WORLD, NO_STATUS);
+    if (me == 0) MPI_Ibcast(&value, 1, MPI_INT, 0, WORLD, &r);
+    if (is_last()) MPI_Ibcast(&value, 1, MPI_INT, 0, WORLD, &r);
+    if (me == 0 || is_last()) MPI_Wait(&r, NO_STATUS);
+    if (is_last()) send_to(0, 1);
+}
+
+static void mismatch(void) {
+    if (is_last()) MPI_Bcast(&value, 1, MPI_INT, 0, WORLD);
+    else MPI_Barrier(WORLD);
+}
+
+#if MPI_VERSION >= 4
+static void partitions(void) {
+    MPI_Request r = MPI_REQUEST_NULL;
+    if (me == 0) MPI_Psend_init(out, 2, 4, MPI_BYTE, 1, 3, WORLD, MPI_INFO_NULL, &r);
+    if (me == 1) MPI_Precv_init(in, 2, 4, MPI_BYTE, 0, 3, WORLD, MPI_INFO_NULL, &r);
+    if (me < 2) MPI_Start(&r);
+    if (me == 0) MPI_Pready(1, r);
+    if (me == 1) MPI_Wait(&r, NO_STATUS);
+}
+#endif
+
 static void split(void) {
     MPI_Comm half;
     int rank;
@@ -133,37 +174,87 @@ static void reduction(void) {
 
 static void neighbours(void) {
     MPI_Comm ring;
-    int periodic = 1, out[2] = {me, me}, got[2];
+    int periodic = 1, mine[2] = {me, me}, got[2];
     MPI_Cart_create(WORLD, 1, &n, &periodic, 0, &ring);
-    if (!is_last()) MPI_Neighbor_alltoall(out, 1, MPI_INT, got, 1, MPI_INT, ring);
+    if (!is_last()) MPI_Neighbor_alltoall(mine, 1, MPI_INT, got, 1, MPI_INT, ring);
 }
 
 /* Large messages before the receives: right only if MPI buffers them. */
 static void heads(void) {
-    MPI_Send(big, 100, MPI_BYTE, next, 9, WORLD);
+    MPI_Send(out, 100, MPI_BYTE, next, 9, WORLD);
     MPI_Recv(in, sizeof in, MPI_BYTE, before, 9, WORLD, NO_STATUS);
 }
 
+#define WAITS(rank, call, peer, function) "gerfmuod: " rank "(-[0-9]+)? +" call " +" peer ".* in " function
 static const struct mode {
     const char *name;
     void (*run)(void);
+    int ranks;
+    const char *options, *printed[2];
 } modes[] = {
-    {"tag", wrong_tag}, {"lost", lost}, {"barrier", barrier}, {"cycle", cycle}, {"wait", two_receives},
-    {"answer", second_answer}, {"wildcard", wildcard}, {"probe", probe}, {"mprobe", matched_probe}, {"sendrecv", sendrecv},
-    {"persistent", persistent}, {"waitany", waitany}, {"split", split}, {"dup", duplicate}, {"exit", leaves},
-    {"ibarrier", nonblocking_barrier}, {"cancel", cancelled}, {"ssend", synchronous}, {"reduce", reduction},
-    {"neighbours", neighbours}, {"heads", heads},
+    {"tag", wrong_tag, 2, "",
+     {WAITS("1", "MPI_Recv", "message from 0, tag 8", "wrong_tag"),
+      "rank 1 has not received 4 bytes from rank 0, tag 7"}},
+    {"lost", lost, 2, "",
+     {"LOST: 1 message that no rank received",
+      "rank 1 has not received 4 bytes from rank 0, tag 7, MPI_COMM_WORLD, sent at .* in (send_to|lost)"}},
+    {"barrier", barrier, 2, "", {WAITS("0", "MPI_Barrier", "rank LAST, in collective call 1", "barrier")}},
+    {"cycle", cycle, 2, "", {WAITS("0", "MPI_Recv", "message from LAST, tag 5", "cycle")}},
+    {"wait", two_receives, 2, "", {WAITS("0", "MPI_Waitall", "message from 1, tag 1", "two_receives")}},
+    {"answer", second_answer, 3, "",
+     {WAITS("[0-9]+", "MPI_Recv", "message from 0, tag 2", "second_answer"),
+      "rank 0 has not received 4 bytes from rank [0-9]+, tag 1"}},
+    {"wildcard", wildcard, 2, "", {WAITS("0", "MPI_Recv", "message from any, tag any", "wildcard")}},
+    {"probe", probe, 2, "",
+     {WAITS("0", "MPI_Probe", "message from 1, tag 3", "probe"),
+      "rank 0 has not received 4 bytes from rank 1, tag 4"}},
+    {"mprobe", matched_probe, 2, "", {WAITS("0", "MPI_Mprobe", "message from 1, tag any", "matched_probe")}},
+    {"sendrecv", sendrecv, 2, "", {WAITS("0", "MPI_Sendrecv", "message from LAST, tag 2", "sendrecv")}},
+    {"replace", replaced, 2, "", {WAITS("LAST", "MPI_Sendrecv_replace", "message from [0-9]+, tag LAST", "replaced")}},
+    {"persistent", persistent, 2, "", {WAITS("1", "MPI_Wait", "message from 0, tag 3", "persistent")}},
+    {"waitany", waitany, 2, "",
+     {WAITS("0", "MPI_Waitany", "message from 1, tag 11", "waitany"), "message from 1, tag 12"}},
+    {"waitsome", waitsome, 2, "", {WAITS("LAST", "MPI_Waitsome", "message from 0, tag 13", "waitsome")}},
+    {"split", split, 2, "", {WAITS("0", "MPI_Recv", "message from 0, tag 9, half", "split")}},
+    {"dup", duplicate, 2, "", {WAITS("0", "MPI_Comm_dup", "rank LAST, in collective call 1", "duplicate")}},
+    {"exit", leaves, 2, "",
+     {"rank LAST: exit with status 0 without MPI_Finalize",
+      WAITS("0", "MPI_Barrier", "rank LAST, in collective call 1", "leaves")}},
+    {"ibarrier", nonblocking_barrier, 2, "",
+     {WAITS("0", "MPI_Wait", "rank LAST, in collective call 1", "nonblocking_barrier")}},
+    {"root", root, 2, "",
+     {WAITS("0", "MPI_Recv", "message from LAST, tag 1", "root"),
+      WAITS("LAST", "MPI_Wait", "rank 0, in collective call 1", "root")}},
+    {"cancel", cancelled, 2, "", {WAITS("0", "MPI_Recv", "message from 1, tag 2", "cancelled")}},
+    {"ssend", synchronous, 2, "", {WAITS("0", "MPI_Ssend", "receive of 1, tag 6", "synchronous")}},
+    {"reduce", reduction, 2, "abort", {WAITS("0", "MPI_Reduce", "rank LAST, in collective call 1", "reduction")}},
+    {"neighbours", neighbours, 2, "abort",
+     {WAITS("0", "MPI_Neighbor_alltoall", "rank LAST, in collective call 1", "neighbours")}},
+    {"mismatch", mismatch, 2, "abort",
+     {"collective call 1 of MPI_COMM_WORLD: rank LAST calls MPI_Bcast with root 0 at .* in mismatch, rank 0 calls MPI_Barrier"}},
+    {"heads", heads, 2, "sync", {WAITS("0", "MPI_Send", "receive of 1, tag 9", "heads")}},
+#if MPI_VERSION >= 4
+    {"partitions", partitions, 2, "", {WAITS("1", "MPI_Wait", "partitions from 0, tag 3", "partitions")}},
+#endif
 };
+enum { MODES = sizeof modes / sizeof *modes };
+
+static int list(void) {
+    for (const struct mode *m = modes; m < modes + MODES; m++)
+        printf("%s\t%d\t%s\t%s\t%s\n", m->name, m->ranks, m->options, m->printed[0], m->printed[1] ? m->printed[1] : "");
+    return 0;
+}
 
 int main(int count, char **arguments) {
     int found = 0;
+    if (count < 2 || !strcmp(arguments[1], "modes")) return list();
     MPI_Init(&count, &arguments);
     MPI_Comm_rank(WORLD, &me);
     MPI_Comm_size(WORLD, &n);
     next = (me + 1) % n;
     before = (me + n - 1) % n;
-    for (size_t k = 0; k < sizeof modes / sizeof *modes; k++)
-        if (count > 1 && !strcmp(modes[k].name, arguments[1])) modes[k].run(), found = 1;
+    for (int k = 0; k < MODES; k++)
+        if (!strcmp(modes[k].name, arguments[1])) modes[k].run(), found = 1;
     MPI_Finalize();
     return !found;
 }
