@@ -91,6 +91,7 @@ struct request {
     int partitions, left; /* all, and those that are not ready */
     uint32_t round;       /* how often a partitioned receive was started */
     int is_persistent, is_active, is_cancelled, is_matched, is_claimed;
+    int is_received; /* a receive that has its message, though the program has not completed it */
     struct need need;
     MPI_Comm *duplicate; /* of MPI_Comm_idup */
     uint64_t duplicate_id;
@@ -157,7 +158,8 @@ void give_up(const char *reason);
 double seconds(void);
 
 /* verdict.c */
-void end_job(void) __attribute__((noreturn));
+enum { DEADLOCK_STATUS = 86 };
+void end_job(int status) __attribute__((noreturn));
 void conclude(const struct wait *wait);
 int is_over(void);
 
@@ -198,6 +200,7 @@ void request_complete(struct request *request, const MPI_Status *status);
 void request_drop(struct request *request);
 void request_free_later(MPI_Request handle, struct request *request);
 void requests_freed_poll(void);
+void wildcards_poll(void);
 int request_wait(struct request *request, const char *call, const void *place, MPI_Request *handle, MPI_Status *status);
 
 /* communicators.c */

@@ -8,7 +8,7 @@
 #include <time.h>
 
 enum { TAG_NOTICE = 1, TAG_CONTROL = 2 };
-enum { PATIENCE = 64, LONG = 1024, LONG_FOR_DATA = 1 << 14, SLOTS = 4 };
+enum { PATIENCE = 64, AGAIN = 1024, LONG = 1024, LONG_FOR_DATA = 1 << 14, SLOTS = 4 };
 /* After so many seconds without the notice of a message that was received, this library gives up. */
 static const double UNANNOUNCED_SECONDS = 30;
 
@@ -50,7 +50,7 @@ static void expect(uint32_t refusal, const char *what) {
     if (!refusal) return;
     meaning = gerfmuod_process_meaning(refusal, text, sizeof text);
     fprintf(stderr, "gerfmuod: rank %d: %s: %.*s: a bug of this library\n", checker.me, what, (int)meaning.length, text);
-    PMPI_Abort(MPI_COMM_WORLD, 1);
+    end_job(1);
 }
 
 /* Whether the detector's counts still matter. */
@@ -161,6 +161,10 @@ void detector_rest(struct wait *wait) {
     if (is_active) requests_freed_poll();
     if (has_come) wait->is_judged = 0, wait->rounds = 0;
     if (++wait->rounds < PATIENCE) return;
+    if (is_active && wait->rounds % AGAIN == PATIENCE) {
+        wildcards_poll();
+        wait->is_judged = 0;
+    }
     if (!wait->is_judged) {
         wait->can_end = can_end(wait);
         wait->is_judged = 1;

@@ -36,15 +36,23 @@ static int read_options(void) {
 
 static void wait_for_all(enum wait_kind kind, const char *call, const void *place);
 
-/* A program that ends by exit(0) without MPI_Finalize waits here as in a call that nothing ends, and so is reported. */
-static void at_exit(int status, void *unused) {
-    int is_finalized;
+static int has_exited, exit_status;
+
+static void note_exit(int status, void *unused) {
     (void)unused;
-    if (!checker.is_on || getpid() != process_id) return;
+    exit_status = status;
+    has_exited = 1;
+}
+
+/* A program that ends by exit(0) without MPI_Finalize waits here as in a call that nothing ends, and so is reported. All that the
+ * program does at its exit is over, so it calls MPI_Finalize no more. */
+__attribute__((destructor)) static void at_end(void) {
+    int is_finalized;
+    if (!checker.is_on || !has_exited || getpid() != process_id) return;
     PMPI_Finalized(&is_finalized);
     if (is_finalized) return;
-    fprintf(stderr, "gerfmuod: rank %d: exit with status %d without MPI_Finalize\n", checker.me, status);
-    if (!status && !checker.is_blind) wait_for_all(WAIT_EXIT, "exit without MPI_Finalize", NULL);
+    fprintf(stderr, "gerfmuod: rank %d: exit with status %d without MPI_Finalize\n", checker.me, exit_status);
+    if (!exit_status && !checker.is_blind) wait_for_all(WAIT_EXIT, "exit without MPI_Finalize", NULL);
 }
 
 /* The handles of two MPIs differ, so a library that was compiled for one must not touch those of the other. */
@@ -70,7 +78,7 @@ static void begin(void) {
     process_id = getpid();
     detector_open();
     comm_open();
-    on_exit(at_exit, NULL);
+    on_exit(note_exit, NULL);
     checker.is_on = 1;
 }
 

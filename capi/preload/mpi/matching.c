@@ -78,7 +78,7 @@ static int have_all_arrived(const struct need *need) {
 }
 
 static int request_can_end(const struct request *request) {
-    if (!request || !request->is_active || request->is_cancelled) return 1;
+    if (!request || !request->is_active || request->is_cancelled || request->is_received) return 1;
     if (request->kind == REQUEST_RECEIVE) return may_receive(request->comm, request->peer, request->tag, request);
     if (request->kind == REQUEST_SYNCHRONOUS) return request->is_matched;
     if (request->kind == REQUEST_COLLECTIVE) return meeting_can_end(&request->need);

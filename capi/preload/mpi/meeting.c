@@ -64,7 +64,7 @@ void meeting_mismatch(struct comm *comm, uint32_t number, int from, int call) {
     place_text(comm->places[at], place, sizeof place);
     fprintf(stderr, "gerfmuod: MISMATCH: collective call %u of %s: rank %d calls %s at %s, rank %d calls %s\n", number,
             comm_name(comm, name, sizeof name), checker.me, mine, place, comm->world[from], other);
-    if (checker.is_strict) end_job();
+    if (checker.is_strict) end_job(DEADLOCK_STATUS);
 }
 
 static void tell_others(const struct need *need, int code) {

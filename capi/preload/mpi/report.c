@@ -111,7 +111,7 @@ static void add_wait(struct account *a, const struct wait *wait) {
         struct need all = {.comm = wait->need->comm, .number = wait->need->number, .count = -1};
         add_missing(a, &all);
     }
-    if (wait->kind == WAIT_FINALIZE) text_add(&a->rows, "the other ranks");
+    if (wait->kind == WAIT_FINALIZE || wait->kind == WAIT_EXIT) text_add(&a->rows, "the other ranks");
     end_row(a, wait->place);
 }
 

@@ -38,7 +38,7 @@ struct request *request_find(MPI_Request handle) {
 
 void request_start(struct request *request) {
     request->is_active = 1;
-    request->is_cancelled = 0;
+    request->is_cancelled = request->is_received = 0;
     request->round++;
     request->left = request->partitions;
     if (request->kind == REQUEST_RECEIVE) posted_add(request);
@@ -48,7 +48,7 @@ void request_start(struct request *request) {
 void request_stop(struct request *request) {
     if (!request->is_active) return;
     request->is_active = 0;
-    if (request->kind == REQUEST_RECEIVE) posted_remove(request);
+    if (request->kind == REQUEST_RECEIVE && !request->is_received) posted_remove(request);
     if (request->kind == REQUEST_SYNCHRONOUS) synchronous_end(request);
 }
 
@@ -75,7 +75,7 @@ void request_complete(struct request *request, const MPI_Status *status) {
     request_stop(request);
     if (request->is_cancelled) PMPI_Test_cancelled(status, &is_cancelled);
     if (request->kind == REQUEST_RECEIVE && is_cancelled && request->comm->synchronous) synchronous_settle(request->comm);
-    if (request->kind == REQUEST_RECEIVE && !is_cancelled) consume(request->comm, status->MPI_SOURCE, status->MPI_TAG);
+    if (request->kind == REQUEST_RECEIVE && !is_cancelled && !request->is_received) consume(request->comm, status->MPI_SOURCE, status->MPI_TAG);
     if ((request->kind == REQUEST_SEND || request->kind == REQUEST_SYNCHRONOUS) && is_cancelled) withdraw(request);
     if (request->duplicate) comm_track_as(*request->duplicate, request->duplicate_id);
     if (!request->is_persistent) request_drop(request);
@@ -107,6 +107,25 @@ void requests_freed_poll(void) {
         request->is_persistent = 0;
         request_complete(request, &status);
     }
+}
+
+/* Which message a receive with a wildcard gets cannot be told from the notices. If it has got one, this is noted, also while the
+ * program has not completed it: the message is not for others then. */
+void wildcards_poll(void) {
+    for (struct comm *comm = comm_each(NULL); comm; comm = comm_each(comm))
+        for (struct request *request = comm->posted, *later; request; request = later) {
+            int is_done, is_cancelled;
+            MPI_Status status;
+            later = request->later;
+            if ((request->peer != MPI_ANY_SOURCE && request->tag != MPI_ANY_TAG) || request->is_cancelled) continue;
+            if (request->handle == MPI_REQUEST_NULL) continue; /* the call that waits tests it itself */
+            PMPI_Request_get_status(request->handle, &is_done, &status);
+            if (is_done) PMPI_Test_cancelled(&status, &is_cancelled);
+            if (!is_done || is_cancelled) continue;
+            posted_remove(request);
+            request->is_received = 1;
+            consume(comm, status.MPI_SOURCE, status.MPI_TAG);
+        }
 }
 
 /* Waits for one request. */

@@ -8,7 +8,6 @@
 
 enum { FINALIZING, DEBTS, UNSEEN, UNSAFE, STATES };
 static const double CONFIRMATION_SECONDS = 0.2;
-enum { DEADLOCK_STATUS = 86 };
 
 static enum { AGREEING_NOT_BEGUN, AGREEING, CONFIRMING, GATHERING, OVER } step;
 static MPI_Request agreement;
@@ -18,10 +17,10 @@ static double confirm_until;
 int is_over(void) { return step == OVER; }
 
 /* mpirun drops at an abort what it has not passed on yet. */
-void end_job(void) {
+void end_job(int status) {
     nanosleep(&(struct timespec){1, 0}, NULL);
-    PMPI_Abort(MPI_COMM_WORLD, DEADLOCK_STATUS);
-    exit(DEADLOCK_STATUS);
+    PMPI_Abort(MPI_COMM_WORLD, status);
+    exit(status);
 }
 
 static void begin_agreement(const struct wait *wait) {
@@ -67,7 +66,7 @@ void conclude(const struct wait *wait) {
             checker.is_blind = 1; /* all ranks make their calls now, and MPI shows what follows */
             break;
         }
-        end_job();
+        end_job(DEADLOCK_STATUS);
     case OVER: break;
     }
 }

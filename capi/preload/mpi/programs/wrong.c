@@ -3,6 +3,7 @@
  * The argument `modes` lists them: the name, the fewest ranks, the value of GERFMUOD_MPI, and regular expressions of what has
  * to be printed, in which LAST is the last rank. */
 #include <mpi.h>
+#include <pthread.h>
 #include <stdio.h>
 #include <stdlib.h>
 #include <string.h>
@@ -89,6 +90,15 @@ static void waitany(void) {
     MPI_Irecv(&in[0], 1, MPI_INT, 1, 11, WORLD, &r[0]);
     MPI_Irecv(&in[8], 1, MPI_INT, 1, 12, WORLD, &r[2]);
     MPI_Waitany(3, r, &index, NO_STATUS);
+}
+
+/* The receive with wildcards takes the message that the other one waits for. */
+static void stolen(void) {
+    MPI_Request r;
+    if (me == 1) send_to(0, 5);
+    if (me) return;
+    MPI_Irecv(in, 1, MPI_INT, MPI_ANY_SOURCE, MPI_ANY_TAG, WORLD, &r);
+    MPI_Recv(&value, 1, MPI_INT, 1, 5, WORLD, NO_STATUS);
 }
 
 static void waitsome(void) {
@@ -185,6 +195,18 @@ static void heads(void) {
     MPI_Recv(in, sizeof in, MPI_BYTE, before, 9, WORLD, NO_STATUS);
 }
 
+static void *receive(void *unused) {
+    MPI_Recv(in, 1, MPI_INT, before, 14, WORLD, NO_STATUS);
+    return unused;
+}
+
+static void two_threads(void) {
+    pthread_t other;
+    pthread_create(&other, NULL, receive, NULL);
+    receive(NULL);
+    pthread_join(other, NULL);
+}
+
 #define WAITS(rank, call, peer, function) "gerfmuod: " rank "(-[0-9]+)? +" call " +" peer ".* in " function
 static const struct mode {
     const char *name;
@@ -215,6 +237,7 @@ static const struct mode {
     {"waitany", waitany, 2, "",
      {WAITS("0", "MPI_Waitany", "message from 1, tag 11", "waitany"), "message from 1, tag 12"}},
     {"waitsome", waitsome, 2, "", {WAITS("LAST", "MPI_Waitsome", "message from 0, tag 13", "waitsome")}},
+    {"stolen", stolen, 2, "", {WAITS("0", "MPI_Recv", "message from 1, tag 5", "stolen")}},
     {"split", split, 2, "", {WAITS("0", "MPI_Recv", "message from 0, tag 9, half", "split")}},
     {"dup", duplicate, 2, "", {WAITS("0", "MPI_Comm_dup", "rank LAST, in collective call 1", "duplicate")}},
     {"exit", leaves, 2, "",
@@ -232,6 +255,7 @@ static const struct mode {
      {WAITS("0", "MPI_Neighbor_alltoall", "rank LAST, in collective call 1", "neighbours")}},
     {"mismatch", mismatch, 2, "abort",
      {"collective call 1 of MPI_COMM_WORLD: rank LAST calls MPI_Bcast with root 0 at .* in mismatch, rank 0 calls MPI_Barrier"}},
+    {"threads", two_threads, 2, "", {"rank [0-9]+: two threads call MPI at the same time"}},
     {"heads", heads, 2, "sync", {WAITS("0", "MPI_Send", "receive of 1, tag 9", "heads")}},
 #if MPI_VERSION >= 4
     {"partitions", partitions, 2, "", {WAITS("1", "MPI_Wait", "partitions from 0, tag 3", "partitions")}},
@@ -246,9 +270,9 @@ static int list(void) {
 }
 
 int main(int count, char **arguments) {
-    int found = 0;
+    int found = 0, granted;
     if (count < 2 || !strcmp(arguments[1], "modes")) return list();
-    MPI_Init(&count, &arguments);
+    MPI_Init_thread(&count, &arguments, strcmp(arguments[1], "threads") ? MPI_THREAD_SINGLE : MPI_THREAD_MULTIPLE, &granted);
     MPI_Comm_rank(WORLD, &me);
     MPI_Comm_size(WORLD, &n);
     next = (me + 1) % n;
