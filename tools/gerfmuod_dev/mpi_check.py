@@ -1,11 +1,10 @@
 """Builds the checker of MPI programs, a library for LD_PRELOAD, and runs it under wrong and right programs.
 
-capi/preload/mpi has the library, and in programs/ the programs. Both are compiled for Open MPI and for MPICH, whichever is
-installed. A wrong program has to be reported with the call, the rank or tag, and the place of its mistake; a right one, some of
-them slow, without a verdict; the file in JSON has to agree. The calls that mpi.h declares are compared with those that the library
-defines. With --build FOLDER only builds the library for `mpicc`, or for the compiler that the variable MPICC names. With --cost
-measures messages and MPI_Allreduce without and with the library, in turns, and prints ratios. `tools/mpi-packages` prints the
-packages. The last line is `N passed, M failed, K skipped`; the status is 1 if one failed.
+capi/preload/mpi has the library, and in programs/ the programs. Both are compiled for Open MPI and for MPICH, whichever is installed.
+A wrong program has to be reported with the call, the rank or tag, and the place of its mistake, a right one without a verdict; the
+file in JSON has to agree. The calls of mpi.h are compared with those that the library defines. With --build FOLDER only builds the
+library for `mpicc`, or for the compiler that the variable MPICC names. With --cost measures messages and MPI_Allreduce without and with
+it, and prints ratios. The last line is `N passed, M failed, K skipped`; the status is 1 if one failed.
 """
 import collections
 import glob
@@ -32,8 +31,7 @@ MPIS = [
 # as the programs in C list their modes: the name, the fewest ranks, options, and patterns of what has to be printed
 FORTRAN_MODES = "right\t2\t\nwrong\t2\t\t: 0 +MPI_Recv +message from 1, tag 8, MPI_COMM_WORLD +\\S+ in \\w+\t4 bytes from rank 1, tag 7"
 VERDICT = re.compile(r"DEADLOCK|UNSAFE|LOST|MISMATCH|no verdict|bug of this library|without MPI_Finalize")
-# the calls with a communicator, a request or a matched message that the library does not define: those that ask and set; files, windows
-# and other processes; those of MPI 4
+# the calls that need not be defined: those that ask and set; files, windows and other processes; those of MPI 4
 UNDEFINED = re.compile(
     r"MPI_(\w+_(coords|get|map|rank|shift|neighbors(_count)?|test(_inter)?|compare|size|group|c2f|get_parent|call_errhandler)"
     r"|(Comm|Attr|Errhandler)_((get|set|delete)_?\w*|put|free)|Request_get_status|Unpack|Pack(_size)?|Grequest_\w+"
@@ -74,9 +72,8 @@ def judge(tally, mpi, folder, path, mode, count):
         verdict = json.loads(repository.text_of(report.name) or '{"verdict": "none"}')["verdict"]
     absent = [pattern for pattern in patterns if not re.search(pattern.replace("LAST", str(count - 1)), printed)]
     is_right = verdict == "ended" and "done" in printed and not VERDICT.search(printed)
-    is_well = verdict in ("deadlock", "unsafe", "lost", "none") and not absent if patterns else is_right
     about = f"{mpi.name}, {count} ranks: {os.path.basename(path)} {name}: {verdict}; not printed: {absent}: "
-    tally.judge(is_well, about + running.short(printed.encode(), 2000))
+    tally.judge(verdict != "ended" and not absent if patterns else is_right, about + running.short(printed.encode(), 2000))
 
 
 def judge_names(tally, mpi, path):
@@ -89,7 +86,7 @@ def judge_names(tally, mpi, path):
 
 
 def print_cost(mpi, folder, program):
-    """Prints times without and with the library, each the best of some runs in turns, and their ratios."""
+    """Prints the best times of some runs without and with the library, in turns, and their ratios."""
     best = {"": {}, f"{folder}/{NAME}": {}}
     for preload, times in list(best.items()) * 5:
         for name, time in re.findall(r"^(\S.*): (\S+) us$", printed_by(mpi, 2, [program], LD_PRELOAD=preload), re.M):
@@ -98,23 +95,18 @@ def print_cost(mpi, folder, program):
         print(f"{mpi.name}: {name}: {plain:.2f} us, with the library {checked:.2f} us: {checked / plain:.1f} times")
 
 
-def runs_of(path, modes, options):
-    """Yields each run of a program: its path, its mode and the number of its ranks."""
-    for mode in modes.splitlines():
-        name, least, _, *patterns = mode.split("\t")
-        counts = [count for count in options.ranks if count >= int(least) and options.only in ("", name)]
-        yield from [(path, mode, count) for count in counts] * ((20 if patterns else 100) if options.full else 1)
-
-
 def check(tally, mpi, folder, options):
     build(mpi.compiler, f"{folder}/{NAME}")
     judge_names(tally, mpi, f"{folder}/{NAME}")
-    modes = dict(programs(mpi, folder))
+    runs = []
+    for path, modes in programs(mpi, folder):
+        for mode in modes.splitlines():
+            name, least, _, *patterns = mode.split("\t")
+            counts = [count for count in options.ranks if count >= int(least) and options.only in ("", name)]
+            runs += [(path, mode, count) for count in counts] * ((20 if patterns else 100) if options.full else 1)
     if options.cost:
-        print_cost(mpi, folder, f"{folder}/cost")
-    else:
-        runs = [run for item in modes.items() for run in runs_of(*item, options)]
-        list(running.in_parallel(runs, lambda run: judge(tally, mpi, folder, *run)))
+        return print_cost(mpi, folder, f"{folder}/cost")
+    return list(running.in_parallel(runs, lambda run: judge(tally, mpi, folder, *run)))
 
 
 def arguments(parser):

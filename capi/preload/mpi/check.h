@@ -120,6 +120,7 @@ struct checker {
     int is_on;
     int is_blind; /* something was not seen: this rank is never idle again, and no verdict is printed */
     int is_sync, is_strict, has_report, lost_status;
+    int is_loose; /* after UNSAFE: a collective call waits only for the ranks whose data it needs */
     const char *json_path;
     int me, all;     /* in MPI_COMM_WORLD */
     MPI_Comm own;    /* notices and control messages */
@@ -153,6 +154,7 @@ int detector_poll(void);
 void detector_glance(void);
 void detector_rest(struct wait *wait);
 void detector_resume(void);
+void detector_reopen(void);
 uint64_t detector_waves(void);
 void give_up(const char *reason);
 double seconds(void);
@@ -189,6 +191,7 @@ int matches(int from, int tag, const struct notice *notice);
 int can_end(struct wait *wait);
 int has_arrived(const struct need *need, int rank);
 int meeting_can_end(const struct need *need);
+struct need meeting_need(const struct need *need);
 
 /* requests.c */
 struct request *request_new(enum request_kind kind, struct comm *comm, const char *call, const void *place);

@@ -107,7 +107,7 @@ void detector_send(int world, const struct notice *notice) {
 
 static void take_notice(const struct notice *notice, int source) {
     if (is_counting()) {
-        expect(gerfmuod_process_count_received(&process, 0), "a notice came");
+        expect(gerfmuod_process_count_received(&process, gerfmuod_process_epoch(&process)), "a notice came");
         if (is_active) expect(gerfmuod_process_finish_work(&process), "a notice came"); /* one piece of work is enough */
     }
     is_active = 1;
@@ -174,7 +174,7 @@ void detector_rest(struct wait *wait) {
         is_active = 0;
     }
     send_controls();
-    if (has_ended && !checker.is_blind) conclude(wait);
+    if (has_ended && !checker.is_blind) conclude(wait), wait->is_judged = 0;
     give_way(wait);
 }
 
@@ -189,6 +189,13 @@ void detector_resume(void) {
         if (seconds() - begin > UNANNOUNCED_SECONDS) give_up("a message came that no notice announced");
         sched_yield();
     }
+    is_active = 1;
+}
+
+/* All ranks have agreed to go on after ENDED. */
+void detector_reopen(void) {
+    expect(gerfmuod_process_reopen(&process), "the ranks go on");
+    has_ended = 0;
     is_active = 1;
 }
 

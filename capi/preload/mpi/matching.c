@@ -72,9 +72,14 @@ int meeting_can_end(const struct need *need) {
 }
 
 /* A blocking collective call waits here for all, as the standard allows. */
-static int have_all_arrived(const struct need *need) {
+struct need meeting_need(const struct need *need) {
     struct need all = {.comm = need->comm, .number = need->number, .count = -1};
-    return meeting_can_end(&all);
+    return checker.is_loose ? *need : all;
+}
+
+static int can_meet(const struct need *need) {
+    struct need missing = meeting_need(need);
+    return meeting_can_end(&missing);
 }
 
 static int request_can_end(const struct request *request) {
@@ -102,7 +107,7 @@ int can_end(struct wait *wait) {
     case WAIT_ALL:
     case WAIT_ANY: return requests_can_end(wait);
     case WAIT_PROBE: return may_receive(wait->comm, wait->from, wait->tag, NULL);
-    case WAIT_MEETING: return have_all_arrived(wait->need);
+    case WAIT_MEETING: return can_meet(wait->need);
     default: return 0;
     }
 }

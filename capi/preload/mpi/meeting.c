@@ -3,7 +3,7 @@
  * Each rank numbers the collective calls of a communicator, in the order that is the same at all ranks, and announces each to
  * all others. A blocking call waits for all of them, which the standard allows. A `need` has those without whose data the
  * call cannot end in any MPI. If ENDED comes while a rank has all that it needs, the program is not deadlocked for certain, but
- * it relies on what MPI does not guarantee: then all ranks are let go. */
+ * it relies on what MPI does not guarantee: from then on, calls wait only for what they need. */
 #include "wrapper.h"
 #include <ctype.h>
 #include <stdio.h>

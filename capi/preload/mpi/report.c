@@ -108,8 +108,8 @@ static void add_wait(struct account *a, const struct wait *wait) {
     }
     if (wait->kind == WAIT_PROBE) add_partner(a, "message", wait->comm, "from", wait->from, wait->tag);
     if (wait->kind == WAIT_MEETING) {
-        struct need all = {.comm = wait->need->comm, .number = wait->need->number, .count = -1};
-        add_missing(a, &all);
+        struct need missing = meeting_need(wait->need);
+        add_missing(a, &missing);
     }
     if (wait->kind == WAIT_FINALIZE || wait->kind == WAIT_EXIT) text_add(&a->rows, "the other ranks");
     end_row(a, wait->place);
@@ -204,9 +204,10 @@ void report_deadlock(const struct wait *wait, int is_unsafe) {
     char head[200];
     add_wait(&a, wait);
     add_all_unreceived(&a);
-    snprintf(head, sizeof head, "%s: %d rank%s, and no message is in flight that could end a call%s",
-             is_unsafe ? "UNSAFE" : "DEADLOCK", checker.all, checker.all == 1 ? " waits" : "s wait",
-             is_unsafe ? ", unless a collective call ends before all its ranks come, as MPI does not guarantee" : "");
+    snprintf(head, sizeof head, "%s: %d rank%s, and %s", is_unsafe ? "UNSAFE" : "DEADLOCK", checker.all,
+             checker.all == 1 ? " waits" : "s wait",
+             is_unsafe ? "a call can only end if a collective call does before all its ranks come, which MPI does not guarantee"
+                       : "no message is in flight that could end a call");
     publish(is_unsafe ? "unsafe" : "deadlock", head, &a, wait);
     account_free(&a);
 }
@@ -226,7 +227,7 @@ int report_lost(void) {
              sums[0] ? "LOST: " : "", (unsigned long long)sums[0], sums[0] == 1 ? "" : "s", checker.all,
              (unsigned long long)sums[1], (unsigned long long)detector_waves(), (unsigned long long)sums[2],
              seconds() - checker.begin);
-    publish(sums[0] ? "lost" : "ended", sums[0] || checker.has_report ? head : NULL, &a, NULL);
+    publish(sums[0] ? "lost" : checker.is_loose ? "unsafe" : "ended", sums[0] || checker.has_report ? head : NULL, &a, NULL);
     account_free(&a);
     return sums[0] > 0;
 }

@@ -62,11 +62,11 @@ void conclude(const struct wait *wait) {
         if (!is_done) break;
         report_deadlock(wait, sums[UNSAFE] > 0);
         PMPI_Barrier(checker.report); /* rank 0 has printed */
-        if (sums[UNSAFE] && !checker.is_strict) {
-            checker.is_blind = 1; /* all ranks make their calls now, and MPI shows what follows */
-            break;
-        }
-        end_job(DEADLOCK_STATUS);
+        if (!sums[UNSAFE] || checker.is_strict) end_job(DEADLOCK_STATUS);
+        checker.is_loose = 1;
+        detector_reopen();
+        step = AGREEING_NOT_BEGUN;
+        break;
     case OVER: break;
     }
 }

@@ -123,6 +123,13 @@ static void root(void) {
     if (is_last()) send_to(0, 1);
 }
 
+/* The root of a broadcast may go on before the others have come, or may not. */
+static void unsafe(void) {
+    if (me == 1) MPI_Recv(&value, 1, MPI_INT, 0, 1, WORLD, NO_STATUS);
+    MPI_Bcast(&value, 1, MPI_INT, 0, WORLD);
+    if (me == 0) send_to(1, 1);
+}
+
 static void mismatch(void) {
     if (is_last()) MPI_Bcast(&value, 1, MPI_INT, 0, WORLD);
     else MPI_Barrier(WORLD);
@@ -250,8 +257,9 @@ static const struct mode {
       WAITS("LAST", "MPI_Wait", "rank 0, in collective call 1", "root")}},
     {"cancel", cancelled, 2, "", {WAITS("0", "MPI_Recv", "message from 1, tag 2", "cancelled")}},
     {"ssend", synchronous, 2, "", {WAITS("0", "MPI_Ssend", "receive of 1, tag 6", "synchronous")}},
-    {"reduce", reduction, 2, "abort", {WAITS("0", "MPI_Reduce", "rank LAST, in collective call 1", "reduction")}},
-    {"neighbours", neighbours, 2, "abort",
+    {"unsafe", unsafe, 2, "", {"UNSAFE: .* ranks wait", WAITS("1", "MPI_Recv", "message from 0, tag 1", "unsafe")}},
+    {"reduce", reduction, 2, "", {WAITS("0", "MPI_Reduce", "rank LAST, in collective call 1", "reduction")}},
+    {"neighbours", neighbours, 2, "",
      {WAITS("0", "MPI_Neighbor_alltoall", "rank LAST, in collective call 1", "neighbours")}},
     {"mismatch", mismatch, 2, "abort",
      {"collective call 1 of MPI_COMM_WORLD: rank LAST calls MPI_Bcast with root 0 at .* in mismatch, rank 0 calls MPI_Barrier"}},
