@@ -55,16 +55,16 @@ __attribute__((destructor)) static void at_end(void) {
     if (!exit_status && !checker.is_blind) wait_for_all(WAIT_EXIT, "exit without MPI_Finalize", NULL);
 }
 
-/* The handles of two MPIs differ, so a library that was compiled for one must not touch those of the other. */
-static int is_same_mpi(void) {
+/* The handles of two MPIs differ, so a library that was compiled for one cannot pass on those of the other. */
+static void refuse_other_mpi(void) {
     static char name[8192];
     int length, is_open_mpi;
     PMPI_Get_library_version(name, &length);
     is_open_mpi = strstr(name, "Open MPI") != NULL;
-    if (is_open_mpi == IS_FOR_OPEN_MPI) return 1;
-    fprintf(stderr, "gerfmuod: this library is compiled for %s, which the program does not use: nothing is watched\n",
+    if (is_open_mpi == IS_FOR_OPEN_MPI) return;
+    fprintf(stderr, "gerfmuod: this library is compiled for %s, but the program runs with another MPI\n",
             IS_FOR_OPEN_MPI ? "Open MPI" : "MPICH");
-    return 0;
+    exit(1);
 }
 
 static void begin(void) {
@@ -83,14 +83,17 @@ static void begin(void) {
 }
 
 int MPI_Init(int *count, char ***arguments) {
-    int is_watched = read_options() && is_same_mpi(), result = PMPI_Init(count, arguments);
+    int is_watched = read_options(), result;
+    refuse_other_mpi();
+    result = PMPI_Init(count, arguments);
     if (is_watched && result == MPI_SUCCESS) begin();
     return result;
 }
 
 int MPI_Init_thread(int *count, char ***arguments, int wanted, int *granted) {
     int is_multiple = wanted == MPI_THREAD_MULTIPLE, result;
-    if (!read_options() || !is_same_mpi()) return PMPI_Init_thread(count, arguments, wanted, granted);
+    refuse_other_mpi();
+    if (!read_options()) return PMPI_Init_thread(count, arguments, wanted, granted);
     result = PMPI_Init_thread(count, arguments, is_multiple ? MPI_THREAD_SERIALIZED : wanted, granted);
     if (result != MPI_SUCCESS) return result;
     begin();
