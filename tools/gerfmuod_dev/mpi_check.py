@@ -102,7 +102,7 @@ def check(tally, mpi, folder, options):
     for path, modes in programs(mpi, folder):
         for mode in modes.splitlines():
             name, least, _, *patterns = mode.split("\t")
-            counts = [count for count in options.ranks if count >= int(least) and options.only in ("", name)]
+            counts = [count for count in options.ranks if count >= int(least) and name in (options.only or [name])]
             runs += [(path, mode, count) for count in counts] * ((20 if patterns else 100) if options.full else 1)
     if options.cost:
         return print_cost(mpi, folder, f"{folder}/cost")
@@ -112,7 +112,7 @@ def check(tally, mpi, folder, options):
 def arguments(parser):
     parser.add_argument("--full", action="store_true", help="20 runs of each wrong program, and 100 of each right one")
     parser.add_argument("--ranks", type=int, nargs="+", default=[4], help="the numbers of ranks (4)")
-    parser.add_argument("--only", metavar="MODE", default="", help="only the programs with this mode")
+    parser.add_argument("--only", metavar="MODE", nargs="+", help="only the programs with these modes")
     parser.add_argument("--cost", action="store_true", help="measure times without and with the library")
     parser.add_argument("--build", metavar="FOLDER", help="only build the library, in this folder")
 
