@@ -1,10 +1,10 @@
 """Builds the checker of MPI programs, a library for LD_PRELOAD, and runs it under wrong and right programs.
 
-capi/preload/mpi has the library, and in programs/ the programs. Both are compiled for Open MPI and for MPICH, whichever is installed.
-A wrong program has to be reported with the call, the rank or tag, and the place of its mistake, a right one without a verdict; the
-file in JSON has to agree. The calls of mpi.h are compared with those that the library defines. With --build FOLDER only builds the
-library for `mpicc`, or for the compiler that the variable MPICC names. With --cost measures messages and MPI_Allreduce without and with
-it, and prints ratios. The last line is `N passed, M failed, K skipped`; the status is 1 if one failed.
+capi/preload/mpi has the library, and in programs/ the programs. Both are compiled for Open MPI and for MPICH, whichever is installed. A
+wrong program has to be reported with the call, the rank or tag, and the place of its mistake, a right one without a verdict; the file in
+JSON has to agree. The calls of mpi.h are compared with those that the library defines. --build FOLDER only builds the library for
+`mpicc`, or for the compiler that the variable MPICC names. --cost measures messages and MPI_Allreduce without and with it, and prints
+ratios. The last line is `N passed, M failed, K skipped`; the status is 1 if one failed.
 """
 import collections
 import glob
@@ -13,8 +13,8 @@ import os
 import re
 import shutil
 import subprocess
-import sys
 import tempfile
+from concurrent.futures import ThreadPoolExecutor
 
 from . import library, repository, running
 from .c_programs import output_of
@@ -28,7 +28,6 @@ MPIS = [
     Mpi("Open MPI", "mpicc.openmpi", "mpifort.openmpi", "mpirun.openmpi --oversubscribe --mca mpi_yield_when_idle 0".split()),
     Mpi("MPICH", "mpicc.mpich", "mpifort.mpich", ["mpirun.mpich"]),
 ]
-# as the programs in C list their modes: the name, the fewest ranks, options, and patterns of what has to be printed
 FORTRAN_MODES = "right\t2\t\nwrong\t2\t\t: 0 +MPI_Recv +message from 1, tag 8, MPI_COMM_WORLD +\\S+ in \\w+\t4 bytes from rank 1, tag 7"
 VERDICT = re.compile(r"DEADLOCK|UNSAFE|LOST|MISMATCH|no verdict|bug of this library|without MPI_Finalize")
 # the calls that need not be defined: those that ask and set; files, windows and other processes; those of MPI 4
@@ -46,7 +45,7 @@ def build(compiler, path):
 
 
 def programs(mpi, folder):
-    """Compiles the programs for an MPI; yields the path and the list of modes of each."""
+    """Compiles the programs for an MPI; yields the path of each, and the list of its modes."""
     for name in ("wrong", "right", "cost"):
         output_of([mpi.compiler, *OPTIONS, "-O1", "-g", f"{FOLDER}/programs/{name}.c", "-o", f"{folder}/{name}"])
         yield f"{folder}/{name}", "" if name == "cost" else output_of([f"{folder}/{name}", "modes"])
@@ -57,8 +56,8 @@ def programs(mpi, folder):
 
 def printed_by(mpi, count, program, **variables):
     """Runs a program with this number of ranks; returns what it prints, or that it does not end."""
-    given = [f"{name}={value}" for name, value in variables.items() if value]
-    command = ["timeout", "-k", "5", "120", *mpi.runner, "-n", str(count), "env", *given, *program]
+    given = ["env", *(f"{name}={value}" for name, value in variables.items() if value)]
+    command = ["timeout", "-k", "5", "120", *mpi.runner, "-n", str(count), *given, *program]
     result = running.run(command, stderr=subprocess.STDOUT, env={**os.environ, **ROOT})
     return result.out.decode(errors="replace") + ("did not end" if result.status in (124, 137) else "")
 
@@ -71,14 +70,14 @@ def judge(tally, mpi, folder, path, mode, count):
         printed = printed_by(mpi, count, [path, name], **variables)
         verdict = json.loads(repository.text_of(report.name) or '{"verdict": "none"}')["verdict"]
     absent = [pattern for pattern in patterns if not re.search(pattern.replace("LAST", str(count - 1)), printed)]
-    is_right = verdict == "ended" and "done" in printed and not VERDICT.search(printed)
+    is_well = "done" in printed and not VERDICT.search(printed) if not patterns else not absent
     about = f"{mpi.name}, {count} ranks: {os.path.basename(path)} {name}: {verdict}; not printed: {absent}: "
-    tally.judge(verdict != "ended" and not absent if patterns else is_right, about + running.short(printed.encode(), 2000))
+    tally.judge(is_well and (verdict == "ended") != bool(patterns), about + running.short(printed.encode(), 2000))
 
 
 def judge_names(tally, mpi, path):
-    header = output_of([mpi.compiler, "-E", "-include", "mpi.h", "-x", "c", "/dev/null"])
-    calls = re.findall(r"\b(MPI_[A-Z]\w+) *\(([^;{}]*?)\)[^;(]*;", header)
+    header = [mpi.compiler, "-E", "-include", "mpi.h", "-x", "c", "/dev/null"]
+    calls = re.findall(r"\b(MPI_[A-Z]\w+) *\(([^;{}]*?)\)[^;(]*;", output_of(header))
     declared = {name for name, types in calls if re.search(r"MPI_(Comm|Request|Message)\b", types)}
     absent = declared - set(re.findall(r" T (MPI_\w+)", output_of(["nm", "-D", path])))
     unnamed = sorted(name for name in absent if not UNDEFINED.fullmatch(name))
@@ -99,14 +98,14 @@ def check(tally, mpi, folder, options):
     build(mpi.compiler, f"{folder}/{NAME}")
     judge_names(tally, mpi, f"{folder}/{NAME}")
     runs = []
-    for path, modes in programs(mpi, folder):
-        for mode in modes.splitlines():
-            name, least, _, *patterns = mode.split("\t")
-            counts = [count for count in options.ranks if count >= int(least) and name in (options.only or [name])]
-            runs += [(path, mode, count) for count in counts] * ((20 if patterns else 100) if options.full else 1)
+    for path, mode in [(path, mode) for path, modes in programs(mpi, folder) for mode in modes.splitlines()]:
+        name, least, _, *patterns = mode.split("\t")
+        counts = [count for count in options.ranks if count >= int(least) and name in (options.only or [name])]
+        runs += [(path, mode, count) for count in counts] * ((20 if patterns else 100) if options.full else 1)
     if options.cost:
         return print_cost(mpi, folder, f"{folder}/cost")
-    return list(running.in_parallel(runs, lambda run: judge(tally, mpi, folder, *run)))
+    with ThreadPoolExecutor(max(1, 4 * repository.processors() // max(options.ranks))) as pool:
+        return list(pool.map(lambda run: judge(tally, mpi, folder, *run), runs))
 
 
 def arguments(parser):
@@ -120,7 +119,7 @@ def arguments(parser):
 def run(options):
     repository.go_to_top()
     if reason := library.reason_not_built():
-        sys.exit(f"{reason}: make lib builds the library")
+        raise SystemExit(f"{reason}: make lib builds the library")
     if options.build:
         return build(os.environ.get("MPICC", "mpicc"), f"{options.build}/{NAME}")
     tally = running.Tally()
