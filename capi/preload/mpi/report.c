@@ -61,13 +61,12 @@ static void add_missing(struct account *a, const struct need *need) {
     text_json(&a->waits, name);
 }
 
-static void end_row(struct account *a, const void *place) {
-    char text[PLACE_SIZE] = "";
-    if (place) place_text(place, text, sizeof text);
-    text_add(&a->rows, "\t%s\n", text);
+/* The place of the call that waits, and the place where what it waits for was begun. */
+static void end_row(struct account *a, const char *shown, const char *begun) {
+    text_add(&a->rows, "%s%s\n", *shown ? "\t" : "", shown);
     if (!a->waits.length) return;
     text_add(&a->waits, ",\"place\":");
-    text_json(&a->waits, text);
+    text_json(&a->waits, begun);
     text_add(&a->waits, "}");
 }
 
@@ -86,24 +85,29 @@ static int can_request_end(const struct request *request) {
 }
 
 /* The requests that a call waits for, a row for each that cannot end. */
-static void add_requests(struct account *a, const struct wait *wait) {
+static void add_requests(struct account *a, const struct wait *wait, const char *place) {
     int rows = 0, left = 0;
+    char begun[PLACE_SIZE];
     for (int n = 0; n < wait->count; n++) {
         const struct request *request = wait->requests[n];
         if (!request || can_request_end(request)) continue;
         if (rows == MOST_ROWS && ++left) continue;
         if (rows++) text_add(&a->rows, "\t\t");
         add_request(a, request);
-        end_row(a, request->place);
+        place_text(request->place, begun, sizeof begun);
+        if (request->place != wait->place) text_add(&a->rows, " (%s at %s)", request->call, begun);
+        end_row(a, rows == 1 ? place : "", begun);
     }
-    if (left) text_add(&a->rows, "\t\tand %d more\t\n", left);
-    if (!rows) text_add(&a->rows, "\t\n");
+    if (left) text_add(&a->rows, "\t\tand %d more\n", left);
+    if (!rows) text_add(&a->rows, "\t%s\n", place);
 }
 
 static void add_wait(struct account *a, const struct wait *wait) {
+    char place[PLACE_SIZE] = "";
+    if (wait->place) place_text(wait->place, place, sizeof place);
     text_add(&a->rows, "%d\t%s\t", checker.me, wait->call);
     if (wait->kind == WAIT_ALL || wait->kind == WAIT_ANY) {
-        add_requests(a, wait);
+        add_requests(a, wait, place);
         return;
     }
     if (wait->kind == WAIT_PROBE) add_partner(a, "message", wait->comm, "from", wait->from, wait->tag);
@@ -112,7 +116,7 @@ static void add_wait(struct account *a, const struct wait *wait) {
         add_missing(a, &missing);
     }
     if (wait->kind == WAIT_FINALIZE || wait->kind == WAIT_EXIT) text_add(&a->rows, "the other ranks");
-    end_row(a, wait->place);
+    end_row(a, place, place);
 }
 
 /* A message that was announced to this rank and not received. */
