@@ -127,8 +127,7 @@ static void communicators(void) {
     MPI_Request r;
     int x = -1, rank, size, range[1][3] = {{0, n - 1, 2}};
     MPI_Comm_split(WORLD, me % 2, -me, &half);
-    MPI_Comm_rank(half, &rank);
-    MPI_Comm_size(half, &size);
+    MPI_Comm_rank(half, &rank), MPI_Comm_size(half, &size);
     MPI_Sendrecv(&me, 1, MPI_INT, (rank + 1) % size, 0, &x, 1, MPI_INT, (rank + size - 1) % size, 0, half, NO_STATUS);
     MPI_Comm_dup(half, &copy);
     MPI_Comm_idup(WORLD, &later, &r);
@@ -144,9 +143,7 @@ static void communicators(void) {
         MPI_Barrier(group_comm);
         MPI_Comm_free(&group_comm);
     }
-    MPI_Comm_free(&copy);
-    MPI_Comm_free(&half);
-    MPI_Comm_free(&later);
+    MPI_Comm_free(&copy), MPI_Comm_free(&half), MPI_Comm_free(&later);
 }
 
 /* A receive that is cancelled, and one that is freed before its message comes. */
@@ -156,8 +153,7 @@ static void cancelled(void) {
     MPI_Request r;
     MPI_Status s;
     MPI_Irecv(&x, 1, MPI_INT, before, 77, WORLD, &r);
-    MPI_Cancel(&r);
-    MPI_Wait(&r, &s);
+    MPI_Cancel(&r), MPI_Wait(&r, &s);
     MPI_Test_cancelled(&s, &is_cancelled);
     check(is_cancelled, "cancelled");
     MPI_Irecv(&x, 1, MPI_INT, before, 78, WORLD, &r);
@@ -181,8 +177,7 @@ static void intercommunicator(void) {
 /* One rank works for long, while all others wait for it in different calls. */
 static void slow(void) {
     int x = 0;
-    if (me == 0) sleep(3);
-    if (me == 0) MPI_Send(&me, 1, MPI_INT, 1, 7, WORLD);
+    if (me == 0) sleep(3), MPI_Send(&me, 1, MPI_INT, 1, 7, WORLD);
     if (me == 1) MPI_Recv(&x, 1, MPI_INT, MPI_ANY_SOURCE, MPI_ANY_TAG, WORLD, NO_STATUS);
     MPI_Bcast(&x, 1, MPI_INT, 0, WORLD);
     MPI_Barrier(WORLD);
@@ -231,10 +226,40 @@ static void many(void) {
     for (int k = 0; k < 2000; k++) check(got[k] == k, "many");
 }
 
+static int receive_one(int way, int tag) {
+    int x = -1, index;
+    MPI_Request r[2] = {MPI_REQUEST_NULL, MPI_REQUEST_NULL};
+    MPI_Status s;
+    MPI_Message m;
+    if (way == 0) MPI_Recv(&x, 1, MPI_INT, MPI_ANY_SOURCE, tag, WORLD, NO_STATUS);
+    if (way == 1) MPI_Probe(MPI_ANY_SOURCE, tag, WORLD, &s), MPI_Recv(&x, 1, MPI_INT, s.MPI_SOURCE, tag, WORLD, NO_STATUS);
+    if (way == 2) MPI_Mprobe(MPI_ANY_SOURCE, tag, WORLD, &m, &s), MPI_Mrecv(&x, 1, MPI_INT, &m, NO_STATUS);
+    if (way == 3) MPI_Irecv(&x, 1, MPI_INT, MPI_ANY_SOURCE, tag, WORLD, &r[1]), MPI_Waitany(2, r, &index, NO_STATUS);
+    return x;
+}
+
+/* Each rank sends to others at random, in rounds, and receives as many messages as all send to it in that round. */
+static void random_messages(void) {
+    unsigned seed = 1;
+    for (int k = 0; k < 4 * ROUNDS; k++) {
+        int expected = 0, sum = 0, sent = 0, to = 0;
+        MPI_Request r[64];
+        for (int from = 0; from < n; from++)
+            for (int count = (int)(rand_r(&seed) % 3); count > 0; count--) {
+                to = (int)(rand_r(&seed) % (unsigned)n);
+                if (from == me && seed % 2) MPI_Isend(&me, 1, MPI_INT, to, k, WORLD, &r[sent++]);
+                else if (from == me) MPI_Issend(&me, 1, MPI_INT, to, k, WORLD, &r[sent++]);
+                expected += to == me ? from + 1 : 0;
+            }
+        while (sum < expected) sum += receive_one((k + sum) % 4, k) + 1;
+        check(sum == expected, "random");
+        MPI_Waitall(sent, r, MPI_STATUSES_IGNORE);
+    }
+}
+
 static void *other_thread(void *unused) {
-    (void)unused;
     ring();
-    return NULL;
+    return unused;
 }
 
 /* Another thread calls MPI while this one waits for its end. */
@@ -252,7 +277,7 @@ static const struct mode {
     {"ring", ring}, {"synchronous", synchronous}, {"master", master}, {"requests", requests}, {"persistent", persistent},
     {"probes", probes}, {"collectives", collectives}, {"communicators", communicators}, {"cancelled", cancelled},
     {"intercommunicator", intercommunicator}, {"files", files}, {"slow", slow}, {"partitions", partitions}, {"many", many},
-    {"threads", threads},
+    {"threads", threads}, {"random", random_messages},
 };
 
 int main(int count, char **arguments) {
