@@ -122,7 +122,8 @@ struct checker {
     int is_sync, is_strict, has_report, lost_status;
     int is_loose; /* after UNSAFE: a collective call waits only for the ranks whose data it needs */
     const char *json_path;
-    int me, all;     /* in MPI_COMM_WORLD */
+    int64_t sync_bytes; /* standard sends of at least these bytes wait for their receives */
+    int me, all;        /* in MPI_COMM_WORLD */
     MPI_Comm own;    /* notices and control messages */
     MPI_Comm report; /* what is printed after ENDED */
     MPI_Comm closing;

@@ -11,12 +11,15 @@ enum { IS_FOR_OPEN_MPI = 1 };
 #else
 enum { IS_FOR_OPEN_MPI = 0 };
 #endif
+/* No MPI buffers messages of this size. */
+enum { SYNC_BYTES = 1 << 20 };
 struct checker checker;
 static pid_t process_id;
 
 static int read_option(const char *option) {
     if (!strcmp(option, "off")) return 0;
     if (!strcmp(option, "sync")) checker.is_sync = 1;
+    else if (!strncmp(option, "sync=", 5)) checker.sync_bytes = atoll(option + 5);
     else if (!strcmp(option, "abort")) checker.is_strict = 1;
     else if (!strcmp(option, "report")) checker.has_report = 1;
     else if (!strncmp(option, "status=", 7)) checker.lost_status = atoi(option + 7);
@@ -29,6 +32,7 @@ static int read_options(void) {
     const char *options = getenv("GERFMUOD_MPI");
     char *copy = strdup(options ? options : ""), *rest = copy;
     int is_on = 1;
+    checker.sync_bytes = SYNC_BYTES;
     for (char *option; copy && (option = strsep(&rest, ","));) is_on = (!*option || read_option(option)) && is_on;
     free(copy);
     return is_on;

@@ -21,7 +21,7 @@ int start_send(const struct envelope *e, const void *from, send_function *send, 
     int result;
     *request = NULL;
     if (!comm || e->peer < 0 || e->peer >= comm->size) return send(from, e->count, e->type, e->peer, e->tag, e->comm, handle);
-    if (checker.is_sync && send != PMPI_Ibsend) send = PMPI_Issend;
+    if (is_sync(bytes_of(e->count, e->type)) && send != PMPI_Ibsend) send = PMPI_Issend;
     *request = request_of(e, send == PMPI_Issend ? REQUEST_SYNCHRONOUS : REQUEST_SEND, comm);
     request_start(*request);
     announce_message(comm, e->peer, e->tag, (*request)->bytes, e->place, (*request)->number);

@@ -18,7 +18,7 @@ static int keep_inactive(int result, const struct envelope *e, enum request_kind
 }
 
 static int init_send(const struct envelope *e, const void *from, init_function *init, MPI_Request *handle) {
-    if (checker.is_sync && init != PMPI_Bsend_init) init = PMPI_Ssend_init;
+    if (checker.is_on && is_sync(bytes_of(e->count, e->type)) && init != PMPI_Bsend_init) init = PMPI_Ssend_init;
     return keep_inactive(init(from, e->count, e->type, e->peer, e->tag, e->comm, handle), e,
                          init == PMPI_Ssend_init ? REQUEST_SYNCHRONOUS : REQUEST_SEND, handle);
 }

@@ -26,6 +26,9 @@ static inline int64_t bytes_of(int count, MPI_Datatype type) {
     return (int64_t)count * size;
 }
 
+/* Whether a standard or ready send waits for its receive, as MPI may do. */
+static inline int is_sync(int64_t bytes) { return checker.is_sync || bytes >= checker.sync_bytes; }
+
 static inline void meet(struct comm *comm, struct need need, int call, int root, const char *name, const void *place) {
     meeting_begin(comm, &need, call, root, place);
     meeting_wait(&need, name, place);

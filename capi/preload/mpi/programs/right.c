@@ -152,12 +152,10 @@ static void cancelled(void) {
     int is_cancelled;
     MPI_Request r;
     MPI_Status s;
-    MPI_Irecv(&x, 1, MPI_INT, before, 77, WORLD, &r);
-    MPI_Cancel(&r), MPI_Wait(&r, &s);
+    MPI_Irecv(&x, 1, MPI_INT, before, 77, WORLD, &r), MPI_Cancel(&r), MPI_Wait(&r, &s);
     MPI_Test_cancelled(&s, &is_cancelled);
     check(is_cancelled, "cancelled");
-    MPI_Irecv(&x, 1, MPI_INT, before, 78, WORLD, &r);
-    MPI_Request_free(&r);
+    MPI_Irecv(&x, 1, MPI_INT, before, 78, WORLD, &r), MPI_Request_free(&r);
     MPI_Barrier(WORLD);
     MPI_Send(&me, 1, MPI_INT, next, 78, WORLD);
 }
@@ -215,14 +213,16 @@ static void partitions(void) {
 #endif
 }
 
-/* Many receives, whose messages come in the opposite order. */
+/* Many receives, whose messages come in the opposite order, and large messages. */
 static void many(void) {
-    static int got[2000];
+    static int got[2000], big[2][1 << 18];
     static MPI_Request r[2000];
     for (int k = 0; k < 2000; k++) MPI_Irecv(&got[k], 1, MPI_INT, before, k, WORLD, &r[k]);
     MPI_Barrier(WORLD);
     for (int k = 1999; k >= 0; k--) MPI_Send(&k, 1, MPI_INT, next, k, WORLD);
     MPI_Waitall(2000, r, MPI_STATUSES_IGNORE);
+    for (int k = 0; k < 9; k++)
+        MPI_Sendrecv(big[0], 1 << 18, MPI_INT, next, 1, big[1], 1 << 18, MPI_INT, before, 1, WORLD, NO_STATUS);
     for (int k = 0; k < 2000; k++) check(got[k] == k, "many");
 }
 

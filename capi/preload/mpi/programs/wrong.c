@@ -196,9 +196,14 @@ static void neighbours(void) {
     if (!is_last()) MPI_Neighbor_alltoall(mine, 1, MPI_INT, got, 1, MPI_INT, ring);
 }
 
-/* Large messages before the receives: right only if MPI buffers them. */
+/* Messages before the receives: right only if MPI buffers them, which it does not if they are large. */
 static void heads(void) {
     MPI_Send(out, 100, MPI_BYTE, next, 9, WORLD);
+    MPI_Recv(in, sizeof in, MPI_BYTE, before, 9, WORLD, NO_STATUS);
+}
+
+static void large(void) {
+    MPI_Send(out, sizeof out, MPI_BYTE, next, 9, WORLD);
     MPI_Recv(in, sizeof in, MPI_BYTE, before, 9, WORLD, NO_STATUS);
 }
 
@@ -264,6 +269,7 @@ static const struct mode {
     {"mismatch", mismatch, 2, "abort",
      {"collective call 1 of MPI_COMM_WORLD: rank LAST calls MPI_Bcast with root 0 at .* in mismatch, rank 0 calls MPI_Barrier"}},
     {"threads", two_threads, 2, "", {"rank [0-9]+: two threads call MPI at the same time"}},
+    {"large", large, 2, "", {WAITS("0", "MPI_Send", "receive of 1, tag 9", "large")}},
     {"heads", heads, 2, "sync", {WAITS("0", "MPI_Send", "receive of 1, tag 9", "heads")}},
 #if MPI_VERSION >= 4
     {"partitions", partitions, 2, "", {WAITS("1", "MPI_Wait", "partitions from 0, tag 3", "partitions")}},
