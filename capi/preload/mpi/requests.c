@@ -75,7 +75,8 @@ void request_complete(struct request *request, const MPI_Status *status) {
     request_stop(request);
     if (request->is_cancelled) PMPI_Test_cancelled(status, &is_cancelled);
     if (request->kind == REQUEST_RECEIVE && is_cancelled && request->comm->synchronous) synchronous_settle(request->comm);
-    if (request->kind == REQUEST_RECEIVE && !is_cancelled && !request->is_received) consume(request->comm, status->MPI_SOURCE, status->MPI_TAG);
+    if (request->kind == REQUEST_RECEIVE && !is_cancelled && !request->is_received)
+        consume(request->comm, status->MPI_SOURCE, status->MPI_TAG);
     if ((request->kind == REQUEST_SEND || request->kind == REQUEST_SYNCHRONOUS) && is_cancelled) withdraw(request);
     if (request->duplicate) comm_track_as(*request->duplicate, request->duplicate_id);
     if (!request->is_persistent) request_drop(request);
