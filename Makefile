@@ -4,7 +4,7 @@
 # make test     every test and every program, without proofs: those in C, C++, Fortran and Python with the library of
 #               `make lib`, and the cases of the programs with those of `make` (some minutes; see docs/GATE.md)
 # make mpi      tree search with the detector for distributed programs, and Cholesky with a task graph in each process, over
-#               Open MPI, up to 16 processes (a few minutes)
+#               Open MPI, up to 16 processes (a few minutes); then the checker of MPI programs, over Open MPI and MPICH
 # make gate     the gate: every proof from scratch, its mutants, each test, each program (see docs/GATE.md; ANEW=1: nothing
 #               that an earlier run on this machine passed is reused)
 # make mutants  tries all mutants of the crates that changed (ALL=1: of every crate; CRATE=tp_wave: of one)
@@ -14,7 +14,7 @@
 #               each byte, and with random texts; the programs over borrowed data at a terminal; and random calls of the
 #               library for C, compared with a model
 # make lib      proves the library for other languages, and builds it: lib/libgerfmuod.a, libgerfmuod.so.0, the headers for C
-#               and C++, the module for Fortran and a pkg-config file
+#               and C++, the module for Fortran and a pkg-config file; if mpicc is installed, the checker of MPI programs, too
 # make bench    measures the cost of a step that a program in C reports to the library, and compares all programs with others
 #               that do the same; the quick form takes some minutes (FULL=1: all cases, stored as the numbers of
 #               docs/PERFORMANCE.md; see bench/README.md)
@@ -43,12 +43,18 @@ bin/tp: $(SOURCES) crates.txt
 bin/samples: $(SOURCES) crates.txt
 	@tools/dev build
 
-lib: lib/libgerfmuod.a
+MPICC ?= mpicc
+MPI_CHECK := $(if $(shell command -v $(MPICC)),lib/libgerfmuod_mpi_check.so)
+
+lib: lib/libgerfmuod.a $(MPI_CHECK)
 
 HEADERS := $(wildcard capi/include/* capi/fortran/*)
 
 lib/libgerfmuod.a: $(SOURCES) crates.txt $(HEADERS) $(wildcard capi/src/*.*)
 	@tools/dev lib
+
+lib/libgerfmuod_mpi_check.so: lib/libgerfmuod.a $(wildcard capi/preload/mpi/*)
+	@MPICC=$(MPICC) tools/dev mpi-check --build lib
 
 demo:
 	cd crates/tp && rt try --cases ../../tools/data/demo
@@ -58,6 +64,7 @@ test:
 
 mpi: lib/libgerfmuod.a
 	@tools/dev mpi
+	@tools/dev mpi-check
 
 # (one job per check: each further job of a check loads the libraries again)
 gate:

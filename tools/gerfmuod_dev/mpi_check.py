@@ -1,0 +1,130 @@
+"""Builds the checker of MPI programs, a library for LD_PRELOAD, and runs it under wrong and right programs.
+
+capi/preload/mpi has the library, and in programs/ the programs. Both are compiled for Open MPI and for MPICH, whichever is installed. A
+wrong program has to be reported with the call, the rank or tag, and the place of its mistake, a right one without a verdict; the file in
+JSON has to agree. The calls of mpi.h are compared with those that the library defines. --build FOLDER only builds the library for
+`mpicc`, or for the compiler that the variable MPICC names. --cost measures messages and MPI_Allreduce without and with it, and prints
+ratios. The last line is `N passed, M failed, K skipped`; the status is 1 if one failed.
+"""
+import collections
+import glob
+import json
+import os
+import re
+import shutil
+import subprocess
+import tempfile
+from concurrent.futures import ThreadPoolExecutor
+
+from . import library, repository, running
+from .c_programs import output_of
+from .mpi import ROOT
+
+FOLDER, NAME = "capi/preload/mpi", "libgerfmuod_mpi_check.so"
+OPTIONS = ["-std=gnu11", "-O2", "-Wall", "-Wextra", "-Werror", "-Wno-stringop-overflow", "-Icapi/include", "-Icapi"]
+LINK = ["-Llib", "-Wl,-Bstatic", "-lgerfmuod", "-Wl,-Bdynamic", "-ldl", "-Wl,-z,defs", f"-Wl,--version-script={FOLDER}/mpi_check.map"]
+Mpi = collections.namedtuple("Mpi", "name compiler fortran runner")
+MPIS = [
+    Mpi("Open MPI", "mpicc.openmpi", "mpifort.openmpi", "mpirun.openmpi --oversubscribe --mca mpi_yield_when_idle 0".split()),
+    Mpi("MPICH", "mpicc.mpich", "mpifort.mpich", ["mpirun.mpich"]),
+]
+FORTRAN_MODES = "right\t2\t\nwrong\t2\t\t: 0 +MPI_Recv +message from 1, tag 8, MPI_COMM_WORLD +\\S+ in \\w+\t4 bytes from rank 1, tag 7"
+VERDICT = re.compile(r"DEADLOCK|UNSAFE|LOST|MISMATCH|no verdict|bug of this library|without MPI_Finalize")
+# the calls that need not be defined: those that ask and set; files, windows and other processes; those of MPI 4
+UNDEFINED = re.compile(
+    r"MPI_(\w+_(coords|get|map|rank|shift|neighbors(_count)?|test(_inter)?|compare|size|group|c2f|get_parent|call_errhandler)"
+    r"|(Comm|Attr|Errhandler)_((get|set|delete)_?\w*|put|free)|Request_get_status|Unpack|Pack(_size)?|Grequest_\w+"
+    r"|File_\w+|Win_\w+|R(get|put|accumulate|get_accumulate)|Comm_(accept|connect|disconnect|join|spawn(_multiple)?)"
+    r"|\w+_c|Isendrecv(_replace)?|\w+_from_groups?|Comm_idup_with_info|(Neighbor_|All|Reduce_)\w+_init"
+    r"|(Barrier|Bcast|Exscan|Gatherv?|Reduce|Scan|Scatterv?)_init)"
+)
+
+
+def build(compiler, path):
+    output_of([compiler, *OPTIONS, "-shared", "-fPIC", *sorted(glob.glob(f"{FOLDER}/*.c")), *LINK, "-o", path])
+
+
+def programs(mpi, folder):
+    """Compiles the programs for an MPI; yields the path of each, and the list of its modes."""
+    for name in ("wrong", "right", "cost"):
+        output_of([mpi.compiler, *OPTIONS, "-O1", "-g", f"{FOLDER}/programs/{name}.c", "-o", f"{folder}/{name}"])
+        yield f"{folder}/{name}", "" if name == "cost" else output_of([f"{folder}/{name}", "modes"])
+    for name in ("fortran", "fortran_2008") if shutil.which(mpi.fortran) else ():
+        output_of([mpi.fortran, "-g", "-w", f"{FOLDER}/programs/{name}.f90", "-J", folder, "-o", f"{folder}/{name}"])
+        yield f"{folder}/{name}", FORTRAN_MODES
+
+
+def printed_by(mpi, count, program, **variables):
+    """Runs a program with this number of ranks; returns what it prints, or that it does not end."""
+    given = ["env", *(f"{name}={value}" for name, value in variables.items() if value)]
+    command = ["timeout", "-k", "5", "120", *mpi.runner, "-n", str(count), *given, *program]
+    result = running.run(command, stderr=subprocess.STDOUT, env={**os.environ, **ROOT})
+    return result.out.decode(errors="replace") + ("did not end" if result.status in (124, 137) else "")
+
+
+def judge(tally, mpi, folder, path, mode, count):
+    """Runs a mode of a program; counts whether what it prints, and writes as JSON, is what its row says."""
+    name, _, options, *patterns = mode.split("\t")
+    with tempfile.NamedTemporaryFile(dir=folder) as report:
+        variables = {"LD_PRELOAD": f"{folder}/{NAME}", "GERFMUOD_MPI": f"json={report.name},{options}"}
+        printed = printed_by(mpi, count, [path, name], **variables)
+        verdict = json.loads(repository.text_of(report.name) or '{"verdict": "none"}')["verdict"]
+    absent = [pattern for pattern in patterns if not re.search(pattern.replace("LAST", str(count - 1)), printed)]
+    is_well = "done" in printed and not VERDICT.search(printed) if not patterns else not absent
+    about = f"{mpi.name}, {count} ranks: {os.path.basename(path)} {name}: {verdict}; not printed: {absent}: "
+    tally.judge(is_well and (verdict == "ended") != bool(patterns), about + running.short(printed.encode(), 2000))
+
+
+def judge_names(tally, mpi, path):
+    header = [mpi.compiler, "-E", "-include", "mpi.h", "-x", "c", "/dev/null"]
+    calls = re.findall(r"\b(MPI_[A-Z]\w+) *\(([^;{}]*?)\)[^;(]*;", output_of(header))
+    declared = {name for name, types in calls if re.search(r"MPI_(Comm|Request|Message)\b", types)}
+    absent = declared - set(re.findall(r" T (MPI_\w+)", output_of(["nm", "-D", path])))
+    unnamed = sorted(name for name in absent if not UNDEFINED.fullmatch(name))
+    tally.judge(declared and not unnamed, f"{mpi.name}: not defined: {' '.join(unnamed)}")
+
+
+def print_cost(mpi, folder, program):
+    """Prints the best times of some runs without and with the library, in turns, and their ratios."""
+    best = {"": {}, f"{folder}/{NAME}": {}}
+    for preload, times in list(best.items()) * 5:
+        for name, time in re.findall(r"^(\S.*): (\S+) us$", printed_by(mpi, 2, [program], LD_PRELOAD=preload), re.M):
+            times[name] = min(times.get(name, float("inf")), float(time))
+    for name, (plain, checked) in {name: [times[name] for times in best.values()] for name in best[""]}.items():
+        print(f"{mpi.name}: {name}: {plain:.2f} us, with the library {checked:.2f} us: {checked / plain:.1f} times")
+
+
+def check(tally, mpi, folder, options):
+    build(mpi.compiler, f"{folder}/{NAME}")
+    judge_names(tally, mpi, f"{folder}/{NAME}")
+    runs = []
+    for path, mode in [(path, mode) for path, modes in programs(mpi, folder) for mode in modes.splitlines()]:
+        name, least, _, *patterns = mode.split("\t")
+        counts = [count for count in options.ranks if count >= int(least) and name in (options.only or [name])]
+        runs += [(path, mode, count) for count in counts] * ((20 if patterns else 100) if options.full else 1)
+    if options.cost:
+        return print_cost(mpi, folder, f"{folder}/cost")
+    with ThreadPoolExecutor(max(1, 4 * repository.processors() // max(options.ranks))) as pool:
+        return list(pool.map(lambda run: judge(tally, mpi, folder, *run), runs))
+
+
+def arguments(parser):
+    parser.add_argument("--full", action="store_true", help="20 runs of each wrong program, and 100 of each right one")
+    parser.add_argument("--ranks", type=int, nargs="+", default=[4], help="the numbers of ranks (4)")
+    parser.add_argument("--only", metavar="MODE", nargs="+", help="only the programs with these modes")
+    parser.add_argument("--cost", action="store_true", help="measure times without and with the library")
+    parser.add_argument("--build", metavar="FOLDER", help="only build the library, in this folder")
+
+
+def run(options):
+    repository.go_to_top()
+    if reason := library.reason_not_built():
+        raise SystemExit(f"{reason}: make lib builds the library")
+    if options.build:
+        return build(os.environ.get("MPICC", "mpicc"), f"{options.build}/{NAME}")
+    tally = running.Tally()
+    for mpi in MPIS:
+        if all(tally.has(command, f"the programs of {mpi.name}") for command in (mpi.compiler, mpi.runner[0])):
+            with tempfile.TemporaryDirectory() as folder:
+                check(tally, mpi, folder, options)
+    return tally.end()
