@@ -1,0 +1,130 @@
+/* messages.c: what the tool prints while the program runs, on standard error: a fault, what is left, and what hangs. */
+#include "tool.h"
+#include <dlfcn.h>
+#include <pthread.h>
+#include <stdarg.h>
+#include <stdio.h>
+#include <stdlib.h>
+#include <unistd.h>
+
+/* Of each list, the most lines; and the most faults that are printed. */
+enum { MOST_LINES = 20, MOST_FAULTS = 20, MOST_NAMES = 8 };
+#define S(count) ((count) == 1 ? "" : "s")
+static const char *const lives[] = {"was created", "waits", "is ready", "runs", "has an event that is not fulfilled", "is done", "was left"};
+
+/* Prints a line with one call of write, so that those of several threads do not mix. */
+void say(const char *form, ...) {
+    char text[1024] = "gerfmuod: ";
+    enum { START = 10 };
+    va_list rest;
+    va_start(rest, form);
+    int length = vsnprintf(text + START, sizeof text - START - 1, form, rest);
+    va_end(rest);
+    size_t end = length < 0 ? START : (size_t)length + START;
+    if (end > sizeof text - 2) end = sizeof text - 2;
+    text[end] = '\n';
+    if (write(STDERR_FILENO, text, end + 1) < 0) return;
+}
+
+/* Where a task was made: the program or library, the offset in it that addr2line takes, and the function if it is exported. */
+const char *place_of(const void *code, char room[512]) {
+    Dl_info about;
+    if (!code || !dladdr(code, &about) || !about.dli_fname) {
+        snprintf(room, 512, "%s", code ? "unknown code" : "a place that the runtime does not send");
+        return room;
+    }
+    const char *name = about.dli_fname;
+    for (const char *at = name; *at; at++)
+        if (*at == '/') name = at + 1;
+    size_t offset = (size_t)((const char *)code - (const char *)about.dli_fbase) - 1; /* inside of the call */
+    bool has_name = about.dli_sname != NULL;
+    snprintf(room, 512, "%.200s+0x%zx%s%.200s%s", name, offset, has_name ? " (" : "", has_name ? about.dli_sname : "", has_name ? ")" : "");
+    return room;
+}
+
+/* Prints the numbers of the tasks that a task waits for, or of those that wait for it. */
+static void say_names(const region *r, const task *t, bool after) {
+    char text[256] = "";
+    int length = 0, shown = 0;
+    for (const task *other = r->live.next; other != &r->live && shown <= MOST_NAMES; other = other->next) {
+        if (!(after ? waits_for(other, t) : waits_for(t, other))) continue;
+        if (shown++ == MOST_NAMES) length += snprintf(text + length, sizeof text - (size_t)length, ", ..");
+        else length += snprintf(text + length, sizeof text - (size_t)length, "%s%u", shown > 1 ? ", " : "", other->id);
+    }
+    if (!shown) return;
+    if (after) say("    task%s %s wait%s for it", S(shown), text, shown == 1 ? "s" : "");
+    else say("    it waits for task%s %s", S(shown), text);
+}
+
+static void say_task(const region *r, const task *t) {
+    char room[512];
+    const char *in = t->wait == ompt_sync_region_taskwait ? ", in a taskwait" : t->wait ? ", in a taskgroup" : "";
+    say("  task %u %s%s, made at %s", t->id, lives[t->life], t->life == RUNNING ? in : "", place_of(t->site ? t->site->code : NULL, room));
+    if (t->missing) say_names(r, t, false);
+    if (t->after.count) say_names(r, t, true);
+}
+
+/* Lists the tasks that are left: all, or the children of a task, or those of a taskgroup. Then the threads that are not waiting. */
+void list_left(region *r, const task *parent, const group *g) {
+    uint32_t shown = 0, count = 0;
+    for (const task *t = r->live.next; t != &r->live; t = t->next) {
+        if ((parent && t->parent != parent) || (g && t->group != g)) continue;
+        count++;
+        if (shown < MOST_LINES) shown++, say_task(r, t);
+    }
+    if (count > shown) say("  and %u more", count - shown);
+    for (uint32_t n = 0; n < r->size && !parent && !g; n++)
+        if (!r->arrived[n] && !r->is_ended) say("  thread %u has not come to the barrier", n);
+}
+
+void fault(region *r, task *t, const char *what, uint32_t refused) {
+    total.faults++;
+    if (r) r->is_broken = true;
+    if (total.faults > MOST_FAULTS) return;
+    char name[16] = "", room[512];
+    size_t length = refused ? gerfmuod_refusal_name(refused, name, sizeof name).length : 0;
+    say("FAULT: %s%s%.*s%s", what, refused ? " (the core: " : "", (int)length, name, refused ? ")" : "");
+    if (r && r->is_outer) say("  outside of parallel regions");
+    else if (r) say("  in the parallel region at %s, with %u thread%s, after %u barrier%s", place_of(r->code, room), r->size, S(r->size), r->phase, S(r->phase));
+    if (t && t->is_implicit) say("  thread %u", t->thread);
+    else if (t) say_task(t->region, t);
+    if (option.has_stop) abort();
+}
+
+/* Prints what each thread and task of a region that has tasks does, and what it waits for. */
+static void say_hang(region *r) {
+    char room[512];
+    if (!r->live_count) return;
+    say("%u tasks are left in %s", r->live_count, r->is_outer ? "the program, outside of parallel regions" : place_of(r->code, room));
+    list_left(r, r->team[0], NULL);
+    for (uint32_t n = 0; n < r->size; n++) {
+        const task *t = r->team[n];
+        const char *in = !t ? "has not begun" : t->wait == 0 ? "runs its own code, or a task" :
+                         t->wait == ompt_sync_region_taskwait ? "waits in a taskwait" :
+                         t->wait == ompt_sync_region_taskgroup ? "waits in a taskgroup" : "waits at a barrier";
+        say("  thread %u %s", n, in);
+    }
+}
+
+static void *watch(void *unused) {
+    uint64_t last = 0;
+    for (uint32_t quiet = 0;; sleep(1)) {
+        lock_tool();
+        quiet = total.events == last ? quiet + 1 : 0;
+        last = total.events;
+        if (quiet == option.hang) {
+            say("nothing has happened for %u seconds", option.hang);
+            for (region *r = regions.next; r != &regions; r = r->next) say_hang(r);
+            if (option.has_stop) abort();
+            if (option.status) _exit(option.status);
+        }
+        unlock_tool();
+    }
+    return unused;
+}
+
+void start_watch(void) {
+    pthread_t thread;
+    if (pthread_create(&thread, NULL, watch, NULL)) say("the watch for a program that hangs was not started");
+    else pthread_detach(thread);
+}

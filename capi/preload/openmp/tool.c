@@ -1,0 +1,271 @@
+/* tool.c: a tool of OMPT, OpenMP's tool interface: it checks the tasks of a program by the proved core of Gerfmuod.
+ *
+ * This file has the options, the lock, and the runtime's callbacks, which call the other files. The program is not changed:
+ *
+ *     OMP_TOOL_LIBRARIES=$PWD/libgerfmuod_ompt.so GERFMUOD_OMP=report ./program
+ *
+ * GERFMUOD_OMP has words with commas between them: report; hang=SECONDS; status=N, the exit status if there was a fault, or if
+ * the program hangs; stop, to abort at the first of these; trace=FILE; times=FILE; off. */
+#include "tool.h"
+#include <pthread.h>
+#include <stdio.h>
+#include <stdlib.h>
+#include <string.h>
+#include <time.h>
+#include <unistd.h>
+
+totals total;
+options option;
+static pthread_mutex_t lock = PTHREAD_ADAPTIVE_MUTEX_INITIALIZER_NP;
+static __thread worker self;
+static uint64_t started;
+
+uint64_t clock_now(void) {
+    struct timespec time;
+    clock_gettime(CLOCK_MONOTONIC, &time);
+    return (uint64_t)time.tv_sec * 1000000000u + (uint64_t)time.tv_nsec;
+}
+void lock_tool(void) { pthread_mutex_lock(&lock); }
+void unlock_tool(void) { pthread_mutex_unlock(&lock); }
+
+/* Adds the time since the thread's last event to the task that it ran, or to the wait. */
+static void count_time(worker *w, uint64_t now) {
+    task *t = w->now;
+    if (!t || t->id != w->id || t->life >= DONE) return;
+    uint64_t ns = now - w->since;
+    note_bar(w, now);
+    if (t->wait) total.waiting += ns;
+    else {
+        t->path += ns, t->ns += ns;
+        *(t->is_implicit ? &total.outside : &total.in_tasks) += ns;
+        if (total.span < t->path) total.span = t->path;
+    }
+}
+static void run_now(worker *w, task *t) { w->now = t, w->id = t ? t->id : 0; }
+
+worker *enter(void) {
+    uint64_t now = clock_now();
+    lock_tool();
+    if (!self.number) self.number = ++total.threads;
+    total.events++;
+    count_time(&self, now);
+    return &self;
+}
+void leave(worker *w) {
+    unlock_tool();
+    w->since = clock_now();
+}
+
+/* ---- parallel regions */
+
+static void on_parallel_begin(ompt_data_t *creator, const ompt_frame_t *frame, ompt_data_t *parallel, unsigned size, int flags,
+                              const void *code) {
+    (void)frame, (void)size, (void)flags;
+    worker *w = enter();
+    parallel->ptr = new_region(code, task_of(creator));
+    run_now(w, NULL);
+    leave(w);
+}
+static void on_parallel_end(ompt_data_t *parallel, ompt_data_t *creator, int flags, const void *code) {
+    (void)flags, (void)code;
+    worker *w = enter();
+    if (parallel->ptr) end_region(parallel->ptr);
+    parallel->ptr = NULL;
+    run_now(w, task_of(creator));
+    leave(w);
+}
+static void end_implicit_task(worker *w, ompt_data_t *data) {
+    task *t = task_of(data);
+    run_now(w, NULL);
+    if (!t) return;
+    region *r = t->region;
+    if (!r->is_ended && !r->arrived[t->thread]) arrive(r, t);
+    if (r->is_outer && t->flags) end_region(r);
+    r->team[t->thread] = NULL;
+    end_implicit(t);
+    drop_user(r);
+    data->value = 0;
+}
+static void on_implicit_task(ompt_scope_endpoint_t end, ompt_data_t *parallel, ompt_data_t *data, unsigned size, unsigned index,
+                             int flags) {
+    worker *w = enter();
+    if (end == ompt_scope_begin) {
+        bool is_outer = (flags & ompt_task_initial) && parallel && !parallel->ptr;
+        if (is_outer) parallel->ptr = new_region(NULL, NULL);
+        region *r = parallel ? parallel->ptr : NULL;
+        if (r) {
+            task *t = begin_implicit(r, is_outer ? 0 : index, is_outer ? 1 : size);
+            if (is_outer) r->is_outer = true, t->flags = ompt_task_initial;
+            data->value = handle_of(t);
+            run_now(w, t);
+        }
+    } else end_implicit_task(w, data);
+    leave(w);
+}
+
+/* ---- tasks */
+
+static void on_task_create(ompt_data_t *creator, const ompt_frame_t *frame, ompt_data_t *data, int flags, int has_dependences,
+                           const void *code) {
+    (void)frame;
+    if (!(flags & (ompt_task_explicit | ompt_task_target | ompt_task_taskwait))) return;
+    worker *w = enter();
+    task *parent = task_of(creator);
+    data->value = 0;
+    if (flags & ompt_task_target) total.devices++;
+    if (!parent || parent->life == LOST) total.orphans++;
+    else {
+        task *t = create_task(parent, flags, code);
+        data->value = handle_of(t);
+        if (!has_dependences) insert_task(t);
+    }
+    leave(w);
+}
+static void on_dependences(ompt_data_t *data, const ompt_dependence_t *clauses, int count) {
+    worker *w = enter();
+    task *t = task_of(data);
+    if (t && !t->is_inserted) {
+        take_dependences(t, clauses, count);
+        insert_task(t);
+    }
+    leave(w);
+}
+
+static void end_task(ompt_data_t *data, ompt_task_status_t status) {
+    task *t = task_of(data);
+    if (!t) { /* its memory was used again */
+        say("FAULT: task %u ended again", id_in(data->value));
+        total.faults++;
+        return;
+    }
+    if (t->is_implicit || t->life == LOST) return;
+    if (status == ompt_task_detach) t->life = DETACHED;
+    else {
+        if (status == ompt_taskwait_complete) begin_task(t);
+        finish_task(t, status == ompt_task_cancel);
+    }
+    if (status == ompt_taskwait_complete) data->value = 0;
+}
+static void on_task_schedule(ompt_data_t *before, ompt_task_status_t status, ompt_data_t *after) {
+    worker *w = enter();
+    bool is_end = status == ompt_task_complete || status == ompt_task_cancel || status == ompt_task_detach ||
+                  status == ompt_task_late_fulfill || status == ompt_taskwait_complete;
+    if (is_end && before && before->value) end_task(before, status);
+    task *next = task_of(after);
+    if (next && !next->is_implicit && next->life != RUNNING && next->life != LOST && next->life != DETACHED) begin_task(next);
+    if (next && status != ompt_task_late_fulfill && status != ompt_taskwait_complete) run_now(w, next);
+    leave(w);
+}
+
+/* ---- waits */
+
+static void on_taskwait(task *t, ompt_scope_endpoint_t end) {
+    if (end == ompt_scope_begin) return;
+    if (t->children && !t->region->is_broken) {
+        fault(t->region, t, "a taskwait ended, but children of the task are left", 0);
+        list_left(t->region, t, NULL);
+    }
+    if (t->path < t->children_path) t->path = t->children_path;
+}
+static void on_taskgroup(task *t, ompt_scope_endpoint_t end) {
+    group *g = t->group;
+    if (end == ompt_scope_begin) {
+        g = calloc(1, sizeof *g);
+        if (!g) abort();
+        g->outer = t->group, t->group = g;
+    } else if (g) {
+        if (g->left && !t->region->is_broken) {
+            fault(t->region, t, "a taskgroup ended, but tasks of it are left", 0);
+            list_left(t->region, NULL, g);
+        }
+        if (t->path < g->path) t->path = g->path;
+        t->group = g->outer;
+        if (!g->left) free(g);
+    }
+}
+static void on_sync_region(ompt_sync_region_t kind, ompt_scope_endpoint_t end, ompt_data_t *parallel, ompt_data_t *data,
+                           const void *code) {
+    (void)code;
+    if (kind == ompt_sync_region_reduction) return;
+    worker *w = enter();
+    task *t = task_of(data);
+    bool is_over = end == ompt_scope_end && !(parallel && parallel->ptr); /* the barrier of a region that has ended */
+    if (t && t->life != LOST) {
+        t->wait = end == ompt_scope_begin ? kind : 0;
+        if (kind == ompt_sync_region_taskwait) on_taskwait(t, end);
+        else if (kind == ompt_sync_region_taskgroup) on_taskgroup(t, end);
+        else if (t->is_implicit && !t->region->is_ended && !is_over) {
+            if (end == ompt_scope_begin) arrive(t->region, t);
+            else leave_barrier(t->region, t);
+        }
+        if (is_over) run_now(w, NULL);
+        else run_now(w, t);
+    }
+    leave(w);
+}
+static void on_cancel(ompt_data_t *data, int flags, const void *code) {
+    (void)code;
+    worker *w = enter();
+    task *t = task_of(data);
+    if (t && (flags & ompt_cancel_parallel) && !t->region->is_cancelled) t->region->is_cancelled = true, total.cancelled++;
+    leave(w);
+}
+
+/* ---- the start and the end */
+
+static int initialize(ompt_function_lookup_t lookup, int device, ompt_data_t *data) {
+    (void)device, (void)data;
+    ompt_set_callback_t set = (ompt_set_callback_t)lookup("ompt_set_callback");
+    const struct { ompt_callbacks_t event; ompt_callback_t function; const char *name; } callbacks[] = {
+        {ompt_callback_parallel_begin, (ompt_callback_t)on_parallel_begin, "parallel regions"},
+        {ompt_callback_parallel_end, (ompt_callback_t)on_parallel_end, "ends of parallel regions"},
+        {ompt_callback_implicit_task, (ompt_callback_t)on_implicit_task, "implicit tasks"},
+        {ompt_callback_task_create, (ompt_callback_t)on_task_create, "creations of tasks"},
+        {ompt_callback_dependences, (ompt_callback_t)on_dependences, "dependences"},
+        {ompt_callback_task_schedule, (ompt_callback_t)on_task_schedule, "begins and ends of tasks"},
+        {ompt_callback_sync_region, (ompt_callback_t)on_sync_region, "barriers, taskwaits and taskgroups"},
+        {ompt_callback_cancel, (ompt_callback_t)on_cancel, "cancellations"},
+    };
+    started = clock_now();
+    for (size_t n = 0; n < sizeof callbacks / sizeof *callbacks; n++) {
+        ompt_set_result_t result = set(callbacks[n].event, callbacks[n].function);
+        if (result == ompt_set_error || result == ompt_set_never || result == ompt_set_impossible)
+            say("the runtime does not send %s", callbacks[n].name);
+    }
+    if (option.hang) start_watch();
+    return 1;
+}
+static void finalize(ompt_data_t *data) {
+    (void)data;
+    enter();
+    uint64_t elapsed = clock_now() - started;
+    print_report(elapsed);
+    write_times(started, elapsed);
+    bool has_failed = total.faults && option.status;
+    unlock_tool();
+    if (!has_failed) return;
+    fflush(NULL);
+    _exit(option.status);
+}
+
+static void take_word(const char *word) {
+    if (!strcmp(word, "report")) option.has_report = true;
+    else if (!strcmp(word, "stop")) option.has_stop = true;
+    else if (!strncmp(word, "hang=", 5)) option.hang = (uint32_t)strtoul(word + 5, NULL, 10);
+    else if (!strncmp(word, "status=", 7)) option.status = atoi(word + 7);
+    else if (!strncmp(word, "trace=", 6)) snprintf(option.trace, sizeof option.trace, "%s", word + 6);
+    else if (!strncmp(word, "times=", 6)) snprintf(option.times, sizeof option.times, "%s", word + 6);
+    else say("GERFMUOD_OMP has a word that is not known: %s", word);
+}
+__attribute__((visibility("default"))) ompt_start_tool_result_t *ompt_start_tool(unsigned version, const char *runtime) {
+    (void)version, (void)runtime;
+    static ompt_start_tool_result_t result = {initialize, finalize, {0}};
+    const char *words = getenv("GERFMUOD_OMP");
+    char copy[1280], *rest;
+    snprintf(copy, sizeof copy, "%s", words ? words : "");
+    for (char *word = strtok_r(copy, ",", &rest); word; word = strtok_r(NULL, ",", &rest)) {
+        if (!strcmp(word, "off")) return NULL;
+        take_word(word);
+    }
+    return &result;
+}
