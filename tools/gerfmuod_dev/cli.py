@@ -5,11 +5,11 @@ They work on the repository that they are in, from whatever folder they are call
 import argparse
 
 from . import bench, build, capi, checks, dag_programs, docs, drawn, lanes, library, limits, lines
-from . import mpi, mutants, new_pool, pages, plots, proved, soak, summary, tries
+from . import mpi, mutants, new_pool, ompt, pages, plots, proved, soak, summary, tries
 from .shipping import manual, package
 
 COMMANDS = {
-    "build": build, "lib": library, "test": checks, "capi": capi, "dag": dag_programs, "mpi": mpi, "try": tries,
+    "build": build, "lib": library, "test": checks, "capi": capi, "dag": dag_programs, "mpi": mpi, "ompt": ompt, "try": tries,
     "pages": pages, "mutants": mutants, "lanes": lanes, "lines": lines, "docs": docs, "proved": proved, "draw": drawn, "plot": plots,
     "summary": summary, "new-pool": new_pool, "soak": soak, "bench": bench, "manual": manual,
     "package": package,

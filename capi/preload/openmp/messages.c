@@ -8,9 +8,11 @@
 #include <unistd.h>
 
 /* Of each list, the most lines; and the most faults that are printed. */
-enum { MOST_LINES = 20, MOST_FAULTS = 20, MOST_NAMES = 8 };
+enum { MOST_LINES = 8, MOST_FAULTS = 20, MOST_NAMES = 8 };
 #define S(count) ((count) == 1 ? "" : "s")
-static const char *const lives[] = {"was created", "waits", "is ready", "runs", "has an event that is not fulfilled", "is done", "was left"};
+static const char *const lives[] = {
+    "was created", "waits", "is ready", "runs", "has an event that is not fulfilled", "is done", "was left",
+};
 
 /* Prints a line with one call of write, so that those of several threads do not mix. */
 void say(const char *form, ...) {
@@ -57,24 +59,31 @@ static void say_names(const region *r, const task *t, bool after) {
 }
 
 static void say_task(const region *r, const task *t) {
-    char room[512];
-    const char *in = t->wait == ompt_sync_region_taskwait ? ", in a taskwait" : t->wait ? ", in a taskgroup" : "";
-    say("  task %u %s%s, made at %s", t->id, lives[t->life], t->life == RUNNING ? in : "", place_of(t->site ? t->site->code : NULL, room));
+    char room[512], maker[32] = "";
+    const char *in = t->life != RUNNING || !t->wait ? "" : t->wait == ompt_sync_region_taskwait ? " in a taskwait" : " in a taskgroup";
+    if (t->parent && !t->parent->is_implicit) snprintf(maker, sizeof maker, " by task %u", t->parent->id);
+    say("  task %u %s%s; made%s at %s", t->id, lives[t->life], in, maker, place_of(t->site ? t->site->code : NULL, room));
     if (t->missing) say_names(r, t, false);
     if (t->after.count) say_names(r, t, true);
 }
 
-/* Lists the tasks that are left: all, or the children of a task, or those of a taskgroup. Then the threads that are not waiting. */
-void list_left(region *r, const task *parent, const group *g) {
+/* Lists tasks that are left: all, or the children of a task, or those of a taskgroup. */
+static void list_tasks(const region *r, const task *parent, const group *g) {
     uint32_t shown = 0, count = 0;
     for (const task *t = r->live.next; t != &r->live; t = t->next) {
-        if ((parent && t->parent != parent) || (g && t->group != g)) continue;
+        if ((parent && t->parent != parent) || (g && t->member_of != g)) continue;
         count++;
         if (shown < MOST_LINES) shown++, say_task(r, t);
     }
     if (count > shown) say("  and %u more", count - shown);
-    for (uint32_t n = 0; n < r->size && !parent && !g; n++)
-        if (!r->arrived[n] && !r->is_ended) say("  thread %u has not come to the barrier", n);
+}
+
+/* The same for a fault; if it is of the region, also the threads that have not come to its barrier. */
+void list_left(const region *r, const task *parent, const group *g) {
+    if (total.faults > MOST_FAULTS) return;
+    list_tasks(r, parent, g);
+    for (uint32_t n = 0; n < r->size && !parent && !g && !r->is_ended; n++)
+        if (!r->arrived[n]) say("  thread %u has not come to the barrier", n);
 }
 
 void fault(region *r, task *t, const char *what, uint32_t refused) {
@@ -85,7 +94,9 @@ void fault(region *r, task *t, const char *what, uint32_t refused) {
     size_t length = refused ? gerfmuod_refusal_name(refused, name, sizeof name).length : 0;
     say("FAULT: %s%s%.*s%s", what, refused ? " (the core: " : "", (int)length, name, refused ? ")" : "");
     if (r && r->is_outer) say("  outside of parallel regions");
-    else if (r) say("  in the parallel region at %s, with %u thread%s, after %u barrier%s", place_of(r->code, room), r->size, S(r->size), r->phase, S(r->phase));
+    else if (r)
+        say("  in the parallel region at %s, with %u thread%s, after %u barrier%s", place_of(r->code, room), r->size, S(r->size),
+            r->phase, S(r->phase));
     if (t && t->is_implicit) say("  thread %u", t->thread);
     else if (t) say_task(t->region, t);
     if (option.has_stop) abort();
@@ -94,9 +105,10 @@ void fault(region *r, task *t, const char *what, uint32_t refused) {
 /* Prints what each thread and task of a region that has tasks does, and what it waits for. */
 static void say_hang(region *r) {
     char room[512];
-    if (!r->live_count) return;
-    say("%u tasks are left in %s", r->live_count, r->is_outer ? "the program, outside of parallel regions" : place_of(r->code, room));
-    list_left(r, r->team[0], NULL);
+    if (r->is_outer && !r->live_count) return;
+    say("%u task%s left in %s", r->live_count, r->live_count == 1 ? " is" : "s are",
+        r->is_outer ? "the program, outside of parallel regions" : place_of(r->code, room));
+    list_tasks(r, NULL, NULL);
     for (uint32_t n = 0; n < r->size; n++) {
         const task *t = r->team[n];
         const char *in = !t ? "has not begun" : t->wait == 0 ? "runs its own code, or a task" :

@@ -57,8 +57,9 @@ void leave_barrier(region *r, task *t) {
         r->phase = t->phase;
         if (r->is_cancelled) r->is_unjudged = true;
         else if (r->came < r->size) {
-            fault(r, NULL, "a thread left a barrier that others have not come to", 0);
-            say("  %u of %u threads have", r->came, r->size);
+            fault(r, t, "a thread left a barrier that others have not come to", 0);
+            list_left(r, NULL, NULL);
+            r->is_cancelled = true; /* the threads are no longer between the same barriers */
         }
         judge_end(r, "a thread left a barrier, but work is left");
         r->came = 0;
@@ -69,7 +70,7 @@ void leave_barrier(region *r, task *t) {
 }
 
 void end_region(region *r) {
-    r->is_ended = true;
+    r->is_ended = true, r->ended = clock_now();
     judge_end(r, "a parallel region ended, but work is left");
     task *creator = task_by(r->creator);
     if (creator && creator->path < r->path) creator->path = r->path;

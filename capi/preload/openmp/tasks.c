@@ -75,21 +75,23 @@ task *create_task(task *parent, int flags, const void *code) {
     region *r = parent->region;
     open_core(r);
     task *t = new_task(r, parent);
-    t->group = parent->group, t->flags = flags, t->path = parent->path, t->site = site_of(code);
+    t->member_of = t->group = parent->group, t->flags = flags, t->path = parent->path, t->site = site_of(code);
     t->site->tasks++;
     put_last(&r->live, t);
     r->live_count++, parent->children++;
-    if (t->group) t->group->left++;
+    if (t->member_of) t->member_of->left++;
     return t;
 }
 
 void insert_task(task *t) {
     const task *parent = t->parent;
-    bool is_late = parent->is_implicit ? t->region->arrived[parent->thread] : parent->life >= DONE;
-    const char *late = parent->is_implicit ? "a thread that has come to the barrier made a task" : "a task that is done made a task";
+    const char *what = "a task was made";
+    if (parent->is_implicit && t->region->arrived[parent->thread]) what = "a thread that has come to the barrier made a task";
+    else if (parent->life < RUNNING) what = "a task that has not begun made a task";
+    else if (parent->life != RUNNING) what = "a task that ended made a task";
     t->inputs = t->missing < GERFMUOD_MAX_INPUTS ? t->missing : GERFMUOD_MAX_INPUTS;
     t->number = t->region->numbers++, t->epoch = t->region->epoch;
-    judge(t, GERFMUOD_STEP_INSERT, parent, is_late ? late : "a task was made");
+    judge(t, GERFMUOD_STEP_INSERT, parent, what);
     t->is_inserted = true, t->life = t->missing ? WAITING : READY;
 }
 
@@ -139,7 +141,7 @@ static void take_from_live(task *t) {
     take_out(t);
     t->region->live_count--, parent->children--;
     longer(&parent->children_path, t->path);
-    if (t->group) t->group->left--, longer(&t->group->path, t->path);
+    if (t->member_of) t->member_of->left--, longer(&t->member_of->path, t->path);
     end_exclusion(t);
     release_task(parent);
 }
@@ -155,7 +157,7 @@ void finish_task(task *t, bool is_cancelled) {
         judge_again(t, GERFMUOD_STEP_DONE, "a task ended twice");
         return;
     }
-    if (is_cancelled && t->life < RUNNING) begin_task(t); /* discarded: its body did not run */
+    if ((is_cancelled || r->is_cancelled) && t->life < RUNNING) begin_task(t); /* discarded: its body did not run */
     const char *what = t->life < RUNNING ? "a task ended that had not begun" : "a task ended";
     for (uint32_t n = 0; n < t->after.count; n++) supply(t->after.tasks[n], t, what);
     judge(t, GERFMUOD_STEP_DONE, NULL, what);

@@ -32,6 +32,8 @@ void unlock_tool(void) { pthread_mutex_unlock(&lock); }
 static void count_time(worker *w, uint64_t now) {
     task *t = w->now;
     if (!t || t->id != w->id || t->life >= DONE) return;
+    if (t->region->is_ended) now = t->region->ended; /* the thread is told later that the last barrier ended */
+    if (now <= w->since) return;
     uint64_t ns = now - w->since;
     note_bar(w, now);
     if (t->wait) total.waiting += ns;
@@ -113,8 +115,8 @@ static void on_task_create(ompt_data_t *creator, const ompt_frame_t *frame, ompt
     task *parent = task_of(creator);
     data->value = 0;
     if (flags & ompt_task_target) total.devices++;
-    if (!parent || parent->life == LOST) total.orphans++;
-    else {
+    if (!parent) total.orphans += !total.faults;
+    else if (parent->life != LOST) {
         task *t = create_task(parent, flags, code);
         data->value = handle_of(t);
         if (!has_dependences) insert_task(t);
@@ -124,7 +126,8 @@ static void on_task_create(ompt_data_t *creator, const ompt_frame_t *frame, ompt
 static void on_dependences(ompt_data_t *data, const ompt_dependence_t *clauses, int count) {
     worker *w = enter();
     task *t = task_of(data);
-    if (t && !t->is_inserted) {
+    if (t && t->is_implicit) total.ordered += (uint64_t)count; /* of the iterations of a loop */
+    else if (t && !t->is_inserted) {
         take_dependences(t, clauses, count);
         insert_task(t);
     }

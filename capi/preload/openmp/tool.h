@@ -59,7 +59,7 @@ typedef struct task {
     address **addresses;                   /* a hash table: what its children's clauses name */
     uint32_t buckets, named;
     hold *holds;
-    group *group;
+    group *member_of, *group; /* the taskgroup that it is of, and that of its children */
     site *site;
     uint32_t id, slot, number, epoch; /* its number; that of its memory; that in the core, and which core that is */
     uint32_t missing, inputs, given;
@@ -83,7 +83,7 @@ typedef struct region {
     task live;
     uint64_t creator; /* a handle */
     const void *code;
-    uint64_t path;
+    uint64_t path, ended; /* the time of its end */
     struct region *next, *previous;
 } region;
 
@@ -158,7 +158,7 @@ void close_core(region *r);
 void say(const char *form, ...) __attribute__((format(printf, 1, 2)));
 const char *place_of(const void *code, char room[512]);
 void fault(region *r, task *t, const char *what, uint32_t refused);
-void list_left(region *r, const task *parent, const group *g);
+void list_left(const region *r, const task *parent, const group *g);
 void start_watch(void);
 
 /* report.c */

@@ -3,10 +3,10 @@
  *
  *     drop:N     the Nth task is never reported to begin or end
  *     twice:N    the Nth task is reported to end twice
- *     early:N    the Nth task with dependences is reported to begin when it is made
- *     wait:N     the Nth taskwait is reported to end when it begins
- *     group:N    the same of a taskgroup, at its first task
- *     barrier:N  the same of a barrier */
+ *     early:N    the next task with dependences needs the Nth one, which the runtime does not know, and the Nth does not begin
+ *     wait:N     a taskwait of the creator of the Nth task is reported to end when the task is made
+ *     group:N    a taskgroup is reported to end then
+ *     barrier:N  a thread that comes to a barrier, as the Nth, is reported to leave it at once */
 #include <dlfcn.h>
 #include <omp-tools.h>
 #include <pthread.h>
@@ -33,6 +33,13 @@ static bool is_next(const char *name) {
     pthread_mutex_unlock(&lock);
     return found;
 }
+/* Whether the event after it comes next. */
+static bool is_after(const char *name) {
+    pthread_mutex_lock(&lock);
+    bool found = !strcmp(kind, name) && count == number + 1;
+    pthread_mutex_unlock(&lock);
+    return found;
+}
 static bool is_victim(const char *name, const ompt_data_t *data) {
     pthread_mutex_lock(&lock);
     bool found = data && data == victim && !strcmp(kind, name);
@@ -49,13 +56,22 @@ static void on_create(ompt_data_t *creator, const ompt_frame_t *frame, ompt_data
     create(creator, frame, data, flags, has_deps, code);
     if ((flags & ompt_task_explicit) && (is_next("drop") || is_next("twice"))) choose(data);
     if (is_next("group")) sync_region(ompt_sync_region_taskgroup, ompt_scope_end, NULL, creator, code);
+    if (is_next("wait")) sync_region(ompt_sync_region_taskwait, ompt_scope_end, NULL, creator, code);
 }
 static void on_dependences(ompt_data_t *data, const ompt_dependence_t *list, int length) {
+    static char hidden;
+    ompt_dependence_t longer[20];
+    bool is_first = is_next("early"), is_one = is_first || is_after("early");
+    if (is_first) choose(data);
+    if (is_one && length < 20) {
+        memcpy(longer, list, (size_t)length * sizeof *list);
+        longer[length] = (ompt_dependence_t){{.ptr = &hidden}, ompt_dependence_type_inout};
+        list = longer, length++;
+    }
     dependences(data, list, length);
-    if (is_next("early")) schedule(NULL, ompt_task_switch, data);
 }
 static void on_schedule(ompt_data_t *before, ompt_task_status_t status, ompt_data_t *after) {
-    if (is_victim("drop", before) || is_victim("drop", after)) return;
+    if (is_victim("drop", before) || is_victim("drop", after) || is_victim("early", before) || is_victim("early", after)) return;
     bool is_twice = status == ompt_task_complete && is_victim("twice", before);
     ompt_data_t copy = before ? *before : (ompt_data_t){0};
     schedule(before, status, after);
@@ -65,9 +81,8 @@ static void on_schedule(ompt_data_t *before, ompt_task_status_t status, ompt_dat
 }
 static void on_sync(ompt_sync_region_t region, ompt_scope_endpoint_t end, ompt_data_t *parallel, ompt_data_t *data, const void *code) {
     sync_region(region, end, parallel, data, code);
-    bool is_barrier = region != ompt_sync_region_taskwait && region != ompt_sync_region_taskgroup;
-    if (end != ompt_scope_begin || region == ompt_sync_region_taskgroup || region == ompt_sync_region_reduction) return;
-    if (is_next(is_barrier ? "barrier" : "wait")) sync_region(region, ompt_scope_end, parallel, data, code);
+    bool is_other = region == ompt_sync_region_taskwait || region == ompt_sync_region_taskgroup || region == ompt_sync_region_reduction;
+    if (end == ompt_scope_begin && !is_other && is_next("barrier")) sync_region(region, ompt_scope_end, parallel, data, code);
 }
 
 static ompt_set_result_t set(ompt_callbacks_t event, ompt_callback_t function) {

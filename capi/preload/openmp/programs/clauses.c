@@ -124,12 +124,11 @@ int main(void) {
         }
 #pragma omp barrier
 #pragma omp single nowait
-        {
-            kinds();
-            detached();
-        }
+        kinds();
 #pragma omp single
-        nested();
+        if (omp_get_num_threads() > 1) nested(); /* (in a team of one thread libomp 14 aborts here, with and without a tool) */
+#pragma omp single
+        detached();
     }
     exclusive(); /* outside of a parallel region */
     printf("%s\n", wrong ? "WRONG" : "as it should be");

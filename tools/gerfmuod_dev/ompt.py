@@ -1,0 +1,117 @@
+"""Compiles the tool for OpenMP programs, capi/preload/openmp, with its programs, and tries it.
+
+Sound programs have to pass with 1, 4 and 12 threads, also one that gcc compiled, and with the tool under ThreadSanitizer. A broken
+runtime, changed events of a sound one, and a program that hangs have to be named; a trace has to be sound. With --full two programs
+run 50 times with each number of threads, and two million tasks between two barriers. Needs the library of `make lib`, clang and its
+libomp (`tools/bench-packages` prints the packages): what is missing is skipped, and counted. With --cost it only prints what the tool
+costs. The last line is `N passed, M failed, K skipped`; the status is 1 if one failed.
+"""
+import os
+import re
+import subprocess
+import tempfile
+
+from . import library, repository, running, summary
+from .c_programs import compiles, start, succeeds
+from .running import Tally
+
+FOLDER, WHAT = "capi/preload/openmp", "the tool for OpenMP programs"
+TOOL, BREAKER = "libgerfmuod_ompt.so", "libbroken.so"
+# the runtime of Debian's clang, for a program that gcc compiled
+OMP = "/usr/lib/x86_64-linux-gnu/libomp.so.5"
+THREADS = [1, 4, 12]
+EARLY, TWICE = "a task began before what it depends on was done .the core: WrongLife", "a task ended twice .the core: WrongLife"
+WAIT, GROUP = "a taskwait ended, but children of the task are left", "a taskgroup ended, but tasks of it are left"
+LEFT, CAME = f"{WAIT}|{GROUP}|a task that has not begun made a task", "a thread left a barrier that others have not come to"
+NOT_IDLE, TASK = "but work is left .the core: NotIdle", r".*(\n.*)*task "
+# programs and patterns of what is printed. In the first table nothing is wrong; in the second the runtime is: one that is written for
+# it, or events of a sound one, of which the one that is named before the program was changed
+SOUND = {
+    "cholesky 8 32": "factored", "fibonacci 15": "610", "sort 100000": "sorted", "nqueens 8": "92", "strassen 256": "multiplied",
+    "sparselu 12 16": "decomposed", "clauses": "as it should be", "barriers 1000 10": "10000", "mock ok": "6 tasks, 5 dependences",
+}
+BROKEN = {
+    "mock drop": f"{NOT_IDLE}{TASK}6 is ready", "mock early": f"{EARLY}{TASK}5 waits", "mock twice": f"{TWICE}{TASK}3 is done",
+    "mock wait": f"{WAIT}{TASK}6 is ready", "mock group": f"{GROUP}{TASK}6 is ready", "mock barrier": f"{NOT_IDLE}{TASK}6 is ready",
+    "mock late": "a thread that has come to the barrier made a task .the core: NoMaker", "mock both": "one ran that it excludes",
+    "mock again": "a task that is done began again .the core: WrongLife", "mock unbegun": "that had not begun .the core: NoMaker",
+    "drop:40 cholesky 6 16": EARLY, "drop:40 sparselu 8 16": EARLY, "drop:40 sort 50000": LEFT, "drop:40 fibonacci 12": LEFT,
+    "early:30 cholesky 6 16": f"{EARLY}{TASK}.*(\n.*)*for tasks? .*30", "early:40 sparselu 8 16": f"{EARLY}{TASK}.*(\n.*)*for tasks? .*40",
+    "twice:50 cholesky 6 16": f"{TWICE}{TASK}50 is done", "twice:9 sort 50000": f"{TWICE}{TASK}9 is done", "wait:3 strassen 256": WAIT,
+    "twice:50 strassen 128": f"{TWICE}{TASK}50 is done", "wait:20 fibonacci 12": WAIT, "wait:20 sort 50000": WAIT,
+    "group:30 nqueens 6": GROUP, "drop:30 nqueens 6": LEFT, "barrier:2 barriers 1000 10": CAME, "barrier:2 sparselu 8 16": CAME,
+}
+HANGS = r"task 1 has an event that is not fulfilled.*\n.*task 2 waits for it(.*\n)*.*thread 0 waits at a barrier"
+CHECKED = ["CFLAGS=-O1 -g -fsanitize=thread", "PROGRAM_CFLAGS=-O1", "LDFLAGS=-fsanitize=thread"]
+
+
+def make(folder, *options):
+    return ["make", "-s", "-j4", "-C", FOLDER, f"OUT={folder}", f"LIBRARY={os.path.abspath('lib')}", "programs", *options]
+
+
+def expect(tally, folder, command, status, text, threads=4, words="status=3", **more):
+    """Runs a program with the tool, and counts whether it ends with this status and prints a pattern, and of faults what it should."""
+    how, name, *arguments = command.split() if ":" in command else ["", *command.split()]
+    own = {"OMP_NUM_THREADS": str(threads), "OMP_TOOL_LIBRARIES": f"{folder}/{BREAKER if how else TOOL}", "GERFMUOD_OMP": words}
+    environment = {**os.environ, **own, "BROKEN": how, "BROKEN_TOOL": f"{folder}/{TOOL}", **more}
+    result = start([f"{folder}/{name}", *arguments], env=environment, timeout=tally.seconds)
+    output = result.out.decode(errors="replace")
+    is_well = result.status == status and re.search(text, output) and (status or "; 0 faults\n" in output)
+    tally.judge(is_well, f"{command}, {threads} threads: status {result.status}, expected {status} and {text}: {output[:2000]}")
+
+
+def try_files(tally, folder):
+    """Has the tool write a trace and times, and checks both."""
+    words = f"report,trace={folder}/t,times={folder}/j"
+    expect(tally, folder, "cholesky 8 32", 0, "120 tasks, 252 dependences(.*\n)*.*longest path", 4, words)
+    tally.judge(summary.summary(repository.text_of(f"{folder}/j")), "no times")
+    if os.path.exists("bin/tp"):
+        judged = running.run(["bin/tp", "audit"], stdin=f"{folder}/t")
+        tally.judge(not judged.status, f"bin/tp audit of the trace of cholesky: {judged.description()}")
+
+
+def try_others(tally, folder):
+    """Tries a program that gcc compiled, over libomp, and the tool with ThreadSanitizer."""
+    if os.path.exists(OMP) and tally.has("gcc", "a program that gcc compiled"):
+        compiles(tally, ["gcc", "-O2", "-fopenmp", f"{FOLDER}/programs/fibonacci.c", "-o", f"{folder}/gcc"])
+        expect(tally, folder, "gcc 15", 0, "1972 tasks, 0 dependences; 1 end judged", LD_PRELOAD=OMP)
+    with tempfile.TemporaryDirectory() as own:
+        for command in ("clauses", "cholesky 6 16", "fibonacci 10", "sort 20000") if compiles(tally, make(own, *CHECKED)) else ():
+            expect(tally, own, command, 0, SOUND.get(command, ""), 12, "hang=60", TSAN_OPTIONS="ignore_noninstrumented_modules=1")
+
+
+def try_all(tally, folder, is_full):
+    for command, text in BROKEN.items():
+        expect(tally, folder, command, 3, text)
+    expect(tally, folder, "hang", 3, HANGS, 2, "hang=1,status=3")
+    try_files(tally, folder)
+    try_others(tally, folder)
+    long = ["cholesky 8 32", "fibonacci 15"] * (49 if is_full else 0)
+    for command, threads in ((command, threads) for threads in THREADS for command in [*SOUND, *long]):
+        expect(tally, folder, command, 0, SOUND[command], threads)
+    count = 2_000_000 if is_full else 400_000
+    expect(tally, folder, f"barriers {count} 1", 0, f"{count} tasks(.*\n)*.*a core was full, and a new one went on")
+    print(f"{len(BROKEN) + 1} faults named; {len(SOUND)} sound programs with {THREADS} threads; {count:,} tasks between two barriers")
+
+
+def arguments(parser):
+    parser.add_argument("--full", action="store_true", help="the long form: 50 runs, and two million tasks")
+    parser.add_argument("--cost", type=int, metavar="ROUNDS", help="measure what the tool costs, on a machine at rest")
+
+
+def run(options):
+    repository.go_to_top()
+    tally, reason = Tally(), library.reason_not_built()
+    with tempfile.TemporaryDirectory() as folder:
+        source = running.write(f"{folder}/a.c", "#include <omp-tools.h>\nint main(void) { return 0; }\n")
+        if not tally.has("clang", WHAT):
+            return tally.end()
+        if not succeeds(["clang", "-fopenmp", source, "-o", f"{folder}/a"]):
+            tally.skips(WHAT, "libomp-dev")
+        elif reason:
+            tally.fails(f"{reason}: {WHAT} was not linked. make lib builds it")
+        elif compiles(tally, make(folder)) and options.cost:
+            return subprocess.run([f"{folder}/cost", f"{folder}/{TOOL}", str(options.cost)], check=False).returncode
+        else:
+            try_all(tally, folder, options.full)
+    return tally.end()
