@@ -118,14 +118,19 @@ static void on_task_create(ompt_data_t *creator, const ompt_frame_t *frame, ompt
     if (!parent) total.orphans += !total.faults;
     else if (parent->life != LOST) {
         task *t = create_task(parent, flags, code);
-        data->value = handle_of(t);
+        if (flags & ompt_task_taskwait) parent->waiter = handle_of(t);
+        else data->value = handle_of(t);
         if (!has_dependences) insert_task(t);
     }
     leave(w);
 }
+/* The taskwait with dependences that the thread is in. (The runtime has one word a thread for them, and asserts that it is 0 when
+ * one begins: but while a thread is in one, it may run a task that has another. So the tool leaves that word alone.) */
+static task *taskwait_of(const worker *w) { return w->now && w->now->id == w->id ? task_by(w->now->waiter) : NULL; }
+
 static void on_dependences(ompt_data_t *data, const ompt_dependence_t *clauses, int count) {
     worker *w = enter();
-    task *t = task_of(data);
+    task *t = data->value ? task_of(data) : taskwait_of(w);
     if (t && t->is_implicit) total.ordered += (uint64_t)count; /* of the iterations of a loop */
     else if (t && !t->is_inserted) {
         take_dependences(t, clauses, count);
@@ -143,16 +148,20 @@ static void end_task(ompt_data_t *data, ompt_task_status_t status) {
     }
     if (t->is_implicit || t->life == LOST) return;
     if (status == ompt_task_detach) t->life = DETACHED;
-    else {
-        if (status == ompt_taskwait_complete) begin_task(t);
-        finish_task(t, status == ompt_task_cancel);
-    }
-    if (status == ompt_taskwait_complete) data->value = 0;
+    else finish_task(t, status == ompt_task_cancel);
+}
+static void end_taskwait(task *t) {
+    if (!t) return;
+    t->parent->waiter = 0;
+    if (t->life == LOST) return;
+    begin_task(t);
+    finish_task(t, false);
 }
 static void on_task_schedule(ompt_data_t *before, ompt_task_status_t status, ompt_data_t *after) {
     worker *w = enter();
     bool is_end = status == ompt_task_complete || status == ompt_task_cancel || status == ompt_task_detach ||
-                  status == ompt_task_late_fulfill || status == ompt_taskwait_complete;
+                  status == ompt_task_late_fulfill;
+    if (status == ompt_taskwait_complete) end_taskwait(taskwait_of(w));
     if (is_end && before && before->value) end_task(before, status);
     task *next = task_of(after);
     if (next && !next->is_implicit && next->life != RUNNING && next->life != LOST && next->life != DETACHED) begin_task(next);

@@ -69,6 +69,7 @@ typedef struct task {
     life life;
     ompt_sync_region_t wait; /* the construct that it waits in, or 0 */
     bool is_inserted, is_implicit, is_free;
+    uint64_t waiter; /* the handle of its taskwait with dependences, which the runtime reports as a task */
     uint64_t path, children_path, ns; /* the longest path of work to here, and to the end of a child; the time of its body */
 } task;
 
