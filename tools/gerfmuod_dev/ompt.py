@@ -2,10 +2,11 @@
 
 Sound programs have to pass with 1, 4 and 12 threads, also one that gcc compiled, and with the tool under ThreadSanitizer. A broken
 runtime, changed events of a sound one, and a program that hangs have to be named; a trace has to be sound. With --full two programs
-run 50 times with each number of threads, and two million tasks between two barriers. Needs the library of `make lib`, clang and its
-libomp (`tools/bench-packages` prints the packages): what is missing is skipped, and counted. With --cost it only prints what the tool
-costs. The last line is `N passed, M failed, K skipped`; the status is 1 if one failed.
+run 50 times and there are two million tasks between two barriers; with --cost it only measures. Needs the library of `make lib`,
+clang and its libomp (`tools/bench-packages` prints the packages): what is missing is skipped, and counted. The last line is
+`N passed, M failed, K skipped`; the status is 1 if one failed.
 """
+import itertools
 import os
 import re
 import subprocess
@@ -24,11 +25,11 @@ EARLY, TWICE = "a task began before what it depends on was done .the core: Wrong
 WAIT, GROUP = "a taskwait ended, but children of the task are left", "a taskgroup ended, but tasks of it are left"
 LEFT, CAME = f"{WAIT}|{GROUP}|a task that has not begun made a task", "a thread left a barrier that others have not come to"
 NOT_IDLE, TASK = "but work is left .the core: NotIdle", r".*(\n.*)*task "
-# programs and patterns of what is printed. In the first table nothing is wrong; in the second the runtime is: one that is written for
-# it, or events of a sound one, of which the one that is named before the program was changed
+# programs and patterns of what is printed: of sound runs; and of a broken runtime, or of a sound one one of whose events was changed
 SOUND = {
     "cholesky 8 32": "factored", "fibonacci 15": "610", "sort 100000": "sorted", "nqueens 8": "92", "strassen 256": "multiplied",
-    "sparselu 12 16": "decomposed", "clauses": "as it should be", "barriers 1000 10": "10000", "mock ok": "6 tasks, 5 dependences",
+    "sparselu 12 16": "decomposed", "clauses": "as it should be", "barriers 1000 10": "10000", "mock ok": "6 tasks, 5 dep",
+    "random 7 1000": "as it should be", "random 8 1000": "as it should be",
 }
 BROKEN = {
     "mock drop": f"{NOT_IDLE}{TASK}6 is ready", "mock early": f"{EARLY}{TASK}5 waits", "mock twice": f"{TWICE}{TASK}3 is done",
@@ -60,23 +61,19 @@ def expect(tally, folder, command, status, text, threads=4, words="status=3", **
     tally.judge(is_well, f"{command}, {threads} threads: status {result.status}, expected {status} and {text}: {output[:2000]}")
 
 
-def try_files(tally, folder):
-    """Has the tool write a trace and times, and checks both."""
+def try_others(tally, folder):
+    """Checks a trace and times, a program that gcc compiled, over libomp, and the tool with ThreadSanitizer."""
     words = f"report,trace={folder}/t,times={folder}/j"
     expect(tally, folder, "cholesky 8 32", 0, "120 tasks, (.*\n)*.*longest path", 4, words)
     tally.judge(summary.summary(repository.text_of(f"{folder}/j")), "no times")
     if os.path.exists("bin/tp"):
         judged = running.run(["bin/tp", "audit"], stdin=f"{folder}/t")
         tally.judge(not judged.status, f"bin/tp audit of the trace of cholesky: {judged.description()}")
-
-
-def try_others(tally, folder):
-    """Tries a program that gcc compiled, over libomp, and the tool with ThreadSanitizer."""
     if os.path.exists(OMP) and tally.has("gcc", "a program that gcc compiled"):
         compiles(tally, ["gcc", "-O2", "-fopenmp", f"{FOLDER}/programs/fibonacci.c", "-o", f"{folder}/gcc"])
         expect(tally, folder, "gcc 15", 0, "1972 tasks, ", LD_PRELOAD=OMP)
     with tempfile.TemporaryDirectory() as own:
-        for command in ("clauses", "cholesky 6 16", "fibonacci 10", "sort 20000") if compiles(tally, make(own, *CHECKED)) else ():
+        for command in ("clauses", "cholesky 6 16", "fibonacci 10", "random 9 300") if compiles(tally, make(own, *CHECKED)) else ():
             expect(tally, own, command, 0, SOUND.get(command, ""), 12, "hang=60", TSAN_OPTIONS="ignore_noninstrumented_modules=1")
 
 
@@ -84,11 +81,10 @@ def try_all(tally, folder, is_full):
     for command, text in BROKEN.items():
         expect(tally, folder, command, 3, text)
     expect(tally, folder, "hang", 3, HANGS, 2, "hang=1,status=3")
-    try_files(tally, folder)
-    try_others(tally, folder)
     long = ["cholesky 8 32", "fibonacci 15"] * (49 if is_full else 0)
-    for command, threads in ((command, threads) for threads in THREADS for command in [*SOUND, *long]):
+    for command, threads in itertools.product([*SOUND, *long], THREADS):
         expect(tally, folder, command, 0, SOUND[command], threads)
+    try_others(tally, folder)
     count = 2_000_000 if is_full else 400_000
     expect(tally, folder, f"barriers {count} 1", 0, f"{count} tasks(.*\n)*.*a core was full, and a new one went on")
     print(f"{len(BROKEN) + 1} faults named; {len(SOUND)} sound programs with {THREADS} threads; {count:,} tasks between two barriers")

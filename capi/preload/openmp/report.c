@@ -48,7 +48,7 @@ static void print_gaps(void) {
     };
     for (size_t n = 0; n < sizeof gaps / sizeof *gaps; n++)
         if (gaps[n].count) say("%llu %s", (unsigned long long)gaps[n].count, gaps[n].text);
-    if (total.renewals) say("%llu times a core was full, and a new one went on with what was left", (unsigned long long)total.renewals);
+    if (total.renewals) say("a core was full, and a new one went on with what was left: %llu times", (unsigned long long)total.renewals);
 }
 
 static void say_count(char *text, uint64_t count, const char *what, const char *end) {

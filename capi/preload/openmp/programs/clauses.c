@@ -126,9 +126,9 @@ int main(void) {
 #pragma omp single nowait
         kinds();
 #pragma omp single
-        if (omp_get_num_threads() > 1) nested(); /* (in a team of one thread libomp 14 aborts here, with and without a tool) */
+        nested();
 #pragma omp single
-        detached();
+        if (omp_get_num_threads() > 1) detached(); /* (libomp 14 aborts after it in a team of one thread, with and without a tool) */
     }
     exclusive(); /* outside of a parallel region */
     printf("%s\n", wrong ? "WRONG" : "as it should be");
