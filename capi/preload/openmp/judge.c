@@ -80,13 +80,14 @@ void judge(task *t, uint32_t kind, const task *maker, const char *what) {
 
 /* Writes the trace of the first core that ends: `tp audit` judges it, and `samples draw run` draws it. */
 static void write_trace(region *r) {
-    size_t length = gerfmuod_trace(&r->core, NULL, 0).length;
-    char *text = has_traced || !*option.trace || !length ? NULL : malloc(length);
-    if (!text) return;
-    FILE *file = fopen(option.trace, "w");
-    has_traced = file && gerfmuod_trace(&r->core, text, length).outcome == GERFMUOD_WRITTEN && fwrite(text, 1, length, file) == length;
-    if (!file || fclose(file) || !has_traced) say("the trace was not written: %s", option.trace);
+    if (has_traced || !*option.trace) return;
     has_traced = true;
+    size_t length = gerfmuod_trace(&r->core, NULL, 0).length;
+    char *text = length ? malloc(length) : NULL;
+    FILE *file = fopen(option.trace, "w");
+    bool is_well = text && file && gerfmuod_trace(&r->core, text, length).outcome == GERFMUOD_WRITTEN;
+    is_well = is_well && fwrite(text, 1, length, file) == length;
+    if (!file || fclose(file) || !is_well) say("the trace was not written: %s", option.trace);
     free(text);
 }
 

@@ -17,7 +17,6 @@ static size_t count, room;
 static uint64_t lost;
 
 void note_bar(const worker *w, uint64_t until) {
-    if (!*option.times) return;
     if (count == room && room < MOST_BARS) {
         size_t more = room ? 2 * room : FIRST_ROOM;
         bar *at = realloc(bars, more * sizeof *bars);

@@ -35,7 +35,7 @@ static void count_time(worker *w, uint64_t now) {
     if (t->region->is_ended) now = t->region->ended; /* the thread is told later that the last barrier ended */
     if (now <= w->since) return;
     uint64_t ns = now - w->since;
-    note_bar(w, now);
+    if (*option.times) note_bar(w, now);
     if (t->wait) total.waiting += ns;
     else {
         t->path += ns, t->ns += ns;
