@@ -64,7 +64,7 @@ def expect(tally, folder, command, status, text, threads=4, words="status=3", **
 def try_others(tally, folder):
     """Checks a trace and times, a program that gcc compiled, over libomp, and the tool with ThreadSanitizer."""
     words = f"report,trace={folder}/t,times={folder}/j"
-    expect(tally, folder, "cholesky 8 32", 0, "120 tasks, (.*\n)*.*longest path", 4, words)
+    expect(tally, folder, "cholesky 8 32", 0, "120 tasks, 252 dependences(.*\n)*.*longest path", 4, words)
     tally.judge(summary.summary(repository.text_of(f"{folder}/j")), "no times")
     if os.path.exists("bin/tp"):
         judged = running.run(["bin/tp", "audit"], stdin=f"{folder}/t")

@@ -30,6 +30,7 @@ static void drop_done(set *s) {
         if (t->life < DONE) s->tasks[kept++] = t;
         else {
             if (s->path < t->path) s->path = t->path;
+            s->gone++;
             unlist(t);
         }
     }
@@ -86,14 +87,15 @@ void forget_addresses(task *parent) {
     parent->addresses = NULL, parent->buckets = parent->named = 0;
 }
 
-static void wait_for(task *t, set *s) {
+static void wait_for(task *t, const set *s) {
+    total.dependences += s->count + s->gone;
     if (t->path < s->path) t->path = s->path;
     for (uint32_t n = 0; n < s->count; n++) {
         task *p = s->tasks[n];
         if (p->life >= DONE && t->path < p->path) t->path = p->path;
         if (p->life >= DONE || (p->after.count && p->after.tasks[p->after.count - 1] == t)) continue; /* done, or the same pair twice */
         append(&p->after, t);
-        t->missing++, total.dependences++;
+        t->missing++;
     }
 }
 

@@ -55,6 +55,11 @@ static void say_count(char *text, uint64_t count, const char *what, const char *
     sprintf(text + strlen(text), "%llu %s%s%s", (unsigned long long)count, what, count == 1 ? "" : "s", end);
 }
 
+static void say_bound(const char *of, uint64_t work, uint64_t path) {
+    double most = path ? (double)work / (double)path : 0;
+    say("%s: work %.3f ms, longest path %.3f ms: at most %.2f times as fast as one thread", of, ms(work), ms(path), most);
+}
+
 void print_report(uint64_t elapsed) {
     char text[256] = "";
     say_count(text, total.tasks, "task", ", ");
@@ -64,10 +69,10 @@ void print_report(uint64_t elapsed) {
     say("%s", text);
     print_gaps();
     if (!option.has_report) return;
-    uint64_t work = total.in_tasks + total.outside;
-    say("%.3f ms with %u threads: %.3f ms in tasks, %.3f ms in other code, %.3f ms waiting", ms(elapsed), total.threads,
-        ms(total.in_tasks), ms(total.outside), ms(total.waiting));
-    say("work %.3f ms, longest path %.3f ms: at most %.2f times as fast as one thread", ms(work), ms(total.span),
-        total.span ? (double)work / (double)total.span : 0);
+    say("%.3f ms with %u threads: %.3f ms in tasks, %.3f ms in other code of parallel regions, %.3f ms outside of them, %.3f ms waiting",
+        ms(elapsed), total.threads, ms(total.in_tasks), ms(total.outside), ms(total.serial), ms(total.waiting));
+    uint64_t inside = total.in_tasks + total.outside; /* what is outside is on the longest path as a whole */
+    say_bound("the program", inside + total.serial, total.span);
+    if (total.span > total.serial) say_bound("its parallel regions", inside, total.span - total.serial);
     if (total.tasks) print_places();
 }

@@ -5,7 +5,7 @@
  *     OMP_TOOL_LIBRARIES=$PWD/libgerfmuod_ompt.so GERFMUOD_OMP=report ./program
  *
  * GERFMUOD_OMP has words with commas between them: report; hang=SECONDS; status=N, the exit status if there was a fault, or if
- * the program hangs; stop, to abort at the first of these; trace=FILE; times=FILE; off. */
+ * the program hangs; stop, to abort at the first of these; trace=FILE; times=FILE. */
 #include "tool.h"
 #include <pthread.h>
 #include <stdio.h>
@@ -39,7 +39,8 @@ static void count_time(worker *w, uint64_t now) {
     if (t->wait) total.waiting += ns;
     else {
         t->path += ns, t->ns += ns;
-        *(t->is_implicit ? &total.outside : &total.in_tasks) += ns;
+        if (!t->is_implicit) total.in_tasks += ns;
+        else *(t->region->is_outer ? &total.serial : &total.outside) += ns;
         if (total.span < t->path) total.span = t->path;
     }
 }
@@ -142,8 +143,9 @@ static void on_dependences(ompt_data_t *data, const ompt_dependence_t *clauses, 
 static void end_task(ompt_data_t *data, ompt_task_status_t status) {
     task *t = task_of(data);
     if (!t) { /* its memory was used again */
-        say("FAULT: task %u ended again", id_in(data->value));
-        total.faults++;
+        char text[64];
+        snprintf(text, sizeof text, "task %u ended twice", id_in(data->value));
+        fault(NULL, NULL, text, 0);
         return;
     }
     if (t->is_implicit || t->life == LOST) return;
@@ -203,7 +205,7 @@ static void on_sync_region(ompt_sync_region_t kind, ompt_scope_endpoint_t end, o
     task *t = task_of(data);
     bool is_over = end == ompt_scope_end && !(parallel && parallel->ptr); /* the barrier of a region that has ended */
     if (t && t->life != LOST) {
-        t->wait = end == ompt_scope_begin ? kind : 0;
+        t->wait = end == ompt_scope_begin && kind != ompt_sync_region_taskgroup ? kind : 0;
         if (kind == ompt_sync_region_taskwait) on_taskwait(t, end);
         else if (kind == ompt_sync_region_taskgroup) on_taskgroup(t, end);
         else if (t->is_implicit && !t->region->is_ended && !is_over) {
@@ -213,6 +215,15 @@ static void on_sync_region(ompt_sync_region_t kind, ompt_scope_endpoint_t end, o
         if (is_over) run_now(w, NULL);
         else run_now(w, t);
     }
+    leave(w);
+}
+/* Between the begin and the end of a taskgroup its block runs; here it waits. (Of the others that is nearly the same.) */
+static void on_sync_wait(ompt_sync_region_t kind, ompt_scope_endpoint_t end, ompt_data_t *parallel, ompt_data_t *data, const void *code) {
+    (void)parallel, (void)code;
+    if (kind != ompt_sync_region_taskgroup) return;
+    worker *w = enter();
+    task *t = task_of(data);
+    if (t) t->wait = end == ompt_scope_begin ? kind : 0;
     leave(w);
 }
 static void on_cancel(ompt_data_t *data, int flags, const void *code) {
@@ -236,6 +247,7 @@ static int initialize(ompt_function_lookup_t lookup, int device, ompt_data_t *da
         {ompt_callback_dependences, (ompt_callback_t)on_dependences, "dependences"},
         {ompt_callback_task_schedule, (ompt_callback_t)on_task_schedule, "begins and ends of tasks"},
         {ompt_callback_sync_region, (ompt_callback_t)on_sync_region, "barriers, taskwaits and taskgroups"},
+        {ompt_callback_sync_region_wait, (ompt_callback_t)on_sync_wait, "waits in taskgroups"},
         {ompt_callback_cancel, (ompt_callback_t)on_cancel, "cancellations"},
     };
     started = clock_now();
@@ -275,9 +287,6 @@ __attribute__((visibility("default"))) ompt_start_tool_result_t *ompt_start_tool
     const char *words = getenv("GERFMUOD_OMP");
     char copy[1280], *rest;
     snprintf(copy, sizeof copy, "%s", words ? words : "");
-    for (char *word = strtok_r(copy, ",", &rest); word; word = strtok_r(NULL, ",", &rest)) {
-        if (!strcmp(word, "off")) return NULL;
-        take_word(word);
-    }
+    for (char *word = strtok_r(copy, ",", &rest); word; word = strtok_r(NULL, ",", &rest)) take_word(word);
     return &result;
 }

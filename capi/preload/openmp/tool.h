@@ -18,10 +18,10 @@ typedef enum life { CREATED, WAITING, READY, RUNNING, DETACHED, DONE, LOST } lif
 struct task;
 struct region;
 
-/* Tasks, and the longest path to the end of one that was in the set and is done. */
+/* Tasks. `gone` are done and no longer in the list; `path` is the longest path to the end of one of those. */
 typedef struct set {
     struct task **tasks;
-    uint32_t count, room;
+    uint32_t count, room, gone;
     uint64_t path;
 } set;
 
@@ -96,7 +96,7 @@ typedef struct worker { /* a thread */
 } worker;
 
 typedef struct totals {
-    uint64_t events, tasks, dependences, ends, faults, regions, renewals, span, in_tasks, outside, waiting;
+    uint64_t events, tasks, dependences, ends, faults, regions, renewals, span, in_tasks, outside, serial, waiting;
     uint64_t unsent, ordered, devices, orphans, unjudged, cancelled; /* what is not judged: see report.c */
     uint32_t threads;
 } totals;
