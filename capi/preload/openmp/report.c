@@ -19,16 +19,18 @@ static double ms(uint64_t ns) { return (double)ns / 1e6; }
 static double us(uint64_t ns) { return (double)ns / 1e3; }
 
 static int by_time(const void *a, const void *b) {
-    const site *first = a, *second = b;
+    const site *first = *(site *const *)a, *second = *(site *const *)b;
     return (first->ns < second->ns) - (first->ns > second->ns);
 }
 
 static void print_places(void) {
+    static site *order[SITES];
     char room[512];
-    qsort(sites, SITES, sizeof *sites, by_time);
+    for (int n = 0; n < SITES; n++) order[n] = &sites[n];
+    qsort(order, SITES, sizeof *order, by_time);
     say("%12s %12s %12s %12s  made at", "tasks", "mean us", "least us", "most us");
     for (int n = 0; n < SITES; n++) {
-        const site *s = &sites[n];
+        const site *s = order[n];
         if (!s->tasks) continue;
         double mean = s->ended ? us(s->ns) / (double)s->ended : 0;
         say("%12llu %12.2f %12.2f %12.2f  %s", (unsigned long long)s->tasks, mean, us(s->least), us(s->most), place_of(s->code, room));
