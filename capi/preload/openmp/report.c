@@ -41,16 +41,16 @@ static void print_places(void) {
 /* What was not judged, one sentence each. */
 static void print_gaps(void) {
     const struct { uint64_t count; const char *text; } gaps[] = {
-        {total.unjudged, "times a region was not judged until its next barrier"},
-        {total.cancelled, "parallel regions were cancelled: their barriers were not judged after that"},
-        {total.unsent, "dependences or lists of them were not sent, or are of a kind that this tool does not know: not judged"},
-        {total.ordered, "dependences of loop iterations (doacross): not judged"},
-        {total.devices, "target tasks: what a device does is not seen"},
-        {total.orphans, "tasks were made by a thread that the runtime did not announce: not judged"},
+        {total.unjudged, "the rest of a region until its next barrier"},
+        {total.cancelled, "the barriers of a parallel region that was cancelled"},
+        {total.unsent, "dependences that were not sent, or are of a kind that this tool does not know"},
+        {total.ordered, "a dependence of a loop's iteration (doacross)"},
+        {total.devices, "what a device did for a target task"},
+        {total.orphans, "a task that a thread made which the runtime did not announce"},
     };
     for (size_t n = 0; n < sizeof gaps / sizeof *gaps; n++)
-        if (gaps[n].count) say("%llu %s", (unsigned long long)gaps[n].count, gaps[n].text);
-    if (total.renewals) say("a core was full, and a new one went on with what was left: %llu times", (unsigned long long)total.renewals);
+        if (gaps[n].count) say("not judged, times %llu: %s", (unsigned long long)gaps[n].count, gaps[n].text);
+    if (total.renewals) say("full cores, each replaced by a new one with what was left: %llu", (unsigned long long)total.renewals);
 }
 
 static void say_count(char *text, uint64_t count, const char *what, const char *end) {
