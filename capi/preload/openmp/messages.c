@@ -58,11 +58,21 @@ static void say_names(const region *r, const task *t, bool after) {
     else say("    it waits for task%s %s", S(shown), text);
 }
 
+/* What a task, or the implicit task of a thread, does that waits. */
+static const char *wait_of(const task *t) {
+    switch (t->wait) {
+    case ompt_sync_region_taskwait: return "waits in a taskwait";
+    case ompt_sync_region_taskgroup: return "waits in a taskgroup";
+    case IN_PARALLEL: return "waits for a parallel region that it began";
+    default: return "waits at a barrier";
+    }
+}
+
 static void say_task(const region *r, const task *t) {
     char room[512], maker[32] = "";
-    const char *in = t->life != RUNNING || !t->wait ? "" : t->wait == ompt_sync_region_taskwait ? " in a taskwait" : " in a taskgroup";
+    const char *does = t->life == RUNNING && t->wait ? wait_of(t) : lives[t->life];
     if (t->parent && !t->parent->is_implicit) snprintf(maker, sizeof maker, " by task %u", t->parent->id);
-    say("  task %u %s%s; made%s at %s", t->id, lives[t->life], in, maker, place_of(t->site ? t->site->code : NULL, room));
+    say("  task %u %s; made%s at %s", t->id, does, maker, place_of(t->site ? t->site->code : NULL, room));
     if (t->missing) say_names(r, t, false);
     if (t->after.count) say_names(r, t, true);
 }
@@ -102,20 +112,39 @@ void fault(region *r, task *t, const char *what, uint32_t refused) {
     if (option.has_stop) abort();
 }
 
-/* Prints what each thread and task of a region that has tasks does, and what it waits for. */
-static void say_hang(region *r) {
+/* Prints what each thread and task of a region does, and what it waits for. */
+static void say_hang(const region *r) {
     char room[512];
-    if (r->is_outer && !r->live_count) return;
     say("%u task%s left in %s", r->live_count, r->live_count == 1 ? " is" : "s are",
         r->is_outer ? "the program, outside of parallel regions" : place_of(r->code, room));
     list_tasks(r, NULL, NULL);
     for (uint32_t n = 0; n < r->size; n++) {
         const task *t = r->team[n];
-        const char *in = !t ? "has not begun" : t->wait == 0 ? "runs its own code, or a task" :
-                         t->wait == ompt_sync_region_taskwait ? "waits in a taskwait" :
-                         t->wait == ompt_sync_region_taskgroup ? "waits in a taskgroup" : "waits at a barrier";
-        say("  thread %u %s", n, in);
+        const char *does = !t ? "has not begun, or is over" : t->wait ? wait_of(t) : "runs code of its own, or a task";
+        say("  thread %u %s", n, does);
     }
+}
+
+/* Whether each thread of a region waits, and no task of it runs that does not wait. */
+static bool is_waiting(const region *r) {
+    bool waits = true;
+    for (uint32_t n = 0; n < r->size; n++) waits = waits && (!r->team[n] || r->team[n]->wait);
+    for (const task *t = r->live.next; t != &r->live; t = t->next) waits = waits && (t->life != RUNNING || t->wait);
+    return waits;
+}
+
+static void say_all(void) {
+    bool waits = true, is_outside = true;
+    for (region *r = regions.next; r != &regions; r = r->next) {
+        waits = waits && is_waiting(r);
+        is_outside = is_outside && r->is_outer && !r->live_count;
+    }
+    if (is_outside) return; /* no parallel region runs */
+    say("nothing has happened for %u second%s, and %s", option.hang, S(option.hang), waits ? "every thread waits" : "not every thread waits");
+    for (region *r = regions.next; r != &regions; r = r->next)
+        if (!r->is_outer || r->live_count) say_hang(r);
+    if (waits && option.has_stop) abort();
+    if (waits && option.status) _exit(option.status);
 }
 
 static void *watch(void *unused) {
@@ -124,12 +153,7 @@ static void *watch(void *unused) {
         lock_tool();
         quiet = total.events == last ? quiet + 1 : 0;
         last = total.events;
-        if (quiet == option.hang) {
-            say("nothing has happened for %u seconds", option.hang);
-            for (region *r = regions.next; r != &regions; r = r->next) say_hang(r);
-            if (option.has_stop) abort();
-            if (option.status) _exit(option.status);
-        }
+        if (quiet == option.hang) say_all();
         unlock_tool();
     }
     return unused;

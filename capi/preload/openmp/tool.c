@@ -5,7 +5,7 @@
  *     OMP_TOOL_LIBRARIES=$PWD/libgerfmuod_ompt.so GERFMUOD_OMP=report ./program
  *
  * GERFMUOD_OMP has words with commas between them: report; hang=SECONDS; status=N, the exit status if there was a fault, or if
- * the program hangs; stop, to abort at the first of these; trace=FILE; times=FILE. */
+ * every thread waits for that long; stop, to abort at the first of these; trace=FILE; times=FILE. */
 #include "tool.h"
 #include <pthread.h>
 #include <stdio.h>
@@ -65,7 +65,9 @@ static void on_parallel_begin(ompt_data_t *creator, const ompt_frame_t *frame, o
                               const void *code) {
     (void)frame, (void)size, (void)flags;
     worker *w = enter();
-    parallel->ptr = new_region(code, task_of(creator));
+    task *t = task_of(creator);
+    parallel->ptr = new_region(code, t);
+    if (t) t->wait = IN_PARALLEL;
     run_now(w, NULL);
     leave(w);
 }
@@ -74,7 +76,9 @@ static void on_parallel_end(ompt_data_t *parallel, ompt_data_t *creator, int fla
     worker *w = enter();
     if (parallel->ptr) end_region(parallel->ptr);
     parallel->ptr = NULL;
-    run_now(w, task_of(creator));
+    task *t = task_of(creator);
+    if (t) t->wait = 0;
+    run_now(w, t);
     leave(w);
 }
 static void end_implicit_task(worker *w, ompt_data_t *data) {
@@ -205,7 +209,7 @@ static void on_sync_region(ompt_sync_region_t kind, ompt_scope_endpoint_t end, o
     task *t = task_of(data);
     bool is_over = end == ompt_scope_end && !(parallel && parallel->ptr); /* the barrier of a region that has ended */
     if (t && t->life != LOST) {
-        t->wait = end == ompt_scope_begin && kind != ompt_sync_region_taskgroup ? kind : 0;
+        t->wait = end == ompt_scope_begin && kind != ompt_sync_region_taskgroup ? (int)kind : 0;
         if (kind == ompt_sync_region_taskwait) on_taskwait(t, end);
         else if (kind == ompt_sync_region_taskgroup) on_taskgroup(t, end);
         else if (t->is_implicit && !t->region->is_ended && !is_over) {
@@ -223,7 +227,7 @@ static void on_sync_wait(ompt_sync_region_t kind, ompt_scope_endpoint_t end, omp
     if (kind != ompt_sync_region_taskgroup) return;
     worker *w = enter();
     task *t = task_of(data);
-    if (t) t->wait = end == ompt_scope_begin ? kind : 0;
+    if (t) t->wait = end == ompt_scope_begin ? (int)kind : 0;
     leave(w);
 }
 static void on_cancel(ompt_data_t *data, int flags, const void *code) {

@@ -15,6 +15,9 @@
  * that was reported, and its later events are ignored. */
 typedef enum life { CREATED, WAITING, READY, RUNNING, DETACHED, DONE, LOST } life;
 
+/* A task that has begun a parallel region: next to the kinds of ompt_sync_region_t. */
+enum { IN_PARALLEL = 100 };
+
 struct task;
 struct region;
 
@@ -67,7 +70,7 @@ typedef struct task {
     uint32_t thread, phase;    /* of an implicit task: its number in the team, and the barriers that it left */
     int flags;
     life life;
-    ompt_sync_region_t wait; /* the construct that it waits in, or 0 */
+    int wait; /* the kind of construct that it waits in, or IN_PARALLEL; 0: it does not wait */
     bool is_inserted, is_implicit, is_free;
     uint64_t waiter; /* the handle of its taskwait with dependences, which the runtime reports as a task */
     uint64_t path, children_path, ns; /* the longest path of work to here, and to the end of a child; the time of its body */
