@@ -19,8 +19,7 @@ from .running import Tally
 FOLDER, WHAT = "capi/preload/openmp", "the tool for OpenMP programs"
 TOOL, BREAKER = "libgerfmuod_ompt.so", "libbroken.so"
 # the runtime of Debian's clang, for a program that gcc compiled
-OMP = "/usr/lib/x86_64-linux-gnu/libomp.so.5"
-THREADS = [1, 4, 12]
+OMP, THREADS = "/usr/lib/x86_64-linux-gnu/libomp.so.5", [1, 4, 12]
 EARLY, TWICE = "a task began before what it depends on was done .the core: WrongLife", "a task ended twice .the core: WrongLife"
 WAIT, GROUP = "a taskwait ended, but children of the task are left", "a taskgroup ended, but tasks of it are left"
 LEFT, CAME = f"{WAIT}|{GROUP}|a task that has not begun made a task", "a thread left a barrier that others have not come to"
@@ -41,16 +40,15 @@ BROKEN = {
     "twice:50 cholesky 6 16": f"{TWICE}{TASK}50 is done", "twice:9 sort 50000": f"{TWICE}{TASK}9 is done", "wait:3 strassen 256": WAIT,
     "twice:50 strassen 128": f"{TWICE}{TASK}50 is done", "wait:20 fibonacci 12": WAIT, "wait:20 sort 50000": WAIT,
     "group:30 nqueens 6": GROUP, "drop:30 nqueens 6": LEFT, "barrier:2 barriers 1000 10": CAME, "barrier:2 sparselu 8 16": CAME,
+    "hang": r"task 1 has an event that is not fulfilled.*\n.*task 2 waits for it(.*\n)*.*thread 0 waits at a barrier",
 }
-HANGS = r"task 1 has an event that is not fulfilled.*\n.*task 2 waits for it(.*\n)*.*thread 0 waits at a barrier"
-CHECKED = ["CFLAGS=-O1 -g -fsanitize=thread", "PROGRAM_CFLAGS=-O1", "LDFLAGS=-fsanitize=thread"]
 
 
 def make(folder, *options):
-    return ["make", "-s", "-j4", "-C", FOLDER, f"OUT={folder}", f"LIBRARY={os.path.abspath('lib')}", "programs", *options]
+    return ["make", "-s", "-j4", "-C", FOLDER, "CC=clang", f"OUT={folder}", f"LIBRARY={os.path.abspath('lib')}", "programs", *options]
 
 
-def expect(tally, folder, command, status, text, threads=4, words="status=3", **more):
+def expect(tally, folder, command, status, text, threads=4, words="status=3,hang=60", **more):
     """Runs a program with the tool, and counts whether it ends with this status and prints a pattern, and of faults what it should."""
     how, name, *arguments = command.split() if ":" in command else ["", *command.split()]
     own = {"OMP_NUM_THREADS": str(threads), "OMP_TOOL_LIBRARIES": f"{folder}/{BREAKER if how else TOOL}", "GERFMUOD_OMP": words}
@@ -73,26 +71,26 @@ def try_others(tally, folder):
         compiles(tally, ["gcc", "-O2", "-fopenmp", f"{FOLDER}/programs/fibonacci.c", "-o", f"{folder}/gcc"])
         expect(tally, folder, "gcc 15", 0, "1972 tasks, ", LD_PRELOAD=OMP)
     with tempfile.TemporaryDirectory() as own:
-        for command in ("clauses", "cholesky 6 16", "fibonacci 10", "random 9 300") if compiles(tally, make(own, *CHECKED)) else ():
-            expect(tally, own, command, 0, SOUND.get(command, ""), 12, "hang=60", TSAN_OPTIONS="ignore_noninstrumented_modules=1")
+        checked = make(own, "CFLAGS=-O1 -g -fsanitize=thread", "PROGRAM_CFLAGS=-O1", "LDFLAGS=-fsanitize=thread")
+        for command in ("clauses", "cholesky 6 16", "fibonacci 10", "random 9 300") if compiles(tally, checked) else ():
+            expect(tally, own, command, 0, "", 12, TSAN_OPTIONS="ignore_noninstrumented_modules=1")
 
 
 def try_all(tally, folder, is_full):
     for command, text in BROKEN.items():
-        expect(tally, folder, command, 3, text)
-    expect(tally, folder, "hang", 3, HANGS, 2, "hang=1,status=3")
+        expect(tally, folder, command, 3, text, words="status=3,hang=2")
     long = ["cholesky 8 32", "fibonacci 15"] * (49 if is_full else 0)
     for command, threads in itertools.product([*SOUND, *long], THREADS):
         expect(tally, folder, command, 0, SOUND[command], threads)
     try_others(tally, folder)
     count = 2_000_000 if is_full else 400_000
     expect(tally, folder, f"barriers {count} 1", 0, f"{count} tasks(.*\n)*.*full cores, each replaced")
-    print(f"{len(BROKEN) + 1} faults named; {len(SOUND)} sound programs with {THREADS} threads; {count:,} tasks between two barriers")
+    print(f"{len(BROKEN)} faults named; {len(SOUND)} sound programs with {THREADS} threads; {count:,} tasks between two barriers")
 
 
 def arguments(parser):
     parser.add_argument("--full", action="store_true", help="the long form: 50 runs, and two million tasks")
-    parser.add_argument("--cost", type=int, metavar="ROUNDS", help="measure what the tool costs, on a machine at rest")
+    parser.add_argument("--cost", type=int, metavar="ROUNDS", help="measure what the tool costs, of so many runs each")
 
 
 def run(options):
@@ -106,8 +104,8 @@ def run(options):
             tally.skips(WHAT, "libomp-dev")
         elif reason:
             tally.fails(f"{reason}: {WHAT} was not linked. make lib builds it")
-        elif compiles(tally, make(folder)) and options.cost:
-            return subprocess.run([f"{folder}/cost", f"{folder}/{TOOL}", str(options.cost)], check=False).returncode
-        else:
+        elif compiles(tally, make(folder)) and not options.cost:
             try_all(tally, folder, options.full)
+        elif options.cost:
+            subprocess.run([f"{folder}/cost", f"{folder}/{TOOL}", str(options.cost)], check=True)
     return tally.end()

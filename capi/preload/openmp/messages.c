@@ -140,7 +140,7 @@ static void say_all(void) {
         is_outside = is_outside && r->is_outer && !r->live_count;
     }
     if (is_outside) return; /* no parallel region runs */
-    say("nothing has happened for %u second%s, and %s", option.hang, S(option.hang), waits ? "every thread waits" : "not every thread waits");
+    say("nothing has happened for %u second%s, and %s thread waits", option.hang, S(option.hang), waits ? "every" : "not every");
     for (region *r = regions.next; r != &regions; r = r->next)
         if (!r->is_outer || r->live_count) say_hang(r);
     if (waits && option.has_stop) abort();
