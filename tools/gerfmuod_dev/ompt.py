@@ -16,8 +16,7 @@ from . import library, repository, running, summary
 from .c_programs import compiles, start, succeeds
 from .running import Tally
 
-FOLDER, WHAT = "capi/preload/openmp", "the tool for OpenMP programs"
-TOOL, BREAKER = "libgerfmuod_ompt.so", "libbroken.so"
+FOLDER, WHAT, TOOL, BREAKER = "capi/preload/openmp", "the tool for OpenMP programs", "libgerfmuod_ompt.so", "libbroken.so"
 # the runtime of Debian's clang, for a program that gcc compiled
 OMP, THREADS = "/usr/lib/x86_64-linux-gnu/libomp.so.5", [1, 4, 12]
 EARLY, TWICE = "a task began before what it depends on was done .the core: WrongLife", "a task ended twice .the core: WrongLife"
@@ -104,8 +103,8 @@ def run(options):
             tally.skips(WHAT, "libomp-dev")
         elif reason:
             tally.fails(f"{reason}: {WHAT} was not linked. make lib builds it")
-        elif compiles(tally, make(folder)) and not options.cost:
-            try_all(tally, folder, options.full)
-        elif options.cost:
+        elif compiles(tally, make(folder)) and options.cost:
             subprocess.run([f"{folder}/cost", f"{folder}/{TOOL}", str(options.cost)], check=True)
+        elif not tally.failed:
+            try_all(tally, folder, options.full)
     return tally.end()
