@@ -26,7 +26,7 @@ NOT_IDLE, TASK = "but work is left .the core: NotIdle", r".*(\n.*)*task "
 # programs and patterns of what is printed: of sound runs; and of a broken runtime, or of a sound one one of whose events was changed
 SOUND = {
     "cholesky 8 32": "factored", "fibonacci 15": "610", "sort 100000": "sorted", "nqueens 8": "92", "strassen 256": "multiplied",
-    "sparselu 12 16": "decomposed", "clauses": "as it should be", "barriers 1000 10": "10000", "mock ok": "6 tasks, 5 dep",
+    "sparselu 12 16": "decomposed", "clauses": "as it should be", "barriers 1000 3": "3000", "mock ok": "6 tasks, 5 dep",
     "random 7 1000": "as it should be", "random 8 1000": "as it should be",
 }
 BROKEN = {
@@ -38,7 +38,7 @@ BROKEN = {
     "early:30 cholesky 6 16": f"{EARLY}{TASK}.*(\n.*)*for tasks? .*30", "early:40 sparselu 8 16": f"{EARLY}{TASK}.*(\n.*)*for tasks? .*40",
     "twice:50 cholesky 6 16": f"{TWICE}{TASK}50 is done", "twice:9 sort 50000": f"{TWICE}{TASK}9 is done", "wait:3 strassen 256": WAIT,
     "twice:50 strassen 128": f"{TWICE}{TASK}50 is done", "wait:20 fibonacci 12": WAIT, "wait:20 sort 50000": WAIT,
-    "group:30 nqueens 6": GROUP, "drop:30 nqueens 6": LEFT, "barrier:2 barriers 1000 10": CAME, "barrier:2 sparselu 8 16": CAME,
+    "group:30 nqueens 6": GROUP, "drop:30 nqueens 6": LEFT, "barrier:2 barriers 1000 3": CAME, "barrier:2 sparselu 8 16": CAME,
     "hang": r"task 1 has an event that is not fulfilled.*\n.*task 2 waits for it(.*\n)*.*thread 0 waits at a barrier",
 }
 
