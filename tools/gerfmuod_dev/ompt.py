@@ -17,7 +17,6 @@ from .c_programs import compiles, start, succeeds
 from .running import Tally
 
 FOLDER, WHAT, TOOL, BREAKER = "capi/preload/openmp", "the tool for OpenMP programs", "libgerfmuod_ompt.so", "libbroken.so"
-# the runtime of Debian's clang, for a program that gcc compiled
 OMP, THREADS = "/usr/lib/x86_64-linux-gnu/libomp.so.5", [1, 4, 12]
 EARLY, TWICE = "a task began before what it depends on was done .the core: WrongLife", "a task ended twice .the core: WrongLife"
 WAIT, GROUP = "a taskwait ended, but children of the task are left", "a taskgroup ended, but tasks of it are left"
@@ -44,7 +43,8 @@ BROKEN = {
 
 
 def make(folder, *options):
-    return ["make", "-s", "-j4", "-C", FOLDER, "CC=clang", f"OUT={folder}", f"LIBRARY={os.path.abspath('lib')}", "programs", *options]
+    places = [f"OUT={folder}", f"LIBRARY={os.path.abspath('lib')}"]
+    return ["make", "-s", "-j4", "-C", FOLDER, "CC=clang", "WERROR=-Werror", *places, "programs", *options]
 
 
 def expect(tally, folder, command, status, text, threads=4, words="status=3,hang=60", **more):

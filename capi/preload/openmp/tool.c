@@ -242,7 +242,7 @@ static void on_cancel(ompt_data_t *data, int flags, const void *code) {
 
 static int initialize(ompt_function_lookup_t lookup, int device, ompt_data_t *data) {
     (void)device, (void)data;
-    ompt_set_callback_t set = (ompt_set_callback_t)lookup("ompt_set_callback");
+    ompt_set_callback_t set_callback = (ompt_set_callback_t)lookup("ompt_set_callback");
     const struct { ompt_callbacks_t event; ompt_callback_t function; const char *name; } callbacks[] = {
         {ompt_callback_parallel_begin, (ompt_callback_t)on_parallel_begin, "parallel regions"},
         {ompt_callback_parallel_end, (ompt_callback_t)on_parallel_end, "ends of parallel regions"},
@@ -256,7 +256,7 @@ static int initialize(ompt_function_lookup_t lookup, int device, ompt_data_t *da
     };
     started = clock_now();
     for (size_t n = 0; n < sizeof callbacks / sizeof *callbacks; n++) {
-        ompt_set_result_t result = set(callbacks[n].event, callbacks[n].function);
+        ompt_set_result_t result = set_callback(callbacks[n].event, callbacks[n].function);
         if (result == ompt_set_error || result == ompt_set_never || result == ompt_set_impossible)
             say("the runtime does not send %s", callbacks[n].name);
     }
