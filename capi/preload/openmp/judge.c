@@ -100,6 +100,7 @@ void close_core(region *r) {
 
 /* A barrier was passed, or a region ended: nothing may be left. */
 void judge_end(region *r, const char *what) {
+    end_unsent(r, NULL, NULL, NULL);
     if (r->is_open && !r->is_broken && !r->is_unjudged) {
         uint32_t refused = gerfmuod_settle(&r->core).refused;
         if (refused) fault(r, NULL, what, refused), list_left(r, NULL, NULL);

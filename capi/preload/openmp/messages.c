@@ -70,7 +70,7 @@ static const char *wait_of(const task *t) {
 
 static void say_task(const region *r, const task *t) {
     char room[512], maker[32] = "";
-    const char *does = t->life == RUNNING && t->wait ? wait_of(t) : lives[t->life];
+    const char *does = t->life == RUNNING && t->wait ? wait_of(t) : t->is_away ? "is suspended, or is over" : lives[t->life];
     if (t->parent && !t->parent->is_implicit) snprintf(maker, sizeof maker, " by task %u", t->parent->id);
     say("  task %u %s; made%s at %s", t->id, does, maker, place_of(t->site ? t->site->code : NULL, room));
     if (t->missing) say_names(r, t, false);

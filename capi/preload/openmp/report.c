@@ -44,6 +44,7 @@ static void print_gaps(void) {
         {total.unjudged, "the rest of a region until its next barrier"},
         {total.cancelled, "the barriers of a parallel region that was cancelled"},
         {total.unsent, "dependences that were not sent, or are of a kind that this tool does not know"},
+        {total.unended, "the end of a task, which the runtime did not send"},
         {total.ordered, "a dependence of a loop's iteration (doacross)"},
         {total.devices, "what a device did for a target task"},
         {total.orphans, "a task that a thread made which the runtime did not announce"},

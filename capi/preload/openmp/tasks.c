@@ -111,6 +111,7 @@ void begin_task(task *t) {
         total.unsent++;
         insert_task(t);
     }
+    if (t->missing) end_unsent(r, t, NULL, NULL);
     judge(t, GERFMUOD_STEP_BEGIN, NULL, t->missing ? "a task began before what it depends on was done" : "a task began");
     const task *other = exclude_others(t);
     if (other && !r->is_broken) {
@@ -171,6 +172,18 @@ void finish_task(task *t, bool is_cancelled) {
     longer(&s->most, t->ns);
     take_from_live(t);
     release_task(t);
+}
+
+/* Some ends are not sent: those of tasks that libomp's internal interface completes. If a task that is away (it was suspended, or
+ * its body is over) keeps one from beginning, or a taskwait, a taskgroup or a barrier from ending, its end is taken as not sent. */
+void end_unsent(region *r, const task *successor, const task *parent, const group *g) {
+    for (task *t = r->live.next, *next; t != &r->live; t = next) {
+        next = t->next;
+        bool is_one = !successor || waits_for(successor, t);
+        if (!t->is_away || !is_one || (parent && t->parent != parent) || (g && t->member_of != g)) continue;
+        total.unended++;
+        finish_task(t, false);
+    }
 }
 
 /* The tasks that are left when the region's barrier was passed: reported before. */

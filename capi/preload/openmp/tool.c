@@ -46,6 +46,14 @@ static void count_time(worker *w, uint64_t now) {
 }
 static void run_now(worker *w, task *t) { w->now = t, w->id = t ? t->id : 0; }
 
+/* An event is of this task, so it is what the thread runs. If that was another one, no event said that it was left. */
+static void notice(worker *w, task *current) {
+    task *last = w->now;
+    if (!current || last == current) return;
+    if (last && last->id == w->id && last->life == RUNNING && !last->is_implicit) last->is_away = true;
+    run_now(w, current);
+}
+
 worker *enter(void) {
     uint64_t now = clock_now();
     lock_tool();
@@ -118,6 +126,7 @@ static void on_task_create(ompt_data_t *creator, const ompt_frame_t *frame, ompt
     if (!(flags & (ompt_task_explicit | ompt_task_target | ompt_task_taskwait))) return;
     worker *w = enter();
     task *parent = task_of(creator);
+    notice(w, parent);
     data->value = 0;
     if (flags & ompt_task_target) total.devices++;
     if (!parent) total.orphans += !total.faults;
@@ -163,15 +172,23 @@ static void end_taskwait(task *t) {
     begin_task(t);
     finish_task(t, false);
 }
+/* The thread goes on with a task: a new one, or one that it left. After the end of another one that may be a task that is done, as
+ * libomp may run what waited for a task inside of its end; otherwise a task that is done begins again, which is wrong. */
+static void go_on(worker *w, task *t, bool is_return) {
+    bool has_begun = t->is_implicit || t->life == RUNNING || t->life == DETACHED || t->life == LOST || (t->life == DONE && is_return);
+    if (!has_begun) begin_task(t);
+    t->is_away = false;
+    run_now(w, t);
+}
 static void on_task_schedule(ompt_data_t *before, ompt_task_status_t status, ompt_data_t *after) {
     worker *w = enter();
-    bool is_end = status == ompt_task_complete || status == ompt_task_cancel || status == ompt_task_detach ||
-                  status == ompt_task_late_fulfill;
+    bool is_fulfilled = status == ompt_task_late_fulfill || status == ompt_task_early_fulfill; /* by any thread */
+    bool is_return = status == ompt_task_complete || status == ompt_task_cancel || status == ompt_task_detach;
     if (status == ompt_taskwait_complete) end_taskwait(taskwait_of(w));
-    if (is_end && before && before->value) end_task(before, status);
+    else if (!is_fulfilled) notice(w, task_of(before));
+    if ((is_return || status == ompt_task_late_fulfill) && before && before->value) end_task(before, status);
     task *next = task_of(after);
-    if (next && !next->is_implicit && next->life != RUNNING && next->life != LOST && next->life != DETACHED) begin_task(next);
-    if (next && status != ompt_task_late_fulfill && status != ompt_taskwait_complete) run_now(w, next);
+    if (next) go_on(w, next, is_return);
     leave(w);
 }
 
@@ -179,6 +196,7 @@ static void on_task_schedule(ompt_data_t *before, ompt_task_status_t status, omp
 
 static void on_taskwait(task *t, ompt_scope_endpoint_t end) {
     if (end == ompt_scope_begin) return;
+    if (t->children) end_unsent(t->region, NULL, t, NULL);
     if (t->children && !t->region->is_broken) {
         fault(t->region, t, "a taskwait ended, but children of the task are left", 0);
         list_left(t->region, t, NULL);
@@ -192,6 +210,7 @@ static void on_taskgroup(task *t, ompt_scope_endpoint_t end) {
         if (!g) abort();
         g->outer = t->group, t->group = g;
     } else if (g) {
+        if (g->left) end_unsent(t->region, NULL, NULL, g);
         if (g->left && !t->region->is_broken) {
             fault(t->region, t, "a taskgroup ended, but tasks of it are left", 0);
             list_left(t->region, NULL, g);
@@ -209,6 +228,7 @@ static void on_sync_region(ompt_sync_region_t kind, ompt_scope_endpoint_t end, o
     task *t = task_of(data);
     bool is_over = end == ompt_scope_end && !(parallel && parallel->ptr); /* the barrier of a region that has ended */
     if (t && t->life != LOST) {
+        notice(w, t);
         t->wait = end == ompt_scope_begin && kind != ompt_sync_region_taskgroup ? (int)kind : 0;
         if (kind == ompt_sync_region_taskwait) on_taskwait(t, end);
         else if (kind == ompt_sync_region_taskgroup) on_taskgroup(t, end);

@@ -72,6 +72,7 @@ typedef struct task {
     life life;
     int wait; /* the kind of construct that it waits in, or IN_PARALLEL; 0: it does not wait */
     bool is_inserted, is_implicit, is_free;
+    bool is_away; /* its thread runs another task, and no event said that this one ended: see end_unsent */
     uint64_t waiter; /* the handle of its taskwait with dependences, which the runtime reports as a task */
     uint64_t path, children_path, ns; /* the longest path of work to here, and to the end of a child; the time of its body */
 } task;
@@ -100,7 +101,7 @@ typedef struct worker { /* a thread */
 
 typedef struct totals {
     uint64_t events, tasks, dependences, ends, faults, regions, renewals, span, in_tasks, outside, serial, waiting;
-    uint64_t unsent, ordered, devices, orphans, unjudged, cancelled; /* what is not judged: see report.c */
+    uint64_t unsent, unended, ordered, devices, orphans, unjudged, cancelled; /* what is not judged: see report.c */
     uint32_t threads;
 } totals;
 
@@ -132,6 +133,7 @@ task *create_task(task *parent, int flags, const void *code);
 void insert_task(task *t);
 void begin_task(task *t);
 void finish_task(task *t, bool is_cancelled);
+void end_unsent(region *r, const task *successor, const task *parent, const group *g);
 void lose_tasks(region *r);
 void release_task(task *t);
 void end_implicit(task *t);
