@@ -123,6 +123,9 @@ void leave(worker *w);
 void lock_tool(void);
 void unlock_tool(void);
 
+/* events.c */
+void set_callbacks(ompt_set_callback_t set_callback);
+
 /* tasks.c */
 task *task_of(const ompt_data_t *data);
 task *task_by(uint64_t handle);
