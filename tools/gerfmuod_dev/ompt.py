@@ -1,10 +1,9 @@
 """Compiles the tool for OpenMP programs, capi/preload/openmp, with its programs, and tries it.
 
-Sound programs have to pass with 1, 4 and 12 threads, also one that gcc compiled, and with the tool under ThreadSanitizer. A broken
-runtime, changed events of a sound one, and a program that hangs have to be named; a trace has to be sound. With --full two programs
-run 50 times and there are two million tasks between two barriers; with --cost it only measures. Needs the library of `make lib`,
-clang and its libomp (`tools/bench-packages` prints the packages): what is missing is skipped, and counted. The last line is
-`N passed, M failed, K skipped`; the status is 1 if one failed.
+Sound programs have to pass with 1, 4 and 12 threads, also one of gcc, and with the tool under ThreadSanitizer. A broken runtime,
+changed events of a sound one, and a program that hangs have to be named; a trace has to be sound. With --full two programs run 50
+times, and two million tasks between two barriers; with --cost it only measures. Needs the library, clang and its libomp
+(`tools/bench-packages`): what is missing is skipped. The last line is `N passed, M failed, K skipped`; status 1 if one failed.
 """
 import itertools
 import os
@@ -13,7 +12,7 @@ import subprocess
 import tempfile
 
 from . import library, repository, running, summary
-from .c_programs import compiles, start, succeeds
+from .c_programs import start, succeeds
 from .running import Tally
 
 FOLDER, WHAT, TOOL, BREAKER = "capi/preload/openmp", "the tool for OpenMP programs", "libgerfmuod_ompt.so", "libbroken.so"
@@ -42,9 +41,11 @@ BROKEN = {
 }
 
 
-def make(folder, *options):
-    places = [f"OUT={folder}", f"LIBRARY={os.path.abspath('lib')}"]
-    return ["make", "-s", "-j4", "-C", FOLDER, "CC=clang", "WERROR=-Werror", *places, "programs", *options]
+def is_built(tally, folder, *options):
+    """Compiles the tool and its programs to a folder; counts and returns whether that succeeds."""
+    result = start(["make", "-s", "-j4", "-C", FOLDER, "CC=clang", "WERROR=-Werror", "programs", f"OUT={folder}", *options])
+    tally.judge(not result.status, f"make of {FOLDER}: {result.out.decode(errors='replace')[:2000]}")
+    return not result.status
 
 
 def expect(tally, folder, command, status, text, threads=4, words="status=3,hang=60", **more):
@@ -60,18 +61,17 @@ def expect(tally, folder, command, status, text, threads=4, words="status=3,hang
 
 def try_others(tally, folder):
     """Checks a trace and times, a program that gcc compiled, over libomp, and the tool with ThreadSanitizer."""
-    words = f"report,trace={folder}/t,times={folder}/j"
-    expect(tally, folder, "cholesky 8 32", 0, "120 tasks, 252 dependences(.*\n)*.*longest path", 4, words)
+    expect(tally, folder, "cholesky 8 32", 0, "120 tasks, 252 dep(.*\n)*.*longest path", 4, f"report,trace={folder}/t,times={folder}/j")
     tally.judge(summary.summary(repository.text_of(f"{folder}/j")), "no times")
     if os.path.exists("bin/tp"):
         judged = running.run(["bin/tp", "audit"], stdin=f"{folder}/t")
         tally.judge(not judged.status, f"bin/tp audit of the trace of cholesky: {judged.description()}")
     if os.path.exists(OMP) and tally.has("gcc", "a program that gcc compiled"):
-        compiles(tally, ["gcc", "-O2", "-fopenmp", f"{FOLDER}/programs/fibonacci.c", "-o", f"{folder}/gcc"])
+        succeeds(["gcc", "-O2", "-fopenmp", f"{FOLDER}/programs/fibonacci.c", "-o", f"{folder}/gcc"])
         expect(tally, folder, "gcc 15", 0, "1972 tasks, ", LD_PRELOAD=OMP)
     with tempfile.TemporaryDirectory() as own:
-        checked = make(own, "CFLAGS=-O1 -g -fsanitize=thread", "PROGRAM_CFLAGS=-O1", "LDFLAGS=-fsanitize=thread")
-        for command in ("clauses", "cholesky 6 16", "fibonacci 10", "random 9 300") if compiles(tally, checked) else ():
+        checked = is_built(tally, own, "CFLAGS=-O1 -g -fsanitize=thread", "PROGRAM_CFLAGS=-O1", "LDFLAGS=-fsanitize=thread")
+        for command in ("clauses", "cholesky 6 16", "fibonacci 10", "random 9 300") if checked else ():
             expect(tally, own, command, 0, "", 12, TSAN_OPTIONS="ignore_noninstrumented_modules=1")
 
 
@@ -103,7 +103,7 @@ def run(options):
             tally.skips(WHAT, "libomp-dev")
         elif reason:
             tally.fails(f"{reason}: {WHAT} was not linked. make lib builds it")
-        elif compiles(tally, make(folder)) and options.cost:
+        elif is_built(tally, folder) and options.cost:
             subprocess.run([f"{folder}/cost", f"{folder}/{TOOL}", str(options.cost)], check=True)
         elif not tally.failed:
             try_all(tally, folder, options.full)
