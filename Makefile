@@ -5,6 +5,8 @@
 #               `make lib`, and the cases of the programs with those of `make` (some minutes; see docs/GATE.md)
 # make mpi      tree search with the detector for distributed programs, and Cholesky with a task graph in each process, over
 #               Open MPI, up to 16 processes (a few minutes); then the checker of MPI programs, over Open MPI and MPICH
+# make ompt     builds lib/libgerfmuod_ompt.so, which checks the tasks of OpenMP programs (docs/OPENMP-PROGRAMS.md); needs clang and
+#               its libomp
 # make gate     the gate: every proof from scratch, its mutants, each test, each program (see docs/GATE.md; ANEW=1: nothing
 #               that an earlier run on this machine passed is reused)
 # make mutants  tries all mutants of the crates that changed (ALL=1: of every crate; CRATE=tp_wave: of one)
@@ -30,7 +32,7 @@
 # make clean    removes everything that was proved and built
 # The compilers of C, C++ and Fortran and their options are CC, CXX, FC, CFLAGS, CXXFLAGS, FFLAGS and LDFLAGS, of make or of the
 # environment.
-.PHONY: all lib demo test mpi gate mutants times soak bench docs install uninstall dist clean
+.PHONY: all lib demo test mpi ompt gate mutants times soak bench docs install uninstall dist clean
 
 all: bin/samples
 
@@ -65,6 +67,9 @@ test:
 mpi: lib/libgerfmuod.a
 	@tools/dev mpi
 	@tools/dev mpi-check
+
+ompt: lib/libgerfmuod.a
+	@$(MAKE) --no-print-directory -s -C capi/preload/openmp
 
 # (one job per check: each further job of a check loads the libraries again)
 gate:

@@ -21,7 +21,7 @@ from . import repository, running
 PARTS = {
     "dag": "dag", "try": "try", "capi": "capi", "pages": "pages", "package": "package", "strange": "limits strange --quick",
     "refuse": "limits refuse --quick", "docs": "docs", "bench": "bench --check", "mutants": "mutants --stale", "tools": "test --tools",
-    "mpi-check": "mpi-check",
+    "mpi-check": "mpi-check", "ompt": "ompt",
 }
 TOOLS = f"{repository.TOP}/tools/dev"
 # the time limits in minutes: of a part of the tests, and of the gate, which leaves them time within three hours

@@ -5,12 +5,12 @@ They work on the repository that they are in, from whatever folder they are call
 import argparse
 
 from . import bench, build, capi, checks, dag_programs, docs, drawn, lanes, library, limits, lines
-from . import mpi, mpi_check, mutants, new_pool, pages, plots, soak, summary, tries
+from . import mpi, mpi_check, mutants, new_pool, ompt, pages, plots, soak, summary, tries
 from .shipping import manual, package
 
 COMMANDS = {
     "build": build, "lib": library, "test": checks, "capi": capi, "dag": dag_programs, "mpi": mpi,
-    "mpi-check": mpi_check, "try": tries,
+    "mpi-check": mpi_check, "ompt": ompt, "try": tries,
     "pages": pages, "mutants": mutants, "lanes": lanes, "lines": lines, "docs": docs, "draw": drawn, "plot": plots,
     "summary": summary, "new-pool": new_pool, "soak": soak, "bench": bench, "manual": manual, "package": package,
 }
