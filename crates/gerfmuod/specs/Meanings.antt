@@ -1,5 +1,5 @@
 -- The name and the meaning of each refusal of the library, by its number.
-use Rattle.std.specs.Prelude.{ℕ, ◌==◌, List, codes, nat_le, if◌then◌else◌, Option, Some, None}
+use Rattle.std.specs.Prelude.{ℕ, ◌==◌, List, codes, if◌then◌else◌, Option, Some, None}
 use Rattle.tp_base.specs.Refusals.{number_of, name_of}
 use Rattle.tp_base.specs.declared.Refusal.{Refusal}
 use Rattle.tp_base.specs.declared.Refusal.TheVariants as pool
