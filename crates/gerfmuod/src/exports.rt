@@ -1,4 +1,4 @@
-//! The exported functions on a core, which `capi/gerfmuod.h` declares.
+//! The exported functions on a core, which `gerfmuod.h` declares.
 ghost use Rattle.std.specs.Prelude.{◌≡◌, ◌≤◌};
 ghost use Rattle.std.specs.Borrow.{full_share, sem};
 ghost use Rattle.std.specs.Ptr.{lies_at, room_at};

@@ -1,5 +1,5 @@
 //! Task graphs that run on the threads of a program in C: a team in the caller's memory. The header
-//! `capi/gerfmuod_graph.h` states what a caller must ensure.
+//! `gerfmuod_graph.h` states what a caller must ensure.
 ghost use Rattle.std.specs.Borrow.{full_share, sem};
 ghost use Rattle.std.specs.Ptr.{lies_at, room_at};
 ghost use Rattle.gerfmuod.specs.contracts.graph.slot.GraphSlot.{the_row as slot_row};

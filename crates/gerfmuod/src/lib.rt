@@ -1,5 +1,5 @@
-//! The library for programs in C: the detector (`capi/gerfmuod.h`), the detector of one process of a distributed
-//! program (`capi/gerfmuod_process.h`) and task graphs (`capi/gerfmuod_graph.h`). The headers state what a caller must
+//! The library for programs in C: the detector (`gerfmuod.h`), the detector of one process of a distributed
+//! program (`gerfmuod_process.h`) and task graphs (`gerfmuod_graph.h`). The headers state what a caller must
 //! ensure.
 #![tactic(auto)]
 

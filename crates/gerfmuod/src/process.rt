@@ -1,4 +1,4 @@
-//! The exported functions on one process of a distributed program, which `capi/gerfmuod_process.h` declares. A process
+//! The exported functions on one process of a distributed program, which `gerfmuod_process.h` declares. A process
 //! is plain data in the caller's memory.
 
 ghost use Rattle.std.specs.Prelude.{◌≡◌, ◌⊎◌, ◌&&◌, true, Some};
