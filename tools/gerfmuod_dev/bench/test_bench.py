@@ -1,4 +1,4 @@
-"""Tests of what decides whether rows are stored and what tables say; `tools/dev bench --check` and pytest run them."""
+"""Tests of what decides whether rows are stored and what tables say; pytest runs them."""
 from . import conditions, metg, soundness, tables
 from .rows import Row
 
