@@ -91,7 +91,7 @@ static void write_trace(region *r) {
     free(text);
 }
 
-void close_core(region *r) {
+static void close_core(region *r) {
     if (!r->is_open) return;
     write_trace(r);
     gerfmuod_close(&r->core);

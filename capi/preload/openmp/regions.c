@@ -17,7 +17,6 @@ region *new_region(const void *code, task *creator) {
     r->users = 1;
     r->next = &regions, r->previous = regions.previous;
     r->previous->next = r, regions.previous = r;
-    total.regions++;
     return r;
 }
 

@@ -100,7 +100,7 @@ typedef struct worker { /* a thread */
 } worker;
 
 typedef struct totals {
-    uint64_t events, tasks, dependences, ends, faults, regions, renewals, span, in_tasks, outside, serial, waiting;
+    uint64_t events, tasks, dependences, ends, faults, renewals, span, in_tasks, outside, serial, waiting;
     uint64_t unsent, unended, ordered, devices, orphans, unjudged, cancelled; /* what is not judged: see report.c */
     uint32_t threads;
 } totals;
@@ -161,7 +161,6 @@ void judge(task *t, uint32_t kind, const task *maker, const char *what);
 bool is_of_this_core(const task *t);
 void judge_end(region *r, const char *what);
 void open_core(region *r);
-void close_core(region *r);
 
 /* messages.c */
 void say(const char *form, ...) __attribute__((format(printf, 1, 2)));
