@@ -25,8 +25,8 @@ STEPS = 999_999
 PAGE = "docs/OTHER-RUNTIMES.md"
 # the kinds of steps of bench/steps.c
 KINDS = ("tasks", "messages", "makers", "sparse", "large", "hashed")
-# those that need MPI or a peer
-ELSEWHERE = re.compile("capi/mpi/|capi/bench/peers/")
+# those that need MPI, OpenMP or a peer
+ELSEWHERE = re.compile("capi/mpi/|capi/bench/peers/|capi/preload/")
 
 
 def check_symbols(tally):
