@@ -319,7 +319,7 @@ struct seen {
 /* Task 2 fails. */
 static int body(void *context, uint32_t task) {
     struct seen *seen = context;
-    if (seen->ran++ == 0) {
+    if (__atomic_fetch_add(&seen->ran, 1, __ATOMIC_RELAXED) == 0) {
         seen->run = gerfmuod_team_run(seen->team, 2, body, seen), seen->start = gerfmuod_team_start(seen->team, 2);
         seen->again = gerfmuod_team_again(seen->team), seen->record = gerfmuod_team_record(seen->team, 0);
         seen->profile = gerfmuod_team_profile(seen->team, stdout);
