@@ -210,7 +210,7 @@ def measure(bench, case, candidates, kernel=None):
         is_counted = bench.counts and not bench.load and candidate.nodes * candidate.workers == 1
         counted = instructions(candidate, case) if is_counted else None
         row = row_of(case, candidate, bench, own, counted)
-        rows.append(row._replace(kernel_nanoseconds=statistics.median(iterations[candidate.program])) if kernel else row)
+        rows.append(row._replace(kernel_nanoseconds=min(iterations[candidate.program])) if kernel else row)
     return rows
 
 
