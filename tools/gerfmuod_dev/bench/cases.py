@@ -42,6 +42,8 @@ ITERATIONS = [50 * 2**power for power in range(11)]
 ALONE, TOGETHER = ITERATIONS[:8], ITERATIONS[3:]
 # how many the one task has by which an iteration is timed: at least 100 times as long as all else in its run
 KERNEL_ITERATIONS = 5_000_000
+# how often that is timed before the first case
+KERNEL_ROUNDS = 10
 
 
 def there(*candidates):
@@ -125,7 +127,10 @@ def kernel_of(bench):
     candidates = grid_programs(bench, ["no_comm", "1", "1", str(KERNEL_ITERATIONS)], GRID_PLACES[:1])
     case = Case("patterns", f"one task, {KERNEL_ITERATIONS:,} iterations", "task", 1)
     compare(case, candidates)
-    return Kernel(case, candidates, KERNEL_ITERATIONS)
+    kernel = Kernel(case, candidates, KERNEL_ITERATIONS, {})
+    for _ in range(KERNEL_ROUNDS):
+        kernel.measure(bench)
+    return kernel
 
 
 def grid(bench, pattern, iterations, places, kernel):

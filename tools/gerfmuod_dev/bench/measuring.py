@@ -6,7 +6,6 @@ import shutil
 import statistics
 import subprocess
 import sys
-from collections import defaultdict
 from dataclasses import astuple, dataclass, fields
 
 from .. import running
@@ -45,18 +44,18 @@ class Candidate:
 
 @dataclass(frozen=True)
 class Kernel:
-    """One task of many iterations with which each program times an iteration, once in each round."""
+    """One task of many iterations with which each program times an iteration, in each round: `least` has the least
+    nanoseconds so far, by program."""
 
     case: Case
     candidates: list
     iterations: int
+    least: dict
 
-    def nanoseconds(self, bench):
-        """Runs each program. Returns the nanoseconds of an iteration by program, one number for each run."""
-        return {
-            candidate.program: [time / self.iterations for time in cost_of(bench, candidate, self.case)[1]]
-            for candidate in self.candidates
-        }
+    def measure(self, bench):
+        for candidate in self.candidates:
+            time = min(cost_of(bench, candidate, self.case)[1]) / self.iterations
+            self.least[candidate.program] = min(time, self.least.get(candidate.program, time))
 
 
 @dataclass(frozen=True)
@@ -198,19 +197,19 @@ def measure(bench, case, candidates, kernel=None):
     places = ", ".join(dict.fromkeys(f"{candidate.nodes} by {candidate.workers}" for candidate in candidates))
     print(f"{case.measurement}: {case.name}, {places}", file=sys.stderr, flush=True)
     compare(case, candidates)
-    measured, iterations = [[] for _ in candidates], defaultdict(list)
+    measured = [[] for _ in candidates]
     with busy_processes(bench.load):
         for _ in range(bench.rounds):
             for candidate, own in zip(candidates, measured):
                 own.append(cost_of(bench, candidate, case))
-            for program, times in kernel.nanoseconds(bench).items() if kernel else ():
-                iterations[program] += times
+            if kernel:
+                kernel.measure(bench)
     rows = []
     for candidate, own in zip(candidates, measured):
         is_counted = bench.counts and not bench.load and candidate.nodes * candidate.workers == 1
         counted = instructions(candidate, case) if is_counted else None
         row = row_of(case, candidate, bench, own, counted)
-        rows.append(row._replace(kernel_nanoseconds=min(iterations[candidate.program])) if kernel else row)
+        rows.append(row._replace(kernel_nanoseconds=kernel.least[candidate.program]) if kernel else row)
     return rows
 
 

@@ -1,8 +1,8 @@
 """METG(50%) of a program, from the rows of `patterns`: the smallest task at which it uses half of the machine.
 
 The part of the machine that works at kernels is the sequential time of all tasks' kernels, divided by the workers and by
-the time of the run. The time of an iteration is the least of one task of many, which the program runs in the same rounds,
-since a machine's speed drifts. A task's size is the time of the run times the workers, divided by the tasks, so it includes the
+the time of the run. The time of an iteration is the least of one task of many until then, which the program runs in each
+round, so the machine's best speed counts. A task's size is the time of the run times the workers, divided by the tasks, so it includes the
 runtime's overhead. All times are those that the programs take of their own runs.
 """
 from dataclasses import dataclass

@@ -16,7 +16,7 @@ class Row(NamedTuple):
     switches, page faults and memory. If `runs` is not None, each process made that many runs and timed them itself:
     `milliseconds` is the median of all runs but the first of each process, whose median is `first_milliseconds`, and
     processor time, switches and faults are those of a process divided by its runs. `kernel_nanoseconds` is the least time of
-    an iteration of the kernel, which the program was asked for in the same rounds.
+    an iteration of the kernel until then, which the program is asked for in each round.
     """
 
     measurement: str
