@@ -89,7 +89,7 @@ def try_all(tally, folder, is_full):
 
 def arguments(parser):
     parser.add_argument("--full", action="store_true", help="the long form: 50 runs, and two million tasks")
-    parser.add_argument("--cost", type=int, metavar="ROUNDS", help="measure what the tool costs, of so many runs each")
+    parser.add_argument("--cost", type=int, metavar="ROUNDS", help="measure what the tool costs, in this number of runs")
 
 
 def run(options):

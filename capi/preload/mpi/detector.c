@@ -9,7 +9,7 @@
 
 enum { TAG_NOTICE = 1, TAG_CONTROL = 2 };
 enum { PATIENCE = 64, AGAIN = 1024, LONG = 1024, LONG_FOR_DATA = 1 << 14, SLOTS = 4 };
-/* After so many seconds without the notice of a message that was received, this library gives up. */
+/* After this number of seconds without the notice of a message that was received, this library gives up. */
 static const double UNANNOUNCED_SECONDS = 30;
 
 /* Both kinds of messages have at most this size. */

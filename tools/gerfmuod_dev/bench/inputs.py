@@ -52,7 +52,7 @@ class Writer:
         return next((number % NODES for number in range(first, first + NODES) if self.pending[number % NODES]), None)
 
     def wait(self, task, inputs):
-        """Has a task wait for so many more inputs."""
+        """Has a task wait for this number of further inputs."""
         if inputs:
             self.waiting.append((task, inputs))
         else:

@@ -127,7 +127,7 @@ def refuse_tests(tally, _, folder):
 
 
 def limited(command, stdin, growth):
-    """Yields runs of a command at limits of its address space, which grow by so many percent."""
+    """Yields runs of a command at limits of its address space, which grow by this percentage."""
     limit = FIRST_LIMIT
     for _ in range(LIMITS):
         limits = 1024 * limit, 1024 * limit

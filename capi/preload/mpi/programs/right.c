@@ -185,7 +185,7 @@ static void files(void) {
     MPI_File file;
     char name[100];
     int x = -1;
-    snprintf(name, sizeof name, "/tmp/gerfmuod_right_%d", (int)getppid());
+    snprintf(name, sizeof name, "gerfmuod_right_%d", (int)getppid()); /* in the folder of the run; it is deleted on close */
     MPI_Bcast(name, sizeof name, MPI_CHAR, 0, WORLD);
     MPI_File_open(WORLD, name, MPI_MODE_CREATE | MPI_MODE_RDWR | MPI_MODE_DELETE_ON_CLOSE, MPI_INFO_NULL, &file);
     MPI_File_write_at_all(file, me * 4, &me, 1, MPI_INT, NO_STATUS);
