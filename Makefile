@@ -1,12 +1,13 @@
 # make          proves the programs with all that they use, and builds them: bin/tp and bin/samples (half an hour on four
-#               cores the first time); tp comes first, and `make bin/tp` builds nothing else
+#               cores the first time); tp comes first, and `make bin/tp` builds nothing else. It keeps some 2 GB in crates/*/out,
+#               and while it runs up to 1 GB in the temporary folder (TMPDIR)
 # make demo     two runs of the program, without proofs, on the cases of tools/data/demo (a minute)
+# make try      the programs and the library without proofs, in unproved/bin and unproved/lib (some minutes)
 # make test     every test and every program, without proofs: those in C, C++, Fortran and Python with the library of
 #               `make lib`, and the cases of the programs with those of `make` (some minutes; see docs/GATE.md)
 # make mpi      tree search with the detector for distributed programs, and Cholesky with a task graph in each process, over
 #               Open MPI, up to 16 processes (a few minutes); then the checker of MPI programs, over Open MPI and MPICH
-# make ompt     builds lib/libgerfmuod_ompt.so, which checks the tasks of OpenMP programs (docs/OPENMP-PROGRAMS.md); needs clang and
-#               its libomp
+# make ompt     of these only lib/libgerfmuod_ompt.so, which checks the tasks of OpenMP programs (docs/OPENMP-PROGRAMS.md)
 # make gate     the gate: every proof from scratch, its mutants, each test, each program (see docs/GATE.md; ANEW=1: nothing
 #               that an earlier run on this machine passed is reused)
 # make mutants  tries all mutants of the crates that changed (ALL=1: of every crate; CRATE=tp_wave: of one)
@@ -16,25 +17,32 @@
 #               each byte, and with random texts; the programs over borrowed data at a terminal; and random calls of the
 #               library for C, compared with a model
 # make lib      proves the library for other languages, and builds it: lib/libgerfmuod.a, libgerfmuod.so.0, the headers for C
-#               and C++, the module for Fortran and a pkg-config file; if mpicc is installed, the checker of MPI programs, too
+#               and C++, the module for Fortran and a pkg-config file; the checkers of MPI and OpenMP programs, if mpicc or clang's
+#               OpenMP is installed
 # make bench    measures the cost of a step that a program in C reports to the library, and compares all programs with others
 #               that do the same; the quick form takes some minutes (FULL=1: all cases, stored as the numbers of
 #               docs/PERFORMANCE.md; see bench/README.md)
 # make docs     draws the pictures of docs/figures again: runs by bin/samples, a page by Chromium, Cholesky by the library of
 #               make lib (without these two, their pictures stay), plots and the crates by matplotlib and graphviz
 #               (tools/bench-packages)
-# make install  installs the proved programs and the library, with the manual (if pandoc is installed), the completion for bash,
-#               the documents, and packages for pkg-config and CMake. It takes DESTDIR, PREFIX (/usr/local), EXEC_PREFIX, BINDIR,
-#               LIBDIR, INCLUDEDIR, DATADIR, MANDIR, DOCDIR and PYTHONDIR (defaults: below), also in small letters;
-#               BUILT=FOLDER installs what is in FOLDER/bin and FOLDER/lib instead of building it
+# make install  installs what a user needs of them (tools/install): the proved programs and the library, with the manual (if pandoc and
+#               help2man are installed), completion, examples, the pages for users, and packages for pkg-config and CMake. It takes DESTDIR, PREFIX
+#               (/usr/local), EXEC_PREFIX, BINDIR, LIBDIR, INCLUDEDIR, DATADIR, MANDIR, DOCDIR and PYTHONDIR (defaults: below), also in
+#               small letters; BUILT=FOLDER installs what is in FOLDER/bin and FOLDER/lib instead of building it
 # make uninstall  removes what make install put there; it takes the same DESTDIR, PREFIX and DATADIR
+# make release  packs the same files for others into DIST (dist/): a tarball, a wheel for Python and Debian's packages (tools/release;
+#               BUILT=FOLDER as above). `make release-test` tries them, by the commands of docs/INSTALL.md, in a Debian of its own
+#               without the toolchain, which debootstrap writes into ROOT the first time (~/.cache/gerfmuod/bookworm; needs root)
 # make dist     packs the committed files into gerfmuod-VERSION.tar.gz
 # make clean    removes everything that was proved and built
 # The compilers of C, C++ and Fortran and their options are CC, CXX, FC, CFLAGS, CXXFLAGS, FFLAGS and LDFLAGS, of make or of the
 # environment.
-.PHONY: all lib demo test mpi ompt gate mutants times soak bench docs install uninstall dist clean
+.PHONY: all lib demo try test mpi ompt gate mutants times soak bench docs install uninstall release release-test dist clean
 
 all: bin/samples
+
+# (expanded by the recipes that call it)
+RT = $(or $(shell command -v rt),$(error rt is not on the path: it is part of the Rattle toolchain (README.md, From the sources)))
 
 SOURCES := $(shell find crates -name out -prune -o \( -name '*.rt' -o -name '*.antt' \) -print)
 
@@ -47,19 +55,24 @@ bin/samples: $(SOURCES) crates.txt
 
 MPICC ?= mpicc
 MPI_CHECK := $(if $(shell command -v $(MPICC)),lib/libgerfmuod_mpi_check.so)
+OMPT := $(shell clang -fopenmp -fsyntax-only -include omp-tools.h -xc /dev/null 2> /dev/null && echo lib/libgerfmuod_ompt.so)
 
-lib: lib/libgerfmuod.a $(MPI_CHECK)
+lib: lib/libgerfmuod.a $(MPI_CHECK) $(OMPT)
 
-HEADERS := $(wildcard capi/include/* capi/fortran/*)
+HEADERS := $(wildcard capi/include/gerfmuod/* capi/fortran/*)
 
-lib/libgerfmuod.a: $(SOURCES) crates.txt $(HEADERS) $(wildcard capi/src/*.*)
+lib/libgerfmuod.a: $(SOURCES) crates.txt capi/include/gerfmuod.h $(HEADERS) $(wildcard capi/src/*.*)
 	@tools/dev lib
 
 lib/libgerfmuod_mpi_check.so: lib/libgerfmuod.a $(wildcard capi/preload/mpi/*)
 	@MPICC=$(MPICC) tools/dev mpi-check --build lib
 
 demo:
-	cd crates/tp && rt try --cases ../../tools/data/demo
+	cd crates/tp && $(RT) try --cases ../../tools/data/demo
+
+try:
+	@: $(RT)
+	@tools/try tp library samples
 
 test:
 	@tools/dev test
@@ -68,12 +81,14 @@ mpi: lib/libgerfmuod.a
 	@tools/dev mpi
 	@tools/dev mpi-check
 
-ompt: lib/libgerfmuod.a
+ompt: lib/libgerfmuod_ompt.so
+
+lib/libgerfmuod_ompt.so: lib/libgerfmuod.a $(wildcard capi/preload/openmp/*.[ch])
 	@$(MAKE) --no-print-directory -s -C capi/preload/openmp
 
 # (one job per check: each further job of a check loads the libraries again)
 gate:
-	RT_JOBS=$$(tools/dev lanes) rt ci $(if $(ANEW),--anew)
+	RT_JOBS=$$(tools/dev lanes) $(RT) ci $(if $(ANEW),--anew)
 
 mutants:
 	@tools/dev mutants $(if $(ALL),--all,$(CRATE))
@@ -110,7 +125,7 @@ DOCDIR ?= $(or $(docdir),$(DATADIR)/doc/gerfmuod)
 PYTHONDIR ?= $(or $(pythondir),$(LIBDIR)/gerfmuod/python)
 VERSION = $(shell sed -n 's/^version = "\(.*\)"/\1/p' python/pyproject.toml)
 FOLDERS := PREFIX EXEC_PREFIX BINDIR LIBDIR INCLUDEDIR DATADIR MANDIR DOCDIR PYTHONDIR
-GIVEN = DESTDIR='$(abspath $(DESTDIR))' BUILT='$(abspath $(BUILT))' VERSION='$(VERSION)' HEADERS='$(HEADERS)' \
+GIVEN = DESTDIR='$(abspath $(DESTDIR))' BUILT='$(abspath $(BUILT))' VERSION='$(VERSION)' \
         $(foreach name,$(FOLDERS),$(name)='$($(name))')
 
 install: $(BUILT)/bin/samples $(BUILT)/lib/libgerfmuod.a
@@ -119,8 +134,17 @@ install: $(BUILT)/bin/samples $(BUILT)/lib/libgerfmuod.a
 uninstall:
 	@$(GIVEN) tools/install --remove
 
+DIST ?= dist
+ROOT ?= $(HOME)/.cache/gerfmuod/bookworm
+
+release: $(BUILT)/bin/samples $(BUILT)/lib/libgerfmuod.a
+	@BUILT='$(abspath $(BUILT))' DIST='$(abspath $(DIST))' VERSION='$(VERSION)' tools/release
+
+release-test: release
+	@BUILT='$(abspath $(BUILT))' DIST='$(abspath $(DIST))' VERSION='$(VERSION)' ROOT='$(abspath $(ROOT))' tools/release-test
+
 dist:
 	git -c tar.umask=0022 archive --prefix=gerfmuod-$(VERSION)/ --output=gerfmuod-$(VERSION).tar.gz HEAD
 
 clean:
-	rm -rf bin lib crates/*/out
+	rm -rf bin lib unproved crates/*/out

@@ -4,7 +4,7 @@
  * nanoseconds of N steps of several threads, under a mutex and under a spin lock. `steps stack` prints the stack that the
  * calls use. */
 #define _XOPEN_SOURCE 700
-#include "gerfmuod.h"
+#include <gerfmuod/core.h>
 
 #include <pthread.h>
 #include <stdio.h>
@@ -36,9 +36,9 @@ static long resident(void) {
 static inline unsigned long numbered(gerfmuod_core *core, uint32_t steps, uint32_t factor, uint32_t first) {
     unsigned long refused = 0;
     for (uint32_t t = 0; t < steps / 3; t++) {
-        refused += gerfmuod_insert(core, t & 7, t * factor + first, 0).refused != 0;
-        refused += gerfmuod_begin(core, t * factor + first).refused != 0;
-        refused += gerfmuod_done(core, t * factor + first).refused != 0;
+        refused += gerfmuod_core_insert(core, t & 7, t * factor + first, 0).refused != 0;
+        refused += gerfmuod_core_begin(core, t * factor + first).refused != 0;
+        refused += gerfmuod_core_done(core, t * factor + first).refused != 0;
     }
     return refused;
 }
@@ -53,9 +53,9 @@ static unsigned long messages(gerfmuod_core *core, uint32_t steps) {
     unsigned long refused = 0;
     for (uint32_t m = 0; m < steps / 3; m++) {
         uint32_t to = (m + 1) & 7;
-        refused += gerfmuod_send(core, m & 7, to, m, GERFMUOD_FIRST_GENERATION).refused != 0;
-        refused += gerfmuod_receive(core, to, m, GERFMUOD_FIRST_GENERATION).refused != 0;
-        refused += gerfmuod_message_end(core, to, m, GERFMUOD_FIRST_GENERATION).refused != 0;
+        refused += gerfmuod_core_send(core, m & 7, to, m, GERFMUOD_FIRST_GENERATION).refused != 0;
+        refused += gerfmuod_core_receive(core, to, m, GERFMUOD_FIRST_GENERATION).refused != 0;
+        refused += gerfmuod_core_message_end(core, to, m, GERFMUOD_FIRST_GENERATION).refused != 0;
     }
     return refused;
 }
@@ -64,9 +64,9 @@ static unsigned long messages(gerfmuod_core *core, uint32_t steps) {
 static unsigned long made_tasks(gerfmuod_core *core, uint32_t steps) {
     unsigned long refused = 0;
     for (uint32_t t = 0; t < steps / 3; t++) {
-        refused += gerfmuod_insert_by(core, GERFMUOD_BY_OPENING, 0, t & 7, t, 0).refused != 0;
-        refused += gerfmuod_begin_at(core, t & 7, t).refused != 0;
-        refused += gerfmuod_done_at(core, t & 7, t).refused != 0;
+        refused += gerfmuod_core_insert_by(core, GERFMUOD_BY_OPENING, 0, t & 7, t, 0).refused != 0;
+        refused += gerfmuod_core_begin_at(core, t & 7, t).refused != 0;
+        refused += gerfmuod_core_done_at(core, t & 7, t).refused != 0;
     }
     return refused;
 }
@@ -96,10 +96,10 @@ typedef struct {
 
 static pthread_spinlock_t spin;
 
-static gerfmuod_answer step_of(const reporter *r, uint32_t kind, uint32_t first, uint32_t second) {
+static gerfmuod_step_result step_of(const reporter *r, uint32_t kind, uint32_t first, uint32_t second) {
     if (r->spins) pthread_spin_lock(&spin);
     else pthread_mutex_lock(&lock);
-    gerfmuod_answer answer = gerfmuod_step(r->core, kind, first, second, 0, 0);
+    gerfmuod_step_result answer = gerfmuod_core_step(r->core, kind, first, second, 0, 0);
     if (r->spins) pthread_spin_unlock(&spin);
     else pthread_mutex_unlock(&lock);
     return answer;
@@ -135,12 +135,12 @@ static double best(unsigned long (*run)(gerfmuod_core *, uint32_t), uint32_t ste
     double least = 1e300;
     for (int round = 0; round < 5; round++) {
         gerfmuod_core core;
-        if (gerfmuod_open(&core, 8)) exit(1);
+        if (gerfmuod_core_open(&core, 8)) exit(1);
         double from = now();
         if (run(&core, steps)) exit(1);
         double took = (now() - from) / steps;
         if (took < least) least = took;
-        gerfmuod_close(&core);
+        gerfmuod_core_close(&core);
     }
     return least;
 }
@@ -153,31 +153,30 @@ static size_t trace_length;
 static void *nothing(void *unused) { return unused; }
 
 static void *take_steps(void *unused) {
-    if (gerfmuod_reserve(&deep, 3000, 500, 500)) exit(1);
+    if (gerfmuod_core_reserve(&deep, 3000, 500, 500)) exit(1);
     if (tasks(&deep, 3000) || messages(&deep, 3000)) exit(1);
     for (uint32_t node = 0; node < 8; node++)
-        if (gerfmuod_ready(&deep, node).refused) exit(1);
-    if (gerfmuod_settle(&deep).refused || gerfmuod_reopen(&deep).refused) exit(1);
-    gerfmuod_whole(&deep);
-    gerfmuod_numbers(&deep, 7);
+        if (gerfmuod_core_ready(&deep, node).refused) exit(1);
+    if (gerfmuod_core_settle(&deep).refused || gerfmuod_core_reopen(&deep).refused) exit(1);
+    if (!gerfmuod_core_status(&deep).steps || gerfmuod_core_counters(&deep, 7).refused) exit(1);
     return unused;
 }
 
 /* Numbers that are far apart are stored in a tree. */
 static void *take_far_steps(void *unused) {
     gerfmuod_core far;
-    if (gerfmuod_open(&far, 8)) exit(1);
+    if (gerfmuod_core_open(&far, 8)) exit(1);
     for (uint32_t t = 0; t < 20000; t++) {
-        if (gerfmuod_insert(&far, t & 7, 4000000000u - t * 7919u, 0).refused) exit(1);
+        if (gerfmuod_core_insert(&far, t & 7, 4000000000u - t * 7919u, 0).refused) exit(1);
     }
-    gerfmuod_close(&far);
+    gerfmuod_core_close(&far);
     return unused;
 }
 
 static void *write_trace(void *unused) {
-    trace_length = gerfmuod_trace(&deep, NULL, 0).length;
+    trace_length = gerfmuod_core_trace(&deep, NULL, 0).length;
     trace = malloc(trace_length);
-    if (!trace || gerfmuod_trace(&deep, trace, trace_length).outcome) exit(1);
+    if (!trace || gerfmuod_core_trace(&deep, trace, trace_length).outcome) exit(1);
     return unused;
 }
 
@@ -188,7 +187,7 @@ static void *judge_trace(void *unused) {
 }
 
 static void *close_core(void *unused) {
-    gerfmuod_close(&deep);
+    gerfmuod_core_close(&deep);
     return unused;
 }
 
@@ -209,7 +208,7 @@ static size_t depth_of(void *(*job)(void *)) {
 }
 
 static int stacks(void) {
-    if (gerfmuod_open(&deep, 8)) return 1;
+    if (gerfmuod_core_open(&deep, 8)) return 1;
     printf("stack of reserve, steps, questions and settle %zu bytes\n", depth_of(take_steps));
     printf("stack of steps with large numbers, and close %zu bytes\n", depth_of(take_far_steps));
     printf("stack of trace %zu bytes\n", depth_of(write_trace));
@@ -228,7 +227,7 @@ static double contended(uint32_t threads, bool spins, uint32_t steps) {
         gerfmuod_core core;
         reporter reporters[64];
         uint32_t each = steps / 3 / threads;
-        if (gerfmuod_open(&core, 8)) exit(1);
+        if (gerfmuod_core_open(&core, 8)) exit(1);
         double from = now();
         for (uint32_t i = 0; i < threads; i++) {
             reporters[i] = (reporter){.core = &core, .from = i * each, .to = (i + 1) * each, .spins = spins};
@@ -237,7 +236,7 @@ static double contended(uint32_t threads, bool spins, uint32_t steps) {
         for (uint32_t i = 0; i < threads; i++) pthread_join(reporters[i].thread, NULL);
         double took = (now() - from) / (3.0 * each * threads);
         if (took < least) least = took;
-        gerfmuod_close(&core);
+        gerfmuod_core_close(&core);
     }
     return least;
 }
@@ -261,10 +260,10 @@ static int count(const char *name, uint32_t steps) {
     gerfmuod_core core;
     int k = 0;
     while (k < KINDS && strcmp(kinds[k].name, name)) k++;
-    if (k == KINDS || gerfmuod_open(&core, 8)) return 2;
+    if (k == KINDS || gerfmuod_core_open(&core, 8)) return 2;
     unsigned long refused = kinds[k].run(&core, steps);
     printf("%ld\n", resident());
-    gerfmuod_close(&core);
+    gerfmuod_core_close(&core);
     return refused != 0;
 }
 

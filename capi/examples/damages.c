@@ -12,7 +12,7 @@
  * In the columns the calls are plain ones, or with `_by` those that take what makes a step; if nodes are busy, an action is open
  * at each node while the tree grows. The output is always the same. The exit status is 1 if a right run fails, or if one of the
  * first 20 damages is silent with `_by`. */
-#include "gerfmuod.h"
+#include <gerfmuod/core.h>
 #include <stdio.h>
 #include <stdlib.h>
 #include <string.h>
@@ -218,25 +218,25 @@ static bool is_of_first(const plan *p, const event *e) {
     return is_of_task(e->op) == is_of_task(first->op) && (is_of_task(e->op) ? e->task.number : e->message) == number;
 }
 
-static void check(const plan *p, const event *e, gerfmuod_answer answer) {
+static void check(const plan *p, const event *e, gerfmuod_step_result answer) {
     if (!answer.refused || run.is_found) return;
     run.is_found = true;
     run.outcome = is_of_first(p, e) ? AT_ONCE : LATE;
 }
 
-static gerfmuod_answer report(const plan *p, const event *e) {
+static gerfmuod_step_result report(const plan *p, const event *e) {
     gerfmuod_core *core = &run.core;
     uint32_t kind = p->maker_kind, maker = p->maker, t = e->task.number;
     switch ((int)e->op) {
-    case INSERT: return run.by ? gerfmuod_insert_by(core, kind, maker, e->node, t, 0) : gerfmuod_insert(core, e->node, t, 0);
-    case BEGIN: return run.by ? gerfmuod_begin_at(core, e->node, t) : gerfmuod_begin(core, t);
-    case DONE: return run.by ? gerfmuod_done_at(core, e->node, t) : gerfmuod_done(core, t);
+    case INSERT: return run.by ? gerfmuod_core_insert_by(core, kind, maker, e->node, t, 0) : gerfmuod_core_insert(core, e->node, t, 0);
+    case BEGIN: return run.by ? gerfmuod_core_begin_at(core, e->node, t) : gerfmuod_core_begin(core, t);
+    case DONE: return run.by ? gerfmuod_core_done_at(core, e->node, t) : gerfmuod_core_done(core, t);
     case SEND:
-        return run.by ? gerfmuod_send_by(core, kind, maker, e->node, e->to, e->message, e->generation)
-                      : gerfmuod_send(core, e->node, e->to, e->message, e->generation);
-    case RECEIVE: return gerfmuod_receive(core, e->node, e->message, e->generation);
-    case END: return gerfmuod_message_end(core, e->node, e->message, e->generation);
-    default: return gerfmuod_ready(core, e->node);
+        return run.by ? gerfmuod_core_send_by(core, kind, maker, e->node, e->to, e->message, e->generation)
+                      : gerfmuod_core_send(core, e->node, e->to, e->message, e->generation);
+    case RECEIVE: return gerfmuod_core_receive(core, e->node, e->message, e->generation);
+    case END: return gerfmuod_core_message_end(core, e->node, e->message, e->generation);
+    default: return gerfmuod_core_ready(core, e->node);
     }
 }
 
@@ -256,13 +256,14 @@ static void report_busy(bool begins) {
     event none = {READY, {0, 0}, 0, 0, 0, 0, false};
     run.is_busy = begins;
     for (uint32_t at = 0; at < NODES; at++)
-        check(&run.threads[THREADS], &none, begins ? gerfmuod_action_open(&run.core, at, 0) : gerfmuod_action_close(&run.core, at, 0));
+        check(&run.threads[THREADS], &none,
+              begins ? gerfmuod_core_action_open(&run.core, at, 0) : gerfmuod_core_action_close(&run.core, at, 0));
 }
 
 /* An idle thread asks for the end, and then for a task of another node. */
 static void ask(uint32_t at) {
     bool is_forgotten = run.damage->edit == FORGET && run.damage->ops == SETTLE;
-    if (!is_forgotten && gerfmuod_settle(&run.core).refused == 0) {
+    if (!is_forgotten && gerfmuod_core_settle(&run.core).refused == 0) {
         run.is_found = true;
         run.outcome = run.left ? EARLY : SILENT;
         return;
@@ -322,10 +323,10 @@ static enum outcome outcome_of(const damage *d, bool keeps_busy, bool by, uint32
     run.by = by;
     run.seed = 0x9e3779b97f4a7c15u * (seed + 1);
     run.outcome = HANGS;
-    if (gerfmuod_open(&run.core, NODES)) exit(9);
+    if (gerfmuod_core_open(&run.core, NODES)) exit(9);
     begin();
     for (uint32_t k = 0; k < TURNS && !run.is_found; k++) turn();
-    gerfmuod_close(&run.core);
+    gerfmuod_core_close(&run.core);
     return run.outcome;
 }
 

@@ -2,7 +2,7 @@
 // calls of release(), which the tasks that compute the parts make. The result is compared with a loop's.
 //
 //   fibonacci NUMBER THREADS
-#include "gerfmuod.hpp"
+#include <gerfmuod/gerfmuod.hpp>
 
 #include <cstdio>
 #include <cstdlib>

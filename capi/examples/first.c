@@ -2,7 +2,7 @@
  *
  *   cc -Icapi/include capi/examples/first.c -Llib -lgerfmuod -pthread -lm -o first && ./first
  */
-#include "gerfmuod_team.h"
+#include <gerfmuod/team.h>
 #include <math.h>
 #include <stdio.h>
 
@@ -23,7 +23,7 @@ int main(void) {
     uint32_t refused = gerfmuod_team_open(&team);
     if (!refused) refused = gerfmuod_team_describe(team, 3, NULL, offsets, inputs, NULL);
     if (!refused) refused = gerfmuod_team_run(team, 4, body, NULL);
-    if (refused) fprintf(stderr, "%s: %s\n", gerfmuod_team_name(refused), gerfmuod_team_meaning(refused));
+    if (refused) fprintf(stderr, "%s\n", gerfmuod_refusal_text(refused));
     else printf("%.6f\n", z); /* 3.844231 */
     gerfmuod_team_close(team);
     return refused != 0;

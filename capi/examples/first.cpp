@@ -1,5 +1,5 @@
 // first.cpp: two tasks, and a third one that waits for both: the C++ program of docs/YOUR-BODIES.md.
-#include "gerfmuod.hpp"
+#include <gerfmuod/gerfmuod.hpp>
 #include <cmath>
 #include <cstdio>
 

@@ -23,7 +23,7 @@ program first
   refused = gerfmuod_team_open(team)
   if (refused == 0) refused = gerfmuod_team_describe(team, 3, offsets=[0, 0, 0, 2], inputs=[0, 1])
   if (refused == 0) refused = gerfmuod_team_run(team, 4, c_funloc(run_task), c_null_ptr)
-  if (refused /= 0) print '(3a)', gerfmuod_name(refused), ': ', gerfmuod_meaning(refused)
+  if (refused /= 0) print '(a)', gerfmuod_refusal_text(refused)
   if (refused == 0) print '(f8.6)', z ! 3.844231
   call gerfmuod_team_close(team)
 end program

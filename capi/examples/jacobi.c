@@ -9,7 +9,7 @@
  *     dep:T   OpenMP's tasks with `depend`
  */
 #define _POSIX_C_SOURCE 200809L
-#include "gerfmuod_team.h"
+#include <gerfmuod/team.h>
 #include "timing.h"
 #include <string.h>
 

@@ -6,7 +6,7 @@
  * is done at once; task 2k + 1 waits for it and for the device, and adds up the block. Every third block is cached, and needs no
  * device. Then one task waits for a timer, while the threads have to sleep. The exit status is 1 if something is wrong. */
 #define _POSIX_C_SOURCE 200809L
-#include "gerfmuod_team.h"
+#include <gerfmuod/team.h>
 #include "timing.h"
 #include <inttypes.h>
 #include <pthread.h>

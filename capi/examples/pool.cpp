@@ -7,7 +7,7 @@
 //     pool twice      a message is received twice
 //     pool late       a send is reported after its message can be received
 //     pool early      one wave with equal sums is taken for the end
-#include "gerfmuod.h"
+#include <gerfmuod/core.h>
 
 #include <atomic>
 #include <chrono>
@@ -31,9 +31,9 @@ enum class Bug { none, twice, late, early };
 class Detector {
   public:
     Detector() {
-        if (gerfmuod_open(&core, nodes)) std::abort();
+        if (gerfmuod_core_open(&core, nodes)) std::abort();
     }
-    ~Detector() { gerfmuod_close(&core); }
+    ~Detector() { gerfmuod_core_close(&core); }
     Detector(const Detector &) = delete;
     Detector &operator=(const Detector &) = delete;
 
@@ -41,8 +41,8 @@ class Detector {
     template <typename Call> void tell(const char *what, Number node, Number number, Call call) {
         std::lock_guard<std::mutex> held(lock);
         if (Number why = call(&core).refused) {
-            std::fprintf(stderr, "after step %u, %s %u at node %u: refused %u %s\n", gerfmuod_length(&core), what, number,
-                         node, why, gerfmuod_refusal_text(why));
+            std::fprintf(stderr, "after step %u, %s %u at node %u: refused %u %s\n", gerfmuod_core_status(&core).steps, what,
+                         number, node, why, gerfmuod_refusal_text(why));
             std::_Exit(3);
         }
     }
@@ -75,13 +75,13 @@ class Pool {
     void run() {
         for (Number i = 0; i < nodes; i++) {
             insert(i, depth);
-            detector.tell("opening", i, i, [=](auto *c) { return gerfmuod_ready(c, i); });
+            detector.tell("opening", i, i, [=](auto *c) { return gerfmuod_core_ready(c, i); });
         }
         std::vector<std::thread> threads;
         for (Number i = 0; i < nodes * workers; i++) threads.emplace_back([this, i] { work(i % nodes); });
         for (auto &it : threads) it.join();
         std::printf("ended: %u tasks, %u messages, %u steps\n", next_task.load(), next_message.load(),
-                    detector.ask(gerfmuod_length));
+                    detector.ask(gerfmuod_core_status).steps);
     }
 
   private:
@@ -91,7 +91,7 @@ class Pool {
     }
     void insert(Number node, Number left) {
         Number task = next_task++;
-        detector.tell("insert of task", node, task, [=](auto *c) { return gerfmuod_insert(c, node, task, 0); });
+        detector.tell("insert of task", node, task, [=](auto *c) { return gerfmuod_core_insert(c, node, task, 0); });
         put(node, {false, task, left});
     }
     void send(Number from, Number to, Number left) {
@@ -101,21 +101,21 @@ class Pool {
             put(to, {true, m, left});
             std::this_thread::sleep_for(std::chrono::seconds(1));
         }
-        detector.tell("send of message", from, m, [=](auto *c) { return gerfmuod_send(c, from, to, m, generation); });
+        detector.tell("send of message", from, m, [=](auto *c) { return gerfmuod_core_send(c, from, to, m, generation); });
         if (!is_late) put(to, {true, m, left});
         if (bug == Bug::twice && m == 40) put(to, {true, m, left});
     }
     // A task sends a message to each other node if there are levels below it.
     void run_task(Number node, Item task) {
-        detector.tell("begin of task", node, task.number, [=](auto *c) { return gerfmuod_begin(c, task.number); });
+        detector.tell("begin of task", node, task.number, [=](auto *c) { return gerfmuod_core_begin(c, task.number); });
         for (Number k = 1; task.left && k < nodes; k++) send(node, (node + k) % nodes, task.left - 1);
-        detector.tell("end of task", node, task.number, [=](auto *c) { return gerfmuod_done(c, task.number); });
+        detector.tell("end of task", node, task.number, [=](auto *c) { return gerfmuod_core_done(c, task.number); });
     }
     void receive(Number node, Item it) {
         Number m = it.number;
-        detector.tell("receipt of message", node, m, [=](auto *c) { return gerfmuod_receive(c, node, m, generation); });
+        detector.tell("receipt of message", node, m, [=](auto *c) { return gerfmuod_core_receive(c, node, m, generation); });
         insert(node, it.left);
-        detector.tell("end of message", node, m, [=](auto *c) { return gerfmuod_message_end(c, node, m, generation); });
+        detector.tell("end of message", node, m, [=](auto *c) { return gerfmuod_core_message_end(c, node, m, generation); });
     }
     bool take(Number node, Item &it) {
         std::lock_guard<std::mutex> held(all[node].lock);
@@ -134,25 +134,25 @@ class Pool {
     }
     // Returns whether the pool has terminated. Until it is quiet, this costs no step.
     bool ended() {
-        Number refused = detector.ask(gerfmuod_settle).refused;
+        Number refused = detector.ask(gerfmuod_core_settle).refused;
         return refused == 0 || refused == GERFMUOD_REFUSED_ENDED;
     }
 
     // An idle node takes part in the wave. This variant takes the first equal sums for the end; the library judges the wave.
     bool ended_early(Number node) {
         if (node) {
-            detector.ask([=](auto *c) { return gerfmuod_down(c, node); });
-            detector.ask([=](auto *c) { return gerfmuod_give(c, node); });
-            detector.ask([=](auto *c) { return gerfmuod_up(c, node); });
+            detector.ask([=](auto *c) { return gerfmuod_core_down(c, node); });
+            detector.ask([=](auto *c) { return gerfmuod_core_give(c, node); });
+            detector.ask([=](auto *c) { return gerfmuod_core_up(c, node); });
             return false;
         }
-        detector.ask(gerfmuod_start);
-        gerfmuod_answer sums = detector.ask([](auto *c) { return gerfmuod_give(c, 0); });
-        if (sums.told != GERFMUOD_TOLD_WAVE) return false;
-        gerfmuod_answer judged = detector.ask(gerfmuod_judge);
-        if (sums.sent != sums.received || judged.told == GERFMUOD_TOLD_ENDED) return judged.told == GERFMUOD_TOLD_ENDED;
+        detector.ask(gerfmuod_core_start);
+        gerfmuod_step_result sums = detector.ask([](auto *c) { return gerfmuod_core_give(c, 0); });
+        if (sums.event != GERFMUOD_EVENT_WAVE_ENDED) return false;
+        gerfmuod_step_result judged = detector.ask(gerfmuod_core_judge);
+        if (sums.sent != sums.received || judged.event == GERFMUOD_EVENT_ENDED) return judged.event == GERFMUOD_EVENT_ENDED;
         std::fprintf(stderr, "after step %u, the end after wave %u with %u sent and %u received: judged not\n",
-                     detector.ask(gerfmuod_length), sums.number, sums.sent, sums.received);
+                     detector.ask(gerfmuod_core_status).steps, sums.number, sums.sent, sums.received);
         std::_Exit(3);
     }
 

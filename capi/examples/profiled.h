@@ -1,7 +1,7 @@
 /* profiled.h: the option --profile FILE of measured programs: the events of the last run of a team, and a summary of it. */
 #ifndef PROFILED_H
 #define PROFILED_H
-#include "gerfmuod_team.h"
+#include <gerfmuod/team.h>
 #include "timing.h"
 #include <string.h>
 

@@ -4,7 +4,7 @@
  *   recursion LENGTH LEAF ROUNDS WAY..     a WAY is T (threads of a team), loop, or omp:T (OpenMP's tasks; built with -fopenmp)
  */
 #define _POSIX_C_SOURCE 200809L
-#include "gerfmuod_team.h"
+#include <gerfmuod/team.h>
 #include "timing.h"
 #include <stdbool.h>
 #include <string.h>

@@ -11,29 +11,29 @@ struct Core([u64; 64]);
 
 #[repr(C)]
 #[derive(Clone, Copy, Debug)]
-struct Answer {
+struct StepResult {
     refused: u16,
-    told: u16,
+    event: u16,
     number: u32,
     sent: u32,
     received: u32,
 }
 
 unsafe extern "C" {
-    safe fn gerfmuod_open(core: &mut Core, nodes: u32) -> u32;
-    safe fn gerfmuod_close(core: &mut Core) -> u32;
-    safe fn gerfmuod_ready(core: &mut Core, node: u32) -> Answer;
-    safe fn gerfmuod_send(core: &mut Core, from: u32, to: u32, message: u32, generation: u32) -> Answer;
-    safe fn gerfmuod_receive(core: &mut Core, node: u32, message: u32, generation: u32) -> Answer;
-    safe fn gerfmuod_message_end(core: &mut Core, node: u32, message: u32, generation: u32) -> Answer;
-    safe fn gerfmuod_start(core: &mut Core) -> Answer;
-    safe fn gerfmuod_down(core: &mut Core, node: u32) -> Answer;
-    safe fn gerfmuod_give(core: &mut Core, node: u32) -> Answer;
-    safe fn gerfmuod_up(core: &mut Core, node: u32) -> Answer;
-    safe fn gerfmuod_judge(core: &mut Core) -> Answer;
+    safe fn gerfmuod_core_open(core: &mut Core, nodes: u32) -> u32;
+    safe fn gerfmuod_core_close(core: &mut Core) -> u32;
+    safe fn gerfmuod_core_ready(core: &mut Core, node: u32) -> StepResult;
+    safe fn gerfmuod_core_send(core: &mut Core, from: u32, to: u32, message: u32, generation: u32) -> StepResult;
+    safe fn gerfmuod_core_receive(core: &mut Core, node: u32, message: u32, generation: u32) -> StepResult;
+    safe fn gerfmuod_core_message_end(core: &mut Core, node: u32, message: u32, generation: u32) -> StepResult;
+    safe fn gerfmuod_core_start(core: &mut Core) -> StepResult;
+    safe fn gerfmuod_core_down(core: &mut Core, node: u32) -> StepResult;
+    safe fn gerfmuod_core_give(core: &mut Core, node: u32) -> StepResult;
+    safe fn gerfmuod_core_up(core: &mut Core, node: u32) -> StepResult;
+    safe fn gerfmuod_core_judge(core: &mut Core) -> StepResult;
 }
 
-const TOLD_ENDED: u16 = 3;
+const EVENT_ENDED: u16 = 3;
 const FIRST_GENERATION: u32 = 1;
 
 /// A core that is open, on the heap.
@@ -42,13 +42,13 @@ struct Detector(Box<Core>);
 impl Detector {
     fn new(nodes: u32) -> Option<Detector> {
         let mut it = Detector(Box::new(Core([0; 64])));
-        (gerfmuod_open(&mut it.0, nodes) == 0).then_some(it)
+        (gerfmuod_core_open(&mut it.0, nodes) == 0).then_some(it)
     }
 }
 
 impl Drop for Detector {
     fn drop(&mut self) {
-        gerfmuod_close(&mut self.0);
+        gerfmuod_core_close(&mut self.0);
     }
 }
 
@@ -66,32 +66,32 @@ struct Ring {
 
 impl Ring {
     /// Takes a step that must not be refused.
-    fn tell(&self, step: impl FnOnce(&mut Core) -> Answer) {
+    fn tell(&self, step: impl FnOnce(&mut Core) -> StepResult) {
         assert_eq!(self.ask(step).refused, 0);
     }
 
     /// Takes a step that may be refused, which then changes nothing.
-    fn ask(&self, step: impl FnOnce(&mut Core) -> Answer) -> Answer {
+    fn ask(&self, step: impl FnOnce(&mut Core) -> StepResult) -> StepResult {
         step(&mut self.detector.lock().unwrap().0)
     }
 
     fn send(&self, from: u32, hops: u32) {
         let (to, message) = ((from + 1) % NODES, self.messages.fetch_add(1, Ordering::SeqCst));
-        self.tell(|core| gerfmuod_send(core, from, to, message, FIRST_GENERATION));
+        self.tell(|core| gerfmuod_core_send(core, from, to, message, FIRST_GENERATION));
         self.inboxes[to as usize].lock().unwrap().push_back((message, hops));
     }
 
     fn wave(&self, node: u32) {
         if node > 0 {
-            self.ask(|core| gerfmuod_down(core, node));
-            self.ask(|core| gerfmuod_give(core, node));
-            self.ask(|core| gerfmuod_up(core, node));
+            self.ask(|core| gerfmuod_core_down(core, node));
+            self.ask(|core| gerfmuod_core_give(core, node));
+            self.ask(|core| gerfmuod_core_up(core, node));
             return;
         }
-        self.ask(|core| gerfmuod_start(core));
-        self.ask(|core| gerfmuod_give(core, 0));
-        let it = self.ask(|core| gerfmuod_judge(core));
-        if it.refused == 0 && it.told == TOLD_ENDED {
+        self.ask(|core| gerfmuod_core_start(core));
+        self.ask(|core| gerfmuod_core_give(core, 0));
+        let it = self.ask(|core| gerfmuod_core_judge(core));
+        if it.refused == 0 && it.event == EVENT_ENDED {
             self.ended.store(it.number, Ordering::SeqCst);
         }
     }
@@ -102,7 +102,7 @@ impl Ring {
                 self.send(0, HOPS);
             }
         }
-        self.tell(|core| gerfmuod_ready(core, node));
+        self.tell(|core| gerfmuod_core_ready(core, node));
         while self.ended.load(Ordering::SeqCst) == 0 {
             let next = self.inboxes[node as usize].lock().unwrap().pop_front();
             let Some((message, hops)) = next else {
@@ -110,11 +110,11 @@ impl Ring {
                 thread::yield_now();
                 continue;
             };
-            self.tell(|core| gerfmuod_receive(core, node, message, FIRST_GENERATION));
+            self.tell(|core| gerfmuod_core_receive(core, node, message, FIRST_GENERATION));
             if hops > 0 {
                 self.send(node, hops - 1);
             }
-            self.tell(|core| gerfmuod_message_end(core, node, message, FIRST_GENERATION));
+            self.tell(|core| gerfmuod_core_message_end(core, node, message, FIRST_GENERATION));
         }
     }
 }

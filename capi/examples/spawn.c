@@ -4,7 +4,7 @@
  *
  *   spawn LENGTH LEAF THREADS..     a part of at most LEAF elements is not made a task */
 #define _POSIX_C_SOURCE 200809L
-#include "gerfmuod_team.h"
+#include <gerfmuod/team.h>
 #include "timing.h"
 #include <stdint.h>
 #include <string.h>

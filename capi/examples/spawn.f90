@@ -51,7 +51,7 @@ contains
   subroutine need(refused)
     integer(c_int32_t), intent(in) :: refused
     if (refused == gerfmuod_ok) return
-    print '(4a)', 'refused ', gerfmuod_name(refused), ': ', gerfmuod_meaning(refused)
+    print '(2a)', 'refused: ', gerfmuod_refusal_text(refused)
     stop 1
   end subroutine
 end module

@@ -1,6 +1,6 @@
 ! sums.f90: the sum of squares of an array, by blocks: a task for each block, and a chain of tasks that adds the parts in order.
-! The graph runs twice, with gerfmuod_team_run and on OpenMP's threads, and is compared with one sum over the whole array. In
-! the second run, the first sum awaits an input from outside.
+! The graph runs three times, with gerfmuod_team_run, on OpenMP's threads and as tasks that name their data, and is compared with one
+! sum over the whole array. In the second run, the first sum awaits an input from outside.
 !
 !   gfortran -fopenmp capi/fortran/gerfmuod.f90 capi/examples/sums.f90 -Llib -lgerfmuod -pthread -o sums && ./sums
 module blocks
@@ -27,7 +27,7 @@ contains
   subroutine need(refused)
     integer(c_int32_t), intent(in) :: refused
     if (refused == gerfmuod_ok) return
-    print '(4a)', 'refused ', gerfmuod_name(refused), ': ', gerfmuod_meaning(refused)
+    print '(2a)', 'refused: ', gerfmuod_refusal_text(refused)
     stop 1
   end subroutine
 
@@ -52,13 +52,33 @@ contains
     call need(gerfmuod_team_open(team))
     call need(gerfmuod_team_describe(team, 2 * count, offsets=offsets, inputs=inputs))
   end function
+
+  ! The same, by the data that each task accesses: a part, or a part and the total. So the sums follow each other.
+  function described_by_data() result(team)
+    type(c_ptr) :: team
+    integer(c_int32_t) :: parts(count), sum_so_far
+    integer :: k
+    total = 0
+    call need(gerfmuod_team_open(team))
+    call need(gerfmuod_team_handle(team, sum_so_far))
+    do k = 1, count
+      call need(gerfmuod_team_handle(team, parts(k)))
+      call need(gerfmuod_team_task_on(team, 0, [gerfmuod_access(parts(k), gerfmuod_write)], 1_c_size_t, 0, &
+        c_null_funptr, c_null_ptr))
+    end do
+    do k = 1, count
+      call need(gerfmuod_team_task_on(team, 0, &
+        [gerfmuod_access(parts(k), gerfmuod_read), gerfmuod_access(sum_so_far, gerfmuod_update)], 2_c_size_t, 0, &
+        c_null_funptr, c_null_ptr))
+    end do
+  end function
 end module
 
 program sums
   use blocks
   implicit none
   type(c_ptr) :: team
-  type(gerfmuod_answer) :: answer
+  type(gerfmuod_graph_result) :: answer
   integer(c_int32_t) :: done
   integer :: i
   x = [(1.0d0 / i, i = 1, size(x))]
@@ -73,16 +93,21 @@ program sums
   call need(gerfmuod_team_start(team, 4))
   call need(gerfmuod_team_release(team, count))
   !$omp parallel num_threads(4) private(answer, done)
-  done = gerfmuod_none
+  done = gerfmuod_graph_none
   do
     answer = gerfmuod_team_turn(team, done)
-    if (answer%refused /= gerfmuod_ok .or. answer%next == gerfmuod_over) exit
+    if (answer%refused /= gerfmuod_ok .or. answer%next == gerfmuod_graph_over) exit
     done = answer%number
     if (run_task(c_null_ptr, done) /= 0) call gerfmuod_team_stop(team, done)
   end do
   !$omp end parallel
   call gerfmuod_team_close(team)
   call compare('threads of OpenMP')
+
+  team = described_by_data()
+  call need(gerfmuod_team_run(team, 4, c_funloc(run_task), c_null_ptr))
+  call gerfmuod_team_close(team)
+  call compare('tasks with data')
 contains
   subroutine compare(way)
     character(*), intent(in) :: way

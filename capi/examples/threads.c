@@ -9,7 +9,7 @@
  * have run in each epoch. The others are faulty variants: early finishes the work of a message when it comes and runs the task
  * later; uncounted does not count what it sends. The exit status is 1 if tasks are missing, 2 if the run does not end. */
 #define _POSIX_C_SOURCE 200809L
-#include "gerfmuod_process.h"
+#include <gerfmuod/process.h>
 #include <inttypes.h>
 #include <pthread.h>
 #include <signal.h>
@@ -80,13 +80,20 @@ static bool receive(uint32_t me, bool is_blocking, item *i) {
     return is_there;
 }
 
+/* A call that this program makes only when it cannot be refused. */
+static void must(uint32_t refused) {
+    if (!refused) return;
+    fprintf(stderr, "%s\n", gerfmuod_refusal_text(refused));
+    exit(9);
+}
+
 static void run_task(worker *w, uint32_t depth) {
     w->ran[w->process.epoch]++;
     for (int k = 0; depth && k < 3; k++) {
-        item task = {true, depth - 1, {0, 0, 0, 0, 0, 0, 0}};
+        item task = {true, depth - 1, {0, 0, 0, 0, 0, 0, 0, 0}};
         task.control.epoch = w->process.epoch;
         w->seed = w->seed * 6364136223846793005u + 1442695040888963407u;
-        if (wrong != UNCOUNTED) gerfmuod_process_count_sent(&w->process);
+        if (wrong != UNCOUNTED) must(gerfmuod_process_count_sent(&w->process));
         deliver((uint32_t)((w->seed >> 33) % n), &task);
     }
 }
@@ -94,16 +101,16 @@ static void run_task(worker *w, uint32_t depth) {
 static void take(worker *w, const item *i) {
     uint32_t refused = i->is_task ? gerfmuod_process_count_received(&w->process, i->control.epoch)
                                   : gerfmuod_process_take(&w->process, &i->control);
-    if (refused == GERFMUOD_PROCESS_NOT_YET) append(&w->kept, i);
+    if (refused == GERFMUOD_REFUSED_NOT_YET) append(&w->kept, i);
     if (refused || !i->is_task) return;
     if (wrong == EARLY) append(&w->backlog, i);
     else run_task(w, i->depth);
-    gerfmuod_process_finish_work(&w->process);
+    must(gerfmuod_process_finish_work(&w->process));
 }
 
 /* Sends all control messages that the detector has. Returns its last result. */
 static uint32_t ask_detector(worker *w) {
-    item i = {false, 0, {0, 0, 0, 0, 0, 0, 0}};
+    item i = {false, 0, {0, 0, 0, 0, 0, 0, 0, 0}};
     uint32_t next;
     while ((next = gerfmuod_process_next(&w->process, &i.control)) == GERFMUOD_PROCESS_SEND) deliver((uint32_t)i.control.to, &i);
     return next;
@@ -114,7 +121,7 @@ static void run_epoch(worker *w) {
     item i;
     memset(&w->kept, 0, sizeof w->kept);
     if (w->process.number == 0) run_task(w, DEPTH);
-    gerfmuod_process_finish_work(&w->process);
+    must(gerfmuod_process_finish_work(&w->process));
     for (size_t k = 0; k < again.count; k++) take(w, &again.items[k]);
     free(again.items);
     for (;;) {
@@ -133,7 +140,7 @@ static void *work(void *argument) {
     worker *w = argument;
     for (uint32_t e = 0; e < epochs; e++) {
         run_epoch(w);
-        if (e + 1 < epochs && gerfmuod_process_reopen(&w->process)) exit(9);
+        if (e + 1 < epochs) must(gerfmuod_process_reopen(&w->process));
     }
     return NULL;
 }
@@ -153,7 +160,7 @@ int main(int argc, char **argv) {
     worker *workers = calloc(n, sizeof *workers);
     if (!mailboxes || !workers) return 9;
     for (uint32_t i = 0; i < n; i++) {
-        gerfmuod_process_init(&workers[i].process, i, n);
+        must(gerfmuod_process_init(&workers[i].process, i, n));
         workers[i].seed = i;
         pthread_mutex_init(&mailboxes[i].lock, NULL);
         pthread_cond_init(&mailboxes[i].arrival, NULL);

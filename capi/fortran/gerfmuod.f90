@@ -1,4 +1,4 @@
-! gerfmuod.f90: task graphs from Fortran, over gerfmuod_team.h, which describes each call and its refusals.
+! gerfmuod.f90: task graphs from Fortran, over gerfmuod/team.h, which describes each call and its refusals.
 !
 ! Tasks and classes are counted from 0, as in C. Compile this file with your program and link with -lgerfmuod -pthread.
 module gerfmuod
@@ -7,23 +7,32 @@ module gerfmuod
   public
 
   ! no task, and the inputs of a task that has none
-  integer(c_int32_t), parameter :: gerfmuod_none = -1_c_int32_t
+  integer(c_int32_t), parameter :: gerfmuod_graph_none = -1_c_int32_t
   integer(c_int32_t), parameter :: gerfmuod_no_inputs(0) = [integer(c_int32_t) ::]
   ! what a turn returned in next
-  integer(c_int32_t), parameter :: gerfmuod_run = 1, gerfmuod_over = 4
-  ! refusals; gerfmuod_name and gerfmuod_meaning return texts for them
-  integer(c_int32_t), parameter :: gerfmuod_ok = 0, gerfmuod_no_task = 4, gerfmuod_wrong_life = 5, gerfmuod_ended = 15
-  integer(c_int32_t), parameter :: gerfmuod_history_full = 16, gerfmuod_no_memory = 17, gerfmuod_bad_spec = 26
-  integer(c_int32_t), parameter :: gerfmuod_no_thread = 64, gerfmuod_not_started = 65, gerfmuod_stopped = 66
-  integer(c_int32_t), parameter :: gerfmuod_running = 67, gerfmuod_not_written = 68
+  integer(c_int32_t), parameter :: gerfmuod_graph_run = 1, gerfmuod_graph_over = 4
+  ! refusals; gerfmuod_refusal_text returns texts for them
+  integer(c_int32_t), parameter :: gerfmuod_ok = 0, gerfmuod_refused_no_task = 4, gerfmuod_refused_wrong_life = 5
+  integer(c_int32_t), parameter :: gerfmuod_refused_ended = 15, gerfmuod_refused_history_full = 16
+  integer(c_int32_t), parameter :: gerfmuod_refused_no_memory = 17, gerfmuod_refused_bad_spec = 26
+  integer(c_int32_t), parameter :: gerfmuod_refused_no_thread = 64, gerfmuod_refused_not_started = 65
+  integer(c_int32_t), parameter :: gerfmuod_refused_stopped = 66, gerfmuod_refused_running = 67
+  integer(c_int32_t), parameter :: gerfmuod_refused_not_written = 68
 
-  type, bind(c) :: gerfmuod_answer
+  ! what a task does with a piece of data
+  integer(c_int32_t), parameter :: gerfmuod_read = 1, gerfmuod_write = 2, gerfmuod_update = 3
+
+  type, bind(c) :: gerfmuod_access
+    integer(c_int32_t) :: handle, mode
+  end type
+
+  type, bind(c) :: gerfmuod_graph_result
     integer(c_int32_t) :: refused, next, number, signals
   end type
 
   abstract interface
     ! The body of all tasks: runs one of them. Returns 0 if the task is done; another value if it failed, and the team stops.
-    function gerfmuod_body(context, task) bind(c) result(failed)
+    function gerfmuod_team_body(context, task) bind(c) result(failed)
       import :: c_ptr, c_int, c_int32_t
       type(c_ptr), value :: context
       integer(c_int32_t), value :: task
@@ -31,7 +40,7 @@ module gerfmuod
     end function
 
     ! Stores what the body of a new task needs, before the task can run. It makes no call on the team.
-    subroutine gerfmuod_attach(data, task) bind(c)
+    subroutine gerfmuod_team_attach(data, task) bind(c)
       import :: c_ptr, c_int32_t
       type(c_ptr), value :: data
       integer(c_int32_t), value :: task
@@ -80,12 +89,32 @@ module gerfmuod
     end function
 
     ! One more task, before the start or in a run, which also waits for `outside` calls of gerfmuod_team_release. attach is
-    ! c_funloc of a gerfmuod_attach, or c_null_funptr.
+    ! c_funloc of a gerfmuod_team_attach, or c_null_funptr.
     function gerfmuod_team_spawn(team, class, inputs, count, outside, attach, data, number) bind(c) result(refused)
       import :: c_ptr, c_funptr, c_int32_t, c_size_t
       type(c_ptr), value :: team, data
       integer(c_int32_t), value :: class, outside
       integer(c_int32_t), intent(in) :: inputs(*)
+      integer(c_size_t), value :: count
+      type(c_funptr), value :: attach
+      integer(c_int32_t), intent(out), optional :: number
+      integer(c_int32_t) :: refused
+    end function
+
+    ! One more piece of data that tasks access.
+    function gerfmuod_team_handle(team, handle) bind(c) result(refused)
+      import :: c_ptr, c_int32_t
+      type(c_ptr), value :: team
+      integer(c_int32_t), intent(out) :: handle
+      integer(c_int32_t) :: refused
+    end function
+
+    ! One more task, which waits for the earlier tasks that access the same data, if one of the two writes or updates it.
+    function gerfmuod_team_task_on(team, class, accesses, count, outside, attach, data, number) bind(c) result(refused)
+      import :: c_ptr, c_funptr, c_int32_t, c_size_t, gerfmuod_access
+      type(c_ptr), value :: team, data
+      integer(c_int32_t), value :: class, outside
+      type(gerfmuod_access), intent(in) :: accesses(*)
       integer(c_size_t), value :: count
       type(c_funptr), value :: attach
       integer(c_int32_t), intent(out), optional :: number
@@ -108,7 +137,7 @@ module gerfmuod
       integer(c_int32_t) :: refused
     end function
 
-    ! body is c_funloc of a gerfmuod_body.
+    ! body is c_funloc of a gerfmuod_team_body.
     function gerfmuod_team_run(team, threads, body, context) bind(c) result(refused)
       import :: c_ptr, c_funptr, c_int32_t
       type(c_ptr), value :: team, context
@@ -124,7 +153,14 @@ module gerfmuod
       integer(c_int32_t) :: refused
     end function
 
-    ! The fault that ended the team, or gerfmuod_ok; and the task that it is about, or gerfmuod_none.
+    ! The same, also after a run that was stopped or failed.
+    function gerfmuod_team_reset(team) bind(c) result(refused)
+      import :: c_ptr, c_int32_t
+      type(c_ptr), value :: team
+      integer(c_int32_t) :: refused
+    end function
+
+    ! The fault that ended the team, or gerfmuod_ok; and the task that it is about, or gerfmuod_graph_none.
     function gerfmuod_team_fault(team) bind(c) result(refused)
       import :: c_ptr, c_int32_t
       type(c_ptr), value :: team
@@ -144,12 +180,12 @@ module gerfmuod
       integer(c_int32_t) :: refused
     end function
 
-    ! Reports that task `done` is done, or gerfmuod_none, and returns the next one.
+    ! Reports that task `done` is done, or gerfmuod_graph_none, and returns the next one.
     function gerfmuod_team_turn(team, done) bind(c) result(answer)
-      import :: c_ptr, c_int32_t, gerfmuod_answer
+      import :: c_ptr, c_int32_t, gerfmuod_graph_result
       type(c_ptr), value :: team
       integer(c_int32_t), value :: done
-      type(gerfmuod_answer) :: answer
+      type(gerfmuod_graph_result) :: answer
     end function
 
     ! Records each later run; each thread keeps its newest `slices` bodies and waits. Call it before the first task.
@@ -190,13 +226,7 @@ module gerfmuod
   end interface
 
   interface
-    function name_in_c(refused) bind(c, name='gerfmuod_team_name') result(text)
-      import :: c_ptr, c_int32_t
-      integer(c_int32_t), value :: refused
-      type(c_ptr) :: text
-    end function
-
-    function meaning_in_c(refused) bind(c, name='gerfmuod_team_meaning') result(text)
+    function text_in_c(refused) bind(c, name='gerfmuod_refusal_text') result(text)
       import :: c_ptr, c_int32_t
       integer(c_int32_t), value :: refused
       type(c_ptr) :: text
@@ -208,29 +238,18 @@ module gerfmuod
       integer(c_size_t) :: length
     end function
   end interface
-  private :: name_in_c, meaning_in_c, length_in_c, text_of
+  private :: text_in_c, length_in_c
 
 contains
 
-  ! Returns the name of a refusal, such as 'NoTask'.
-  function gerfmuod_name(refused) result(text)
+  ! Returns the name of a refusal and a sentence that explains it, such as 'NoThread: a run needs a thread'.
+  function gerfmuod_refusal_text(refused) result(text)
     integer(c_int32_t), intent(in) :: refused
-    character(:), allocatable :: text
-    text = text_of(name_in_c(refused))
-  end function
-
-  ! Returns a sentence that explains a refusal.
-  function gerfmuod_meaning(refused) result(text)
-    integer(c_int32_t), intent(in) :: refused
-    character(:), allocatable :: text
-    text = text_of(meaning_in_c(refused))
-  end function
-
-  function text_of(pointer) result(text)
-    type(c_ptr), intent(in) :: pointer
     character(:), allocatable :: text
     character(kind=c_char), pointer :: letters(:)
+    type(c_ptr) :: pointer
     integer :: i
+    pointer = text_in_c(refused)
     call c_f_pointer(pointer, letters, [length_in_c(pointer)])
     allocate (character(size(letters)) :: text)
     do i = 1, size(letters)

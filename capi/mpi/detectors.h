@@ -3,7 +3,8 @@
  * before this file, repeated reductions of the four counters. The first three send gerfmuod_control_message. */
 #ifndef DETECTORS_H
 #define DETECTORS_H
-#include "gerfmuod_process.h"
+#include <gerfmuod/process.h>
+#include <stdlib.h>
 #include <string.h>
 
 enum { PROVED = 0, BY_HAND = 1, SAFRA = 2, REDUCTIONS = 3 };
@@ -171,7 +172,7 @@ static inline int detector_named(const char *name) {
 static void detector_new(detector *d, int kind, int me, int n) {
     memset(d, 0, sizeof *d);
     d->kind = kind;
-    gerfmuod_process_init(&d->proved, (uint32_t)me, (uint32_t)n);
+    if (gerfmuod_process_init(&d->proved, (uint32_t)me, (uint32_t)n)) exit(9);
     d->hand.me = d->ring.me = me;
     d->hand.n = d->ring.n = n;
     d->hand.children = (2 * me + 1 < n) + (2 * me + 2 < n);

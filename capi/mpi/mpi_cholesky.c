@@ -13,13 +13,13 @@
  *
  * The end needs no detector here: a process knows which tiles it will get, since each one is a task of its graph. If its pool
  * is over, all of them came; when its own sends are complete, it has nothing left, and MPI_Barrier waits for the others. A
- * program whose processes do not know their messages before needs gerfmuod_process.h, as uts_mpi.c does.
+ * program whose processes do not know their messages before needs gerfmuod/process.h, as uts_mpi.c does.
  *
  * Process 0 compares the result with one factorization of the whole matrix. The exit status is not 0 if they differ by 1e-9. */
 #define _POSIX_C_SOURCE 200809L
 #include <mpi.h>
 #include "../examples/kernels.h"
-#include "gerfmuod_team.h"
+#include <gerfmuod/team.h>
 #include <math.h>
 #include <pthread.h>
 #include <stdbool.h>
@@ -45,7 +45,7 @@ static double *at(int i, int j) { return numbers[place(i, j)]; }
 /* Ends all processes if a call was refused. */
 static void need(uint32_t refused, const char *what) {
     if (!refused) return;
-    fprintf(stderr, "process %d: %s: %s\n", me, what, gerfmuod_team_meaning(refused));
+    fprintf(stderr, "process %d: %s: %s\n", me, what, gerfmuod_refusal_text(refused));
     MPI_Abort(MPI_COMM_WORLD, 3);
 }
 

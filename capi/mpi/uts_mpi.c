@@ -147,7 +147,7 @@ static void ask_for_work(void) {
     MPI_Send(NULL, 0, MPI_BYTE, asked, ASK, MPI_COMM_WORLD);
 }
 
-/* The end is known. Receives the replies that are still under way; nodes in them came after the end. */
+/* The end is known. Receives the replies that are still in flight; nodes in them came after the end. */
 static void drain(void) {
     MPI_Request barrier;
     bool has_entered = false;

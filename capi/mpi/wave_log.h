@@ -9,7 +9,7 @@
  * It only reads the process and the control message. The times of a process are those of its own clock. */
 #ifndef WAVE_LOG_H
 #define WAVE_LOG_H
-#include "gerfmuod_process.h"
+#include <gerfmuod/process.h>
 #include <time.h>
 
 enum { WAVES_KEPT = 4096 };

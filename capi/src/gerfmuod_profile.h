@@ -6,7 +6,7 @@
  * faster to read. Two readings of both, at the start of the run and when its texts are written, convert ticks to nanoseconds. */
 #ifndef GERFMUOD_PROFILE_H
 #define GERFMUOD_PROFILE_H
-#include "gerfmuod_graph.h"
+#include <gerfmuod/graph.h>
 
 #include <inttypes.h>
 #include <pthread.h>
@@ -53,6 +53,7 @@ struct instant { uint64_t ticks, nanoseconds; };
 struct profile {
     enum clock clock;
     bool has_run;     /* a run was started, and gerfmuod_team_again was not called since */
+    bool lacks_inputs; /* those of a task were inferred, and are not among the edges */
     uint32_t most;    /* the number of slices that a ring keeps */
     uint32_t threads; /* the number of rings */
     uint32_t claimed; /* the number of those that a thread has claimed in this run, the first ones */
@@ -66,7 +67,7 @@ struct profile {
     double rate; /* nanoseconds of a tick */
     uint64_t elapsed, critical; /* the time of the run, and of the longest chain of bodies that wait for each other */
     uint64_t lost, backwards;
-    bool has_all; /* the length of the body of each task that is done is known */
+    bool has_all; /* the length of the body of each task that is done is known, and all inputs are */
 };
 
 /* ---- clocks */
@@ -263,7 +264,7 @@ static bool profile_times(struct profile *profile) {
     uint64_t *chains = malloc((profile->task_count + 1) * sizeof *chains); /* of each task, the chain that ends with it */
     if (!chains) return false;
     memset(chains, 255, profile->task_count * sizeof *chains); /* UINT64_MAX: not known */
-    profile->rate = 1, profile->has_all = true;
+    profile->rate = 1, profile->has_all = !profile->lacks_inputs;
     profile->elapsed = profile->critical = profile->lost = profile->backwards = 0;
     if (profile->clock == COUNTER && now.ticks > profile->start.ticks && now.nanoseconds > profile->start.nanoseconds)
         profile->rate = (double)(now.nanoseconds - profile->start.nanoseconds) / (double)(now.ticks - profile->start.ticks);

@@ -1,4 +1,4 @@
-/* gerfmuod_team.c: a graph of gerfmuod_graph.h with a lock and threads that wait. C over pthreads, not proved.
+/* gerfmuod_team.c: a graph of gerfmuod/graph.h with a lock and threads that wait. C over pthreads, not proved.
  *
  * What a thread does next, and how many sleeping threads it signals, the graph decides. This file locks, waits for the one
  * condition variable, pauses and signals. One mutex protects the graph, every field and what the threads record of a run
@@ -6,7 +6,8 @@
 #ifndef _GNU_SOURCE
 #define _GNU_SOURCE /* sched_getaffinity */
 #endif
-#include "gerfmuod_team.h"
+#include <gerfmuod/team.h>
+#include "gerfmuod_crew.h"
 #include "gerfmuod_profile.h"
 
 #include <sched.h>
@@ -26,20 +27,12 @@ struct gerfmuod_team {
     pthread_cond_t news; /* threads that were told to sleep wait for it */
     uint32_t threads, processors;
     bool is_traced;
+    struct crew crew; /* the threads of gerfmuod_team_run, beside the caller; they stay until the team is closed */
+    gerfmuod_team_body body;
+    void *context; /* of the body. Both are written before the crew is called */
     enum clock clock;        /* NO_CLOCK unless the team records. A turn reads it without the lock: it changes in none */
     struct profile *profile; /* NULL unless the team records */
 };
-
-static inline void pause_processor(void) {
-#if defined(__x86_64__) || defined(__i386__)
-    __builtin_ia32_pause();
-#elif defined(__aarch64__)
-    __asm__ volatile("yield");
-#endif
-}
-static void pause_for(uint32_t pauses) {
-    for (; pauses > 0; pauses--) pause_processor();
-}
 
 /* Retries the lock, and blocks in the end. With more threads than processors the one that holds it may not be running, and a
  * thread that retries would keep it from that: so a thread remembers how it was when it last contended for a lock. */
@@ -67,16 +60,16 @@ static inline void signal_sleepers(gerfmuod_team *team, uint32_t signals) {
 }
 
 /* Makes a call while the lock is held, and signals as it says. */
-static inline gerfmuod_graph_answer ask(gerfmuod_team *team, uint32_t call, uint32_t first, uint32_t second) {
-    gerfmuod_graph_answer answer = gerfmuod_graph_call(&team->graph, call, first, second);
+static inline gerfmuod_graph_result ask(gerfmuod_team *team, uint32_t call, uint32_t first, uint32_t second) {
+    gerfmuod_graph_result answer = gerfmuod_graph_call(&team->graph, call, first, second);
     signal_sleepers(team, answer.signals);
     return answer;
 }
 
 /* The same with the lock. */
-static gerfmuod_graph_answer ask_alone(gerfmuod_team *team, uint32_t call, uint32_t first) {
+static gerfmuod_graph_result ask_alone(gerfmuod_team *team, uint32_t call, uint32_t first) {
     acquire(team);
-    gerfmuod_graph_answer answer = ask(team, call, first, 0);
+    gerfmuod_graph_result answer = ask(team, call, first, 0);
     release(team);
     return answer;
 }
@@ -93,14 +86,16 @@ static uint32_t processors(void) {
 static uint32_t open_team(gerfmuod_team **opened, bool is_traced) {
     gerfmuod_team *team = *opened = calloc(1, sizeof *team);
     bool has_lock = team && !pthread_mutex_init(&team->lock, NULL);
-    if (!has_lock || pthread_cond_init(&team->news, NULL)) {
+    bool has_news = has_lock && !pthread_cond_init(&team->news, NULL);
+    if (!has_news || !crew_open(&team->crew)) {
+        if (has_news) pthread_cond_destroy(&team->news);
         if (has_lock) pthread_mutex_destroy(&team->lock);
         free(team), *opened = NULL;
-        return GERFMUOD_GRAPH_NO_MEMORY;
+        return GERFMUOD_REFUSED_NO_MEMORY;
     }
     team->processors = processors(), team->is_traced = is_traced;
     gerfmuod_graph_open(&team->graph, is_traced, team->processors);
-    return GERFMUOD_GRAPH_OK;
+    return GERFMUOD_OK;
 }
 
 uint32_t gerfmuod_team_open(gerfmuod_team **team) { return open_team(team, false); }
@@ -108,6 +103,8 @@ uint32_t gerfmuod_team_open_traced(gerfmuod_team **team) { return open_team(team
 
 void gerfmuod_team_close(gerfmuod_team *team) {
     if (!team) return;
+    gerfmuod_team_stop(team, GERFMUOD_GRAPH_NONE); /* a run of gerfmuod_team_run_async, if there is one */
+    crew_wait(&team->crew, -1), crew_close(&team->crew);
     ask(team, GERFMUOD_GRAPH_CLOSE, 0, 0);
     profile_close(team->profile);
     pthread_cond_destroy(&team->news), pthread_mutex_destroy(&team->lock);
@@ -120,7 +117,7 @@ uint32_t gerfmuod_team_task(gerfmuod_team *team, uint32_t class_, const uint32_t
 
 uint32_t gerfmuod_team_describe(gerfmuod_team *team, uint32_t tasks, const uint8_t *classes, const uint32_t *offsets,
                                 const uint32_t *inputs, uint32_t *at) {
-    gerfmuod_graph_answer answer = {GERFMUOD_GRAPH_NO_MEMORY, 0, 0, 0};
+    gerfmuod_graph_result answer = {GERFMUOD_REFUSED_NO_MEMORY, 0, 0, 0};
     size_t count = inputs ? offsets[tasks] : 0;
     acquire(team);
     struct profile *profile = team->profile;
@@ -133,15 +130,9 @@ uint32_t gerfmuod_team_describe(gerfmuod_team *team, uint32_t tasks, const uint8
     return answer.refused;
 }
 
-uint32_t gerfmuod_team_spawn(gerfmuod_team *team, uint32_t class_, const uint32_t *inputs, size_t count, uint32_t outside,
-                             gerfmuod_team_attach attach, void *data, uint32_t *number) {
-    gerfmuod_graph_answer answer = {GERFMUOD_GRAPH_NO_MEMORY, 0, 0, 0};
-    acquire(team);
-    struct profile *profile = team->profile;
-    if (!profile || profile_reserve(profile, 1, count))
-        answer = gerfmuod_graph_spawn(&team->graph, class_, inputs, count, outside);
+/* Tells the caller of a task that was added, unless it was refused, and releases the lock. */
+static uint32_t spawned(gerfmuod_team *team, gerfmuod_graph_result answer, gerfmuod_team_attach attach, void *data, uint32_t *number) {
     if (!answer.refused) {
-        if (profile) profile_describe(profile, class_, inputs, count);
         if (number) *number = answer.number;
         if (attach) attach(data, answer.number);
         signal_sleepers(team, answer.signals);
@@ -150,6 +141,31 @@ uint32_t gerfmuod_team_spawn(gerfmuod_team *team, uint32_t class_, const uint32_
     return answer.refused;
 }
 
+uint32_t gerfmuod_team_spawn(gerfmuod_team *team, uint32_t class_, const uint32_t *inputs, size_t count, uint32_t outside,
+                             gerfmuod_team_attach attach, void *data, uint32_t *number) {
+    gerfmuod_graph_result answer = {GERFMUOD_REFUSED_NO_MEMORY, 0, 0, 0};
+    acquire(team);
+    struct profile *profile = team->profile;
+    if (!profile || profile_reserve(profile, 1, count)) answer = gerfmuod_graph_spawn(&team->graph, class_, inputs, count, outside);
+    if (!answer.refused && profile) profile_describe(profile, class_, inputs, count);
+    return spawned(team, answer, attach, data, number);
+}
+
+uint32_t gerfmuod_team_task_on(gerfmuod_team *team, uint32_t class_, const gerfmuod_access *accesses, size_t count, uint32_t outside,
+                               gerfmuod_team_attach attach, void *data, uint32_t *number) {
+    gerfmuod_graph_result answer = {GERFMUOD_REFUSED_NO_MEMORY, 0, 0, 0};
+    acquire(team);
+    struct profile *profile = team->profile;
+    if (!profile || profile_reserve(profile, 1, 0)) answer = gerfmuod_graph_task(&team->graph, class_, accesses, count, outside);
+    if (!answer.refused && profile) profile_describe(profile, class_, NULL, 0), profile->lacks_inputs = true;
+    return spawned(team, answer, attach, data, number);
+}
+
+uint32_t gerfmuod_team_handle(gerfmuod_team *team, uint32_t *handle) {
+    gerfmuod_graph_result answer = ask_alone(team, GERFMUOD_GRAPH_HANDLE, 0);
+    if (!answer.refused) *handle = answer.number;
+    return answer.refused;
+}
 uint32_t gerfmuod_team_outside(gerfmuod_team *team, uint32_t task) { return ask_alone(team, GERFMUOD_GRAPH_OUTSIDE, task).refused; }
 uint32_t gerfmuod_team_release(gerfmuod_team *team, uint32_t task) { return ask_alone(team, GERFMUOD_GRAPH_RELEASE, task).refused; }
 
@@ -168,13 +184,13 @@ static uint32_t spin(gerfmuod_team *team, uint32_t polls) {
     return 0;
 }
 
-gerfmuod_graph_answer gerfmuod_team_turn(gerfmuod_team *team, uint32_t done) {
+gerfmuod_graph_result gerfmuod_team_turn(gerfmuod_team *team, uint32_t done) {
     uint64_t begun = ticks_now(team->clock), waited = 0;
     acquire(team);
     struct profile *profile = team->profile; /* the same until the turn returns */
     if (profile) profile_end_body(profile, done, begun);
     uint32_t polls = SPINS;
-    gerfmuod_graph_answer answer = ask(team, GERFMUOD_GRAPH_TURN, done, polls);
+    gerfmuod_graph_result answer = ask(team, GERFMUOD_GRAPH_TURN, done, polls);
     if (profile && !answer.refused && done != GERFMUOD_GRAPH_NONE) profile->tasks[done].is_done = true;
     while (answer.next == GERFMUOD_GRAPH_SPIN || answer.next == GERFMUOD_GRAPH_SLEEP) {
         bool is_spin = answer.next == GERFMUOD_GRAPH_SPIN;
@@ -196,23 +212,24 @@ void gerfmuod_team_stop(gerfmuod_team *team, uint32_t task) {
     release(team);
 }
 
+uint32_t gerfmuod_team_left(gerfmuod_team *team) { return ask_alone(team, GERFMUOD_GRAPH_LEFT, 0).number; }
 uint32_t gerfmuod_team_fault(gerfmuod_team *team) { return ask_alone(team, GERFMUOD_GRAPH_FAULT, 0).refused; }
 uint32_t gerfmuod_team_failed(gerfmuod_team *team) {
-    gerfmuod_graph_answer fault = ask_alone(team, GERFMUOD_GRAPH_FAULT, 0);
+    gerfmuod_graph_result fault = ask_alone(team, GERFMUOD_GRAPH_FAULT, 0);
     return fault.refused ? fault.number : GERFMUOD_GRAPH_NONE;
 }
 
 /* Returns why no run may be started, while the lock is held. A start without a thread is always refused, for that as the last reason. */
 static uint32_t start_refusal(gerfmuod_team *team, uint32_t threads) {
     uint32_t refused = ask(team, GERFMUOD_GRAPH_START, 0, 0).refused;
-    return threads && refused == GERFMUOD_GRAPH_NO_THREAD ? GERFMUOD_GRAPH_OK : refused;
+    return threads && refused == GERFMUOD_REFUSED_NO_THREAD ? GERFMUOD_OK : refused;
 }
 
 /* Starts a run, while the lock is held. */
 static uint32_t start(gerfmuod_team *team, uint32_t threads) {
     struct profile *profile = team->profile;
     uint32_t refused = start_refusal(team, threads);
-    if (!refused && profile && !profile_open_rings(profile, threads)) refused = GERFMUOD_GRAPH_NO_MEMORY;
+    if (!refused && profile && !profile_open_rings(profile, threads)) refused = GERFMUOD_REFUSED_NO_MEMORY;
     if (!refused) refused = ask(team, GERFMUOD_GRAPH_START, threads, 0).refused;
     if (!refused) team->threads = threads;
     if (!refused && profile) profile_start(profile);
@@ -226,60 +243,66 @@ uint32_t gerfmuod_team_start(gerfmuod_team *team, uint32_t threads) {
     return refused;
 }
 
-/* What the threads of one run share. */
-struct run { gerfmuod_team *team; gerfmuod_team_body body; void *context; bool is_started; };
-
-static void run_tasks(const struct run *run) {
+static void run_tasks(void *argument) {
+    gerfmuod_team *team = argument;
     uint32_t done = GERFMUOD_GRAPH_NONE;
     for (;;) {
-        gerfmuod_graph_answer answer = gerfmuod_team_turn(run->team, done);
+        gerfmuod_graph_result answer = gerfmuod_team_turn(team, done);
         if (answer.next != GERFMUOD_GRAPH_RUN) return;
         done = answer.number;
-        if (run->body(run->context, done)) break;
+        if (team->body(team->context, done)) break;
     }
-    gerfmuod_team_stop(run->team, done);
+    gerfmuod_team_stop(team, done);
 }
 
-static void *run_thread(void *argument) {
-    const struct run *run = argument;
-    acquire(run->team);
-    bool is_started = run->is_started;
-    release(run->team);
-    if (is_started) run_tasks(run);
-    return NULL;
-}
-
-/* The lock is held until it is known whether all threads were created. */
-uint32_t gerfmuod_team_run(gerfmuod_team *team, uint32_t threads, gerfmuod_team_body body, void *context) {
-    struct run run = {team, body, context, false};
+/* Starts a run on `threads` threads, of which the crew has some. No body runs before it is known whether there are enough. */
+static uint32_t start_with_crew(gerfmuod_team *team, uint32_t threads, uint32_t members, gerfmuod_team_body body, void *context) {
+    bool is_free = crew_wait(&team->crew, 0);
     acquire(team);
-    uint32_t refused = start_refusal(team, threads), created = 1; /* this thread is one */
-    pthread_t *ids = refused ? NULL : calloc(threads, sizeof *ids);
-    if (!refused && !ids) refused = GERFMUOD_GRAPH_NO_MEMORY;
-    while (!refused && created < threads && !pthread_create(&ids[created], NULL, run_thread, &run)) created++;
-    if (!refused) refused = created < threads ? GERFMUOD_TEAM_NOT_STARTED : start(team, threads);
-    run.is_started = !refused;
+    uint32_t refused = is_free ? start_refusal(team, threads) : GERFMUOD_REFUSED_RUNNING;
     release(team);
-    if (!refused) run_tasks(&run);
-    while (created > 1) pthread_join(ids[--created], NULL);
-    free(ids);
-    return refused ? refused : gerfmuod_team_fault(team);
+    if (!refused) refused = crew_grow(&team->crew, members);
+    if (!refused) team->body = body, team->context = context, refused = gerfmuod_team_start(team, threads);
+    if (!refused) crew_call(&team->crew, members, threads <= team->processors, run_tasks, team);
+    return refused;
 }
 
-uint32_t gerfmuod_team_again(gerfmuod_team *team) {
+uint32_t gerfmuod_team_run(gerfmuod_team *team, uint32_t threads, gerfmuod_team_body body, void *context) {
+    uint32_t refused = start_with_crew(team, threads, threads - 1, body, context);
+    if (refused) return refused;
+    run_tasks(team);
+    return gerfmuod_team_wait(team, GERFMUOD_TEAM_NO_LIMIT);
+}
+
+uint32_t gerfmuod_team_run_async(gerfmuod_team *team, uint32_t threads, gerfmuod_team_body body, void *context) {
+    return start_with_crew(team, threads, threads, body, context);
+}
+
+uint32_t gerfmuod_team_wait(gerfmuod_team *team, uint32_t milliseconds) {
+    bool have_left = crew_wait(&team->crew, milliseconds == GERFMUOD_TEAM_NO_LIMIT ? -1 : (int64_t)milliseconds);
+    return have_left ? gerfmuod_team_fault(team) : GERFMUOD_REFUSED_RUNNING;
+}
+
+/* Prepares the next run by a call of the graph. */
+static uint32_t prepare(gerfmuod_team *team, uint32_t call) {
+    bool is_free = crew_wait(&team->crew, 0);
     acquire(team);
-    uint32_t refused = ask(team, GERFMUOD_GRAPH_AGAIN, 0, 0).refused;
+    uint32_t refused = is_free ? ask(team, call, 0, 0).refused : GERFMUOD_REFUSED_RUNNING;
     if (!refused && team->profile) team->profile->has_run = false;
     release(team);
     return refused;
 }
 
+uint32_t gerfmuod_team_again(gerfmuod_team *team) { return prepare(team, GERFMUOD_GRAPH_AGAIN); }
+uint32_t gerfmuod_team_reset(gerfmuod_team *team) { return prepare(team, GERFMUOD_GRAPH_RESET); }
+
 uint32_t gerfmuod_team_record(gerfmuod_team *team, uint32_t slices) {
     struct profile *profile = NULL;
+    bool is_free = crew_wait(&team->crew, 0);
     acquire(team);
-    uint32_t refused = ask(team, GERFMUOD_GRAPH_MAY_RECORD, 0, 0).refused;
-    if (!refused && ask(team, GERFMUOD_GRAPH_COUNT, 0, 0).number) refused = GERFMUOD_GRAPH_WRONG_LIFE;
-    if (!refused && slices && !(profile = profile_open(slices))) refused = GERFMUOD_GRAPH_NO_MEMORY;
+    uint32_t refused = is_free ? ask(team, GERFMUOD_GRAPH_MAY_RECORD, 0, 0).refused : GERFMUOD_REFUSED_RUNNING;
+    if (!refused && ask(team, GERFMUOD_GRAPH_COUNT, 0, 0).number) refused = GERFMUOD_REFUSED_WRONG_LIFE;
+    if (!refused && slices && !(profile = profile_open(slices))) refused = GERFMUOD_REFUSED_NO_MEMORY;
     if (!refused) profile_close(team->profile), team->profile = profile, team->clock = profile ? profile->clock : NO_CLOCK;
     release(team);
     return refused;
@@ -288,13 +311,13 @@ uint32_t gerfmuod_team_record(gerfmuod_team *team, uint32_t slices) {
 /* Writes a text about a run that ended, or was ended by a fault, and was recorded. */
 static uint32_t write_recorded(gerfmuod_team *team, FILE *file, void (*write)(FILE *, const struct profile *)) {
     acquire(team);
-    uint32_t refused = ask(team, GERFMUOD_GRAPH_FAULT, 0, 0).refused ? GERFMUOD_GRAPH_OK : start_refusal(team, 1);
-    if (refused == GERFMUOD_GRAPH_RUNNING || refused == GERFMUOD_GRAPH_WRONG_LIFE) refused = GERFMUOD_GRAPH_RUNNING;
-    else if (!team->profile || !team->profile->has_run) refused = GERFMUOD_GRAPH_WRONG_LIFE;
-    else refused = profile_times(team->profile) ? GERFMUOD_GRAPH_OK : GERFMUOD_GRAPH_NO_MEMORY;
+    uint32_t refused = ask(team, GERFMUOD_GRAPH_FAULT, 0, 0).refused ? GERFMUOD_OK : start_refusal(team, 1);
+    if (refused == GERFMUOD_REFUSED_RUNNING || refused == GERFMUOD_REFUSED_WRONG_LIFE) refused = GERFMUOD_REFUSED_RUNNING;
+    else if (!team->profile || !team->profile->has_run) refused = GERFMUOD_REFUSED_WRONG_LIFE;
+    else refused = profile_times(team->profile) ? GERFMUOD_OK : GERFMUOD_REFUSED_NO_MEMORY;
     if (!refused) {
         write(file, team->profile);
-        if (fflush(file) || ferror(file)) refused = GERFMUOD_TEAM_NOT_WRITTEN;
+        if (fflush(file) || ferror(file)) refused = GERFMUOD_REFUSED_NOT_WRITTEN;
     }
     release(team);
     return refused;
@@ -303,28 +326,6 @@ static uint32_t write_recorded(gerfmuod_team *team, FILE *file, void (*write)(FI
 uint32_t gerfmuod_team_profile(gerfmuod_team *team, FILE *file) { return write_recorded(team, file, profile_write); }
 uint32_t gerfmuod_team_summary(gerfmuod_team *team, FILE *file) { return write_recorded(team, file, profile_summarize); }
 
-static const char *text_of(uint32_t refused, bool is_name) {
-    switch (refused) {
-    case GERFMUOD_GRAPH_OK: return is_name ? "Ok" : "the call was not refused";
-    case GERFMUOD_GRAPH_NO_TASK: return is_name ? "NoTask" : "there is no such task, or an input is not lower than its task";
-    case GERFMUOD_GRAPH_WRONG_LIFE: return is_name ? "WrongLife" : "the task or the graph is not in the state that the call needs";
-    case GERFMUOD_GRAPH_ENDED: return is_name ? "Ended" : "all tasks of the run are done";
-    case GERFMUOD_GRAPH_HISTORY_FULL: return is_name ? "HistoryFull" : "a number would be above its limit";
-    case GERFMUOD_GRAPH_NO_MEMORY: return is_name ? "NoMemory" : "an allocation failed";
-    case GERFMUOD_GRAPH_NO_POOL: return is_name ? "NoPool" : "the graph is not open";
-    case GERFMUOD_GRAPH_BAD_SPEC: return is_name ? "BadSpec" : "there is no such class, or the arrays do not describe a graph";
-    case GERFMUOD_GRAPH_NO_THREAD: return is_name ? "NoThread" : "a run needs a thread";
-    case GERFMUOD_TEAM_NOT_STARTED: return is_name ? "NotStarted" : "the operating system started too few threads";
-    case GERFMUOD_GRAPH_STOPPED: return is_name ? "Stopped" : "a body failed, or the team was stopped";
-    case GERFMUOD_GRAPH_RUNNING: return is_name ? "Running" : "a turn has not returned, or a task runs";
-    case GERFMUOD_TEAM_NOT_WRITTEN: return is_name ? "NotWritten" : "the stream did not take the whole text";
-    default: return is_name ? "Unknown" : "no such refusal";
-    }
-}
-
-const char *gerfmuod_team_name(uint32_t refused) { return text_of(refused, true); }
-const char *gerfmuod_team_meaning(uint32_t refused) { return text_of(refused, false); }
-
 /* Writes lines, which may have a task's number, at a place of a buffer, as far as there is room. Returns the place after them. */
 static size_t print(char *buffer, size_t length, size_t at, const char *lines, uint32_t task) {
     size_t left = at < length ? length - at : 0;
@@ -332,7 +333,7 @@ static size_t print(char *buffer, size_t length, size_t at, const char *lines, u
 }
 
 size_t gerfmuod_team_trace(gerfmuod_team *team, char *buffer, size_t length) {
-    gerfmuod_graph_answer event;
+    gerfmuod_graph_result event;
     if (length) *buffer = 0;
     if (!team->is_traced) return 0;
     acquire(team);
@@ -342,7 +343,7 @@ size_t gerfmuod_team_trace(gerfmuod_team *team, char *buffer, size_t length) {
     at = print(buffer, length, at, "ready 0\n", 0);
     for (uint32_t k = 0; (event = ask(team, GERFMUOD_GRAPH_EVENT, k, 0)).next; k++)
         at = print(buffer, length, at, event.next == 1 ? "begin %u\n" : "done %u\n", event.number);
-    if (start_refusal(team, 0) == GERFMUOD_GRAPH_ENDED) /* two waves detect it: their sums are equal, as no message was sent */
+    if (start_refusal(team, 0) == GERFMUOD_REFUSED_ENDED) /* two waves detect it: their sums are equal, as no message was sent */
         at = print(buffer, length, at, "start\ngive 0\njudge not\nstart\ngive 0\njudge ended 1\n", 0);
     release(team);
     return at;

@@ -1,4 +1,4 @@
-"""Task graphs on threads, scheduled by a proved pool.
+"""Task graphs on threads, scheduled by a proved pool; and a proved detector of the end of programs of several processes.
 
     >>> import math, operator
     >>> from gerfmuod import Pool
@@ -14,7 +14,8 @@ The package loads the shared object libgerfmuod.so.0, which `make lib` builds. I
 in the environment variable GERFMUOD_LIBRARY; or else the folder of the package, lib/ of the
 repository, and the library path of the system.
 """
-from ._pool import Pool, Task
+from ._detector import Detector
+from ._pool import Handle, Pool, Task
 from ._refused import Refused
 
-__all__ = ["Pool", "Refused", "Task"]
+__all__ = ["Detector", "Handle", "Pool", "Refused", "Task"]

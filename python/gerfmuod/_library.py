@@ -1,4 +1,4 @@
-"""The shared object, and the types of its calls. They are those of capi/include/gerfmuod_team.h."""
+"""The shared object, and the types of its calls. They are those of gerfmuod/team.h and gerfmuod/process.h."""
 from __future__ import annotations
 
 import ctypes
@@ -14,10 +14,16 @@ NOT_STARTED = 65
 RUN = 1
 
 
-class Answer(ctypes.Structure):
-    """The result of a turn: gerfmuod_graph_answer."""
+class GraphResult(ctypes.Structure):
+    """The result of a turn: gerfmuod_graph_result."""
 
     _fields_ = [(name, ctypes.c_uint32) for name in ("refused", "next", "number", "signals")]
+
+
+class Access(ctypes.Structure):
+    """What a task does with a handle: gerfmuod_access."""
+
+    _fields_ = [(name, ctypes.c_uint32) for name in ("handle", "mode")]
 
 
 def _candidates() -> Iterator[str]:
@@ -46,27 +52,40 @@ def _load() -> ctypes.CDLL:
 
 def _declare(library: ctypes.CDLL) -> ctypes.CDLL:
     """Sets the types of the calls."""
-    u32, size, team = ctypes.c_uint32, ctypes.c_size_t, ctypes.c_void_p
+    u32, u64, size, team = ctypes.c_uint32, ctypes.c_uint64, ctypes.c_size_t, ctypes.c_void_p
+    process = control = ctypes.POINTER(u64)
     numbers, opened = ctypes.POINTER(u32), ctypes.POINTER(ctypes.c_void_p)
     types = {
         "gerfmuod_team_open": (u32, [opened]),
         "gerfmuod_team_open_traced": (u32, [opened]),
         "gerfmuod_team_close": (None, [team]),
         "gerfmuod_team_spawn": (u32, [team, u32, numbers, size, u32, team, team, numbers]),
+        "gerfmuod_team_task_on": (u32, [team, u32, ctypes.POINTER(Access), size, u32, team, team, numbers]),
+        "gerfmuod_team_handle": (u32, [team, numbers]),
         "gerfmuod_team_outside": (u32, [team, u32]),
         "gerfmuod_team_release": (u32, [team, u32]),
         "gerfmuod_team_start": (u32, [team, u32]),
-        "gerfmuod_team_turn": (Answer, [team, u32]),
+        "gerfmuod_team_turn": (GraphResult, [team, u32]),
         "gerfmuod_team_again": (u32, [team]),
+        "gerfmuod_team_reset": (u32, [team]),
+        "gerfmuod_team_left": (u32, [team]),
         "gerfmuod_team_stop": (None, [team, u32]),
         "gerfmuod_team_fault": (u32, [team]),
         "gerfmuod_team_failed": (u32, [team]),
-        "gerfmuod_team_name": (ctypes.c_char_p, [u32]),
-        "gerfmuod_team_meaning": (ctypes.c_char_p, [u32]),
+        "gerfmuod_refusal_text": (ctypes.c_char_p, [u32]),
         "gerfmuod_team_trace": (size, [team, ctypes.c_char_p, size]),
         "gerfmuod_team_record": (u32, [team, u32]),
         "gerfmuod_team_profile": (u32, [team, ctypes.c_void_p]),
         "gerfmuod_team_summary": (u32, [team, ctypes.c_void_p]),
+        "gerfmuod_process_init": (u32, [process, u32, u32]),
+        "gerfmuod_process_add_work": (u32, [process]),
+        "gerfmuod_process_finish_work": (u32, [process]),
+        "gerfmuod_process_count_sent": (u32, [process]),
+        "gerfmuod_process_count_received": (u32, [process, u64]),
+        "gerfmuod_process_take": (u32, [process, control]),
+        "gerfmuod_process_next": (u32, [process, control]),
+        "gerfmuod_process_reopen": (u32, [process]),
+        **{f"gerfmuod_process_{name}": (u64, [process]) for name in ("epoch", "pending", "sent", "received", "wave")},
         "fdopen": (ctypes.c_void_p, [ctypes.c_int, ctypes.c_char_p]),  # of the C library
         "fclose": (ctypes.c_int, [ctypes.c_void_p]),
     }

@@ -1,6 +1,7 @@
 """Pools and their tasks."""
 from __future__ import annotations
 
+import asyncio
 import contextlib
 import ctypes
 import operator
@@ -9,7 +10,7 @@ import signal
 import threading
 from typing import Any, Callable, Dict, Generic, Iterable, Iterator, List, NamedTuple, Optional, Tuple, TypeVar, Union
 
-from ._library import NONE, NOT_STARTED, RUN, Team, library
+from ._library import NONE, NOT_STARTED, RUN, Access, Team, library
 from ._refused import Refused
 
 Result = TypeVar("Result")
@@ -40,6 +41,19 @@ class Task(Generic[Result]):
 
     def __repr__(self) -> str:
         return f"<Task {self.number}{', done' if self._is_done else ''}>"
+
+
+class Handle:
+    """A piece of data that tasks access, of the pool that created it."""
+
+    __slots__ = ("number", "_owner")
+
+    def __init__(self, owner: object, number: int) -> None:
+        self.number = number
+        self._owner = owner
+
+    def __repr__(self) -> str:
+        return f"<Handle {self.number}>"
 
 
 class _Job(NamedTuple):
@@ -169,6 +183,9 @@ class Pool:
         function: Callable[..., Result],
         *arguments: Any,
         after: "Iterable[Task[Any]]" = (),
+        reads: Iterable[Handle] = (),
+        writes: Iterable[Handle] = (),
+        updates: Iterable[Handle] = (),
         priority: int = 0,
         releases: int = 0,
         **keywords: Any,
@@ -181,11 +198,17 @@ class Pool:
                 replaced by its result, and the new task waits for it. Tasks inside lists and other
                 values are not found.
             after: further tasks that the new task waits for.
+            reads, writes, updates: the data that the function reads, writes as a whole, or reads
+                and writes. If two tasks access a handle, and one of them not only reads it, the
+                later one waits for the earlier one: the run gives what the functions would give if
+                they were called in the order in which the tasks were added. Such a task has no other
+                task in ``after`` or as an argument.
             priority: the class of the task, 0 to 3. Ready tasks with a lower number run first.
             releases: how many calls of :meth:`release` the task waits for.
 
         Raises:
-            ValueError: a task is of another pool, or a number is negative.
+            ValueError: a task or a handle is of another pool, a number is negative, or there are both
+                tasks to wait for and data.
             Refused: ``BadSpec`` (priority), ``Ended`` if all tasks are done, ``HistoryFull``,
                 ``NoMemory``, and ``Stopped``.
         """
@@ -196,18 +219,35 @@ class Pool:
             if not isinstance(it, Task):
                 raise TypeError(f"after has {it!r}, which is no task")
         waits_for = [*(it for it in (*arguments, *keywords.values()) if isinstance(it, Task)), *after]
-        inputs = (ctypes.c_uint32 * len(waits_for))(*map(self._number_of, waits_for))
-        wanted = _number("priority", priority), inputs, len(waits_for), _number("releases", releases)
+        modes = ((1, reads), (2, writes), (3, updates))  # as enum gerfmuod_mode
+        accesses = [(self._number_of(it, Handle), mode) for mode, handles in modes for it in handles]
+        if accesses and waits_for:
+            raise ValueError("a task names either tasks that it waits for or data")
+        call, inputs = (
+            (library.gerfmuod_team_task_on, (Access * len(accesses))(*accesses)) if accesses
+            else (library.gerfmuod_team_spawn, (ctypes.c_uint32 * len(waits_for))(*map(self._number_of, waits_for)))
+        )
+        wanted = _number("priority", priority), inputs, len(inputs), _number("releases", releases)
         team = self._open_team()
         with self._free_lock():
             task: "Task[Result]" = Task(self._identity, len(self))
             del self._jobs[task.number:]  # that of a call that was interrupted
             self._jobs.append(_Job(task, function, arguments, keywords))  # before any thread can run it
-            refused = library.gerfmuod_team_spawn(team, *wanted, None, None, ctypes.byref(self._newest))
+            refused = call(team, *wanted, None, None, ctypes.byref(self._newest))
             if refused:
                 self._jobs.pop()
         _check(team, refused)
         return task
+
+    def handle(self) -> Handle:
+        """Returns a new handle, which stands for a piece of data: see ``reads`` of :meth:`task`.
+
+        Raises:
+            Refused: ``HistoryFull`` after 134,217,728 of them, ``NoMemory``, and ``Stopped``.
+        """
+        team, number = self._open_team(), ctypes.c_uint32()
+        _check(team, library.gerfmuod_team_handle(team, ctypes.byref(number)))
+        return Handle(self._identity, number.value)
 
     def outside(self, task: "Task[Any]") -> None:
         """Lets a task wait for one more input from outside, such as a message or a timer.
@@ -276,6 +316,22 @@ class Pool:
                 del error  # it refers to this frame
         _check(run.team, library.gerfmuod_team_fault(run.team))
 
+    async def run_async(self, threads: Optional[int] = None) -> None:
+        """Runs all tasks as :meth:`run` does, while other coroutines go on. If it is cancelled, the pool stops."""
+        run = asyncio.ensure_future(asyncio.get_running_loop().run_in_executor(None, self.run, threads))
+        try:
+            await asyncio.shield(run)
+        except asyncio.CancelledError:
+            self.stop()
+            await asyncio.wait([run])
+            run.exception()  # Refused, since it was stopped
+            raise
+
+    @property
+    def left(self) -> int:
+        """The number of tasks that are not done, such as for a line of progress."""
+        return int(library.gerfmuod_team_left(self._open_team()))
+
     def stop(self) -> None:
         """Ends the run: functions that run are finished, no further one begins, and ``run`` raises ``Refused``."""
         library.gerfmuod_team_stop(self._open_team(), NONE)
@@ -295,8 +351,22 @@ class Pool:
             Refused: ``WrongLife`` if the pool has not run, or if tasks were added in the run;
                 ``Stopped`` if it was stopped.
         """
+        self._prepare(library.gerfmuod_team_again)
+
+    def reset(self) -> None:
+        """Prepares the same graph for one more run, also after one that was stopped or whose function raised.
+
+        All results are forgotten, and the tasks count as never run.
+
+        Raises:
+            Refused: ``WrongLife`` if tasks were added in the run.
+        """
+        self._prepare(library.gerfmuod_team_reset)
+        self._failed = None
+
+    def _prepare(self, call: Callable[[Team], int]) -> None:
         with self._at_rest() as team:
-            _check(team, library.gerfmuod_team_again(team))
+            _check(team, call(team))
             for job in self._jobs:
                 job.task._result, job.task._is_done = None, False
 
@@ -366,12 +436,12 @@ class Pool:
             finally:
                 library.fclose(stream)
 
-    def _number_of(self, task: "Task[Any]") -> int:
-        if not isinstance(task, Task):
-            raise TypeError(f"{task!r} is no task")
-        if task._owner is not self._identity:
-            raise ValueError("the task is of another pool")
-        return task.number
+    def _number_of(self, it: "Union[Task[Any], Handle]", kind: type = Task) -> int:
+        if not isinstance(it, kind):
+            raise TypeError(f"{it!r} is no {kind.__name__.lower()}")
+        if it._owner is not self._identity:
+            raise ValueError(f"the {kind.__name__.lower()} is of another pool")
+        return it.number
 
     def _open_team(self) -> Team:
         if self._team is None:

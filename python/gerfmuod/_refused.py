@@ -11,15 +11,14 @@ class Refused(Exception):
 
     Attributes:
         name: the name of the refusal, such as ``"NoTask"``.
-        number: its number, as in gerfmuod_graph.h and gerfmuod_team.h.
+        number: its number, as in gerfmuod/refusals.h.
         meaning: a sentence that explains it.
         task: the number of the task that it is about, or None.
     """
 
     def __init__(self, number: int, task: int = NONE) -> None:
         self.number = number
-        self.name: str = library.gerfmuod_team_name(number).decode()
-        self.meaning: str = library.gerfmuod_team_meaning(number).decode()
+        self.name, _, self.meaning = library.gerfmuod_refusal_text(number).decode().partition(": ")
         self.task: Optional[int] = None if task == NONE else task
         where = "" if self.task is None else f" at task {self.task}"
         super().__init__(f"{self.name}{where}: {self.meaning}")

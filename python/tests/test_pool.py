@@ -1,4 +1,5 @@
 """Tests of the package: results, order, threads, refusals, misuse, exceptions, interrupts, traces, recorded times."""
+import asyncio
 import errno
 import functools
 import json
@@ -52,6 +53,45 @@ class Results(Case):
             team = weakref.ref(pool._team)
             del pool
             self.assertIsNone(team())
+
+
+class Handles(Case):
+    def test_random_programs_give_the_sequential_result(self):
+        draw = random.Random(3)
+        for _ in range(1000):
+            pool, values, expected = Pool(), [0] * 4, [0] * 4
+            handles = [pool.handle() for _ in values]
+            for number in range(12):
+                modes = {place: draw.choice(("reads", "writes", "updates")) for place in draw.sample(range(4), draw.randrange(4))}
+
+                def step(store, number=number, modes=modes):
+                    result = hash((number, *(store[place] for place, mode in modes.items() if mode != "writes")))
+                    for place in (place for place, mode in modes.items() if mode != "reads"):
+                        store[place] = result + place
+
+                step(expected)
+                accesses = {mode: [handles[at] for at in modes if modes[at] == mode] for mode in ("reads", "writes", "updates")}
+                pool.task(step, values, **accesses, priority=draw.randrange(4))
+            pool.run(3)
+            self.assertEqual(values, expected)
+
+    def test_handles_beside_tasks(self):
+        pool, order = Pool(), []
+        data = pool.handle()
+        pool.task(order.append, 1, updates=[data], priority=3)
+        pool.task(order.append, 2, reads=[data])
+        first = pool.task(order.append, 0, priority=2)
+        self.assertRaises(ValueError, pool.task, int, after=[first], reads=[data])
+        self.assertRaises(ValueError, pool.task, int, first, reads=[data])
+        pool.run(1)
+        self.assertEqual((order, repr(data), data.number), ([0, 1, 2], "<Handle 0>", 0))
+
+    def test_what_is_no_handle_of_the_pool(self):
+        pool = Pool()
+        self.assertRaises(ValueError, pool.task, int, reads=[Pool().handle()])
+        self.assertRaises(TypeError, pool.task, int, writes=[pool.task(int)])
+        self.assertRaises(TypeError, pool.task, int, after=[pool.handle()])
+        self.assertEqual(len(pool), 1)
 
 
 class Order(Case):
@@ -284,6 +324,55 @@ class Interrupts(Case):
         environment = {**os.environ, "MALLOC_PERTURB_": "165"}  # fills memory that was freed
         result = subprocess.run(command, env=environment, stdout=subprocess.PIPE, stderr=subprocess.STDOUT, timeout=300)
         self.assertEqual((result.returncode, result.stdout), (0, b"300 of 300 runs were interrupted\n"))
+
+
+class Again(Case):
+    def test_a_graph_is_reset_after_a_failure_and_a_stop(self):
+        pool, fails, seen = Pool(), [True], []
+        first = pool.task(seen.append, 1)
+        last = pool.task(lambda: 1 // (not fails[0]), after=[first])
+        self.assertRaises(ZeroDivisionError, pool.run, 2)
+        self.assertEqual((pool.failed, pool.left), (last, 1))
+        self.refused("Stopped", pool.again, task=last.number)
+        pool.reset()
+        self.assertEqual((pool.failed, pool.left), (None, 2))
+        fails[0] = False
+        pool.run(2)
+        self.assertEqual((last.result, pool.left, seen), (1, 0, [1, 1]))
+        pool.reset()
+        pool.task(pool.stop)
+        self.refused("Stopped", pool.run, 1)
+        pool.reset()
+
+    def test_a_run_beside_coroutines(self):
+        pool, gate = Pool(), threading.Event()
+        waits = pool.task(gate.wait)
+
+        async def run_and_set():
+            run = asyncio.ensure_future(pool.run_async(2))
+            await asyncio.sleep(0.01)
+            gate.set()
+            await run
+            return waits.result
+
+        self.assertTrue(asyncio.run(run_and_set()))
+
+    def test_a_cancelled_run_stops(self):
+        pool, gate = Pool(), threading.Event()
+        pool.task(gate.wait, after=[pool.task(gate.wait)])
+
+        async def run_and_cancel():
+            run = asyncio.ensure_future(pool.run_async(1))
+            await asyncio.sleep(0.01)
+            run.cancel()
+            await asyncio.sleep(0.01)
+            gate.set()
+            await run
+
+        self.assertRaises(asyncio.CancelledError, asyncio.run, run_and_cancel())
+        self.assertEqual(pool.left, 2)
+        pool.reset()
+        pool.run(1)
 
 
 class Traces(Case):

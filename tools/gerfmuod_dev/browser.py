@@ -1,10 +1,14 @@
-"""Opens a page in headless Chromium, and drives it as a reader does: by the DevTools protocol, over a pipe."""
+"""Opens a page in headless Chromium, and drives it as a reader does, by the DevTools protocol over a pipe; has it read trace events."""
 import base64
+import collections
 import json
 import os
 import shutil
 import subprocess
 import tempfile
+
+from .event_format import Profile, nanoseconds
+from .repository import TOP, text_of
 
 NAMES = ("chromium", "chromium-browser", "google-chrome")
 # a shell gives Chromium the descriptors 3 and 4, on which it reads and writes
@@ -12,12 +16,13 @@ SHELL = 'reads=$1 writes=$2; shift 2; exec "$@" 3<&"$reads" 4>&"$writes"'
 OPTIONS = ["--headless=new", "--remote-debugging-pipe", "--disable-gpu", "--no-first-run", "--hide-scrollbars"]
 OPTIONS += ["--no-sandbox"] * (os.geteuid() == 0)
 SECONDS = 600
+# reads the events, and returns the slices that the panel would show, or null without such modules
+READ = text_of(f"{TOP}/tools/data/devtools.js")
 # the levels of what a page reports as an error
 ERRORS = ("error", "warning", "assert")
 
 
 def program():
-    """Returns the path of Chromium, or None if it is not installed."""
     return next((path for path in map(shutil.which, NAMES) if path), None)
 
 
@@ -74,7 +79,6 @@ class Browser:
         return message
 
     def call(self, method, **parameters):
-        """Calls a method of the protocol, and returns its result."""
         self.number += 1
         message = {"id": self.number, "method": method, "params": parameters, **self.session}
         self.out.write(json.dumps(message).encode() + b"\0")
@@ -98,12 +102,10 @@ class Browser:
         self.settle()
 
     def value(self, expression):
-        """Returns the value of an expression in the page, after a promise has ended."""
         result = self.call("Runtime.evaluate", expression=expression, returnByValue=True, awaitPromise=True)
         return result["result"].get("value")
 
     def settle(self):
-        """Waits until the page has drawn what was asked for before."""
         self.value("new Promise(end => requestAnimationFrame(() => requestAnimationFrame(end)))")
 
     def mouse(self, kind, x, y, **more):
@@ -115,11 +117,31 @@ class Browser:
         self.call("Input.dispatchKeyEvent", type="keyUp", key=key)
         self.settle()
 
-    def prefer(self, scheme):
-        """Prefers light or dark colours."""
-        self.call("Emulation.setEmulatedMedia", features=[{"name": "prefers-color-scheme", "value": scheme}])
-        self.settle()
-
     def screenshot(self):
-        """Returns what the page looks like, as a PNG."""
         return base64.b64decode(self.call("Page.captureScreenshot", format="png")["data"])
+
+
+def slices_in(text):
+    """Counts the slices of a text: process, thread, their names, and the slice's name, begin and length in nanoseconds."""
+    profile, found = Profile(text), collections.Counter()
+    for event in profile.slices:
+        pid, tid = event["pid"], event["tid"]
+        names = profile.processes.get(pid), profile.threads.get((pid, tid)), event["name"]
+        found[(pid, tid, *names, nanoseconds(event["ts"]), nanoseconds(event["dur"]))] += 1
+    return found
+
+
+def check_events(tally, browser, texts):
+    """Counts whether the panel Performance of Chromium's DevTools has each slice of these texts once, under the names of the file."""
+    what = f"the events of {len(texts)} run{'s' * (len(texts) != 1)}"
+    is_open = browser.navigate("devtools://devtools/bundled/devtools_app.html")
+    for name, text in texts.items():
+        found = browser.value(f"{READ}({json.dumps(text)})") if is_open else None
+        if found is None:
+            tally.skips(f"{what} in DevTools", "a Chromium whose DevTools have the module models/trace")
+            return
+        expected = slices_in(text)
+        shown = collections.Counter((*others, nanoseconds(begin), nanoseconds(length)) for *others, begin, length in found)
+        differing = [*(expected - shown), *(shown - expected)]
+        tally.judge(not differing, f"{name}: {len(differing)} slices differ in DevTools, such as {differing[:2]}")
+    print(f"{what}: read by the panel Performance of Chromium's DevTools", flush=True)

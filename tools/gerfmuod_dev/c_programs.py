@@ -1,17 +1,16 @@
 """Compiles the programs of capi/ and runs them: tools/data/capi.json has them in the order of their runs, in two parts.
 
-A row has a program, further options of the compiler, its runs, and its runs under valgrind and with the sanitizers of
-SANITIZERS; "full" has those of the long form. A run is its arguments, if it succeeds, or a list: the expected status (-1: any but
-0), a text that the output contains, and the arguments of one or more runs. Each case of a test over cmocka counts. CC, CXX, FC,
-CFLAGS, CXXFLAGS, FFLAGS and LDFLAGS are those of the environment. After a run that did not end, the time limit is shorter, so
-that a library that hangs does not take hours.
+A row has a program, further options of the compiler, its runs, and its runs under valgrind and with the sanitizers of SANITIZERS; "full"
+has those of the long form. A run is its arguments, if it succeeds, or a list: the expected status (-1: any but 0), a text that the output
+contains, and the arguments of one or more runs. Each case of a test over cmocka counts. CC, CXX, FC, CFLAGS, CXXFLAGS, FFLAGS and LDFLAGS
+are those of the environment. After a run that did not end, the time limit is shorter, so that a library that hangs does not take hours.
 """
 import functools
 import json
 import os
 import re
 import subprocess
-from dataclasses import dataclass, field
+from typing import NamedTuple
 
 from . import running
 from .repository import TOP, text_of
@@ -30,7 +29,7 @@ KINDS = ("runs", "valgrind", *SANITIZERS)
 # the packages of libraries that a program may need
 PACKAGES = {"-lcmocka": "libcmocka-dev", "-lopenblas": "libopenblas-dev"}
 # the compilers that check all sources, with the standards of headers and of programs
-COMPILERS = {"gcc": ["c99", "c11"], "clang": ["c99", "c11"], "g++": ["c++11", "c++17"], "clang++": ["c++11", "c++17"]}
+COMPILERS = {"gcc": ["c99", "c11"], "clang": ["c99", "c11"], "g++": ["c++98", "c++11", "c++17"], "clang++": ["c++98", "c++11", "c++17"]}
 # instead of an expected exit status: any but 0
 FAILURE = -1
 SECONDS_AFTER_A_HANG = 15
@@ -38,8 +37,7 @@ SECONDS_AFTER_A_HANG = 15
 CASE = re.compile(r"^(not )?ok \d+ - (\w+)((?:\n# .*)*)", re.M)
 
 
-@dataclass(frozen=True)
-class Run:
+class Run(NamedTuple):
     """The arguments of a run, its expected exit status or FAILURE, and a text that its output contains."""
 
     arguments: list
@@ -47,39 +45,34 @@ class Run:
     output: str = ""
 
 
-@dataclass(frozen=True)
-class Program:
+class Program(NamedTuple):
     """A source below capi/, options of the compiler, files that are linked with it, and its runs: "runs", "valgrind" or a sanitizer."""
 
     source: str
     options: tuple = ()
     files: tuple = ()
-    runs: dict = field(default_factory=dict)
-
-
-def runs_of(rows):
-    """Yields the runs of a list of the table."""
-    for row in rows:
-        status, output, *lines = row if isinstance(row, list) else (0, "", row)
-        yield from (Run(line.split(), status, output) for line in lines)
+    runs: dict = {}
 
 
 def programs(part, is_full=False):
-    """Returns the programs of a part of the table, or those that have a long form, in that form. Task graphs are linked with the
-    source of the team, so that a sanitizer checks the team too."""
+    """Returns the programs of a part of the table, or those with a long form in it; task graphs have the team's source, to check it."""
     rows = json.loads(text_of(f"{TOP}/tools/data/capi.json"))[part]
+
+    def runs_of(row):
+        status, output, *lines = row if isinstance(row, list) else (0, "", row)
+        return [Run(line.split(), status, output) for line in lines]
+
     return [
         Program(
             row["program"], tuple(row.get("options", ())),
             (TEAM,) if part == "dag" and row["program"].endswith(".c") else (),
-            {kind: [*runs_of(runs)] for kind, runs in (row["full"] if is_full else row).items() if kind in KINDS},
+            {kind: sum(map(runs_of, runs), []) for kind, runs in (row["full"] if is_full else row).items() if kind in KINDS},
         )
         for row in rows if not is_full or "full" in row
     ]
 
 
 def start(command, **options):
-    """Runs a command with its standard error in its output."""
     return running.run(command, stderr=subprocess.STDOUT, **options)
 
 
@@ -88,7 +81,6 @@ def succeeds(command):
 
 
 def output_of(command, **options):
-    """Returns what a command prints; exits with status 1 if it fails."""
     result = start(command, **options)
     if result.status:
         raise SystemExit(f"{' '.join(command)}: status {result.status}: {short(result.out, 2000)}")
@@ -96,8 +88,7 @@ def output_of(command, **options):
 
 
 def judge(tally, command, expected, **options):
-    """Runs a command, and counts whether its status and output are the expected ones, and the cases of cmocka that it reports.
-    Returns the output."""
+    """Runs a command; counts whether status and output are as expected, and the cases of cmocka that it reports. Returns the output."""
     given = {"CMOCKA_MESSAGE_OUTPUT": "TAP", "OPENBLAS_NUM_THREADS": "1", **os.environ}
     result = start(command, **{"timeout": tally.seconds, "env": given, **options})
     if result.status == NOT_ENDED:
@@ -118,7 +109,6 @@ class Build:
         self.library, self.folder = library_folder, folder
 
     def command(self, program, path, *options):
-        """Returns the command that compiles a program with further options, and links it."""
         source, ending = os.path.join("capi", program.source), os.path.splitext(program.source)[1]
         modules = ["-J", self.folder] if ending == ".f90" else []
         command = [*COMPILE[ending], *options, *modules, source, *program.files, "-o", path]
@@ -128,7 +118,6 @@ class Build:
         return [*command, *program.options, *libraries, *environment_options("LDFLAGS")]
 
     def compiled(self, tally, program, *options):
-        """Returns the path of a compiled program, or None; counts whether it compiles."""
         path = f"{self.folder}/{program.source.replace('/', '_').replace('.', '_')}{''.join(options)[:12]}"
         command = self.command(program, path, *options)
         result = start(command)
@@ -137,18 +126,8 @@ class Build:
 
     @functools.lru_cache(maxsize=None)
     def can_link(self, *options):
-        """Whether a program with these options can be linked and run here."""
         source, path = running.write(f"{self.folder}/empty.c", "int main(void) { return 0; }\n"), f"{self.folder}/empty"
         return succeeds([*C, *options, source, "-o", path]) and succeeds([path])
-
-    def without_missing(self, tally, own):
-        """Returns those of the programs whose libraries are here; skips the others, once for each library."""
-        for option, package in PACKAGES.items():
-            lacking = [program for program in own if option in program.options and not self.can_link(option)]
-            if lacking:
-                tally.skips(f"{len(lacking)} programs, such as {lacking[0].source}", package)
-            own = [program for program in own if program not in lacking]
-        return own
 
 
 def run_kind(tally, build, program, kind):
@@ -172,8 +151,13 @@ def run_kind(tally, build, program, kind):
 
 
 def run_programs(tally, build, own):
-    """Compiles programs and does their runs."""
-    for program in build.without_missing(tally, own):
+    """Compiles those of the programs whose libraries are here, and does their runs; skips the others, once for each library."""
+    for option, package in PACKAGES.items():
+        lacking = [program for program in own if option in program.options and not build.can_link(option)]
+        if lacking:
+            tally.skips(f"{len(lacking)} programs, such as {lacking[0].source}", package)
+        own = [program for program in own if program not in lacking]
+    for program in own:
         if tally.has(COMPILE[os.path.splitext(program.source)[1]][0], program.source):
             for kind in ("runs", *SANITIZERS):
                 run_kind(tally, build, program, kind)
@@ -186,7 +170,7 @@ def check_sources(tally, headers, sources):
         for standard in standards if tally.has(compiler, "the check of the sources by it") else ():
             own = [path for path in headers if path.endswith(".h") or standard == "c++17"]
             checked = [["-include", path, *options, "/dev/null"] for path in own for options in ([], SANITIZERS["thread"])]
-            if standard != "c++11":
+            if standard not in ("c++98", "c++11"):
                 checked += [[path] for path in sources if path.endswith(".c" if language == "c" else ".cpp")]
             for arguments in checked:
                 command = [compiler, "-x", language, f"-std={standard}", *WARNINGS, f"-I{INCLUDE}", "-fsyntax-only", *arguments]

@@ -1,11 +1,10 @@
 """Checks the C library: its headers and all programs of capi/ with each compiler, and the programs of the detectors linked with it.
 
-First each compiler on this machine checks the headers as C99, C11, C++11 and C++17, with and without ThreadSanitizer, and the
+First each compiler on this machine checks the headers as C99, C11, C++98 to C++17, with and without ThreadSanitizer, and the
 programs in C and C++, with all warnings on. If lib/libgerfmuod.a is there and was built from these sources (`make lib` builds it), it
 compares the names that the archive and the shared object define with what the headers declare. Then it runs the programs of the
 first part of tools/data/capi.json. The table that damages.c prints is compared with docs/OTHER-RUNTIMES.md, whose first program
-runs, too. The programs of capi/mpi run if mpicc and mpirun are installed. It skips what is not installed, and counts that. The
-last line is `N passed, M failed, K skipped`; the status is 1 if one failed, or if there is no such library.
+runs, too. The programs of capi/mpi run if mpicc and mpirun are installed. It skips what is not installed, and counts that.
 
 With --full only the fuzz runs, in its long form. With --bench it runs no program, but measures and prints what a step costs:
 instructions, which valgrind counts at two numbers of steps, memory, nanoseconds, locks, and the depth of the stack.
@@ -13,13 +12,11 @@ instructions, which valgrind counts at two numbers of steps, memory, nanoseconds
 import re
 import shutil
 import sys
-import tempfile
 
 from . import library, mpi, repository, shared_object
 from .c_programs import Build, Program, Run, check_sources, judge, output_of, programs, run_programs, start
 from .repository import text_of
 from .running import Tally, instructions, write
-from .shipping import generated
 
 STEPS = 999_999
 PAGE = "docs/OTHER-RUNTIMES.md"
@@ -30,8 +27,7 @@ ELSEWHERE = re.compile("capi/mpi/|capi/bench/peers/|capi/preload/")
 
 
 def check_symbols(tally):
-    """Compares the names that the archive and the shared object define for others with what the headers declare."""
-    declared = {*generated.declared()}
+    declared = shared_object.declared()
     for path, options in ((library.ARCHIVE, []), (library.SHARED, ["-D"])):
         differing = sorted(declared ^ shared_object.symbols(path, *options))
         tally.judge(not differing, f"{path} and the headers differ in {' '.join(differing)}")
@@ -44,30 +40,23 @@ def check_page(tally, build):
     table = start([path]).out.decode() if path else ""
     tally.judge(table and table in text_of(PAGE), f"damages.c fails, or {PAGE} has another table than\n{table}")
     source = write(f"{build.folder}/first.c", re.search(r"^```c\n(#include .*?)^```$", text_of(PAGE), re.S | re.M)[1])
-    judge(tally, [build.compiled(tally, Program(source))], Run([], 0, "none: the call was not refused"))
+    judge(tally, [build.compiled(tally, Program(source))], Run([], 0, "Ok: the call was not refused"))
     print(f"{PAGE}: its table, which damages.c prints, and its program")
 
 
 def bench(build):
-    """Measures what a step costs, and prints it."""
     program = build.compiled(Tally(), Program("bench/steps.c")) or sys.exit(1)
     print(f"{STEPS:,} steps at 8 nodes, called from C:{'' if shutil.which('valgrind') else ' no instructions without valgrind'}")
     for kind in KINDS:
         commands = [[program, "count", kind, str(steps)] for steps in (0, STEPS)]
-        if shutil.which("valgrind"):
-            none, all_steps = map(instructions, commands)
+        none, all_steps = map(instructions, commands)
+        if none and all_steps:
             print(f"{kind}: {(all_steps - none) / STEPS:.1f} instructions a step, including the loop and the close")
         none, all_steps = (int(output_of(command)) for command in commands)
         print(f"{kind}: {(all_steps - none) / STEPS:.1f} bytes a step", flush=True)
     for arguments_of in ["time", str(STEPS)], ["locks", str(STEPS)], ["stack"]:
         print(output_of([program, *arguments_of]), end="", flush=True)
-
-
-def check_library(tally, build):
-    check_symbols(tally)
-    run_programs(tally, build, programs("capi"))
-    check_page(tally, build)
-    mpi.run_quick(tally, build.folder)
+    return 0
 
 
 def arguments(parser):
@@ -76,25 +65,22 @@ def arguments(parser):
 
 
 def run(options):
-    repository.go_to_top()
-    reason, tally = library.reason_not_built(), Tally()
+    reason, tally = library.reason_not_built(), options.tally
     if options.bench and reason:
         sys.exit(f"{reason}: make lib builds it")
     if not options.bench and not options.full:
         sources = [path for path in repository.files_in("capi") if not ELSEWHERE.match(path)]
         check_sources(tally, [path for path in library.HEADERS if path.endswith((".h", ".hpp"))], sources)
-        print("the headers and programs of capi/: checked as C99, C11, C++11 and C++17")
+        print("the headers and programs of capi/: checked as C99, C11, C++98 to C++17")
     if reason:
-        tally.fails(f"{reason}: no program of capi/ was linked and run. make lib builds it")
-        return tally.end()
-    with tempfile.TemporaryDirectory() as folder:
-        build = Build("lib", folder)
-        if options.bench:
-            bench(build)
-            return 0
-        if options.full:
-            tally.seconds *= 10
-            run_programs(tally, build, programs("capi", True))
-        else:
-            check_library(tally, build)
-    return tally.end()
+        return tally.fails(f"{reason}: no program of capi/ was linked and run. make lib builds it")
+    build = Build("lib", options.temporary)
+    if options.bench:
+        return bench(build)
+    tally.seconds *= 10 if options.full else 1
+    run_programs(tally, build, programs("capi", options.full))
+    if not options.full:
+        check_symbols(tally)
+        check_page(tally, build)
+        mpi.run_quick(tally, build.folder)
+    return None

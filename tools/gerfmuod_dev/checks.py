@@ -11,7 +11,6 @@ import os
 import re
 import signal
 import subprocess
-import threading
 import time
 from concurrent.futures import ThreadPoolExecutor, as_completed
 
@@ -20,7 +19,7 @@ from . import repository, running
 # the arguments of tools/dev for each part; those that take longest begin first
 PARTS = {
     "dag": "dag", "try": "try", "capi": "capi", "pages": "pages", "package": "package", "strange": "limits strange --quick",
-    "refuse": "limits refuse --quick", "docs": "docs", "bench": "bench --check", "mutants": "mutants --stale", "tools": "test --tools",
+    "refuse": "limits refuse --quick", "manners": "limits manners", "docs": "docs", "bench": "bench --check", "mutants": "mutants --stale", "tools": "test --tools",
     "mpi-check": "mpi-check", "ompt": "ompt",
 }
 TOOLS = f"{repository.TOP}/tools/dev"
@@ -43,7 +42,6 @@ def counts_of(output, status):
 
 
 def end_all(number, _):
-    """Ends the parts that run, and this program."""
     for process in list(RUNNING):
         with contextlib.suppress(ProcessLookupError):
             os.killpg(process.pid, signal.SIGKILL)
@@ -53,32 +51,25 @@ def end_all(number, _):
 def run_part(name, command, minutes, is_shown):
     """Runs a part, and ends it and the processes below it at its time limit. Shows its output while it runs, or when it has ended."""
     began, lines = time.monotonic(), []
-    streams = {"stdin": subprocess.DEVNULL, "stdout": subprocess.PIPE, "stderr": subprocess.STDOUT}
-    with subprocess.Popen(command, cwd=repository.TOP, text=True, errors="replace", start_new_session=True, **streams) as process:
-        timer = threading.Timer(60 * minutes, os.killpg, (process.pid, signal.SIGKILL))
-        timer.daemon = True
-        timer.start()
+    streams = {"stdin": subprocess.DEVNULL, "stdout": subprocess.PIPE, "stderr": subprocess.STDOUT, "start_new_session": True}
+    with subprocess.Popen(["timeout", "-s", "KILL", f"{minutes}m", *command], text=True, errors="replace", **streams) as process:
         RUNNING.add(process)
         for line in process.stdout:
             lines.append(line)
             if is_shown:
                 print(line, end="", flush=True)
-        lines += [] if timer.is_alive() else [f"FAILED: {name} did not end within {minutes} minutes\n"]
-        timer.cancel()
-        RUNNING.discard(process)
+    RUNNING.discard(process)
+    lines += [f"FAILED: {name} did not end within {minutes} minutes\n"] * (process.returncode == -signal.SIGKILL)
     output = "".join(lines)
     return Part(name, output, time.monotonic() - began, counts_of(output, process.returncode))
 
 
-def run_gate():
-    """Yields the gate, and then the library and the programs, which are built from what it has proved."""
-    began, lanes = time.time(), repository.lanes(repository.MEMORY_OF_A_CHECK)
-    yield run_part("gate", ["env", f"RT_JOBS={lanes}", "rt", "ci"], LIMIT_OF_GATE, True)
-    yield run_part("lib", [TOOLS, "lib", "--since", str(began)], LIMIT, True)
-
-
-def run_tests():
-    """Yields each part of the tests when it ends, and shows its output."""
+def run_parts(has_gate):
+    """Yields each part when it ends, and shows its output; with the gate, library and programs are built from what it has proved."""
+    if has_gate:
+        began, lanes = time.time(), repository.lanes(repository.MEMORY_OF_A_CHECK)
+        yield run_part("gate", ["env", f"RT_JOBS={lanes}", "rt", "ci"], LIMIT_OF_GATE, True)
+        yield run_part("lib", [TOOLS, "lib", "--since", str(began)], LIMIT, True)
     with ThreadPoolExecutor(repository.processors()) as pool:
         parts = [pool.submit(run_part, name, [TOOLS, *command.split()], LIMIT, False) for name, command in PARTS.items()]
         for ended in as_completed(parts):
@@ -88,29 +79,24 @@ def run_tests():
 
 
 def report(parts):
-    """Prints the table and the closing line; returns the exit status."""
     print("\n" + ROW.format("part", "minutes", "passed", "failed", "skipped"))
     print("\n".join(ROW.format(part.name, f"{part.seconds / 60:.1f}", *part.counts) for part in parts))
     lacking = collections.Counter(package for part in parts for package in SKIPPED.findall(part.output))
     skipped = ", ".join(f"{package} ({count})" for package, count in lacking.most_common())
     print(f"Skipped for lack of packages: {skipped}" if lacking else "Nothing was skipped.")
     failing = [part.name for part in parts if part.counts[1]]
-    if failing:
-        print(f"FAILED: {' '.join(failing)}")
+    print(f"FAILED: {' '.join(failing)}\n" * bool(failing), end="")
     passed, failed, skipped = map(sum, zip(*(part.counts for part in parts)))
     print(f"{passed} passed, {failed} failed, {skipped} skipped")
     return 1 if failed else 0
 
 
-def run_own_tests():
-    """Has pytest run the tests of these tools; returns the exit status."""
-    tally = running.Tally()
+def run_own_tests(tally):
     if tally.has("pytest", "the tests of these tools"):
         result = running.run(["pytest", "-q", "-p", "no:cacheprovider", "tools/gerfmuod_dev"])
         output = result.out.decode(errors="replace")
-        tally.passes(sum(map(int, re.findall(r"(\d+) passed", output))))
+        tally.passed += sum(map(int, re.findall(r"(\d+) passed", output)))
         tally.judge(not result.status, output)
-    return tally.end()
 
 
 def arguments(parser):
@@ -119,9 +105,8 @@ def arguments(parser):
 
 
 def run(options):
-    repository.go_to_top()
     if options.tools:
-        return run_own_tests()
+        return run_own_tests(options.tally)
     for number in (signal.SIGINT, signal.SIGTERM):
         signal.signal(number, end_all)
-    return report([*(run_gate() if options.gate else ()), *run_tests()])
+    return report([*run_parts(options.gate)])

@@ -56,7 +56,6 @@ class Type(NamedTuple):
 
 
 def owner_of(line):
-    """Returns the type of an `impl`, or the name of a trait."""
     plain, count = line.replace("->", ""), 1
     while count:
         plain, count = re.subn(r"<[^<>]*>", "", plain)
@@ -71,7 +70,7 @@ def head_at(lines, place):
         line = lines[last].split("//")[0].rstrip()
         depth += sum(map(line.count, "({")) - sum(map(line.count, ")}"))
         if depth == 1 and line.endswith("{") or depth == 0 and line.endswith((";", "{}")):
-            return "\n".join(lines[place : last + 1])
+            return "\n".join(lines[place:last + 1])
     return "\n".join(lines[place:])
 
 
@@ -80,7 +79,7 @@ def block_at(lines, place):
     if lines[place].endswith((";", "}")):
         return lines[place]
     last = next((row for row in range(place, len(lines)) if lines[row].startswith(("}", ")"))), len(lines) - 1)
-    return "\n".join(lines[place : last + 1])
+    return "\n".join(lines[place:last + 1])
 
 
 def items_in(lines):
@@ -99,14 +98,12 @@ def items_in(lines):
 
 @functools.lru_cache(maxsize=None)
 def exported(crate):
-    """Returns the public names of a crate: those that its lib.rt declares or exports."""
     text = text_of(f"crates/{crate}/src/lib.rt", "")
     return {*DECLARED_IN_LIB.findall(text), *(name for path in EXPORT.findall(text) for name in re.findall(r"\w+", path))}
 
 
 @functools.lru_cache(maxsize=None)
 def items_of(crate, path):
-    """Returns the functions and the types of a file of a crate."""
     return tuple(read_items(text_of(path).split("\n"), path, exported(crate)))
 
 
@@ -145,7 +142,6 @@ def contracts_of(crate):
 
 @functools.lru_cache(maxsize=None)
 def types_with_invariant(crate):
-    """Returns the names of the types of a crate that have an invariant."""
     texts = [text_of(path) for path in repository.files_in(f"crates/{crate}/src") if path.endswith(".rt")]
     models = [found for text in texts for found in re.finditer(r"^impl\b.* Model for .*\n(?:[^}\n].*\n|\n)*", text, re.M)]
     return {owner_of(found[0].split("\n")[0]) for found in models if INVARIANT.search(found[0])}

@@ -3,28 +3,25 @@
 - each relative link of README.md, CONTRIBUTING.md, CHANGELOG.md, bench/README.md and docs leads to a file, and to a heading if it
   names one; each path of the repository, each subcommand of `tools/dev` and each target of `make` that a document names exists
 - a line has at most 120 columns, except in tables, in code, and with a link; README.md has at most 130 lines
-- each block of code in docs/RUNNING-A-POOL.md and docs/PROVING-A-POOL.md is part of the file that the line above it names
+- each block of code in RUNNING-A-POOL.md, PROVING-A-POOL.md and YOUR-BODIES.md is part of the file that the line above it names
 - a count in a document, such as `23<!-- files crates/gerfmuod/proofs/**/Proof.antt -->`, is the number of these files
 - the table of docs/ARCHITECTURE.md has the groups of crates.txt, and the plots are drawn from what is stored (`tools/dev plot`)
 - the contracts, the tests, the mutants and the calls that documents cite are in the code (proved.py)
 - the runtime and the library's C code use no atomic operation: all shared state is behind locks
-
-Prints each difference. The last line is `N passed, M failed`; the status is 1 if one failed.
 """
 import glob
 import os
 import re
 from urllib.parse import unquote
 
-from . import crate_map, plots, proved, repository
+from . import plots, proved
 from .bench import figures
 from .repository import text_of
-from .running import Tally
 
-GUIDE = "docs/RUNNING-A-POOL.md", "docs/PROVING-A-POOL.md"
+GUIDE = "docs/RUNNING-A-POOL.md", "docs/PROVING-A-POOL.md", "docs/YOUR-BODIES.md"
 # what documents name that is of its day, of the toolchain, or written by a build
 OF_ITS_DAY, ELSEWHERE = "CHANGELOG.md", ("docs/ANSWERS.md", "crates/*/out")
-BLOCK = re.compile(r"(?:`(crates/[^`\n]+)`:\n\n)?```(\w+)\n(.*?\n)```\n", re.S)
+BLOCK = re.compile(r"(?:`([^`\n]+)`:\n\n)?```(\w+)\n(.*?\n)```\n", re.S)
 CODE = re.compile(r"^ *```.*?^ *```[^\n]*$|`[^`\n]*`", re.S | re.M)
 LINK = re.compile(r'\]\(<?([^()\s>]+)>?(?:\s+"[^"]*")?\)|^ *\[[^\]\n]+\]: *(\S+)|\b(?:src|srcset|href)="([^"]+)"', re.M)
 URL = re.compile(r"[a-z][a-z0-9+.-]*:|//", re.I)
@@ -39,7 +36,6 @@ COMMENT = re.compile(r"/\*.*?\*/|//[^\n]*", re.S)
 
 
 def documents():
-    """Returns the paths of the documents of the repository."""
     paths = [path for folder in ("docs", "docs/measurements") for path in glob.glob(f"{folder}/*.md")]
     return ["README.md", "CONTRIBUTING.md", "CHANGELOG.md", "bench/README.md", "capi/README.md", *sorted(paths)]
 
@@ -55,7 +51,6 @@ def headings_of(text):
 
 
 def exists(path, link):
-    """Whether the target of a document's link exists."""
     file, _, heading = unquote(link).partition("#")
     target = os.path.join(os.path.dirname(path), file) if file else path
     is_here = os.path.exists(target)
@@ -63,13 +58,11 @@ def exists(path, link):
 
 
 def dead_links(path):
-    """Returns the relative links of a document that lead nowhere, each once."""
     links = dict.fromkeys("".join(groups) for groups in LINK.findall(CODE.sub("``", text_of(path))))
     return [link for link in links if not URL.match(link) and not exists(path, link)]
 
 
 def unknown_names(text, subcommands):
-    """Returns the commands and the paths in a text that do not exist."""
     targets = set(re.findall(r"^([a-z]+):", text_of("Makefile"), re.M))
     commands = set(re.findall(r"tools/dev ([a-z][a-z-]*)", text)) - subcommands
     commands |= set(re.findall(r"(?:`|^    )make ([a-z]+)", text, re.M)) - targets
@@ -78,13 +71,11 @@ def unknown_names(text, subcommands):
 
 
 def wide_lines(text):
-    """Returns the numbers of the lines of prose that are too wide."""
     prose = NOT_PROSE.sub(lambda found: "\n" * found[0].count("\n"), text)
     return [number for number, line in enumerate(prose.split("\n"), 1) if len(line) > MOST_COLUMNS]
 
 
 def wrong_counts(text):
-    """Returns the counts of files that differ from the repository."""
     return [pattern for number, pattern in COUNT.findall(text) if len(glob.glob(pattern, recursive=True)) != int(number)]
 
 
@@ -113,7 +104,7 @@ def check_documents(tally, subcommands):
 
 def check_atomics(tally):
     runtime = [path for path in glob.glob("crates/*/src/**/*.rt", recursive=True) if not path.startswith("crates/test_")]
-    library = [path for path in glob.glob("capi/[is]*/*") if path.endswith((".c", ".h", ".hpp"))]
+    library = [path for path in glob.glob("capi/[is]*/**", recursive=True) if path.endswith((".c", ".h", ".hpp"))]
     for path in runtime + library:
         found = [use[0] for use in ATOMIC.finditer(COMMENT.sub("", text_of(path)))]
         tally.judge(not found, f"{path}: {', '.join(found)}: shared state has to be behind a lock")
@@ -121,11 +112,9 @@ def check_atomics(tally):
 
 
 def run(options):
-    repository.go_to_top()
-    tally = Tally()
+    tally = options.tally
     check_documents(tally, set(options.subcommands))
-    crate_map.check(tally)
+    plots.check_map(tally)
     plots.check(tally, [name for name in plots.PLOTS if name not in figures.PLOTS])
     proved.check(tally)
     check_atomics(tally)
-    return tally.end()

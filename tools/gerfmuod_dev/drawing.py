@@ -1,16 +1,8 @@
-"""Draws a plot with matplotlib: reads it as JSON from standard input, and writes it to the file that is named, as SVG or PNG.
-
-`plots.py` runs this file with an interpreter that has matplotlib. The file reads no other input, so its text and the JSON determine
-the plot.
-"""
-import json
-import sys
-
+"""Draws a plot with matplotlib into a file, as SVG or PNG. The text of this file and the plot's numbers determine the picture."""
 import matplotlib
+from matplotlib import pyplot, ticker
 
-matplotlib.use("svg" if sys.argv[1:2] and sys.argv[1].endswith(".svg") else "agg")
-from matplotlib import pyplot, ticker  # noqa: E402 (the backend is chosen first)
-
+matplotlib.use("agg")
 # colours that can be distinguished without telling red from green
 COLOURS = ["#1f6fb2", "#d9822b", "#2e8b57", "#8e5ba6", "#777777"]
 MARKERS = "os^Dv"
@@ -96,15 +88,7 @@ def draw_threads(plot):
     return with_legend(figure, axis)
 
 
-KINDS = {"lines": draw_lines, "bars": draw_bars, "threads": draw_threads}
-
-
-def main():
-    plot = json.load(sys.stdin)
+def draw(plot, path):
     with matplotlib.rc_context(STYLE):
-        figure = KINDS[plot["kind"]](plot)
-        figure.savefig(sys.argv[1], metadata={"Date": None, "Creator": None} if sys.argv[1].endswith(".svg") else None, dpi=110)
-
-
-if __name__ == "__main__":
-    main()
+        figure = {"lines": draw_lines, "bars": draw_bars, "threads": draw_threads}[plot["kind"]](plot)
+        figure.savefig(path, metadata={"Date": None, "Creator": None} if path.endswith(".svg") else None, dpi=110)

@@ -5,26 +5,15 @@ Chromium (`tools/page-packages` prints the packages). Cholesky (capi/examples/ch
 if that is installed; the times of the fastest of a few runs are stored and drawn. Prints a line for each picture. The status is 1
 if one could not be drawn; without Chromium, or without a library that was built from these sources, its picture is left as it is.
 """
-import collections
 import os
 import tempfile
 
-from . import dag_programs, library, plots, repository, running, timeline
+from . import dag_programs, library, plots, running
 from .browser import Browser, program
 from .event_format import Profile
-from .repository import text_of
+from .repository import figure, text_of
+from .tries import PICTURES
 
-EXAMPLES = "crates/tp_examples/data/a-trace-of"
-UNTIL_FAULT = ("run", "--until-fault")
-# the stored trace of a picture, the arguments of `samples draw`, and the exit status with which it ends
-Picture = collections.namedtuple("Picture", "trace arguments status", defaults=[("run",), 0])
-PICTURES = {
-    "a-run": Picture("tools/data/pictures/a-run"),
-    "a-wave-is-a-cut": Picture("tools/data/pictures/a-message-overtakes-the-wave"),
-    "a-message-received-twice": Picture(f"{EXAMPLES}-a-message-received-twice", UNTIL_FAULT, 2),
-    "a-task-done-twice": Picture(f"{EXAMPLES}-a-task-done-twice", UNTIL_FAULT, 2),
-    "an-end-announced-one-wave-early": Picture(f"{EXAMPLES}-an-end-announced-one-wave-early", UNTIL_FAULT, 2),
-}
 # the picture of Cholesky, the order of its matrix and of its tiles, and the numbers of threads and of runs
 CHOLESKY, ORDER, TILE, THREADS, RUNS = "cholesky", 2048, 256, 4, 9
 # the page, its trace, its size, and where the pointer is on it
@@ -32,21 +21,15 @@ PAGE, SIZE, PLACE = "docs/figures/a-page.png", (1000, 500), (420, 310)
 TRACE = "tools/data/statuses/samples/0-draw-a-run-of-some-hundred-events"
 
 
-def path_of(name):
-    return f"docs/figures/{name}.svg"
-
-
 def draw_trace(samples, name):
-    """Draws the picture of a stored trace; returns whether that worked."""
-    picture = PICTURES[name]
-    result = running.run([samples, "draw", *picture.arguments], picture.trace)
-    if result.status == picture.status:
-        running.write(path_of(name), result.out)
-    return result.status == picture.status
+    trace, arguments_of, status = PICTURES[name]
+    result = running.run([samples, "draw", *arguments_of], trace)
+    if result.status == status:
+        running.write(figure(name), result.out)
+    return result.status == status
 
 
 def draw_page(samples):
-    """Draws the page of a run as a reader sees it; returns whether that worked."""
     result = running.run([samples, "draw", "run", "--format", "html"], TRACE)
     if result.status:
         return False
@@ -58,20 +41,18 @@ def draw_page(samples):
     return not browser.errors
 
 
-def draw_cholesky(library_folder):
-    """Runs Cholesky some times, stores the times of the fastest run, and draws it; returns whether that worked."""
-    with tempfile.TemporaryDirectory() as folder:
-        build, path, file, texts = dag_programs.Build(library_folder, folder), f"{folder}/cholesky", f"{folder}/cholesky.json", []
-        ways = dag_programs.CHOLESKY_OVER_BLAS, dag_programs.CHOLESKY
-        if not any(dag_programs.succeeds(build.command(way, path)) for way in ways):
+def draw_cholesky(library_folder, folder):
+    build, path, file, texts = dag_programs.Build(library_folder, folder), f"{folder}/cholesky", f"{folder}/cholesky.json", []
+    ways = dag_programs.CHOLESKY_OVER_BLAS, dag_programs.CHOLESKY
+    if not any(dag_programs.succeeds(build.command(way, path)) for way in ways):
+        return False
+    for _ in range(RUNS):
+        command = [path, "--profile", file, str(ORDER), str(TILE), "1", str(THREADS)]
+        if running.run(command, env={**os.environ, "OPENBLAS_NUM_THREADS": "1"}).status:
             return False
-        for _ in range(RUNS):
-            command = [path, "--profile", file, str(ORDER), str(TILE), "1", str(THREADS)]
-            if running.run(command, env={**os.environ, "OPENBLAS_NUM_THREADS": "1"}).status:
-                return False
-            texts.append(text_of(file))
+        texts.append(text_of(file))
     fastest = min(texts, key=lambda text: Profile(text).about["elapsed_us"])
-    running.write(timeline.PATH, timeline.rows_of(fastest, ORDER // TILE))
+    running.write(plots.RUN_PATH, plots.rows_of_run(fastest, ORDER // TILE))
     return plots.write([CHOLESKY]) == 0
 
 
@@ -83,16 +64,15 @@ def draw(path, action, *arguments_of, missing=""):
 
 
 def arguments(parser):
-    parser.add_argument("samples", nargs="?", default="bin/samples", metavar="SAMPLES", help="the built program")
+    running.program_argument(parser, "samples")
     parser.add_argument("--library", metavar="FOLDER", help="use libgerfmuod.a of this folder, whatever it was built from")
 
 
 def run(options):
-    repository.go_to_top()
     running.require(options.samples)
     no_browser = "" if program() else "Chromium is missing (tools/page-packages prints the packages)"
     no_library = "" if options.library else library.reason_not_built()
-    are_drawn = [draw(path_of(name), draw_trace, options.samples, name) for name in PICTURES]
+    are_drawn = [draw(figure(name), draw_trace, options.samples, name) for name in PICTURES]
     are_drawn.append(draw(PAGE, draw_page, options.samples, missing=no_browser))
-    are_drawn.append(draw(path_of(CHOLESKY), draw_cholesky, options.library or "lib", missing=no_library))
+    are_drawn.append(draw(figure(CHOLESKY), draw_cholesky, options.library or "lib", options.temporary, missing=no_library))
     return 0 if all(are_drawn) else 1

@@ -41,10 +41,6 @@ class Profile:
                 self.threads[event["pid"], event.get("tid", 0)] = event["args"]["name"]
 
 
-def is_text(value):
-    return isinstance(value, str) and value
-
-
 def is_time(value):
     return type(value) in (int, float) and math.isfinite(value) and value >= 0
 
@@ -54,7 +50,8 @@ def is_whole(value):
 
 
 VALID = {
-    "name": is_text, "cat": is_text, "pid": is_whole, "tid": is_whole, "ts": is_time, "dur": is_time,
+    **dict.fromkeys(("name", "cat"), lambda value: isinstance(value, str) and value),
+    "pid": is_whole, "tid": is_whole, "ts": is_time, "dur": is_time,
     "s": lambda value: value in ("g", "p", "t"),
     "bp": lambda value: value == "e",
     # (the format allows any text, but some importers only take numbers)
@@ -71,12 +68,7 @@ def once(pairs):
     return found
 
 
-def no_number(word):
-    raise ValueError(f"{word} is not JSON")
-
-
 def field_faults(event):
-    """Yields what is wrong with the fields of one event."""
     if not isinstance(event, dict) or event.get("ph") not in FIELDS:
         yield f"no event of a known phase: {event}"
         return
@@ -140,10 +132,10 @@ def placing_faults(events, has_one_clock):
 
 
 def faults(text, has_one_clock=True):
-    """Returns what is wrong with a text, as lines; none if it is as the format has it. If the times come from several clocks, flows may
-    end before they begin."""
+    """Returns what is wrong with a text, as lines. If the times come from several clocks, flows may end before they begin."""
     try:
-        content = json.loads(text, object_pairs_hook=once, parse_constant=no_number)
+        # (int refuses NaN)
+        content = json.loads(text, object_pairs_hook=once, parse_constant=int)
     except ValueError as error:
         return [f"not JSON: {error}"]
     if not isinstance(content, dict) or not isinstance(content.get("traceEvents"), list):
@@ -153,18 +145,6 @@ def faults(text, has_one_clock=True):
         found.append(f"the unit of time is {content['displayTimeUnit']}")
     found += [fault for event in content["traceEvents"] for fault in field_faults(event)]
     return found or list(placing_faults(content["traceEvents"], has_one_clock))
-
-
-def turn_faults(slices, elapsed=math.inf):
-    """Yields each slice that begins before the one before it on its track has ended, or that ends after the run."""
-    ends = collections.Counter()
-    for event in slices:
-        track, begin = (event["pid"], event["tid"]), nanoseconds(event["ts"])
-        if begin < ends[track]:
-            yield f"{event} begins before {ends[track]}"
-        ends[track] = begin + nanoseconds(event["dur"])
-        if ends[track] > elapsed:
-            yield f"{event} ends after the run, {elapsed}"
 
 
 def spoiled(text):
@@ -181,7 +161,7 @@ def spoiled(text):
         event = {**events[first[phase]], key: value}
         if value is None:
             del event[key]
-        yield json.dumps({**content, "traceEvents": [*events[: first[phase]], event, *events[first[phase] + 1 :]]})
+        yield json.dumps({**content, "traceEvents": [*events[: first[phase]], event, *events[first[phase] + 1:]]})
     overlapping = events[first["X"]]
     overlapping = {**overlapping, "ts": overlapping["ts"] + overlapping["dur"] / 2}
     yield json.dumps({**content, "traceEvents": [*events, events[first["s"]]]})

@@ -6,8 +6,7 @@ links except the C library and POSIX threads. Next to it are the headers for C a
 for pkg-config, and `SOURCES`, a digest of what was added. Prints a line for each crate as it ends.
 
 With --since it takes the programs that `rt ci` has left in crates/*/out since that time, and proves the last crate of the library
-over what it has left there. The last line is `N passed, M failed, K skipped`: a library or a program passes if it is built from
-these sources. The status is 1 if one failed.
+over what it has left there. A library or a program passes if it is built from these sources.
 """
 import fcntl
 import hashlib
@@ -17,12 +16,11 @@ import shutil
 import subprocess
 import tempfile
 
-from . import build, built, repository, running, shared_object, version
+from . import build, repository, running, shared_object
 from .repository import text_of
-from .rooms import rooms
 
 CRATE = build.LIBRARIES[0]
-PROVED = built.RESULTS[CRATE][1]
+PROVED = repository.BUILT[CRATE][1]
 ARCHIVE = "lib/libgerfmuod.a"
 SHARED = f"lib/{shared_object.SONAME}"
 HEADERS = shared_object.HEADERS
@@ -30,20 +28,9 @@ PACKAGE = f"{shared_object.SOURCES}/gerfmuod.pc.in"
 DIGEST = "lib/SOURCES"
 
 
-def digest():
-    """Returns a hash of what the library is made of: the proved archive, the headers, and the parts in C and their compiler."""
-    result = hashlib.sha256(f"{text_of(f'{PROVED}.sources')}{shared_object.COMPILE}{shared_object.LINK}".encode())
-    for path in [*HEADERS, *repository.files_in(shared_object.SOURCES)]:
-        result.update(text_of(path).encode())
-    return result.hexdigest()
-
-
 def reason_not_built():
-    """Returns an empty text if the library is there and of these sources, and else why it cannot be used.
-
-    Only the proved archive has to be there: what is added to it is compiled again if it has changed.
-    """
-    reason = built.reason_not_built(CRATE)
+    """Returns why the library cannot be used, or an empty text. Only the proved archive has to be there: the rest is added to it."""
+    reason = repository.reason_not_built(CRATE)
     try:
         return reason or add_all()
     except subprocess.CalledProcessError as error:
@@ -52,41 +39,30 @@ def reason_not_built():
 
 def add_all():
     """Adds to a copy of the proved archive what is not proved, unless that was done; one command at a time may do it."""
-    with open(f"{PROVED}.lock", "w", encoding="utf-8") as lock:
+    with open(f"{PROVED}.lock", "w", encoding="utf-8") as lock, tempfile.TemporaryDirectory() as folder:
         fcntl.flock(lock, fcntl.LOCK_EX)
-        made_of = digest()
+        # what the library is made of: the proved archive, the headers, and the parts in C and their compiler
+        texts = map(text_of, [f"{PROVED}.sources", *HEADERS, *repository.files_in(shared_object.SOURCES)])
+        made_of = hashlib.sha256("".join([*texts, f"{shared_object.COMPILE}{shared_object.LINK}"]).encode()).hexdigest()
         if os.path.exists(ARCHIVE) and os.path.exists(SHARED) and text_of(DIGEST, "") == made_of:
             return ""
         shutil.copy(PROVED, ARCHIVE)
-        add_heap()
+        # (the toolchain's calls of malloc, realloc and free)
+        subprocess.run(["ar", "x", f"{kit()}/c/liblibc_c.a"], cwd=folder, check=True)
+        subprocess.run(["ar", "rs", ARCHIVE, *repository.files_in(folder)], check=True, capture_output=True)
         shared_object.seal(ARCHIVE)
-        shared_object.add_parts(ARCHIVE)
         shared_object.link(ARCHIVE, SHARED)
+        os.makedirs("lib/gerfmuod", exist_ok=True)
         for header in HEADERS:
-            shutil.copy2(header, "lib")
-        write_package()
+            shutil.copy2(header, "lib" if header.endswith("/gerfmuod.h") else "lib/gerfmuod")
+        values = {**dict.fromkeys(("PREFIX", "EXEC_PREFIX", "LIBDIR", "INCLUDEDIR"), "${pcfiledir}"), "VERSION": repository.version()}
+        running.write("lib/gerfmuod.pc", re.sub(r"@(\w+)@", lambda found: values[found[1]], text_of(PACKAGE)))
         running.write(DIGEST, made_of)
     return ""
 
 
 def kit():
-    """Returns the folder of the toolchain."""
     return os.path.dirname(subprocess.run(["rt", "doc"], capture_output=True, text=True, check=True).stdout.strip())
-
-
-def add_heap():
-    """Puts the toolchain's calls of malloc, realloc and free into the archive."""
-    heap = f"{kit()}/c/liblibc_c.a"
-    archive = os.path.abspath(ARCHIVE)
-    with tempfile.TemporaryDirectory() as folder:
-        subprocess.run(["ar", "x", heap], cwd=folder, check=True)
-        subprocess.run(["ar", "rs", archive, *sorted(os.listdir(folder))], cwd=folder, check=True, capture_output=True)
-
-
-def write_package():
-    """Writes the description for pkg-config, of this folder."""
-    values = {**dict.fromkeys(("PREFIX", "EXEC_PREFIX", "LIBDIR", "INCLUDEDIR"), "${pcfiledir}"), "VERSION": version.version()}
-    running.write("lib/gerfmuod.pc", re.sub(r"@(\w+)@", lambda found: values[found[1]], text_of(PACKAGE)))
 
 
 def compile_over(libraries):
@@ -101,7 +77,7 @@ def compile_over(libraries):
     os.makedirs(f"crates/{CRATE}/out", exist_ok=True)
     if subprocess.run([*command, "-o", f"out/lib{CRATE}.a"], cwd=f"crates/{CRATE}", check=False).returncode:
         return False
-    built.take(CRATE, ".")
+    repository.take(CRATE)
     return True
 
 
@@ -109,32 +85,21 @@ def is_since(path, since):
     return os.path.exists(path) and os.path.getmtime(path) >= since
 
 
-def prove(since):
-    """Proves the archive, over the libraries of a gate if it has left all of them since a time; returns whether that succeeded."""
-    crates = repository.crates(build.LIBRARIES)
-    below = [name for name in crates if name != CRATE]
-    if since is not None and all(is_since(f"crates/{name}/out/rlib", since) for name in below):
-        return compile_over(below)
-    print(f"Proves {len(crates)} crates, and builds {ARCHIVE} and {SHARED}.", flush=True)
-    with rooms() as (_, copies):
-        return build.prove_all(crates, copies)
-
-
 def arguments(parser):
     parser.add_argument("--since", type=float, metavar="SECONDS", help="a time: take what the gate has built since then")
 
 
 def run(options):
-    repository.go_to_top()
-    tally, results = running.Tally(), [CRATE]
-    if options.since is not None:
-        results += build.PROGRAMS
-        for name in build.PROGRAMS:
-            if is_since(f"crates/{name}/out/{built.RESULTS[name][0]}", options.since):
-                built.take(name, ".")
-    if built.reason_not_built(CRATE) and not prove(options.since):
-        print("NOT PROVED.")
-    for name in results:
-        reason = reason_not_built() if name == CRATE else built.reason_not_built(name)
-        tally.judge(not reason, reason)
-    return tally.end()
+    below = [name for name in repository.crates(build.LIBRARIES) if name != CRATE]
+    programs = [] if options.since is None else build.PROGRAMS
+    for name in programs:
+        if is_since(f"crates/{name}/out/{repository.BUILT[name][0]}", options.since):
+            repository.take(name)
+    if repository.reason_not_built(CRATE):
+        has_all = options.since is not None and all(is_since(f"crates/{name}/out/rlib", options.since) for name in below)
+        print(f"Proves {1 if has_all else len(below) + 1} crates, and builds {ARCHIVE} and {SHARED}.", flush=True)
+        if not (compile_over(below) if has_all else build.prove_all(build.LIBRARIES)):
+            print("NOT PROVED.")
+    for name in [CRATE, *programs]:
+        reason = reason_not_built() if name == CRATE else repository.reason_not_built(name)
+        options.tally.judge(not reason, reason)

@@ -26,7 +26,6 @@ ROW = "{:<14}" + "{:>13,}" * (len(KINDS) + 1)
 
 
 def lines_of(crate):
-    """Returns how many lines a crate has of each kind."""
     counts = dict.fromkeys(KINDS, 0)
     for path in repository.files_in(f"crates/{crate}"):
         kind = next((kind for kind, pattern in KINDS.items() if re.match(pattern, path.split("/", 2)[2])), None)
@@ -43,7 +42,6 @@ def lines_in(*patterns):
 
 
 def run(_):
-    repository.go_to_top()
     rows = {name: lines_of(name) for name in repository.crates()}
     crates = len(rows)
     rows["all"] = {kind: sum(counts[kind] for counts in rows.values()) for kind in KINDS}
@@ -56,7 +54,7 @@ def run(_):
     for name, count, limit in (
         ("crates", crates, 31),
         ("lines of crates/", lines, 100_000),
-        ("lines of Python", lines_in("tools/dev", "tools/**/*.py"), 7_500),
+        ("lines of Python", lines_in("tools/dev", "tools/**/*.py"), 7_300),
         ("lines of documents", lines_in("*.md", "bench/README.md", "docs/**/*.md"), 4_000),
     ):
         print(f"{count:9,} of at most {limit:7,} {name}{'' if count <= limit else f': {count - limit:,} too many'}")

@@ -1,25 +1,20 @@
 """Runs the programs of capi/mpi over MPI, linked with the proved library.
 
-uts_mpi.c searches two trees whose numbers of nodes and leaves are known, T1 and T3, with 1, 2, 4, 8 and 16 processes on
-this machine. Then it searches a small tree with each hand-written detector, and with each of three faults: with a fault it
-has to miss nodes or not to end, which shows that the check can fail. The events of a small search, with their times, are
-checked. mpi_cholesky.c factors a matrix, each process with a
-task graph of its own, and compares the factors with those of the whole matrix, over OpenBLAS if it is installed; it has a
-fault, too. With --quick trees and matrix are small, and the processes at most 4. Needs mpicc and mpirun of Open MPI
-(`tools/mpi-packages` prints the packages); with --quick, what is missing is skipped, and counted. The last line is `N passed,
-M failed, K skipped`; the status is 1 if one failed.
+uts_mpi.c searches two trees whose numbers of nodes and leaves are known, T1 and T3, with 1, 2, 4, 8 and 16 processes here. Then it searches
+a small tree with each hand-written detector, and with each of three faults: with a fault it has to miss nodes or not to end, which shows
+that the check can fail. The events of a small search, with their times, are checked. mpi_cholesky.c factors a matrix, each process with a
+task graph of its own, and compares the factors with those of the whole matrix, over OpenBLAS if it is installed; it has a fault, too. With
+--quick trees and matrix are small, the processes at most 4, and what is missing is skipped: Open MPI, of `tools/mpi-packages`.
 """
 import collections
 import itertools
 import os
 import shutil
 import sys
-import tempfile
 
 from . import library, profiles, repository, running
 from .c_programs import WARNINGS, Run, judge, output_of, start
 from .repository import TOP
-from .running import Tally
 from .shared_object import INCLUDE, environment_options
 
 COMPILER = ["mpicc", "-std=c11", *WARNINGS, "-Wno-unused-function", "-O2", f"-I{INCLUDE}", *environment_options("CFLAGS")]
@@ -41,7 +36,6 @@ FULL = Size(["T1", "T3"], ["1024", "64"], [1, 2, 4, 8, 16])
 
 
 def missing():
-    """Returns the commands that are not installed, as a text."""
     return " and ".join(name for name in COMMANDS if not shutil.which(name))
 
 
@@ -55,7 +49,6 @@ def environment():
 
 
 def judge_processes(tally, program, processes, arguments, seconds=300):
-    """Runs a program, prints its output, and counts whether it succeeds."""
     options = {"env": environment(), "timeout": seconds + running.SECONDS}
     print(judge(tally, command_of(program, processes, arguments, seconds), Run([]), **options).strip(), flush=True)
 
@@ -68,47 +61,33 @@ def judge_fault(tally, program, runs, seconds):
 
 
 def compile_program(name, folder, options=()):
-    """Links capi/mpi/NAME.c with the library; returns its path in the folder."""
     output_of([*COMPILER, f"{TOP}/capi/mpi/{name}.c", "-o", f"{folder}/{name}", *LINK, *options])
     return f"{folder}/{name}"
 
 
-def compile_cholesky(tally, folder):
-    """Links mpi_cholesky.c with OpenBLAS if that is installed, else with plain kernels; returns its path in the folder."""
-    try:
-        return compile_program("mpi_cholesky", folder, BLAS)
-    except SystemExit:
-        tally.skips("mpi_cholesky.c over OpenBLAS, which runs with plain kernels", "libopenblas-dev")
-        return compile_program("mpi_cholesky", folder)
-
-
-def run_searches(tally, folder, size):
-    """Searches the trees with each number of processes, and a small tree with its events, each detector and each fault."""
+def run_programs(tally, folder, size):
+    """Searches the trees and factors a matrix with each number of processes; then small ones with each detector and each fault."""
     program, path = compile_program("uts_mpi", folder), f"{folder}/events.json"
     compile_program("latency", folder)
     for tree, processes in itertools.product(size.trees, size.counts):
         judge_processes(tally, program, processes, [tree])
     for processes in QUICK.counts:
         judge_processes(tally, program, processes, ["--profile", path, "T0"], 60)
-        found = profiles.process_faults(repository.text_of(path, ""), processes)
+        # (an offset of a clock is not exact)
+        found = profiles.faults(repository.text_of(path, ""), profiles.process_faults, processes, has_one_clock=False)
         tally.judge(not found, f"events of {processes} processes: {'; '.join(found)[:2000]}")
     for peer in PEERS:
         judge_processes(tally, program, 4, ["T0", peer], 60)
     for fault in FAULTS:
         judge_fault(tally, program, [["T0", "proved", fault, str(seed)] for seed in range(1, SEEDS + 1)], 5)
-
-
-def run_cholesky(tally, folder, size):
-    """Factors a matrix with each number of processes, of 2 threads each, and a small one with the fault."""
-    program = compile_cholesky(tally, folder)
+    try:
+        program = compile_program("mpi_cholesky", folder, BLAS)
+    except SystemExit:
+        tally.skips("mpi_cholesky.c over OpenBLAS, which runs with plain kernels", "libopenblas-dev")
+        program = compile_program("mpi_cholesky", folder)
     for processes in size.counts:
         judge_processes(tally, program, processes, [*size.matrix, "2"])
     judge_fault(tally, program, [[*QUICK.matrix, "2", CHOLESKY_FAULT]] * SEEDS, 10)
-
-
-def run_programs(tally, folder, size):
-    run_searches(tally, folder, size)
-    run_cholesky(tally, folder, size)
 
 
 def run_quick(tally, folder):
@@ -121,14 +100,10 @@ def arguments(parser):
 
 
 def run(options):
-    repository.go_to_top()
     reason = library.reason_not_built() or (missing() and f"{missing()}: not installed")
     if reason and not (options.quick and missing()):
         sys.exit(f"{reason}: make lib builds the library, tools/mpi-packages prints the packages")
-    tally = Tally()
-    with tempfile.TemporaryDirectory() as folder:
-        if options.quick:
-            run_quick(tally, folder)
-        else:
-            run_programs(tally, folder, FULL)
-    return tally.end()
+    if options.quick:
+        run_quick(options.tally, options.temporary)
+    else:
+        run_programs(options.tally, options.temporary, FULL)

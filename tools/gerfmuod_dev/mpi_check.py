@@ -3,8 +3,7 @@
 capi/preload/mpi has the library, and in programs/ the programs. Both are compiled for Open MPI and for MPICH, whichever is installed. A
 wrong program has to be reported with the call, the rank or tag, and the place of its mistake, a right one without a verdict; the file in
 JSON has to agree. The calls of mpi.h are compared with those that the library defines. --build FOLDER only builds the library for
-`mpicc`, or for the compiler that the variable MPICC names. --cost measures messages and MPI_Allreduce without and with it, and prints
-ratios. The last line is `N passed, M failed, K skipped`; the status is 1 if one failed.
+`mpicc`, or for the compiler that the variable MPICC names. --cost measures messages and MPI_Allreduce without and with it.
 """
 import collections
 import glob
@@ -19,10 +18,13 @@ from concurrent.futures import ThreadPoolExecutor
 from . import library, repository, running
 from .c_programs import output_of
 from .mpi import ROOT
+from .shared_object import environment_options
 
 FOLDER, NAME = "capi/preload/mpi", "libgerfmuod_mpi_check.so"
 OPTIONS = ["-std=gnu11", "-O2", "-Wall", "-Wextra", "-Werror", "-Wno-stringop-overflow", "-Icapi/include", "-Icapi"]
+OPTIONS += environment_options("CFLAGS")
 LINK = ["-Llib", "-Wl,-Bstatic", "-lgerfmuod", "-Wl,-Bdynamic", "-ldl", "-Wl,-z,defs", f"-Wl,--version-script={FOLDER}/mpi_check.map"]
+LINK += environment_options("LDFLAGS")
 Mpi = collections.namedtuple("Mpi", "name compiler fortran runner")
 MPIS = [
     Mpi("Open MPI", "mpicc.openmpi", "mpifort.openmpi", "mpirun.openmpi --oversubscribe --mca mpi_yield_when_idle 0".split()),
@@ -30,14 +32,7 @@ MPIS = [
 ]
 FORTRAN_MODES = "right\t2\t\nwrong\t2\t\t: 0 +MPI_Recv +message from 1, tag 8, MPI_COMM_WORLD +\\S+ in \\w+\t4 bytes from rank 1, tag 7"
 VERDICT = re.compile(r"DEADLOCK|UNSAFE|LOST|MISMATCH|no verdict|bug of this library|without MPI_Finalize")
-# the calls that need not be defined: those that ask and set; files, windows and other processes; those of MPI 4
-UNDEFINED = re.compile(
-    r"MPI_(\w+_(coords|get|map|rank|shift|neighbors(_count)?|test(_inter)?|compare|size|group|c2f|get_parent|call_errhandler)"
-    r"|(Comm|Attr|Errhandler)_((get|set|delete)_?\w*|put|free)|Request_get_status|Unpack|Pack(_size)?|Grequest_\w+"
-    r"|File_\w+|Win_\w+|R(get|put|accumulate|get_accumulate)|Comm_(accept|connect|disconnect|join|spawn(_multiple)?)"
-    r"|\w+_c|Isendrecv(_replace)?|\w+_from_groups?|Comm_idup_with_info|(Neighbor_|All|Reduce_)\w+_init"
-    r"|(Barrier|Bcast|Exscan|Gatherv?|Reduce|Scan|Scatterv?)_init)"
-)
+UNDEFINED = "tools/data/mpi-undefined"
 
 
 def build(compiler, path):
@@ -80,7 +75,7 @@ def judge_names(tally, mpi, path):
     calls = re.findall(r"\b(MPI_[A-Z]\w+) *\(([^;{}]*?)\)[^;(]*;", output_of(header))
     declared = {name for name, types in calls if re.search(r"MPI_(Comm|Request|Message)\b", types)}
     absent = declared - set(re.findall(r" T (MPI_\w+)", output_of(["nm", "-D", path])))
-    unnamed = sorted(name for name in absent if not UNDEFINED.fullmatch(name))
+    unnamed = sorted(name for name in absent if not re.fullmatch(repository.text_of(UNDEFINED), name, re.X))
     tally.judge(declared and not unnamed, f"{mpi.name}: not defined: {' '.join(unnamed)}")
 
 
@@ -117,14 +112,12 @@ def arguments(parser):
 
 
 def run(options):
-    repository.go_to_top()
     if reason := library.reason_not_built():
         raise SystemExit(f"{reason}: make lib builds the library")
     if options.build:
-        return build(os.environ.get("MPICC", "mpicc"), f"{options.build}/{NAME}")
-    tally = running.Tally()
+        build(os.environ.get("MPICC", "mpicc"), f"{options.build}/{NAME}")
+        return 0
     for mpi in MPIS:
-        if all(tally.has(command, f"the programs of {mpi.name}") for command in (mpi.compiler, mpi.runner[0])):
-            with tempfile.TemporaryDirectory() as folder:
-                check(tally, mpi, folder, options)
-    return tally.end()
+        if all(options.tally.has(command, f"the programs of {mpi.name}") for command in (mpi.compiler, mpi.runner[0])):
+            check(options.tally, mpi, tempfile.mkdtemp(dir=options.temporary), options)
+    return None

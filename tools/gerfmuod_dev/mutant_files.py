@@ -60,13 +60,11 @@ def path_of(crate):
 
 
 def parse_edit(name, text):
-    """Returns a mutant that is written in the format of `rt`."""
     lines = "\n".join(f"{SIGNS[key]} {value}" for key, value in EDIT.findall(text))
     return parse(f"{name}.edit", f"{name} {lines}").mutants[0]._replace(in_gate=True)
 
 
 def parse(path, text):
-    """Returns what a file `mutants` holds; a fault names the line."""
     changes, killers, notes = {}, {}, {}
     name = file = old = None
     for number, line in enumerate(text.split("\n"), 1):
@@ -91,7 +89,6 @@ def parse(path, text):
 
 @functools.lru_cache(maxsize=None)
 def file_of(crate):
-    """Returns a crate's file `mutants`; an empty one if it has none."""
     return parse(path_of(crate), text_of(path_of(crate), ""))
 
 
@@ -100,7 +97,7 @@ def mutants_of(crate):
     """Returns all mutants of a crate by name: first those of the gate, then the others in the order of their file."""
     folder = f"crates/{crate}/must-fail"
     edits = [path for path in files_in(folder) if path.endswith(".edit")]
-    mutants = [parse_edit(path[len(folder) + 1 : -len(".edit")], text_of(path)) for path in edits] + [*file_of(crate).mutants]
+    mutants = [parse_edit(path[len(folder) + 1:-len(".edit")], text_of(path)) for path in edits] + [*file_of(crate).mutants]
     twice = [name for name, count in collections.Counter(mutant.name for mutant in mutants).items() if count > 1]
     if twice:
         raise Fault(f"{crate}: two mutants have one name: {' '.join(twice)}")
@@ -120,7 +117,6 @@ def fault_of(crate, mutant):
 
 
 def rendered(mutants, killers, notes):
-    """Returns the text of a file `mutants` with these mutants, killers and notes."""
     lines = [f"{HEAD}\n", *(f"{word} {notes[word]}\n" for word in NOTES)]
     for mutant in sorted(mutants, key=lambda mutant: not mutant.in_gate):
         file = mutant.changes[0].file
@@ -131,7 +127,6 @@ def rendered(mutants, killers, notes):
 
 
 def write(crate, killers, notes):
-    """Writes a crate's file `mutants`."""
     running.write(path_of(crate), rendered(mutants_of(crate).values(), killers, notes))
     file_of.cache_clear()
     mutants_of.cache_clear()

@@ -1,12 +1,11 @@
 """Tries mutants: small changes of a function's body, each of which the prover has to refuse.
 
-Without a name, tries those of the crates that changed since their mutants were last tried. The gate tries those of
-crates/NAME/must-fail; all others are in crates/NAME/mutants, which also has what killed each mutant of the crate. The
-verdicts are current as long as the crate's own files, its mutants, and the definitions of lower crates that it can see
-by its imports say the same: comments, line breaks and the toolchain do not count. Mutants of different functions are tried
-in one check, and those that it does not kill each in a check of its own. Prints a line for each crate that is proved before,
-for each mutant, and for each crate. A run which is cut off goes on where it was.
-The status is 1 if a mutant survives, or, with --stale, if verdicts are not current or a mutant cannot be applied.
+Without a name, tries those of the crates that changed since their mutants were last tried. The gate tries those of crates/NAME/must-fail;
+all others are in crates/NAME/mutants, which also has what killed each mutant of the crate. The verdicts are current as long as the crate's
+own files, its mutants, and the definitions of lower crates that it can see by its imports say the same: comments, line breaks and the
+toolchain do not count. Mutants of different functions are tried in one check, and those that it does not kill each in a check of its own.
+Prints a line for each crate that is proved before, for each mutant, and for each crate. A run which is cut off goes on where it was. The
+status is 1 if a mutant survives, or, with --stale, if verdicts are not current or a mutant cannot be applied.
 """
 import datetime
 import functools
@@ -20,10 +19,9 @@ import subprocess
 from concurrent.futures import ThreadPoolExecutor
 
 from . import mutant_files, repository, running, together, visible
-from .build import prove_all, renew
+from .build import checkouts, prove_all, renew
 from .mutant_files import Fault, mutants_of
 from .repository import text_of
-from .rooms import rooms
 
 # a string, a character, a comment, a bracket or a mark, or a word
 PART = re.compile(r""""(?:\\.|[^"\\])*"|'(?:\\[^'\n]+|[^'\\\n])'|(?<!\S)(?://|--)[^\n]*|[(){}\[\],;]|[^\s(){}\[\],;"]+""")
@@ -44,17 +42,13 @@ def toolchain():
     return subprocess.run(["rt", "version"], stdout=subprocess.PIPE, text=True, check=True).stdout.strip()
 
 
+@functools.lru_cache(maxsize=None)
 def meaning(text):
     """Returns a text without its comments, blanks and line breaks."""
     text = IMPORT.sub(lambda use: "".join(f"use {use[1]} {name}\n" for name in use[2].split(",")), text)
     parts = " ".join(part for part in PART.findall(text) if not part.startswith(("//", "--")))
     # (the layout adds a last comma or semicolon, and a first bar, if a list is on several lines)
     return re.sub(r"[,;] (?=[)}\]])|(?<=\[ )\| ", "", parts)
-
-
-@functools.lru_cache(maxsize=None)
-def meaning_seen(part):
-    return meaning(visible.text_of_part(part))
 
 
 def hash_of(texts):
@@ -66,9 +60,9 @@ def hash_of(texts):
 
 
 def texts_seen(crate):
-    """Returns the texts that a crate's proofs depend on, by their names: its own files, and the definitions of lower crates that it can
-    see."""
-    seen = [(f"{part.kind} {part.path} {part.name}", meaning_seen(part)) for part in visible.definitions_seen(crate)]
+    """Returns the texts that a crate's proofs depend on, by name: its files, and the definitions of lower crates that it can see."""
+    parts = visible.definitions_seen(crate)
+    seen = [(f"{part.kind} {part.path} {part.name}", meaning(visible.text_of_part(part))) for part in parts]
     return [(path, meaning(text_of(path))) for path in crate.sources()] + seen
 
 
@@ -78,7 +72,6 @@ def digest(crate):
 
 
 def untried(crate):
-    """Returns the names of a crate's mutants of which its file does not say what killed them."""
     killers = mutant_files.file_of(crate.name).killers
     return [name for name in mutants_of(crate.name) if name not in killers]
 
@@ -112,8 +105,7 @@ def killer_of(crate, message):
 
 
 def try_alone(crate, names, lanes, room):
-    """Tries mutants of a crate each in a check of its own, so many of them in parallel, in a copy in which all crates below it are
-    proved; returns the prover's message for each by its name."""
+    """Tries mutants of a crate each in a check of its own, several at a time, in a copy; returns the prover's message for each."""
     folder = f"{room}/crates/{crate.name}/must-fail"
     os.makedirs(folder)
     for name in names:
@@ -138,11 +130,9 @@ class Verdicts:
 
     @property
     def left(self):
-        """The mutants without a verdict."""
         return [name for name in self.keys if name not in self.messages]
 
     def add(self, messages):
-        """Keeps verdicts, and prints them."""
         for name, message in messages.items():
             killer, alive = killer_of(self.crate.name, message), "SURVIVED" if "NOT REFUSED" in message else "NOT KILLED by a clause"
             print(f"{self.crate.name}/{name}: {f'killed: {killer}' if killer else f'{alive}: {message}'}", flush=True)
@@ -152,7 +142,6 @@ class Verdicts:
         os.replace(running.write(f"{self.path}.new", json.dumps(decided)), self.path)
 
     def record(self):
-        """Writes what killed each mutant of the crate, if all of them were; returns whether they were."""
         killers = {name: killer_of(self.crate.name, message) for name, message in self.messages.items()}
         is_well = not self.left and all(killers.values())
         if is_well:
@@ -162,22 +151,16 @@ class Verdicts:
         return is_well
 
 
-def keep_proofs(crates, top, copies):
-    """Copies what the check of each crate without mutants left, which a further check begins with; returns the copy's folder by crate."""
-    kept = {crate: f"{top}/kept/{crate.name}" for crate in crates}
-    places = {crate: [f"{room}/crates/{crate.name}/out/incremental" for room in copies] for crate in crates}
-    for crate in (crate for crate in crates if not any(map(os.path.exists, places[crate]))):
-        # (its library was taken over from another checkout of this machine)
-        running.run(["rt", "check", "--jobs=1"], cwd=f"{copies[0]}/crates/{crate.name}", check=True, timeout=None)
-    for crate, place in kept.items():
-        renew(max(filter(os.path.exists, places[crate]), key=os.path.getmtime), place)
-    return kept
-
-
 def try_all(crates, top, copies):
-    """Tries the mutants of crates that are proved in these copies, the longest crate first; returns whether each was killed. Those of
-    different functions are tried in one check, and then those that survived it each in a check of its own."""
-    kept, verdicts, free = keep_proofs(crates, top, copies), {crate: Verdicts(crate) for crate in crates}, [*copies]
+    """Tries mutants of different functions in one check, and those that survive each in one of its own; returns whether each was killed."""
+    kept, verdicts, free = {crate: f"{top}/kept/{crate.name}" for crate in crates}, {crate: Verdicts(crate) for crate in crates}, [*copies]
+    for crate, place in kept.items():
+        proved = f"crates/{crate.name}/out/incremental"
+        if not os.path.exists(proved):
+            # (its library was taken over from another checkout of this machine)
+            running.run(["rt", "check", "--jobs=1"], cwd=f"crates/{crate.name}", check=True, timeout=None)
+        # (what the check of the crate without mutants left, with which a further check begins)
+        renew(proved, place)
 
     def run_jobs(action, jobs):
         """Runs an action for each job, each in a copy that no other one uses, and keeps the verdicts that it returns."""
@@ -193,8 +176,8 @@ def try_all(crates, top, copies):
             for (crate, *_), messages in zip(jobs, lanes.map(run_job, jobs)):
                 verdicts[crate].add(messages)
 
-    longest_first = sorted(crates, key=lambda crate: -crate.lines)
-    groups = [(crate, group) for crate in longest_first for group in together.groups_in(crate.name, verdicts[crate].left)]
+    # (the crates at the top take longest)
+    groups = [(crate, group) for crate in reversed(crates) for group in together.groups_in(crate.name, verdicts[crate].left)]
     run_jobs(lambda room, crate, group: together.try_group(crate.name, room, kept[crate], group), groups)
     left = [(crate, verdicts[crate].left) for crate in crates if verdicts[crate].left]
     for (crate, _), room in itertools.product(left, copies):
@@ -205,7 +188,6 @@ def try_all(crates, top, copies):
 
 
 def redigest(crate):
-    """Writes a crate's digest anew and keeps what killed its mutants; returns whether each of them had been tried."""
     file, missing = mutant_files.file_of(crate.name), untried(crate)
     for name in missing:
         print(f"{crate.name}/{name} was never tried: make mutants CRATE={crate.name}")
@@ -224,10 +206,9 @@ def faults_of(name):
         return [str(fault)]
 
 
-def print_stale(crates):
-    """Prints the mutants that cannot be applied, the crates whose mutants have to be tried anew, and how many mutants there are;
-    returns the exit status."""
-    tally, of_gate, elsewhere = running.Tally(), [], 0
+def print_stale(tally, crates):
+    """Prints the mutants that cannot be applied, the crates whose mutants have to be tried anew, and how many mutants there are."""
+    of_gate, elsewhere = [], 0
     for name, crate in crates.items():
         faults = faults_of(name)
         for line in faults:
@@ -239,7 +220,6 @@ def print_stale(crates):
     is_rule = len(of_gate) <= MOST_MUTANTS and len({*of_gate}) <= MOST_CRATES
     most = "" if is_rule else f" (at most {MOST_MUTANTS} in {MOST_CRATES} is the rule)"
     print(f"The gate has {len(of_gate)} mutants in {len({*of_gate})} crates{most}; {elsewhere} more are in crates/*/mutants.")
-    return tally.end()
 
 
 def arguments(parser):
@@ -252,10 +232,9 @@ def arguments(parser):
 
 
 def run(options):
-    repository.go_to_top()
     crates = repository.crates()
     if options.stale:
-        return print_stale(crates)
+        return print_stale(options.tally, crates)
     wanted = list(dict.fromkeys(options.redigest or options.names))
     faults = [f"no mutants: {name}" for name in wanted if name not in crates or not faults_of(name) and not mutants_of(name)]
     faults = faults or [fault for name in wanted or crates for fault in faults_of(name)]
@@ -266,6 +245,8 @@ def run(options):
     chosen = [crate for crate in having if (crate.name in wanted if wanted else options.all or not is_current(crate))]
     if options.redigest:
         return 0 if all([redigest(crate) for crate in chosen]) else 1
-    with rooms() as (top, copies):
-        is_proved = prove_all(repository.crates([crate.name for crate in chosen]), copies)
-        return 0 if is_proved and try_all(chosen, top, copies) else 1
+    names = [crate.name for crate in chosen]
+    if not prove_all(names):
+        return 1
+    with checkouts(repository.crates(names)) as (top, copies):
+        return 0 if try_all(chosen, top, copies) else 1

@@ -13,7 +13,8 @@ import shutil
 import subprocess
 
 from . import repository
-from .build import keep
+from .build import NOT_COPIED, keep
+from .library import kit
 from .repository import text_of
 
 # for each kind the crate that it copies; of the rod's these parts, next to a program, and the rest stays a crate below
@@ -25,26 +26,21 @@ PARTS = (
 )
 # its line in crates.txt, where the others have that of the copied crate
 BELOW = {"rod": " may_wait=2: tp_base tp_graph pool_blocks tp_work"}
-NOT_COPIED = shutil.ignore_patterns("out", "must-fail", "mutants")
 # the end of the name of a file that is none of the repository's own code until it is copied
 TEMPLATE = ".text"
 
 
 def lines_of_crates():
-    """Returns the lines of crates.txt, by the name of the crate."""
     return {row[1]: row[0] for row in re.finditer(r"^([a-z]\w*)[^:\n]*:.*", text_of("crates.txt"), re.M)}
 
 
 def fault_of(folder, name):
     """Returns why such a pool cannot be created; an empty text if it can."""
-    if not shutil.which("rt"):
-        return "rt is not on the path"
     if os.path.lexists(folder) and (not os.path.isdir(folder) or os.listdir(folder)):
         return f"{folder} exists, and is not an empty folder"
     if not re.fullmatch(r"[a-z][a-z0-9_]*", name):
         return f"{name} is no name of a crate: lowercase letters, digits and _, a letter first"
-    toolchain = os.path.dirname(os.path.dirname(os.path.realpath(shutil.which("rt"))))
-    is_taken = name in lines_of_crates() or os.path.exists(f"{toolchain}/rlibs/{name}.rlib")
+    is_taken = name in lines_of_crates() or os.path.exists(f"{kit()}/rlibs/{name}.rlib")
     return f"{name} is the name of a crate of this repository or of the toolchain" if is_taken else ""
 
 
@@ -64,23 +60,16 @@ def rename(folder, kind, new):
             out.write(text)
 
 
-def copy(kind, target):
-    """Copies the crate of this kind, or its parts and the program."""
-    source = f"crates/{KINDS[kind]}"
-    shutil.copytree(PROGRAM if kind == "rod" else source, target, ignore=NOT_COPIED)
-    for part in PARTS if kind == "rod" else ():
-        path = f"{source}/{part}"
-        (shutil.copytree if os.path.isdir(path) else shutil.copy2)(path, f"{target}/{part}")
-
-
 def create(folder, name, kind):
-    """Creates the folder; returns the number of crates that NAME is built on."""
     source, lines = KINDS[kind], lines_of_crates()
-    line = name + BELOW.get(kind, lines[source][len(source) :])
+    line = name + BELOW.get(kind, lines[source][len(source):])
     lower = repository.crates([crate for crate in line.split(":")[1].split() if crate in lines])
     for crate in lower:
         shutil.copytree(f"crates/{crate}", f"{folder}/crates/{crate}", ignore=NOT_COPIED)
-    copy(kind, f"{folder}/crates/{name}")
+    target, copied = f"{folder}/crates/{name}", f"crates/{source}"
+    shutil.copytree(PROGRAM if kind == "rod" else copied, target, ignore=NOT_COPIED)
+    for part in PARTS if kind == "rod" else ():
+        (shutil.copytree if os.path.isdir(f"{copied}/{part}") else shutil.copy2)(f"{copied}/{part}", f"{target}/{part}")
     rename(f"{folder}/crates/{name}", kind, name)
     with open(f"{folder}/crates.txt", "w", encoding="utf-8") as out:
         out.write("# NAME: the crates that it is built on\n")
@@ -88,25 +77,22 @@ def create(folder, name, kind):
     for file in "HANDLES", ".gitignore":
         shutil.copy2(file, f"{folder}/{file}")
     subprocess.run(["rt", "fmt"], cwd=f"{folder}/crates/{name}", stdout=subprocess.DEVNULL, check=True)
-    keep(lower, ".", folder)
+    keep(lower, folder)
     return len(lower)
 
 
 def arguments(parser):
-    parser.add_argument("folder", metavar="FOLDER", help="the folder to create; it does not exist yet, or is empty")
+    parser.add_argument("folder", metavar="FOLDER", type=os.path.abspath, help="the folder to create; it does not exist yet, or is empty")
     parser.add_argument("name", metavar="NAME", help="the name of the new crate")
     parser.add_argument("--like", choices=sorted(KINDS), default="chain", help="what the crate is a copy of (chain by default)")
 
 
 def run(options):
-    folder = os.path.abspath(options.folder)
-    repository.go_to_top()
-    fault = fault_of(folder, options.name)
-    if fault:
+    if fault := fault_of(options.folder, options.name):
         print(f"{fault}: nothing was created")
         return 1
-    count = create(folder, options.name, options.like)
-    print(f"Created {folder}: the crate {options.name}, and {count} crates that it is built on. To run it, unproved:")
-    print(f"  cd {folder}/crates/{options.name} && rt try")
+    count = create(options.folder, options.name, options.like)
+    print(f"Created {options.folder}: the crate {options.name}, and {count} crates that it is built on. To run it, unproved:")
+    print(f"  cd {options.folder}/crates/{options.name} && rt try")
     print(f"What comes next: {os.path.abspath('docs/RUNNING-A-POOL.md')}, from \"Run it\" on.")
     return 0

@@ -3,9 +3,10 @@
 Sound programs have to pass with 1, 4 and 12 threads, also one of gcc, and with the tool under ThreadSanitizer. A broken runtime,
 changed events of a sound one, and a program that hangs have to be named; a trace has to be sound. With --full two programs run 50
 times, and two million tasks between two barriers; with --cost it only measures. Needs the library, clang and its libomp
-(`tools/bench-packages`): what is missing is skipped. The last line is `N passed, M failed, K skipped`; status 1 if one failed.
+(`tools/bench-packages`): what is missing is skipped.
 """
 import itertools
+import json
 import os
 import re
 import subprocess
@@ -13,32 +14,11 @@ import tempfile
 
 from . import library, repository, running, summary
 from .c_programs import start, succeeds
-from .running import Tally
 
 FOLDER, WHAT, TOOL, BREAKER = "capi/preload/openmp", "the tool for OpenMP programs", "libgerfmuod_ompt.so", "libbroken.so"
 OMP, THREADS = "/usr/lib/x86_64-linux-gnu/libomp.so.5", [1, 4, 12]
-EARLY, TWICE = "a task began before what it depends on was done .the core: WrongLife", "a task ended twice .the core: WrongLife"
-WAIT, GROUP = "a taskwait ended, but children of the task are left", "a taskgroup ended, but tasks of it are left"
-LEFT, CAME = f"{WAIT}|{GROUP}|a task that has not begun made a task", "a thread left a barrier that others have not come to"
-NOT_IDLE, TASK = "but work is left .the core: NotIdle", r".*(\n.*)*task "
 # programs and patterns of what is printed: of sound runs; and of a broken runtime, or of a sound one one of whose events was changed
-SOUND = {
-    "cholesky 8 32": "factored", "fibonacci 15": "610", "sort 100000": "sorted", "nqueens 8": "92", "strassen 256": "multiplied",
-    "sparselu 12 16": "decomposed", "clauses": "as it should be", "barriers 1000 3": "3000", "mock ok": "6 tasks, 5 dep",
-    "random 7 1000": "as it should be", "random 8 1000": "as it should be",
-}
-BROKEN = {
-    "mock drop": f"{NOT_IDLE}{TASK}6 is ready", "mock early": f"{EARLY}{TASK}5 waits", "mock twice": f"{TWICE}{TASK}3 is done",
-    "mock wait": f"{WAIT}{TASK}6 is ready", "mock group": f"{GROUP}{TASK}6 is ready", "mock barrier": f"{NOT_IDLE}{TASK}6 is ready",
-    "mock late": "a thread that has come to the barrier made a task .the core: NoMaker", "mock both": "one ran that it excludes",
-    "mock again": "a task that is done began again .the core: WrongLife", "mock unbegun": "that had not begun .the core: NoMaker",
-    "drop:40 cholesky 6 16": EARLY, "drop:40 sparselu 8 16": EARLY, "drop:40 sort 50000": LEFT, "drop:40 fibonacci 12": LEFT,
-    "early:30 cholesky 6 16": f"{EARLY}{TASK}.*(\n.*)*for tasks? .*30", "early:40 sparselu 8 16": f"{EARLY}{TASK}.*(\n.*)*for tasks? .*40",
-    "twice:50 cholesky 6 16": f"{TWICE}{TASK}50 is done", "twice:9 sort 50000": f"{TWICE}{TASK}9 is done", "wait:3 strassen 256": WAIT,
-    "twice:50 strassen 128": f"{TWICE}{TASK}50 is done", "wait:20 fibonacci 12": WAIT, "wait:20 sort 50000": WAIT,
-    "group:30 nqueens 6": GROUP, "drop:30 nqueens 6": LEFT, "barrier:2 barriers 1000 3": CAME, "barrier:2 sparselu 8 16": CAME,
-    "hang": r"task 1 has an event that is not fulfilled.*\n.*task 2 waits for it(.*\n)*.*thread 0 waits at a barrier",
-}
+SOUND, BROKEN = json.loads(repository.text_of(f"{repository.TOP}/tools/data/ompt.json")).values()
 
 
 def is_built(tally, folder, *options):
@@ -93,18 +73,15 @@ def arguments(parser):
 
 
 def run(options):
-    repository.go_to_top()
-    tally, reason = Tally(), library.reason_not_built()
-    with tempfile.TemporaryDirectory() as folder:
-        source = running.write(f"{folder}/a.c", "#include <omp-tools.h>\nint main(void) { return 0; }\n")
-        if not tally.has("clang", WHAT):
-            return tally.end()
-        if not succeeds(["clang", "-fopenmp", source, "-o", f"{folder}/a"]):
-            tally.skips(WHAT, "libomp-dev")
-        elif reason:
-            tally.fails(f"{reason}: {WHAT} was not linked. make lib builds it")
-        elif is_built(tally, folder) and options.cost:
-            subprocess.run([f"{folder}/cost", f"{folder}/{TOOL}", str(options.cost)], check=True)
-        elif not tally.failed:
-            try_all(tally, folder, options.full)
-    return tally.end()
+    tally, folder, reason = options.tally, options.temporary, library.reason_not_built()
+    source = running.write(f"{folder}/a.c", "#include <omp-tools.h>\nint main(void) { return 0; }\n")
+    if not tally.has("clang", WHAT):
+        return
+    if not succeeds(["clang", "-fopenmp", source, "-o", f"{folder}/a"]):
+        tally.skips(WHAT, "libomp-dev")
+    elif reason:
+        tally.fails(f"{reason}: {WHAT} was not linked. make lib builds it")
+    elif is_built(tally, folder) and options.cost:
+        subprocess.run([f"{folder}/cost", f"{folder}/{TOOL}", str(options.cost)], check=True)
+    elif not tally.failed:
+        try_all(tally, folder, options.full)

@@ -1,23 +1,23 @@
 """Tries the trace events and the page that `samples draw run` writes, and the times of runs.
 
-Has the program write 40 random runs as events. Each file has to be as the Trace Event Format says (event_format.py), and to have each
-task, end of a message and wave of the trace once, at the time of its line, and no other. Then the programs run
-with `--profile FILE`: each file has to have each task of the run once, in time, and counters that rise to the numbers of the run
-(run_profiles.py), and `tools/dev summary` has to find them. If Chromium is installed (`tools/page-packages` prints the packages), opens
-the page of a run of 100,000 events in it, zooms, moves, searches, and holds the pointer over a task, a message and a wave, in light and
-dark colours, and opens the pages of the short runs; none may report an error. A viewer of Chromium's DevTools has to find the slices of
-all files (viewer.py). The last line is `N passed, M failed, K skipped`; the status is 1 if one failed.
+Has the program write 40 random runs as events. Each file has to be as the Trace Event Format says (event_format.py), and to have each task,
+end of a message and wave of the trace once, at the time of its line, and no other. Then the programs run with `--profile FILE`: each file
+has to have each task of the run once, in time, and counters that rise to the numbers of the run (profiles.py), and `tools/dev summary` has
+to find them. If Chromium is installed (`tools/page-packages` prints the packages), opens the page of a run of 100,000 events in it, zooms,
+moves, searches, and holds the pointer over things, in light and dark colours, and opens the pages of the short runs; none may report an
+error. A viewer of Chromium's DevTools has to find the slices of all files (browser.py).
 """
 import collections
 import io
+import json
 import random
 import re
 import tempfile
 
-from . import event_format, repository, run_profiles, running, tries, viewer
+from . import browser, event_format, profiles, repository, running, tries
 from .bench import inputs
 from .browser import Browser, is_here
-from .limits.random_texts import random_steps, sound_trace
+from .limits.texts import random_steps, sound_trace
 
 RUNS = 40
 PAGE, LONG, EMPTY = "page", "long", "trace 1\nnodes 1\n"
@@ -26,6 +26,9 @@ DATA = re.compile(r'(<script type="application/json" id="events">\n).*?(</script
 LINES, UNBUILT_LINES = 100_000, 4_000
 # for a line of a trace the phase of its event, its name, and which number of the line belongs to that
 SHOWN = {"begin": ("X", "task", 0), "send": ("s", "message", 2), "recv": ("f", "message", 1)}
+# a run: its program and arguments, its number of tasks, its input, how often each task runs, and whether the file numbers them
+Case = collections.namedtuple("Case", "program arguments tasks text times has_numbers", defaults=["", 1, True])
+CASES = {name: Case(**row) for name, row in json.loads(repository.text_of(f"{repository.TOP}/tools/data/profiles.json")).items()}
 BOX = "(box => [box.left, box.top, box.right, box.bottom])(canvas.getBoundingClientRect())"
 
 
@@ -41,23 +44,11 @@ def traces():
     return found
 
 
-def long_trace():
-    """Returns a trace of all kinds of steps."""
-    text = io.StringIO()
-    inputs.write_all_steps(text, LINES if tries.is_built("samples") else UNBUILT_LINES, True)
-    return text.getvalue()
-
-
 def written(texts, folder):
-    """Has the program write each trace as events, an empty one as a page, and the times of runs into a folder; returns what it printed of
-    each trace, and the results of all runs."""
-    with tempfile.TemporaryDirectory() as cases:
-        forms = {**dict.fromkeys(texts, "events"), PAGE: "html"}
-        for name, form in forms.items():
-            running.write(f"{cases}/{name}", texts.get(name, EMPTY))
-            running.write(f"{cases}/{name}.args", ["draw", "run", "--format", form])
-        run_profiles.write_cases("samples", cases, folder)
-        results = tries.run_cases("samples", cases)
+    """Has the program write traces as events, a page, and the times of runs; returns what it printed of each trace, and all results."""
+    forms = {**dict.fromkeys(texts, "events"), PAGE: "html"}
+    drawn = {name: tries.Case(["draw", "run", "--format", form], texts.get(name, EMPTY).encode()) for name, form in forms.items()}
+    results = tries.run_cases("samples", {**drawn, **cases_of("samples", folder)})
     return {name: results[name][1] for name in forms if results.get(name, (None,))[0] == 0}, results
 
 
@@ -75,7 +66,6 @@ def shown_in(trace):
 
 
 def check_events(tally, texts, outputs):
-    """Judges the events of each trace."""
     total = 0
     for name, trace in texts.items():
         text, expected = outputs.get(name, ""), collections.Counter(shown_in(trace))
@@ -88,6 +78,23 @@ def check_events(tally, texts, outputs):
         tally.judge(not differing, f"{name}: {differing[:3]} differ from this trace: {trace}")
         total += sum(expected.values())
     print(f"{len(texts)} runs as events: {total} tasks, ends of messages and waves", flush=True)
+
+
+def cases_of(program, folder):
+    """Returns the runs of a program by name, each with its times written to a file of this folder."""
+    own = {name: case for name, case in CASES.items() if case.program == program}
+    return {name: tries.Case([*case.arguments.split(), "--profile", f"{folder}/{name}"], case.text.encode()) for name, case in own.items()}
+
+
+def check_runs(tally, folder, results):
+    """Checks what the runs have written to a folder, after those of `samples`, whose results are given; returns the texts by case."""
+    results = {**results, **tries.run_cases("tp", cases_of("tp", folder))}
+    texts = {name: repository.text_of(f"{folder}/{name}", "") for name in CASES}
+    for name, case in CASES.items():
+        found = profiles.faults(texts[name], profiles.run_faults, case, texts[name])
+        tally.judge(not found, f"--profile of {name}: {found[:3]}, {str(results.get(name))[:1000]}")
+    print(f"{len(CASES)} runs with times", flush=True)
+    return {name: text for name, text in texts.items() if text}
 
 
 class Reader:
@@ -103,7 +110,6 @@ class Reader:
         return self.browser.value(f"(part => part.hidden ? '' : part.textContent)(document.getElementById('{name}'))")
 
     def shown(self):
-        """Returns the first and the last event in view."""
         first, last = re.match(r"events ([\d,]+) to ([\d,]+) of", self.text("shown")).groups()
         return int(first.replace(",", "")), int(last.replace(",", ""))
 
@@ -111,7 +117,6 @@ class Reader:
         self.tally.judge(is_well, f"the page: {what}: it shows {self.text('shown')}, and says {self.text('tip')!r}")
 
     def zooms(self, events):
-        """Zooms and moves by the wheel, by keys and by dragging."""
         y, every = (self.top + self.bottom) / 2, (1, events)
         self.expect("all is in view", self.shown() == every)
         self.browser.mouse("mouseWheel", self.middle, y, deltaX=0, deltaY=-1500)
@@ -130,7 +135,10 @@ class Reader:
         self.expect("the key 0 shows all", self.shown() == every)
 
     def finds(self, query, expected):
-        """Searches for a thing, and then holds the pointer over it."""
+        def tip_at(x, y):
+            self.browser.call("Input.dispatchMouseEvent", type="mouseMoved", x=x, y=y)
+            return self.text("tip")
+
         self.browser.key("/")
         self.browser.value("document.getElementById('query').select()")
         self.browser.call("Input.insertText", text=query)
@@ -138,18 +146,14 @@ class Reader:
         self.expect(f"search for {query}", self.text("tip") == expected)
         self.browser.key("Escape")
         heights, columns = range(int(self.top) + 60, int(self.bottom) - 30, 4), (0, *range(-20, 21, 4))
-        self.expect(f"a pointer over {query}", any(self.tip_at(self.middle + x, y) == expected for y in heights for x in columns))
-
-    def tip_at(self, x, y):
-        self.browser.call("Input.dispatchMouseEvent", type="mouseMoved", x=x, y=y)
-        return self.text("tip")
+        self.expect(f"a pointer over {query}", any(tip_at(self.middle + x, y) == expected for y in heights for x in columns))
 
 
 def texts_of(trace):
     """Yields queries for a task, a message and a wave in the middle of a trace, and what the page has to say of them."""
     lines = trace.splitlines()[2:]
     steps = [line.split() for line in lines]
-    later, at = steps[len(steps) // 2 :], {line: place for place, line in enumerate(lines, 1)}
+    later, at = steps[len(steps) // 2:], {line: place for place, line in enumerate(lines, 1)}
     task = next(step[1] for step in later if step[0] == "begin" and f"supply {step[1]}" in at)
     node, count = next((step[1], step[3]) for step in steps if step[0] == "insert" and step[2] == task)
     yield f"task {task}", (
@@ -167,19 +171,12 @@ def texts_of(trace):
     yield f"wave {wave}", f"wave {wave}: {sent:,} sent, {received:,} received\nended at {end:,}"
 
 
-def open_page(browser, page, events):
-    """Opens the page of a run: a page with its events."""
-    with tempfile.NamedTemporaryFile("w", suffix=".html") as file:
-        file.write(DATA.sub(lambda found: f"{found[1]}{events}{found[2]}", page) if events else page)
-        file.flush()
-        browser.open(file.name)
-
-
 def check_page(tally, page, texts, trace, events_of_trace):
     """Opens the pages of short runs and of a long one, and does with the last one what a reader does."""
-    with Browser() as browser:
+    with Browser() as browser, tempfile.NamedTemporaryFile(suffix=".html") as file:
         for events in ("", *texts, events_of_trace):
-            open_page(browser, page, events)
+            text = DATA.sub(lambda found, events=events: f"{found[1]}{events}{found[2]}", page) if events else page
+            browser.open(running.write(file.name, text))
         reader = Reader(tally, browser)
         events = len(trace.splitlines()) - 2
         reader.zooms(events)
@@ -187,30 +184,24 @@ def check_page(tally, page, texts, trace, events_of_trace):
             reader.finds(query, expected)
         browser.key("0")
         light = browser.screenshot()
-        browser.prefer("dark")
+        browser.call("Emulation.setEmulatedMedia", features=[{"name": "prefers-color-scheme", "value": "dark"}])
+        browser.settle()
         tally.judge(browser.screenshot() != light, "the page: it looks alike in light and dark colours")
         milliseconds = browser.value("(began => (draw(), performance.now() - began))(performance.now())")
         tally.judge(not browser.errors, f"the page reports {browser.errors}")
     print(f"the page of {events:,} events: tried in Chromium, which drew all of it in {milliseconds:.0f} ms")
 
 
-def arguments(parser):
-    del parser
-
-
 def run(options):
-    del options
-    repository.go_to_top()
-    tally = running.Tally()
-    texts, trace = traces(), long_trace()
-    with tempfile.TemporaryDirectory() as folder:
-        outputs, results = written({**texts, LONG: trace}, folder)
-        check_events(tally, texts, outputs)
-        profiles = run_profiles.check(tally, folder, results)
+    tally, texts, text = options.tally, traces(), io.StringIO()
+    inputs.write_all_steps(text, LINES if tries.is_built("samples") else UNBUILT_LINES, True)
+    trace = text.getvalue()
+    outputs, results = written({**texts, LONG: trace}, options.temporary)
+    check_events(tally, texts, outputs)
+    timed = check_runs(tally, options.temporary, results)
     page, long_events = outputs.pop(PAGE, None), outputs.pop(LONG, None)
     tally.judge(page and long_events, "the program wrote no page, or no events of a long trace")
     if page and long_events and is_here(tally, "the page"):
         check_page(tally, page, outputs.values(), trace, long_events)
-        with Browser() as browser:
-            viewer.check(tally, browser, {**outputs, **profiles})
-    return tally.end()
+        with Browser() as chromium:
+            browser.check_events(tally, chromium, {**outputs, **timed})

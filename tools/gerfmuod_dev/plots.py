@@ -5,58 +5,126 @@ crates.txt and the table of docs/ARCHITECTURE.md. A file ends with a digest of w
 test` compares these digests, without matplotlib and graphviz. `tools/bench-packages` prints the packages. The status is 1 if a
 plot could not be drawn: a package is missing.
 """
+import csv
 import functools
 import hashlib
+import io
 import json
+import math
 import os
 import re
-import shutil
 import subprocess
 import sys
 from xml.dom import minidom
 
-from . import crate_map, repository, timeline
+from . import repository
 from .bench import figures
-from .repository import text_of
+from .event_format import Profile
+from .repository import TOP, text_of
 
+RUN_PATH = f"{TOP}/docs/measurements/cholesky-run.csv"
+KINDS = ["factor", "solve", "square", "product"]
+RUN_COLUMNS = ["thread", "task", "kind", "begin us", "length us"]
+# the kind of its first row, which has the number of threads, that of tasks, and the length of the run
+RUN = "run"
+PAGE = "docs/ARCHITECTURE.md"
+ROW = re.compile(r"^\|([^|\n]*)\| *([a-z]\w*) *\|([^|\n]*)\|[^|\n]*\|$", re.M)
+# a colour for each group, in the order of crates.txt
+FILLS = ["#e8e8e8", "#fde2b8", "#cfe3f7", "#d8efd0", "#e6dbf3", "#fbd5d5", "#f2f0c8", "#ffffff"]
+GRAPH = "tools/data/crates.dot"
 DRAWING = f"{os.path.dirname(os.path.abspath(__file__))}/drawing.py"
 DIGEST = re.compile(r"<!-- digest of its inputs: (\w+) -->")
 PACKAGES = "apt-get install $(tools/bench-packages)"
 
 
+def check_map(tally):
+    """Judges whether the table in docs/ARCHITECTURE.md has the crates of crates.txt, in the same groups and in the same order."""
+    expected = [[title if name == names[0] else "", name] for title, names in repository.groups() for name in names]
+    rows = [[first.strip(), crate] for first, crate, _ in ROW.findall(text_of(PAGE))]
+    differing = [pair for pair in zip([*expected, None], [*rows, None]) if pair[0] != pair[1]][:1]
+    tally.judge(not differing, f"{PAGE}: the table differs from crates.txt: {differing}")
+
+
+def graph():
+    """Returns the graph: a cluster for each group, a box for each crate, dashed in the second tier, and an arrow to each below it."""
+    second_tier = {crate for _, crate, tier in ROW.findall(text_of(PAGE)) if tier.strip() == "safe"}
+    lines = []
+    for (title, names), fill in zip(repository.groups(), FILLS):
+        lines.append(f'  subgraph "cluster {title}" {{\n    label="{title}" style=filled color="#f6f6f6"')
+        for name in names:
+            style = "rounded,filled,dashed" if name in second_tier else "rounded,filled"
+            lines.append(f'    {name} [fillcolor="{fill}" style="{style}"]')
+        lines.append("  }")
+    lines += [f"  {name} -> {lower}" for name, crate in repository.crates().items() for lower in crate.below]
+    return text_of(GRAPH).replace("LINES", "\n".join(lines))
+
+
+def tasks_of(tiles):
+    """Returns the kernel of each task of cholesky.c, in their order, and the tasks that it waits for."""
+    tasks, writers = [], {}
+    for k in range(tiles):
+        step = [("factor", (k, k)), *(("solve", (i, k), (k, k)) for i in range(k + 1, tiles))]
+        for i in range(k + 1, tiles):
+            step += [("square", (i, i), (i, k)), *(("product", (i, j), (i, k), (j, k)) for j in range(k + 1, i))]
+        for kind, *used in step:
+            inputs = [writers[place] for place in used if place in writers]
+            writers[used[0]] = len(tasks)
+            tasks.append((kind, inputs))
+    return tasks
+
+
+def critical_path(tasks, lengths):
+    """Returns the tasks of the longest chain of bodies that wait for each other, and its length."""
+    chains = []
+    for (_, inputs), length in zip(tasks, lengths):
+        path, before = max((chains[task] for task in inputs), key=lambda chain: chain[1], default=([], 0))
+        chains.append(([len(chains), *path], before + length))
+    return max(chains, key=lambda chain: chain[1])
+
+
+def rows_of_run(events, tiles):
+    """Returns the rows of a run with this number of tiles in a row, from its trace events, as the file stores them."""
+    profile, tasks, text = Profile(events), tasks_of(tiles), io.StringIO()
+    rows = [RUN_COLUMNS, [len(profile.about["workers"]), len(tasks), RUN, 0.0, profile.about["elapsed_us"]]]
+    for event in sorted((event for event in profile.slices if "task" in event["args"]), key=lambda event: event["args"]["task"]):
+        task = event["args"]["task"]
+        rows.append([event["tid"], task, tasks[task][0], event["ts"], event["dur"]])
+    csv.writer(text, lineterminator="\n").writerows(rows)
+    return text.getvalue()
+
+
+def plot_of_run(text=None):
+    """Returns what the plot of a run shows, in milliseconds: of the rows of a text, or of the stored ones."""
+    _, first, *rows = csv.reader((text or text_of(RUN_PATH)).splitlines())
+    threads, count, elapsed = int(first[0]), int(first[1]), float(first[4]) / 1000
+    # n tiles in a row have n (n + 1) (n + 2) / 6 tasks
+    tiles = next(tiles for tiles in range(1, count + 1) if math.comb(tiles + 2, 3) == count)
+    path, length = critical_path(tasks_of(tiles), [float(row[4]) / 1000 for row in rows])
+    bodies = [[int(row[0]), row[2], float(row[3]) / 1000, float(row[4]) / 1000, int(row[1]) in path] for row in rows]
+    title = f"{count} tasks on {threads} threads: {elapsed:.1f} ms; the critical path: {length:.1f} ms"
+    return {"kind": "threads", "names": KINDS, "threads": threads, "bodies": bodies, "elapsed": elapsed, "title": title}
+
+
 # each plot with a function that returns what it shows, or nothing; the map is text for `dot`
-PLOTS = {
-    **{name: functools.partial(figures.plot_of, name) for name in figures.PLOTS},
-    "cholesky": timeline.plot,
-    "crates": crate_map.graph,
-}
+PLOTS = {name: functools.partial(figures.plot_of, name) for name in figures.PLOTS}
+PLOTS.update(cholesky=plot_of_run, crates=graph)
 
 
 def digest_of(plot):
-    """Returns the digest of a plot and of the code that draws it."""
     text = plot if isinstance(plot, str) else json.dumps(plot, sort_keys=True) + text_of(DRAWING)
     return hashlib.sha256(text.encode()).hexdigest()[:32]
 
 
-@functools.lru_cache(maxsize=None)
-def interpreter():
-    """Returns an interpreter of Python that has matplotlib."""
-    for path in (sys.executable, "/usr/bin/python3"):
-        if subprocess.run([path, "-c", "import matplotlib"], capture_output=True).returncode == 0:
-            return path
-    raise FileNotFoundError(f"no matplotlib: {PACKAGES}")
-
-
 def draw(plot, path):
-    """Draws a plot into a file, and appends its digest."""
     if isinstance(plot, str):
-        if not shutil.which("dot"):
-            raise FileNotFoundError(f"no graphviz: {PACKAGES}")
         # (tred removes the arrows that others imply)
-        graph = subprocess.run(["tred"], input=plot, stdout=subprocess.PIPE, text=True, check=True).stdout
-        subprocess.run(["dot", f"-T{path[-3:]}", "-o", path], input=graph, text=True, check=True)
+        reduced = subprocess.run(["tred"], input=plot, stdout=subprocess.PIPE, text=True, check=True).stdout
+        subprocess.run(["dot", f"-T{path[-3:]}", "-o", path], input=reduced, text=True, check=True)
     else:
-        subprocess.run([interpreter(), DRAWING, path], input=json.dumps(plot), text=True, check=True)
+        # (only what draws needs matplotlib)
+        from . import drawing
+
+        drawing.draw(plot, path)
     with open(path, "a", encoding="utf-8") as file:
         file.write(f"<!-- digest of its inputs: {digest_of(plot)} -->\n")
 
@@ -65,22 +133,22 @@ def write(names=PLOTS):
     """Draws these plots; returns how many could not be drawn, and prints why. One of no rows is removed."""
     faults = 0
     for name in names:
-        plot, path = PLOTS[name](), figures.path_of(name)
+        plot, path = PLOTS[name](), repository.figure(name)
         try:
             if plot:
                 draw(plot, path)
             elif os.path.exists(path):
                 os.remove(path)
-        except (FileNotFoundError, subprocess.CalledProcessError) as error:
+        except (FileNotFoundError, ImportError, subprocess.CalledProcessError) as error:
             faults += 1
-            print(f"{name} is not drawn: {error}", file=sys.stderr)
+            print(f"{name} is not drawn: {error} ({PACKAGES})", file=sys.stderr)
     return faults
 
 
 def check(tally, names=PLOTS):
     """Judges whether each plot is drawn from what is stored now."""
     for name in names:
-        plot, path = PLOTS[name](), figures.path_of(name)
+        plot, path = PLOTS[name](), repository.figure(name)
         text, path = text_of(path, ""), os.path.relpath(path, repository.TOP)
         if plot:
             minidom.parseString(text or "<nothing/>")
@@ -96,5 +164,4 @@ def run(options):
     unknown = [name for name in options.names if name not in PLOTS]
     if unknown:
         options.parser.error(f"no plot: {' '.join(unknown)}")
-    repository.go_to_top()
     return 1 if write(options.names or PLOTS) else 0

@@ -7,13 +7,16 @@ import sys
 from concurrent.futures import ThreadPoolExecutor
 from typing import NamedTuple
 
-from . import built
+from . import repository
 from .repository import TOP, processors
 
+# (programs print exact lines alone, without reasons, unless a test is about these)
+os.environ["GERFMUOD_QUIET"] = "1"
 # the statuses that a shell gives a program that cannot be started, and `timeout` one that does not end
 NOT_STARTED, NOT_ENDED = 126, 124
 # the time limit of a run, under a sanitizer and on a loaded machine too
 SECONDS = 300
+CACHEGRIND = ["valgrind", "--tool=cachegrind", "--cache-sim=no", "--cachegrind-out-file=/dev/null"]
 # the package of Debian that has a command, if it has another name
 PACKAGES = {
     "c++": "g++", "cc": "gcc", "clang++": "clang", "dot": "graphviz", "mpicc": "libopenmpi-dev", "mpirun": "openmpi-bin",
@@ -39,16 +42,13 @@ class Tally:
         self.passed = self.failed = self.skipped = 0
         self.seconds = SECONDS
 
-    def passes(self, count=1):
-        self.passed += count
-
-    def fails(self, reason):
-        self.failed += 1
+    def fails(self, reason, count=1):
+        self.failed += count
         print(f"FAILED: {reason}", flush=True)
 
     def judge(self, is_well, reason):
         if is_well:
-            self.passes()
+            self.passed += 1
         else:
             self.fails(reason)
 
@@ -70,7 +70,6 @@ class Tally:
 
 
 def short(text, most=200):
-    """Returns the beginning of a text on one line."""
     return text[:most].decode(errors="replace").replace("\n", ";")
 
 
@@ -81,9 +80,9 @@ def program_argument(parser, name="tp"):
 
 def require(*programs):
     """Exits with status 1 if one of the programs is missing, or is one of bin/ that was built from other sources."""
-    own = {f"{TOP}/{path}": name for name, (_, path) in built.RESULTS.items()}
+    own = {f"{TOP}/{path}": name for name, (_, path) in repository.BUILT.items()}
     for program in map(os.path.abspath, programs):
-        reason = built.reason_not_built(own[program]) if program in own else ""
+        reason = repository.reason_not_built(own[program]) if program in own else ""
         if reason or not (os.path.isfile(program) and os.access(program, os.X_OK)):
             sys.exit(f"{reason or f'{program} is not a program'}: `make` builds the repository's own")
 
@@ -97,25 +96,22 @@ def run(command, stdin=os.devnull, **options):
         try:
             process = subprocess.run(command, **{**streams, **options})
         except OSError as error:
+            if command[0] == "rt":
+                raise
             return Result(NOT_STARTED, b"", f"{error}\n".encode())
         except subprocess.TimeoutExpired as error:
             return Result(NOT_ENDED, error.stdout or b"", f"it did not end within {error.timeout:.0f} seconds\n".encode())
-    return Result(status_of(process.returncode), process.stdout or b"", process.stderr or b"")
+    return Result(process.returncode if process.returncode >= 0 else 128 - process.returncode, process.stdout or b"", process.stderr or b"")
 
 
 def instructions(command, stdin=os.devnull, **options):
-    """Returns the instructions of a command, counted by cachegrind: they do not depend on the load of the machine."""
-    cachegrind = ["valgrind", "--tool=cachegrind", "--cache-sim=no", "--cachegrind-out-file=/dev/null"]
-    report = run([*cachegrind, *command], stdin, timeout=None, **options).err
-    return int(re.search(rb"I +refs: +([0-9,]+)", report)[1].replace(b",", b""))
-
-
-def status_of(code):
-    return code if code >= 0 else 128 - code
+    """Returns the instructions of a command, counted by cachegrind: the load of the machine does not change them. None without valgrind."""
+    report = run([*CACHEGRIND, *command], stdin, timeout=None, **options).err
+    found = re.search(rb"I +refs: +([0-9,]+)", report)
+    return int(found[1].replace(b",", b"")) if found else None
 
 
 def in_parallel(items, action):
-    """Yields what the action returns for each item, in their order; as many run at a time as there are processors."""
     with ThreadPoolExecutor(processors()) as pool:
         yield from pool.map(action, items)
 

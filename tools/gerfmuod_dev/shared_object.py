@@ -12,7 +12,7 @@ import shutil
 import subprocess
 import tempfile
 
-from .repository import TOP, files_in
+from .repository import TOP, files_in, text_of
 
 INCLUDE, SOURCES = f"{TOP}/capi/include", f"{TOP}/capi/src"
 FORTRAN_MODULE = f"{TOP}/capi/fortran/gerfmuod.f90"
@@ -20,7 +20,7 @@ FORTRAN_MODULE = f"{TOP}/capi/fortran/gerfmuod.f90"
 HEADERS = [*files_in(INCLUDE), FORTRAN_MODULE]
 TEAM = f"{SOURCES}/gerfmuod_team.c"
 # each part in C, and a symbol of it
-PARTS = {f"{SOURCES}/gerfmuod_calls.c": "gerfmuod_insert", TEAM: "gerfmuod_team_open"}
+PARTS = {f"{SOURCES}/gerfmuod_calls.c": "gerfmuod_core_insert", TEAM: "gerfmuod_team_open"}
 # what an archive defines for programs that are linked with it
 PUBLIC = "gerfmuod_*"
 SONAME = "libgerfmuod.so.0"
@@ -36,44 +36,38 @@ def environment_options(variable):
 
 
 CC = tool("CC", "cc", "gcc", "clang")
-COMPILE = [*CC, "-std=c11", "-Wall", "-Wextra", "-pedantic", "-Werror", "-O2", "-fPIC", "-pthread", f"-I{INCLUDE}"]
-COMPILE += environment_options("CFLAGS")
+COMPILE = [*CC, "-std=c11", "-Wall", "-Wextra", "-pedantic", "-Werror", "-O2", "-g", f"-ffile-prefix-map={TOP}=.", "-fPIC", "-pthread"]
+COMPILE += [f"-I{INCLUDE}", *environment_options("CFLAGS")]
 LINK = [*CC, "-shared", "-pthread", f"-Wl,-soname,{SONAME}", f"-Wl,--version-script={SOURCES}/gerfmuod.map", "-Wl,-z,defs"]
 LINK += environment_options("LDFLAGS")
 
 
 def compile_part(part, folder):
-    """Compiles a part in C; returns the path of its object file in the folder."""
     path = f"{folder}/{os.path.basename(part)[: -len('.c')]}.o"
     subprocess.run([*COMPILE, "-c", part, "-o", path], check=True)
     return path
 
 
-def compile_team(folder):
-    return compile_part(TEAM, folder)
-
-
 def seal(archive):
-    """Joins the object files of the archive to one whose other names no program sees, as those of the allocator."""
+    """Joins the object files of the archive to one whose other names no program sees, as the allocator's, and adds the parts in C."""
     with tempfile.TemporaryDirectory() as folder:
         joined, archive = f"{folder}/gerfmuod.o", os.path.abspath(archive)
         subprocess.run(["ar", "x", archive], cwd=folder, check=True)
         subprocess.run([*CC, "-r", "-nostdlib", *files_in(folder), "-o", f"{folder}/joined"], check=True)
         subprocess.run(["objcopy", "--wildcard", f"--keep-global-symbol={PUBLIC}", f"{folder}/joined", joined], check=True)
         os.remove(archive)
-        subprocess.run(["ar", "rcs", archive, joined], check=True)
+        subprocess.run(["ar", "rcs", archive, joined, *(compile_part(part, folder) for part in PARTS)], check=True)
 
 
-def add_parts(archive):
-    """Puts the parts in C into the archive; replaces older ones."""
-    with tempfile.TemporaryDirectory() as folder:
-        subprocess.run(["ar", "rs", archive, *(compile_part(part, folder) for part in PARTS)], check=True, capture_output=True)
+def declared():
+    """Returns the names of the functions that the headers for C declare."""
+    headers = (text_of(path) for path in HEADERS if path.endswith(".h") and not path.endswith("/tsan.h"))
+    return {name for text in headers for name in re.findall(r"\b(gerfmuod_\w+)\(", re.sub(r"/\*.*?\*/", "", text, flags=re.S))}
 
 
 def symbols(path, *options):
-    """Returns the names that a library defines for others."""
     output = subprocess.run(["nm", "--defined-only", "-g", *options, path], capture_output=True, text=True, check=True).stdout
-    return set(re.findall(r"^[0-9a-f]+ [A-Z] (\w+)", output, re.M))
+    return set(re.findall(r"^[0-9a-f]+ [B-Z] (\w+)", output, re.M))
 
 
 def link(archive, path):
@@ -82,8 +76,3 @@ def link(archive, path):
         there = symbols(archive)
         parts = [compile_part(part, folder) for part, symbol in PARTS.items() if symbol not in there]
         subprocess.run([*LINK, "-Wl,--whole-archive", archive, "-Wl,--no-whole-archive", *parts, "-o", path], check=True)
-
-
-def foreign_names(path):
-    """Returns the names that a shared object exports although they do not begin with gerfmuod_."""
-    return sorted(name for name in symbols(path, "-D") if not name.startswith(PUBLIC[:-1]))

@@ -2,8 +2,7 @@
 
 Each run is of one of six pools, at 8 nodes with 8 workers each or at a random number of both. Its table, its number of tasks and its end
 have to be those of one node with one worker. It is repeated with its trace, which has to be audited as sound, with each task done, each
-message received, and the end announced. The last line has the number of runs. At the first run that differs, prints it on standard error
-and ends with status 1; a trace that is not sound is stored.
+message received, and the end announced. At the first run that differs, prints it and ends with status 1; an unsound trace is stored.
 """
 import os
 import random
@@ -25,7 +24,6 @@ def output_of(program, *run):
 
 
 def fault_of(program, run, expected):
-    """Returns what is wrong with a run, and with the trace of another one, or an empty text."""
     output, tasks = output_of(program, *run), re.search(r"^tasks (\d+)\nended$", expected, re.M)
     if output != expected or not tasks:
         return f"it prints\n{output}and not\n{expected}"

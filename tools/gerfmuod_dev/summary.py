@@ -6,6 +6,7 @@ counted are the kinds of their slices). The last line has the time of the run, a
 file has it. The status is 1 if the file is not in the Trace Event Format.
 """
 import collections
+import os
 import sys
 
 from . import event_format
@@ -16,15 +17,7 @@ LABELS = {"task": "bodies", "wait": "waiting"}
 Row = collections.namedtuple("Row", "name tasks parts time")
 
 
-def rows_of_workers(workers):
-    """Returns the rows of a team's threads, whose sums also have the slices that were lost."""
-    for worker in workers:
-        parts = {"bodies": worker["bodies_us"], "waiting": worker["waiting_us"]}
-        yield Row(f"thread {worker['thread']}", worker["tasks"], parts, sum(parts.values()) + worker["runtime_us"])
-
-
 def rows_of_slices(profile, elapsed):
-    """Returns the rows of the nodes if the file says how many workers there are, else of the tracks."""
     about, processes, time = profile.about, profile.processes, elapsed
     is_by_node = "workers" in about
     if is_by_node:
@@ -41,22 +34,23 @@ def rows_of_slices(profile, elapsed):
     return [Row(names.get(key, "without a name"), tasks[key], parts[key], time) for key in sorted(parts)]
 
 
-def line_of(row, width, kinds):
-    parts = [row.parts.get(kind, 0.0) for kind in kinds]
-    shares = (part / row.time if row.time else 0.0 for part in (*parts, row.time - sum(parts)))
-    return f"{row.name:{width}} {row.tasks:8}" + "".join(f" {share:>9.1%}" for share in shares)
-
-
 def summary(text):
-    """Returns the lines of the summary of a text in the Trace Event Format."""
     profile = event_format.Profile(text)
     about, ends = profile.about, [event["ts"] + event["dur"] for event in profile.slices]
     elapsed, is_team = about.get("elapsed_us", max(ends, default=0)), isinstance(about.get("workers"), list)
-    rows = list(rows_of_workers(about["workers"]) if is_team else rows_of_slices(profile, elapsed))
+    rows = [] if is_team else rows_of_slices(profile, elapsed)
+    for worker in about["workers"] if is_team else ():
+        # (the sums also have the slices that were lost)
+        parts = {"bodies": worker["bodies_us"], "waiting": worker["waiting_us"]}
+        rows.append(Row(f"thread {worker['thread']}", worker["tasks"], parts, sum(parts.values()) + worker["runtime_us"]))
     kinds = list(dict.fromkeys(kind for row in rows for kind in row.parts))
     width = max((len(row.name) for row in rows), default=0)
     heads = "".join(f" {head:>9}" for head in [*kinds, "runtime" if is_team else "rest"])
-    lines = [f"{'':{width}} {'tasks':>8}{heads}", *(line_of(row, width, kinds) for row in rows)]
+    lines = [f"{'':{width}} {'tasks':>8}{heads}"]
+    for row in rows:
+        parts = [row.parts.get(kind, 0.0) for kind in kinds]
+        shares = (part / row.time if row.time else 0.0 for part in (*parts, row.time - sum(parts)))
+        lines.append(f"{row.name:{width}} {row.tasks:8}" + "".join(f" {share:>9.1%}" for share in shares))
     critical = f", of which the critical path takes {about['critical_path_us'] / 1000:.3f} ms" if "critical_path_us" in about else ""
     has_times = not about.get("clock", "").startswith("none")
     lines.append(f"{elapsed / 1000:.3f} ms{critical}" if has_times else f"{elapsed:.0f} events, without times")
@@ -65,7 +59,7 @@ def summary(text):
 
 
 def arguments(parser):
-    parser.add_argument("file", metavar="FILE", help="a file of trace events")
+    parser.add_argument("file", metavar="FILE", type=os.path.abspath, help="a file of trace events")
 
 
 def run(options):

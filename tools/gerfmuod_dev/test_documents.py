@@ -1,27 +1,13 @@
 """Tests of the checks of documents and of the manual, by pytest: that each finds the fault that it is for."""
+import os
+import re
+
 import pytest
 
-from . import contracts, crate_map, docs, proved, repository, running, version
-from .shipping import manual
+from . import cli, contracts, docs, plots, proved, repository, running, shared_object
+from .shipping import package
 
-CODE = """/// Takes a step.
-/// If it fails: `NoMemory`.
-pub fn step(core: &mut Core) -> Result<u32, Refusal>
-    requires small { core.steps < 9 }
-    ensures taken { result ≡ 1 }
-{
-    1
-}
-
-impl Core {
-    fn hidden(&self) {}
-}
-"""
-
-
-@pytest.fixture(autouse=True)
-def top():
-    repository.go_to_top()
+CODE = repository.text_of(f"{repository.TOP}/tools/data/tests/code")
 
 
 def test_contracts_are_read():
@@ -51,26 +37,49 @@ def test_faults_of_documents_are_found():
     assert [docs.exists("docs/GATE.md", link) for link in ("#the-gate", "#tea", "TEA.md")] == [True, False, False]
 
 
+def test_dead_links_are_found(tmp_path):
+    page = running.write(tmp_path / "page.md", "# A b\n[one](page.md#a-b) [two](page.md#b) [three](no.md)\n[four]: no-file\n`[five](no)`\n")
+    assert docs.dead_links(page) == ["page.md#b", "no.md", "no-file"]
+
+
+def test_the_readme_names_each_module():
+    modules = {os.path.splitext(name)[0] for name in os.listdir("tools/gerfmuod_dev") if not name.startswith("__")}
+    assert {*re.findall(r"`([a-z_]+)`", repository.text_of("tools/README.md"))} - {"gerfmuod_dev"} == modules
+
+
+def test_options_of_commands_in_documents_are_accepted():
+    form = re.compile(r"`tools/dev ([a-z][^`]* --(?!help)[^`]*)`|^    tools/dev ([a-z].*? --(?!help).*?)(?:  .*)?$", re.M)
+    for path in (path for path in docs.documents() if path != docs.OF_ITS_DAY):
+        for command in form.findall(repository.text_of(path)):
+            assert cli.parser_of_all().parse_args("".join(command).split())
+
+
 @pytest.mark.parametrize("check, path, old, new", [
-    (version.check, "python/pyproject.toml", "version = ", "# version = "),
-    (crate_map.check, crate_map.PAGE, "| tp_core |", "| tp_cores |"),
+    (package.check_version, "python/pyproject.toml", "version = ", "# version = "),
+    (plots.check_map, plots.PAGE, "| tp_core |", "| tp_cores |"),
     (proved.check_memory, proved.OUT_OF_MEMORY, "`tp_base::Table::insert`", ""),
     (proved.check_names, "docs/TOUR.md", "`takes_sums_twice`", "`no_such_mutant`"),
     (proved.check_names, "docs/measurements/mutants-killed-by-tests.md", "`faults_of_writing`", "`no_such_test`"),
 ])
 def test_a_changed_text_is_a_failure(monkeypatch, check, path, old, new):
+    original = repository.text_of
+
     def changed(name, *otherwise):
-        text = repository.text_of(name, *otherwise)
+        text = original(name, *otherwise)
         return text.replace(old, new) if name == path else text
 
-    for module in (version, crate_map, proved):
+    for module in (repository, plots, proved):
         monkeypatch.setattr(module, "text_of", changed)
     tally = running.Tally()
     check(tally)
     assert tally.failed
 
 
-def test_texts_mean_themselves_in_the_manual():
-    assert manual.plain("a*b_c\n\n    d_e") == "a\\*b\\_c\n\n    d_e"
-    assert "gerfmuod_step" in manual.functions_of("gerfmuod.h")
-    assert all("\n# DESCRIPTION\n" in manual.header_page(name) for name in manual.HEADERS)
+def test_a_page_of_the_manual_has_the_text_and_the_code_of_its_header():
+    header = b"/* a/b.h: Adds a*b. It has\n *\n *     c_d\n */\nint a_b(void); /* e_f */\n"
+    command = ["awk", "-v", "name=a_b.h", "-v", "version=1", "-f", f"{repository.TOP}/packaging/header.awk"]
+    page = running.run(command, header).out.decode()
+    assert page.partition("# NAME\n\n")[2] == (
+        "a\\_b.h - Adds a\\*b\n\n# DESCRIPTION\n\nIt has\n\n    c_d\n\n\n~~~~\nint a_b(void); /* e_f */\n~~~~\n\n"
+    )
+    assert "gerfmuod_core_step" in shared_object.declared()

@@ -2,31 +2,17 @@
 import json
 import os
 import random
+import re
 import shutil
+import sys
 
 import pytest
 
-from . import checks, contracts, event_format, mutant_files, pages, repository, running, summary, timeline, together, tries
-from .limits import random_texts, second_model, terminal, texts
+from . import checks, contracts, event_format, mutant_files, mutants, pages, plots, repository, running, summary, together, tries
+from .limits import memory, second_model, terminal, texts
 
 EVENTS = {"0-draw-a-run-as-events", "0-draw-two-generations-as-events", "0-draw-a-run-that-has-not-ended-as-events"}
-MUTANTS = """# the head
-of 12
-by kit logic 34
-on 2026-01-01
-in_gate: turn/up, returns
-not_in_gate in src/turn.rt: turn/up, it
-- a(1)
-+ a(2)
-in src/wave.rt
-- b();
-+
-"""
-
-
-@pytest.fixture(autouse=True)
-def top():
-    repository.go_to_top()
+MUTANTS = repository.text_of(f"{repository.TOP}/tools/data/tests/mutants")
 
 
 @pytest.mark.parametrize("name", EVENTS)
@@ -55,9 +41,9 @@ def test_summary_of_nodes_and_threads():
 
 
 def test_critical_path_of_cholesky():
-    tasks = timeline.tasks_of(2)
+    tasks = plots.tasks_of(2)
     assert [kind for kind, _ in tasks] == ["factor", "solve", "square", "factor"]
-    assert timeline.critical_path(tasks, [1, 1, 1, 1]) == ([3, 2, 1, 0], 4)
+    assert plots.critical_path(tasks, [1, 1, 1, 1]) == ([3, 2, 1, 0], 4)
 
 
 @pytest.mark.parametrize("command, text, expected", [
@@ -72,7 +58,7 @@ def test_second_model(command, text, expected):
 
 
 def test_random_texts_have_what_is_rare():
-    outputs = [second_model.expected(*case)[1] for case in random_texts.random_texts(random.Random(2), 60)]
+    outputs = [second_model.expected(*case)[1] for case in texts.random_texts(random.Random(2), 60)]
     assert all(any(rare in output for output in outputs) for rare in ("unjustified", "Stranger", "ended ", "syntax "))
 
 
@@ -125,6 +111,49 @@ def test_crates_are_proved_and_mutants_that_survive_are_found(tmp_path):
     running.write(tmp_path / "crates/low/src/lib.rt", "fn one() {\n    1 + WRONG\n}\n\nfn two() {\n    2\n}\n")
     status, out = run("build", "tp")
     assert status == 1 and "low: NOT PROVED" in out and run("mutants", "--stale")[0] == 1
+    assert not list(tmp_path.glob("gerfmuod-*"))
+
+
+@pytest.mark.parametrize("command", ["build tp", "mutants --all", "new-pool none/new one", "try chain"])
+def test_a_missing_toolchain_is_named_in_one_line(command, tmp_path):
+    for name in ("python3", "sh", "timeout", "cc"):
+        os.symlink(shutil.which(name), tmp_path / name)
+    result = running.run([sys.executable, "tools/dev", *command.split()], env={"PATH": str(tmp_path)})
+    assert result.status == 1 and re.fullmatch(rb"rt is not on the path: .*README.md.*\n", result.err), result
+
+
+def test_compilers_and_options_are_those_of_the_environment():
+    names = {"CC": "C COMPILE LINK", "CFLAGS": "C COMPILE", "LDFLAGS": "LINK"}
+    names.update(CXX="CPP", CXXFLAGS="CPP", FC="FORTRAN", FFLAGS="FORTRAN")
+    code = "from gerfmuod_dev.shared_object import COMPILE, LINK\nfrom gerfmuod_dev.c_programs import C, CPP, FORTRAN\n"
+    commands = "".join(f"print({name!r}, *{name})\n" for name in ("C", "COMPILE", "LINK", "CPP", "FORTRAN"))
+    environment = {**os.environ, "PYTHONPATH": "tools", **{name: f"own-{name}" for name in names}}
+    printed = running.run([sys.executable, "-c", code + commands], env=environment).out.decode().splitlines()
+    for name, those in names.items():
+        assert those == " ".join(line.split()[0] for line in printed if f"own-{name}" in line.split()), name
+
+
+def test_a_tally_has_counts_and_a_status(capsys):
+    tally = running.Tally()
+    tally.judge("one", "")
+    assert tally.end() == 0
+    tally.judge("", "reason")
+    tally.skips("what", "a package")
+    assert tally.end() == 1
+    assert capsys.readouterr().out.endswith("reason\nSKIPPED for lack of a package: what\n1 passed, 1 failed, 1 skipped\n")
+
+
+def test_digests_are_of_what_they_are_to_see(monkeypatch):
+    tp, own, plot = repository.digest(["tp"]), mutants.digest(repository.crates()["tp_wave"]), plots.digest_of({"a": 1})
+    assert mutants.meaning("fn a(b: u8) { // c\n}") == mutants.meaning("fn a(\n    b: u8,\n) {}") != mutants.meaning("fn a(b: u9) {}")
+    original = repository.text_of
+
+    def changed(path, *otherwise):
+        return original(path, *otherwise) + "fn more() {}\n" * path.endswith(("tp_base/src/lib.rt", "tp_wave/src/lib.rt", "drawing.py"))
+
+    for module in (repository, mutants, plots):
+        monkeypatch.setattr(module, "text_of", changed)
+    assert tp != repository.digest(["tp"]) and own != mutants.digest(repository.crates()["tp_wave"]) and plot != plots.digest_of({"a": 1})
 
 
 def test_parts_without_a_closing_line_fail():
@@ -138,6 +167,15 @@ def test_runs_have_a_status_and_a_limit():
     assert running.run(["sh", "-c", "cat; kill -9 $$"], b"a") == running.Result(137, b"a", b"")
     assert running.run(["sleep", "9"], timeout=0.1).status == running.NOT_ENDED
     assert running.run(["/nowhere"]).status == running.NOT_STARTED
+
+
+@pytest.mark.parametrize("status, out, err, line, is_refused", [
+    (3, b"", b"refused 17 NoMemory\n", "tp run", True), (3, b"66\n", b"refused 17 NoMemory\n", "tp run", False),
+    (3, b"pool 0 a ended tasks 7 messages 0\npool 1 b refused 17 NoMemory\n", b"", "tp pools", True),
+    (3, b"pool 0 a ended tasks 7 messages 0\n", b"", "tp pools", False), (0, b"", b"there is no memory\n", "samples heat", False),
+])
+def test_what_a_program_prints_out_of_memory(status, out, err, line, is_refused):
+    assert memory.is_refused(running.Result(status, out, err), line) == is_refused
 
 
 def test_terminals():

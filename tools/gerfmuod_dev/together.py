@@ -22,8 +22,7 @@ NAMES_ONLY = re.compile(r"(note: )?(\./)?proofs/.*(has no field|is not in scope|
 
 
 class PlacedMutant(NamedTuple):
-    """A mutant of one function: its name, the function and its text below its name, and the edits: where the old text begins, the old
-    text, and the new one."""
+    """A mutant of one function, the text below the function's name, and the edits: where the old text begins, that text, the new one."""
 
     name: str
     function: Function
@@ -42,20 +41,20 @@ def place(mutant, crate):
     lines = [text.count("\n", 0, start) for start, _, _ in edits]
     for function in (item for item in items_of(crate, path) if isinstance(item, Function)):
         if all(line in function.body for line in lines):
-            below = text.split("\n")[function.body.start - function.head.count("\n") : function.body.stop]
+            below = text.split("\n")[function.body.start - function.head.count("\n"):function.body.stop]
             return PlacedMutant(mutant.name, function, "\n".join(below), edits)
     return None
-
-
-def are_apart(one, other):
-    """Whether the functions of two mutants have two names, and neither calls the other one or passes it on."""
-    names, texts = (one.function.name, other.function.name), (other.text, one.text)
-    return names[0] != names[1] and not any(re.search(rf"\b{name}\b *[(),]", text) for name, text in zip(names, texts))
 
 
 def groups_in(crate, names):
     """Returns those of these mutants of a crate that can be tried together, as groups: each is in the first group that it fits."""
     groups = []
+
+    def are_apart(one, other):
+        """Whether the functions have two names, and neither calls the other one or passes it on."""
+        names, texts = (one.function.name, other.function.name), (other.text, one.text)
+        return names[0] != names[1] and not any(re.search(rf"\b{name}\b *[(),]", text) for name, text in zip(names, texts))
+
     for mutant in filter(None, (place(mutants_of(crate)[name], crate) for name in names)):
         fits = (group for group in groups if len(group) < MOST and all(are_apart(mutant, other) for other in group))
         group = next(fits, [])
@@ -65,12 +64,11 @@ def groups_in(crate, names):
 
 
 def apply(room, group):
-    """Applies the mutants of a group to a copy of the repository; returns the texts before, by their paths."""
     originals = {mutant.function.file: text_of(f"{room}/{mutant.function.file}") for mutant in group}
     for file, text in originals.items():
         edits = [edit for mutant in group if mutant.function.file == file for edit in mutant.edits]
         for start, old, new in sorted(edits, reverse=True):
-            text = text[:start] + new + text[start + len(old) :]
+            text = text[:start] + new + text[start + len(old):]
         write(f"{room}/{file}", text)
     return originals
 
@@ -85,8 +83,7 @@ def is_in(error, mutant):
 
 
 def try_group(crate, room, proved, group):
-    """Checks a crate with all mutants of a group, in a copy; returns, for each mutant that the prover refuses in its own function, the
-    first error there. `proved` is what the check of the crate without mutants left."""
+    """Checks a crate with all mutants of a group, in a copy; returns the first error in the function of each that is refused."""
     folder = f"{room}/crates/{crate}"
     renew(proved, f"{folder}/out/incremental")
     originals = apply(room, group)

@@ -56,8 +56,7 @@ def blocks_in(path):
 
 @functools.lru_cache(maxsize=None)
 def files_with(crate, name):
-    """Returns the files of a crate that declare a type or a call of a name, or implement the type, as a tuple. A name that its lib.rt
-    passes on from another crate is looked up there."""
+    """Returns the files of a crate that declare or implement a name, as a tuple; a name that its lib.rt passes on is looked up there."""
     files = {function.file for function in contracts_of(crate)[0].values() if name == (function.owner or function.name)}
     files.update(path for path in repository.files_in(f"crates/{crate}/src") if any(name == declared for declared, _ in blocks_in(path)))
     exports = IMPORT.findall(text_of(f"crates/{crate}/src/lib.rt", ""))
@@ -66,7 +65,6 @@ def files_with(crate, name):
 
 
 def interfaces(crate, names):
-    """Returns the interfaces of these names of a crate, as pairs of a name and a part."""
     return [(name, Part(path, name, "interface")) for name in names for path in files_with(crate, name)]
 
 
@@ -78,7 +76,7 @@ def first_of(crate, folder, parts, end):
 
 @functools.lru_cache(maxsize=None)
 def definitions(crate, file, names):
-    """Returns what `Rattle.CRATE.specs.FILE.{NAMES}` of a crate of this repository is, as a list. A fault says that there is no such thing."""
+    """Returns what `Rattle.CRATE.specs.FILE.{NAMES}` of a crate of this repository is, as a list; a fault if there is no such thing."""
     first, *parts = file.split(".")
     if first not in ("declared", "contracts"):
         found = [Part(path, "", "definitions") for path in first_of(crate, "specs", [first, *parts], ".antt")]
@@ -102,13 +100,11 @@ def ghost_imports_in(text):
 
 
 def paths_in(text):
-    """Returns the interfaces that the paths `CRATE::NAME` in a text name."""
     return [part for crate, several, single in PATH.findall(text) for _, part in interfaces(crate, listed(several, single))]
 
 
 @functools.lru_cache(maxsize=None)
 def imports_of(path):
-    """Returns what a file of code imports, as pairs of a name and a part."""
     text, found = text_of(path), []
     for first, several, single in IMPORT.findall(text):
         crate = path.split("/")[1] if first in ("crate", "super", "self") else first
@@ -124,7 +120,6 @@ def declared_in(part):
 
 
 def text_of_part(part):
-    """Returns the text of definitions or of declarations; the contracts of an interface are not part of it."""
     return text_of(part.path) if part.kind == "definitions" else "\n".join(declared_in(part))
 
 

@@ -1,6 +1,6 @@
 /* detector.c: the proved detector, with notices and control messages carried by MPI; when this rank is idle. */
 #include "check.h"
-#include <gerfmuod_process.h>
+#include <gerfmuod/process.h>
 #include <sched.h>
 #include <stdio.h>
 #include <stdlib.h>
@@ -45,11 +45,8 @@ void give_up(const char *reason) {
 }
 
 static void expect(uint32_t refusal, const char *what) {
-    char text[100];
-    gerfmuod_process_text meaning;
     if (!refusal) return;
-    meaning = gerfmuod_process_meaning(refusal, text, sizeof text);
-    fprintf(stderr, "gerfmuod: rank %d: %s: %.*s: a bug of this library\n", checker.me, what, (int)meaning.length, text);
+    fprintf(stderr, "gerfmuod: rank %d: %s: %s: a bug of this library\n", checker.me, what, gerfmuod_refusal_text(refusal));
     end_job(1);
 }
 
@@ -125,7 +122,10 @@ int detector_poll(void) {
     receive_letter(slot);
     slot = (slot + 1) % SLOTS;
     if (status.MPI_TAG == TAG_NOTICE) take_notice(&letter.notice, status.MPI_SOURCE);
-    else if (!checker.is_blind) gerfmuod_process_take(&process, &letter.control); /* MPI brings each once */
+    else if (!checker.is_blind) {
+        uint32_t refused = gerfmuod_process_take(&process, &letter.control);
+        if (refused > GERFMUOD_REFUSED_LATE) expect(refused, "take"); /* one that is not due is ignored */
+    }
     return 1;
 }
 

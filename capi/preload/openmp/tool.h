@@ -6,7 +6,7 @@
 #ifndef _GNU_SOURCE
 #define _GNU_SOURCE /* dladdr */
 #endif
-#include <gerfmuod.h>
+#include <gerfmuod/core.h>
 #include <omp-tools.h>
 #include <stdbool.h>
 #include <stdint.h>

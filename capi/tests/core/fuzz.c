@@ -46,62 +46,61 @@ static void fail(const char *what, const call *c) {
     exit(1);
 }
 
-static bool is_same(gerfmuod_answer x, gerfmuod_answer y) {
-    return x.refused == y.refused && x.told == y.told && x.number == y.number && x.sent == y.sent && x.received == y.received;
+static bool is_same(gerfmuod_step_result x, gerfmuod_step_result y) {
+    return x.refused == y.refused && x.event == y.event && x.number == y.number && x.sent == y.sent && x.received == y.received;
 }
 
-static bool is_same_pool(gerfmuod_pool x, gerfmuod_pool y) {
-    return x.steps == y.steps && x.room == y.room && x.under_way == y.under_way && x.quiet == y.quiet;
+static bool is_same_pool(gerfmuod_status x, gerfmuod_status y) {
+    return x.steps == y.steps && x.steps_left == y.steps_left && x.in_flight == y.in_flight && x.is_quiet == y.is_quiet;
 }
 
 /* Compares what the calls that read return. */
 static void compare(const model *as, const call *c) {
-    if (!is_same_pool(gerfmuod_whole(&core), model_whole(as))) fail("whole", c);
-    if (gerfmuod_length(&core) != as->steps || gerfmuod_room(&core) != model_room(as)) fail("length and room", c);
+    if (!is_same_pool(gerfmuod_core_status(&core), model_status(as))) fail("status", c);
     for (uint32_t node = 0; node <= as->nodes; node++) {
-        gerfmuod_counters got = gerfmuod_numbers(&core, node), want = model_numbers(as, node);
-        if (memcmp(&got, &want, sizeof got)) fail("numbers", c);
+        gerfmuod_counters got = gerfmuod_core_counters(&core, node), want = model_counters(as, node);
+        if (memcmp(&got, &want, sizeof got)) fail("counters", c);
     }
 }
 
-static gerfmuod_answer take(const call *c) {
-    if (c->is_by) return gerfmuod_step_by(&core, c->maker_kind, c->maker, c->kind, c->a, c->b, c->c, c->generation);
-    return gerfmuod_step(&core, c->kind, c->a, c->b, c->c, c->generation);
+static gerfmuod_step_result take(const call *c) {
+    if (c->is_by) return gerfmuod_core_step_by(&core, c->maker_kind, c->maker, c->kind, c->a, c->b, c->c, c->generation);
+    return gerfmuod_core_step(&core, c->kind, c->a, c->b, c->c, c->generation);
 }
 
-static gerfmuod_answer model_take(const call *c) {
+static gerfmuod_step_result model_take(const call *c) {
     if (c->is_by) return model_step_by(&m, c->maker_kind, c->maker, c->kind, c->a, c->b, c->c, c->generation);
     return model_step(&m, c->kind, c->a, c->b, c->c, c->generation);
 }
 
-static gerfmuod_answer check(const call *c) {
+static gerfmuod_step_result check(const call *c) {
     static model before;
     bool refuses = below(8) == 0;
     calls++;
     if (refuses) before = m, refuse_in = 1 + below(2);
-    gerfmuod_answer want = model_take(c), got = take(c);
+    gerfmuod_step_result want = model_take(c), got = take(c);
     refuse_in = 0;
     if (refuses && got.refused == GERFMUOD_REFUSED_NO_MEMORY) {
-        if (want.refused || got.told || got.number) fail("out of memory", c);
+        if (want.refused || got.event || got.number) fail("out of memory", c);
         compare(&before, c);
         counts[NO_MEMORY]++;
         got = take(c);
     }
     if (!is_same(got, want)) {
-        printf("refused %u told %u number %u sent %u received %u\n", got.refused, got.told, got.number, got.sent, got.received);
-        printf("refused %u told %u number %u sent %u received %u\n", want.refused, want.told, want.number, want.sent, want.received);
+        printf("refused %u event %u number %u sent %u received %u\n", got.refused, got.event, got.number, got.sent, got.received);
+        printf("refused %u event %u number %u sent %u received %u\n", want.refused, want.event, want.number, want.sent, want.received);
         fail("a step", c);
     }
     counts[got.refused ? REFUSED : TAKEN]++;
-    counts[QUIET] += got.told == GERFMUOD_TOLD_QUIET;
-    counts[ENDED] += got.told == GERFMUOD_TOLD_ENDED;
+    counts[QUIET] += got.event == GERFMUOD_EVENT_QUIET;
+    counts[ENDED] += got.event == GERFMUOD_EVENT_ENDED;
     if (refuses || below(16) == 0) compare(&m, c);
     if (forgets && m.in_flight && below(200) == 0) m.in_flight--;
     if (is_early && m.tasks && below(200) == 0) m.task[below(m.tasks)].life = DONE;
     return got;
 }
 
-static gerfmuod_answer step(uint32_t kind, uint32_t a, uint32_t b, uint32_t c, uint32_t generation) {
+static gerfmuod_step_result step(uint32_t kind, uint32_t a, uint32_t b, uint32_t c, uint32_t generation) {
     call it = {false, 0, 0, kind, a, b, c, generation};
     return check(&it);
 }
@@ -177,12 +176,12 @@ static void random_step(void) {
 }
 
 /* Compares the results of several steps with the model, which takes them one by one. Returns how many were taken. */
-static uint32_t check_results(const gerfmuod_event *events, uint32_t most, const gerfmuod_answer *answers, bool refuses) {
+static uint32_t check_results(const gerfmuod_step *events, uint32_t most, const gerfmuod_step_result *answers, bool refuses) {
     static model before;
     for (uint32_t k = 0; k < most; k++) {
-        const gerfmuod_event *e = &events[k];
+        const gerfmuod_step *e = &events[k];
         before = m;
-        gerfmuod_answer want = model_step(&m, e->kind, e->first, e->second, e->third, e->generation);
+        gerfmuod_step_result want = model_step(&m, e->kind, e->first, e->second, e->third, e->generation);
         if (refuses && !want.refused && answers[k].refused == GERFMUOD_REFUSED_NO_MEMORY) {
             m = before;
             counts[NO_MEMORY]++;
@@ -190,8 +189,8 @@ static uint32_t check_results(const gerfmuod_event *events, uint32_t most, const
         }
         if (!is_same(answers[k], want)) fail("the result of one of several steps", NULL);
         counts[want.refused ? REFUSED : TAKEN]++;
-        counts[QUIET] += want.told == GERFMUOD_TOLD_QUIET;
-        counts[ENDED] += want.told == GERFMUOD_TOLD_ENDED;
+        counts[QUIET] += want.event == GERFMUOD_EVENT_QUIET;
+        counts[ENDED] += want.event == GERFMUOD_EVENT_ENDED;
         if (want.refused) return k;
     }
     return most;
@@ -199,19 +198,19 @@ static uint32_t check_results(const gerfmuod_event *events, uint32_t most, const
 
 /* Several steps in one call; the places for their results may be more or fewer. */
 static void random_steps(void) {
-    gerfmuod_event events[SEVERAL];
-    gerfmuod_answer answers[SEVERAL], none;
+    gerfmuod_step events[SEVERAL];
+    gerfmuod_step_result answers[SEVERAL], none;
     uint32_t length = below(SEVERAL + 1), places = below(SEVERAL + 1), most = length < places ? length : places;
     bool refuses = below(8) == 0;
     for (uint32_t k = 0; k < length; k++) {
         call c = any_step();
-        events[k] = (gerfmuod_event){c.kind, c.a, c.b, c.c, c.generation};
+        events[k] = (gerfmuod_step){c.kind, c.a, c.b, c.c, c.generation};
     }
     memset(&none, 171, sizeof none);
     for (uint32_t k = 0; k < SEVERAL; k++) answers[k] = none;
     calls++;
     refuse_in = refuses ? 1 + below(3) : 0;
-    size_t taken = gerfmuod_steps(&core, length ? events : NULL, length, places ? answers : NULL, places);
+    size_t taken = gerfmuod_core_steps(&core, length ? events : NULL, length, places ? answers : NULL, places);
     refuse_in = 0;
     if (taken != check_results(events, most, answers, refuses)) fail("the number of steps that were taken", NULL);
     for (size_t k = taken + (taken < most); k < SEVERAL; k++)
@@ -234,19 +233,19 @@ static void finish(void) {
     while (m.in_flight) step(GERFMUOD_STEP_RECEIVE, m.message[0].to, m.message[0].number, 0, m.generation);
     for (uint32_t k = 0; k < m.tasks; k++) finish_task(k);
     while (m.actions) step(kinds[m.action[0].kind], m.action[0].node, m.action[0].number, 0, m.generation);
-    if (!m.has_ended && !gerfmuod_whole(&core).quiet) fail("not quiet at the end", NULL);
+    if (!m.has_ended && !gerfmuod_core_status(&core).is_quiet) fail("not quiet at the end", NULL);
 }
 
 static void settle(void) {
     bool refuses = below(4) == 0;
     calls++;
     if (refuses) refuse_in = 1;
-    gerfmuod_settled got = gerfmuod_settle(&core);
+    gerfmuod_settled got = gerfmuod_core_settle(&core);
     refuse_in = 0;
     if (refuses && got.refused == GERFMUOD_REFUSED_NO_MEMORY) {
         compare(&m, NULL);
         counts[NO_MEMORY]++;
-        got = gerfmuod_settle(&core);
+        got = gerfmuod_core_settle(&core);
     }
     gerfmuod_settled want = model_settle(&m);
     if (memcmp(&got, &want, sizeof got)) fail("settle", NULL);
@@ -261,7 +260,7 @@ static void waves(void) {
 
 static void restart(void) {
     calls++;
-    if (gerfmuod_restart(&core) != model_restart(&m)) fail("restart", NULL);
+    if (gerfmuod_core_restart(&core) != model_restart(&m)) fail("restart", NULL);
     counts[RESTARTED] += m.steps == 0;
     compare(&m, NULL);
 }
@@ -274,12 +273,12 @@ static void reserve(void) {
     bool refuses = below(4) == 0;
     calls++;
     if (refuses) refuse_in = 1 + below(4);
-    uint32_t got = gerfmuod_reserve(&core, steps, tasks, messages);
+    uint32_t got = gerfmuod_core_reserve(&core, steps, tasks, messages);
     refuse_in = 0;
     if (refuses && got == GERFMUOD_REFUSED_NO_MEMORY) {
         compare(&m, NULL);
         counts[NO_MEMORY]++;
-        got = gerfmuod_reserve(&core, steps, tasks, messages);
+        got = gerfmuod_core_reserve(&core, steps, tasks, messages);
     }
     if (got != model_reserve(&m)) fail("reserve", NULL);
     counts[RESERVED] += got == 0;
@@ -339,10 +338,10 @@ static size_t damaged(char *text, size_t length) {
 }
 
 static void audit_trace(void) {
-    gerfmuod_written size = gerfmuod_trace(&core, NULL, 0);
+    gerfmuod_written size = gerfmuod_core_trace(&core, NULL, 0);
     if (size.outcome == GERFMUOD_NO_TEXT && is_far) return;
     char *text = malloc(size.length + 256), *copy = malloc(size.length + 256);
-    if (!text || !copy || gerfmuod_trace(&core, text, size.length).outcome) fail("trace", NULL);
+    if (!text || !copy || gerfmuod_core_trace(&core, text, size.length).outcome) fail("trace", NULL);
     audit(text, size.length);
     for (uint32_t k = 0; k < 8 && size.length; k++) {
         size_t length = size.length;
@@ -383,8 +382,8 @@ static void closed(void) {
     restart();
     reserve();
     compare(&m, NULL);
-    if (gerfmuod_trace(&core, room, sizeof room).outcome != GERFMUOD_NO_TEXT) fail("trace of a closed core", NULL);
-    if (gerfmuod_close(&core) != GERFMUOD_REFUSED_NO_POOL) fail("close of a closed core", NULL);
+    if (gerfmuod_core_trace(&core, room, sizeof room).outcome != GERFMUOD_NO_TEXT) fail("trace of a closed core", NULL);
+    if (gerfmuod_core_close(&core) != GERFMUOD_REFUSED_NO_POOL) fail("close of a closed core", NULL);
 }
 
 int main(int argc, char **argv) {
@@ -394,10 +393,10 @@ int main(int argc, char **argv) {
     for (; calls < most; cores++) {
         uint32_t nodes = below(20) ? 1 + below(8) : below(2) ? 0 : 9 + below(3);
         is_far = below(2);
-        if (gerfmuod_open(&core, nodes) != model_open(&m, nodes)) fail("open", NULL);
+        if (gerfmuod_core_open(&core, nodes) != model_open(&m, nodes)) fail("open", NULL);
         while (m.is_open && generation()) continue;
         if (m.is_open && below(4) == 0) audit_trace();
-        if (gerfmuod_close(&core) != model_close(&m)) fail("close", NULL);
+        if (gerfmuod_core_close(&core) != model_close(&m)) fail("close", NULL);
         if (below(4) == 0) closed();
         if (below(16) == 0) memset(&core, (int)below(256), sizeof core), closed();
     }

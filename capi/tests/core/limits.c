@@ -3,30 +3,30 @@
  * here its memory is read-only. The others write to its first bytes alone. */
 #define _DEFAULT_SOURCE
 #include "../cases.h"
-#include "gerfmuod.h"
+#include <gerfmuod/core.h>
 #include <sys/mman.h>
 
 /* Takes steps until there is room for one more. */
 static void fill(gerfmuod_core *core) {
-    if (gerfmuod_room(core) % 2 == 0) { /* three steps */
-        assert_int_equal(gerfmuod_insert(core, 0, 1, 0).refused, 0);
-        assert_int_equal(gerfmuod_begin(core, 1).refused, 0);
-        assert_int_equal(gerfmuod_done(core, 1).told, GERFMUOD_TOLD_PLAIN);
+    if (gerfmuod_core_status(core).steps_left % 2 == 0) { /* three steps */
+        assert_int_equal(gerfmuod_core_insert(core, 0, 1, 0).refused, 0);
+        assert_int_equal(gerfmuod_core_begin(core, 1).refused, 0);
+        assert_int_equal(gerfmuod_core_done(core, 1).event, GERFMUOD_EVENT_NONE);
     }
-    for (uint32_t left = gerfmuod_room(core); left > 1; left -= 2) {
-        assert_int_equal(gerfmuod_room(core), left);
-        assert_int_equal(gerfmuod_action_open(core, 0, 2).refused, 0);
-        assert_int_equal(gerfmuod_action_close(core, 0, 2).told, GERFMUOD_TOLD_PLAIN);
+    for (uint32_t left = gerfmuod_core_status(core).steps_left; left > 1; left -= 2) {
+        assert_int_equal(gerfmuod_core_status(core).steps_left, left);
+        assert_int_equal(gerfmuod_core_action_open(core, 0, 2).refused, 0);
+        assert_int_equal(gerfmuod_core_action_close(core, 0, 2).event, GERFMUOD_EVENT_NONE);
     }
 }
 
 /* Writes the trace of a core that was settled after a number of steps, and judges it. */
 static void traced(const gerfmuod_core *core, uint32_t steps) {
     char audit[256], wanted[32];
-    gerfmuod_written asked = gerfmuod_trace(core, NULL, 0);
+    gerfmuod_written asked = gerfmuod_core_trace(core, NULL, 0);
     assert_true(asked.outcome == GERFMUOD_NO_ROOM && asked.length <= 16 + 24 * (size_t)steps);
     char *trace = malloc(asked.length);
-    assert_true(trace && gerfmuod_trace(core, trace, asked.length).outcome == GERFMUOD_WRITTEN);
+    assert_true(trace && gerfmuod_core_trace(core, trace, asked.length).outcome == GERFMUOD_WRITTEN);
     gerfmuod_written judged = gerfmuod_audit(trace, asked.length, audit, sizeof audit);
     int length = snprintf(wanted, sizeof wanted, "steps %u\n", steps);
     assert_true(judged.outcome == GERFMUOD_WRITTEN && length > 0 && !memcmp(audit, wanted, (size_t)length));
@@ -34,44 +34,45 @@ static void traced(const gerfmuod_core *core, uint32_t steps) {
     free(trace);
 }
 
-/* Fills a core, if `has_wave` while a wave is under way, and settles it. */
+/* Fills a core, if `has_wave` while a wave is open, and settles it. */
 static void full(uint32_t nodes, bool has_wave) {
     const uint32_t limit = GERFMUOD_MAX_STEPS - GERFMUOD_SETTLE_STEPS * nodes;
     gerfmuod_core core;
-    assert_true(gerfmuod_open(&core, nodes) == 0 && gerfmuod_room(&core) == limit);
-    assert_int_equal(gerfmuod_reserve(&core, UINT32_MAX, UINT32_MAX, UINT32_MAX), 0);
-    for (uint32_t node = 1; node < nodes; node++) assert_int_equal(gerfmuod_ready(&core, node).refused, 0);
-    if (has_wave) assert_int_equal(gerfmuod_start(&core).refused, 0);
+    assert_true(gerfmuod_core_open(&core, nodes) == 0 && gerfmuod_core_status(&core).steps_left == limit);
+    assert_int_equal(gerfmuod_core_reserve(&core, UINT32_MAX, UINT32_MAX, UINT32_MAX), 0);
+    for (uint32_t node = 1; node < nodes; node++) assert_int_equal(gerfmuod_core_ready(&core, node).refused, 0);
+    if (has_wave) assert_int_equal(gerfmuod_core_start(&core).refused, 0);
     fill(&core);
-    assert_true(gerfmuod_length(&core) == limit - 1 && gerfmuod_ready(&core, 0).told == GERFMUOD_TOLD_QUIET);
-    gerfmuod_answer more = gerfmuod_ready(&core, 9); /* before the checks of the kind */
-    assert_true(more.refused == GERFMUOD_REFUSED_HISTORY_FULL && more.number == limit && gerfmuod_room(&core) == 0);
-    assert_int_equal(gerfmuod_insert(&core, 0, 1, 17).refused, GERFMUOD_REFUSED_BAD_SPEC);
-    assert_true(gerfmuod_reserve(&core, UINT32_MAX, 0, 0) == 0 && gerfmuod_length(&core) == limit);
-    gerfmuod_settled settled = gerfmuod_settle(&core);
+    assert_true(gerfmuod_core_status(&core).steps == limit - 1 && gerfmuod_core_ready(&core, 0).event == GERFMUOD_EVENT_QUIET);
+    gerfmuod_step_result more = gerfmuod_core_ready(&core, 9); /* before the checks of the kind */
+    assert_true(more.refused == GERFMUOD_REFUSED_HISTORY_FULL && more.number == limit && gerfmuod_core_status(&core).steps_left == 0);
+    assert_int_equal(gerfmuod_core_insert(&core, 0, 1, 17).refused, GERFMUOD_REFUSED_BAD_SPEC);
+    assert_true(gerfmuod_core_reserve(&core, UINT32_MAX, 0, 0) == 0 && gerfmuod_core_status(&core).steps == limit);
+    gerfmuod_settled settled = gerfmuod_core_settle(&core);
     assert_true(settled.refused == 0 && settled.steps > 0 && settled.steps <= GERFMUOD_SETTLE_STEPS * nodes);
-    assert_true(gerfmuod_settle(&core).refused == GERFMUOD_REFUSED_ENDED && gerfmuod_length(&core) == limit + settled.steps);
+    assert_int_equal(gerfmuod_core_settle(&core).refused, GERFMUOD_REFUSED_ENDED);
+    assert_int_equal(gerfmuod_core_status(&core).steps, limit + settled.steps);
     traced(&core, limit + settled.steps);
-    assert_true(gerfmuod_reopen(&core).refused == GERFMUOD_REFUSED_HISTORY_FULL && gerfmuod_restart(&core) == 0);
-    assert_true(gerfmuod_length(&core) == 0 && gerfmuod_room(&core) == limit);
-    gerfmuod_close(&core);
+    assert_true(gerfmuod_core_reopen(&core).refused == GERFMUOD_REFUSED_HISTORY_FULL && gerfmuod_core_restart(&core) == 0);
+    assert_true(gerfmuod_core_status(&core).steps == 0 && gerfmuod_core_status(&core).steps_left == limit);
+    gerfmuod_core_close(&core);
 }
 
 CASE(calls_that_only_read) {
     size_t size = 65536;
     gerfmuod_core *core = mmap(NULL, size, PROT_READ | PROT_WRITE, MAP_PRIVATE | MAP_ANONYMOUS, -1, 0);
     static char room[256];
-    assert_true(core != MAP_FAILED && gerfmuod_open(core, 3) == 0);
-    for (uint32_t task = 0; task < 5; task++) assert_int_equal(gerfmuod_insert(core, task % 3, task, 0).refused, 0);
+    assert_true(core != MAP_FAILED && gerfmuod_core_open(core, 3) == 0);
+    for (uint32_t task = 0; task < 5; task++) assert_int_equal(gerfmuod_core_insert(core, task % 3, task, 0).refused, 0);
     assert_int_equal(mprotect(core, size, PROT_READ), 0);
-    assert_true(gerfmuod_length(core) == 5 && gerfmuod_room(core) > 0 && !gerfmuod_whole(core).quiet);
-    assert_true(gerfmuod_numbers(core, 0).pending == 3 && gerfmuod_numbers(core, 3).refused == GERFMUOD_REFUSED_NO_NODE);
-    assert_int_equal(gerfmuod_trace(core, room, sizeof room).outcome, GERFMUOD_WRITTEN);
+    assert_true(gerfmuod_core_status(core).steps == 5 && gerfmuod_core_status(core).steps_left > 0 && !gerfmuod_core_status(core).is_quiet);
+    assert_true(gerfmuod_core_counters(core, 0).pending == 3 && gerfmuod_core_counters(core, 3).refused == GERFMUOD_REFUSED_NO_NODE);
+    assert_int_equal(gerfmuod_core_trace(core, room, sizeof room).outcome, GERFMUOD_WRITTEN);
     assert_int_equal(mprotect(core, size, PROT_READ | PROT_WRITE), 0);
-    gerfmuod_close(core);
+    gerfmuod_core_close(core);
     assert_int_equal(mprotect(core, size, PROT_READ), 0); /* and if it is closed */
-    assert_true(gerfmuod_length(core) == 0 && gerfmuod_numbers(core, 0).refused == GERFMUOD_REFUSED_NO_POOL);
-    assert_int_equal(gerfmuod_trace(core, room, sizeof room).outcome, GERFMUOD_NO_TEXT);
+    assert_true(gerfmuod_core_status(core).steps == 0 && gerfmuod_core_counters(core, 0).refused == GERFMUOD_REFUSED_NO_POOL);
+    assert_int_equal(gerfmuod_core_trace(core, room, sizeof room).outcome, GERFMUOD_NO_TEXT);
     munmap(core, size);
 }
 
@@ -81,11 +82,11 @@ CASE(bytes_that_are_used) {
     const unsigned char *bytes = (const unsigned char *)&core;
     size_t last = sizeof core;
     memset(&core, 0xa5, sizeof core);
-    assert_true(gerfmuod_open(&core, 8) == 0 && gerfmuod_insert(&core, 7, 1, 0).refused == 0);
-    assert_true(gerfmuod_send(&core, 0, 7, 1, 1).refused == 0 && gerfmuod_action_open(&core, 7, 1).refused == 0);
+    assert_true(gerfmuod_core_open(&core, 8) == 0 && gerfmuod_core_insert(&core, 7, 1, 0).refused == 0);
+    assert_true(gerfmuod_core_send(&core, 0, 7, 1, 1).refused == 0 && gerfmuod_core_action_open(&core, 7, 1).refused == 0);
     while (last > 0 && bytes[last - 1] == 0xa5) last--;
     assert_int_equal(last, gerfmuod_core_size());
-    gerfmuod_close(&core);
+    gerfmuod_core_close(&core);
 }
 
 CASE(full_at_one_node) { full(1, false); }

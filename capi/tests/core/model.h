@@ -1,8 +1,8 @@
 /* model.h: a model of a core in plain C, which scans lists of tasks, actions and messages in each call. It shares no code
- * with the library, and is written from gerfmuod.h. fuzz.c compares the two. */
+ * with the library, and is written from gerfmuod/core.h. fuzz.c compares the two. */
 #ifndef MODEL_H
 #define MODEL_H
-#include "gerfmuod.h"
+#include <gerfmuod/core.h>
 #include <string.h>
 
 enum { MODEL_MOST = 256 }; /* tasks, messages and open actions of a generation */
@@ -32,13 +32,13 @@ typedef struct {
     bool is_judged, has_ended;
 } model;
 
-static gerfmuod_answer model_refused(uint32_t why) {
-    gerfmuod_answer answer = {(uint16_t)why, 0, 0, 0, 0};
+static gerfmuod_step_result model_refused(uint32_t why) {
+    gerfmuod_step_result answer = {(uint16_t)why, 0, 0, 0, 0};
     return answer;
 }
 
-static gerfmuod_answer model_told(uint32_t told, uint32_t number) {
-    gerfmuod_answer answer = {0, (uint16_t)told, number, 0, 0};
+static gerfmuod_step_result result_of(uint32_t event, uint32_t number) {
+    gerfmuod_step_result answer = {0, (uint16_t)event, number, 0, 0};
     return answer;
 }
 
@@ -100,11 +100,11 @@ static bool model_is_quiet(const model *m) {
 }
 
 /* After a step that ends something. */
-static gerfmuod_answer model_after_end(const model *m) {
-    return model_told(model_is_quiet(m) ? GERFMUOD_TOLD_QUIET : GERFMUOD_TOLD_PLAIN, 0);
+static gerfmuod_step_result model_after_end(const model *m) {
+    return result_of(model_is_quiet(m) ? GERFMUOD_EVENT_QUIET : GERFMUOD_EVENT_NONE, 0);
 }
 
-static gerfmuod_answer model_insert(model *m, uint32_t node, uint32_t task, uint32_t inputs) {
+static gerfmuod_step_result model_insert(model *m, uint32_t node, uint32_t task, uint32_t inputs) {
     if (node >= m->nodes) return model_refused(GERFMUOD_REFUSED_NO_NODE);
     if (model_task(m, task) >= 0) return model_refused(GERFMUOD_REFUSED_TASK_KNOWN);
     if (model_pending(m, node) == 0) return model_refused(GERFMUOD_REFUSED_INACTIVE);
@@ -112,18 +112,18 @@ static gerfmuod_answer model_insert(model *m, uint32_t node, uint32_t task, uint
     m->task[m->tasks].home = node;
     m->task[m->tasks].missing = inputs;
     m->task[m->tasks++].life = inputs ? WAITING : READY;
-    return model_told(0, 0);
+    return result_of(0, 0);
 }
 
 /* A supply, a begin or a done. */
-static gerfmuod_answer model_task_step(model *m, uint32_t kind, uint32_t number) {
+static gerfmuod_step_result model_task_step(model *m, uint32_t kind, uint32_t number) {
     int k = model_task(m, number);
     enum life needed = kind == GERFMUOD_STEP_SUPPLY ? WAITING : kind == GERFMUOD_STEP_BEGIN ? READY : RUNNING;
     if (k < 0) return model_refused(GERFMUOD_REFUSED_NO_TASK);
     if (m->task[k].life != needed) return model_refused(GERFMUOD_REFUSED_WRONG_LIFE);
     if (needed != WAITING) m->task[k].life = needed == READY ? RUNNING : DONE;
     else if (--m->task[k].missing == 0) m->task[k].life = READY;
-    return needed == RUNNING ? model_after_end(m) : model_told(0, 0);
+    return needed == RUNNING ? model_after_end(m) : result_of(0, 0);
 }
 
 static void model_add_action(model *m, uint32_t node, enum action_kind kind, uint32_t number) {
@@ -132,22 +132,22 @@ static void model_add_action(model *m, uint32_t node, enum action_kind kind, uin
     m->action[m->actions++].number = number;
 }
 
-static gerfmuod_answer model_action_open(model *m, uint32_t node, uint32_t action) {
+static gerfmuod_step_result model_action_open(model *m, uint32_t node, uint32_t action) {
     if (node >= m->nodes) return model_refused(GERFMUOD_REFUSED_NO_NODE);
     if (model_action(m, node, NAMED, action) >= 0) return model_refused(GERFMUOD_REFUSED_ACTION_KNOWN);
     if (model_pending(m, node) == 0) return model_refused(GERFMUOD_REFUSED_INACTIVE);
     model_add_action(m, node, NAMED, action);
-    return model_told(0, 0);
+    return result_of(0, 0);
 }
 
-static gerfmuod_answer model_close_action(model *m, uint32_t node, enum action_kind kind, uint32_t number) {
+static gerfmuod_step_result model_close_action(model *m, uint32_t node, enum action_kind kind, uint32_t number) {
     int k = model_action(m, node, kind, number);
     if (k < 0) return model_refused(GERFMUOD_REFUSED_NO_ACTION);
     m->action[k] = m->action[--m->actions];
     return model_after_end(m);
 }
 
-static gerfmuod_answer model_send(model *m, uint32_t from, uint32_t to, uint32_t message, uint32_t generation) {
+static gerfmuod_step_result model_send(model *m, uint32_t from, uint32_t to, uint32_t message, uint32_t generation) {
     if (from >= m->nodes || to >= m->nodes) return model_refused(GERFMUOD_REFUSED_NO_NODE);
     if (generation != m->generation) return model_refused(GERFMUOD_REFUSED_STRANGER);
     if (from == to) return model_refused(GERFMUOD_REFUSED_SAME_NODE);
@@ -157,10 +157,10 @@ static gerfmuod_answer model_send(model *m, uint32_t from, uint32_t to, uint32_t
     m->message[m->in_flight].number = message;
     m->message[m->in_flight++].to = to;
     m->sent[from]++;
-    return model_told(0, 0);
+    return result_of(0, 0);
 }
 
-static gerfmuod_answer model_receive(model *m, uint32_t node, uint32_t message, uint32_t generation) {
+static gerfmuod_step_result model_receive(model *m, uint32_t node, uint32_t message, uint32_t generation) {
     if (node >= m->nodes) return model_refused(GERFMUOD_REFUSED_NO_NODE);
     if (generation != m->generation) return model_refused(GERFMUOD_REFUSED_STRANGER);
     int k = model_message(m, node, message);
@@ -168,10 +168,10 @@ static gerfmuod_answer model_receive(model *m, uint32_t node, uint32_t message, 
     m->message[k] = m->message[--m->in_flight];
     m->received[node]++;
     model_add_action(m, node, OF_MESSAGE, message);
-    return model_told(0, 0);
+    return result_of(0, 0);
 }
 
-static gerfmuod_answer model_message_end(model *m, uint32_t node, uint32_t message, uint32_t generation) {
+static gerfmuod_step_result model_message_end(model *m, uint32_t node, uint32_t message, uint32_t generation) {
     if (node >= m->nodes) return model_refused(GERFMUOD_REFUSED_NO_NODE);
     if (generation != m->generation) return model_refused(GERFMUOD_REFUSED_STRANGER);
     return model_close_action(m, node, OF_MESSAGE, message);
@@ -179,7 +179,7 @@ static gerfmuod_answer model_message_end(model *m, uint32_t node, uint32_t messa
 
 /* ---- the steps of waves */
 
-static gerfmuod_answer model_start(model *m) {
+static gerfmuod_step_result model_start(model *m) {
     if (m->has_ended) return model_refused(GERFMUOD_REFUSED_ENDED);
     if (m->waves && !m->is_judged) return model_refused(GERFMUOD_REFUSED_WAVE_OPEN);
     m->earlier_sent = m->wave_sent;
@@ -191,16 +191,16 @@ static gerfmuod_answer model_start(model *m) {
     m->has_token[0] = true;
     m->is_judged = false;
     m->waves++;
-    return model_told(0, 0);
+    return result_of(0, 0);
 }
 
-static gerfmuod_answer model_down(model *m, uint32_t node) {
+static gerfmuod_step_result model_down(model *m, uint32_t node) {
     if (node == 0 || m->has_token[node] || !m->has_token[(node - 1) / 2]) return model_refused(GERFMUOD_REFUSED_NO_TOKEN);
     m->has_token[node] = true;
-    return model_told(0, 0);
+    return result_of(0, 0);
 }
 
-static gerfmuod_answer model_give(model *m, uint32_t node) {
+static gerfmuod_step_result model_give(model *m, uint32_t node) {
     bool is_next = m->has_token[node] && !m->gave[node];
     for (uint32_t child = 2 * node + 1; child <= 2 * node + 2; child++)
         if (child < m->nodes && !m->was_taken[child]) is_next = false;
@@ -209,28 +209,28 @@ static gerfmuod_answer model_give(model *m, uint32_t node) {
     m->gave[node] = true;
     m->wave_sent += m->sent[node];
     m->wave_received += m->received[node];
-    gerfmuod_answer answer = model_told(node ? GERFMUOD_TOLD_PLAIN : GERFMUOD_TOLD_WAVE, node ? 0 : m->waves);
+    gerfmuod_step_result answer = result_of(node ? GERFMUOD_EVENT_NONE : GERFMUOD_EVENT_WAVE_ENDED, node ? 0 : m->waves);
     answer.sent = node ? 0 : m->wave_sent;
     answer.received = node ? 0 : m->wave_received;
     return answer;
 }
 
-static gerfmuod_answer model_up(model *m, uint32_t node) {
+static gerfmuod_step_result model_up(model *m, uint32_t node) {
     if (node == 0 || !m->gave[node] || m->was_taken[node]) return model_refused(GERFMUOD_REFUSED_NO_TOKEN);
     m->was_taken[node] = true;
-    return model_told(0, 0);
+    return result_of(0, 0);
 }
 
-static gerfmuod_answer model_judge(model *m) {
+static gerfmuod_step_result model_judge(model *m) {
     if (m->has_ended) return model_refused(GERFMUOD_REFUSED_ENDED);
     if (!m->gave[0] || m->is_judged) return model_refused(GERFMUOD_REFUSED_WAVE_NOT_ENDED);
     m->is_judged = true;
     m->has_ended = m->waves >= 2 && m->earlier_sent == m->earlier_received && m->wave_sent == m->wave_received &&
                    m->earlier_received == m->wave_sent;
-    return m->has_ended ? model_told(GERFMUOD_TOLD_ENDED, m->waves - 1) : model_told(GERFMUOD_TOLD_NOT, 0);
+    return m->has_ended ? result_of(GERFMUOD_EVENT_ENDED, m->waves - 1) : result_of(GERFMUOD_EVENT_NOT_ENDED, 0);
 }
 
-static gerfmuod_answer model_wave_step(model *m, uint32_t kind, uint32_t node) {
+static gerfmuod_step_result model_wave_step(model *m, uint32_t kind, uint32_t node) {
     if (kind == GERFMUOD_STEP_START) return model_start(m);
     if (kind == GERFMUOD_STEP_JUDGE) return model_judge(m);
     if (node >= m->nodes) return model_refused(GERFMUOD_REFUSED_NO_NODE);
@@ -239,15 +239,15 @@ static gerfmuod_answer model_wave_step(model *m, uint32_t kind, uint32_t node) {
     return kind == GERFMUOD_STEP_GIVE ? model_give(m, node) : model_up(m, node);
 }
 
-static gerfmuod_answer model_reopen(model *m) {
+static gerfmuod_step_result model_reopen(model *m) {
     if (!m->has_ended) return model_refused(GERFMUOD_REFUSED_WRONG_LIFE);
     model_begin_generation(m);
-    return model_told(GERFMUOD_TOLD_REOPENED, m->generation);
+    return result_of(GERFMUOD_EVENT_REOPENED, m->generation);
 }
 
 /* ---- the calls */
 
-static gerfmuod_answer model_kind(model *m, uint32_t kind, uint32_t a, uint32_t b, uint32_t c, uint32_t generation) {
+static gerfmuod_step_result model_kind(model *m, uint32_t kind, uint32_t a, uint32_t b, uint32_t c, uint32_t generation) {
     switch (kind) {
     case GERFMUOD_STEP_INSERT: return model_insert(m, a, b, c);
     case GERFMUOD_STEP_SUPPLY:
@@ -266,21 +266,21 @@ static gerfmuod_answer model_kind(model *m, uint32_t kind, uint32_t a, uint32_t 
     }
 }
 
-static uint32_t model_room(const model *m) {
+static uint32_t model_steps_left(const model *m) {
     uint32_t used = m->steps + GERFMUOD_SETTLE_STEPS * m->nodes;
     return m->is_open && used < GERFMUOD_MAX_STEPS ? GERFMUOD_MAX_STEPS - used : 0;
 }
 
-static gerfmuod_answer model_step(model *m, uint32_t kind, uint32_t a, uint32_t b, uint32_t c, uint32_t generation) {
+static gerfmuod_step_result model_step(model *m, uint32_t kind, uint32_t a, uint32_t b, uint32_t c, uint32_t generation) {
     if (!m->is_open) return model_refused(GERFMUOD_REFUSED_NO_POOL);
     if (kind > GERFMUOD_STEP_REOPEN) return model_refused(GERFMUOD_REFUSED_BAD_SPEC);
     if (kind == GERFMUOD_STEP_INSERT && c > GERFMUOD_MAX_INPUTS) return model_refused(GERFMUOD_REFUSED_BAD_SPEC);
-    if (model_room(m) == 0) {
-        gerfmuod_answer full = model_refused(GERFMUOD_REFUSED_HISTORY_FULL);
+    if (model_steps_left(m) == 0) {
+        gerfmuod_step_result full = model_refused(GERFMUOD_REFUSED_HISTORY_FULL);
         full.number = m->steps;
         return full;
     }
-    gerfmuod_answer answer = model_kind(m, kind, a, b, c, generation);
+    gerfmuod_step_result answer = model_kind(m, kind, a, b, c, generation);
     m->steps += answer.refused == 0;
     return answer;
 }
@@ -297,8 +297,8 @@ static bool model_is_maker(const model *m, uint32_t maker_kind, uint32_t maker, 
     }
 }
 
-static gerfmuod_answer model_step_by(model *m, uint32_t maker_kind, uint32_t maker, uint32_t kind, uint32_t a, uint32_t b,
-                                     uint32_t c, uint32_t generation) {
+static gerfmuod_step_result model_step_by(model *m, uint32_t maker_kind, uint32_t maker, uint32_t kind, uint32_t a, uint32_t b,
+                                          uint32_t c, uint32_t generation) {
     if (!m->is_open) return model_refused(GERFMUOD_REFUSED_NO_POOL);
     bool is_of_task = kind == GERFMUOD_STEP_SUPPLY || kind == GERFMUOD_STEP_BEGIN || kind == GERFMUOD_STEP_DONE;
     bool is_of_node = kind == GERFMUOD_STEP_INSERT || kind == GERFMUOD_STEP_ACTION_OPEN || kind == GERFMUOD_STEP_SEND;
@@ -332,7 +332,7 @@ static gerfmuod_settled model_settle(model *m) {
     return settled;
 }
 
-static gerfmuod_counters model_numbers(const model *m, uint32_t node) {
+static gerfmuod_counters model_counters(const model *m, uint32_t node) {
     gerfmuod_counters counters = {0, 0, 0, 0};
     if (!m->is_open) counters.refused = GERFMUOD_REFUSED_NO_POOL;
     else if (node >= m->nodes) counters.refused = GERFMUOD_REFUSED_NO_NODE;
@@ -340,8 +340,8 @@ static gerfmuod_counters model_numbers(const model *m, uint32_t node) {
     return counters;
 }
 
-static gerfmuod_pool model_whole(const model *m) {
-    gerfmuod_pool pool = {m->steps, model_room(m), m->in_flight, model_is_quiet(m)};
+static gerfmuod_status model_status(const model *m) {
+    gerfmuod_status pool = {m->steps, model_steps_left(m), m->in_flight, model_is_quiet(m)};
     return pool;
 }
 

@@ -2,7 +2,7 @@
  * grows, is made once with all memory. Then it is made again and again: with the first allocation failing, then with the
  * second, until there are no more; and the same with all further allocations of that call. The call that is out of memory has
  * to say so and to change nothing; repeated, it and all later calls have to reply as in the first run. No call may be out of
- * memory if no allocation failed in it, and gerfmuod_open may not allocate. One list reserves memory first: its steps, and the
+ * memory if no allocation failed in it, and gerfmuod_core_open may not allocate. One list reserves memory first: its steps, and the
  * settling, may not allocate.
  *
  *   out_of_memory [takes|changes|lies|forgets]   takes: opening allocates; changes: a call that is out of memory takes a step;
@@ -11,7 +11,7 @@
  *
  * The exit status is 1 if a check fails. */
 #include "../wrap.h"
-#include "gerfmuod.h"
+#include <gerfmuod/core.h>
 #include <stdio.h>
 #include <stdlib.h>
 #include <string.h>
@@ -31,11 +31,11 @@ enum { SETTLE = 100, RESERVE, TRACE, AUDIT };
 /* A call, and what it replied and showed in the first run. */
 typedef struct {
     uint32_t kind, a, b, c, generation;
-    gerfmuod_answer answer;
+    gerfmuod_step_result answer;
     gerfmuod_settled settled;
     uint32_t reserved;
     gerfmuod_written written;
-    gerfmuod_pool pool;
+    gerfmuod_status pool;
     gerfmuod_counters numbers[NODES];
 } call;
 
@@ -118,29 +118,29 @@ static bool make(call *it) {
     const uint32_t before = allocations;
     has_failed = false;
     switch (it->kind) {
-    case SETTLE: it->settled = gerfmuod_settle(&core); break;
-    case RESERVE: it->reserved = fault[0] == 'f' ? 0 : gerfmuod_reserve(&core, it->a, it->b, it->c); break;
-    case TRACE: it->written = gerfmuod_trace(&core, trace, sizeof trace); break;
+    case SETTLE: it->settled = gerfmuod_core_settle(&core); break;
+    case RESERVE: it->reserved = fault[0] == 'f' ? 0 : gerfmuod_core_reserve(&core, it->a, it->b, it->c); break;
+    case TRACE: it->written = gerfmuod_core_trace(&core, trace, sizeof trace); break;
     case AUDIT: it->written = gerfmuod_audit(traces[it->a], calls[place - 1].written.length, audit, sizeof audit); break;
-    default: it->answer = gerfmuod_step(&core, it->kind, it->a, it->b, it->c, it->generation);
+    default: it->answer = gerfmuod_core_step(&core, it->kind, it->a, it->b, it->c, it->generation);
     }
     bool is_out = it->answer.refused == GERFMUOD_REFUSED_NO_MEMORY || it->settled.refused == GERFMUOD_REFUSED_NO_MEMORY ||
                   it->reserved == GERFMUOD_REFUSED_NO_MEMORY || it->written.outcome == GERFMUOD_OUT_OF_MEMORY;
     CHECK(!is_reserved || it->kind > SETTLE || allocations == before);
     is_reserved |= it->kind == RESERVE && it->reserved == 0;
     if (fault[0] == 'l' && place == 17) return true;
-    if (fault[0] == 'c' && is_out && it->kind < SETTLE) CHECK(gerfmuod_start(&core).refused == 0);
+    if (fault[0] == 'c' && is_out && it->kind < SETTLE) CHECK(gerfmuod_core_start(&core).refused == 0);
     return is_out;
 }
 
-static bool is_same_pool(gerfmuod_pool x, gerfmuod_pool y) {
-    return x.steps == y.steps && x.room == y.room && x.under_way == y.under_way && x.quiet == y.quiet;
+static bool is_same_pool(gerfmuod_status x, gerfmuod_status y) {
+    return x.steps == y.steps && x.steps_left == y.steps_left && x.in_flight == y.in_flight && x.is_quiet == y.is_quiet;
 }
 
 /* Keeps what the core shows after a call. */
 static void look(call *it) {
-    it->pool = gerfmuod_whole(&core);
-    for (uint32_t node = 0; node < NODES; node++) it->numbers[node] = gerfmuod_numbers(&core, node);
+    it->pool = gerfmuod_core_status(&core);
+    for (uint32_t node = 0; node < NODES; node++) it->numbers[node] = gerfmuod_core_counters(&core, node);
 }
 
 static bool is_as_after(const call *earlier) {
@@ -151,7 +151,7 @@ static bool is_as_after(const call *earlier) {
 
 /* Checks that a call that was out of memory left the core and its texts as they were after the call before it. */
 static void check_unchanged(const call *it) {
-    CHECK(has_failed && (place > 0 ? is_as_after(&calls[place - 1]) : gerfmuod_length(&core) == 0));
+    CHECK(has_failed && (place > 0 ? is_as_after(&calls[place - 1]) : gerfmuod_core_status(&core).steps == 0));
     if (it->kind == TRACE) CHECK(it->written.length == 0 && trace[0] == 0);
     if (it->kind == AUDIT) CHECK(it->written.length == 0 && audit[0] == 0);
 }
@@ -178,7 +178,7 @@ static void make_again(uint32_t *out) {
 
 static void open_core(void) {
     place = 0, allocations = 0, is_reserved = false;
-    CHECK(gerfmuod_open(&core, NODES) == 0);
+    CHECK(gerfmuod_core_open(&core, NODES) == 0);
     if (fault[0] == 't') free(__wrap_malloc(1));
     CHECK(allocations == 0);
 }
@@ -194,7 +194,7 @@ static void first_run(void) {
         if (it->kind == AUDIT) memcpy(audits[it->a], audit, sizeof audit);
         look(it);
     }
-    gerfmuod_close(&core);
+    gerfmuod_core_close(&core);
 }
 
 /* Makes all calls once for each allocation, which fails; prints how many calls were out of memory. */
@@ -208,7 +208,7 @@ static void refuse_each(const char *name) {
             open_core();
             for (failing = k; place < count; place++) make_again(&out);
             CHECK(allocations >= failing);
-            gerfmuod_close(&core);
+            gerfmuod_core_close(&core);
         }
     }
     printf("%s: %u calls, %u allocations, %u calls out of memory\n", name, count, most, out);
@@ -220,9 +220,9 @@ static void opening(void) {
     failing = 0;
     for (uint32_t nodes = 0; nodes <= GERFMUOD_MAX_NODES + 1; nodes++) {
         allocations = 0;
-        CHECK(gerfmuod_open(&core, nodes) == (nodes >= 1 && nodes <= GERFMUOD_MAX_NODES ? 0u : GERFMUOD_REFUSED_BAD_SPEC));
-        CHECK(gerfmuod_numbers(&core, 0).pending == (nodes >= 1 && nodes <= GERFMUOD_MAX_NODES));
-        gerfmuod_close(&core);
+        CHECK(gerfmuod_core_open(&core, nodes) == (nodes >= 1 && nodes <= GERFMUOD_MAX_NODES ? 0u : GERFMUOD_REFUSED_BAD_SPEC));
+        CHECK(gerfmuod_core_counters(&core, 0).pending == (nodes >= 1 && nodes <= GERFMUOD_MAX_NODES));
+        gerfmuod_core_close(&core);
         CHECK(allocations == 0);
     }
 }

@@ -94,7 +94,7 @@ static uint32_t trace_syntax(const char *text, size_t length) {
 static bool trace_step(trace_reader *r, const trace_line *line, char *text, size_t room) {
     uint32_t generation = line->number[line->kind == GERFMUOD_STEP_SEND ? 3 : 2];
     const uint32_t *n = line->number;
-    gerfmuod_answer answer = model_step(&r->world, line->kind, n[0], n[1], n[2], r->version == 2 ? generation : 1);
+    gerfmuod_step_result answer = model_step(&r->world, line->kind, n[0], n[1], n[2], r->version == 2 ? generation : 1);
     const char *name = gerfmuod_refusal_text(answer.refused);
     r->steps++;
     r->inserted += line->kind == GERFMUOD_STEP_INSERT;

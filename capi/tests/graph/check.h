@@ -2,7 +2,7 @@
 #ifndef CHECK_H
 #define CHECK_H
 #include "../cases.h"
-#include "gerfmuod_team.h"
+#include <gerfmuod/team.h>
 #include <time.h>
 
 #define check(what, holds) check_that(holds, "%s", what)
@@ -10,10 +10,10 @@
 /* Compares a refusal with the expected one. */
 #define check_refusal(what, got, wanted) compare_refusals(__FILE__, __LINE__, what, got, wanted)
 static inline void compare_refusals(const char *file, int line, const char *what, uint32_t got, uint32_t wanted) {
-    const char *name = gerfmuod_team_name(got), *wanted_name = gerfmuod_team_name(wanted);
-    check_text(file, line, got == wanted, "%s: %u (%s), expected %u (%s)", what, got, name, wanted, wanted_name);
+    const char *text = gerfmuod_refusal_text(got), *wanted_text = gerfmuod_refusal_text(wanted);
+    check_text(file, line, got == wanted, "%s: %u (%s), expected %u (%s)", what, got, text, wanted, wanted_text);
 }
-#define check_ok(what, got) check_refusal(what, got, GERFMUOD_GRAPH_OK)
+#define check_ok(what, got) check_refusal(what, got, GERFMUOD_OK)
 
 static inline gerfmuod_team *new_team(void) {
     gerfmuod_team *team;
@@ -31,7 +31,7 @@ static inline void sleep_for(long nanoseconds) { nanosleep(&(struct timespec){.t
 
 /* A thread of the program that takes turns until it has to leave, and does nothing else; returns why it was refused. */
 static inline uint32_t take_turns(gerfmuod_team *team) {
-    gerfmuod_graph_answer answer = gerfmuod_team_turn(team, GERFMUOD_GRAPH_NONE);
+    gerfmuod_graph_result answer = gerfmuod_team_turn(team, GERFMUOD_GRAPH_NONE);
     while (answer.next == GERFMUOD_GRAPH_RUN) answer = gerfmuod_team_turn(team, answer.number);
     return answer.refused;
 }

@@ -1,6 +1,6 @@
 // exceptions.cpp: tests of gerfmuod.hpp: exceptions and refusals, bodies that own data, when bodies are destroyed, tasks of other
 // pools, tasks made by tasks, inputs from outside, graphs that run again, traces and recorded times.
-#include "gerfmuod.hpp"
+#include <gerfmuod/gerfmuod.hpp>
 
 #include <cstdio>
 #include <functional>
@@ -234,6 +234,54 @@ static bool records() {
     return events > 0 && is_longer && begins_with(refused, "WrongLife:") && begins_with(early, "WrongLife:");
 }
 
+// After a body threw, and after a stop, the same graph runs again. A run goes on beside the caller, who waits for it.
+static bool resets() {
+    Pool pool(Options().keep_bodies());
+    int runs = 0, fails = 1;
+    auto first = pool.task([&] { runs++; });
+    auto last = pool.task([&] { if (fails) throw 7; }, {first});
+    bool has_thrown = false;
+    try {
+        pool.run(2);
+    } catch (int number) {
+        has_thrown = number == 7;
+    }
+    bool names_it = pool.failed() == last && pool.left() == 1;
+    pool.reset();
+    bool forgets = !pool.failed() && pool.left() == 2;
+    fails = 0;
+    pool.run_async(2);
+    std::string second = refusal([&] { pool.run(1); });
+    pool.wait();
+    pool.reset();
+    pool.run_async(1);
+    while (!pool.wait_for(std::chrono::milliseconds(1))) {}
+    Pool once;
+    bool is_logic = false;
+    try {
+        once.reset();
+    } catch (const std::logic_error &) {
+        is_logic = true;
+    }
+    return has_thrown && names_it && forgets && begins_with(second, "Running:") && runs == 3 && pool.left() == 0 && is_logic;
+}
+
+// A pool that is destroyed in a run waits for its bodies.
+static bool ends_with_its_pool() {
+    int begun = 0, ended = 0;
+    {
+        Pool pool;
+        for (int k = 0; k < 100; k++)
+            pool.task([&] {
+                begun++;
+                std::this_thread::sleep_for(std::chrono::milliseconds(1));
+                ended++;
+            });
+        pool.run_async(1);
+    }
+    return begun == ended;
+}
+
 int main() {
     const std::pair<const char *, bool (*)()> tests[] = {
         {"sums", sums},
@@ -247,6 +295,8 @@ int main() {
         {"repeats", repeats},
         {"keeps_the_exception", keeps_the_exception},
         {"records", records},
+        {"resets", resets},
+        {"ends_with_its_pool", ends_with_its_pool},
     };
     bool well = true;
     for (auto [name, test] : tests)

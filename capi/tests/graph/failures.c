@@ -58,7 +58,8 @@ int __wrap_pthread_cond_destroy(pthread_cond_t *condition) { return initialized-
 
 enum { TASKS = 600, ADDED = 400, ALL = TASKS + ADDED };
 
-/* ---- the graph: each task reads the two before it */
+/* ---- the graph: each task reads the two before it, or what they write: three handles in turn */
+static bool is_over_data;
 static uint32_t offsets[TASKS + 1], inputs[2 * TASKS];
 static uint32_t refused_calls;
 
@@ -69,7 +70,7 @@ static void fill(void) {
 
 /* The state of a graph that readers show. */
 struct state {
-    gerfmuod_graph_answer count, fault, event;
+    gerfmuod_graph_result count, fault, event;
 };
 static struct state state_of(gerfmuod_graph *graph) {
     return (struct state){gerfmuod_graph_call(graph, GERFMUOD_GRAPH_COUNT, 0, 0), gerfmuod_graph_call(graph, GERFMUOD_GRAPH_FAULT, 0, 0),
@@ -77,22 +78,23 @@ static struct state state_of(gerfmuod_graph *graph) {
 }
 
 /* Whether a call was refused because memory ran out; it has changed nothing then, and is repeated. */
-static bool is_repeated(gerfmuod_graph *graph, struct state before, gerfmuod_graph_answer answer) {
-    if (answer.refused != GERFMUOD_GRAPH_NO_MEMORY) return false;
+static bool is_repeated(gerfmuod_graph *graph, struct state before, gerfmuod_graph_result answer) {
+    if (answer.refused != GERFMUOD_REFUSED_NO_MEMORY) return false;
     struct state after = state_of(graph);
     refused_calls++;
     check("a refused call changes nothing", !memcmp(&before, &after, sizeof before) && !answer.next && !answer.signals);
     return true;
 }
 
-static gerfmuod_graph_answer spawn(gerfmuod_graph *graph, uint32_t task) {
+static gerfmuod_graph_result spawn(gerfmuod_graph *graph, uint32_t task) {
     const uint32_t last[] = {task - 1, task - 2};
-    return gerfmuod_graph_spawn(graph, 0, last, task < 2 ? task : 2, 0);
+    const gerfmuod_access on[] = {{(task + 2) % 3, GERFMUOD_READ}, {(task + 1) % 3, GERFMUOD_READ}, {task % 3, GERFMUOD_WRITE}};
+    return is_over_data ? gerfmuod_graph_task(graph, 0, on, 3, 0) : gerfmuod_graph_spawn(graph, 0, last, task < 2 ? task : 2, 0);
 }
 
 static bool add(gerfmuod_graph *graph, uint32_t task) {
     struct state before = state_of(graph);
-    gerfmuod_graph_answer answer = spawn(graph, task);
+    gerfmuod_graph_result answer = spawn(graph, task);
     if (is_repeated(graph, before, answer)) answer = spawn(graph, task);
     return !answer.refused && answer.number == task;
 }
@@ -100,9 +102,14 @@ static bool add(gerfmuod_graph *graph, uint32_t task) {
 static bool describe(gerfmuod_graph *graph, bool by_arrays) {
     struct state before = state_of(graph);
     bool is_well = true;
+    for (uint32_t h = 0; h < 3 && is_over_data; h++) {
+        gerfmuod_graph_result answer = gerfmuod_graph_call(graph, GERFMUOD_GRAPH_HANDLE, 0, 0);
+        if (is_repeated(graph, before, answer)) answer = gerfmuod_graph_call(graph, GERFMUOD_GRAPH_HANDLE, 0, 0);
+        is_well &= !answer.refused && answer.number == h;
+    }
     for (uint32_t t = 0; t < TASKS && !by_arrays; t++) is_well &= add(graph, t);
     if (!by_arrays) return is_well;
-    gerfmuod_graph_answer answer = gerfmuod_graph_describe(graph, NULL, 0, offsets, TASKS + 1, inputs, offsets[TASKS]);
+    gerfmuod_graph_result answer = gerfmuod_graph_describe(graph, NULL, 0, offsets, TASKS + 1, inputs, offsets[TASKS]);
     if (is_repeated(graph, before, answer))
         answer = gerfmuod_graph_describe(graph, NULL, 0, offsets, TASKS + 1, inputs, offsets[TASKS]);
     return !answer.refused;
@@ -111,7 +118,7 @@ static bool describe(gerfmuod_graph *graph, bool by_arrays) {
 /* Runs a graph, each task once and in order; in the last run, the first task adds others. */
 static bool runs(gerfmuod_graph *graph, bool is_last) {
     struct state before = state_of(graph);
-    gerfmuod_graph_answer answer = gerfmuod_graph_call(graph, GERFMUOD_GRAPH_START, 1, 0);
+    gerfmuod_graph_result answer = gerfmuod_graph_call(graph, GERFMUOD_GRAPH_START, 1, 0);
     if (is_repeated(graph, before, answer)) answer = gerfmuod_graph_call(graph, GERFMUOD_GRAPH_START, 1, 0);
     if (answer.refused) return false;
     uint32_t ran = 0, tasks = is_last ? ALL : TASKS;
@@ -125,8 +132,9 @@ static bool runs(gerfmuod_graph *graph, bool is_last) {
 }
 
 /* Makes each allocation of two runs of a graph fail, with a new graph for each. */
-static void check_graph(bool is_traced, bool by_arrays) {
+static void check_graph(bool is_traced, bool by_arrays, bool over_data) {
     bool has_failed = true;
+    is_over_data = over_data;
     for (long n = 1; has_failed; n++) {
         gerfmuod_graph graph;
         gerfmuod_graph_open(&graph, is_traced, 1);
@@ -156,7 +164,7 @@ static bool has_run(const uint8_t *ran, int times) {
 }
 
 /* A call on a team is made again if it was refused because memory ran out. */
-#define REPEATED(call) ((call) != GERFMUOD_GRAPH_NO_MEMORY ? 0 : (refused_calls++, (call)))
+#define REPEATED(call) ((call) != GERFMUOD_REFUSED_NO_MEMORY ? 0 : (refused_calls++, (call)))
 
 /* A team whose Nth allocation fails, which records its runs or does not. */
 static void check_team(bool is_recording) {
@@ -205,7 +213,7 @@ static void check_team_describe(bool is_recording) {
         uint32_t refused = gerfmuod_team_describe(team, TASKS, NULL, offsets, inputs, &at);
         has_failed = allocations_left < 0;
         allocations_left = -1;
-        check_refusal("a graph", refused, has_failed ? GERFMUOD_GRAPH_NO_MEMORY : GERFMUOD_GRAPH_OK);
+        check_refusal("a graph", refused, has_failed ? GERFMUOD_REFUSED_NO_MEMORY : GERFMUOD_OK);
         if (refused) check_ok("the same again", gerfmuod_team_describe(team, TASKS, NULL, offsets, inputs, &at));
         check_ok("run", gerfmuod_team_run(team, 1, body, ran));
         check("each task once", has_run(ran, 1));
@@ -220,7 +228,7 @@ CASE(too_few_threads) {
         gerfmuod_team *team = new_team();
         check_ok("a graph", gerfmuod_team_describe(team, TASKS, NULL, offsets, inputs, NULL));
         threads_left = n;
-        check_refusal("a thread that is not created", gerfmuod_team_run(team, 4, body, ran), GERFMUOD_TEAM_NOT_STARTED);
+        check_refusal("a thread that is not created", gerfmuod_team_run(team, 4, body, ran), GERFMUOD_REFUSED_NOT_STARTED);
         check("nothing ran", has_run(ran, 0));
         check_ok("the graph", gerfmuod_team_fault(team));
         check_ok("it runs when threads are created", gerfmuod_team_run(team, 4, body, ran));
@@ -233,7 +241,7 @@ CASE(no_lock) {
     for (inits_left = 1; inits_left <= 2;) {
         long n = inits_left;
         gerfmuod_team *team = (gerfmuod_team *)&inputs;
-        check_refusal("open", gerfmuod_team_open(&team), GERFMUOD_GRAPH_NO_MEMORY);
+        check_refusal("open", gerfmuod_team_open(&team), GERFMUOD_REFUSED_NO_MEMORY);
         check("there is no team", !team && !initialized);
         inits_left = n + 1;
     }
@@ -254,7 +262,7 @@ static size_t bytes_of(uint32_t tasks, uint32_t count) {
     for (int run = 0; run < 2; run++) {
         if (run) check_ok("again", gerfmuod_graph_call(&graph, GERFMUOD_GRAPH_AGAIN, 0, 0).refused);
         check_ok("start", gerfmuod_graph_call(&graph, GERFMUOD_GRAPH_START, 1, 0).refused);
-        gerfmuod_graph_answer answer = gerfmuod_graph_call(&graph, GERFMUOD_GRAPH_TURN, GERFMUOD_GRAPH_NONE, 0);
+        gerfmuod_graph_result answer = gerfmuod_graph_call(&graph, GERFMUOD_GRAPH_TURN, GERFMUOD_GRAPH_NONE, 0);
         while (answer.next == GERFMUOD_GRAPH_RUN) answer = gerfmuod_graph_call(&graph, GERFMUOD_GRAPH_TURN, answer.number, 0);
     }
     size_t used = allocated - before;
@@ -270,10 +278,11 @@ CASE(memory_of_a_large_graph) {
     check("an input takes at most 20 bytes", with_inputs <= task + 4 * 20);
 }
 
-CASE(a_graph) { check_graph(false, false); }
-CASE(a_traced_graph) { check_graph(true, false); }
-CASE(a_graph_by_arrays) { check_graph(false, true); }
-CASE(a_traced_graph_by_arrays) { check_graph(true, true); }
+CASE(a_graph) { check_graph(false, false, false); }
+CASE(a_traced_graph) { check_graph(true, false, false); }
+CASE(a_graph_by_arrays) { check_graph(false, true, false); }
+CASE(a_traced_graph_by_arrays) { check_graph(true, true, false); }
+CASE(a_graph_over_data) { check_graph(true, false, true); }
 CASE(a_team) { check_team(false); }
 CASE(a_team_that_records) { check_team(true); }
 CASE(a_team_by_arrays) { check_team_describe(false); }
@@ -283,7 +292,7 @@ CASE(no_lock_is_left) { check("all locks are destroyed", !initialized); }
 int main(void) {
     const struct CMUnitTest cases[] = {
         cmocka_unit_test(a_graph), cmocka_unit_test(a_traced_graph), cmocka_unit_test(a_graph_by_arrays),
-        cmocka_unit_test(a_traced_graph_by_arrays), cmocka_unit_test(a_team), cmocka_unit_test(a_team_that_records),
+        cmocka_unit_test(a_traced_graph_by_arrays), cmocka_unit_test(a_graph_over_data), cmocka_unit_test(a_team), cmocka_unit_test(a_team_that_records),
         cmocka_unit_test(a_team_by_arrays), cmocka_unit_test(a_team_by_arrays_that_records),
         cmocka_unit_test(too_few_threads), cmocka_unit_test(no_lock), cmocka_unit_test(memory_of_a_large_graph),
         cmocka_unit_test(no_lock_is_left),

@@ -43,7 +43,7 @@ static void signal_threads(uint32_t signals) {
     }
 }
 
-static gerfmuod_graph_answer check(const char *call, gerfmuod_graph_answer got, expected want) {
+static gerfmuod_graph_result check(const char *call, gerfmuod_graph_result got, expected want) {
     bool is_run = !want.answer.refused && want.answer.next == GERFMUOD_GRAPH_RUN && want.first;
     bool is_number = is_run ? got.number < m.tasks && want.first >> got.number & 1 : got.number == want.answer.number;
     calls++, refused += want.answer.refused != 0, ran += is_run, signalled += got.signals;
@@ -66,12 +66,12 @@ static void spoil(void) {
     for (uint32_t t = 0; t < m.tasks && fault == 'r'; t++) m.task[t].since = m.task[t].since ? 1 + below(m.now) : 0;
 }
 
-static gerfmuod_graph_answer call(uint32_t number, uint32_t first, uint32_t second) {
+static gerfmuod_graph_result call(uint32_t number, uint32_t first, uint32_t second) {
     static const char *const names[] = {"close", "start", "turn", "turn_spun", "turn_woken", "stop", "again", "outside", "release",
-                                        "may_record", "fault", "count", "event", "no such call"};
+                                        "may_record", "fault", "count", "event", "reset", "left", "handle", "no such call"};
     if (fault) spoil();
-    gerfmuod_graph_answer got = gerfmuod_graph_call(&graph, number, first, second);
-    return check(names[number < 13 ? number : 13], got, model_call(&m, number, first, second, got.number));
+    gerfmuod_graph_result got = gerfmuod_graph_call(&graph, number, first, second);
+    return check(names[number < 16 ? number : 16], got, model_call(&m, number, first, second, got.number));
 }
 
 /* ---- describing */
@@ -105,7 +105,7 @@ static void turn(uint32_t w) {
     if (thread[w].state == SPINS) kind = GERFMUOD_GRAPH_TURN_SPUN;
     if (thread[w].state == SLEEPS || thread[w].state == SIGNALLED) kind = GERFMUOD_GRAPH_TURN_WOKEN;
     thread[w].state = LEFT;
-    gerfmuod_graph_answer answer = call(kind, done, below(3));
+    gerfmuod_graph_result answer = call(kind, done, below(3));
     if (answer.next == GERFMUOD_GRAPH_RUN) thread[w].state = RUNS, thread[w].task = answer.number;
     if (answer.next == GERFMUOD_GRAPH_SPIN) thread[w].state = SPINS;
     if (answer.next == GERFMUOD_GRAPH_SLEEP) thread[w].state = SLEEPS;
@@ -171,13 +171,13 @@ static void make_any_calls(void) {
         uint32_t kind = below(100), t = about(m.tasks);
         if (kind < 10) spawn();
         else if (kind < 12) describe();
-        else if (kind < 14 && !m.fault) call(13 + about(3), t, t);
+        else if (kind < 14 && !m.fault) call(16 + about(3), t, t);
         else if (kind < 25) call(GERFMUOD_GRAPH_OUTSIDE + below(2), t, 0);
         else if (kind < 60) call(GERFMUOD_GRAPH_TURN + below(3), GERFMUOD_GRAPH_NONE, below(2));
         else if (kind < 90) {
             while (t < m.tasks && m.task[t].stage != RUNNING && below(100)) t = (t + 1) % m.tasks; /* mostly one that runs */
             if (t >= m.tasks ? below(20) == 0 : m.task[t].stage == RUNNING || below(4) == 0) call(GERFMUOD_GRAPH_TURN, t, below(2));
-        } else if (kind < 99 || below(8) == 0) call((uint32_t[]){1, 1, 6, 9, 10, 11, 12, 12, 12, 5}[kind - 90], t, 0);
+        } else if (kind < 99 || below(8) == 0) call((uint32_t[]){1, 15, 6, 9, 10, 11, 12, 13, 14, 5}[kind - 90], t, 0);
     }
 }
 
@@ -195,10 +195,10 @@ int main(int argc, char **argv) {
         else for (uint32_t k = below(MOST_TASKS); k > 0; k--) spawn();
         if (is_wild) make_any_calls();
         else run();
-        while (!is_wild && below(2) && !call(GERFMUOD_GRAPH_AGAIN, 0, 0).refused) run(), reruns++;
+        while (!is_wild && below(2) && !call(below(2) ? GERFMUOD_GRAPH_AGAIN : GERFMUOD_GRAPH_RESET, 0, 0).refused) run(), reruns++;
         for (uint32_t k = 0; k < 2 * MOST_TASKS + 1; k++) call(GERFMUOD_GRAPH_EVENT, k, 0);
         call(GERFMUOD_GRAPH_CLOSE, 0, 0);
-        for (uint32_t number = 0; number < 14; number++) call(number, below(2), below(2)); /* it is not open */
+        for (uint32_t number = 0; number < 16; number++) call(number, below(2), below(2)); /* it is not open */
         spawn(), describe();
     }
     printf("%" PRIu64 " calls on %u graphs: %" PRIu64 " refused, %" PRIu64 " tasks run, %" PRIu64 " waits, %" PRIu64 " signals, ", calls,

@@ -4,7 +4,7 @@
  *
  *   growth TASKS MEGABYTES THREADS..     megabytes of 1,000,000 bytes; 0 is no limit */
 #define _POSIX_C_SOURCE 200809L
-#include "gerfmuod_team.h"
+#include <gerfmuod/team.h>
 #include "../../examples/timing.h"
 #include <stdint.h>
 #include <sys/resource.h>

@@ -1,8 +1,8 @@
-/* model.h: a model of gerfmuod_graph.h in plain C, which scans all tasks and inputs in each call. It shares no code with the
+/* model.h: a model of gerfmuod/graph.h in plain C, which scans all tasks and inputs in each call. It shares no code with the
  * library. fuzz.c compares the two. */
 #ifndef MODEL_H
 #define MODEL_H
-#include "gerfmuod_graph.h"
+#include <gerfmuod/graph.h>
 #include <stdbool.h>
 #include <string.h>
 
@@ -11,7 +11,7 @@ enum stage { FRESH, RUNNING, DONE };
 
 typedef struct {
     bool is_open, is_traced, is_started, is_grown; /* is_grown: a task was added in the run */
-    uint32_t tasks, inputs, events;
+    uint32_t tasks, inputs, events, handles;
     struct {
         uint32_t class_, outside; /* outside: how many inputs from outside are awaited */
         uint32_t since;           /* when it became ready, or 0 */
@@ -30,7 +30,7 @@ typedef struct {
 
 /* What a call has to return. The number at GERFMUOD_GRAPH_RUN is that of a task with a bit in `first`. */
 typedef struct {
-    gerfmuod_graph_answer answer;
+    gerfmuod_graph_result answer;
     uint64_t first;
 } expected;
 
@@ -94,13 +94,13 @@ static void model_add(model *m, uint32_t class_, const uint32_t *inputs, size_t 
 
 static expected model_spawn(model *m, uint32_t class_, const uint32_t *inputs, size_t count, uint32_t outside) {
     m->now++;
-    if (!m->is_open) return model_refuse(GERFMUOD_GRAPH_NO_POOL);
+    if (!m->is_open) return model_refuse(GERFMUOD_REFUSED_NO_POOL);
     if (m->fault) return model_refuse(m->fault);
-    if (model_is_over(m)) return model_refuse(GERFMUOD_GRAPH_ENDED);
-    if (class_ > 3) return model_refuse(GERFMUOD_GRAPH_BAD_SPEC);
+    if (model_is_over(m)) return model_refuse(GERFMUOD_REFUSED_ENDED);
+    if (class_ > 3) return model_refuse(GERFMUOD_REFUSED_BAD_SPEC);
     for (size_t k = 0; k < count; k++)
-        if (inputs[k] >= m->tasks) return model_refuse(GERFMUOD_GRAPH_NO_TASK);
-    if (outside > GERFMUOD_GRAPH_MAX_OUTSIDE) return model_answer(GERFMUOD_GRAPH_HISTORY_FULL, 0, GERFMUOD_GRAPH_MAX_OUTSIDE, 0);
+        if (inputs[k] >= m->tasks) return model_refuse(GERFMUOD_REFUSED_NO_TASK);
+    if (outside > GERFMUOD_GRAPH_MAX_OUTSIDE) return model_answer(GERFMUOD_REFUSED_HISTORY_FULL, 0, GERFMUOD_GRAPH_MAX_OUTSIDE, 0);
     model_add(m, class_, inputs, count, outside);
     return model_answer(0, 0, m->tasks - 1, model_settle(m, false));
 }
@@ -108,16 +108,16 @@ static expected model_spawn(model *m, uint32_t class_, const uint32_t *inputs, s
 static expected model_describe(model *m, const uint8_t *classes, size_t classes_count, const uint32_t *offsets, size_t offsets_count,
                                const uint32_t *inputs, size_t inputs_count) {
     m->now++;
-    if (!m->is_open) return model_refuse(GERFMUOD_GRAPH_NO_POOL);
+    if (!m->is_open) return model_refuse(GERFMUOD_REFUSED_NO_POOL);
     if (m->fault) return model_refuse(m->fault);
-    if (m->is_started || m->tasks) return model_refuse(GERFMUOD_GRAPH_WRONG_LIFE);
-    if (!offsets_count || (classes_count && classes_count != offsets_count - 1)) return model_refuse(GERFMUOD_GRAPH_BAD_SPEC);
+    if (m->is_started || m->tasks) return model_refuse(GERFMUOD_REFUSED_WRONG_LIFE);
+    if (!offsets_count || (classes_count && classes_count != offsets_count - 1)) return model_refuse(GERFMUOD_REFUSED_BAD_SPEC);
     model as_it_was = *m;
     for (uint32_t t = 0; t + 1 < offsets_count; t++) {
         uint32_t class_ = classes_count ? classes[t] : 0, refused = 0;
-        if (class_ > 3 || offsets[t] > offsets[t + 1] || offsets[t + 1] > inputs_count) refused = GERFMUOD_GRAPH_BAD_SPEC;
+        if (class_ > 3 || offsets[t] > offsets[t + 1] || offsets[t + 1] > inputs_count) refused = GERFMUOD_REFUSED_BAD_SPEC;
         for (uint32_t k = offsets[t]; !refused && k < offsets[t + 1]; k++)
-            if (inputs[k] >= t) refused = GERFMUOD_GRAPH_NO_TASK;
+            if (inputs[k] >= t) refused = GERFMUOD_REFUSED_NO_TASK;
         if (refused) return *m = as_it_was, model_answer(refused, 0, t, 0);
         model_add(m, class_, inputs + offsets[t], offsets[t + 1] - offsets[t], 0);
     }
@@ -126,8 +126,8 @@ static expected model_describe(model *m, const uint8_t *classes, size_t classes_
 
 static void model_report(model *m, uint32_t task) {
     if (task == GERFMUOD_GRAPH_NONE || m->fault) return;
-    if (task >= m->tasks) m->fault = GERFMUOD_GRAPH_NO_TASK, m->failed = task;
-    else if (m->task[task].stage != RUNNING) m->fault = GERFMUOD_GRAPH_WRONG_LIFE, m->failed = task;
+    if (task >= m->tasks) m->fault = GERFMUOD_REFUSED_NO_TASK, m->failed = task;
+    else if (m->task[task].stage != RUNNING) m->fault = GERFMUOD_REFUSED_WRONG_LIFE, m->failed = task;
     else m->task[task].stage = DONE, model_event(m, 2, task), model_ready(m);
 }
 
@@ -162,46 +162,55 @@ static expected model_turn(model *m, uint32_t call, uint32_t done, uint32_t poll
 }
 
 static expected model_start(model *m, uint32_t threads) {
-    if (m->is_started && model_is_busy(m)) return model_refuse(GERFMUOD_GRAPH_RUNNING);
-    if (m->is_started) return model_refuse(model_is_over(m) ? GERFMUOD_GRAPH_ENDED : GERFMUOD_GRAPH_WRONG_LIFE);
-    if (!threads) return model_refuse(GERFMUOD_GRAPH_NO_THREAD);
+    if (m->is_started && model_is_busy(m)) return model_refuse(GERFMUOD_REFUSED_RUNNING);
+    if (m->is_started) return model_refuse(model_is_over(m) ? GERFMUOD_REFUSED_ENDED : GERFMUOD_REFUSED_WRONG_LIFE);
+    if (!threads) return model_refuse(GERFMUOD_REFUSED_NO_THREAD);
     m->is_started = true, m->threads = threads;
     return model_answer(0, 0, 0, model_settle(m, true));
 }
 
 static expected model_again(model *m) {
-    if (model_is_busy(m)) return model_refuse(GERFMUOD_GRAPH_RUNNING);
-    if (!model_is_over(m) || m->is_grown) return model_refuse(GERFMUOD_GRAPH_WRONG_LIFE);
+    if (model_is_busy(m)) return model_refuse(GERFMUOD_REFUSED_RUNNING);
+    if (!model_is_over(m) || m->is_grown) return model_refuse(GERFMUOD_REFUSED_WRONG_LIFE);
     for (uint32_t t = 0; t < m->tasks; t++) m->task[t].stage = FRESH;
     m->is_started = false, m->events = m->threads = 0;
     return model_refuse(0);
 }
 
+static expected model_reset(model *m) {
+    bool waits = m->spinning || m->sleeping || m->signalled;
+    if (m->fault ? waits : model_is_busy(m)) return model_refuse(GERFMUOD_REFUSED_RUNNING);
+    if (m->is_grown) return model_refuse(GERFMUOD_REFUSED_WRONG_LIFE);
+    for (uint32_t t = 0; t < m->tasks; t++) m->task[t].stage = FRESH, m->task[t].outside = m->task[t].since = 0;
+    m->is_started = false, m->events = m->threads = m->fault = m->failed = 0;
+    return model_refuse(0);
+}
+
 static expected model_outside(model *m, uint32_t task) {
-    if (task >= m->tasks) return model_refuse(GERFMUOD_GRAPH_NO_TASK);
-    if (m->task[task].stage != FRESH || (m->is_started && model_is_ready(m, task))) return model_refuse(GERFMUOD_GRAPH_WRONG_LIFE);
+    if (task >= m->tasks) return model_refuse(GERFMUOD_REFUSED_NO_TASK);
+    if (m->task[task].stage != FRESH || (m->is_started && model_is_ready(m, task))) return model_refuse(GERFMUOD_REFUSED_WRONG_LIFE);
     if (m->task[task].outside == GERFMUOD_GRAPH_MAX_OUTSIDE)
-        return model_answer(GERFMUOD_GRAPH_HISTORY_FULL, 0, GERFMUOD_GRAPH_MAX_OUTSIDE, 0);
+        return model_answer(GERFMUOD_REFUSED_HISTORY_FULL, 0, GERFMUOD_GRAPH_MAX_OUTSIDE, 0);
     m->task[task].outside++;
     return model_answer(0, 0, 0, model_settle(m, false));
 }
 
 static expected model_release(model *m, uint32_t task) {
-    if (task >= m->tasks) return model_refuse(GERFMUOD_GRAPH_NO_TASK);
-    if (!m->task[task].outside) return model_refuse(GERFMUOD_GRAPH_WRONG_LIFE);
+    if (task >= m->tasks) return model_refuse(GERFMUOD_REFUSED_NO_TASK);
+    if (!m->task[task].outside) return model_refuse(GERFMUOD_REFUSED_WRONG_LIFE);
     m->task[task].outside--;
     return model_answer(0, 0, 0, model_settle(m, false));
 }
 
 static expected model_stop(model *m, uint32_t task) {
-    if (!m->fault && !model_is_over(m)) m->fault = GERFMUOD_GRAPH_STOPPED, m->failed = task;
+    if (!m->fault && !model_is_over(m)) m->fault = GERFMUOD_REFUSED_STOPPED, m->failed = task;
     return model_answer(0, 0, 0, model_settle(m, false));
 }
 
 /* A call of gerfmuod_graph_call; `found` is the number that the library returned. */
 static expected model_call(model *m, uint32_t call, uint32_t first, uint32_t second, uint32_t found) {
     m->now++;
-    if (!m->is_open) return model_refuse(GERFMUOD_GRAPH_NO_POOL);
+    if (!m->is_open) return model_refuse(GERFMUOD_REFUSED_NO_POOL);
     switch (call) { /* those that a fault does not refuse */
     case GERFMUOD_GRAPH_CLOSE: return memset(m, 0, sizeof *m), model_refuse(0);
     case GERFMUOD_GRAPH_TURN:
@@ -210,19 +219,22 @@ static expected model_call(model *m, uint32_t call, uint32_t first, uint32_t sec
     case GERFMUOD_GRAPH_STOP: return model_stop(m, first);
     case GERFMUOD_GRAPH_FAULT: return model_answer(m->fault, 0, m->fault ? m->failed : 0, 0);
     case GERFMUOD_GRAPH_COUNT: return model_answer(0, model_ready(m), m->tasks, 0);
+    case GERFMUOD_GRAPH_RESET: return model_reset(m);
+    case GERFMUOD_GRAPH_LEFT: return model_answer(0, 0, m->tasks - model_count(m, DONE), 0);
     case GERFMUOD_GRAPH_EVENT:
         if (first >= m->events) return model_refuse(0);
         return model_answer(0, m->event[first].kind, m->event[first].task, 0);
     }
-    if (m->fault && call <= GERFMUOD_GRAPH_EVENT) return model_refuse(m->fault);
+    if (m->fault && (call <= GERFMUOD_GRAPH_EVENT || call == GERFMUOD_GRAPH_HANDLE)) return model_refuse(m->fault);
     switch (call) {
     case GERFMUOD_GRAPH_START: return model_start(m, first);
     case GERFMUOD_GRAPH_AGAIN: return model_again(m);
     case GERFMUOD_GRAPH_OUTSIDE: return model_outside(m, first);
     case GERFMUOD_GRAPH_RELEASE: return model_release(m, first);
+    case GERFMUOD_GRAPH_HANDLE: return model_answer(0, 0, m->handles++, 0);
     case GERFMUOD_GRAPH_MAY_RECORD:
-        return model_refuse(model_is_busy(m) ? GERFMUOD_GRAPH_RUNNING : m->is_started ? GERFMUOD_GRAPH_WRONG_LIFE : 0);
-    default: return model_refuse(GERFMUOD_GRAPH_BAD_SPEC);
+        return model_refuse(model_is_busy(m) ? GERFMUOD_REFUSED_RUNNING : m->is_started ? GERFMUOD_REFUSED_WRONG_LIFE : 0);
+    default: return model_refuse(GERFMUOD_REFUSED_BAD_SPEC);
     }
 }
 #endif

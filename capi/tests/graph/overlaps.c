@@ -37,7 +37,7 @@ static uint32_t end(pthread_t thread) {
 
 /* Waits until a turn waits: without one, a run that was not started is refused for another reason. */
 static void wait_for_turn(gerfmuod_team *team) {
-    while (gerfmuod_team_again(team) != GERFMUOD_GRAPH_RUNNING) sleep_for(100000);
+    while (gerfmuod_team_again(team) != GERFMUOD_REFUSED_RUNNING) sleep_for(100000);
 }
 
 /* ---- a stop, a little later in each round, while another number of threads begins to record */
@@ -55,7 +55,7 @@ REPEATED_CASE(stop_beside_run) {
     pthread_t stopping = begin(stop_soon, team);
     uint32_t refused = gerfmuod_team_again(team);
     if (!refused) refused = gerfmuod_team_run(team, 3, nothing, NULL);
-    check("a run beside a stop", !refused || refused == GERFMUOD_GRAPH_STOPPED);
+    check("a run beside a stop", !refused || refused == GERFMUOD_REFUSED_STOPPED);
     pthread_join(stopping, NULL);
     delay += 200000;
     gerfmuod_team_close(team);
@@ -68,7 +68,7 @@ REPEATED_CASE(again_beside_turn) {
     wait_for_turn(team);
     check_ok("start", gerfmuod_team_start(team, 2));
     uint32_t refused = gerfmuod_team_again(team); /* the thread is signalled, and may not have come back */
-    for (; refused == GERFMUOD_GRAPH_RUNNING; refused = gerfmuod_team_again(team)) sleep_for(10000);
+    for (; refused == GERFMUOD_REFUSED_RUNNING; refused = gerfmuod_team_again(team)) sleep_for(10000);
     check_ok("again", refused);
     check_ok("a run with more threads", gerfmuod_team_run(team, 3, nothing, NULL));
     check_ok("the turn", end(waiting));
@@ -80,15 +80,15 @@ REPEATED_CASE(record_beside_turn) {
     gerfmuod_team *team = recording_team(0);
     pthread_t waiting = begin(turns, team);
     wait_for_turn(team);
-    check_refusal("no more recording while a turn waits", gerfmuod_team_record(team, 0), GERFMUOD_GRAPH_RUNNING);
-    check_refusal("other slices while a turn waits", gerfmuod_team_record(team, 2 * SLICES), GERFMUOD_GRAPH_RUNNING);
+    check_refusal("no more recording while a turn waits", gerfmuod_team_record(team, 0), GERFMUOD_REFUSED_RUNNING);
+    check_refusal("other slices while a turn waits", gerfmuod_team_record(team, 2 * SLICES), GERFMUOD_REFUSED_RUNNING);
     check_ok("a task while a turn waits", gerfmuod_team_task(team, 0, NULL, 0, NULL));
     check_ok("start", gerfmuod_team_start(team, 1));
     check_ok("the turn", end(waiting));
     check_ok("again", gerfmuod_team_again(team));
     check_ok("start", gerfmuod_team_start(team, 1));
     check("a task", gerfmuod_team_turn(team, GERFMUOD_GRAPH_NONE).next == GERFMUOD_GRAPH_RUN);
-    check_refusal("no more recording while a task runs", gerfmuod_team_record(team, 0), GERFMUOD_GRAPH_RUNNING);
+    check_refusal("no more recording while a task runs", gerfmuod_team_record(team, 0), GERFMUOD_REFUSED_RUNNING);
     gerfmuod_team_close(team);
 }
 
@@ -103,7 +103,7 @@ static void report_wrong(uint32_t wrong, uint32_t fault, bool has_ended) {
     if (has_ended) check("the end", gerfmuod_team_turn(team, 1).next == GERFMUOD_GRAPH_OVER);
     pthread_t turning = has_ended ? pthread_self() : begin(turns, team);
     for (uint32_t k = 0; k < 2; k++) {
-        gerfmuod_graph_answer answer = gerfmuod_team_turn(team, k ? GERFMUOD_GRAPH_NONE : wrong);
+        gerfmuod_graph_result answer = gerfmuod_team_turn(team, k ? GERFMUOD_GRAPH_NONE : wrong);
         check_refusal("a turn", answer.refused, fault);
         check("its task", answer.number == wrong && !answer.next);
     }
@@ -115,8 +115,8 @@ static void report_wrong(uint32_t wrong, uint32_t fault, bool has_ended) {
 
 REPEATED_CASE(wrong_done) {
     for (int has_ended = 0; has_ended < 2; has_ended++) {
-        report_wrong(1, GERFMUOD_GRAPH_WRONG_LIFE, has_ended);
-        report_wrong(7, GERFMUOD_GRAPH_NO_TASK, has_ended);
+        report_wrong(1, GERFMUOD_REFUSED_WRONG_LIFE, has_ended);
+        report_wrong(7, GERFMUOD_REFUSED_NO_TASK, has_ended);
     }
 }
 
@@ -127,7 +127,7 @@ REPEATED_CASE(run_beside_turn) {
     wait_for_turn(team);
     check_ok("a run beside a turn", gerfmuod_team_run(team, 3, nothing, NULL));
     check_ok("the turn", end(waiting));
-    check_refusal("a second run", gerfmuod_team_run(team, 3, nothing, NULL), GERFMUOD_GRAPH_ENDED);
+    check_refusal("a second run", gerfmuod_team_run(team, 3, nothing, NULL), GERFMUOD_REFUSED_ENDED);
     gerfmuod_team_close(team);
 }
 
@@ -139,12 +139,12 @@ static uint32_t call(gerfmuod_team *team, int kind) {
     switch (kind) {
     case 0: return gerfmuod_team_turn(team, GERFMUOD_GRAPH_NONE).next != GERFMUOD_GRAPH_OVER;
     case 1: gerfmuod_team_stop(team, 0); return 0;
-    case 2: return gerfmuod_team_task(team, 0, NULL, 0, NULL) != GERFMUOD_GRAPH_ENDED;
-    case 3: return gerfmuod_team_outside(team, 0) != GERFMUOD_GRAPH_WRONG_LIFE;
-    case 4: return gerfmuod_team_release(team, 0) != GERFMUOD_GRAPH_WRONG_LIFE;
+    case 2: return gerfmuod_team_task(team, 0, NULL, 0, NULL) != GERFMUOD_REFUSED_ENDED;
+    case 3: return gerfmuod_team_outside(team, 0) != GERFMUOD_REFUSED_WRONG_LIFE;
+    case 4: return gerfmuod_team_release(team, 0) != GERFMUOD_REFUSED_WRONG_LIFE;
     case 5: return gerfmuod_team_fault(team) || gerfmuod_team_failed(team) != GERFMUOD_GRAPH_NONE;
-    case 6: return gerfmuod_team_start(team, 1) != GERFMUOD_GRAPH_ENDED;
-    default: return gerfmuod_team_describe(team, 0, NULL, &(uint32_t){0}, NULL, NULL) != GERFMUOD_GRAPH_WRONG_LIFE;
+    case 6: return gerfmuod_team_start(team, 1) != GERFMUOD_REFUSED_ENDED;
+    default: return gerfmuod_team_describe(team, 0, NULL, &(uint32_t){0}, NULL, NULL) != GERFMUOD_REFUSED_WRONG_LIFE;
     }
 }
 

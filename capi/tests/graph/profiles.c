@@ -72,41 +72,41 @@ static int run_other(void *context, uint32_t task) {
 /* ---- the checks */
 CASE(refusals) {
     gerfmuod_team *team = new_team();
-    check_refusal("profile before a run", gerfmuod_team_profile(team, stdout), GERFMUOD_GRAPH_WRONG_LIFE);
+    check_refusal("profile before a run", gerfmuod_team_profile(team, stdout), GERFMUOD_REFUSED_WRONG_LIFE);
     check_ok("task", gerfmuod_team_task(team, 0, NULL, 0, NULL));
-    check_refusal("record after a task", gerfmuod_team_record(team, 9), GERFMUOD_GRAPH_WRONG_LIFE);
+    check_refusal("record after a task", gerfmuod_team_record(team, 9), GERFMUOD_REFUSED_WRONG_LIFE);
     check_ok("run", gerfmuod_team_run(team, 1, nothing, NULL));
-    check_refusal("record after a run", gerfmuod_team_record(team, 9), GERFMUOD_GRAPH_WRONG_LIFE);
-    check_refusal("profile of what was not recorded", gerfmuod_team_profile(team, stdout), GERFMUOD_GRAPH_WRONG_LIFE);
+    check_refusal("record after a run", gerfmuod_team_record(team, 9), GERFMUOD_REFUSED_WRONG_LIFE);
+    check_refusal("profile of what was not recorded", gerfmuod_team_profile(team, stdout), GERFMUOD_REFUSED_WRONG_LIFE);
     gerfmuod_team_close(team);
 
     own = team_with(9, 3);
-    check_refusal("summary before a run", gerfmuod_team_summary(own, stdout), GERFMUOD_GRAPH_WRONG_LIFE);
+    check_refusal("summary before a run", gerfmuod_team_summary(own, stdout), GERFMUOD_REFUSED_WRONG_LIFE);
     check_ok("run", gerfmuod_team_run(own, 2, profile_inside, NULL));
-    check_refusal("profile inside of a body", inside, GERFMUOD_GRAPH_RUNNING);
+    check_refusal("profile inside of a body", inside, GERFMUOD_REFUSED_RUNNING);
     free(text_of(own, gerfmuod_team_profile));
     check_ok("again", gerfmuod_team_again(own));
-    check_refusal("profile before the second run", gerfmuod_team_profile(own, stdout), GERFMUOD_GRAPH_WRONG_LIFE);
+    check_refusal("profile before the second run", gerfmuod_team_profile(own, stdout), GERFMUOD_REFUSED_WRONG_LIFE);
     check_ok("start", gerfmuod_team_start(own, 1));
-    check_refusal("profile before the end", gerfmuod_team_profile(own, stdout), GERFMUOD_GRAPH_RUNNING);
+    check_refusal("profile before the end", gerfmuod_team_profile(own, stdout), GERFMUOD_REFUSED_RUNNING);
     gerfmuod_team_stop(own, GERFMUOD_GRAPH_NONE);
     free(text_of(own, gerfmuod_team_profile));
-    check_refusal("record after a stop", gerfmuod_team_record(own, 9), GERFMUOD_GRAPH_STOPPED);
+    check_refusal("record after a stop", gerfmuod_team_record(own, 9), GERFMUOD_REFUSED_STOPPED);
     gerfmuod_team_close(own);
 
     for (int is_started = 0; is_started < 2; is_started++) { /* a run that is not started, and one that a fault ends */
         own = team_with(9, 1);
         if (is_started) check_ok("start", gerfmuod_team_start(own, 1));
-        check_refusal("a task that does not run", gerfmuod_team_turn(own, 0).refused, GERFMUOD_GRAPH_WRONG_LIFE);
+        check_refusal("a task that does not run", gerfmuod_team_turn(own, 0).refused, GERFMUOD_REFUSED_WRONG_LIFE);
         if (is_started) free(text_of(own, gerfmuod_team_profile));
-        else check_refusal("profile without a run", gerfmuod_team_profile(own, stdout), GERFMUOD_GRAPH_WRONG_LIFE);
+        else check_refusal("profile without a run", gerfmuod_team_profile(own, stdout), GERFMUOD_REFUSED_WRONG_LIFE);
         gerfmuod_team_close(own);
     }
 
     team = team_with(9, 0);
     check_ok("no more recording", gerfmuod_team_record(team, 0));
     check_ok("run", gerfmuod_team_run(team, 1, nothing, NULL));
-    check_refusal("profile of what was not recorded", gerfmuod_team_profile(team, stdout), GERFMUOD_GRAPH_WRONG_LIFE);
+    check_refusal("profile of what was not recorded", gerfmuod_team_profile(team, stdout), GERFMUOD_REFUSED_WRONG_LIFE);
     gerfmuod_team_close(team);
 }
 
@@ -114,9 +114,9 @@ CASE(streams_that_fail) {
     gerfmuod_team *team = team_with(MANY, MANY);
     check_ok("run", gerfmuod_team_run(team, 1, nothing, NULL));
     FILE *full = fopen("/dev/full", "w"), *reading = fopen("/dev/null", "r");
-    if (full) check_refusal("a short text", gerfmuod_team_summary(team, full), GERFMUOD_TEAM_NOT_WRITTEN), clearerr(full);
-    if (full) check_refusal("a full disk", gerfmuod_team_profile(team, full), GERFMUOD_TEAM_NOT_WRITTEN);
-    if (reading) check_refusal("a stream to read", gerfmuod_team_summary(team, reading), GERFMUOD_TEAM_NOT_WRITTEN);
+    if (full) check_refusal("a short text", gerfmuod_team_summary(team, full), GERFMUOD_REFUSED_NOT_WRITTEN), clearerr(full);
+    if (full) check_refusal("a full disk", gerfmuod_team_profile(team, full), GERFMUOD_REFUSED_NOT_WRITTEN);
+    if (reading) check_refusal("a stream to read", gerfmuod_team_summary(team, reading), GERFMUOD_REFUSED_NOT_WRITTEN);
     if (full) fclose(full);
     if (reading) fclose(reading);
     char *text = text_of(team, gerfmuod_team_profile);
@@ -188,7 +188,7 @@ CASE(readings_of_a_wait) {
     gerfmuod_team *team = team_with(MANY, 0);
     uint64_t before = readings, of_start = 8;
     if (pthread_create(&waiting, NULL, turns, team)) exit(3);
-    while (gerfmuod_team_again(team) != GERFMUOD_GRAPH_RUNNING) sleep_for(100000);
+    while (gerfmuod_team_again(team) != GERFMUOD_REFUSED_RUNNING) sleep_for(100000);
     sleep_for(10000000);
     check_ok("start", gerfmuod_team_start(team, 1));
     pthread_join(waiting, NULL);
@@ -219,7 +219,7 @@ CASE(several_teams) {
 
     uint32_t failing = 7;
     gerfmuod_team *team = team_with(MANY, TASKS);
-    check_refusal("run", gerfmuod_team_run(team, 1, fail_at, &failing), GERFMUOD_GRAPH_STOPPED);
+    check_refusal("run", gerfmuod_team_run(team, 1, fail_at, &failing), GERFMUOD_REFUSED_STOPPED);
     text = text_of(team, gerfmuod_team_profile);
     check("with the body that failed", count_of(text, "\"cat\":\"task\"") == 8 && strstr(text, "\"task 7\""));
     free(text);

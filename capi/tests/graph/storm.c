@@ -13,8 +13,8 @@
 #define _POSIX_C_SOURCE 200809L
 #include "../../examples/timing.h"
 #include "../random.h"
-#include "gerfmuod.h"
-#include "gerfmuod_team.h"
+#include <gerfmuod/core.h>
+#include <gerfmuod/team.h>
 #include "limit.h"
 #include <pthread.h>
 #include <sched.h>
@@ -96,7 +96,7 @@ static void make_tasks(uint32_t maker) {
     for (uint32_t left = 1 + maker % 3; left > 0 && made < tasks; left--) {
         uint32_t t = made, number = GERFMUOD_GRAPH_NONE, count = offsets[t + 1] - offsets[t], outside = (uint8_t)awaited[t];
         uint32_t refused = gerfmuod_team_spawn(team, classes[t], inputs + offsets[t], count, outside, NULL, NULL, &number);
-        if (refused == GERFMUOD_GRAPH_STOPPED) break;
+        if (refused == GERFMUOD_REFUSED_STOPPED) break;
         if (refused || number != t) wrong++;
         __atomic_store_n(&made, t + 1, __ATOMIC_RELEASE);
     }
@@ -134,7 +134,7 @@ static void *release_all(void *argument) {
 
 static void *turns(void *argument) {
     for (uint32_t ran = GERFMUOD_GRAPH_NONE;;) {
-        gerfmuod_graph_answer answer = gerfmuod_team_turn(team, ran);
+        gerfmuod_graph_result answer = gerfmuod_team_turn(team, ran);
         if (answer.next != GERFMUOD_GRAPH_RUN) return argument;
         ran = answer.number;
         if (is_early) { /* reports the task before it runs it */
@@ -211,7 +211,7 @@ static bool run_is_well(uint32_t round, uint32_t run) {
     pthread_join(releasing, NULL);
     bool is_well = !wrong && !unreleased && is_sound();
     if (failing == GERFMUOD_GRAPH_NONE) is_well &= !refused && is_complete();
-    else is_well &= refused == GERFMUOD_GRAPH_STOPPED && gerfmuod_team_failed(team) == failing && !has_ended[failing];
+    else is_well &= refused == GERFMUOD_REFUSED_STOPPED && gerfmuod_team_failed(team) == failing && !has_ended[failing];
     if (!is_well)
         printf("round %u: %u tasks, %u threads: refused %u, %d bodies too early or twice, %d releases refused\n", round, tasks, threads,
                refused, wrong, unreleased);
@@ -230,7 +230,7 @@ static bool round_is_well(uint32_t round) {
     need(gerfmuod_team_describe(team, described, classes, offsets, inputs, NULL), "describe");
     bool is_well = run_is_well(round, round);
     grown += described < tasks;
-    if (is_well && described < tasks && failing == GERFMUOD_GRAPH_NONE) is_well = gerfmuod_team_again(team) == GERFMUOD_GRAPH_WRONG_LIFE;
+    if (is_well && described < tasks && failing == GERFMUOD_GRAPH_NONE) is_well = gerfmuod_team_again(team) == GERFMUOD_REFUSED_WRONG_LIFE;
     for (uint32_t again = below(3); again > 0 && is_well && failing == GERFMUOD_GRAPH_NONE && described == tasks; again--) {
         need(gerfmuod_team_again(team), "again");
         clear_run();

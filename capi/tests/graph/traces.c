@@ -1,7 +1,7 @@
 /* traces.c: the trace of a team's run, which the library's gerfmuod_audit has to find sound, and traces with a damage, which it has
  * to refuse. */
 #define _POSIX_C_SOURCE 200809L
-#include "gerfmuod.h"
+#include <gerfmuod/core.h>
 #include "check.h"
 
 enum { TASKS = 30, LONGEST = 1 << 14, LINES = 3 * TASKS + 10 };
@@ -129,7 +129,7 @@ CASE(runs_on_several_threads) {
             check("before a run", gerfmuod_team_trace(team, text, sizeof text) == strlen(text));
             check_sound("is sound", text, false);
             uint32_t refused = gerfmuod_team_run(team, threads, fail_in_the_middle, run ? text : NULL);
-            check_refusal("run", refused, run ? GERFMUOD_GRAPH_STOPPED : GERFMUOD_GRAPH_OK);
+            check_refusal("run", refused, run ? GERFMUOD_REFUSED_STOPPED : GERFMUOD_OK);
             check("after it", gerfmuod_team_trace(team, text, sizeof text) == strlen(text));
             check_sound("is sound", text, !run);
         }

@@ -3,13 +3,13 @@
  *   epochs PROCESSES EPOCHS RUNS [right|unmarked|dropped]
  *
  * Each process reopens at a random time. Checked: when a process learns of the end of an epoch, all processes have come to the
- * epoch, none in it has work, and no message of it is under way; no message comes after the end of its epoch; no message is
+ * epoch, none in it has work, and no message of it is in flight; no message comes after the end of its epoch; no message is
  * refused as LATE; the epochs of two processes differ by at most one; and all processes reach the end of the last epoch.
  *
  * The others are faulty variants, which have to be detected. unmarked: counts a message under its receiver's epoch. dropped:
  * drops messages that are refused as NOT_YET. The exit status is 1 for a wrong end, 2 if a run does not end. */
 #include "../random.h"
-#include "gerfmuod_process.h"
+#include <gerfmuod/process.h>
 #include <inttypes.h>
 #include <stdio.h>
 #include <stdlib.h>
@@ -35,12 +35,12 @@ static uint64_t ends, early, after_the_end, far_apart, late_messages, late_contr
 static void do_work(uint32_t i) {
     gerfmuod_process *p = &process[i];
     if (!budget[p->epoch] || !below(3)) {
-        gerfmuod_process_finish_work(p);
+        if (gerfmuod_process_finish_work(p)) exit(9);
         return;
     }
     budget[p->epoch]--;
     if (below(2)) {
-        gerfmuod_process_add_work(p);
+        if (gerfmuod_process_add_work(p)) exit(9);
     } else if (in_flight < room && !gerfmuod_process_count_sent(p)) {
         messages[in_flight].to = below(n);
         messages[in_flight++].epoch = p->epoch;
@@ -52,14 +52,14 @@ static uint32_t message_comes(void) {
     size_t which = below((uint32_t)in_flight);
     uint32_t i = messages[which].to;
     uint32_t refused = gerfmuod_process_count_received(&process[i], is_unmarked ? process[i].epoch : messages[which].epoch);
-    late_messages += refused == GERFMUOD_PROCESS_LATE;
-    kept += refused == GERFMUOD_PROCESS_NOT_YET;
+    late_messages += refused == GERFMUOD_REFUSED_LATE;
+    kept += refused == GERFMUOD_REFUSED_NOT_YET;
     for (uint32_t k = 0; refused == 0 && k < n; k++)
         if (process[k].epoch > process[i].epoch || (process[k].epoch == process[i].epoch && process[k].over)) {
             after_the_end++;
             break;
         }
-    if (refused == 0 || (is_dropping && refused == GERFMUOD_PROCESS_NOT_YET)) messages[which] = messages[--in_flight];
+    if (refused == 0 || (is_dropping && refused == GERFMUOD_REFUSED_NOT_YET)) messages[which] = messages[--in_flight];
     return i;
 }
 
@@ -67,10 +67,10 @@ static uint32_t control_comes(void) {
     size_t which = below((uint32_t)controls_in_flight);
     gerfmuod_control_message c = controls[which];
     uint32_t i = (uint32_t)c.to, refused = gerfmuod_process_take(&process[i], &c);
-    bool is_kept = refused == GERFMUOD_PROCESS_NOT_YET && !is_dropping;
-    late_controls += refused == GERFMUOD_PROCESS_LATE;
-    kept += refused == GERFMUOD_PROCESS_NOT_YET;
-    if (!is_kept && (refused == GERFMUOD_PROCESS_LATE || below(4))) controls[which] = controls[--controls_in_flight];
+    bool is_kept = refused == GERFMUOD_REFUSED_NOT_YET && !is_dropping;
+    late_controls += refused == GERFMUOD_REFUSED_LATE;
+    kept += refused == GERFMUOD_REFUSED_NOT_YET;
+    if (!is_kept && (refused == GERFMUOD_REFUSED_LATE || below(4))) controls[which] = controls[--controls_in_flight];
     return i;
 }
 
@@ -86,12 +86,12 @@ static void ask_detector(uint32_t i) {
     gerfmuod_control_message c;
     if (gerfmuod_process_next(&process[i], &c) == GERFMUOD_PROCESS_SEND) {
         if (controls_in_flight == room) {
-            fprintf(stderr, "too many control messages under way\n");
+            fprintf(stderr, "too many control messages in flight\n");
             exit(9);
         }
         controls[controls_in_flight++] = c;
     }
-    if (known[i] <= process[i].epoch && gerfmuod_process_is_over(&process[i])) {
+    if (known[i] <= process[i].epoch && gerfmuod_process_knows_end(&process[i])) {
         known[i] = process[i].epoch + 1;
         ends++;
         early += is_anything_left(process[i].epoch);
@@ -117,7 +117,7 @@ static bool run(void) {
     uint32_t done = 0;
     in_flight = controls_in_flight = 0;
     for (uint32_t i = 0; i < n; i++) {
-        gerfmuod_process_init(&process[i], i, n);
+        if (gerfmuod_process_init(&process[i], i, n)) exit(9);
         known[i] = 0;
     }
     for (uint32_t e = 0; e < epochs; e++) budget[e] = 16ull * n;
@@ -130,7 +130,7 @@ static bool run(void) {
         } else if (what < 7) {
             if (controls_in_flight) i = control_comes();
         } else if (process[i].epoch + 1 < epochs && !below(4)) {
-            gerfmuod_process_reopen(&process[i]);
+            if (gerfmuod_process_reopen(&process[i]) > GERFMUOD_REFUSED_NOT_ENDED) exit(9);
         }
         ask_detector(i);
         ask_detector(0);

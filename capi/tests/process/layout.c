@@ -6,7 +6,7 @@
  * of the expected structs are swapped: then each case that compares them has to fail. */
 #include "../cases.h"
 #include "../random.h"
-#include "gerfmuod_process.h"
+#include <gerfmuod/process.h>
 
 enum { BYTES = offsetof(gerfmuod_process, over_right) + 1 };
 
@@ -24,9 +24,9 @@ static void check_at(int line, uint32_t got, uint32_t wanted, const gerfmuod_pro
 }
 #define check(got, wanted, p, as) check_at(__LINE__, got, wanted, p, as)
 
-static gerfmuod_control_message control_of(uint64_t epoch, uint64_t from, uint64_t to, uint64_t wave, uint64_t token, uint64_t sent,
+static gerfmuod_control_message control_of(uint64_t epoch, uint64_t from, uint64_t to, uint64_t wave, uint32_t token, uint64_t sent,
                                            uint64_t received) {
-    return (gerfmuod_control_message){epoch, from, to, wave, token, sent, received};
+    return (gerfmuod_control_message){epoch, from, to, wave, token, 13, sent, received};
 }
 
 static void check_control(const gerfmuod_control_message *got, gerfmuod_control_message wanted) {
@@ -44,68 +44,72 @@ static gerfmuod_process known_bytes(uint64_t own_mark) {
 CASE(readers) {
     gerfmuod_process p = known_bytes(mark);
     assert_int_equal(gerfmuod_process_is_open(&p), 1);
-    assert_int_equal(gerfmuod_process_is_over(&p), 0);
+    assert_int_equal(gerfmuod_process_knows_end(&p), 0);
     assert_int_equal(gerfmuod_process_epoch(&p), p.epoch);
     assert_int_equal(gerfmuod_process_pending(&p), p.pending);
     assert_int_equal(gerfmuod_process_sent(&p), p.sent);
     assert_int_equal(gerfmuod_process_received(&p), p.received);
     assert_int_equal(gerfmuod_process_wave(&p), p.wave);
     p.over = true;
-    assert_int_equal(gerfmuod_process_is_over(&p), 1);
+    assert_int_equal(gerfmuod_process_knows_end(&p), 1);
     p.mark ^= 1;
-    assert_int_equal(gerfmuod_process_is_over(&p), 0);
+    assert_int_equal(gerfmuod_process_knows_end(&p), 0);
     assert_int_equal(gerfmuod_process_is_open(&p), 0);
 }
 
 CASE(work_and_messages) {
     gerfmuod_process p = known_bytes(mark), as = p;
     as.pending++;
-    check(gerfmuod_process_add_work(&p), GERFMUOD_PROCESS_OK, &p, &as);
+    check(gerfmuod_process_add_work(&p), GERFMUOD_OK, &p, &as);
     as.pending--;
-    check(gerfmuod_process_finish_work(&p), GERFMUOD_PROCESS_OK, &p, &as);
+    check(gerfmuod_process_finish_work(&p), GERFMUOD_OK, &p, &as);
     as.sent++;
-    check(gerfmuod_process_count_sent(&p), GERFMUOD_PROCESS_OK, &p, &as);
+    check(gerfmuod_process_count_sent(&p), GERFMUOD_OK, &p, &as);
     as.sent++;
-    check(gerfmuod_process_outgoing_message_start(&p), GERFMUOD_PROCESS_OK, &p, &as);
+    check(gerfmuod_process_outgoing_message_start(&p), GERFMUOD_OK, &p, &as);
     as.pending++;
     as.received++;
-    check(gerfmuod_process_count_received(&p, p.epoch), GERFMUOD_PROCESS_OK, &p, &as);
+    check(gerfmuod_process_count_received(&p, p.epoch), GERFMUOD_OK, &p, &as);
     as.pending++;
     as.received++;
-    check(gerfmuod_process_incoming_message_start(&p, p.epoch), GERFMUOD_PROCESS_OK, &p, &as);
+    check(gerfmuod_process_incoming_message_start(&p, p.epoch), GERFMUOD_OK, &p, &as);
     as.pending--;
-    check(gerfmuod_process_incoming_message_end(&p), GERFMUOD_PROCESS_OK, &p, &as);
-    check(gerfmuod_process_count_received(&p, p.epoch + 1), GERFMUOD_PROCESS_NOT_YET, &p, &as);
-    check(gerfmuod_process_count_received(&p, p.epoch - 1), GERFMUOD_PROCESS_LATE, &p, &as);
-    check(gerfmuod_process_reopen(&p), GERFMUOD_PROCESS_NOT_ENDED, &p, &as);
+    check(gerfmuod_process_incoming_message_end(&p), GERFMUOD_OK, &p, &as);
+    check(gerfmuod_process_count_received(&p, p.epoch + 1), GERFMUOD_REFUSED_NOT_YET, &p, &as);
+    check(gerfmuod_process_count_received(&p, p.epoch - 1), GERFMUOD_REFUSED_LATE, &p, &as);
+    check(gerfmuod_process_reopen(&p), GERFMUOD_REFUSED_NOT_ENDED, &p, &as);
     p.sent = as.sent = GERFMUOD_PROCESS_MAX_COUNT;
-    check(gerfmuod_process_count_sent(&p), GERFMUOD_PROCESS_FULL, &p, &as);
+    check(gerfmuod_process_count_sent(&p), GERFMUOD_REFUSED_COUNT_FULL, &p, &as);
     p.received = as.received = GERFMUOD_PROCESS_MAX_COUNT;
-    check(gerfmuod_process_count_received(&p, p.epoch), GERFMUOD_PROCESS_FULL, &p, &as);
+    check(gerfmuod_process_count_received(&p, p.epoch), GERFMUOD_REFUSED_COUNT_FULL, &p, &as);
     p.pending = as.pending = GERFMUOD_PROCESS_MAX_COUNT;
-    check(gerfmuod_process_add_work(&p), GERFMUOD_PROCESS_FULL, &p, &as);
+    check(gerfmuod_process_add_work(&p), GERFMUOD_REFUSED_COUNT_FULL, &p, &as);
     p.pending = as.pending = 0;
-    check(gerfmuod_process_add_work(&p), GERFMUOD_PROCESS_INACTIVE, &p, &as);
-    check(gerfmuod_process_finish_work(&p), GERFMUOD_PROCESS_INACTIVE, &p, &as);
-    check(gerfmuod_process_count_sent(&p), GERFMUOD_PROCESS_INACTIVE, &p, &as);
+    check(gerfmuod_process_add_work(&p), GERFMUOD_REFUSED_NO_WORK, &p, &as);
+    check(gerfmuod_process_finish_work(&p), GERFMUOD_REFUSED_NO_WORK, &p, &as);
+    check(gerfmuod_process_count_sent(&p), GERFMUOD_REFUSED_NO_WORK, &p, &as);
 }
 
 /* The wave comes from the parent, goes to both children, comes back from both, and goes up. */
 CASE(wave) {
     gerfmuod_process p = known_bytes(mark), as;
     gerfmuod_control_message c;
-    p.processes = 12;
     c = control_of(p.epoch, 2, 5, p.wave + 1, GERFMUOD_PROCESS_TOKEN_DOWN, 0, 0);
     as = p;
+    for (int bit = 0; bit < 32; bit++) {
+        c.processes = 13 ^ (uint32_t)1 << bit;
+        check(gerfmuod_process_take(&p, &c), GERFMUOD_REFUSED_MISMATCHED, &p, &as);
+    }
+    p.processes = as.processes = c.processes = 12;
     as.wave++;
     as.here = as.down_left = as.up_left = true;
     as.taken_sent = as.taken_received = 0;
-    check(gerfmuod_process_take(&p, &c), GERFMUOD_PROCESS_OK, &p, &as);
-    check(gerfmuod_process_take(&p, &c), GERFMUOD_PROCESS_NOT_DUE, &p, &as);
+    check(gerfmuod_process_take(&p, &c), GERFMUOD_OK, &p, &as);
+    check(gerfmuod_process_take(&p, &c), GERFMUOD_REFUSED_NOT_DUE, &p, &as);
     p = known_bytes(mark);
-    as.processes = 13;
+    as.processes = c.processes = 13;
     as.down_right = as.up_right = true;
-    check(gerfmuod_process_take(&p, &c), GERFMUOD_PROCESS_OK, &p, &as);
+    check(gerfmuod_process_take(&p, &c), GERFMUOD_OK, &p, &as);
 
     as.down_left = false;
     check(gerfmuod_process_next(&p, &c), GERFMUOD_PROCESS_SEND, &p, &as);
@@ -122,14 +126,14 @@ CASE(wave) {
     as.up_right = false;
     as.taken_sent += c.sent;
     as.taken_received += c.received;
-    check(gerfmuod_process_take(&p, &c), GERFMUOD_PROCESS_OK, &p, &as);
-    check(gerfmuod_process_take(&p, &c), GERFMUOD_PROCESS_NOT_DUE, &p, &as);
+    check(gerfmuod_process_take(&p, &c), GERFMUOD_OK, &p, &as);
+    check(gerfmuod_process_take(&p, &c), GERFMUOD_REFUSED_NOT_DUE, &p, &as);
     check(gerfmuod_process_next(&p, &c), GERFMUOD_PROCESS_NOTHING, &p, &as);
     c.from = 11;
     as.up_left = false;
     as.taken_sent += c.sent;
     as.taken_received += c.received;
-    check(gerfmuod_process_take(&p, &c), GERFMUOD_PROCESS_OK, &p, &as);
+    check(gerfmuod_process_take(&p, &c), GERFMUOD_OK, &p, &as);
     p.pending = as.pending = 1;
     check(gerfmuod_process_next(&p, &c), GERFMUOD_PROCESS_NOTHING, &p, &as);
     p.pending = as.pending = 0;
@@ -163,7 +167,7 @@ CASE(end) {
     as.over_left = false;
     check(gerfmuod_process_next(&p, &c), GERFMUOD_PROCESS_SEND, &p, &as);
     check_control(&c, control_of(p.epoch, 0, 1, p.wave, GERFMUOD_PROCESS_TOKEN_OVER, 0, 0));
-    check(gerfmuod_process_reopen(&p), GERFMUOD_PROCESS_NOT_ENDED, &p, &as);
+    check(gerfmuod_process_reopen(&p), GERFMUOD_REFUSED_NOT_ENDED, &p, &as);
     as.over_right = false;
     check(gerfmuod_process_next(&p, &c), GERFMUOD_PROCESS_SEND, &p, &as);
     check_control(&c, control_of(p.epoch, 0, 2, p.wave, GERFMUOD_PROCESS_TOKEN_OVER, 0, 0));
@@ -173,15 +177,15 @@ CASE(end) {
     p.over = false;
     as.over_left = as.over_right = true;
     c = control_of(p.epoch, 2, 5, 0, GERFMUOD_PROCESS_TOKEN_OVER, 0, 0);
-    check(gerfmuod_process_take(&p, &c), GERFMUOD_PROCESS_OK, &p, &as);
-    check(gerfmuod_process_take(&p, &c), GERFMUOD_PROCESS_NOT_DUE, &p, &as);
+    check(gerfmuod_process_take(&p, &c), GERFMUOD_OK, &p, &as);
+    check(gerfmuod_process_take(&p, &c), GERFMUOD_REFUSED_NOT_DUE, &p, &as);
     p.over_left = p.over_right = false;
 
     as = (gerfmuod_process){.mark = mark, .epoch = p.epoch + 1, .number = 5, .processes = 13, .pending = 1};
-    check(gerfmuod_process_reopen(&p), GERFMUOD_PROCESS_OK, &p, &as);
+    check(gerfmuod_process_reopen(&p), GERFMUOD_OK, &p, &as);
     p.over = as.over = true;
     p.epoch = as.epoch = UINT64_MAX;
-    check(gerfmuod_process_reopen(&p), GERFMUOD_PROCESS_FULL, &p, &as);
+    check(gerfmuod_process_reopen(&p), GERFMUOD_REFUSED_COUNT_FULL, &p, &as);
 }
 
 /* Every call refuses a struct whose mark has one wrong bit, and does not change it. */
@@ -189,19 +193,19 @@ CASE(not_open) {
     for (int bit = 0; bit < 64; bit++) {
         gerfmuod_process p = known_bytes(mark ^ (uint64_t)1 << bit), as = p;
         gerfmuod_control_message c = control_of(p.epoch, 2, 5, p.wave + 1, GERFMUOD_PROCESS_TOKEN_DOWN, 0, 0);
-        check(gerfmuod_process_add_work(&p), GERFMUOD_PROCESS_NOT_OPEN, &p, &as);
-        check(gerfmuod_process_finish_work(&p), GERFMUOD_PROCESS_NOT_OPEN, &p, &as);
-        check(gerfmuod_process_count_sent(&p), GERFMUOD_PROCESS_NOT_OPEN, &p, &as);
-        check(gerfmuod_process_count_received(&p, p.epoch), GERFMUOD_PROCESS_NOT_OPEN, &p, &as);
-        check(gerfmuod_process_outgoing_message_start(&p), GERFMUOD_PROCESS_NOT_OPEN, &p, &as);
-        check(gerfmuod_process_incoming_message_start(&p, 0), GERFMUOD_PROCESS_NOT_OPEN, &p, &as);
-        check(gerfmuod_process_incoming_message_end(&p), GERFMUOD_PROCESS_NOT_OPEN, &p, &as);
-        check(gerfmuod_process_take(&p, &c), GERFMUOD_PROCESS_NOT_OPEN, &p, &as);
-        check(gerfmuod_process_next(&p, &c), GERFMUOD_PROCESS_NOT_OPEN, &p, &as);
+        check(gerfmuod_process_add_work(&p), GERFMUOD_REFUSED_NOT_OPEN, &p, &as);
+        check(gerfmuod_process_finish_work(&p), GERFMUOD_REFUSED_NOT_OPEN, &p, &as);
+        check(gerfmuod_process_count_sent(&p), GERFMUOD_REFUSED_NOT_OPEN, &p, &as);
+        check(gerfmuod_process_count_received(&p, p.epoch), GERFMUOD_REFUSED_NOT_OPEN, &p, &as);
+        check(gerfmuod_process_outgoing_message_start(&p), GERFMUOD_REFUSED_NOT_OPEN, &p, &as);
+        check(gerfmuod_process_incoming_message_start(&p, 0), GERFMUOD_REFUSED_NOT_OPEN, &p, &as);
+        check(gerfmuod_process_incoming_message_end(&p), GERFMUOD_REFUSED_NOT_OPEN, &p, &as);
+        check(gerfmuod_process_take(&p, &c), GERFMUOD_REFUSED_NOT_OPEN, &p, &as);
+        check(gerfmuod_process_next(&p, &c), GERFMUOD_REFUSED_NOT_OPEN, &p, &as);
         check_control(&c, control_of(p.epoch, 2, 5, p.wave + 1, GERFMUOD_PROCESS_TOKEN_DOWN, 0, 0));
-        check(gerfmuod_process_reopen(&p), GERFMUOD_PROCESS_NOT_OPEN, &p, &as);
+        check(gerfmuod_process_reopen(&p), GERFMUOD_REFUSED_NOT_OPEN, &p, &as);
         c.token = 3;
-        check(gerfmuod_process_take(&p, &c), GERFMUOD_PROCESS_NOT_OPEN, &p, &as);
+        check(gerfmuod_process_take(&p, &c), GERFMUOD_REFUSED_NOT_OPEN, &p, &as);
     }
 }
 
@@ -219,7 +223,7 @@ CASE(any_flags) {
         for (int f = 0; f < FLAGS; f++) flags_of(&p)[f] = k >> f & 1;
         for (int f = 0; f < FLAGS; f++) flags_of(&q)[f] = (uint8_t)((k >> f & 1) * (2 + (k * 31 + (uint32_t)f * 7) % 254));
         d = c;
-        assert_int_equal(gerfmuod_process_is_over(&q), gerfmuod_process_is_over(&p));
+        assert_int_equal(gerfmuod_process_knows_end(&q), gerfmuod_process_knows_end(&p));
         uint32_t next = gerfmuod_process_next(&p, &c);
         assert_int_equal(gerfmuod_process_next(&q, &d), next);
         assert_int_equal(memcmp(&c, &d, sizeof c) != 0, 0);
@@ -238,49 +242,32 @@ CASE(any_bytes) {
         for (size_t b = 0; b < sizeof c; b++) {
             bytes[b] = (unsigned char)below(256);
         }
-        check(gerfmuod_process_take(&p, &c), GERFMUOD_PROCESS_MALFORMED, &p, &as);
+        check(gerfmuod_process_take(&p, &c), GERFMUOD_REFUSED_MALFORMED, &p, &as);
         c.token %= 3;
-        check(gerfmuod_process_take(&p, &c), c.epoch > p.epoch ? GERFMUOD_PROCESS_NOT_YET : GERFMUOD_PROCESS_LATE, &p, &as);
+        check(gerfmuod_process_take(&p, &c), c.epoch > p.epoch ? GERFMUOD_REFUSED_NOT_YET : GERFMUOD_REFUSED_LATE, &p, &as);
         c.epoch = p.epoch;
-        check(gerfmuod_process_take(&p, &c), GERFMUOD_PROCESS_NOT_DUE, &p, &as);
+        check(gerfmuod_process_take(&p, &c), GERFMUOD_REFUSED_MISMATCHED, &p, &as);
+        c.processes = 13;
+        check(gerfmuod_process_take(&p, &c), GERFMUOD_REFUSED_NOT_DUE, &p, &as);
     }
 }
 
 CASE(beginnings) {
     gerfmuod_process p, none = {.pending = 1};
-    const gerfmuod_process as = {.mark = 0x676572666d756f64u, .number = 0x01020304, .processes = 0x81020304u, .pending = 1};
+    const gerfmuod_process as = {.mark = 0x67657266u, .number = 0x01020304, .processes = 0x81020304u, .pending = 1};
     memset(&p, 0xff, sizeof p);
-    check(gerfmuod_process_init(&p, 0, 0), GERFMUOD_PROCESS_NO_PROCESS, &p, &none);
-    check(gerfmuod_process_init(&p, 7, 7), GERFMUOD_PROCESS_NO_PROCESS, &p, &none);
+    check(gerfmuod_process_init(&p, 0, 0), GERFMUOD_REFUSED_NO_PROCESS, &p, &none);
+    check(gerfmuod_process_init(&p, 7, 7), GERFMUOD_REFUSED_NO_PROCESS, &p, &none);
     assert_int_equal(gerfmuod_process_is_open(&p), 0);
     memset(&p, 0xff, sizeof p);
-    check(gerfmuod_process_init(&p, as.number, as.processes), GERFMUOD_PROCESS_OK, &p, &as);
-}
-
-/* Each refusal has a text of its own, and so do "not refused" and "no refusal". */
-CASE(texts) {
-    char rooms[12][100];
-    for (uint32_t k = 0; k < 12; k++) {
-        uint32_t number = k ? GERFMUOD_PROCESS_INACTIVE - 2 + k : GERFMUOD_PROCESS_OK;
-        gerfmuod_process_text text = gerfmuod_process_meaning(number, rooms[k], sizeof rooms[k] - 1);
-        gerfmuod_process_text none = gerfmuod_process_meaning(number, NULL, 0);
-        assert_int_equal(text.outcome, 0);
-        assert_int_equal(text.length > 10 && text.length < 100, 1);
-        assert_int_equal(none.outcome, 4);
-        assert_int_equal(none.length, text.length);
-        rooms[k][text.length] = 0;
-        for (uint32_t j = 0; j < k; j++) {
-            int are_none = j == 1 && k == 11; /* the numbers next to the refusals */
-            assert_int_equal(strcmp(rooms[j], rooms[k]) == 0, (uint64_t)are_none);
-        }
-    }
+    check(gerfmuod_process_init(&p, as.number, as.processes), GERFMUOD_OK, &p, &as);
 }
 
 int main(int argc, char **argv) {
     const struct CMUnitTest cases[] = {
         cmocka_unit_test(beginnings), cmocka_unit_test(readers),   cmocka_unit_test(work_and_messages),
         cmocka_unit_test(wave),       cmocka_unit_test(end),       cmocka_unit_test(not_open),
-        cmocka_unit_test(any_flags),  cmocka_unit_test(any_bytes), cmocka_unit_test(texts),
+        cmocka_unit_test(any_flags),  cmocka_unit_test(any_bytes),
     };
     gerfmuod_process first;
     is_swapped = argc > 1 && !strcmp(argv[1], "swapped");

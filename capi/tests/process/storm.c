@@ -3,8 +3,8 @@
  *   storm PROCESSES RUNS [right|fifo|lossy|late|early|uncounted|twice]
  *
  * Each run is a random program. A process with work adds work, sends messages or finishes a piece of work. The program
- * counts the open work and the messages under way independently of the detector, and checks:
- *   - no process learns of the end before there is no work and no message under way (exit status 1: EARLY);
+ * counts the open work and the messages in flight independently of the detector, and checks:
+ *   - no process learns of the end before there is no work and no message in flight (exit status 1: EARLY);
  *   - all processes learn of the end, if nothing was lost (2: SILENT);
  *   - then exactly (2 waves + 1)(n - 1) control messages were sent, and at most 2 waves started after the last work (3);
  *   - the detector refused no call of the program (4).
@@ -14,7 +14,7 @@
  * The others are faulty variants, which show that the checks can fail. late: counts a receipt only when its work is done.
  * early: closes the work of a message when it comes. uncounted: does not count what it sends. twice: counts receipts twice. */
 #include "../random.h"
-#include "gerfmuod_process.h"
+#include <gerfmuod/process.h>
 #include <inttypes.h>
 #include <stdio.h>
 #include <stdlib.h>
@@ -88,7 +88,7 @@ static void ask_detector(uint32_t i) {
         has_ended[i] = true;
         informed++;
     }
-    if (!knows[i] && gerfmuod_process_is_over(&process[i])) {
+    if (!knows[i] && gerfmuod_process_knows_end(&process[i])) {
         knows[i] = true;
         was_early |= all_work != 0 || messages != 0 || lost != 0;
     }
@@ -133,9 +133,9 @@ static void message_comes(void) {
     more_work(i);
     if (mode == LATE) unreported[i]++;
     else refused += gerfmuod_process_count_received(&process[i], process[i].epoch) != 0;
-    if (mode == TWICE) gerfmuod_process_count_received(&process[i], process[i].epoch);
+    if (mode == TWICE) refused += gerfmuod_process_count_received(&process[i], process[i].epoch) != 0;
     if (mode == EARLY) unreported[i]++;
-    if (mode == EARLY || mode == TWICE) gerfmuod_process_finish_work(&process[i]);
+    if (mode == EARLY || mode == TWICE) refused += gerfmuod_process_finish_work(&process[i]) != 0;
 }
 
 /* A control message arrives. Returns its receiver. */
@@ -147,7 +147,7 @@ static uint32_t control_comes(void) {
     if (mode == FIFO) head++;
     else if (is_lost || below(4)) control[k] = control[--tail];
     if (head == tail) head = tail = 0;
-    if (!is_lost) gerfmuod_process_take(&process[i], &c);
+    if (!is_lost) refused += gerfmuod_process_take(&process[i], &c) > GERFMUOD_REFUSED_LATE; /* it may come late or twice */
     return i;
 }
 

@@ -40,9 +40,9 @@ pub use denote.Triple.Clauses.{lasts, Clauses, Ended, closing}
 pub use denote.Triple.Spec.{triple_of, Meets}
 pub use denote.Triple.Table.{framed, Enters, enters}
 pub use borrow.Table.OneValue.{part_in}
-pub use Rattle.gerfmuod.specs.Calls.{IsByCall, IsClosed, IsNumbersCall, IsRestartCall, IsSettleCall, IsStepCall, IsStepsCall, IsTraceCall}
-pub use Rattle.gerfmuod.specs.Calls.{IsReserveCall, IsWholeCall}
-pub use Rattle.gerfmuod.specs.Events.{event_of}
+pub use Rattle.gerfmuod.specs.Calls.{IsByCall, IsClosed, IsCountersCall, IsRestartCall, IsSettleCall, IsStepCall, IsStepsCall, IsTraceCall}
+pub use Rattle.gerfmuod.specs.Calls.{IsReserveCall, IsStatusCall}
+pub use Rattle.gerfmuod.specs.RawSteps.{raw_step}
 pub use Rattle.gerfmuod.specs.Slot.{CoreState, opened, opening}
 pub use denote.Triple.End.{Kepts, Fins, Outs, outs, lasts_of}
 pub use contract.Lifetimes.{Lfts, Shares, toks}
@@ -54,21 +54,22 @@ pub use prog.Model.{Model}
 pub use sound.WpLaws.{FmC}
 pub use denote.Slice.{shr_slice_vals, shr_slice_Tells, mut_slice_vals, mut_slice_Tells}
 pub use types.Part.{whole, sub, agg}
-pub use Rattle.gerfmuod.specs.Graph.{GraphState, opened_graph, IsDescribeCall, IsGraphCall, IsSpawnCall}
+pub use Rattle.gerfmuod.specs.Graph.{GraphState, opened_graph}
+pub use Rattle.gerfmuod.specs.GraphCalls.{IsDescribeCall, IsGraphCall, IsSpawnCall, IsTaskCall}
 pub use Rattle.gerfmuod.specs.contracts.slot.CoreSlot.{the_row as core_row}
 pub use Rattle.gerfmuod.specs.contracts.graph.slot.GraphSlot.{the_row as graph_row}
-pub use Rattle.gerfmuod.specs.contracts.answer.Answer.{the_row as answer_row}
-pub use Rattle.gerfmuod.proofs.answer.Answer.TheLaws.{the_row_laws as answer_laws}
+pub use Rattle.gerfmuod.specs.contracts.answer.StepResult.{the_row as result_row}
+pub use Rattle.gerfmuod.proofs.answer.StepResult.TheLaws.{the_row_laws as result_laws}
 pub use Rattle.gerfmuod.specs.contracts.answer.Counters.{the_row as counters_row}
 pub use Rattle.gerfmuod.proofs.answer.Counters.TheLaws.{the_row_laws as counters_laws}
 pub use Rattle.gerfmuod.specs.contracts.answer.Settled.{the_row as settled_row}
 pub use Rattle.gerfmuod.proofs.answer.Settled.TheLaws.{the_row_laws as settled_laws}
-pub use Rattle.gerfmuod.specs.contracts.answer.Whole.{the_row as whole_row}
-pub use Rattle.gerfmuod.proofs.answer.Whole.TheLaws.{the_row_laws as whole_laws}
+pub use Rattle.gerfmuod.specs.contracts.answer.Status.{the_row as status_row}
+pub use Rattle.gerfmuod.proofs.answer.Status.TheLaws.{the_row_laws as status_laws}
 pub use Rattle.gerfmuod.specs.contracts.answer.Written.{the_row as written_row}
 pub use Rattle.gerfmuod.proofs.answer.Written.TheLaws.{the_row_laws as written_laws}
-pub use Rattle.gerfmuod.specs.contracts.graph.answer.GraphAnswer.{the_row as graph_answer_row}
-pub use Rattle.gerfmuod.proofs.graph.answer.GraphAnswer.TheLaws.{the_row_laws as graph_answer_laws}
+pub use Rattle.gerfmuod.specs.contracts.graph.answer.GraphResult.{the_row as graph_result_row}
+pub use Rattle.gerfmuod.proofs.graph.answer.GraphResult.TheLaws.{the_row_laws as graph_result_laws}
 
 module _ {M : Type 1} {𝓤 : Ura M} (𝓛 : Logic 𝓤) (R : RattleType) where
   -- The memory at p has some value with the property P.

@@ -1,7 +1,7 @@
 -- The files of this folder.
 pub mod Borrowing
-pub mod Recording
+pub mod Growing
+pub mod Inferring
 pub mod Refused
 pub mod Steps
-pub mod Traced
 pub mod Words

@@ -7,10 +7,10 @@ use Rattle.gerfmuod.proofs.Words.{Settles, is_quiet, InEach, IsNeverEarly, never
 use Rattle.gerfmuod.proofs.Words.{None, inl, inr, Option, ◌&&◌, if◌then◌else◌, cases_Bool, lt-leb, Give, until, visit, waves, visited_at}
 use Rattle.gerfmuod.proofs.Words.{Plain, WaveSums, Not, Over, Opened, judged, reply_to, with_step, IsOverFrom, judged_wave, settled}
 use Rattle.gerfmuod.proofs.Words.{unsettled, IsOver, TellsNoEarlyEnd, is_ending_if, leaves_nothing, plain, told, reply_told, refusal_told}
-use Rattle.gerfmuod.proofs.Words.{AnswersInRoom, AnswersTo, IsTold, Answer, ◌<◌, take, drop, set, get_or, take_more, take_more_set}
+use Rattle.gerfmuod.proofs.Words.{AnswersInRoom, AnswersTo, IsTold, StepResult, ◌<◌, take, drop, set, get_or, take_more, take_more_set}
 use Rattle.gerfmuod.proofs.Words.{take-set, drop-set, drop-set-lt, drop-drop, drop_more, drop_all, length-set, AreTaken, IsBatch, IsStep}
 use Rattle.gerfmuod.proofs.Words.{IsStepsCall, step_asked, CoreState, Open}
-use Rattle.gerfmuod.specs.declared.event.Event.{Event}
+use Rattle.gerfmuod.specs.declared.raw_step.RawStep.{RawStep}
 
 -- ---- a core keeps room for settling, so settling is never refused for lack of it
 -- Until termination is detected, there is room for 9 steps for each node.
@@ -100,14 +100,14 @@ over_at_judge n w past never e =
     (never w [] past refl e)
 
 -- ---- a step whose result is `Over` was a judgement
-reply_over : (reply : Reply) → (reply_told reply).told ≡ 3 → reply ≡ Over (reply_told reply).number
+reply_over : (reply : Reply) → (reply_told reply).event ≡ 3 → reply ≡ Over (reply_told reply).number
 reply_over Plain e = cc
 reply_over (WaveSums s) e = cc
 reply_over Not e = cc
 reply_over (Over w) e = refl
 reply_over (Opened g) e = cc
 
-refusal_tells : (r : Refusal) → (refusal_told r).told ≡ 0
+refusal_tells : (r : Refusal) → (refusal_told r).event ≡ 0
 refusal_tells (HistoryFull n) = refl
 refusal_tells (r) = refl
 
@@ -129,7 +129,7 @@ over_after old new s w e n never =
     (λ each. over_at_judge old.nodes w (present old.steps) (each [] (Judge ∷ old.steps) refl) j.1) never
 
 -- the result of a step, if it says that the pool had terminated
-told_three : (left : Bool) (reply : Reply) → (if left then plain 0 5 0 else reply_told reply).told ≡ 3
+told_three : (left : Bool) (reply : Reply) → (if left then plain 0 5 0 else reply_told reply).event ≡ 3
     → reply ≡ Over (if left then plain 0 5 0 else reply_told reply).number
 told_three true reply e = cc
 told_three false reply e = reply_over reply e
@@ -144,7 +144,7 @@ answered_in_room old s reply new a = a.taken (full_is_refused old s reply new a)
 
 pub told_over : (old new : Accepted) (o : Option Step) (r : Result Reply Refusal) → AnswersTo old o r new
     → InEach (IsNeverEarly new.nodes) new.steps
-    → TellsNoEarlyEnd ((told o r new).told ≡ 3) (told o r new).number new
+    → TellsNoEarlyEnd ((told o r new).event ≡ 3) (told o r new).number new
 told_over old new (Some s) (Ok reply) a never =
     record {
       ended = λ e.
@@ -158,14 +158,14 @@ told_over old new None (Ok reply) a never = record { ended = λ e. let none = a.
 told_over old new None (Err r) a never = record { ended = λ e. let none = refusal_tells r in cc; never_early = never }
 
 -- The result of a step that was taken, if whether it left nothing was seen before.
-pub told_left : (old new : Accepted) (o : Option Step) (reply : Reply) (u : Answer) (ends left : Bool) → AnswersTo old o (Ok reply) new
+pub told_left : (old new : Accepted) (o : Option Step) (reply : Reply) (u : StepResult) (ends left : Bool) → AnswersTo old o (Ok reply) new
     → InEach (IsNeverEarly new.nodes) new.steps → ends ≡ is_ending_if o → left ≡ (ends && is_quiet (world_of new))
-    → u ≡ (if left then plain 0 5 0 else reply_told reply) → IsTold old o u new × TellsNoEarlyEnd (u.told ≡ 3) u.number new
+    → u ≡ (if left then plain 0 5 0 else reply_told reply) → IsTold old o u new × TellsNoEarlyEnd (u.event ≡ 3) u.number new
 told_left old new o reply u ends left a never e l is =
     let seen : left ≡ leaves_nothing o new = l ∙ rw e refl in
     let now : u ≡ told o (Ok reply) new = is ∙ rw seen refl in (
       (Ok reply, a, now),
-      subst (λ (x : Answer). TellsNoEarlyEnd (x.told ≡ 3) x.number new) (sym now) (told_over old new o (Ok reply) a never),
+      subst (λ (x : StepResult). TellsNoEarlyEnd (x.event ≡ 3) x.number new) (sym now) (told_over old new o (Ok reply) a never),
     )
 
 -- ---- the same for `settle`
@@ -216,12 +216,12 @@ result_changes_nothing : (old : Accepted) (o : Option Step) (r : Result Reply Re
 result_changes_nothing old o (Ok reply) new a differs = absurd (differs (told_taken (leaves_nothing o new) reply))
 result_changes_nothing old o (Err r) new a differs = err_changes_nothing old o r new a
 
-pub refused_same : (e : Event) (old : Accepted) (u : Answer) (new : Accepted) → IsStep e old u new → u.refused ≢ 0 → new ≡ old
+pub refused_same : (e : RawStep) (old : Accepted) (u : StepResult) (new : Accepted) → IsStep e old u new → u.refused ≢ 0 → new ≡ old
 refused_same e old u new s differs =
-    result_changes_nothing old (step_asked e) s.0.0 new s.0.1 (subst (λ (x : Answer). x.refused ≢ 0) s.0.2 differs)
+    result_changes_nothing old (step_asked e) s.0.0 new s.0.1 (subst (λ (x : StepResult). x.refused ≢ 0) s.0.2 differs)
 
 -- ---- one step more
-one_more : (old mid new : Accepted) (es : List Event) (us : List Answer) (e : Event) (u : Answer) → AreTaken old es us mid
+one_more : (old mid new : Accepted) (es : List RawStep) (us : List StepResult) (e : RawStep) (u : StepResult) → AreTaken old es us mid
     → IsStep e mid u new → u.refused ≡ 0 → AreTaken old (es ++ e ∷ []) (us ++ u ∷ []) new
 one_more old mid new [] [] e u t s taken = (new, subst (λ (a : Accepted). IsStep e a u new) t s, taken, refl)
 one_more old mid new (d ∷ es) (v ∷ us) e u t s taken = (t.0, t.1, t.2, one_more t.0 mid new es us e u t.3 s taken)
@@ -229,20 +229,20 @@ one_more old mid new [] (v ∷ us) e u t s taken = absurd t
 one_more old mid new (d ∷ es) [] e u t s taken = absurd t
 
 -- Of the events, k were taken, and their results are in the first places of the buffer.
-pub record AfterSteps (events : List Event) (room : List Answer) (old : Accepted) (k : ℕ) (answers : List Answer) (now : Accepted)
+pub record AfterSteps (events : List RawStep) (room : List StepResult) (old : Accepted) (k : ℕ) (answers : List StepResult) (now : Accepted)
     : Type 0 where
   pub taken : AreTaken old (take k events) (take k answers) now
   pub rest : drop k answers ≡ drop k room
   pub long : length answers ≡ length room
 
-pub after_none : (events : List Event) (room : List Answer) (old : Accepted) → AfterSteps events room old 0 room old
+pub after_none : (events : List RawStep) (room : List StepResult) (old : Accepted) → AfterSteps events room old 0 room old
 after_none events room old = record { taken = refl; rest = refl; long = refl }
 
-rest_after : (answers room : List Answer) (k : ℕ) → drop k answers ≡ drop k room → drop (k + 1) answers ≡ drop (k + 1) room
-rest_after answers room k e = sym (drop-drop 1 k answers) ∙ ap (λ (xs : List Answer). drop 1 xs) e ∙ drop-drop 1 k room
+rest_after : (answers room : List StepResult) (k : ℕ) → drop k answers ≡ drop k room → drop (k + 1) answers ≡ drop (k + 1) room
+rest_after answers room k e = sym (drop-drop 1 k answers) ∙ ap (λ (xs : List StepResult). drop 1 xs) e ∙ drop-drop 1 k room
 
-pub after_one : (events : List Event) (room : List Answer) (old : Accepted) (k : ℕ) (answers : List Answer) (mid : Accepted) (d : Event)
-    (u : Answer) (new : Accepted)
+pub after_one : (events : List RawStep) (room : List StepResult) (old : Accepted) (k : ℕ) (answers : List StepResult) (mid : Accepted) (d : RawStep)
+    (u : StepResult) (new : Accepted)
     → k < length events → length events ≤ length room → AfterSteps events room old k answers mid → IsStep (get_or events k d) mid u new
     → u.refused ≡ 0 → AfterSteps events room old (k + 1) (set answers k u) new
 after_one events room old k answers mid d u new below few a s taken =
@@ -255,11 +255,11 @@ after_one events room old k answers mid d u new below few a s taken =
       long = length-set answers k u ∙ a.long;
     }
 
-next_event : (e d : Event) (later rest : List Event) → e ∷ later ≡ d ∷ rest → d ≡ e
+next_event : (e d : RawStep) (later rest : List RawStep) → e ∷ later ≡ d ∷ rest → d ≡ e
 next_event e d later rest same = cc
 
-pub stops_at : (events : List Event) (room : List Answer) (old : Accepted) (k : ℕ) (answers : List Answer) (mid : Accepted) (d : Event)
-    (u : Answer) (new : Accepted)
+pub stops_at : (events : List RawStep) (room : List StepResult) (old : Accepted) (k : ℕ) (answers : List StepResult) (mid : Accepted) (d : RawStep)
+    (u : StepResult) (new : Accepted)
     → k < length events → length events ≤ length room → AfterSteps events room old k answers mid → IsStep (get_or events k d) mid u new
     → u.refused ≢ 0 → IsBatch events room old k (set answers k u) new
 stops_at events room old k answers mid d u new below few a s refused =
@@ -274,13 +274,13 @@ stops_at events room old k answers mid d u new below few a s refused =
           let is : get_or events k d ≡ e =
           next_event e (get_or events k d) later (drop (k + 1) events) (sym left ∙ drop_more events k d below) in (
             u,
-            subst (λ (x : Event). IsStep x new u new) is (subst (λ (x : Accepted). IsStep (get_or events k d) x u new) (sym same) s),
+            subst (λ (x : RawStep). IsStep x new u new) is (subst (λ (x : Accepted). IsStep (get_or events k d) x u new) (sym same) s),
             refused,
-            drop-set answers k u there ∙ ap (λ (xs : List Answer). u ∷ xs) (rest_after answers room k a.rest),
+            drop-set answers k u there ∙ ap (λ (xs : List StepResult). u ∷ xs) (rest_after answers room k a.rest),
           );
     }
 
-pub after_all : (events : List Event) (room : List Answer) (old : Accepted) (k : ℕ) (answers : List Answer) (new : Accepted)
+pub after_all : (events : List RawStep) (room : List StepResult) (old : Accepted) (k : ℕ) (answers : List StepResult) (new : Accepted)
     → k ≡ length events → AfterSteps events room old k answers new → IsBatch events room old k answers new
 after_all events room old k answers new e a =
     record {
@@ -291,8 +291,8 @@ after_all events room old k answers new e a =
     }
 
 -- A call on an open core takes the events that have a place for their result.
-pub taken_by_call : (events given : List Event) (room : List Answer) (old new : CoreState) (first : Accepted) (count : ℕ)
-    (answers : List Answer)
+pub taken_by_call : (events given : List RawStep) (room : List StepResult) (old new : CoreState) (first : Accepted) (count : ℕ)
+    (answers : List StepResult)
     → given ≡ take (length room) events → first ≡ old.core → old.use_is ≡ Open → new.use_is ≡ Open
     → IsBatch given room first count answers new.core → IsStepsCall events room old (count, answers) new
 taken_by_call events given room old new first count answers same before was is taken =
@@ -301,7 +301,7 @@ taken_by_call events given room old new first count answers same before was is t
       if_busy = λ e. cc;
       if_open = λ e. (
         is,
-        subst (λ (xs : List Event). IsBatch xs room old.core count answers new.core) same
+        subst (λ (xs : List RawStep). IsBatch xs room old.core count answers new.core) same
             (subst (λ (a : Accepted). IsBatch given room a count answers new.core) before taken),
       );
     }

@@ -19,16 +19,16 @@ use Rattle.tp_core.specs.declared.Maker.TheVariants.{Task, Action, Message, Open
 use Rattle.tp_core.specs.declared.Reply.{Reply}
 use Rattle.tp_core.specs.declared.Reply.TheVariants.{Plain, WaveSums, Not, Over, Opened}
 use Rattle.tp_core.specs.declared.numbers.NodeNumbers.{NodeNumbers}
-use Rattle.gerfmuod.specs.Events.{node, task, action, message, step_asked}
+use Rattle.gerfmuod.specs.RawSteps.{node, task, action, message, step_asked}
 use Rattle.gerfmuod.specs.Pool.{TellsNoEarlyEnd}
 use Rattle.gerfmuod.specs.Slot.{CoreState, IsCall, Closed, Open, Busy, closed, new_core}
 use Rattle.gerfmuod.specs.Written.{IsTraced}
-use Rattle.gerfmuod.specs.declared.answer.Answer.{Answer}
+use Rattle.gerfmuod.specs.declared.answer.StepResult.{StepResult}
 use Rattle.gerfmuod.specs.declared.answer.Counters.{Counters}
 use Rattle.gerfmuod.specs.declared.answer.Settled.{Settled}
-use Rattle.gerfmuod.specs.declared.answer.Whole.{Whole}
+use Rattle.gerfmuod.specs.declared.answer.Status.{Status}
 use Rattle.gerfmuod.specs.declared.answer.Written.{Written}
-use Rattle.gerfmuod.specs.declared.event.Event.{Event}
+use Rattle.gerfmuod.specs.declared.raw_step.RawStep.{RawStep}
 
 -- ---- the room of a core. It keeps 9 steps for each node, which are enough for `settle`
 -- the number of steps that can still be reported
@@ -39,18 +39,18 @@ abbrev pub is_full : Accepted → Bool
 is_full a = room_of a == 0
 
 -- ---- the result of a step
-abbrev pub plain : ℕ → ℕ → ℕ → Answer
-plain refused told number = record { refused = refused; told = told; number = number; sent = 0; received = 0 }
+abbrev pub plain : ℕ → ℕ → ℕ → StepResult
+plain refused event number = record { refused = refused; event = event; number = number; sent = 0; received = 0 }
 
-abbrev pub reply_told : Reply → Answer
+abbrev pub reply_told : Reply → StepResult
 reply_told Plain = plain 0 0 0
-reply_told (WaveSums s) = record { refused = 0; told = 1; number = s.wave; sent = s.sent; received = s.received }
+reply_told (WaveSums s) = record { refused = 0; event = 1; number = s.wave; sent = s.sent; received = s.received }
 reply_told Not = plain 0 2 0
 reply_told (Over w) = plain 0 3 w
 reply_told (Opened g) = plain 0 4 g.0
 
 -- the result of a refusal; if the history is full, with the number of steps
-abbrev pub refusal_told : Refusal → Answer
+abbrev pub refusal_told : Refusal → StepResult
 refusal_told (HistoryFull n) = plain 16 0 n
 refusal_told r = plain (number_of r) 0 0
 
@@ -78,7 +78,7 @@ has_plain_reply (Some Reopen) = false
 has_plain_reply _ = true
 
 -- the result of a step after which the core has accepted the new steps
-abbrev pub told : Option Step → Result Reply Refusal → Accepted → Answer
+abbrev pub told : Option Step → Result Reply Refusal → Accepted → StepResult
 told o (Ok reply) new = if leaves_nothing o new then plain 0 5 0 else reply_told reply
 told o (Err r) new = refusal_told r
 
@@ -94,7 +94,7 @@ AnswersTo old None r new = (r ≡ Err BadSpec) × (new ≡ old)
 AnswersTo old (Some s) r new = AnswersInRoom old s r new
 
 -- The result of a step, or of no step, on a core that accepted the old steps, and the core after it.
-abbrev pub IsTold : Accepted → Option Step → Answer → Accepted → Type 0
+abbrev pub IsTold : Accepted → Option Step → StepResult → Accepted → Type 0
 IsTold old o answer new = (r : Result Reply Refusal) × AnswersTo old o r new × (answer ≡ told o r new)
 
 -- ---- a step with its maker, as C passes it
@@ -109,18 +109,18 @@ maker_asked kind m =
     else None))))
 
 -- the step that C passes, if it is one that has a maker: the steps of tasks, opening an action and sending a message
-abbrev pub made_step : Event → Option Step
+abbrev pub made_step : RawStep → Option Step
 made_step e = if nat_le e.kind 4 || (e.kind == 7) then step_asked e else None
 
 -- A step that its maker may not make is refused as 29, `NoMaker`, before all checks of the step and of
 -- the room, and nothing changes.
 -- Any other step does and returns what it does and returns without a maker.
-pub record IsMadeBy (old : Accepted) (m : Maker) (s : Step) (answer : Answer) (new : Accepted) : Type 0 where
+pub record IsMadeBy (old : Accepted) (m : Maker) (s : Step) (answer : StepResult) (new : Accepted) : Type 0 where
   pub no_maker : IsFalse (is_maker m s (world_of old)) → (answer ≡ plain 29 0 0) × (new ≡ old)
   pub told : IsTrue (is_maker m s (world_of old)) → IsTold old (Some s) answer new
 
 -- If there is no such step or no such maker, the call is refused and nothing changes.
-abbrev pub IsMade : Accepted → Option Maker → Option Step → Answer → Accepted → Type 0
+abbrev pub IsMade : Accepted → Option Maker → Option Step → StepResult → Accepted → Type 0
 IsMade old (Some m) (Some s) answer new = IsMadeBy old m s answer new
 IsMade old (Some m) None answer new = (answer ≡ refusal_told BadSpec) × (new ≡ old)
 IsMade old None s answer new = (answer ≡ refusal_told BadSpec) × (new ≡ old)
@@ -133,13 +133,13 @@ counters refused n = record { refused = refused; pending = n.pending; sent = n.s
 abbrev pub counters_at : ℕ → Accepted → Counters
 counters_at i a = if nat_lt i a.nodes then counters 0 (numbers_at i a) else counters (number_of NoNode) no_numbers
 
--- The pool as a whole: the steps that were taken, the steps that can still be reported, the messages under way, and
+-- The pool as a whole: the steps that were taken, the steps that can still be reported, the messages in flight, and
 -- whether it is quiet.
-pub record IsWhole (a : Accepted) (answer : Whole) : Type 0 where
+pub record IsStatus (a : Accepted) (answer : Status) : Type 0 where
   pub steps : answer.steps ≡ length a.steps
-  pub room : answer.room ≡ room_of a
-  pub under_way : answer.under_way ≡ length (world_of a).messages
-  pub quiet : IsTrue answer.quiet ↔ IsQuiet (world_of a)
+  pub steps_left : answer.steps_left ≡ room_of a
+  pub in_flight : answer.in_flight ≡ length (world_of a).messages
+  pub quiet : IsTrue answer.is_quiet ↔ IsQuiet (world_of a)
 
 -- the result of a refusal; if there is no room for more steps, with the number of steps
 abbrev pub unsettled : Refusal → Settled
@@ -156,11 +156,11 @@ IsSettled old answer new = (r : Result (ℕ × ℕ) Refusal) × Settles old r ne
 
 -- ---- several steps in one call
 -- The result of a step on an open core, and the core after it.
-abbrev pub IsStep : Event → Accepted → Answer → Accepted → Type 0
-IsStep e old u new = IsTold old (step_asked e) u new × TellsNoEarlyEnd (u.told ≡ 3) u.number new
+abbrev pub IsStep : RawStep → Accepted → StepResult → Accepted → Type 0
+IsStep e old u new = IsTold old (step_asked e) u new × TellsNoEarlyEnd (u.event ≡ 3) u.number new
 
 -- The steps were taken in order, each with its result.
-abbrev pub AreTaken : Accepted → List Event → List Answer → Accepted → Type 0
+abbrev pub AreTaken : Accepted → List RawStep → List StepResult → Accepted → Type 0
 AreTaken old [] [] new = new ≡ old
 AreTaken old (e ∷ events) (u ∷ answers) new =
     (next : Accepted) × IsStep e old u next × (u.refused ≡ 0) × AreTaken next events answers new
@@ -168,45 +168,45 @@ AreTaken old _ _ new = ⊥
 
 -- The first `count` events were taken as steps, with their results in the first places of `answers`. If events are left, the
 -- next one was refused, and its result follows. All other places are those of the buffer before, `room`.
-pub record IsBatch (events : List Event) (room : List Answer) (old : Accepted)
-    (count : ℕ) (answers : List Answer) (new : Accepted) : Type 0 where
+pub record IsBatch (events : List RawStep) (room : List StepResult) (old : Accepted)
+    (count : ℕ) (answers : List StepResult) (new : Accepted) : Type 0 where
   pub within : count ≤ length events
   pub taken : AreTaken old (take count events) (take count answers) new
   pub all : count ≡ length events → drop count answers ≡ drop count room
-  pub refused : (e : Event) (later : List Event) → drop count events ≡ e ∷ later
-      → (u : Answer) × IsStep e new u new × (u.refused ≢ 0) × (drop count answers ≡ u ∷ drop (count + 1) room)
+  pub refused : (e : RawStep) (later : List RawStep) → drop count events ≡ e ∷ later
+      → (u : StepResult) × IsStep e new u new × (u.refused ≢ 0) × (drop count answers ≡ u ∷ drop (count + 1) room)
 
 -- ---- the exported calls
-abbrev pub refused_step : ℕ → Answer
+abbrev pub refused_step : ℕ → StepResult
 refused_step k = plain k 0 0
 
-abbrev pub IsStepCall : Event → CoreState → Answer → CoreState → Type 0
+abbrev pub IsStepCall : RawStep → CoreState → StepResult → CoreState → Type 0
 IsStepCall e = IsCall refused_step (IsStep e)
 
-abbrev pub IsByCall : ℕ → ℕ → Event → CoreState → Answer → CoreState → Type 0
+abbrev pub IsByCall : ℕ → ℕ → RawStep → CoreState → StepResult → CoreState → Type 0
 IsByCall kind m e =
-    IsCall refused_step (λ a u b. IsMade a (maker_asked kind m) (made_step e) u b × TellsNoEarlyEnd (u.told ≡ 3) u.number b)
+    IsCall refused_step (λ a u b. IsMade a (maker_asked kind m) (made_step e) u b × TellsNoEarlyEnd (u.event ≡ 3) u.number b)
 
 -- Refused as its first event is: no event was taken, and the first place of the buffer has the refusal, if there are an event
 -- and a place.
-abbrev pub refused_batch : List Event → List Answer → ℕ → ℕ × List Answer
+abbrev pub refused_batch : List RawStep → List StepResult → ℕ → ℕ × List StepResult
 refused_batch (e ∷ events) (u ∷ room) k = (0, refused_step k ∷ room)
 refused_batch _ room k = (0, room)
 
 -- The result is the number of events that were taken, and the content of the buffer. Events without a place for their result
 -- are not looked at.
-abbrev pub IsStepsCall : List Event → List Answer → CoreState → ℕ × List Answer → CoreState → Type 0
+abbrev pub IsStepsCall : List RawStep → List StepResult → CoreState → ℕ × List StepResult → CoreState → Type 0
 IsStepsCall events room =
     IsCall (refused_batch events room) (λ a u b. IsBatch (take (length room) events) room a u.0 u.1 b)
 
-abbrev pub IsNumbersCall : ℕ → CoreState → Counters → CoreState → Type 0
-IsNumbersCall i = IsCall (λ k. counters k no_numbers) (λ a u b. (u ≡ counters_at i a) × (b ≡ a))
+abbrev pub IsCountersCall : ℕ → CoreState → Counters → CoreState → Type 0
+IsCountersCall i = IsCall (λ k. counters k no_numbers) (λ a u b. (u ≡ counters_at i a) × (b ≡ a))
 
-abbrev pub nothing_seen : Whole
-nothing_seen = record { steps = 0; room = 0; under_way = 0; quiet = false }
+abbrev pub nothing_seen : Status
+nothing_seen = record { steps = 0; steps_left = 0; in_flight = 0; is_quiet = false }
 
-abbrev pub IsWholeCall : CoreState → Whole → CoreState → Type 0
-IsWholeCall = IsCall (λ k. nothing_seen) (λ a u b. IsWhole a u × (b ≡ a))
+abbrev pub IsStatusCall : CoreState → Status → CoreState → Type 0
+IsStatusCall = IsCall (λ k. nothing_seen) (λ a u b. IsStatus a u × (b ≡ a))
 
 abbrev pub refused_settle : ℕ → Settled
 refused_settle k = record { refused = k; wave = 0; steps = 0 }

@@ -1,12 +1,13 @@
 -- The files of this folder.
 pub mod Calls
 pub mod CoreSlot
-pub mod Events
+pub mod Data
 pub mod Graph
+pub mod GraphCalls
 pub mod GraphSlot
-pub mod Homes
 pub mod Meanings
 pub mod Pool
+pub mod RawSteps
 pub mod Slot
 pub mod Wire
 pub mod Written

@@ -1,5 +1,5 @@
 -- Control messages, refusals and results of `next`, as numbers.
-use Rattle.std.specs.Prelude.{ℕ, ◌≡◌, ◌⊎◌, ◌==◌, if◌then◌else◌, List, codes, Option, Some, None, Result, Ok, Err}
+use Rattle.std.specs.Prelude.{ℕ, ◌≡◌, ◌⊎◌, ◌==◌, if◌then◌else◌, Option, Some, None, Result, Ok, Err}
 use Rattle.tp_process.specs.Calls.{receive_refusal, take_refusal}
 use Rattle.tp_process.specs.Epochs.{of_epoch, took_in, with_state}
 use Rattle.tp_process.specs.Opening.{checked, if_open, is_open, unopened}
@@ -9,24 +9,28 @@ use Rattle.tp_process.specs.declared.control_message.ControlMessage.{ControlMess
 use Rattle.tp_process.specs.declared.outcome.Next.{Next}
 use Rattle.tp_process.specs.declared.outcome.Next.TheVariants.{Send, Again, Ended, Nothing}
 use Rattle.tp_process.specs.declared.outcome.Refusal.{Refusal}
-use Rattle.tp_process.specs.declared.outcome.Refusal.TheVariants.{Inactive, Full, NotDue, NotYet, Late, NotEnded, NotOpen, NoProcess}
+use Rattle.tp_process.specs.declared.outcome.Refusal.TheVariants.{Inactive, Full, NotDue, NotYet, Late, NotEnded, NotOpen, NoProcess, Miscounted, Mismatched}
 use Rattle.tp_process.specs.State.{EpochState, ProcessState}
 use Rattle.tp_process.specs.declared.process.Process.{Process}
 use Rattle.gerfmuod.specs.declared.wire.WireMessage.{WireMessage}
 
-abbrev pub wire_with : ℕ → ControlMessage → Token → WireMessage
-wire_with e l Down = record { epoch = e; from = l.from; to = l.to; wave = l.wave; token = 0; sent = 0; received = 0 }
-wire_with e l (Up s r) = record { epoch = e; from = l.from; to = l.to; wave = l.wave; token = 1; sent = s; received = r }
-wire_with e l Over = record { epoch = e; from = l.from; to = l.to; wave = l.wave; token = 2; sent = 0; received = 0 }
+abbrev pub wire_as : ℕ → ControlMessage → ℕ → ℕ → ℕ → WireMessage
+wire_as e l token s r =
+    record { epoch = e; from = l.from; to = l.to; wave = l.wave; token = token; processes = l.processes; sent = s; received = r }
 
--- the seven numbers of a control message of an epoch
+abbrev pub wire_with : ℕ → ControlMessage → Token → WireMessage
+wire_with e l Down = wire_as e l 0 0 0
+wire_with e l (Up s r) = wire_as e l 1 s r
+wire_with e l Over = wire_as e l 2 0 0
+
+-- the eight numbers of a control message of an epoch
 abbrev pub wire_of : ℕ → ControlMessage → WireMessage
 wire_of e l = wire_with e l l.token
 
 abbrev pub message_with : WireMessage → Token → ControlMessage
-message_with m token = record { from = m.from; to = m.to; wave = m.wave; token = token }
+message_with m token = record { from = m.from; to = m.to; wave = m.wave; processes = m.processes; token = token }
 
--- the control message of seven numbers, if there is such a token
+-- the control message of eight numbers, if there is such a token
 abbrev pub message_of : WireMessage → Option ControlMessage
 message_of m =
     if m.token == 0 then Some (message_with m Down)
@@ -45,6 +49,8 @@ refused_as (Some Late) = 105
 refused_as (Some NotEnded) = 106
 refused_as (Some NotOpen) = 107
 refused_as (Some NoProcess) = 108
+refused_as (Some Miscounted) = 110
+refused_as (Some Mismatched) = 111
 
 -- the refusal of a call: the process is not open, or its state does not pass the test
 abbrev pub refused_by : (EpochState → Option Refusal) → ProcessState → ℕ
@@ -57,21 +63,6 @@ receipt_refused e p = refused_as (checked p (of_epoch e p (receive_refusal p.sta
 -- the process after an event, which has no effect if the process is not open
 abbrev pub after_event : (EpochState → EpochState) → ProcessState → ProcessState
 after_event event p = if_open p (with_state p (event p.state))
-
--- the meaning of a refusal of this number
-abbrev pub process_meaning : ℕ → List ℕ
-process_meaning number =
-    if number == 0 then codes "the call was not refused"
-    else (if number == 101 then codes "no piece of work is open at the process"
-    else (if number == 102 then codes "a number is at its limit"
-    else (if number == 103 then codes "the control message is for another process, of another wave, or was taken before"
-    else (if number == 104 then codes "it is of a later epoch: keep it until the process has reopened"
-    else (if number == 105 then codes "it is of an older epoch"
-    else (if number == 106 then codes "the process has not learned of the end of this epoch, or has not notified all its children"
-    else (if number == 107 then codes "the process is not open"
-    else (if number == 108 then codes "the number of the process is not below the number of processes"
-    else (if number == 109 then codes "no control message has such a token"
-    else codes "no call refuses with this number")))))))))
 
 -- the content of the place for a process after `new`
 abbrev pub after_init : Result Process Refusal → Process

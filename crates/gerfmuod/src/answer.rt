@@ -3,19 +3,19 @@
 /// The result of a step.
 #[repr(C)]
 #[derive(Clone, Copy, Debug, PartialEq, Eq)]
-pub struct Answer {
+pub struct StepResult {
     /// 0: the step was taken. Else the number of its refusal, and nothing changed.
     pub refused: u16,
-    /// What a step that was taken showed: 0, nothing more; 1, a wave ended; 2, its sums do not show termination; 3, the
+    /// What happened with a step that was taken: 0, nothing more; 1, a wave ended; 2, its sums do not show termination; 3, the
     /// pool had terminated; 4, it was reopened; 5, it ended a task, an action, an opening or a message, and the pool is
     /// quiet after it. 0 if the step was refused.
-    pub told: u16,
-    /// If `told` is 1 or 3, the number of the wave; if it is 4, the number of the generation that begins; at refusal 16
+    pub event: u16,
+    /// If `event` is 1 or 3, the number of the wave; if it is 4, the number of the generation that begins; at refusal 16
     /// the number of steps that were taken. Else 0.
     pub number: u32,
-    /// The number of messages that the wave that ended adds up as sent; 0 unless `told` is 1.
+    /// The number of messages that the wave that ended adds up as sent; 0 unless `event` is 1.
     pub sent: u32,
-    /// The number that it adds up as received; 0 unless `told` is 1.
+    /// The number that it adds up as received; 0 unless `event` is 1.
     pub received: u32,
 }
 
@@ -36,15 +36,15 @@ pub struct Counters {
 /// The pool as a whole. If the core is not open, all numbers are 0, and it is not quiet.
 #[repr(C)]
 #[derive(Clone, Copy, Debug, PartialEq, Eq)]
-pub struct Whole {
+pub struct Status {
     /// The number of steps that were taken, of all generations.
     pub steps: u32,
     /// The number of steps that can still be reported: 9 for each node are kept for settling.
-    pub room: u32,
-    /// The number of messages under way: sent and not received.
-    pub under_way: u32,
-    /// No task is unfinished, no action is open and no message is under way.
-    pub quiet: bool,
+    pub steps_left: u32,
+    /// The number of messages in flight: sent and not received.
+    pub in_flight: u32,
+    /// No task is unfinished, no action is open and no message is in flight.
+    pub is_quiet: bool,
 }
 
 /// The result of settling a pool.
@@ -70,11 +70,11 @@ pub struct Written {
     pub length: usize,
 }
 
-const _: () = prove!(size_of::<Answer>() == 16);
+const _: () = prove!(size_of::<StepResult>() == 16);
 
 const _: () = prove!(size_of::<Counters>() == 16);
 
-const _: () = prove!(size_of::<Whole>() == 16);
+const _: () = prove!(size_of::<Status>() == 16);
 
 const _: () = prove!(size_of::<Settled>() == 12);
 

@@ -2,39 +2,39 @@
 ghost use Rattle.std.specs.Prelude.{◌≡◌, ◌≤◌, length};
 ghost use Rattle.gerfmuod.specs.Calls.{IsBatch, IsStepsCall};
 
-use crate::answer::Answer;
+use crate::answer::StepResult;
 use crate::calls::{not_taken, told};
-use crate::event::{Event, step_of};
 use crate::pool::CoreRoom;
+use crate::raw_step::{RawStep, step_of};
 use crate::slot::CoreSlot;
 
 /// Takes the steps in order, up to the first that is refused, and writes the result of each. Returns how many were taken.
-fn taken(room: &mut CoreRoom, events: &[Event], answers: &mut [Answer]) -> usize
-    requires { length events.now ≤ length answers.now }
-    ensures { IsBatch events.now answers.old room.old result answers.new room.new }
+fn taken(room: &mut CoreRoom, steps: &[RawStep], answers: &mut [StepResult]) -> usize
+    requires { length steps.now ≤ length answers.now }
+    ensures { IsBatch steps.now answers.old room.old result answers.new room.new }
 {
-    for count in 0..events.len() {
-        let answer = told(room, step_of(events[count]));
+    for count in 0..steps.len() {
+        let answer = told(room, step_of(steps[count]));
         answers[count] = answer;
         if answer.refused != 0 {
             return count;
         }
     }
-    events.len()
+    steps.len()
 }
 
 /// Takes the steps of a call that have a place for their result.
-pub(crate) fn steps(slot: &mut CoreSlot, events: &[Event], answers: &mut [Answer]) -> usize
-    ensures { IsStepsCall events.now answers.old slot.old (result, answers.new) slot.new }
+pub(crate) fn steps(slot: &mut CoreSlot, steps: &[RawStep], answers: &mut [StepResult]) -> usize
+    ensures { IsStepsCall steps.now answers.old slot.old (result, answers.new) slot.new }
 {
-    let length = answers.len().min(events.len());
+    let length = answers.len().min(steps.len());
     if !slot.enter() {
         if length > 0 {
             answers[0] = not_taken(slot);
         }
         return 0;
     }
-    let count = taken(&mut slot.room, &events[..length], answers);
+    let count = taken(&mut slot.room, &steps[..length], answers);
     slot.leave();
     count
 }

@@ -6,18 +6,18 @@ ghost use Rattle.tp_core.specs.Generations.{InEach};
 ghost use Rattle.tp_core.specs.Makers.{is_maker};
 ghost use Rattle.tp_core.specs.NeverEarly.{IsNeverEarly};
 ghost use Rattle.tp_core.specs.World.{is_quiet};
-ghost use Rattle.gerfmuod.specs.Calls.{counters, unsettled, IsSettled, IsStep, IsByCall, IsNumbersCall, IsRestartCall};
-ghost use Rattle.gerfmuod.specs.Calls.{IsSettleCall, IsStepCall, IsWholeCall, refused_step, IsReserveCall, made_step};
+ghost use Rattle.gerfmuod.specs.Calls.{counters, unsettled, IsSettled, IsStep, IsByCall, IsCountersCall, IsRestartCall};
+ghost use Rattle.gerfmuod.specs.Calls.{IsSettleCall, IsStepCall, IsStatusCall, refused_step, IsReserveCall, made_step};
 ghost use Rattle.gerfmuod.specs.Calls.{maker_asked, IsMade, has_plain_reply, is_ending_if, refusal_told, reply_told, IsTold};
-ghost use Rattle.gerfmuod.specs.Events.{event_of};
+ghost use Rattle.gerfmuod.specs.RawSteps.{raw_step};
 ghost use Rattle.gerfmuod.specs.Pool.{TellsNoEarlyEnd};
 ghost use Rattle.gerfmuod.specs.Slot.{opening, refusal_of};
 
-use crate::answer::{Answer, Counters, Settled, Whole};
-use crate::event::{
-    Event, insert_step, message_end_step, open_step, receive_step, send_step, step_of,
-};
+use crate::answer::{Counters, Settled, Status, StepResult};
 use crate::pool::CoreRoom;
+use crate::raw_step::{
+    RawStep, insert_step, message_end_step, open_step, receive_step, send_step, step_of,
+};
 use crate::slot::{CoreSlot, can_be};
 use tp_base::{ActionId, MessageId, NodeId, Refusal, Step, TaskId};
 use tp_core::{Maker, Reply};
@@ -49,16 +49,16 @@ pub(crate) fn reserved(slot: &mut CoreSlot, steps: u32, tasks: u32, messages: u3
     }
 }
 
-const PLAIN: Answer = Answer {
+const PLAIN: StepResult = StepResult {
     refused: 0,
-    told: 0,
+    event: 0,
     number: 0,
     sent: 0,
     received: 0,
 };
 
 /// The result of a step that ended something and left nothing.
-const QUIET: Answer = Answer { told: 5, ..PLAIN };
+const QUIET: StepResult = StepResult { event: 5, ..PLAIN };
 
 /// The refusal of a step whose maker may not make it.
 const NO_MAKER: u16 = 29;
@@ -66,26 +66,26 @@ const NO_MAKER: u16 = 29;
 /// Returns the result of a step that shows more than most.
 #[cold]
 #[inline(never)]
-fn rare_reply(reply: Reply) -> Answer
+fn rare_reply(reply: Reply) -> StepResult
     ensures { result ≡ reply_told reply }
 {
     match reply {
         Reply::Plain => PLAIN,
-        Reply::WaveSums(sums) => Answer {
-            told: 1,
+        Reply::WaveSums(sums) => StepResult {
+            event: 1,
             number: sums.wave,
             sent: sums.sent,
             received: sums.received,
             ..PLAIN
         },
-        Reply::Not => Answer { told: 2, ..PLAIN },
-        Reply::Over(wave) => Answer {
-            told: 3,
+        Reply::Not => StepResult { event: 2, ..PLAIN },
+        Reply::Over(wave) => StepResult {
+            event: 3,
             number: wave,
             ..PLAIN
         },
-        Reply::Opened(generation) => Answer {
-            told: 4,
+        Reply::Opened(generation) => StepResult {
+            event: 4,
             number: generation.0,
             ..PLAIN
         },
@@ -102,14 +102,14 @@ fn refusal_number(refusal: Refusal) -> u16
 
 /// Returns the result of a refused step.
 #[inline(always)]
-fn of_refusal(refusal: Refusal) -> Answer
+fn of_refusal(refusal: Refusal) -> StepResult
     ensures { result ≡ refusal_told refusal }
 {
     let number = match refusal {
         Refusal::HistoryFull(steps) => steps,
         _ => 0,
     };
-    Answer {
+    StepResult {
         refused: refusal_number(refusal),
         number,
         ..PLAIN
@@ -118,10 +118,10 @@ fn of_refusal(refusal: Refusal) -> Answer
 
 /// Returns the result of a step on a core that is not open, or on which another call runs.
 #[inline(always)]
-pub(crate) fn not_taken(slot: &CoreSlot) -> Answer
+pub(crate) fn not_taken(slot: &CoreSlot) -> StepResult
     ensures { result ≡ refused_step (refusal_of slot.now.use_is) }
 {
-    Answer {
+    StepResult {
         refused: slot.refusal(),
         ..PLAIN
     }
@@ -151,12 +151,12 @@ fn leaves_nothing(room: &CoreRoom, ends: bool) -> bool
 
 /// Returns the same result, field by field: so the results of calls that are rare do not keep all others in memory.
 #[inline(always)]
-fn by_fields(answer: Answer) -> Answer
+fn by_fields(answer: StepResult) -> StepResult
     ensures { result ≡ answer }
 {
-    Answer {
+    StepResult {
         refused: answer.refused,
-        told: answer.told,
+        event: answer.event,
         number: answer.number,
         sent: answer.sent,
         received: answer.received,
@@ -165,7 +165,7 @@ fn by_fields(answer: Answer) -> Answer
 
 /// Returns the result of a step that was taken and after which something is left.
 #[inline(always)]
-fn of_reply(reply: Reply) -> Answer
+fn of_reply(reply: Reply) -> StepResult
     ensures { result ≡ reply_told reply }
 {
     match reply {
@@ -178,8 +178,8 @@ fn of_reply(reply: Reply) -> Answer
 /// Takes the next step if there is one, and returns the result for C.
 #[inline(always)]
 #[tactic(auto, using(crate::proofs::Steps::told_over))]
-pub(crate) fn told(room: &mut CoreRoom, step: Option<Step>) -> Answer
-    ensures { IsTold room.old step result room.new × TellsNoEarlyEnd (result.told ≡ 3) result.number room.new }
+pub(crate) fn told(room: &mut CoreRoom, step: Option<Step>) -> StepResult
+    ensures { IsTold room.old step result room.new × TellsNoEarlyEnd (result.event ≡ 3) result.number room.new }
 {
     let ends = is_ending(step);
     match room.take(step) {
@@ -196,9 +196,9 @@ pub(crate) fn told(room: &mut CoreRoom, step: Option<Step>) -> Answer
 
 /// Takes the next step if there is one, as `told` does. All that such a step can show is that nothing is left.
 #[inline(always)]
-fn told_plainly(room: &mut CoreRoom, step: Option<Step>) -> Answer
+fn told_plainly(room: &mut CoreRoom, step: Option<Step>) -> StepResult
     requires { IsTrue (has_plain_reply step) }
-    ensures { IsTold room.old step result room.new × TellsNoEarlyEnd (result.told ≡ 3) result.number room.new }
+    ensures { IsTold room.old step result room.new × TellsNoEarlyEnd (result.event ≡ 3) result.number room.new }
 {
     let ends = is_ending(step);
     match room.take(step) {
@@ -217,8 +217,8 @@ fn told_plainly(room: &mut CoreRoom, step: Option<Step>) -> Answer
 /// Refuses a step that there is not.
 #[cold]
 #[inline(never)]
-fn no_step(room: &mut CoreRoom) -> Answer
-    ensures { IsTold room.old None result room.new × TellsNoEarlyEnd (result.told ≡ 3) result.number room.new }
+fn no_step(room: &mut CoreRoom) -> StepResult
+    ensures { IsTold room.old None result room.new × TellsNoEarlyEnd (result.event ≡ 3) result.number room.new }
 {
     told(room, None)
 }
@@ -226,16 +226,16 @@ fn no_step(room: &mut CoreRoom) -> Answer
 /// Takes the next step. Each kind of steps of tasks and messages has a copy of what follows: told the kind once, it
 /// does not build the step and match it again.
 #[inline(always)]
-fn taken(room: &mut CoreRoom, event: Event) -> Answer
-    ensures { IsStep event room.old result room.new }
+fn taken(room: &mut CoreRoom, raw: RawStep) -> StepResult
+    ensures { IsStep raw room.old result room.new }
 {
-    let Event {
+    let RawStep {
         kind,
         first,
         second,
         third,
         generation,
-    } = event;
+    } = raw;
     match kind {
         0 => told_plainly(room, insert_step(first, second, third)),
         1 => told_plainly(room, Some(Step::Supply(TaskId(first)))),
@@ -244,7 +244,7 @@ fn taken(room: &mut CoreRoom, event: Event) -> Answer
         7 => told_plainly(room, send_step(first, second, third, generation)),
         8 => told_plainly(room, receive_step(first, second, generation)),
         9 => told_plainly(room, message_end_step(first, second, generation)),
-        _ => told(room, step_of(event)),
+        _ => told(room, step_of(raw)),
     }
 }
 
@@ -257,20 +257,20 @@ pub(crate) fn answered(
     second: u32,
     third: u32,
     generation: u32,
-) -> Answer
-    ensures { IsStepCall (event_of kind first second third generation) slot.old result slot.new }
+) -> StepResult
+    ensures { IsStepCall (raw_step kind first second third generation) slot.old result slot.new }
 {
     if !slot.enter() {
         return not_taken(slot);
     }
-    let event = Event {
+    let raw = RawStep {
         kind,
         first,
         second,
         third,
         generation,
     };
-    let answer = taken(&mut slot.room, event);
+    let answer = taken(&mut slot.room, raw);
     slot.leave();
     answer
 }
@@ -294,17 +294,17 @@ fn is_made_by(room: &CoreRoom, kind: u32, number: u32, step: Step) -> Option<boo
 
 /// Takes the next step if its maker may make it.
 #[inline(always)]
-fn told_by(room: &mut CoreRoom, maker_kind: u32, maker: u32, step: Option<Step>) -> Answer
+fn told_by(room: &mut CoreRoom, maker_kind: u32, maker: u32, step: Option<Step>) -> StepResult
     requires { IsTrue (has_plain_reply step) }
     ensures { IsMade room.old (maker_asked maker_kind maker) step result room.new
-        × TellsNoEarlyEnd (result.told ≡ 3) result.number room.new }
+        × TellsNoEarlyEnd (result.event ≡ 3) result.number room.new }
 {
     let Some(made) = step else {
         return by_fields(no_step(room));
     };
     match is_made_by(room, maker_kind, maker, made) {
         Some(true) => told_plainly(room, step),
-        Some(false) => Answer {
+        Some(false) => StepResult {
             refused: NO_MAKER,
             ..PLAIN
         },
@@ -314,17 +314,17 @@ fn told_by(room: &mut CoreRoom, maker_kind: u32, maker: u32, step: Option<Step>)
 
 /// Takes the next step if its maker may make it. Each kind has a copy of what follows, as in `taken`.
 #[inline(always)]
-fn taken_by(room: &mut CoreRoom, maker_kind: u32, maker: u32, event: Event) -> Answer
-    ensures { IsMade room.old (maker_asked maker_kind maker) (made_step event) result room.new
-        × TellsNoEarlyEnd (result.told ≡ 3) result.number room.new }
+fn taken_by(room: &mut CoreRoom, maker_kind: u32, maker: u32, raw: RawStep) -> StepResult
+    ensures { IsMade room.old (maker_asked maker_kind maker) (made_step raw) result room.new
+        × TellsNoEarlyEnd (result.event ≡ 3) result.number room.new }
 {
-    let Event {
+    let RawStep {
         kind,
         first,
         second,
         third,
         generation,
-    } = event;
+    } = raw;
     let by = maker_kind;
     match kind {
         0 => told_by(room, by, maker, insert_step(first, second, third)),
@@ -348,27 +348,27 @@ pub(crate) fn answered_by(
     second: u32,
     third: u32,
     generation: u32,
-) -> Answer
-    ensures { IsByCall maker_kind maker (event_of kind first second third generation) slot.old result slot.new }
+) -> StepResult
+    ensures { IsByCall maker_kind maker (raw_step kind first second third generation) slot.old result slot.new }
 {
     if !slot.enter() {
         return not_taken(slot);
     }
-    let event = Event {
+    let raw = RawStep {
         kind,
         first,
         second,
         third,
         generation,
     };
-    let answer = taken_by(&mut slot.room, maker_kind, maker, event);
+    let answer = taken_by(&mut slot.room, maker_kind, maker, raw);
     slot.leave();
     answer
 }
 
 /// Returns the counters of a node.
 pub(crate) fn counted(slot: &mut CoreSlot, node: u32) -> Counters
-    ensures { IsNumbersCall node slot.old result slot.new }
+    ensures { IsCountersCall node slot.old result slot.new }
 {
     if !slot.is_open() {
         return uncounted(slot.refusal());
@@ -397,23 +397,23 @@ fn uncounted(refused: u16) -> Counters
 }
 
 /// Returns the counters of the pool as a whole; nothing if the core is not open.
-pub(crate) fn seen(slot: &mut CoreSlot) -> Whole
-    ensures { IsWholeCall slot.old result slot.new }
+pub(crate) fn seen(slot: &mut CoreSlot) -> Status
+    ensures { IsStatusCall slot.old result slot.new }
 {
     if !slot.is_open() {
-        return Whole {
+        return Status {
             steps: 0,
-            room: 0,
-            under_way: 0,
-            quiet: false,
+            steps_left: 0,
+            in_flight: 0,
+            is_quiet: false,
         };
     }
     let room = &slot.room;
-    Whole {
+    Status {
         steps: room.steps().len() as u32,
-        room: room.room(),
-        under_way: room.core().numbers().under,
-        quiet: room.core().quiet(),
+        steps_left: room.room(),
+        in_flight: room.core().numbers().under,
+        is_quiet: room.core().quiet(),
     }
 }
 

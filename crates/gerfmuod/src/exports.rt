@@ -1,19 +1,19 @@
-//! The exported functions on a core, which `gerfmuod.h` declares.
+//! The exported functions on a core, which `gerfmuod/core.h` declares.
 ghost use Rattle.std.specs.Prelude.{◌≡◌, ◌≤◌};
 ghost use Rattle.std.specs.Borrow.{full_share, sem};
 ghost use Rattle.std.specs.Ptr.{lies_at, room_at};
 ghost use Rattle.gerfmuod.specs.contracts.slot.CoreSlot.{the_row as slot_row};
-ghost use Rattle.gerfmuod.specs.Calls.{IsByCall, IsClosed, IsNumbersCall, IsRestartCall, IsSettleCall, IsStepCall, IsTraceCall};
-ghost use Rattle.gerfmuod.specs.Calls.{IsReserveCall, IsStepsCall, IsWholeCall};
-ghost use Rattle.gerfmuod.specs.Events.{event_of};
+ghost use Rattle.gerfmuod.specs.Calls.{IsByCall, IsClosed, IsCountersCall, IsRestartCall, IsSettleCall, IsStepCall, IsTraceCall};
+ghost use Rattle.gerfmuod.specs.Calls.{IsReserveCall, IsStepsCall, IsStatusCall};
+ghost use Rattle.gerfmuod.specs.RawSteps.{raw_step};
 ghost use Rattle.gerfmuod.specs.Slot.{CoreState, opened, opening};
 
-use crate::answer::{Answer, Counters, Settled, Whole, Written};
-use crate::batch::steps;
+use crate::answer::{Counters, Settled, Status, StepResult, Written};
+use crate::batch;
 use crate::calls::{answered, answered_by, counted, opening, reserved, restarted, seen, settled};
-use crate::event::Event;
-use crate::history::traced;
+use crate::raw_step::RawStep;
 use crate::slot::CoreSlot;
+use crate::text::traced;
 use std::alloc::Global;
 
 /// The version of the library, 0.1.0: 10,000 x major + 100 x minor + patch.
@@ -38,7 +38,7 @@ pub extern "C" fn gerfmuod_core_size() -> usize
 /// Opens a core of 1 to 8 nodes in the memory at `core`. It allocates nothing. Returns 0, or 26, `BadSpec`, if `nodes`
 /// is not 1 to 8: then the core is not open.
 #[unsafe(no_mangle)]
-pub unsafe extern "C" fn gerfmuod_open(alloc: Global, core: *mut u8, nodes: u32) -> u32
+pub unsafe extern "C" fn gerfmuod_core_open(alloc: Global, core: *mut u8, nodes: u32) -> u32
     requires* { sem 𝓛 (room_at slot_row core) }
     ensures* { sem 𝓛 (lies_at slot_row full_share core (opened nodes)) ∗ ⌜ result ≡ opening nodes ⌝ }
 {
@@ -53,13 +53,13 @@ pub unsafe extern "C" fn gerfmuod_open(alloc: Global, core: *mut u8, nodes: u32)
 ///
 /// Until that many more steps are taken, the calls that take steps allocate nothing, except at a task or a message with a
 /// higher number, or at an action that is opened. All steps count: a task takes 3 and one for each input, a message 3, an
-/// opening 1, and `gerfmuod_settle` at most 9 for each node. A reopening keeps the room for steps, and drops the places of
+/// opening 1, and `gerfmuod_core_settle` at most 9 for each node. A reopening keeps the room for steps, and drops the places of
 /// tasks and messages; a restart drops both.
 ///
 /// Returns 0, or why the call was refused: 24, `NoPool`, if the core is not open; 28, `Busy`, if another call runs on it;
 /// 17, `NoMemory`, if an allocation fails. What was reserved until then stays reserved.
 #[unsafe(no_mangle)]
-pub unsafe extern "C" fn gerfmuod_reserve(
+pub unsafe extern "C" fn gerfmuod_core_reserve(
     core: *mut u8,
     steps: u32,
     tasks: u32,
@@ -73,26 +73,26 @@ pub unsafe extern "C" fn gerfmuod_reserve(
     reserved(&mut *(core as *mut CoreSlot), steps, tasks, messages)
 }
 
-/// Takes the next step if it is lawful and there is room for it. `told` in the result is 5 if the step ended a task, an
+/// Takes the next step if it is lawful and there is room for it. `event` in the result is 5 if the step ended a task, an
 /// action, the opening of a node or a message, and the pool is quiet after it. If it is 3, the pool had terminated with a
 /// wave: it was quiet when that wave ended.
 ///
 /// Refused, and nothing changes: `NoPool` if the core is not open; 28, `Busy`, if another call runs on it; `BadSpec` if
 /// there is no such step; `HistoryFull`, with the number of steps that were taken, if fewer than 9 steps for each node
-/// would be left, which `gerfmuod_settle` may need; then for the first check that fails, as in `Core::step`.
+/// would be left, which `gerfmuod_core_settle` may need; then for the first check that fails, as in `Core::step`.
 #[unsafe(no_mangle)]
-pub unsafe extern "C" fn gerfmuod_step(
+pub unsafe extern "C" fn gerfmuod_core_step(
     core: *mut u8,
     kind: u32,
     first: u32,
     second: u32,
     third: u32,
     generation: u32,
-) -> Answer
+) -> StepResult
     ghost old: { CoreState }
     requires* { sem 𝓛 (lies_at slot_row full_share core old) }
     ensures* { ∃ₛ (λ (new : CoreState). sem 𝓛 (lies_at slot_row full_share core new)
-        ∗ ⌜ IsStepCall (event_of kind first second third generation) old result new ⌝) }
+        ∗ ⌜ IsStepCall (raw_step kind first second third generation) old result new ⌝) }
 {
     answered(
         &mut *(core as *mut CoreSlot),
@@ -104,27 +104,27 @@ pub unsafe extern "C" fn gerfmuod_step(
     )
 }
 
-/// Takes steps in order, up to the first that is refused, as `gerfmuod_step` does. Returns how many were taken. The result
-/// of each, and that of the refused step, are written to the start of `answers`; the rest of it does not change. Steps
+/// Takes steps in order, up to the first that is refused, as `gerfmuod_core_step` does. Returns how many were taken. The result
+/// of each, and that of the refused step, are written to the start of `results`; the rest of it does not change. Steps
 /// without a place for their result are not taken.
 ///
-/// If the core is not open, or another call runs on it, no step is taken and nothing changes; the first place of `answers`
+/// If the core is not open, or another call runs on it, no step is taken and nothing changes; the first place of `results`
 /// says so, if there are a step and a place.
 #[unsafe(no_mangle)]
-pub unsafe extern "C" fn gerfmuod_steps(
+pub unsafe extern "C" fn gerfmuod_core_steps(
     core: *mut u8,
-    events: &[Event],
-    answers: &mut [Answer],
+    steps: &[RawStep],
+    results: &mut [StepResult],
 ) -> usize
     ghost old: { CoreState }
     requires* { sem 𝓛 (lies_at slot_row full_share core old) }
     ensures* { ∃ₛ (λ (new : CoreState). sem 𝓛 (lies_at slot_row full_share core new)
-        ∗ ⌜ IsStepsCall events.now answers.old old (result, answers.new) new ⌝) }
+        ∗ ⌜ IsStepsCall steps.now results.old old (result, results.new) new ⌝) }
 {
-    steps(&mut *(core as *mut CoreSlot), events, answers)
+    batch::steps(&mut *(core as *mut CoreSlot), steps, results)
 }
 
-/// Takes the next step as `gerfmuod_step` does, if its maker may make it: at the node of the step, a running task
+/// Takes the next step as `gerfmuod_core_step` does, if its maker may make it: at the node of the step, a running task
 /// (`maker_kind` 0), an open action (1), a message that was received and has not ended (2) or the opening of the node (3)
 /// may insert a task, supply one, open an action, send a message, and begin or finish a task; a thread of node `maker` (4)
 /// may begin and finish tasks. The node of a step is the home of the task that is supplied, begun or finished, or the node
@@ -132,9 +132,9 @@ pub unsafe extern "C" fn gerfmuod_steps(
 ///
 /// Refused, and nothing changes: `NoPool` if the core is not open; 28, `Busy`, if another call runs on it; `BadSpec` if
 /// there is no such step or maker, or the step has none (kinds 5, 6 and 8 to 15); 29, `NoMaker`, if the maker does not run
-/// or is not open at the node of the step, or that node or task does not exist; then as `gerfmuod_step` is.
+/// or is not open at the node of the step, or that node or task does not exist; then as `gerfmuod_core_step` is.
 #[unsafe(no_mangle)]
-pub unsafe extern "C" fn gerfmuod_step_by(
+pub unsafe extern "C" fn gerfmuod_core_step_by(
     core: *mut u8,
     maker_kind: u32,
     maker: u32,
@@ -143,11 +143,11 @@ pub unsafe extern "C" fn gerfmuod_step_by(
     second: u32,
     third: u32,
     generation: u32,
-) -> Answer
+) -> StepResult
     ghost old: { CoreState }
     requires* { sem 𝓛 (lies_at slot_row full_share core old) }
     ensures* { ∃ₛ (λ (new : CoreState). sem 𝓛 (lies_at slot_row full_share core new)
-        ∗ ⌜ IsByCall maker_kind maker (event_of kind first second third generation) old result new ⌝) }
+        ∗ ⌜ IsByCall maker_kind maker (raw_step kind first second third generation) old result new ⌝) }
 {
     answered_by(
         &mut *(core as *mut CoreSlot),
@@ -164,24 +164,24 @@ pub unsafe extern "C" fn gerfmuod_step_by(
 /// Returns the counters of a node. Refused: `NoPool` if the core is not open; 28, `Busy`, if another call runs on it;
 /// `NoNode` if there is no such node.
 #[unsafe(no_mangle)]
-pub unsafe extern "C" fn gerfmuod_numbers(core: *mut u8, node: u32) -> Counters
+pub unsafe extern "C" fn gerfmuod_core_counters(core: *mut u8, node: u32) -> Counters
     ghost old: { CoreState }
     requires* { sem 𝓛 (lies_at slot_row full_share core old) }
     ensures* { ∃ₛ (λ (new : CoreState). sem 𝓛 (lies_at slot_row full_share core new)
-        ∗ ⌜ IsNumbersCall node old result new ⌝) }
+        ∗ ⌜ IsCountersCall node old result new ⌝) }
 {
     counted(&mut *(core as *mut CoreSlot), node)
 }
 
 /// Returns the counters of the pool as a whole: the steps that were taken, the steps that can still be reported, the
-/// messages under way, and whether the pool is quiet. If the core is not open, or another call runs on it, all are 0 and it
+/// messages in flight, and whether the pool is quiet. If the core is not open, or another call runs on it, all are 0 and it
 /// is not quiet.
 #[unsafe(no_mangle)]
-pub unsafe extern "C" fn gerfmuod_whole(core: *mut u8) -> Whole
+pub unsafe extern "C" fn gerfmuod_core_status(core: *mut u8) -> Status
     ghost old: { CoreState }
     requires* { sem 𝓛 (lies_at slot_row full_share core old) }
     ensures* { ∃ₛ (λ (new : CoreState). sem 𝓛 (lies_at slot_row full_share core new)
-        ∗ ⌜ IsWholeCall old result new ⌝) }
+        ∗ ⌜ IsStatusCall old result new ⌝) }
 {
     seen(&mut *(core as *mut CoreSlot))
 }
@@ -189,7 +189,7 @@ pub unsafe extern "C" fn gerfmuod_whole(core: *mut u8) -> Whole
 /// Takes control steps until termination is detected, if the pool is quiet. Refused: `NoPool` if the core is not open; 28,
 /// `Busy`, if another call runs on it; then as `Core::settle` is, but never as `HistoryFull`: there is always room.
 #[unsafe(no_mangle)]
-pub unsafe extern "C" fn gerfmuod_settle(core: *mut u8) -> Settled
+pub unsafe extern "C" fn gerfmuod_core_settle(core: *mut u8) -> Settled
     ghost old: { CoreState }
     requires* { sem 𝓛 (lies_at slot_row full_share core old) }
     ensures* { ∃ₛ (λ (new : CoreState). sem 𝓛 (lies_at slot_row full_share core new)
@@ -198,23 +198,27 @@ pub unsafe extern "C" fn gerfmuod_settle(core: *mut u8) -> Settled
     settled(&mut *(core as *mut CoreSlot))
 }
 
-/// Writes the trace of the steps that were taken to the start of the buffer `room`; outcome 5 if the core is not open, or
+/// Writes the trace of the steps that were taken to the start of `buffer`; outcome 5 if the core is not open, or
 /// another call runs on it. `tp audit` and `gerfmuod_audit` judge it.
 #[unsafe(no_mangle)]
-pub unsafe extern "C" fn gerfmuod_trace(core: *mut u8, alloc: Global, room: &mut [u8]) -> Written
+pub unsafe extern "C" fn gerfmuod_core_trace(
+    core: *mut u8,
+    alloc: Global,
+    buffer: &mut [u8],
+) -> Written
     ghost old: { CoreState }
     requires* { sem 𝓛 (lies_at slot_row full_share core old) }
     ensures* { ∃ₛ (λ (new : CoreState). sem 𝓛 (lies_at slot_row full_share core new)
-        ∗ ⌜ IsTraceCall room.old old (result, room.new) new ⌝) }
+        ∗ ⌜ IsTraceCall buffer.old old (result, buffer.new) new ⌝) }
 {
-    traced(&mut *(core as *mut CoreSlot), alloc, room)
+    traced(&mut *(core as *mut CoreSlot), alloc, buffer)
 }
 
 /// Begins anew with the same nodes and no steps, and frees the memory of the steps that were taken. Returns 0, or why the
 /// call was refused, and nothing changes: 24, `NoPool`, if the core is not open; 28, `Busy`, if another call runs on it;
 /// 5, `WrongLife`, if termination of the present generation was not detected.
 #[unsafe(no_mangle)]
-pub unsafe extern "C" fn gerfmuod_restart(core: *mut u8) -> u32
+pub unsafe extern "C" fn gerfmuod_core_restart(core: *mut u8) -> u32
     ghost old: { CoreState }
     requires* { sem 𝓛 (lies_at slot_row full_share core old) }
     ensures* { ∃ₛ (λ (new : CoreState). sem 𝓛 (lies_at slot_row full_share core new)
@@ -226,7 +230,7 @@ pub unsafe extern "C" fn gerfmuod_restart(core: *mut u8) -> u32
 /// Frees the memory that the core has allocated. After that the core is not open. Returns 0, or why the call was refused,
 /// and nothing changes: 24, `NoPool`, if the core is not open; 28, `Busy`, if another call runs on it.
 #[unsafe(no_mangle)]
-pub unsafe extern "C" fn gerfmuod_close(core: *mut u8) -> u32
+pub unsafe extern "C" fn gerfmuod_core_close(core: *mut u8) -> u32
     ghost old: { CoreState }
     requires* { sem 𝓛 (lies_at slot_row full_share core old) }
     ensures* { ∃ₛ (λ (new : CoreState). sem 𝓛 (lies_at slot_row full_share core new)

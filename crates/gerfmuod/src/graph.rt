@@ -1,18 +1,22 @@
 //! Task graphs that run on the threads of a program in C: a team in the caller's memory. The header
-//! `gerfmuod_graph.h` states what a caller must ensure.
+//! `gerfmuod/graph.h` states what a caller must ensure.
 ghost use Rattle.std.specs.Borrow.{full_share, sem};
 ghost use Rattle.std.specs.Ptr.{lies_at, room_at};
 ghost use Rattle.gerfmuod.specs.contracts.graph.slot.GraphSlot.{the_row as slot_row};
-ghost use Rattle.gerfmuod.specs.Graph.{opened_graph, GraphState, IsDescribeCall, IsGraphCall, IsSpawnCall};
+ghost use Rattle.gerfmuod.specs.Graph.{opened_graph, GraphState};
+ghost use Rattle.gerfmuod.specs.GraphCalls.{IsDescribeCall, IsGraphCall, IsSpawnCall, IsTaskCall};
 
-use crate::graph::answer::GraphAnswer;
-use crate::graph::calls::{call, describe, spawn};
+use crate::graph::access::RawAccess;
+use crate::graph::answer::GraphResult;
+use crate::graph::calls::{call, describe, spawn, task};
 use crate::graph::slot::GraphSlot;
 use std::alloc::Global;
 
+mod access;
 mod answer;
 mod call;
 mod calls;
+mod data;
 mod slot;
 mod team;
 
@@ -32,17 +36,17 @@ pub unsafe extern "C" fn gerfmuod_graph_open(
     (graph as *mut GraphSlot).write(made)
 }
 
-/// Makes the call of a number, 0 to 12, as the header says.
+/// Makes the call of a number, 0 to 15, as the header says.
 ///
 /// Refused, and nothing changes: `NoPool` if the graph is not open; `BadSpec` if there is no such call; then as the call
-/// of `Team` is.
+/// of `Team` is, or `Flow::handle` after the fault of the team.
 #[unsafe(no_mangle)]
 pub unsafe extern "C" fn gerfmuod_graph_call(
     graph: *mut u8,
     number: u32,
     first: u32,
     second: u32,
-) -> GraphAnswer
+) -> GraphResult
     ghost old: { GraphState }
     requires* { sem 𝓛 (lies_at slot_row full_share graph old) }
     ensures* { ∃ₛ (λ (new : GraphState). sem 𝓛 (lies_at slot_row full_share graph new)
@@ -61,13 +65,33 @@ pub unsafe extern "C" fn gerfmuod_graph_spawn(
     class: u32,
     inputs: &[u32],
     outside: u32,
-) -> GraphAnswer
+) -> GraphResult
     ghost old: { GraphState }
     requires* { sem 𝓛 (lies_at slot_row full_share graph old) }
     ensures* { ∃ₛ (λ (new : GraphState). sem 𝓛 (lies_at slot_row full_share graph new)
         ∗ ⌜ IsSpawnCall old class inputs.now outside result new ⌝) }
 {
     spawn(&mut *(graph as *mut GraphSlot), class, inputs, outside)
+}
+
+/// Adds one task of a class 0 to 3, which accesses data handles and awaits `outside` inputs from outside: all or nothing. It
+/// reads the tasks that `Flow::find` finds. `number` in the result is its number.
+///
+/// Refused, and nothing changes: `NoPool` if the graph is not open; `BadSpec` if a mode is not 1 to 3 or a handle is not there;
+/// then as `Team::spawn` is with these inputs. `NoMemory`, unless one of the first two applies.
+#[unsafe(no_mangle)]
+pub unsafe extern "C" fn gerfmuod_graph_task(
+    graph: *mut u8,
+    class: u32,
+    accesses: &[RawAccess],
+    outside: u32,
+) -> GraphResult
+    ghost old: { GraphState }
+    requires* { sem 𝓛 (lies_at slot_row full_share graph old) }
+    ensures* { ∃ₛ (λ (new : GraphState). sem 𝓛 (lies_at slot_row full_share graph new)
+        ∗ ⌜ IsTaskCall old class accesses.now outside result new ⌝) }
+{
+    task(&mut *(graph as *mut GraphSlot), class, accesses, outside)
 }
 
 /// Describes a whole graph of `offsets.len() - 1` tasks, all or nothing: task t is of class `classes[t]`, or 0 if there
@@ -81,7 +105,7 @@ pub unsafe extern "C" fn gerfmuod_graph_describe(
     classes: &[u8],
     offsets: &[u32],
     inputs: &[u32],
-) -> GraphAnswer
+) -> GraphResult
     ghost old: { GraphState }
     requires* { sem 𝓛 (lies_at slot_row full_share graph old) }
     ensures* { ∃ₛ (λ (new : GraphState). sem 𝓛 (lies_at slot_row full_share graph new)

@@ -1,18 +1,15 @@
-//! The exported functions on one process of a distributed program, which `gerfmuod_process.h` declares. A process
+//! The exported functions on one process of a distributed program, which `gerfmuod/process.h` declares. A process
 //! is plain data in the caller's memory.
 
-ghost use Rattle.std.specs.Prelude.{◌≡◌, ◌⊎◌, ◌&&◌, true, Some};
+ghost use Rattle.std.specs.Prelude.{◌≡◌, ◌≤◌, ◌⊎◌, ◌&&◌, true, Some};
 ghost use Rattle.std.specs.Result.{result_err};
-ghost use Rattle.gerfmuod.specs.Wire.{after_event, after_init, after_taking, message_of, message_with, next_as, process_meaning};
+ghost use Rattle.gerfmuod.specs.Wire.{after_event, after_init, after_taking, message_of, message_with, next_as};
 ghost use Rattle.gerfmuod.specs.Wire.{IsKept, receipt_refused, refused_as, refused_by, taken_as, wire_after};
-ghost use Rattle.gerfmuod.specs.Written.{IsPut};
 ghost use Rattle.tp_process.specs.Calls.{close_refusal, closed, moved, open_refusal, opened, send_refusal, sent};
 ghost use Rattle.tp_process.specs.Epochs.{received_in, reopen_refusal, reopened};
 ghost use Rattle.tp_process.specs.Opening.{checked, if_open, is_open, new_process, next_of};
 ghost use Rattle.tp_process.specs.State.{read};
 
-use crate::answer::Written;
-use crate::text::{WRITTEN, put};
 use crate::wire::{WireMessage, wire_of};
 use tp_process::{ControlMessage, Next, Process, Refusal, Token};
 
@@ -141,6 +138,7 @@ fn take(process: &mut Process, message: &WireMessage, token: Token) -> u32
         from: message.from,
         to: message.to,
         wave: message.wave,
+        processes: message.processes,
         token,
     };
     outcome(process.take(message.epoch, taken))
@@ -153,11 +151,8 @@ pub extern "C" fn gerfmuod_process_next(process: &mut Process, message_out: &mut
     ensures next { result ≡ next_as (next_of (read process.old)) }
     ensures state { read process.new ≡ after_event (λ p. (moved p).state) (read process.old) }
     ensures message { message_out.new ≡ wire_after (read process.old).epoch (next_of (read process.old)) message_out.old }
-    ensures kept { (is_open (read process.old) ≡ true) ⊎ (process.new ≡ process.old) }
+    ensures kept { (result ≤ 3) ⊎ (process.new ≡ process.old) }
 {
-    if !process.is_open() {
-        return number_of(Refusal::NotOpen);
-    }
     match process.next() {
         Ok(Next::Nothing) => 0,
         Ok(Next::Send(message)) => {
@@ -191,7 +186,7 @@ pub extern "C" fn gerfmuod_process_is_open(process: &Process) -> bool
 
 /// Returns whether the process is open and knows that its epoch has terminated.
 #[unsafe(no_mangle)]
-pub extern "C" fn gerfmuod_process_is_over(process: &Process) -> bool
+pub extern "C" fn gerfmuod_process_knows_end(process: &Process) -> bool
     ensures { result ≡ is_open (read process.now) && (read process.now).state.over }
 {
     process.is_over()
@@ -237,33 +232,6 @@ pub extern "C" fn gerfmuod_process_wave(process: &Process) -> u64
     process.wave()
 }
 
-/// Writes the meaning of the refusal of a number to the start of the buffer `room`.
-#[unsafe(no_mangle)]
-pub extern "C" fn gerfmuod_process_meaning(refused: u32, room: &mut [u8]) -> Written
-    ensures { IsPut (process_meaning refused) 0 room.old result room.new }
-{
-    put(room, meaning(refused).as_bytes(), WRITTEN)
-}
-
-pub(crate) fn meaning(number: u32) -> &'static str
-    ensures { result.now ≡ process_meaning number }
-{
-    match number {
-        0 => "the call was not refused",
-        101 => "no piece of work is open at the process",
-        102 => "a number is at its limit",
-        103 => "the control message is for another process, of another wave, or was taken before",
-        104 => "it is of a later epoch: keep it until the process has reopened",
-        105 => "it is of an older epoch",
-        106 =>
-            "the process has not learned of the end of this epoch, or has not notified all its children",
-        107 => "the process is not open",
-        108 => "the number of the process is not below the number of processes",
-        109 => "no control message has such a token",
-        _ => "no call refuses with this number",
-    }
-}
-
 /// Returns 0, or the number of the refusal.
 #[inline(always)]
 fn outcome(answer: Result<(), Refusal>) -> u32
@@ -290,5 +258,7 @@ pub(crate) fn number_of(refusal: Refusal) -> u32
         Refusal::NotEnded => 106,
         Refusal::NotOpen => 107,
         Refusal::NoProcess => 108,
+        Refusal::Miscounted => 110,
+        Refusal::Mismatched => 111,
     }
 }

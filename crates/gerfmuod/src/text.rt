@@ -1,12 +1,15 @@
-//! Writing a text to a buffer of the caller, and the audit of a trace for C.
+//! Writing a text to a buffer of the caller: the audit of a trace, and the trace of a core.
 ghost use Rattle.std.specs.Prelude.{◌≡◌, IfOk};
 ghost use Rattle.tp_text.specs.AuditText.{IsAuditText};
 ghost use Rattle.tp_text.specs.TracedEnd.{EndedIsOver, NotEndedClaimsNoEnd, ReopenedIsOver};
+ghost use Rattle.gerfmuod.specs.Calls.{IsTraceCall};
 ghost use Rattle.gerfmuod.specs.Written.{outcome_of, IsAudited, IsPut};
 
 use crate::answer::Written;
+use crate::slot::CoreSlot;
 use std::alloc::Global;
-use tp_text::{MAX_TEXT, TextFault, Verdict, audit};
+use tp_base::Refusal;
+use tp_text::{MAX_TEXT, TextFault, Verdict, audit, print_steps};
 
 /// The outcome of a text that was written.
 pub(crate) const WRITTEN: u32 = 0;
@@ -29,18 +32,18 @@ pub(crate) fn unwritten(outcome: u32) -> Written
     Written { outcome, length: 0 }
 }
 
-/// Writes the text to the start of the buffer `room`, if it fits.
-pub(crate) fn put(room: &mut [u8], text: &[u8], outcome: u32) -> Written
-    ensures { IsPut text.now outcome room.old result room.new }
+/// Writes the text to the start of `buffer`, if it fits.
+pub(crate) fn put(buffer: &mut [u8], text: &[u8], outcome: u32) -> Written
+    ensures { IsPut text.now outcome buffer.old result buffer.new }
 {
     let length = text.len();
-    if length > room.len() {
+    if length > buffer.len() {
         return Written {
             outcome: NO_ROOM,
             length,
         };
     }
-    room[..length].copy_from_slice(text);
+    buffer[..length].copy_from_slice(text);
     Written { outcome, length }
 }
 
@@ -62,22 +65,22 @@ fn outcome_of(verdict: Verdict) -> u32
     }
 }
 
-fn audited(alloc: Global, text: &[u8], room: &mut [u8]) -> Written
-    ensures { IsAudited text.now room.old result room.new }
+fn audited(alloc: Global, text: &[u8], buffer: &mut [u8]) -> Written
+    ensures { IsAudited text.now buffer.old result buffer.new }
 {
     if text.len() > MAX_TEXT {
         return unwritten(TOO_LONG);
     }
     match judged(alloc, text) {
-        Ok((verdict, answer)) => put(room, &answer, outcome_of(verdict)),
+        Ok((verdict, answer)) => put(buffer, &answer, outcome_of(verdict)),
         Err(_) => unwritten(NO_MEMORY),
     }
 }
 
-/// Judges a trace as `tp audit` does, and writes the verdict to the start of the buffer `room`.
+/// Judges a trace as `tp audit` does, and writes the verdict to the start of `buffer`.
 #[unsafe(no_mangle)]
-pub extern "C" fn gerfmuod_audit(alloc: Global, text: &[u8], room: &mut [u8]) -> Written
-    ensures answer { IsAudited text.now room.old result room.new }
+pub extern "C" fn gerfmuod_audit(alloc: Global, text: &[u8], buffer: &mut [u8]) -> Written
+    ensures answer { IsAudited text.now buffer.old result buffer.new }
     // If the verdict on a sound trace is `ended W`, the pool was quiet from the end of wave W on, and each task of the
     // present generation had run once by then.
     ensures ended { EndedIsOver }
@@ -87,5 +90,20 @@ pub extern "C" fn gerfmuod_audit(alloc: Global, text: &[u8], room: &mut [u8]) ->
     // run once.
     ensures reopened { ReopenedIsOver }
 {
-    audited(alloc, text, room)
+    audited(alloc, text, buffer)
+}
+
+/// Writes the trace of the steps that a core has taken to the start of `buffer`; there is none if the core is not open, another
+/// call runs on it, or a number in a step is too great for a trace.
+pub(crate) fn traced(slot: &mut CoreSlot, alloc: Global, buffer: &mut [u8]) -> Written
+    ensures { IsTraceCall buffer.old slot.old (result, buffer.new) slot.new }
+{
+    if !slot.is_open() {
+        return unwritten(NO_TEXT);
+    }
+    match print_steps(alloc, slot.room.steps(), slot.room.nodes()) {
+        Ok(text) => put(buffer, &text, WRITTEN),
+        Err(Refusal::BadSpec) => unwritten(NO_TEXT),
+        Err(_) => unwritten(NO_MEMORY),
+    }
 }

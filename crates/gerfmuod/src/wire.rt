@@ -1,4 +1,4 @@
-//! A control message of a process as the transport carries it, which is seven numbers, and the conversion into them.
+//! A control message of a process as the transport carries it, which is eight numbers, and the conversion into them.
 
 ghost use Rattle.std.specs.Prelude.{◌≡◌};
 ghost use Rattle.gerfmuod.specs.Wire.{wire_of};
@@ -14,14 +14,16 @@ pub struct WireMessage {
     pub to: u64,
     pub wave: u64,
     /// 0: the wave goes down. 1: it comes back up, with sums. 2: termination was detected.
-    pub token: u64,
+    pub token: u32,
+    /// The number of processes, as the sender has it.
+    pub processes: u32,
     /// If the token is 1, the number of messages that the sender and all processes below it had sent.
     pub sent: u64,
     /// If the token is 1, the number of messages that they had received.
     pub received: u64,
 }
 
-/// Returns the seven numbers of a control message of an epoch.
+/// Returns the eight numbers of a control message of an epoch.
 #[inline(always)]
 pub(crate) fn wire_of(epoch: u64, message: ControlMessage) -> WireMessage
     ensures { result ≡ wire_of epoch message }
@@ -37,6 +39,7 @@ pub(crate) fn wire_of(epoch: u64, message: ControlMessage) -> WireMessage
         to: message.to,
         wave: message.wave,
         token,
+        processes: message.processes,
         sent,
         received,
     }

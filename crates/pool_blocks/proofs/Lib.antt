@@ -11,6 +11,4 @@ pub mod Crossings
 pub mod EventSums
 pub mod Sweeps
 pub mod RodCuts
-pub mod RodRefused
 pub mod GridCuts
-pub mod GridRefused

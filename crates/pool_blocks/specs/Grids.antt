@@ -2,9 +2,8 @@
 use Rattle.std.specs.Prelude.{◌≡◌, ◌≢◌, ◌<◌, ◌≤◌, ◌+◌, ◌-◌, ◌*◌, ◌%◌, ◌^◌, ◌⊎◌, ◌&&◌, ◌==◌, ◌++◌, ℕ, ℤ, pos, ◌+ℤ◌, ◌*ℤ◌, Bool, List, length}
 use Rattle.std.specs.Prelude.{take, drop, if◌then◌else◌, nat_lt}
 use Rattle.std.specs.Int.{int_div_euclid}
-use Rattle.tp_graph.specs.Graphs.{TaskGraph}
 use Rattle.pool_blocks.specs.Lists.{at, list_of}
-use Rattle.pool_blocks.specs.Stencils.{BlockStep, Step, after, block_graph}
+use Rattle.pool_blocks.specs.Stencils.{BlockStep, Step}
 pub use Rattle.pool_blocks.specs.Stencils.{blocks_of}
 
 -- a cell after a step: an eighth of its neighbours and four times itself, rounded down
@@ -24,10 +23,6 @@ cell_after width cells i =
 -- a grid in rows of this width after a step
 abbrev pub relaxed : ℕ → Step
 relaxed width cells = list_of (length cells) (cell_after width cells)
-
--- a grid after this many steps
-abbrev pub evolve : ℕ → ℕ → List ℤ → List ℤ
-evolve width steps cells = after (relaxed width) steps cells
 
 -- the last row of some cells
 abbrev pub last_row : ℕ → List ℤ → List ℤ
@@ -60,7 +55,3 @@ abbrev pub IsNoGrid : ℕ → ℕ → ℕ → ℕ → Type 0
 IsNoGrid count width rows steps =
     (count ≡ 0) ⊎ ((width ≡ 0)
     ⊎ ((rows ≡ 0) ⊎ ((2 ^ 32 ≤ rows * width) ⊎ ((count % width ≢ 0) ⊎ (2 ^ 20 ≤ (steps + 1) * blocks_of count (rows * width))))))
-
--- the graph of a grid: the width of a row, the cells, the number and size of the blocks, and the number of steps
-abbrev pub grid_graph : ℕ → List ℤ → ℕ → ℕ → ℕ → TaskGraph
-grid_graph width cells blocks size steps = block_graph (block_relaxed width) cells blocks size steps

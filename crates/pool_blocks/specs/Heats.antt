@@ -1,8 +1,7 @@
 -- A rod of cells, and its steps.
 use Rattle.std.specs.Prelude.{◌≡◌, ◌<◌, ◌≤◌, ◌+◌, ◌*◌, ◌^◌, ◌⊎◌, ℕ, ℤ, pos, ◌+ℤ◌, List, [], ◌∷◌}
 use Rattle.std.specs.Int.RustNames.{int_div}
-use Rattle.tp_graph.specs.Graphs.{TaskGraph}
-use Rattle.pool_blocks.specs.Stencils.{BlockStep, Step, after, block_graph}
+use Rattle.pool_blocks.specs.Stencils.{BlockStep, Step}
 pub use Rattle.pool_blocks.specs.Stencils.{LacksBlock, blocks_of}
 
 -- a third of a number, cut towards 0
@@ -34,10 +33,6 @@ heated cells = sweep (pos 0) cells (pos 0)
 abbrev pub block_heated : BlockStep
 block_heated before own behind = sweep (last_or (pos 0) before) own (first_or (pos 0) behind)
 
--- a rod of cells after this many steps
-abbrev pub evolve : ℕ → List ℤ → List ℤ
-evolve steps cells = after heated steps cells
-
 -- what a rod requires: a cell, blocks that have some, and fewer than 1,048,576 tasks, one for each block after each step
 pub record IsRod (count size steps : ℕ) : Type 0 where
   pub some_cells : 1 ≤ count
@@ -47,7 +42,3 @@ pub record IsRod (count size steps : ℕ) : Type 0 where
 -- why this many cells, in blocks of this size, are no rod for this many steps
 abbrev pub IsNoRod : ℕ → ℕ → ℕ → Type 0
 IsNoRod count size steps = (count ≡ 0) ⊎ ((size ≡ 0) ⊎ (2 ^ 20 ≤ (steps + 1) * blocks_of count size))
-
--- the graph of a rod: its cells, the number and size of the blocks, and the number of steps
-abbrev pub heat_graph : List ℤ → ℕ → ℕ → ℕ → TaskGraph
-heat_graph cells blocks size steps = block_graph block_heated cells blocks size steps

@@ -12,9 +12,6 @@ pub mod StencilLaws
 pub mod Events
 pub mod Heats
 pub mod HeatLaws
-pub mod RodEvents
-pub mod RodFaults
 pub mod Grids
 pub mod Windows
 pub mod GridLaws
-pub mod GridFaults

@@ -67,46 +67,6 @@ pub all_partly : (count : ℕ) (f : ℕ → Option ℤ) (before now : List ℤ) 
     → gather count f ≡ Some now
 all_partly count f before now kept long = gather_from count f now (pos 0) long kept.done
 
--- the last numbers of a row are computed, and the earlier ones are unchanged
-pub record IsPartlyDown (count : ℕ) (f : ℕ → Option ℤ) (before now : List ℤ) : Type 0 where
-  pub long : length now ≡ length before
-  pub done : (k : ℕ) → count ≤ k → k < length before → f k ≡ Some (get_or now k (pos 0))
-  pub earlier : (k : ℕ) → k < count → get_or now k (pos 0) ≡ get_or before k (pos 0)
-
-pub one_partly_down : (after count : ℕ) (f : ℕ → Option ℤ) (before now : List ℤ) (next : ℤ) → after ≡ count + 1
-    → IsPartlyDown after f before now → count < length now → f count ≡ Some next →
-    IsPartlyDown count f before (set now count next)
-one_partly_down after count f before now next one kept inside is = record {
-  long = length-set now count next ∙ kept.long;
-  done = λ k h p.
-      ⊎_elim
-      (λ (same : k ≡ count). subst (λ n. f n ≡ Some (get_or (set now count next) n (pos 0))) (sym same) (is
-      ∙ ap Some (sym (get_or-set_same now count next (pos 0) inside))))
-      (λ (other : k ≢ count). kept.done k (omega (arith, other, one)) p ∙ ap Some (sym (get_or-set_other now count k next (pos 0) other)))
-      (cases_eq k count);
-  earlier = λ k h.
-      let other : k ≢ count = omega arith in get_or-set_other now count k next (pos 0) other ∙ kept.earlier k (omega (arith, one));
-}
-
-pub all_partly_down : (count : ℕ) (f : ℕ → Option ℤ) (before now : List ℤ) → IsPartlyDown 0 f before now → length before ≡ count
-    → gather count f ≡ Some now
-all_partly_down count f before now kept long =
-    gather_from count f now (pos 0) (kept.long ∙ long) (λ k h. kept.done k (omega arith) (omega (arith, long)))
-
--- a bound on the absolute value of a sum
-pub abs_sum : (x y : ℤ) → unsigned_abs (x +ℤ y) ≤ unsigned_abs x + unsigned_abs y
-abs_sum (pos a) (pos b) = omega arith
-abs_sum (pos a) (negsuc b) = grind (arith, ints)
-abs_sum (negsuc a) (pos b) = grind (arith, ints)
-abs_sum (negsuc a) (negsuc b) = omega arith
-
--- if every number fits 64 bits, a sum and one more is their sum
-pub more_small : (sum number : ℤ) → unsigned_abs sum + unsigned_abs number < 2 ^ 63 → more sum number ≡ Some (sum +ℤ number)
-more_small sum number h =
-    let one : fits number ≡ true = fits-from number (omega arith) in
-    let both : fits (sum +ℤ number) ≡ true = fits-from (sum +ℤ number) (omega (arith, abs_sum sum number)) in
-    rw (and_from (fits number) (fits (sum +ℤ number)) one both) refl
-
 more-by : (b : Bool) (x y : ℤ) → (if b then Some x else None) ≡ Some y → (b ≡ true) × (y ≡ x)
 more-by true x y e = (refl, sym (some_same e))
 more-by false x y e = absurd (grind arith)

@@ -72,7 +72,7 @@ module _ (order side : ℕ) (lefts rights : List ℤ) (i j k : ℕ) (before begu
 
     -- number n of the row is a number of the tile
     entry_is : (n : ℕ) → n < side
-        → f (row * side + n) ≡ row_entry order lefts rights (i * side + row) (j * side) (k * side) (length part) part n
+        → f (row * side + n) ≡ row_entry order lefts rights (i * side + row) (j * side) (k * side) side part n
     entry_is n h =
         let at : row * side + n < side * side = mul-add-lt row side n side inside h in
         let first : get_or before (row * side + n) (pos 0) ≡ get_or part n (pos 0) =
@@ -84,14 +84,13 @@ module _ (order side : ℕ) (lefts rights : List ℤ) (i j k : ℕ) (before begu
         (term order lefts rights (i * side + q) (j * side + (row * side + n) % side))) (div-mul-add row side n h)
         ∙ ap (λ r. running (get_or part n (pos 0)) (k * side) side (term order lefts rights (i * side + row) (j * side + r)))
         (mod-mul-add row side n h)
-        ∙ ap (λ c. running (get_or part n (pos 0)) (k * side) c (term order lefts rights (i * side + row) (j * side + n))) (sym part_is)
 
     -- one row more
     pub tile_step : (now : List ℤ)
-        → gather (length part) (row_entry order lefts rights (i * side + row) (j * side) (k * side) (length part) part) ≡ Some now →
+        → gather (length part) (row_entry order lefts rights (i * side + row) (j * side) (k * side) side part) ≡ Some now →
         IsPartly ((row + 1) * side) f begun (put_mid (row * side) w tile now)
     tile_step now made =
-        let all = gathered (length part) (row_entry order lefts rights (i * side + row) (j * side) (k * side) (length part) part) now
+        let all = gathered (length part) (row_entry order lefts rights (i * side + row) (j * side) (k * side) side part) now
         (pos 0) made in
         let room : row * side + w ≤ length tile = omega (arith, w_is, long, row_inside row side inside) in
         let wide : length now ≡ w = omega (arith, all.0, part_is, w_is) in
@@ -111,10 +110,10 @@ module _ (order side : ℕ) (lefts rights : List ℤ) (i j k : ℕ) (before begu
         }
 
     -- if a row fails, so does the tile
-    pub tile_fails : gather (length part) (row_entry order lefts rights (i * side + row) (j * side) (k * side) (length part) part) ≡ None
+    pub tile_fails : gather (length part) (row_entry order lefts rights (i * side + row) (j * side) (k * side) side part) ≡ None
         → gather (side * side) f ≡ None
     tile_fails failed =
-        let lack = gather_lacks (length part) (row_entry order lefts rights (i * side + row) (j * side) (k * side) (length part) part)
+        let lack = gather_lacks (length part) (row_entry order lefts rights (i * side + row) (j * side) (k * side) side part)
         failed in
         let within : lack.0 < side = omega (arith, part_is, lack.1) in
         gather_fails (side * side) (row * side + lack.0) f (mul-add-lt row side lack.0 side inside within) (entry_is lack.0 within ∙ lack.2)

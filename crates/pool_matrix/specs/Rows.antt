@@ -1,10 +1,6 @@
 -- How a row of a tile is computed, sum by sum.
-use Rattle.std.specs.Prelude.{◌<◌, ◌≤◌, ◌+◌, ◌*ℤ◌, ℕ, ℤ, pos, List, length, unsigned_abs, slice_index_or, Option}
+use Rattle.std.specs.Prelude.{◌+◌, ◌*ℤ◌, ℕ, ℤ, pos, List, slice_index_or, Option}
 use Rattle.pool_matrix.specs.Matrices.{term, more, running}
-
--- no number of a list has an absolute value above this bound
-abbrev pub AreWithin : ℕ → List ℤ → Type 0
-AreWithin bound numbers = (n : ℕ) → n < length numbers → unsigned_abs (slice_index_or numbers n (pos 0)) ≤ bound
 
 -- sum n of a row plus one product: a number of the left times number n of the right
 abbrev pub one_more : List ℤ → ℤ → List ℤ → ℕ → Option ℤ

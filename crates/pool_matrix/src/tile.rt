@@ -1,10 +1,10 @@
 //! One tile of a product.
-ghost use Rattle.std.specs.Prelude.{◌≡◌, ◌<◌, ◌≤◌, ◌+◌, ◌*◌, ◌^◌, ℕ, pos, true, unsigned_abs, slice_index_or, MatchResult, Some, None, ◌⊎◌};
+ghost use Rattle.std.specs.Prelude.{◌≡◌, ◌<◌, ◌≤◌, ◌+◌, ◌*◌, ◌^◌, ℕ, pos, true, slice_index_or, MatchResult, Some, None, ◌⊎◌};
 ghost use Rattle.tp_base.specs.declared.Refusal.TheVariants.{BodyFailed, NoMemory};
 ghost use Rattle.tp_graph.specs.Values.{all_fit, gather};
-ghost use Rattle.pool_matrix.specs.Matrices.{entry, tile_entry};
+ghost use Rattle.pool_matrix.specs.Matrices.{tile_entry};
 
-use crate::row::{LentMatrices, add_rows, largest_of, right_part};
+use crate::row::{LentMatrices, add_each};
 use std::alloc::Global;
 use tp_base::Refusal;
 
@@ -33,19 +33,6 @@ fn begin_tile(alloc: Global, count: usize, before: &[i64]) -> Result<Vec<i64>, R
     Ok(made)
 }
 
-/// Returns the largest absolute value of a tile of the right matrix, which begins at column y of a row.
-fn largest_of_tile(matrices: LentMatrices, side: usize, row: usize, y: usize) -> u64
-    requires { (row + side ≤ matrices.order) × (y + side ≤ matrices.order) }
-    ensures { (z n : ℕ) → z < side → n < side
-        → unsigned_abs (entry matrices.entry.order matrices.entry.right.now (row + z) (y + n)) ≤ result }
-{
-    let mut largest = 0;
-    for z in 0..side {
-        largest = largest_of(right_part(matrices, row + z, y, side)).max(largest);
-    }
-    largest
-}
-
 /// Returns a tile of the product with the products of column k of tiles on the left and row k on the right added.
 /// Refused with `BodyFailed` exactly if a number does not fit `i64`, and with `NoMemory` if an allocation fails first.
 pub(crate) fn make_tile(
@@ -69,11 +56,10 @@ pub(crate) fn make_tile(
         ≡ None))) }
 {
     let mut made = begin_tile(alloc, side * side, before)?;
-    let largest = largest_of_tile(matrices, side, k * side, j * side);
     let tile = made.as_mut_slice();
     for row in 0..side {
         let sums = &mut tile[row * side..row * side + side];
-        add_rows(matrices, sums, i * side + row, j * side, k * side, largest)?;
+        add_each(matrices, sums, i * side + row, j * side, k * side, side)?;
     }
     Ok(made)
 }

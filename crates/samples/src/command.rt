@@ -12,7 +12,6 @@ pub(crate) fn samples_command<'a>(alloc: Global) -> Result<Command<'a>, AllocErr
     Command::new(alloc, "samples")
         .bin_name("samples")?
         .version(VERSION)
-        .propagate_version(true)
         .about("Sample pools: computations over input data, grids of tasks, and pictures of runs")
         .after_help(SAMPLES_HELP)
         .subcommand_required(true)
@@ -45,7 +44,7 @@ fn product_command<'a>(alloc: Global) -> Result<Command<'a>, AllocError> {
 fn relax_command<'a>(alloc: Global) -> Result<Command<'a>, AllocError> {
     let help = "How many rows a block has, 1 or more";
     let command = Command::new(alloc, "relax")
-        .about("Relaxes a grid of cells by a five-point stencil, in blocks, by a pool of threads")
+        .about("Relaxes a grid by a five-point stencil, in blocks, by a pool of threads")
         .after_help(RELAX_HELP)
         .arg(steps_argument(alloc, "How many steps the grid takes"))?
         .arg(size_argument(alloc, "ROWS_A_BLOCK", help))?;
@@ -65,15 +64,11 @@ pub(crate) fn patterns_command<'a>(alloc: Global) -> Result<Command<'a>, AllocEr
     let list = Arg::new(alloc, "list")
         .long("list")
         .action(ArgAction::SetTrue)
-        .help("Lists the patterns, each with the columns that feed a column");
-    let radius = option(alloc, "radius", "K", "1").help(
-        "How many columns to each side feed a column, in nearest and random_nearest",
-    );
-    let seed = option(alloc, "seed", "S", "0").help(
-        "The shift of spread, and the random seed of random_nearest",
-    );
+        .help("Lists the patterns, and which columns feed a column");
+    let radius = option(alloc, "radius", "K", "1").help("K of nearest and random_nearest");
+    let seed = option(alloc, "seed", "S", "0").help("The seed of spread and random_nearest");
     let command = Command::new(alloc, "patterns")
-        .about("Runs a grid of tasks, one of Task Bench's patterns, by a pool of threads")
+        .about("Runs one of Task Bench's grids of tasks, by a pool of threads")
         .after_help(PATTERNS_HELP)
         .arg(pattern)?
         .arg(width.required(false))?
@@ -82,9 +77,7 @@ pub(crate) fn patterns_command<'a>(alloc: Global) -> Result<Command<'a>, AllocEr
         .arg(list)?
         .arg(radius)?
         .arg(seed)?;
-    with_counts(alloc, command)?
-        .arg(timing_option(alloc).conflicts_with("profile")?)?
-        .arg(profile_option(alloc))
+    with_shown(alloc, command)
 }
 
 fn pool_command<'a>(alloc: Global) -> Result<Command<'a>, AllocError> {
@@ -92,13 +85,13 @@ fn pool_command<'a>(alloc: Global) -> Result<Command<'a>, AllocError> {
         "The sample pool, as `tp run` takes it, for example product:64:4:0",
     );
     let command = Command::new(alloc, "pool")
-        .about("Runs a sample pool of `tp run`, several times if its time is to be printed")
+        .about("Runs a sample pool of `tp run`, once or several times")
         .after_help(POOL_HELP)
         .arg(spec)?;
-    with_counts(alloc, command)?.arg(timing_option(alloc))
+    with_shown(alloc, command)
 }
 
-/// Returns the command with the options of a run over what is read.
+/// Returns the command with the options of a run.
 fn with_shown<'a>(alloc: Global, command: Command<'a>) -> Result<Command<'a>, AllocError> {
     with_counts(alloc, command)?
         .arg(quiet_flag(alloc))?
@@ -142,12 +135,12 @@ fn timing_option<'a>(alloc: Global) -> Arg<'a> {
         .long("timing")
         .value_name("RUNS")
         .value_parser(value_parser!(u32).range(1..))
-        .help("Runs this number of times, and prints the nanoseconds of each run after the result")
+        .help("Runs so often, and prints the nanoseconds of each run")
 }
 
 fn profile_option<'a>(alloc: Global) -> Arg<'a> {
     Arg::new(alloc, "profile")
         .long("profile")
         .value_name("FILE")
-        .help("Writes when each task ran to this file, as trace events for a viewer of timelines")
+        .help("Writes when each task ran, as trace events")
 }

@@ -5,10 +5,10 @@ ghost use Rattle.std.specs.Prelude.{◌≡◌, ◌≤◌, MatchResult};
 use pool_blocks::LentFault;
 use pool_kernels::{RunFault, TableFault};
 use std::alloc::AllocError;
-use std::io::Write;
+use std::io::{self, Write};
 use thiserror::Error;
 use tp_base::Refusal;
-use tp_shell::{ReadFault, WordsFault};
+use tp_shell::{ReadFault, WordsFault, names_a_file};
 
 /// Why the program prints nothing, or not all of it.
 #[derive(Debug, Drop, Error)]
@@ -25,8 +25,8 @@ pub(crate) enum Fault {
     Unreadable,
     #[error("the output cannot be written")]
     Unwritten,
-    #[error("the file of the profile cannot be written")]
-    NoProfile,
+    #[error("the file of the profile cannot be written: {0}")]
+    NoProfile(io::Error),
     #[error(transparent)]
     Input(#[from] InputFault),
     #[error("a number of the product leaves 64 bits")]
@@ -81,6 +81,28 @@ fn noun(count: usize) -> &'static str {
 }
 
 impl Fault {
+    /// Returns the line that says why, if there is more to say than the fault's own line does.
+    pub(crate) fn reason(&self, words: &[&str]) -> Option<&'static str> {
+        match self {
+            Fault::Arguments(text) if names_a_file(text) => match words {
+                [_, "heat", ..] => Some(
+                    "reason: reads standard input: samples heat STEPS BLOCK < FILE\n",
+                ),
+                [_, "product", ..] => Some(
+                    "reason: reads standard input: samples product SIDE < FILE\n",
+                ),
+                [_, "relax", ..] => Some(
+                    "reason: reads standard input: samples relax STEPS ROWS_A_BLOCK < FILE\n",
+                ),
+                _ => None,
+            },
+            Fault::Refused(Refusal::StoreFull) => Some(
+                "reason: a node has room for 65,536 unfinished tasks: use --nodes\n",
+            ),
+            _ => None,
+        }
+    }
+
     /// Returns the exit status: 1 for the arguments, the reading and the writing, 2 for an input without a run, 3 for a
     /// refused run and for allocation failure.
     fn status(&self) -> u8
@@ -88,7 +110,7 @@ impl Fault {
     {
         match self {
             Fault::Arguments(_) | Fault::NotUtf8 | Fault::NoPattern | Fault::NoPool => 1,
-            Fault::Unreadable | Fault::Unwritten | Fault::NoProfile => 1,
+            Fault::Unreadable | Fault::Unwritten | Fault::NoProfile(_) => 1,
             Fault::Input(_) => 2,
             Fault::Overflow | Fault::LongRun | Fault::Refused(_) | Fault::Memory(_) => 3,
         }

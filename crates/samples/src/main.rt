@@ -19,15 +19,26 @@ mod watched;
 use crate::fault::{Fault, status_of};
 use crate::shell::answer;
 use std::alloc::{AllocError, Global};
+use std::cell::Cell;
 use std::io::{ErrorKind, Read, Write};
 use std::process::ExitCode;
 use tp_draw::draw_with;
-use tp_shell::{arguments, words_of};
+use tp_shell::{Messages, Output, arguments, asks_version, explain_failure, is_quiet, words_of};
 use tp_work::Screen;
 
-/// Runs the subcommand that the arguments name. On a terminal, standard error also shows how far a run is.
+/// Runs the subcommand that the arguments name. If the environment does not ask for silence, standard error also shows
+/// why something is wrong, and on a terminal how far a run is.
 fn main(rt: HostRuntime) -> ExitCode {
-    let (alloc, mut err) = (rt.alloc(), rt.stderr());
+    let failure = Cell::new(None);
+    let (alloc, explains) = (rt.alloc(), !is_quiet(&rt));
+    let mut out = Output {
+        writer: rt.stdout(),
+        failure: &failure,
+    };
+    let mut err = Messages {
+        writer: rt.stderr(),
+        failure: &failure,
+    };
     let arguments = match arguments(&rt) {
         Ok(arguments) => arguments,
         Err(kind) => return ExitCode::from(status_of(Err(without_arguments(kind)), &mut err)),
@@ -36,13 +47,64 @@ fn main(rt: HostRuntime) -> ExitCode {
         Ok(words) => words,
         Err(error) => return ExitCode::from(status_of(Err(Fault::Memory(error)), &mut err)),
     };
-    let (mut input, mut out) = (rt.stdin(), rt.stdout());
-    if let [_, "draw", arguments @ ..] = words.as_slice() {
-        return ExitCode::from(draw(alloc, arguments, &mut input, &mut out, &mut err));
+    let mut screen = if explains {
+        Screen::of(&rt.stdin(), rt.stderr())
+    } else {
+        None
+    };
+    let mut input = rt.stdin();
+    if asks_version(&words) {
+        let version = ["samples", "--version"];
+        let outcome = answer(&rt, alloc, &version, &mut input, &mut out, screen);
+        return ExitCode::from(told(outcome, &version, &mut err, explains));
     }
-    let screen = Screen::of(&rt.stdin(), rt.stderr());
-    let outcome = answer(&rt, alloc, &words, &mut input, &mut out, screen);
-    ExitCode::from(status_of(outcome, &mut err))
+    let status = if let Some((help, rest)) = draw_words(&words) {
+        if let Some(screen) = &mut screen {
+            tell_what_is_read(screen, help, rest);
+        }
+        draw(alloc, help, rest, &mut input, &mut out, &mut err, explains)
+    } else {
+        let outcome = answer(&rt, alloc, &words, &mut input, &mut out, screen);
+        told(outcome, &words, &mut err, explains)
+    };
+    if explains {
+        explain_failure("samples", &failure, &mut err);
+    }
+    ExitCode::from(status)
+}
+
+/// Returns whether the help of `samples draw` is asked for by `help draw`, and the arguments after `draw`, if the
+/// arguments are those of `draw`.
+fn draw_words<'a, 'b>(words: &'b [&'a str]) -> Option<(bool, &'b [&'a str])> {
+    match words {
+        [_, "draw", rest @ ..] => Some((false, rest)),
+        [_, "help", "draw", rest @ ..] => Some((true, rest)),
+        _ => None,
+    }
+}
+
+/// Prints that a trace is read from standard input, if it is typed there and no help is asked for.
+fn tell_what_is_read<W: Write>(screen: &mut Screen<W>, help: bool, rest: &[&str]) {
+    if let ["run", options @ ..] = rest {
+        if !help && !options.iter().any(|word| matches!(*word, "--help" | "-h")) {
+            screen.invite(
+                "Reading a trace from standard input up to Ctrl-D: samples draw run < FILE\n",
+            );
+        }
+    }
+}
+
+/// Returns the exit status of an outcome, and prints a fault as a line, and then why, if that is asked for.
+fn told<E: Write>(outcome: Result<(), Fault>, words: &[&str], err: &mut E, explains: bool) -> u8 {
+    let reason = match &outcome {
+        Err(fault) if explains => fault.reason(words),
+        _ => None,
+    };
+    let status = status_of(outcome, err);
+    if let Some(reason) = reason {
+        let _ = err.write_all(reason.as_bytes());
+    }
+    status
 }
 
 /// Returns why there are no arguments: an allocation failed, or one of them is not UTF-8.
@@ -53,16 +115,18 @@ fn without_arguments(kind: ErrorKind) -> Fault {
     }
 }
 
-/// Runs `samples draw` with its own arguments, and returns the exit status.
+/// Runs `samples draw` with its own arguments, or shows their help, and returns the exit status.
 fn draw<I: Read, O: Write, E: Write>(
     alloc: Global,
+    help: bool,
     arguments: &[&str],
     input: &mut I,
     out: &mut O,
     err: &mut E,
+    explains: bool,
 ) -> u8 {
-    match with_name(alloc, "samples draw", arguments) {
-        Ok(words) => draw_with(alloc, &words, input, out, err),
+    match with_name(alloc, help, arguments) {
+        Ok(words) => draw_with(alloc, &words, input, out, err, explains),
         Err(error) => status_of(Err(Fault::Memory(error)), err),
     }
 }
@@ -70,11 +134,14 @@ fn draw<I: Read, O: Write, E: Write>(
 /// Returns the arguments, after the name that usage lines show.
 fn with_name<'a>(
     alloc: Global,
-    name: &'a str,
+    help: bool,
     arguments: &[&'a str],
 ) -> Result<Vec<&'a str>, AllocError> {
     let mut words = Vec::new(alloc);
-    words.push(name)?;
+    words.push("samples draw")?;
+    if help {
+        words.push("help")?;
+    }
     words.extend_from_slice(arguments)?;
     Ok(words)
 }

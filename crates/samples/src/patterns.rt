@@ -7,7 +7,7 @@ use crate::request::PatternGrid;
 use crate::times::Times;
 use crate::watched::{Watch, run_pool_watched};
 use pool_kernels::{
-    FeedTable, GridRun, KernelGrid, Pattern, RunFault, Stirring, checksum, last_row, run_grid,
+    FeedTable, GridRun, KernelGrid, Pattern, RunFault, Stirring, checksum, last_row,
 };
 use std::alloc::Global;
 use std::rt::Clock;
@@ -33,10 +33,7 @@ pub(crate) fn pattern_text<R: Threads + Wait + Sync + Clock>(
     let table = FeedTable::new(alloc, pattern, asked.width, asked.steps)?;
     let iterations = asked.iterations;
     let grid = KernelGrid::new(&table, Stirring { iterations });
-    let run = match watch.log {
-        Some(_) => run_timed(rt, alloc, &grid, config, watch)?,
-        None => run_grid(rt, alloc, &grid, config)?,
-    };
+    let run = run_watched(rt, alloc, &grid, config, watch)?;
     times.end(rt)?;
     let sum = checksum(&run.row);
     let (tasks, messages) = (run.outcome.tasks, run.outcome.messages);
@@ -44,8 +41,8 @@ pub(crate) fn pattern_text<R: Threads + Wait + Sync + Clock>(
     Ok(text.into_bytes())
 }
 
-/// Runs a grid with its tasks timed.
-fn run_timed<R: Threads + Wait + Sync + Clock>(
+/// Runs a grid with its tasks counted or timed.
+fn run_watched<R: Threads + Wait + Sync + Clock>(
     rt: &R,
     alloc: Global,
     grid: &KernelGrid<Pattern, Stirring>,

@@ -4,10 +4,9 @@
 ghost use Rattle.std.specs.Prelude.{◌≡◌, ◌*◌, ◌/◌, IfOk};
 ghost use Rattle.pool_blocks.specs.Runs.{HasRun, HasRunInParts};
 ghost use Rattle.pool_blocks.specs.Grids.{block_relaxed, relaxed};
-ghost use Rattle.pool_blocks.specs.Grids as grids;
 ghost use Rattle.pool_matrix.specs.Matrices.{matrix_graph, product_of};
 ghost use Rattle.pool_blocks.specs.Heats.{block_heated, heated};
-ghost use Rattle.pool_blocks.specs.Heats as rods;
+ghost use Rattle.pool_blocks.specs.Stencils.{after};
 ghost use Rattle.tp_work.specs.Outcomes.{IsWithinLimits};
 
 use crate::fault::{Fault, InputFault};
@@ -32,7 +31,7 @@ pub(crate) fn heat<R: Threads + Wait + Sync + Clock>(
     watch: Watch,
 ) -> Result<Vec<i64>, Fault>
     requires { IsWithinLimits config }
-    ensures { IfOk result (λ rod. (rod.items ≡ rods.evolve steps cells.items)
+    ensures { IfOk result (λ rod. (rod.items ≡ after heated steps cells.items)
         × HasRunInParts config.nodes config.workers heated block_heated cells.items block steps) }
 {
     let rod = run_in_parts_watched(rt, alloc, ThreePoints, cells, block, steps, config, watch)?;
@@ -51,7 +50,7 @@ pub(crate) fn relax<R: Threads + Wait + Sync + Clock>(
     watch: Watch,
 ) -> Result<Vec<i64>, Fault>
     requires { IsWithinLimits config }
-    ensures { IfOk result (λ grid. (grid.items ≡ grids.evolve width steps cells.items)
+    ensures { IfOk result (λ grid. (grid.items ≡ after (relaxed width) steps cells.items)
         × HasRunInParts config.nodes config.workers (relaxed width) (block_relaxed width) cells.items (rows * width) steps) }
 {
     let Some(blocks) = row_blocks(width, rows) else {

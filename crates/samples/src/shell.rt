@@ -48,79 +48,32 @@ pub(crate) fn answer<
         file,
         runs,
     } = request;
-    match work {
-        Work::Names | Work::Pattern(_) | Work::Pool(_) => {
-            let profile = Profile::new(alloc, rt, file, u64::MAX);
-            let watch = Watch {
-                progress: None,
-                log: profile.log(),
-            };
-            let text = text_of_runs(rt, alloc, work, config, "", watch, runs)?;
-            written(out, &text)?;
-            profiled(rt, alloc, &profile, config, true)
-        }
-        Work::Sample(sample) => {
-            let mut screen = if is_quiet || runs.is_some() {
-                None
-            } else {
-                screen
-            };
-            let bytes = bytes_of(alloc, sample, input, &mut screen)?;
-            let profile = Profile::new(alloc, rt, file, u64::MAX);
-            let text = text_of_input(
-                rt,
-                alloc,
-                sample,
-                config,
-                &bytes,
-                profile.log(),
-                screen,
-                runs,
-            )?;
-            written(out, &text)?;
-            profiled(rt, alloc, &profile, config, sample.has_tasks())
-        }
+    let mut screen = if is_quiet || runs.is_some() {
+        None
+    } else {
+        screen
+    };
+    if let Some(path) = file {
+        Profile::open(rt, path).map_err(|error| Fault::NoProfile(error))?;
     }
-}
-
-fn written<O: Write>(out: &mut O, text: &[u8]) -> Result<(), Fault> {
-    write_text(out, text).map_err(|_| Fault::Unwritten)
-}
-
-/// Writes the profile of a run that has ended, if one is asked for.
-fn profiled<R: Clock + Files + Wait>(
-    rt: &R,
-    alloc: Global,
-    profile: &Profile,
-    config: Config,
-    has_tasks: bool,
-) -> Result<(), Fault> {
+    let bytes = work.read(alloc, input, &mut screen)?;
+    let profile = Profile::new(alloc, rt, file, u64::MAX);
+    let text = text_watched(rt, alloc, work, config, &bytes, profile.log(), screen, runs)?;
+    write_text(out, &text).map_err(|_| Fault::Unwritten)?;
     let run = Run {
         nodes: config.nodes,
         workers: config.workers,
-        has_tasks,
+        has_tasks: work.has_tasks(),
     };
-    profile.write(rt, alloc, run).map_err(|_| Fault::NoProfile)
+    let written = profile.write(rt, alloc, run);
+    written.map_err(|error| Fault::NoProfile(error))
 }
 
-/// Reads all input, after a screen has shown what is read.
-fn bytes_of<I: Source, W: Write>(
-    alloc: Global,
-    sample: Sample,
-    input: &mut I,
-    screen: &mut Option<Screen<W>>,
-) -> Result<Vec<u8>, Fault> {
-    if let Some(screen) = screen {
-        screen.invite(sample.invitation());
-    }
-    Ok(input.read_all(alloc)?)
-}
-
-/// Returns the text that a sample computes from its input.
-fn text_of_input<R: Threads + Wait + Sync + Clock, W: Write + Send + Drop>(
+/// Returns the text of the runs. A screen shows how far they are.
+fn text_watched<R: Threads + Wait + Sync + Clock, W: Write + Send + Drop>(
     rt: &R,
     alloc: Global,
-    sample: Sample,
+    work: Work,
     config: Config,
     bytes: &[u8],
     log: Option<&Log>,
@@ -129,7 +82,6 @@ fn text_of_input<R: Threads + Wait + Sync + Clock, W: Write + Send + Drop>(
 ) -> Result<Vec<u8>, Fault>
     requires { IsWithinLimits config }
 {
-    let work = Work::Sample(sample);
     let Ok(text) = str::from_utf8(bytes) else {
         return Err(Fault::Unreadable);
     };
@@ -185,6 +137,30 @@ fn text_of_runs<R: Threads + Wait + Sync + Clock>(
 }
 
 impl Work<'_> {
+    /// Reads all input if it is over that, after a screen has shown what is read.
+    fn read<I: Source, W: Write>(
+        self,
+        alloc: Global,
+        input: &mut I,
+        screen: &mut Option<Screen<W>>,
+    ) -> Result<Vec<u8>, Fault> {
+        let Work::Sample(sample) = self else {
+            return Ok(Vec::new(alloc));
+        };
+        if let Some(screen) = screen {
+            screen.invite(sample.invitation());
+        }
+        Ok(input.read_all(alloc)?)
+    }
+
+    /// Returns whether a profile has the numbers of its tasks. A stencil does not learn which block it computes.
+    fn has_tasks(self) -> bool {
+        !matches!(
+            self,
+            Work::Sample(Sample::Heat { .. } | Sample::Relax { .. })
+        )
+    }
+
     /// Runs once, and returns the result as text. The time is that of the run: neither of reading a text nor of writing
     /// one.
     fn run<R: Threads + Wait + Sync + Clock>(
@@ -225,11 +201,6 @@ impl Sample {
                 "Reading the grid from standard input up to Ctrl-D, one row a line: samples relax STEPS ROWS_A_BLOCK < FILE\n"
             }
         }
-    }
-
-    /// Returns whether a profile has the numbers of its tasks. A stencil does not learn which block it computes.
-    fn has_tasks(self) -> bool {
-        matches!(self, Sample::Product { .. })
     }
 
     /// Runs over the numbers of a text, and returns the result as text.

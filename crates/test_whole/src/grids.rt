@@ -2,7 +2,7 @@
 
 ghost use Rattle.std.specs.Prelude.{◌≤◌};
 
-use pool_blocks::{grid_by_one, grid_in_blocks, run_grid, run_grid_in_parts};
+use pool_blocks::{cells_by_one, grid_in_blocks, row_blocks, run_in_parts, run_steps};
 use std::alloc::{AllocError, Global};
 use std::sync::Wait;
 use std::test::Fail;
@@ -24,7 +24,7 @@ const AFTER_TWO: [i64; 12] = [0, 16, 32, 0, 8, 6, 22, 24, 0, 0, 64, 0];
 /// The grid after two steps in blocks of two rows, on one thread.
 fn by_one(alloc: Global) -> Result<Vec<i64>, Refusal> {
     match grid_in_blocks(&CELLS, 4, 2, 2) {
-        Some(grid) => grid_by_one(alloc, grid),
+        Some(grid) => cells_by_one(alloc, grid),
         None => Err(Refusal::BadSpec),
     }
 }
@@ -45,13 +45,17 @@ fn is_made<R: Threads + Wait + Sync>(
     requires { (1 ≤ nodes) × (nodes ≤ 8) }
 {
     let config = Config::new(nodes, 2);
-    let whole = match run_grid(rt, alloc, &CELLS, 4, rows, 2, config) {
+    let (Some(grid), Some(blocks)) = (grid_in_blocks(&CELLS, 4, rows, 2), row_blocks(4, rows))
+    else {
+        return Ok(false);
+    };
+    let whole = match run_steps(rt, alloc, grid, config) {
         Ok(grid) => grid.as_slice() == AFTER_TWO.as_slice(),
         Err(_) => false,
     };
     let mut cells = Vec::new(alloc);
     cells.extend_from_slice(&CELLS)?;
-    let parts = match run_grid_in_parts(rt, alloc, cells, 4, rows, 2, config) {
+    let parts = match run_in_parts(rt, alloc, blocks.points, cells, blocks.size, 2, config) {
         Ok(grid) => grid.as_slice() == AFTER_TWO.as_slice(),
         Err(_) => false,
     };

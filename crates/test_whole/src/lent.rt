@@ -2,7 +2,7 @@
 
 ghost use Rattle.std.specs.Prelude.{◌≤◌};
 
-use pool_blocks::{LentFault, heat_of, run_heat, run_heat_in_parts};
+use pool_blocks::{LentFault, ThreePoints, heat_of, run_in_parts, run_steps};
 use pool_matrix::run_product;
 use std::alloc::{AllocError, Global};
 use std::sync::Wait;
@@ -34,8 +34,14 @@ fn make_the_rod<R: Threads + Wait + Sync>(
     let config = Config::new(nodes, 2);
     let mut cells = Vec::new(alloc);
     cells.extend_from_slice(&ROD)?;
-    let whole = gave(run_heat(rt, alloc, &ROD, 2, 1, config), &AFTER);
-    let parts = gave(run_heat_in_parts(rt, alloc, cells, 2, 1, config), &AFTER);
+    let Some(heat) = heat_of(&ROD, 2, 1) else {
+        return Ok(false);
+    };
+    let whole = gave(run_steps(rt, alloc, heat, config), &AFTER);
+    let parts = gave(
+        run_in_parts(rt, alloc, ThreePoints, cells, 2, 1, config),
+        &AFTER,
+    );
     Ok(whole && parts)
 }
 

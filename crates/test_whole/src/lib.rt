@@ -1,7 +1,7 @@
-//! Tests of the whole: readers and writers that fail; a pool on one thread, with forged messages and with failing
-//! allocations; pools on worker threads, and with gates between the threads; patterns; the texts for a terminal. They
-//! are not in the crates that they test, whose functions would be proved once more with them. They are in one crate,
-//! since each program of tests loads all that it tests.
+//! Tests: each call that can fail to allocate, slots, the core; readers and writers that fail; a pool on one thread, with forged messages
+//! and with failing allocations; pools on worker threads, and with gates between the threads; patterns; the texts for a terminal. They
+//! are not in the crates that they test, whose functions would be proved once more with them. They are in one crate, since each program
+//! of tests loads all that it tests.
 #![tactic(auto)]
 
 #[cfg(test)]
@@ -10,6 +10,8 @@ mod bodies;
 mod books;
 #[cfg(test)]
 mod calls;
+#[cfg(test)]
+mod cores;
 #[cfg(test)]
 mod counted;
 #[cfg(test)]
@@ -29,6 +31,8 @@ mod kernels;
 #[cfg(test)]
 mod lent;
 #[cfg(test)]
+mod memory;
+#[cfg(test)]
 mod own;
 #[cfg(test)]
 mod own_values;
@@ -46,6 +50,8 @@ mod refused_runs;
 mod series_faults;
 #[cfg(test)]
 mod several;
+#[cfg(test)]
+mod slots;
 #[cfg(test)]
 mod terminal;
 #[cfg(test)]

@@ -14,8 +14,7 @@ use std::sync::Wait;
 use std::test::Fail;
 use std::thread::Threads;
 use tp_base::{History, Refusal};
-use tp_cli::main_with;
-use tp_pools::{Registry, Standing, run_pools};
+use tp_cli::{Registry, Standing, main_with, run_pools};
 use tp_text::{TextFault, Verdict, audit, print_trace, sim};
 use tp_work::{Config, OpenGate, run_generations, run_pool};
 

@@ -5,7 +5,7 @@ use std::sync::Wait;
 use std::test::Fail;
 use std::thread::Threads;
 use tp_base::{NodeId, PoolId, Refusal, TaskId};
-use tp_pools::{Registry, Standing, run_pools};
+use tp_cli::{Registry, Standing, run_pools};
 use tp_work::{Config, Gate};
 
 const TWO_NODES: Config = Config {

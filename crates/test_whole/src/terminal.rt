@@ -68,14 +68,14 @@ fn words_at_a_terminal(rt: HostRuntime) {
         status: 1,
         output: "",
         line: "refused 26 BadSpec\n",
-        reason: "product:4:3:0: SIDE 3 does not divide ORDER 4\n",
+        reason: "reason: product:4:3:0: SIDE 3 does not divide ORDER 4\n",
     };
     assert!(rt; ends_so(&rt, alloc, &["tp", "run", "product:4:3:0"], b"", &undivided));
     let twice = Ending {
         status: 1,
         output: "",
         line: "refused 25 PoolKnown\n",
-        reason: "SPEC 2 repeats an earlier one\n",
+        reason: "reason: SPEC 2 repeats an earlier one\n",
     };
     assert!(rt;
         ends_so(

@@ -1,4 +1,4 @@
-//! The reasons that `tp` prints on a terminal: why a specification names no pool, why several may not be registered,
+//! The reasons that `tp` prints: why a specification names no pool, why several may not be registered,
 //! and what is wrong with the first line of a script or a trace that is not of the grammar. Their texts are not proved.
 
 use std::alloc::Global;
@@ -32,7 +32,7 @@ fn is_no_pool<R: Threads + Wait + Sync + Clock + Files>(
     word: &str,
     reason: &str,
 ) -> bool {
-    match format!(in alloc; "refused 26 BadSpec\n{word}: {reason}\n") {
+    match format!(in alloc; "refused 26 BadSpec\nreason: {word}: {reason}\n") {
         Ok(message) => is_written(rt, alloc, &["tp", "run", word], b"", &message),
         Err(_) => false,
     }
@@ -128,11 +128,11 @@ fn words_that_may_not_be_registered(rt: HostRuntime) {
                 "",
                 "",
             ],
-            "refused 26 BadSpec\nSPEC 2: SIDE 3 does not divide ORDER 4\n",
+            "refused 26 BadSpec\nreason: SPEC 2: SIDE 3 does not divide ORDER 4\n",
         ),
         (
             ["tp", "pools", "x", "y", "-", "", "", "", "", ""],
-            "refused 26 BadSpec\nSPEC 1: the kind must be product, wavefront or reduce\n",
+            "refused 26 BadSpec\nreason: SPEC 1: the kind must be product, wavefront or reduce\n",
         ),
         // the others name pools
         (
@@ -148,7 +148,7 @@ fn words_that_may_not_be_registered(rt: HostRuntime) {
                 "product:4:2:0",
                 "reduce:64:0:",
             ],
-            "refused 26 BadSpec\nSPEC 8: the form must be reduce:LEAVES:SEED\n",
+            "refused 26 BadSpec\nreason: SPEC 8: the form must be reduce:LEAVES:SEED\n",
         ),
         (
             [
@@ -163,7 +163,7 @@ fn words_that_may_not_be_registered(rt: HostRuntime) {
                 "",
                 "",
             ],
-            "refused 25 PoolKnown\nSPEC 3 repeats an earlier one\n",
+            "refused 25 PoolKnown\nreason: SPEC 3 repeats an earlier one\n",
         ),
     ] {
         assert!(rt; are_no_pools(&rt, rt.alloc(), words, message), "{message}");
@@ -187,7 +187,7 @@ fn words_that_may_not_be_registered(rt: HostRuntime) {
             rt.alloc(),
             &many,
             b"",
-            "refused 23 StoreFull\nmore than 8 pools\n"
+            "refused 23 StoreFull\nreason: more than 8 pools\n"
         )
     );
 }
@@ -201,13 +201,17 @@ fn is_wrong<R: Threads + Wait + Sync + Clock + Files>(
     line: u32,
     reason: &str,
 ) -> bool {
-    match format!(in alloc; "line {line}{reason}\n") {
+    match format!(in alloc; "reason: line {line}{reason}\n") {
         Ok(message) => is_written(rt, alloc, &["tp", subcommand], text, &message),
         Err(_) => false,
     }
 }
 
 const NO_NODES: &str = " is not `nodes N`, N from 1 to 8";
+
+const RETURN: &str = " ends with a carriage return: lines end with a line feed alone";
+
+const BEGUN: &[u8] = b"\xef\xbb\xbfnodes 1\n";
 
 const LONG: &[u8] = b"nodes 1\nabcdefghijklmnopqrstuvwxyz012345\n";
 
@@ -218,7 +222,9 @@ fn scripts_that_are_not_of_the_grammar(rt: HostRuntime) {
     for (text, line, reason) in [
         (b"".as_slice(), 1, " is missing"),
         (b"nodes 9\n", 1, NO_NODES),
-        (b"nodes 1\r\n", 1, NO_NODES),
+        (b"nodes 1\r\n", 1, RETURN),
+        (b"nodes 1 \n", 1, " ends with a space"),
+        (BEGUN, 1, " begins with a byte order mark"),
         (b"nodes 1", 1, " has no end"),
         (b"script 2\n", 2, " is missing"),
         (b"script 2\nready 0\n", 2, NO_NODES),

@@ -1,52 +1,59 @@
 //! The program `tp`: it connects the command line to the process, its standard streams and the terminal.
 #![tactic(auto)]
 
+use std::cell::Cell;
 use std::io::{ErrorKind, Write};
 use std::process::ExitCode;
-use tp_cli::{main_at_terminal, main_with, without_words};
-use tp_shell::{arguments, words_of};
+use tp_cli::{main_at_terminal, main_with};
+use tp_shell::{
+    Messages, Output, arguments, asks_version, explain_failure, is_quiet, without_words, words_of,
+};
 use tp_work::Screen;
 
-/// The exit status is that of `main_with`, or of `main_at_terminal` if standard error is a terminal. If the arguments
-/// cannot be read because an allocation fails or one of them is not UTF-8, an error line says so.
+/// The exit status is that of `main_with` if the environment asks for exact lines alone, and else that of
+/// `main_at_terminal`, which also prints reasons. If the arguments cannot be read because an allocation fails or one of
+/// them is not UTF-8, an error line says so.
 fn main(rt: HostRuntime) -> ExitCode {
+    let (alloc, failure) = (rt.alloc(), Cell::new(None));
+    let mut out = Output {
+        writer: rt.stdout(),
+        failure: &failure,
+    };
+    let mut err = Messages {
+        writer: rt.stderr(),
+        failure: &failure,
+    };
     let arguments = match arguments(&rt) {
         Ok(arguments) => arguments,
-        Err(fault) => return complain(&rt, fault),
+        Err(fault) => return complain(fault, &mut err),
     };
-    let words = match words_of(rt.alloc(), &arguments) {
+    let words = match words_of(alloc, &arguments) {
         Ok(words) => words,
-        Err(_) => return complain(&rt, ErrorKind::OutOfMemory),
+        Err(_) => return complain(ErrorKind::OutOfMemory, &mut err),
     };
-    let alloc = rt.alloc();
-    let Some(mut screen) = Screen::of(&rt.stdin(), rt.stderr()) else {
-        let status = main_with(
-            &rt,
-            alloc,
-            &words,
-            &mut rt.stdin(),
-            &mut rt.stdout(),
-            &mut rt.stderr(),
-        );
+    if asks_version(&words) {
+        let version = ["tp", "--version"];
+        let status = main_with(&rt, alloc, &version, &mut rt.stdin(), &mut out, &mut err);
         return ExitCode::from(status);
-    };
-    tell_what_is_read(&mut screen, &words);
-    let status = main_at_terminal(
-        &rt,
-        alloc,
-        &words,
-        &mut rt.stdin(),
-        &mut rt.stdout(),
-        &mut rt.stderr(),
-        Some(screen),
-    );
+    }
+    let mut reader = rt.stdin();
+    if is_quiet(&rt) {
+        let status = main_with(&rt, alloc, &words, &mut reader, &mut out, &mut err);
+        return ExitCode::from(status);
+    }
+    let mut screen = Screen::of(&rt.stdin(), rt.stderr());
+    if let Some(screen) = &mut screen {
+        tell_what_is_read(screen, &words);
+    }
+    let status = main_at_terminal(&rt, alloc, &words, &mut reader, &mut out, &mut err, screen);
+    explain_failure("tp", &failure, &mut err);
     ExitCode::from(status)
 }
 
 /// Prints why the arguments could not be read.
-fn complain<R: Eprint>(rt: &R, fault: ErrorKind) -> ExitCode {
+fn complain<E: Write>(fault: ErrorKind, err: &mut E) -> ExitCode {
     let (complaint, status) = without_words(fault);
-    let _ = eprint!(rt; "{complaint}");
+    let _ = err.write_all(complaint.as_bytes());
     ExitCode::from(status)
 }
 

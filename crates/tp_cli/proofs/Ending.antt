@@ -7,7 +7,7 @@ use Rattle.clap.specs.Words.{Text, subcommand_of}
 use Rattle.clap.specs.declared.error.kind.ErrorKind.{ErrorKind}
 use Rattle.clap.specs.declared.error.kind.ErrorKind.TheVariants.{MissingSubcommand}
 use Rattle.tp_cli.specs.Asked.{IsRunOf}
-use Rattle.tp_cli.specs.Command.{AsksForNothing, AsksForPools, AsksForText, IsAt, tp_app}
+use Rattle.tp_cli.specs.Command.{AsksForNothing, AsksForPools, AsksForText, IsAt, IsRunWith, tp_app}
 use Rattle.tp_cli.specs.Ends.{CouldNotWrite, HasAnswered, HasNothing, IsRunText, IsTextOfPools, RefusedPool, RefusedText, Succeeded}
 use Rattle.tp_cli.specs.Faults.{line_of, status_of}
 use Rattle.tp_cli.specs.Pools.{IsPoolsFault, IsPoolsText, status_of_pools}
@@ -112,6 +112,7 @@ module _ (asking : List Text) (read_old read_new : Option (List ℕ)) where
     pools_fault Same (faults.Words met) why kept = absurd why
     pools_fault Same (faults.Text met) why kept = absurd why
     pools_fault Same faults.NoPool why kept = absurd why
+    pools_fault Same faults.Profile why kept = absurd why
     pools_fault Same (faults.Run met) why kept = absurd why
 
   module _ (kind : ErrorKind) (fails : FailsAs tp_app MissingSubcommand (AsksForNothing asking) asking kind) where
@@ -156,19 +157,22 @@ module _ (asking : List Text) (read_old read_new : Option (List ℕ)) where
       subst (λ f. CouldNotWrite asking read_old read_new f ⊎ (Same × HasNothing asking read_old read_new f)) (sym is)
       (met_text kind Same met asked why kept)
 
-  pub run_fault : (spec : Text) (plan : Plan) (Same : Type 0) (fault : Fault) → IsRunOf (subcommand_of tp_app asking) spec plan
-      → IsRunFault plan spec fault → (fault ≢ faults.Write → Same)
+  pub run_fault : (spec : Text) (plan : Plan) (file : Option Text) (Same : Type 0) (fault : Fault)
+      → IsRunOf (subcommand_of tp_app asking) spec plan → IsRunWith file (subcommand_of tp_app asking)
+      → IsRunFault plan spec file fault → (fault ≢ faults.Write → Same)
       → CouldNotWrite asking read_old read_new fault ⊎ (Same × HasNothing asking read_old read_new fault)
-  run_fault spec plan Same faults.NoPool asked why kept = inr (kept (λ e. cc), (spec, asked.0, why))
-  run_fault spec plan Same (faults.Run met) asked why kept = inr (
+  run_fault spec plan file Same faults.NoPool asked filed why kept = inr (kept (λ e. cc), (spec, asked.0, why))
+  run_fault spec plan file Same faults.Profile asked filed why kept =
+      inr (kept (λ e. cc), (spec, why.0, asked.0, subst (λ o. IsRunWith o (subcommand_of tp_app asking)) why.1 filed))
+  run_fault spec plan file Same (faults.Run met) asked filed why kept = inr (
     kept (λ e. cc),
     (spec, plan.config.nodes, plan.config.workers, plan.generations, plan.form, asked.0, asked.2, asked.3, asked.4, why),
   )
-  run_fault spec plan Same faults.Write asked why kept = inl (inl (why.0, run_text spec plan why.0 asked why.1))
-  run_fault spec plan Same (faults.Words met) asked why kept = absurd why
-  run_fault spec plan Same (faults.Text met) asked why kept = absurd why
-  run_fault spec plan Same (faults.InVain refusal) asked why kept = absurd why
-  run_fault spec plan Same faults.Memory asked why kept = absurd why
+  run_fault spec plan file Same faults.Write asked filed why kept = inl (inl (why.0, run_text spec plan why.0 asked why.1))
+  run_fault spec plan file Same (faults.Words met) asked filed why kept = absurd why
+  run_fault spec plan file Same (faults.Text met) asked filed why kept = absurd why
+  run_fault spec plan file Same (faults.InVain refusal) asked filed why kept = absurd why
+  run_fault spec plan file Same faults.Memory asked filed why kept = absurd why
 
   -- ---- statuses
 
@@ -182,6 +186,7 @@ module _ (asking : List Text) (read_old read_new : Option (List ℕ)) where
   written_status (faults.Text texts.Write) why = refl
   written_status (faults.Text texts.Memory) why = absurd why
   written_status faults.NoPool why = absurd why
+  written_status faults.Profile why = absurd why
   written_status (faults.InVain refusal) why = absurd why
   written_status (faults.Run met) why = absurd why
   written_status faults.Memory why = absurd why
@@ -197,6 +202,7 @@ faulty (faults.Text texts.TooLong) = inl refl
 faulty (faults.Text texts.Write) = inl refl
 faulty (faults.Text texts.Memory) = inr refl
 faulty faults.NoPool = inl refl
+faulty faults.Profile = inl refl
 faulty (faults.InVain refusal) = inl refl
 faulty (faults.Run met) = inr refl
 faulty faults.Memory = inr refl

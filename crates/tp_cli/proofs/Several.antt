@@ -18,11 +18,10 @@ use Rattle.tp_base.specs.declared.ids.PoolId.{PoolId}
 use Rattle.tp_base.specs.declared.limits.TheConstants.{MAX_POOLS}
 use Rattle.tp_base.specs.declared.refusal.Refusal.{Refusal}
 use Rattle.tp_base.specs.declared.refusal.Refusal.TheVariants.{BadSpec, NoMemory, PoolKnown, StoreFull}
-use Rattle.tp_pools.specs.Pools.{Entered, IsUnregistered, Pools, is_named, register_checks, registered}
-use Rattle.tp_pools.specs.Runs.{is_waiting, rank}
+use Rattle.tp_cli.specs.Registry.{AreRun, AreRunAnswers, Entered, IsUnregistered, Pools, is_named}
+use Rattle.tp_cli.specs.Registry.{is_waiting, rank, register_checks, registered}
 use Rattle.pool_samples.specs.Words.{word_of}
 use Rattle.pool_samples.specs.declared.any.AnyGraph.{AnyGraph}
-use Rattle.tp_pools.specs.Answers.{AreRun, AreRunAnswers}
 use Rattle.tp_work.specs.declared.config.Fault as ended
 use Rattle.tp_work.specs.declared.config.Outcome.{Outcome}
 use Rattle.tp_cli.specs.Pools.{AreInVain, AreNamed, AreTakenTo, IsPoolsFault, IsWordsFault, MayNamePools, Word, is_among, lines_from}
@@ -197,6 +196,7 @@ words_in_vain words n workers faults.Memory why = why
 words_in_vain words n workers (faults.Words met) why = absurd why
 words_in_vain words n workers (faults.Text met) why = absurd why
 words_in_vain words n workers faults.NoPool why = absurd why
+words_in_vain words n workers faults.Profile why = absurd why
 words_in_vain words n workers (faults.Run met) why = absurd why
 words_in_vain words n workers faults.Write why = absurd why
 

@@ -1,12 +1,12 @@
 -- How a run ends on a terminal.
-use Rattle.std.proofs.Common.{◌≡◌, ◌∙◌, ◌⊎◌, ℕ, List, Option, Result, Ok, Err, IfErr, IfOk, ap, arith, inl, inr, subst, sym}
+use Rattle.std.proofs.Common.{◌≡◌, ◌∙◌, ◌⊎◌, ℕ, List, Option, Result, Ok, Err, IfErr, IfOk, ap, arith, inl, inr, sym}
 use Rattle.clap.specs.Words.{Text}
 use Rattle.tp_cli.proofs.Ending.{faulty, if_done, if_failed, if_fault, if_refused, written_status}
 use Rattle.tp_cli.specs.Ends.{CouldNotWrite, HasAnswered, HasNothing, RefusedPool, RefusedText, Succeeded}
 use Rattle.tp_cli.specs.Faults.{line_of, status_of}
-use Rattle.tp_cli.specs.Reasons.{IsAnswerExplained, IsExplained, MayExplain}
+use Rattle.tp_cli.specs.Reasons.{IsAnswerExplained}
+use Rattle.tp_shell.specs.Streams.{MayExplain}
 use Rattle.tp_cli.specs.declared.fault.Fault.{Fault}
-use Rattle.tp_cli.specs.declared.fault.Fault.TheVariants as faults
 use Rattle.tp_shell.specs.Statuses.{code_of}
 use Rattle.tp_shell.specs.declared.status.Status.{Status}
 use Rattle.tp_shell.specs.declared.status.Status.TheVariants as statuses
@@ -23,7 +23,7 @@ module _ {D : Type 0} (tells : D → List ℕ → D → Type 0) (asking : List T
   WasKept r = IfOk r (λ t. (s ≡ t) × IsAnswerExplained tells t old new)
 
   abbrev WasTold : Result Status Fault → Type 0
-  WasTold r = IfErr r (λ f. (s ≡ status_of f) × ((met : D) × tells old (line_of f) met × IsExplained tells f met new))
+  WasTold r = IfErr r (λ f. (s ≡ status_of f) × ((met : D) × tells old (line_of f) met × MayExplain tells met new))
 
   -- with another status than that of a refused text no reason is printed
   quiet_done : (t : Status) → code_of t ≡ 0 → IsAnswerExplained tells t old new → new ≡ old
@@ -44,16 +44,6 @@ module _ {D : Type 0} (tells : D → List ℕ → D → Type 0) (asking : List T
   may_explain statuses.Refused two told = told
   may_explain statuses.Failed two told = cc
 
-  -- after the line of a fault with status 3 no reason is printed
-  unexplained : (f : Fault) (met : D) → code_of (status_of f) ≡ 3 → IsExplained tells f met new → new ≡ met
-  unexplained (faults.Words met) told three same = same
-  unexplained (faults.Text met) told three same = same
-  unexplained faults.NoPool told three same = cc
-  unexplained (faults.InVain refusal) told three same = cc
-  unexplained (faults.Run met) told three same = same
-  unexplained faults.Memory told three same = same
-  unexplained faults.Write told three same = same
-
   pub explained_done : (r : Result Status Fault) → WasAnswered r → WasKept r → WasTold r → code ≡ 0
       → (new ≡ old) × Succeeded asking read_old read_new written_old written_new
   explained_done (Ok t) answered kept told zero =
@@ -65,7 +55,7 @@ module _ {D : Type 0} (tells : D → List ℕ → D → Type 0) (asking : List T
   ]
 
   pub explained_complained : (r : Result Status Fault) → WasAnswered r → IfErr r Lacks → WasKept r → WasTold r → code ≡ 1
-      → (f : Fault) × (met : D) × (code ≡ code_of (status_of f)) × tells old (line_of f) met × IsExplained tells f met new × Lacks f
+      → (f : Fault) × (met : D) × (code ≡ code_of (status_of f)) × tells old (line_of f) met × MayExplain tells met new × Lacks f
   explained_complained (Ok t) answered why kept told one =
       absurd (if_fault asking read_old read_new written_old written_new t (ap code_of (sym kept.0) ∙ sym is ∙ one) answered)
   explained_complained (Err f) answered why kept told one =
@@ -87,13 +77,12 @@ module _ {D : Type 0} (tells : D → List ℕ → D → Type 0) (asking : List T
   unwritten f three (inr nothing) = nothing
 
   pub explained_failed : (r : Result Status Fault) → WasAnswered r → IfErr r Lacks → WasKept r → WasTold r → code ≡ 3
-      → ((f : Fault) × (code ≡ code_of (status_of f)) × tells old (line_of f) new × Same × HasNothing asking read_old read_new f)
-      ⊎ ((new ≡ old) × RefusedPool asking written_old written_new)
+      → ((f : Fault) × (met : D) × (code ≡ code_of (status_of f)) × tells old (line_of f) met × MayExplain tells met new
+      × Same × HasNothing asking read_old read_new f) ⊎ ((new ≡ old) × RefusedPool asking written_old written_new)
   explained_failed (Ok t) answered why kept told three =
       let t_is : code_of t ≡ 3 = ap code_of (sym kept.0) ∙ sym is ∙ three in
       inr (quiet_failed t t_is kept.1, if_failed asking read_old read_new written_old written_new t t_is answered)
   explained_failed (Err f) answered why kept told three =
       let status : code_of (status_of f) ≡ 3 = sym (ap code_of told.0) ∙ sym is ∙ three in
-      let same : new ≡ told.1.0 = unexplained f told.1.0 status told.1.2 in
       let nothing = unwritten f status why in
-      inl (f, is ∙ ap code_of told.0, subst (λ d. tells old (line_of f) d) (sym same) told.1.1, nothing.0, nothing.1)
+      inl (f, told.1.0, is ∙ ap code_of told.0, told.1.1, told.1.2, nothing.0, nothing.1)

@@ -125,6 +125,10 @@ AsksForGenerations words count = IsRunOver count (subcommand_of tp_app words)
 abbrev pub AsksForForm : List Text → Form → Type 0
 AsksForForm words form = IsRunIn form (subcommand_of tp_app words)
 
+-- a run whose profile goes to this file
+abbrev pub AsksForProfile : List Text → Text → Type 0
+AsksForProfile words file = IsRunWith (Some file) (subcommand_of tp_app words)
+
 -- runs at once of the pools that these arguments specify
 abbrev pub AsksForPools : List Text → List Text → Type 0
 AsksForPools words specs = IsPoolsNaming specs (subcommand_of tp_app words)

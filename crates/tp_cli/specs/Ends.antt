@@ -4,8 +4,8 @@ use Rattle.std.specs.Prelude.{ℕ, ◌⊎◌, Bool, true, false, List, Option}
 use Rattle.std.specs.Io.KnownBytes.{Appends}
 use Rattle.clap.specs.Words.{Text}
 use Rattle.tp_base.specs.declared.refusal.Refusal.{Refusal}
-use Rattle.tp_cli.specs.Command.{AsksForForm, AsksForGenerations, AsksForNothing, AsksForPools, AsksForPoolsAt, AsksForRun, AsksForRunAt}
-use Rattle.tp_cli.specs.Command.{AsksForText, tp_app}
+use Rattle.tp_cli.specs.Command.{AsksForForm, AsksForGenerations, AsksForNothing, AsksForPools, AsksForPoolsAt, AsksForProfile}
+use Rattle.tp_cli.specs.Command.{AsksForRun, AsksForRunAt, AsksForText, tp_app}
 use Rattle.tp_cli.specs.Pools.{AreInVain, IsPoolsText, MayNamePools}
 use Rattle.tp_cli.specs.Runs.{IsRefusedRun, IsTextFor, NamesNoGraph}
 use Rattle.tp_cli.specs.Texts.{IsAnswerTo, IsUnansweredText}
@@ -105,6 +105,7 @@ abbrev pub HasNothing : List Text → Option (List ℕ) → Option (List ℕ) �
 HasNothing words read_old read_new (faults.Words fault) = IsWordsFault tp_app (AsksForNothing words) words fault
 HasNothing words read_old read_new (faults.Text fault) = LacksAnswer words read_old read_new fault
 HasNothing words read_old read_new faults.NoPool = (word : Text) × AsksForRun words word × NamesNoGraph word
+HasNothing words read_old read_new faults.Profile = (word : Text) × (file : Text) × AsksForRun words word × AsksForProfile words file
 HasNothing words read_old read_new (faults.InVain refusal) = NamesPoolsInVain words refusal
 HasNothing words read_old read_new (faults.Run fault) = LacksRunText words fault
 HasNothing words read_old read_new faults.Memory = MayRunPools words

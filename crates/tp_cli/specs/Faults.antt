@@ -1,6 +1,5 @@
 -- The error line of a fault, and its exit status.
 use Rattle.std.specs.Prelude.{ℕ, ◌++◌, List, codes, decimal}
-use Rattle.std.specs.String.{string_bytes}
 use Rattle.tp_base.specs.Refusals.{number_of, name_of}
 use Rattle.tp_base.specs.declared.refusal.Refusal.{Refusal}
 use Rattle.tp_base.specs.declared.refusal.Refusal.TheVariants.{BadSpec, NoMemory}
@@ -10,7 +9,7 @@ use Rattle.tp_cli.specs.declared.fault.RunFault.{RunFault}
 use Rattle.tp_cli.specs.declared.fault.RunFault.TheVariants as runs
 use Rattle.tp_shell.specs.declared.status.Status.{Status}
 use Rattle.tp_shell.specs.declared.status.Status.TheVariants as statuses
-use Rattle.tp_shell.specs.declared.words.WordsFault.{WordsFault}
+use Rattle.tp_shell.specs.Texts.{words_line}
 use Rattle.tp_shell.specs.declared.words.WordsFault.TheVariants as words
 use Rattle.tp_text.specs.declared.TextFault.{TextFault}
 use Rattle.tp_text.specs.declared.TextFault.TheVariants as texts
@@ -31,18 +30,13 @@ text_line texts.TooLong = codes "fault too long\n"
 text_line texts.Write = codes "fault write\n"
 text_line texts.Memory = codes "refused 17 NoMemory\n"
 
--- for arguments that are at fault, the parser's own text
-abbrev pub words_line : WordsFault → List ℕ
-words_line (words.Words text) = string_bytes text ++ codes "\n"
-words_line words.Memory = text_line texts.Memory
-words_line words.Write = text_line texts.Write
-
 -- the error line of a fault
 abbrev pub line_of : Fault → List ℕ
 line_of (faults.Words fault) = words_line fault
 line_of (faults.Text fault) = text_line fault
 line_of faults.NoPool = refusal_line BadSpec
 line_of (faults.InVain refusal) = refusal_line refusal
+line_of faults.Profile = text_line texts.Write
 line_of (faults.Run fault) = refusal_line (refusal_of fault)
 line_of faults.Memory = refusal_line NoMemory
 line_of faults.Write = text_line texts.Write
@@ -58,6 +52,7 @@ status_of (faults.Text texts.Write) = statuses.Fault
 status_of (faults.Text texts.Memory) = statuses.Failed
 status_of faults.NoPool = statuses.Fault
 status_of (faults.InVain refusal) = statuses.Fault
+status_of faults.Profile = statuses.Fault
 status_of (faults.Run fault) = statuses.Failed
 status_of faults.Memory = statuses.Failed
 status_of faults.Write = statuses.Fault

@@ -4,5 +4,6 @@ pub mod Ends
 pub mod Faults
 pub mod Pools
 pub mod Reasons
+pub mod Registry
 pub mod Runs
 pub mod Texts

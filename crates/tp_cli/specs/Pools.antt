@@ -11,10 +11,9 @@ use Rattle.tp_base.specs.declared.refusal.Refusal.TheVariants.{BadSpec, NoMemory
 use Rattle.tp_cli.specs.Runs.{NamesNoGraph}
 use Rattle.tp_cli.specs.declared.fault.Fault.{Fault}
 use Rattle.tp_cli.specs.declared.fault.Fault.TheVariants as faults
-use Rattle.tp_pools.specs.Pools.{Pools, registered}
+use Rattle.tp_cli.specs.Registry.{AreRunAnswers, Pools, registered}
 use Rattle.pool_samples.specs.Words.{word_of}
 use Rattle.pool_samples.specs.declared.any.AnyGraph.{AnyGraph}
-use Rattle.tp_pools.specs.Answers.{AreRunAnswers}
 use Rattle.tp_shell.specs.declared.status.Status.{Status}
 use Rattle.tp_shell.specs.declared.status.Status.TheVariants.{Done, Failed}
 use Rattle.tp_work.specs.declared.config.Fault as ended

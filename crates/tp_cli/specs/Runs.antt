@@ -1,5 +1,5 @@
 -- The text of a pool's run, in one generation or in several.
-use Rattle.std.specs.Prelude.{ℕ, suc, ◌≡◌, ◌≢◌, ◌≤◌, ◌⊎◌, ◌++◌, List, [], ◌∷◌, Some, codes, decimal, slice_get, vec_len}
+use Rattle.std.specs.Prelude.{ℕ, suc, ◌≡◌, ◌≢◌, ◌≤◌, ◌⊎◌, ◌++◌, List, [], ◌∷◌, Option, Some, codes, decimal, slice_get, vec_len}
 use Rattle.tp_base.specs.declared.refusal.Refusal.{Refusal}
 use Rattle.tp_base.specs.declared.refusal.Refusal.TheVariants.{BadSpec, Missing, NoMemory}
 use Rattle.tp_graph.specs.Serial.{AreRight, Results}
@@ -131,9 +131,11 @@ abbrev pub NamesNoGraph : List ℕ → Type 0
 NamesNoGraph word = (g : AnyGraph) → word ≢ word_of g
 
 -- Why the pool of a specification was not run by this plan, or its text not written: the specification names no graph; or because
--- of this fault there is no text; or there is one, and it could not be written.
-abbrev pub IsRunFault : Plan → List ℕ → Fault → Type 0
-IsRunFault p word faults.NoPool = NamesNoGraph word
-IsRunFault p word (faults.Run fault) = IsRefusedRun p.form word p.config.nodes p.config.workers p.generations fault
-IsRunFault p word faults.Write = (text : List ℕ) × IsTextFor p.form word p.config.nodes p.config.workers p.generations text
-IsRunFault p word fault = ⊥
+-- of this fault there is no text; or there is one, and it could not be written. Or there is a file for its profile, which could
+-- not be opened.
+abbrev pub IsRunFault : Plan → List ℕ → Option (List ℕ) → Fault → Type 0
+IsRunFault p word file faults.NoPool = NamesNoGraph word
+IsRunFault p word file faults.Profile = (path : List ℕ) × (file ≡ Some path)
+IsRunFault p word file (faults.Run fault) = IsRefusedRun p.form word p.config.nodes p.config.workers p.generations fault
+IsRunFault p word file faults.Write = (text : List ℕ) × IsTextFor p.form word p.config.nodes p.config.workers p.generations text
+IsRunFault p word file fault = ⊥

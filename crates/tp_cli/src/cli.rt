@@ -37,7 +37,7 @@ use tp_work::Screen;
 /// the last. The first generation that is refused is the refusal of the run, and nothing is written of those before.
 ///
 /// After the output of a run, the times of its tasks are written to the file that `--profile` names. No contract is
-/// about this file; if it cannot be written, the fault is that of a failed write.
+/// about this file. It is opened before the run; if it cannot be opened or written, the fault is that of a failed write.
 pub fn main_with<R: Threads + Wait + Sync + Clock + Files, I: Read, O: Write, E: Diagnostics>(
     rt: &R,
     alloc: Global,
@@ -111,15 +111,16 @@ pub(crate) fn answer_words<
 {
     match requested(alloc, words) {
         Ok(Request::Answer(kind)) => answer_text(alloc, kind, keeps, reader, out),
-        Ok(Request::Run(spec, plan, file)) => (
-            run(rt, alloc, spec, plan, file, out, screen),
-            Subject::Word(spec),
-        ),
+        Ok(Request::Run(spec, plan, file)) => {
+            let mut reason = None;
+            let ended = run(rt, alloc, spec, plan, file, out, screen, &mut reason);
+            (ended, Subject::Run(spec, reason))
+        }
         Ok(Request::Pools(specs, config)) => (
             run_several(rt, alloc, &specs, config, out),
             Subject::Words(specs),
         ),
-        Err(error) => (show_asked(alloc, &error, out), Subject::Nothing),
+        Err(error) => (show_asked(alloc, &error, out), Subject::Arguments(words)),
     }
 }
 

@@ -80,7 +80,7 @@ fn generations_option<'a>(alloc: Global) -> Arg<'a>
     ensures local { result.global ≡ false }
 {
     count_option(alloc, "generations", "1-9", MAX_GENERATIONS).help(
-        "K, how many times the pool runs: it is reopened after each run but the last",
+        "K, how many times the pool runs",
     )
 }
 
@@ -91,7 +91,7 @@ fn trace_flag<'a>(alloc: Global) -> Arg<'a>
     Arg::new(alloc, "trace")
         .long("trace")
         .action(ArgAction::SetTrue)
-        .help("Prints only the trace of the run, which `tp audit` can check")
+        .help("Prints only the trace, which `tp audit` can check")
 }
 
 fn profile_option<'a>(alloc: Global) -> Arg<'a>
@@ -101,7 +101,7 @@ fn profile_option<'a>(alloc: Global) -> Arg<'a>
     Arg::new(alloc, "profile")
         .long("profile")
         .value_name("FILE")
-        .help("Writes when each task ran to this file, as trace events for a viewer of timelines")
+        .help("Writes when each task ran, as trace events")
 }
 
 fn pools_command<'a>(alloc: Global) -> Result<Command<'a>, AllocError>
@@ -111,7 +111,7 @@ fn pools_command<'a>(alloc: Global) -> Result<Command<'a>, AllocError>
     let specs = Arg::new(alloc, "SPEC")
         .required(true)
         .action(ArgAction::Append)
-        .help("The pools, 1 to 8, such as product:4:2:0, wavefront:8:8:0 or reduce:16:0");
+        .help("The pools, 1 to 8, such as product:4:2:0 or reduce:16:0");
     let command = Command::new(alloc, "pools")
         .about("Runs several pools of tasks at the same time and prints a line for each")
         .after_help(POOLS_HELP)
@@ -142,7 +142,7 @@ for each step. The nodes have the numbers from 0 to N - 1.
   end J M        the action of message M closes at node J
   start          the next wave of the detector starts at node 0
   down I         node I takes the wave's token
-  give I         node I, if nothing is pending there, adds its counts to the wave
+  give I         node I, if nothing is pending there, adds its counts to it
   up I           the parent of node I takes the sums that node I gave
   judge          the wave that has ended is judged
 
@@ -152,10 +152,10 @@ lines of a message then have the number of its generation, the first being 1:
   send I J M G   recv J M G   end J M G
 
 The reply to a step is one line: `ok`; for `give 0` the sums of the wave; for
-`judge` either `not` or `ended W`; for `reopen` `generation G`; or the refusal of
-the step. Then come the counts of each node and their sums, and `quiet yes` if
-nothing is pending and no message is in flight, else `quiet no`. Unfinished tasks
-and open actions are pending.
+`judge` either `not` or `ended W`; for `reopen` `generation G`; or the refusal
+of the step. Then come the counts of each node and their sums, and `quiet yes`
+if nothing is pending and no message is in flight, else `quiet no`. Unfinished
+tasks and open actions are pending.
 
 An example:
   nodes 1
@@ -189,8 +189,8 @@ computes each judgement again. For a sound trace it prints
   generation G           only for `trace 2`: the number of the last generation
   ended W                the last judgement of that generation, or `not ended`
 
-For any other text it prints one line: for the first syntax error or, if there is
-none, for the first line that is wrong.
+For any other text it prints one line: for the first syntax error or, if there
+is none, for the first line that is wrong.
   syntax line L           line L does not match the grammar
   line L refused K Name   the step in line L cannot happen there
   line L unjustified      the judgement in line L is wrong
@@ -214,32 +214,32 @@ The exit status is
   3  if an allocation fails.";
 
 static RUN_HELP: &str = "SPEC is the kind of a pool and its numbers, which have no leading zeros:
-  product:ORDER:SIDE:SEED      multiplies two matrices of ORDER rows, 1 to 64, in
-                               square tiles of SIDE rows; SIDE divides ORDER
-  wavefront:ROWS:COLUMNS:SEED  computes a table, 1 to 64 by 1 to 64: a cell is its
-                               cost plus the least of the cells above and left
-  reduce:LEAVES:SEED           sums the leaves of a tree; their number is a power
-                               of two from 1 to 1024
+  product:ORDER:SIDE:SEED      multiplies two matrices of ORDER rows, 1 to 64,
+                               in square tiles of SIDE rows; SIDE divides ORDER
+  wavefront:ROWS:COLUMNS:SEED  computes a table, 1 to 64 by 1 to 64: a cell is
+                               its cost plus the least of those above and left
+  reduce:LEAVES:SEED           sums the leaves of a tree; their number is a
+                               power of two from 1 to 1024
 SEED, 0 to 9999, determines the numbers that a pool begins with.
 
 The tasks run on N nodes with W worker threads each, and their values go from
-node to node as messages. After the detector has reported termination, the result
-is printed as a table, and then the number of tasks, the number of messages, and
-`ended`. If the run is not refused, the table and the number of tasks do not
-depend on N and W; the number of messages depends on N.
+node to node as messages. After the detector has reported termination, the
+result is printed as a table, and then the number of tasks, the number of
+messages, and `ended`. If the run is not refused, the table and the number of
+tasks do not depend on N and W; the number of messages depends on N.
 
 With --generations K, K being at least 2, the pool runs K times. After each run
-but the last it is reopened, and all is as at the start, except that the limit of
-events holds for all generations together. For each of them `generation 1` and so
-on is printed, and then the lines of its run.
+but the last it is reopened, and all is as at the start, except that the limit
+of events holds for all generations together. For each of them `generation 1`
+and so on is printed, and then the lines of its run.
 
-With --trace only the record of the run is printed: the events of all generations
-in order, as `tp audit --help` describes them. The trace depends on N and W, and
-may differ from run to run.
+With --trace only the record of the run is printed: the events of all
+generations in order, as `tp audit --help` describes them. The trace depends on
+N and W, and may differ from run to run.
 
 With --profile FILE the times at which each task's body began and ended are
 measured. After the output they are written to FILE, in Chrome's trace event
-format. If the run is refused, FILE is not written.
+format, for a viewer of timelines. FILE is opened before the run.
 
 Examples:
   tp run product:4:2:0 --nodes 2 --workers 2
@@ -265,8 +265,8 @@ also the pool's name, and its number P is its place among the arguments, from 0.
 All pools run at the same time, each on N nodes of its own with W worker threads
 each. If one is refused, the others continue. When all have ended, one line is
 printed for each, in the order of the arguments:
-  pool P SPEC ended tasks T messages M   termination was detected, and each of the
-                                         T tasks has its result
+  pool P SPEC ended tasks T messages M   termination was detected, and each of
+                                         the T tasks has its result
   pool P SPEC refused K Name             the run was refused, for example with
                                          `refused 16 HistoryFull`
 
@@ -275,9 +275,9 @@ An example:
 
 The exit status is
   0  if each pool ended;
-  1  if the arguments are wrong or the lines cannot be written. More than 8 pools
-     are `refused 23 StoreFull`, a SPEC that names no pool `refused 26 BadSpec`,
-     and a SPEC that occurs twice `refused 25 PoolKnown`;
+  1  if the arguments are wrong or the lines cannot be written. More than 8
+     pools are `refused 23 StoreFull`, a SPEC that names no pool `refused 26
+     BadSpec`, and a SPEC that occurs twice `refused 25 PoolKnown`;
   3  if a pool is refused or an allocation fails. A thread that could not be
      started is `refused 17 NoMemory`, too.
 It is never 2.";

@@ -1,11 +1,10 @@
 //! The faults of the program, with their error lines and exit statuses.
-ghost use Rattle.std.specs.Prelude.{◌≡◌, ◌≢◌, codes};
-ghost use Rattle.tp_cli.specs.Faults.{line_of, refusal_line, refusal_of, status_of, text_line, words_line};
+ghost use Rattle.std.specs.Prelude.{◌≡◌};
+ghost use Rattle.tp_cli.specs.Faults.{line_of, refusal_line, refusal_of, status_of, text_line};
 
 use itoa::Buffer;
-use std::io::ErrorKind;
 use tp_base::Refusal;
-use tp_shell::{Diagnostics, Status, Told, WordsFault};
+use tp_shell::{Diagnostics, Status, Told, WordsFault, tell_words};
 use tp_text::TextFault;
 
 /// Why the program did not do what its arguments ask for.
@@ -19,6 +18,8 @@ pub(crate) enum Fault {
     NoPool,
     /// The specifications of several pools are refused, with this.
     InVain(Refusal),
+    /// The file for the profile of a run could not be opened.
+    Profile,
     /// There is no text of the run of a pool.
     Run(RunFault),
     /// An allocation failed for the runs of several pools, or for their text.
@@ -38,7 +39,7 @@ pub(crate) enum RunFault {
 
 impl RunFault {
     /// Returns the refusal whose line is printed.
-    fn refusal(&self) -> Refusal
+    pub(crate) fn refusal(&self) -> Refusal
         ensures { result ≡ refusal_of self.now }
     {
         match self {
@@ -61,7 +62,7 @@ impl Told for Fault {
             Fault::InVain(refusal) => tell_refusal(*refusal, err),
             Fault::Run(fault) => tell_refusal(fault.refusal(), err),
             Fault::Memory => tell_refusal(Refusal::NoMemory, err),
-            Fault::Write => err.tell(text_line(TextFault::Write)),
+            Fault::Profile | Fault::Write => err.tell(text_line(TextFault::Write)),
         }
     }
 
@@ -69,20 +70,10 @@ impl Told for Fault {
         match self {
             Fault::Words(WordsFault::Words(_) | WordsFault::Write) => Status::Fault,
             Fault::Text(TextFault::Read | TextFault::TooLong | TextFault::Write) => Status::Fault,
-            Fault::NoPool | Fault::InVain(_) | Fault::Write => Status::Fault,
+            Fault::NoPool | Fault::InVain(_) | Fault::Profile | Fault::Write => Status::Fault,
             Fault::Words(WordsFault::Memory) | Fault::Text(TextFault::Memory) => Status::Failed,
             Fault::Run(_) | Fault::Memory => Status::Failed,
         }
-    }
-}
-
-fn tell_words<E: Diagnostics>(fault: &WordsFault, err: &mut E)
-    ensures { E.tells err.old (words_line fault.now) err.new }
-{
-    match fault {
-        WordsFault::Words(text) => err.tell_parts(&[text.as_str(), "\n"]),
-        WordsFault::Memory => err.tell(text_line(TextFault::Memory)),
-        WordsFault::Write => err.tell(text_line(TextFault::Write)),
     }
 }
 
@@ -104,13 +95,4 @@ fn tell_refusal<E: Diagnostics>(refusal: Refusal, err: &mut E)
     let mut digits = Buffer::new();
     let number = digits.format(refusal.number());
     err.tell_parts(&["refused ", number, " ", refusal.name(), "\n"]);
-}
-
-/// Returns the error line and the exit status for arguments that could not be read: an allocation failed, or one of
-/// them is not UTF-8.
-pub fn without_words(fault: ErrorKind) -> (&'static str, u8)
-    ensures memory { fault ≡ ErrorKind.OutOfMemory → (result.0.now ≡ codes "refused 17 NoMemory\n") × (result.1 ≡ 3) }
-    ensures words { fault ≢ ErrorKind.OutOfMemory → (result.0.now ≡ codes "fault words\n") × (result.1 ≡ 1) }
-{
-    tp_shell::without_words(fault, "refused 17 NoMemory\n", "fault words\n")
 }

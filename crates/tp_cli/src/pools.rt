@@ -9,16 +9,17 @@ ghost use Rattle.tp_base.specs.declared.refusal.Refusal.TheVariants.{NoMemory};
 ghost use Rattle.tp_cli.specs.Pools.{AreNamed, IsPoolsFault, IsPoolsText, IsWordsFault, lines_from, pool_line, pools_of, status_of_pools};
 ghost use Rattle.tp_cli.specs.Pools.{word_fault};
 ghost use Rattle.pool_samples.specs.declared.any.AnyGraph.{AnyGraph};
-ghost use Rattle.tp_pools.specs.Answers.{AreRunAnswers};
+ghost use Rattle.tp_cli.specs.Registry.{AreRunAnswers};
 ghost use Rattle.tp_work.specs.Outcomes.{IsWithinLimits};
 
 use crate::fault::Fault;
+use crate::registry::Registry;
+use crate::runs::run_pools;
 use std::alloc::{AllocError, Global};
 use std::io::Write;
 use std::sync::Wait;
 use std::thread::Threads;
 use tp_base::{MAX_POOLS, Refusal};
-use tp_pools::{Registry, run_pools};
 use tp_shell::{Status, write_text};
 use tp_work::{Config, OpenGate, Outcome};
 

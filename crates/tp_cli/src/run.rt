@@ -1,7 +1,8 @@
 //! The subcommand `run`: runs one pool, and prints its table or its trace.
-ghost use Rattle.std.specs.Prelude.{◌≡◌, ◌≢◌, ◌↔◌, ℕ, List, Ok, Err, IfErr, IfOk, MatchResult};
+ghost use Rattle.std.specs.Prelude.{◌≡◌, ◌≢◌, ◌↔◌, ℕ, List, Ok, Err, IfErr, IfOk, MatchResult, Some, false};
 ghost use Rattle.std.specs.Io.KnownBytes.{Appends};
 ghost use Rattle.std.specs.String.{string_bytes};
+ghost use Rattle.std.specs.Option.{option_map};
 ghost use Rattle.std.specs.Thread.{IsSync};
 ghost use Rattle.tp_cli.specs.Runs.{IsPlan, IsPrintOf, IsRunFault, IsTextFor, IsTextOf, IsTextOfOne, IsUnprinted, IsUntold, IsWithoutOne};
 ghost use Rattle.tp_cli.specs.Runs.{IsWithoutText, NamesNoGraph, run_text, totals_text};
@@ -46,7 +47,8 @@ pub(crate) struct Plan {
 
 /// Runs the pool that a specification names, in the given number of generations, and writes their tables and totals or
 /// their one trace. Nothing is written before the run has ended. Meanwhile the screen shows its progress. If there is a
-/// file, no progress is shown, and the times of the tasks are written to it at last.
+/// file, it is opened before the run, no progress is shown, and the times of the tasks are written to it at last. If it
+/// cannot be opened or written, that is the reason.
 pub(crate) fn run<O: Write, R: Threads + Wait + Sync + Clock + Files, W: Write + Send + Drop>(
     rt: &R,
     alloc: Global,
@@ -55,19 +57,23 @@ pub(crate) fn run<O: Write, R: Threads + Wait + Sync + Clock + Files, W: Write +
     file: Option<&str>,
     out: &mut O,
     screen: Option<Screen<W>>,
+    reason: &mut Option<String>,
 ) -> Result<Status, Fault>
     requires { IsPlan plan }
     ensures ran { IfOk result (λ status. (status ≡ Done) × ((text : List ℕ)
         × IsTextFor plan.form spec.now plan.config.nodes plan.config.workers plan.generations text
         × Appends (O.contents out.old) (O.contents out.new) text)) }
     ensures unnamed { (result ≡ Err Fault.NoPool) ↔ NamesNoGraph spec.now }
-    ensures why { IfErr result (IsRunFault plan spec.now) }
+    ensures why { IfErr result (IsRunFault plan spec.now (option_map (λ f. f.now) file.entry)) }
     ensures unwritten { IfErr result (λ fault. fault ≢ Fault.Write → out.new ≡ out.old) }
 {
     let graph = match checked(spec) {
         Ok(graph) => graph,
         Err(_) => return Err(Fault::NoPool),
     };
+    if !is_opened(rt, alloc, file, reason) {
+        return Err(Fault::Profile);
+    }
     let bodies = u64::from(graph.tasks()).saturating_mul(u64::from(plan.generations));
     let profile = Profile::new(alloc, rt, file, bodies);
     // a run is either counted or timed
@@ -77,9 +83,39 @@ pub(crate) fn run<O: Write, R: Threads + Wait + Sync + Clock + Files, W: Write +
         Err(fault) => return Err(Fault::Run(fault)),
     };
     match write_text(out, &text) {
-        Ok(()) => status_of_profile(profile.write(rt, alloc, profiled(plan.config))),
+        Ok(()) => {
+            let written = profile.write(rt, alloc, profiled(plan.config));
+            status_of_profile(alloc, file, written, reason)
+        }
         Err(_) => Err(Fault::Write),
     }
+}
+
+/// Returns whether the file for a profile could be opened, or there is none, and sets the reason if it could not.
+fn is_opened<R: Files>(
+    rt: &R,
+    alloc: Global,
+    file: Option<&str>,
+    reason: &mut Option<String>,
+) -> bool
+    ensures { result ≡ false → (path : List ℕ) × (option_map (λ f. f.now) file.entry ≡ Some path) }
+{
+    let Some(path) = file else {
+        return true;
+    };
+    match Profile::open(rt, path) {
+        Ok(()) => true,
+        Err(error) => {
+            *reason = reason_of(alloc, file, error);
+            false
+        }
+    }
+}
+
+/// Returns the line that says why the file of a profile was not written. It is none if an allocation fails.
+fn reason_of(alloc: Global, file: Option<&str>, error: io::Error) -> Option<String> {
+    let file = file?;
+    format!(in alloc; "reason: tp: {file}: {error}\n").ok()
 }
 
 /// Returns how a profile shows a run.
@@ -91,16 +127,23 @@ fn profiled(config: Config) -> Run {
     }
 }
 
-/// Returns how the program ends after it has written its text, and then the profile or not.
-fn status_of_profile(written: io::Result<()>) -> Result<Status, Fault>
+/// Returns how the program ends after it has written its text, and then the profile or not, and sets the reason.
+fn status_of_profile(
+    alloc: Global,
+    file: Option<&str>,
+    written: io::Result<()>,
+    reason: &mut Option<String>,
+) -> Result<Status, Fault>
     ensures done { IfOk result (λ status. status ≡ Done) }
     ensures why { IfErr result (λ fault. fault ≡ Fault.Write) }
     ensures exact { MatchResult written (λ _. result ≡ Ok Done) (λ _. result ≡ Err Fault.Write) }
 {
-    if written.is_ok() {
-        Ok(Status::Done)
-    } else {
-        Err(Fault::Write)
+    match written {
+        Ok(()) => Ok(Status::Done),
+        Err(error) => {
+            *reason = reason_of(alloc, file, error);
+            Err(Fault::Write)
+        }
     }
 }
 

@@ -1,14 +1,15 @@
-//! The program at a terminal, which also prints reasons and progress.
+//! The program for a user, to whom it also prints reasons and progress.
 ghost use Rattle.std.specs.Prelude.{◌≡◌, ◌≤◌, ◌⊎◌, IfErr, IfOk, map};
 ghost use Rattle.tp_cli.specs.Command.{ReadsAText};
 ghost use Rattle.tp_cli.specs.Ends.{CouldNotWrite, HasNothing, RefusedPool, RefusedText, Succeeded};
 ghost use Rattle.tp_cli.specs.Faults.{line_of, status_of};
-ghost use Rattle.tp_cli.specs.Reasons.{IsAnswerExplained, IsExplained, MayExplain};
+ghost use Rattle.tp_cli.specs.Reasons.{IsAnswerExplained};
+ghost use Rattle.tp_shell.specs.Streams.{MayExplain};
 ghost use Rattle.tp_shell.specs.Statuses.{code_of};
 
 use crate::cli::answer_words;
 use crate::fault::Fault;
-use crate::reasons::{Subject, explain};
+use crate::reasons::{Subject, explain, explain_fault};
 use std::alloc::Global;
 use std::io::{Read, Write};
 use std::rt::{Clock, Files};
@@ -17,12 +18,11 @@ use std::thread::Threads;
 use tp_shell::{Diagnostics, Status, complain};
 use tp_work::Screen;
 
-/// Runs the program as [`main_with`](crate::main_with) does, for a user who reads the error lines on a terminal. If a
-/// specification names no pool, or several may not be registered, a second line says why; if a line of a script or a
-/// trace is not of the grammar, a line says what is wrong with it. The texts of these lines are tested, not proved. All
-/// else is the same: what is written to `out`, what is read, the first line, and the exit status. A script or a trace
-/// is kept until the reply is written, so it needs twice its memory. While a pool runs, the screen, if there is one,
-/// shows its progress.
+/// Runs the program as [`main_with`](crate::main_with) does, for a user who reads the error lines. After the line of a
+/// fault a second line may say why, such as what is wrong with a specification or a line of a script; after a trace was
+/// refused, what is pending. These lines begin with `reason: `; their texts are tested, not proved. All else is the same:
+/// what is written to `out`, what is read, the first line, and the exit status. A script or a trace is kept until the
+/// reply is written, so it needs twice its memory. While a pool runs, the screen, if there is one, shows its progress.
 pub fn main_at_terminal<
     R: Threads + Wait + Sync + Clock + Files,
     I: Read,
@@ -39,40 +39,42 @@ pub fn main_at_terminal<
     screen: Option<Screen<W>>,
 ) -> u8
     ensures range { result ≤ 3 }
-    // 0: as without a terminal, and there is no error line.
+    // 0: as without reasons, and there is no error line.
     ensures succeeded { result ≡ 0 → (err.new ≡ err.old) × Succeeded (map (λ w. w.now) words.now)
         (I.remaining reader.old) (I.remaining reader.new) (O.contents out.old) (O.contents out.new) }
-    // 1: as without a terminal, and the reason may be printed after the error line, if it is about specifications.
+    // 1: as without reasons, and the reason may be printed after the error line.
     ensures complained { result ≡ 1 → (fault : Fault) × (told : E) × (result ≡ code_of (status_of fault))
-        × E.tells err.old (line_of fault) told × IsExplained E.tells fault told err.new
+        × E.tells err.old (line_of fault) told × MayExplain E.tells told err.new
         × (CouldNotWrite (map (λ w. w.now) words.now) (I.remaining reader.old) (I.remaining reader.new) fault
         ⊎ ((out.new ≡ out.old) × HasNothing (map (λ w. w.now) words.now) (I.remaining reader.old) (I.remaining reader.new) fault)) }
-    // 2: the output is as without a terminal, and what is wrong with the text may be printed.
+    // 2: the output is as without reasons, and what is wrong with the text may be printed.
     ensures refused { result ≡ 2 → MayExplain E.tells err.old err.new × RefusedText (map (λ w. w.now) words.now)
         (I.remaining reader.old) (I.remaining reader.new) (O.contents out.old) (O.contents out.new) }
-    // 3: as without a terminal.
-    ensures failed { result ≡ 3 → ((fault : Fault) × (result ≡ code_of (status_of fault)) × E.tells err.old (line_of fault) err.new
-        × (out.new ≡ out.old) × HasNothing (map (λ w. w.now) words.now) (I.remaining reader.old) (I.remaining reader.new) fault)
+    // 3: as without reasons, and the reason may be printed after the error line.
+    ensures failed { result ≡ 3 → ((fault : Fault) × (told : E) × (result ≡ code_of (status_of fault))
+        × E.tells err.old (line_of fault) told × MayExplain E.tells told err.new × (out.new ≡ out.old)
+        × HasNothing (map (λ w. w.now) words.now) (I.remaining reader.old) (I.remaining reader.new) fault)
         ⊎ ((err.new ≡ err.old) × RefusedPool (map (λ w. w.now) words.now) (O.contents out.old) (O.contents out.new)) }
     ensures unread { ReadsAText (map (λ w. w.now) words.now) ⊎ (reader.new ≡ reader.old) }
 {
     let (ended, subject) = answer_words(rt, alloc, words, reader, out, screen, true);
-    told_explained(ended, &subject, err).code()
+    told_explained(alloc, ended, &subject, err).code()
 }
 
 /// Returns the status with which the program ended, or that of its fault, after printing its line and then the reason.
 fn told_explained<E: Diagnostics>(
+    alloc: Global,
     ended: Result<Status, Fault>,
     subject: &Subject,
     err: &mut E,
 ) -> Status
     ensures done { IfOk ended (λ status. (result ≡ status) × IsAnswerExplained E.tells status err.old err.new) }
     ensures faulty { IfErr ended (λ fault. (result ≡ status_of fault)
-        × ((told : E) × E.tells err.old (line_of fault) told × IsExplained E.tells fault told err.new)) }
+        × ((told : E) × E.tells err.old (line_of fault) told × MayExplain E.tells told err.new)) }
 {
     match ended {
         Ok(Status::Refused) => {
-            explain(subject, err);
+            explain(alloc, subject, err);
             Status::Refused
         }
         Ok(status) => status,
@@ -80,15 +82,12 @@ fn told_explained<E: Diagnostics>(
     }
 }
 
-/// Prints the line of a fault, and then why the specifications name no pools if that is the fault.
+/// Prints the line of a fault, and then the reason, if it has one.
 fn fault_explained<E: Diagnostics>(fault: &Fault, subject: &Subject, err: &mut E) -> Status
     ensures status { result ≡ status_of fault.now }
-    ensures told { (told : E) × E.tells err.old (line_of fault.now) told × IsExplained E.tells fault.now told err.new }
+    ensures told { (told : E) × E.tells err.old (line_of fault.now) told × MayExplain E.tells told err.new }
 {
     let status = complain(fault, err);
-    match fault {
-        Fault::NoPool | Fault::InVain(_) => explain(subject, err),
-        Fault::Words(_) | Fault::Text(_) | Fault::Run(_) | Fault::Memory | Fault::Write => {}
-    }
+    explain_fault(fault, subject, err);
     status
 }

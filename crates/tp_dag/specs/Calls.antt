@@ -73,10 +73,11 @@ done_checks a t = (nat_le (length a.tasks) t, refusal.NoTask) ∷ (not (is_runni
 abbrev pub is_over : PoolState → Bool
 is_over a = count_where is_unfinished a.tasks == 0
 
+abbrev pub reset_checks : PoolState → List Check
+reset_checks a = (a.grown, refusal.WrongLife) ∷ []
+
 abbrev pub again_checks : PoolState → List Check
-again_checks a =
-    (not (a.started && is_over a), refusal.WrongLife)
-    ∷ (a.grown, refusal.WrongLife) ∷ []
+again_checks a = (not (a.started && is_over a), refusal.WrongLife) ∷ reset_checks a
 
 -- none of the checks of `input` holds but for that of a ready task
 pub record MayHaveInput (source : ℕ) (a : PoolState) : Type 0 where
@@ -163,7 +164,7 @@ abbrev pub no_events : Option (List Event) → Option (List Event)
 no_events (Some es) = Some []
 no_events None = None
 
--- `again`: the graph as it was described. No task was dispatched, none waits for an input from outside, and the pool was not started.
+-- `again` and `reset`: the graph as it was described. No task was dispatched, none waits for an input from outside, and the pool was not started.
 abbrev pub as_described : PoolState → PoolState
 as_described a = record a {
   started = false;

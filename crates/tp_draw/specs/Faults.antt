@@ -1,11 +1,11 @@
 -- The error line of a fault, and its exit status.
-use Rattle.std.specs.Prelude.{ℕ, ◌++◌, List, codes}
+use Rattle.std.specs.Prelude.{ℕ, List, codes}
 use Rattle.std.specs.String.{string_bytes}
 use Rattle.tp_draw.specs.declared.fault.Fault.{Fault}
 use Rattle.tp_draw.specs.declared.fault.Fault.TheVariants as faults
 use Rattle.tp_shell.specs.declared.status.Status.{Status}
 use Rattle.tp_shell.specs.declared.status.Status.TheVariants as statuses
-use Rattle.tp_shell.specs.declared.words.WordsFault.{WordsFault}
+use Rattle.tp_shell.specs.Texts.{words_line}
 use Rattle.tp_shell.specs.declared.words.WordsFault.TheVariants as words
 use Rattle.tp_text.specs.declared.fault.TextFault.{TextFault}
 use Rattle.tp_text.specs.declared.fault.TextFault.TheVariants as texts
@@ -16,12 +16,6 @@ text_line texts.Read = codes "fault read\n"
 text_line texts.TooLong = codes "fault too long\n"
 text_line texts.Write = codes "fault write\n"
 text_line texts.Memory = codes "refused 17 NoMemory\n"
-
--- for arguments that are at fault, the parser's own text
-abbrev pub words_line : WordsFault → List ℕ
-words_line (words.Words text) = string_bytes text ++ codes "\n"
-words_line words.Memory = text_line texts.Memory
-words_line words.Write = text_line texts.Write
 
 -- the error line of a fault
 abbrev pub line_of : Fault → List ℕ

@@ -4,6 +4,7 @@ ghost use Rattle.std.specs.Prelude.{◌≡◌, ◌≤◌, ◌⊎◌, IfErr, OnOk
 ghost use Rattle.tp_draw.specs.Ends.{HasReadTrace};
 ghost use Rattle.tp_draw.specs.Faults.{line_of, status_of};
 ghost use Rattle.tp_shell.specs.Statuses.{code_of};
+ghost use Rattle.tp_shell.specs.Streams.{MayExplain};
 
 use crate::fault::Fault;
 use crate::graph_picture::graph_page;
@@ -15,34 +16,50 @@ use std::alloc::Global;
 use std::io::{Read, Write};
 use tp_base::MAX_NODES;
 use tp_graph::Graph;
-use tp_shell::{Diagnostics, complain, show};
+use tp_shell::{Diagnostics, Status, complain, show};
 
 /// A graph that is drawn has at most this many tasks.
 pub(crate) const MAX_TASKS: u32 = 2_000;
 
 /// Runs the program with its arguments, beginning with its own name, and returns the exit status. It reads from
-/// `reader`, writes its picture to `out` and an error line to `err`. The status is 0 if the picture was written, or
-/// help or the version; 1 if the arguments, the reading or the writing are at fault; 2 if the trace is not sound; 3 if
-/// an allocation failed.
+/// `reader`, writes its picture to `out` and an error line to `err`, and then why, if `explains` is set. The status is 0
+/// if the picture was written, or help; 1 if the arguments, the reading or the writing are at fault; 2 if the trace is
+/// not sound; 3 if an allocation failed.
 pub fn draw_with<I: Read, O: Write, E: Diagnostics>(
     alloc: Global,
     words: &[&str],
     reader: &mut I,
     out: &mut O,
     err: &mut E,
+    explains: bool,
 ) -> u8
     ensures range { result ≤ 3 }
     // 0: nothing is on standard error, and if something was read, it is a sound trace.
     ensures succeeded { result ≡ 0 → (err.new ≡ err.old)
         × (HasReadTrace (I.remaining reader.old) (I.remaining reader.new) ⊎ (reader.new ≡ reader.old)) }
-    // Otherwise the status is that of a fault, whose line is the only text on standard error.
-    ensures complained { 1 ≤ result → (fault : Fault) × (result ≡ code_of (status_of fault))
-        × E.tells err.old (line_of fault) err.new }
+    // Otherwise the status is that of a fault. Its line is printed, and then the reason or nothing.
+    ensures complained { 1 ≤ result → (fault : Fault) × (told : E) × (result ≡ code_of (status_of fault))
+        × E.tells err.old (line_of fault) told × MayExplain E.tells told err.new }
 {
     match answer(alloc, words, reader, out) {
         Ok(()) => 0,
-        Err(fault) => complain(&fault, err).code(),
+        Err(fault) => {
+            let reason = if explains { fault.reason(words) } else { None };
+            complained(&fault, reason, err).code()
+        }
     }
+}
+
+/// Prints the line of a fault and then the reason, if there is one.
+fn complained<E: Diagnostics>(fault: &Fault, reason: Option<&str>, err: &mut E) -> Status
+    ensures status { result ≡ status_of fault.now }
+    ensures told { (told : E) × E.tells err.old (line_of fault.now) told × MayExplain E.tells told err.new }
+{
+    let status = complain(fault, err);
+    if let Some(reason) = reason {
+        err.tell(reason);
+    }
+    status
 }
 
 /// Writes what the arguments ask for.

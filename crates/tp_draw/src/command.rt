@@ -5,12 +5,11 @@ use clap::builder::ValueParser;
 use clap::{Arg, ArgAction, Command, value_parser};
 use std::alloc::{AllocError, Global};
 use tp_base::MAX_NODES;
-use tp_shell::{VERSION, count_option};
+use tp_shell::count_option;
 
 /// The command line: one level of subcommands.
 pub(crate) fn draw_command<'a>(alloc: Global) -> Result<Command<'a>, AllocError> {
     Command::new(alloc, "draw")
-        .version(VERSION)
         .about("Draws runs of pools, and their task graphs")
         .after_help(DRAW_HELP)
         .subcommand_required(true)
@@ -53,7 +52,7 @@ fn format_option<'a>(alloc: Global) -> Arg<'a> {
         .value_parser(ValueParser::Names(&FORMATS))
         .hide_possible_values(true)
         .default_value("svg")
-        .help("A picture, a page with a timeline, or Chrome's trace events")
+        .help("A picture, a page or events")
 }
 
 fn width_option<'a>(alloc: Global) -> Arg<'a> {
@@ -61,17 +60,15 @@ fn width_option<'a>(alloc: Global) -> Arg<'a> {
         .long("width")
         .value_name("PIXELS")
         .value_parser(value_parser!(u32).range(i64::from(MIN_PIXELS)..=i64::from(MAX_PIXELS)))
-        .help("How wide the picture is, in pixels, 100 to 20000")
+        .help("How wide the picture is, 100 to 20000 pixels")
 }
 
 fn until_flag<'a>(alloc: Global) -> Arg<'a> {
-    flag(alloc, "until-fault").help(
-        "If the trace is not sound, draws the run up to the first wrong line",
-    )
+    flag(alloc, "until-fault").help("Draws an unsound trace up to its first wrong line")
 }
 
 fn dot_flag<'a>(alloc: Global) -> Arg<'a> {
-    flag(alloc, "dot").help("Writes the graph as text for Graphviz instead of a picture")
+    flag(alloc, "dot").help("Writes text for Graphviz instead of a picture")
 }
 
 /// An option without a value.
@@ -83,7 +80,7 @@ static FORMATS: [&str; 3] = ["svg", "html", "events"];
 
 static DRAW_HELP: &str = "Draw a run:
   tp run wavefront:4:4:0 --nodes 2 --trace | samples draw run > run.svg
-  tp run wavefront:4:4:0 --nodes 2 --trace | samples draw run --format html > run.html
+  tp run reduce:16:0 --nodes 2 --trace | samples draw run --format html > a.html
 
 Draw a graph:
   samples draw graph wavefront:4:4:0 --nodes 2 > graph.svg
@@ -96,20 +93,20 @@ The picture has a lane for each node, and counts events from left to right.
   bar             a task, from its `begin` to its `done`
   tinted, white   a lane is white while nothing is pending at its node
   arrow           a message, from its `send` to its `recv`
-  line            a wave, through the place at which each node gave its sums; the
-                  wave's sums are above, and the two that prove termination are
-                  green
+  line            a wave, through the place at which each node gave its sums;
+                  the wave's sums are above, and the two that prove termination
+                  are green
   dashed line     the pool was reopened
 Above 2,500 events hills show how many tasks run, and ribbons the messages. A
-pointer over a task, a message or a wave shows its numbers. A viewer that prefers
-dark colours shows the picture in dark ones.
+pointer over a task, a message or a wave shows its numbers. A viewer that
+prefers dark colours shows the picture in dark ones.
 
---format html writes a page with the same run, to zoom in and to search: one file
-that needs no other. --format events writes Chrome's trace events, as JSON, for
-viewers of timelines: a process for each node, in it a thread for each task that
-runs at the same time, messages as flows, waves and judgements as instants, and a
-counter of what is pending. A trace has no times, so event n is at n microseconds.
-With both, --width has no effect.
+--format html writes a page with the same run, to zoom in and to search: one
+file that needs no other. --format events writes Chrome's trace events, as JSON,
+for viewers of timelines: a process for each node, in it a thread for each task
+that runs at the same time, messages as flows, waves and judgements as instants,
+and a counter of what is pending. A trace has no times, so event n is at n
+microseconds. With both, --width has no effect.
 
 The exit status is
   0  if all was written;
@@ -135,8 +132,8 @@ Examples:
 
 The exit status is
   0  if the picture or the text was written;
-  1  if the arguments are wrong or the output cannot be written. A SPEC that names
-     no pool is `refused 26 BadSpec`, and a pool of more than 2,000 tasks is
-     `fault too large`;
+  1  if the arguments are wrong or the output cannot be written. A SPEC that
+     names no pool is `refused 26 BadSpec`, and a pool of more than 2,000 tasks
+     is `fault too large`;
   3  if an allocation fails.
 It is never 2.";

@@ -224,6 +224,15 @@ fn push_name(
     )
 }
 
+/// Appends the place of a node among the others in a viewer.
+fn push_place(out: &mut String, node: u32) -> Result<(), AllocError> {
+    let process = u64::from(node) + 1;
+    write!(
+        out,
+        ",\n{{\"ph\":\"M\",\"pid\":{process},\"name\":\"process_sort_index\",\"args\":{{\"sort_index\":{process}}}}}",
+    )
+}
+
 /// Appends the events of these steps of a run on `nodes` nodes, as one JSON object. If there is a fault after them, its
 /// label is the line of an audit: printable ASCII characters without a meaning in JSON or HTML.
 ///
@@ -271,6 +280,7 @@ pub(crate) fn events_of(
     }
     for node in 0..nodes {
         push_name(&mut out, "process_name", node, 0, "node", node)?;
+        push_place(&mut out, node)?;
         push_name(&mut out, "thread_name", node, 0, "steps of node", node)?;
         for track in 1..=tracks.rows[node as usize] {
             push_name(&mut out, "thread_name", node, track, "tasks", track)?;

@@ -1,11 +1,10 @@
 //! Why nothing was drawn, or not all of it: the line on standard error, and the exit status.
 
-ghost use Rattle.std.specs.Prelude.{◌≡◌, ◌≢◌, codes};
-ghost use Rattle.tp_draw.specs.Faults.{line_of, status_of, text_line, words_line};
+ghost use Rattle.std.specs.Prelude.{◌≡◌};
+ghost use Rattle.tp_draw.specs.Faults.{line_of, status_of, text_line};
 
 use std::alloc::AllocError;
-use std::io::ErrorKind;
-use tp_shell::{Diagnostics, Status, Told, WordsFault};
+use tp_shell::{Diagnostics, Status, Told, WordsFault, names_a_file, tell_words};
 use tp_text::TextFault;
 
 /// Why nothing was drawn, or not all of it.
@@ -66,13 +65,21 @@ impl Told for Fault {
     }
 }
 
-fn tell_words<E: Diagnostics>(fault: &WordsFault, err: &mut E)
-    ensures { E.tells err.old (words_line fault.now) err.new }
-{
-    match fault {
-        WordsFault::Words(text) => err.tell_parts(&[text.as_str(), "\n"]),
-        WordsFault::Memory => err.tell(text_line(TextFault::Memory)),
-        WordsFault::Write => err.tell(text_line(TextFault::Write)),
+impl Fault {
+    /// Returns the line that says why, if there is more to say than the error line does. The arguments begin with the
+    /// program's own name.
+    pub(crate) fn reason(&self, words: &[&str]) -> Option<&'static str> {
+        match self {
+            Fault::NoPool => Some(
+                "reason: SPEC is no sample pool: `tp run --help` describes them\n",
+            ),
+            Fault::TooLarge => Some("reason: a graph of more than 2,000 tasks is not drawn\n"),
+            Fault::Words(WordsFault::Words(text)) if names_a_file(text) => match words {
+                [_, "run", ..] => Some("reason: reads standard input: samples draw run < FILE\n"),
+                _ => None,
+            },
+            _ => None,
+        }
     }
 }
 
@@ -86,13 +93,4 @@ fn text_line(fault: TextFault) -> &'static str
         TextFault::Write => "fault write\n",
         TextFault::Memory => "refused 17 NoMemory\n",
     }
-}
-
-/// Returns the error line and the exit status for arguments that could not be read: an allocation failed, or one of
-/// them is not UTF-8.
-pub fn without_words(fault: ErrorKind) -> (&'static str, u8)
-    ensures memory { fault ≡ ErrorKind.OutOfMemory → (result.0.now ≡ codes "refused 17 NoMemory\n") × (result.1 ≡ 3) }
-    ensures words { fault ≢ ErrorKind.OutOfMemory → (result.0.now ≡ codes "fault words\n") × (result.1 ≡ 1) }
-{
-    tp_shell::without_words(fault, "refused 17 NoMemory\n", "fault words\n")
 }

@@ -36,7 +36,7 @@ mod tracks;
 mod waves;
 
 pub use cli::draw_with;
-pub use fault::{Fault, without_words};
+pub use fault::Fault;
 pub use graph_picture::graph_page;
 pub use graphviz::dot;
 pub use laws::limits_are_these;

@@ -1,25 +1,2 @@
--- The files of this folder.
-pub mod Tree
-pub mod Put
-pub mod Inv
-pub mod Update
-pub mod Pace
-pub mod Data
-pub mod Wave
-pub mod Judge
-pub mod Early
-pub mod Size
-pub mod Goes
-pub mod Soon
-pub mod ControlMessages
-pub mod Route
-pub mod Once
-pub mod Epochs
-pub mod Ahead
-pub mod Few
-pub mod Ties
+-- The lemmas and the theorems, each file inside the one that is built on it.
 pub mod Network
-pub mod Opening
-pub mod Sent
-pub mod Through
-pub mod Late

@@ -1,31 +1,6 @@
--- Liveness over a network that brings each control message once: if nothing is left to do, all processes know the end.
-use Rattle.std.proofs.Common.{◌≡◌, ℕ, zero, suc, ◌+◌, ◌^◌, ◌<◌, ◌≤◌, ◌⊎◌, true, false, ltb, ◌&&◌, cond, List, [], ◌∷◌, ◌++◌}
-use Rattle.std.proofs.Common.{Option, Some, None, refl, sym, ◌∙◌, ap, subst, inl, inr, arith, Bool}
-use Rattle.std.proofs.lemmas.Bool.{ltb-true, ltb-false, eq-eqb, eqb-true, eqb-false, ne_eqb, cases_eq, cases_lt, cases_Bool}
-use Rattle.std.proofs.lemmas.Bool.{and_left, and_parts, cond_both}
-use Rattle.std.proofs.lemmas.List.{append_assoc}
-use Rattle.tp_process.specs.declared.control_message.ControlMessage.{ControlMessage}
-use Rattle.tp_process.specs.declared.outcome.Next.{Next}
-use Rattle.tp_process.specs.declared.outcome.Next.TheVariants.{Send, Again, Ended, Nothing}
-use Rattle.tp_process.specs.Calls.{moved, can_receive, can_send}
-use Rattle.tp_process.specs.World.{World, Act, Opens, Closes, Sends, Receives, Moves, Event, Does, Comes, came, control_at, does, happens}
-use Rattle.tp_process.specs.World.{is_step, is_taken, is_useful, posted, put}
-use Rattle.tp_process.specs.Epochs.{Epochs, EpochEvent, In, Reopens, IsOver, advance, epochs_after, has_notified, is_in_epoch}
-use Rattle.tp_process.specs.Epochs.{is_progress, is_receiver_in_epoch, is_taken_in, reopened, with_world, world_of}
-use Rattle.tp_process.specs.Network.{AllEndLaw, Carried, IsStill, Network, NetworkEvent, Acts, Restarts, Arrives, arrived}
-use Rattle.tp_process.specs.Network.{carried_after, carried_at, handed, is_early, network, network_step, with_sent, without}
-use Rattle.tp_process.proofs.Inv.{Has}
-use Rattle.tp_process.proofs.Put.{put_id, put_here, put_holds}
-use Rattle.tp_process.proofs.Epochs.{left_epoch, reopened_grows, with_world_epoch}
-use Rattle.tp_process.proofs.Few.{once_epoch}
-use Rattle.tp_process.proofs.Ahead.{goes_on_epoch}
-
-abbrev content : {A : Type 0} → A → Option A → A
-content a None = a
-content a (Some b) = b
-
-some_same : {A : Type 0} (a b : A) → Some a ≡ Some b → a ≡ b
-some_same a b e = ap (λ o. content a o) e
+-- A network that brings each control message once. Each module below is built on the one inside it.
+pub mod Taken
+pub use Taken.*
 
 -- Its receiver never takes the control message again.
 abbrev pub Gone : ℕ → ℕ → ControlMessage → List EpochEvent → Type 0
@@ -35,29 +10,93 @@ gone_on : (n e : ℕ) (l : ControlMessage) (o : EpochEvent) (all : List EpochEve
 gone_on n e l o all g later =
     subst (λ h. is_taken_in n e (epochs_after n h) l ≡ false) (append_assoc later (o ∷ []) all) (g (later ++ o ∷ []))
 
--- The epoch of a process never decreases.
-epoch_grows : (n : ℕ) (w : Epochs) (o : EpochEvent) (j : ℕ) → (w.at j).epoch ≤ ((advance n w o).at j).epoch
-epoch_grows n w (In f event) j =
-    let y : World = happens n (world_of f w) event in
-    cond_both _ (with_world f w y) w (λ z. (w.at j).epoch ≤ (z.at j).epoch)
-    (λ t. omega (arith, with_world_epoch f w y j)) (λ t. omega arith)
-epoch_grows n w (Reopens i) j =
-    cond_both (ltb i n) (record w { at = put i (reopened (w.at i)) w.at }) w (λ z. (w.at j).epoch ≤ (z.at j).epoch)
-    (λ t.
-    put_holds (λ j r. (w.at j).epoch ≤ r.epoch) i j (reopened (w.at i)) w.at (λ d. rw d (reopened_grows (w.at i)))
-    (λ off. omega arith))
-    (λ t. omega arith)
-
 late_stays : (n e j : ℕ) (all later : List EpochEvent) → e < ((epochs_after n all).at j).epoch
     → e < ((epochs_after n (later ++ all)).at j).epoch
 late_stays n e j all [] m = m
-late_stays n e j all (o ∷ later) m =
-    omega (arith, late_stays n e j all later m, epoch_grows n (epochs_after n (later ++ all)) o j)
+late_stays n e j all (o ∷ later) m = omega (arith, late_stays n e j all later m, epoch_grows n (epochs_after n (later ++ all)) o j)
 
 late_gone : (n e : ℕ) (l : ControlMessage) (all : List EpochEvent) → e < ((epochs_after n all).at l.to).epoch → Gone n e l all
-late_gone n e l all m later =
-    and_left _ _ (ne_eqb _ e (λ d. omega (arith, d, late_stays n e l.to all later m)))
+late_gone n e l all m later = and_left _ _ (ne_eqb _ e (λ d. omega (arith, d, late_stays n e l.to all later m)))
 
+-- ==== The control messages to a process: on their way, or taken.
+-- the number of control messages of epoch e on their way to process k
+abbrev carried_to : ℕ → ℕ → List Carried → ℕ
+carried_to e k [] = 0
+carried_to e k (c ∷ cs) = cond (eqb c.epoch e && eqb c.message.to k) (carried_to e k cs + 1) (carried_to e k cs)
+
+carried_same : (e f k : ℕ) (next : Next) (cs : List Carried) → f ≡ e
+    → carried_to e k (with_sent f next cs) ≡ carried_to e k cs + sends_to k next
+carried_same e f k (Send l) cs d =
+    elim (cases_Bool (eqb l.to k)) [ inl t ↦ rw (eq-eqb f e d, t) (omega arith) | inr t ↦ rw (eq-eqb f e d, t) (omega arith) ]
+carried_same e f k _ cs d = omega arith
+
+carried_apart : (e f k : ℕ) (next : Next) (cs : List Carried) → (f ≡ e → ⊥) → carried_to e k (with_sent f next cs) ≡ carried_to e k cs
+carried_apart e f k (Send l) cs off = rw (ne_eqb f e off) refl
+carried_apart e f k _ cs off = refl
+
+carried_less : (e k j : ℕ) (cs : List Carried) (c : Carried) → carried_at cs j ≡ Some c
+    → carried_to e k (without j cs) + bit (eqb c.epoch e && eqb c.message.to k) ≡ carried_to e k cs
+carried_less e k j [] c at = absurd (cc at)
+carried_less e k zero (d ∷ cs) c at =
+    subst (λ (z : Carried). carried_to e k cs + bit (eqb z.epoch e && eqb z.message.to k) ≡ carried_to e k (d ∷ cs)) (some_same d c at)
+    (elim (cases_Bool (eqb d.epoch e && eqb d.message.to k)) [ inl t ↦ rw t (omega arith) | inr t ↦ rw t (omega arith) ])
+carried_less e k (suc j) (d ∷ cs) c at =
+    let less : carried_to e k (without j cs) + bit (eqb c.epoch e && eqb c.message.to k) ≡ carried_to e k cs = carried_less e k j cs c at in
+    elim (cases_Bool (eqb d.epoch e && eqb d.message.to k)) [ inl t ↦ rw t (omega (arith, less)) | inr t ↦ rw t (omega (arith, less)) ]
+
+-- The control messages on their way to process k and those that it took are at most as many as were sent to it.
+abbrev Balance : ℕ → ℕ → List Carried → World → Type 0
+Balance e k cs x = carried_to e k cs + reach (x.at k) ≤ sent_to k x.controls + gap (x.at k)
+
+same_takes : (p r : EpochState) → Recounts p r → Takes p r 0
+same_takes p r e = subst (λ z. Takes p z 0) (sym e) (omega arith)
+
+module _ (n : ℕ) (e k : ℕ) (cs : List Carried) (x : World) (b : Balance e k cs x) where
+  moved_balance : (i : ℕ) → Balance e k (with_sent e (moved (x.at i)).next cs) (does n x i Moves)
+  moved_balance i =
+      let p : EpochState = x.at i in
+      omega (
+        arith,
+        b,
+        carried_same e e k (moved p).next cs refl,
+        posted_to k (moved p).next x.controls,
+        put_holds (λ j z. reach z + gap (x.at j) ≤ reach (x.at j) + gap z) i k (moved p).state x.at
+            (λ d. rw d (omega (arith, moved_takes p))) (λ off. omega arith),
+      )
+
+  count_balance : (i : ℕ) (z : World) → IsCount i x z → Balance e k cs z
+  count_balance i z c =
+      let same : reach (put i c.new x.at k) + gap (x.at k) ≤ reach (x.at k) + gap (put i c.new x.at k)
+      = put_holds (λ j z. reach z + gap (x.at j) ≤ reach (x.at j) + gap z) i k c.new x.at
+      (λ d. rw d (omega (arith, same_takes (x.at i) c.new c.same))) (λ off. omega arith) in
+      let now : carried_to e k cs + reach (put i c.new x.at k) ≤ sent_to k x.controls + gap (put i c.new x.at k) = omega (arith, b, same) in
+      subst (λ f. carried_to e k cs + reach (f k) ≤ sent_to k z.controls + gap (f k)) (sym c.at)
+      (subst (λ ls. carried_to e k cs + reach (put i c.new x.at k) ≤ sent_to k ls + gap (put i c.new x.at k)) (sym c.controls) now)
+
+  came_balance : (j : ℕ) (c : Carried) → carried_at cs j ≡ Some c → c.epoch ≡ e → Balance e k (without j cs) (came n x (Some c.message))
+  came_balance j c at here =
+      let l : ControlMessage = c.message in
+      let p : EpochState = x.at l.to in
+      let less = carried_less e k j cs c at in
+      cond_both (ltb l.to n) (record x { at = put l.to (took l p) x.at }) x (Balance e k (without j cs)) (λ t.
+      let one : Takes p (took l p) 1 = cond_both (is_for l p) (takes l.from l.wave l.token p) p (λ z. Takes p z 1)
+      (λ m. takes_takes l.from l.wave l.token p) (λ m. omega arith) in
+      elim (cases_eq k l.to) [
+        | inl d ↦
+            let due : bit (eqb c.epoch e && eqb c.message.to k) ≡ 1 = rw (eq-eqb c.epoch e here, eq-eqb c.message.to k (sym d)) refl in
+            put_holds (λ i z. i ≡ l.to → carried_to e k (without j cs) + reach z ≤ sent_to k x.controls + gap z) l.to k (took l p) x.at
+            (λ m h.
+            omega (arith, one, less, due, subst (λ i. carried_to e k cs + reach (x.at i) ≤ sent_to k x.controls + gap (x.at i)) d b))
+            (λ off h. absurd (off h)) d
+        | inr off ↦
+            put_holds (λ i z. i ≡ k → carried_to e k (without j cs) + reach z ≤ sent_to k x.controls + gap z) l.to k (took l p) x.at
+            (λ m h. absurd (off m)) (λ m h. omega (arith, less, b)) refl
+      ]) (λ t. omega (arith, less, b))
+
+  gone_balance : (j : ℕ) (c : Carried) → carried_at cs j ≡ Some c → Balance e k (without j cs) x
+  gone_balance j c at = omega (arith, carried_less e k j cs c at, b)
+
+-- ==== A network and the events of its epochs.
 -- A control message is on its way, or is never taken again.
 pub record IsCarried (e : ℕ) (l : ControlMessage) (cs : List Carried) : Type 0 where
   pub which : ℕ
@@ -73,6 +112,7 @@ pub record Follows (n : ℕ) (s : Network) : Type 0 where
   pub all : List EpochEvent
   pub same : s.epochs ≡ epochs_after n all
   pub lists : Agree n s.epochs.controls s.carried all
+  pub balance : (e k : ℕ) → k < n → Balance e k s.carried (after n (events_of n e all))
 
 agree_on : (n : ℕ) (controls : ℕ → List ControlMessage) (cs : List Carried) (o : EpochEvent) (all : List EpochEvent)
     → Agree n controls cs all → Agree n controls cs (o ∷ all)
@@ -80,30 +120,35 @@ agree_on n controls cs o all g =
     record {
       sent = g.sent;
       posted = λ e k l there.
-          elim (g.posted e k l there) [
-            | inl h ↦ inl h
-            | inr off ↦ inr (gone_on n e l o all off)
-          ];
+          elim (g.posted e k l there) [ inl h ↦ inl h | inr off ↦ inr (gone_on n e l o all off) ];
     }
 
--- the control messages after an act of process i, with the one that `next` returned
-abbrev news : ℕ → World → ℕ → Act → List ControlMessage
-news n x i Moves = cond (ltb i n) (posted (moved (x.at i)).next x.controls) x.controls
-news n x i _ = x.controls
+-- Process i moves, or sends no control message.
+abbrev Kind : ℕ → Network → World → ℕ → Act → Type 0
+Kind n s x i a = ((ltb i n ≡ true) × (a ≡ Moves)) ⊎ ((carried_after n s i a ≡ s.carried) × IsCount i x (happens n x (Does i a)))
 
-news_are : (n : ℕ) (x : World) (i : ℕ) (a : Act) → (happens n x (Does i a)).controls ≡ news n x i a
-news_are n x i Opens = cond_both (ltb i n) (does n x i Opens) x (λ z. z.controls ≡ x.controls) (λ t. refl) (λ t. refl)
-news_are n x i Closes = cond_both (ltb i n) (does n x i Closes) x (λ z. z.controls ≡ x.controls) (λ t. refl) (λ t. refl)
-news_are n x i (Sends j) =
-    cond_both (ltb i n) (does n x i (Sends j)) x (λ z. z.controls ≡ x.controls)
-    (λ t. cond_both (can_send (x.at i) && ltb j n) _ x (λ z. z.controls ≡ x.controls) (λ t. refl) (λ t. refl)) (λ t. refl)
-news_are n x i Receives =
-    cond_both (ltb i n) (does n x i Receives) x (λ z. z.controls ≡ x.controls)
-    (λ t. cond_both (can_receive (x.at i) && ltb 0 (x.under_way i)) _ x (λ z. z.controls ≡ x.controls) (λ t. refl) (λ t. refl)) (λ t. refl)
-news_are n x i Moves = ap_cond (ltb i n) where
-  ap_cond : (b : Bool) → (cond b (does n x i Moves) x).controls ≡ cond b (posted (moved (x.at i)).next x.controls) x.controls
-  ap_cond true = refl
-  ap_cond false = refl
+silent : (n : ℕ) (s : Network) (x : World) (i : ℕ) (a : Act) → (a ≡ Moves → ⊥) → carried_after n s i a ≡ s.carried → Kind n s x i a
+silent n s x i a off none =
+    elim (does_counts n x i a) [
+      | inl e ↦ absurd (off e)
+      | inr c ↦
+          inr (
+            none,
+            cond_both (ltb i n) (does n x i a) x (IsCount i x) (λ t. c)
+                (λ t. record { new = x.at i; same = refl; at = sym (put_id i x.at); controls = refl }),
+          )
+    ]
+
+kind : (n : ℕ) (s : Network) (x : World) (i : ℕ) (a : Act) → Kind n s x i a
+kind n s x i Opens = silent n s x i Opens (λ e. absurd (cc e)) refl
+kind n s x i Closes = silent n s x i Closes (λ e. absurd (cc e)) refl
+kind n s x i (Sends j) = silent n s x i (Sends j) (λ e. absurd (cc e)) refl
+kind n s x i Receives = silent n s x i Receives (λ e. absurd (cc e)) refl
+kind n s x i Moves =
+    elim (cases_Bool (ltb i n)) [
+      | inl t ↦ inl (t, refl)
+      | inr t ↦ inr (rw t refl, rw t (record { new = x.at i; same = refl; at = sym (put_id i x.at); controls = refl }))
+    ]
 
 -- One more control message was sent, in epoch e.
 after_next : (n e : ℕ) (next : Next) (controls : ℕ → List ControlMessage) (cs : List Carried) (all : List EpochEvent)
@@ -117,18 +162,13 @@ after_next n e (Send l) controls cs all g = record { sent = sent_of; posted = po
       subst (λ d. Has (put e (l ∷ controls e) controls d.epoch) d.message) (some_same new c there)
       (subst (λ ls. Has ls l) (sym (put_here e (l ∷ controls e) controls)) (record { which = 0; there = refl }))
   sent_of (suc k) c there =
-      put_holds (λ f ls. c.epoch ≡ f → Has ls c.message) e c.epoch (l ∷ controls e) controls
-      (λ d r.
+      put_holds (λ f ls. c.epoch ≡ f → Has ls c.message) e c.epoch (l ∷ controls e) controls (λ d r.
       let h = g.sent k c there in
       record { which = suc h.which; there = subst (λ f. control_at (controls f) h.which ≡ Some c.message) d h.there })
       (λ off r. g.sent k c there) refl
 
   older : (f k : ℕ) (m : ControlMessage) → control_at (controls f) k ≡ Some m → IsCarried f m (new ∷ cs) ⊎ Gone n f m all
-  older f k m there =
-      elim (g.posted f k m there) [
-        | inl h ↦ inl (record { which = suc h.which; there = h.there })
-        | inr off ↦ inr off
-      ]
+  older f k m there = elim (g.posted f k m there) [ inl h ↦ inl (record { which = suc h.which; there = h.there }) | inr off ↦ inr off ]
 
   newest : (k : ℕ) (m : ControlMessage) → control_at (l ∷ controls e) k ≡ Some m → IsCarried e m (new ∷ cs) ⊎ Gone n e m all
   newest zero m there =
@@ -139,11 +179,8 @@ after_next n e (Send l) controls cs all g = record { sent = sent_of; posted = po
       → IsCarried f m (new ∷ cs) ⊎ Gone n f m all
   posted_of f k m =
       put_holds (λ f ls. control_at ls k ≡ Some m → IsCarried f m (new ∷ cs) ⊎ Gone n f m all) e f (l ∷ controls e) controls
-      (λ d there. subst (λ z. IsCarried z m (new ∷ cs) ⊎ Gone n z m all) (sym d) (newest k m there))
-      (λ off there. older f k m there)
-after_next n e Again controls cs all g = subst (λ f. Agree n f cs all) (sym (put_id e controls)) g
-after_next n e Ended controls cs all g = subst (λ f. Agree n f cs all) (sym (put_id e controls)) g
-after_next n e Nothing controls cs all g = subst (λ f. Agree n f cs all) (sym (put_id e controls)) g
+      (λ d there. subst (λ z. IsCarried z m (new ∷ cs) ⊎ Gone n z m all) (sym d) (newest k m there)) (λ off there. older f k m there)
+after_next n e _ controls cs all g = subst (λ f. Agree n f cs all) (sym (put_id e controls)) g
 
 -- Removing one control message leaves all others on their way.
 taken_out : (k j : ℕ) (cs : List Carried) (c : Carried) → carried_at cs j ≡ Some c
@@ -152,49 +189,77 @@ taken_out k j [] c there = absurd (cc there)
 taken_out zero zero (d ∷ cs) c there = inl refl
 taken_out zero (suc j) (d ∷ cs) c there = inr (j, there)
 taken_out (suc k) zero (d ∷ cs) c there = inr (0, there)
-taken_out (suc k) (suc j) (d ∷ cs) c there =
-    elim (taken_out k j cs c there) [
-      | inl e ↦ inl (ap suc e)
-      | inr m ↦ inr (suc m.0, m.1)
-    ]
+taken_out (suc k) (suc j) (d ∷ cs) c there = elim (taken_out k j cs c there) [ inl e ↦ inl (ap suc e) | inr m ↦ inr (suc m.0, m.1) ]
 
-still_there : (k m : ℕ) (cs : List Carried) (c : Carried) → carried_at (without k cs) m ≡ Some c
-    → (j : ℕ) × (carried_at cs j ≡ Some c)
+still_there : (k m : ℕ) (cs : List Carried) (c : Carried) → carried_at (without k cs) m ≡ Some c → (j : ℕ) × (carried_at cs j ≡ Some c)
 still_there k m [] c there = absurd (cc there)
 still_there zero m (d ∷ cs) c there = (suc m, there)
 still_there (suc k) zero (d ∷ cs) c there = (0, there)
 still_there (suc k) (suc m) (d ∷ cs) c there = let z = still_there k m cs c there in (suc z.0, z.1)
 
 module _ (n : ℕ) (s : Network) (f : Follows n s) where
-  acts_agree : (i : ℕ) (a : Act)
-      → Agree n (put (s.epochs.at i).epoch (news n (world_of (s.epochs.at i).epoch s.epochs) i a) s.epochs.controls) (carried_after n s i a)
-      f.all
-  acts_agree i Moves =
-      let e : ℕ = (s.epochs.at i).epoch in
-      let next : Next = (moved (s.epochs.at i).state).next in
-      elim (cases_Bool (ltb i n)) [
-        | inl t ↦ rw t (after_next n e next s.epochs.controls s.carried f.all f.lists)
-        | inr t ↦ rw t (subst (λ z. Agree n z s.carried f.all) (sym (put_id e s.epochs.controls)) f.lists)
+  acts_agree : (i : ℕ) (a : Act) → Kind n s (world_of (s.epochs.at i).epoch s.epochs) i a
+      → Agree n (advance n s.epochs (In (s.epochs.at i).epoch (Does i a))).controls (carried_after n s i a) f.all
+  acts_agree i a kind =
+      let w : Epochs = s.epochs in
+      let e : ℕ = (w.at i).epoch in
+      let x : World = world_of e w in
+      let lists : (advance n w (In e (Does i a))).controls ≡ put e (happens n x (Does i a)).controls w.controls
+      = ap (λ b. (cond b (with_world e w (happens n x (Does i a))) w).controls) (eq-eqb e e refl) in
+      subst (λ z. Agree n z (carried_after n s i a) f.all) (sym lists)
+      (elim kind [
+        | inl m ↦
+            subst (λ a. Agree n (put e (happens n x (Does i a)).controls w.controls) (carried_after n s i a) f.all) (sym m.1)
+            (rw m.0 (after_next n e (moved (w.at i).state).next w.controls s.carried f.all f.lists))
+        | inr c ↦
+            subst (λ cs. Agree n (put e (happens n x (Does i a)).controls w.controls) cs f.all) (sym c.0)
+            (subst (λ z. Agree n z s.carried f.all) (sym (ap (λ ls. put e ls w.controls) c.1.controls ∙ put_id e w.controls)) f.lists)
+      ])
+
+  -- In epoch e, which is that of process i, and in any other.
+  acts_balance : (i : ℕ) (a : Act) (e k : ℕ) → k < n
+      → Balance e k (carried_after n s i a) (after n (events_of n e (In (s.epochs.at i).epoch (Does i a) ∷ f.all)))
+  acts_balance i a e k l =
+      let w : Epochs = s.epochs in
+      let g : ℕ = (w.at i).epoch in
+      let x : World = after n (events_of n e f.all) in
+      let there : ((epochs_after n f.all).at i).epoch ≡ g = ap (λ (z : Epochs). (z.at i).epoch) (sym f.same) in
+      elim (cases_eq g e) [
+        | inl d ↦
+            let more : events_of n e (In g (Does i a) ∷ f.all) ≡ Does i a ∷ events_of n e f.all
+            = rw (eq-eqb g e d, eq-eqb ((epochs_after n f.all).at i).epoch g there) refl in
+            let mine : (w.at i).state ≡ x.at i = ap (λ (z : Epochs). (z.at i).state) f.same ∙ (epochs n f.all e).now i (there ∙ d) in
+            subst (λ h. Balance e k (carried_after n s i a) (after n h)) (sym more)
+            (elim (kind n s x i a) [
+              | inl m ↦
+                  subst (λ a. Balance e k (carried_after n s i a) (happens n x (Does i a))) (sym m.1)
+                  (rw (m.0, d, mine) (moved_balance n e k s.carried x (f.balance e k l) i))
+              | inr c ↦
+                  subst (λ cs. Balance e k cs (happens n x (Does i a))) (sym c.0)
+                  (count_balance n e k s.carried x (f.balance e k l) i (happens n x (Does i a)) c.1)
+            ])
+        | inr off ↦
+            let more : events_of n e (In g (Does i a) ∷ f.all) ≡ events_of n e f.all = rw (ne_eqb g e off) refl in
+            let none : carried_to e k (carried_after n s i a) ≡ carried_to e k s.carried = elim (kind n s x i a) [
+              | inl m ↦
+                  subst (λ a. carried_to e k (carried_after n s i a) ≡ carried_to e k s.carried) (sym m.1)
+                  (rw m.0 (carried_apart e g k (moved (w.at i).state).next s.carried off))
+              | inr c ↦ ap (carried_to e k) c.0
+            ] in
+            subst (λ h. Balance e k (carried_after n s i a) (after n h)) (sym more) (omega (arith, none, f.balance e k l))
       ]
-  acts_agree i Opens = subst (λ z. Agree n z s.carried f.all) (sym (put_id (s.epochs.at i).epoch s.epochs.controls)) f.lists
-  acts_agree i Closes = subst (λ z. Agree n z s.carried f.all) (sym (put_id (s.epochs.at i).epoch s.epochs.controls)) f.lists
-  acts_agree i (Sends j) = subst (λ z. Agree n z s.carried f.all) (sym (put_id (s.epochs.at i).epoch s.epochs.controls)) f.lists
-  acts_agree i Receives = subst (λ z. Agree n z s.carried f.all) (sym (put_id (s.epochs.at i).epoch s.epochs.controls)) f.lists
 
   acts_follow : (i : ℕ) (a : Act) → Follows n (network_step n s (Acts i a))
   acts_follow i a =
-      let w : Epochs = s.epochs in
-      let e : ℕ = (w.at i).epoch in
-      let y : World = happens n (world_of e w) (Does i a) in
+      let e : ℕ = (s.epochs.at i).epoch in
       let o : EpochEvent = In e (Does i a) in
-      let lists : (advance n w o).controls ≡ put e (news n (world_of e w) i a) w.controls
-      = ap (λ b. (cond b (with_world e w y) w).controls) (eq-eqb e e refl)
-      ∙ ap (λ ls. put e ls w.controls) (news_are n (world_of e w) i a) in
       record {
         all = o ∷ f.all;
         same = ap (λ z. advance n z o) f.same;
-        lists = agree_on n (advance n w o).controls (carried_after n s i a) o f.all
-            (subst (λ z. Agree n z (carried_after n s i a) f.all) (sym lists) (acts_agree i a));
+        lists =
+            agree_on n (advance n s.epochs o).controls (carried_after n s i a) o f.all
+            (acts_agree i a (kind n s (world_of e s.epochs) i a));
+        balance = acts_balance i a;
       }
 
   restarts_follow : (i : ℕ) → Follows n (network_step n s (Restarts i))
@@ -206,6 +271,7 @@ module _ (n : ℕ) (s : Network) (f : Follows n s) where
         lists = agree_on n (advance n w (Reopens i)).controls s.carried (Reopens i) f.all
             (cond_both (ltb i n) (record w { at = put i (reopened (w.at i)) w.at }) w (λ z. Agree n z.controls s.carried f.all)
             (λ t. f.lists) (λ t. f.lists));
+        balance = f.balance;
       }
 
   handed_lists : (c : Carried) → (handed n s.epochs c).controls ≡ s.epochs.controls
@@ -215,8 +281,7 @@ module _ (n : ℕ) (s : Network) (f : Follows n s) where
       cond_both (is_in_epoch c.epoch w c.message.to) (with_world c.epoch w (came n x (Some c.message))) w (λ z. z.controls ≡ w.controls)
       (λ t.
       ap (λ ls. put c.epoch ls w.controls) (cond_both (ltb c.message.to n) _ x (λ z. z.controls ≡ x.controls) (λ t. refl) (λ t. refl))
-      ∙ put_id c.epoch w.controls)
-      (λ t. refl)
+      ∙ put_id c.epoch w.controls) (λ t. refl)
 
   arrived_follow : n ≤ 2 ^ 20 → (k : ℕ) (o : Option Carried) → carried_at s.carried k ≡ o → Follows n (arrived n s k o)
   arrived_follow few k None at = f
@@ -229,8 +294,7 @@ module _ (n : ℕ) (s : Network) (f : Follows n s) where
       let all : List EpochEvent = o ∷ f.all in
       let now : handed n w c ≡ advance n w o
       = sym (ap (λ m. cond (is_receiver_in_epoch e w m) (with_world e w (came n (world_of e w) m)) w) h.there) in
-      let gone : is_early w c ≡ false → Gone n e l all
-      = λ soon.
+      let gone : is_early w c ≡ false → Gone n e l all = λ soon.
       elim (cases_Bool (is_in_epoch e w l.to)) [
         | inl t ↦
             λ later.
@@ -240,8 +304,7 @@ module _ (n : ℕ) (s : Network) (f : Follows n s) where
             let late : e < (w.at l.to).epoch = omega (arith, ltb-false (w.at l.to).epoch e soon, eqb-false (w.at l.to).epoch e off) in
             late_gone n e l all (late_stays n e l.to f.all (o ∷ []) (subst (λ z. e < (z.at l.to).epoch) f.same late))
       ] in
-      cond_both (is_early w c) s (record { epochs = handed n w c; carried = without k s.carried }) (Follows n) (λ t. f)
-      (λ t.
+      cond_both (is_early w c) s (record { epochs = handed n w c; carried = without k s.carried }) (Follows n) (λ t. f) (λ t.
       record {
         all = all;
         same = now ∙ ap (λ z. advance n z o) f.same;
@@ -263,7 +326,22 @@ module _ (n : ℕ) (s : Network) (f : Follows n s) where
                     | inr off ↦ inr (gone_on n g l2 o f.all off)
                   ];
             });
+        balance = λ g m less.
+            let old : List Event = events_of n g f.all in
+            let x : World = after n old in
+            cond_both (eqb e g && is_current e (epochs_after n f.all) (Comes h.which)) (Comes h.which ∷ old) old
+            (λ events. Balance g m (without k s.carried) (after n events)) (λ b.
+            let d : e ≡ g = eqb-true e g (and_parts (eqb e g) (is_current e (epochs_after n f.all) (Comes h.which)) b).0 in
+            let lists : w.controls e ≡ x.controls
+            = ap (λ (z : Epochs). z.controls e) f.same ∙ ap (λ u. (epochs_after n f.all).controls u) d ∙ (epochs n f.all g).controls in
+            subst (λ m2. Balance g m (without k s.carried) (came n x m2)) (sym (subst (λ ls. control_at ls h.which ≡ Some l) lists h.there))
+            (came_balance n g m s.carried x (f.balance g m less) k c at d))
+            (λ b. gone_balance n g m s.carried x (f.balance g m less) k c at);
       })
+
+flat : (b : Bool) (z : ℕ) → cond b z z ≡ z
+flat true z = refl
+flat false z = refl
 
 pub follows : (n : ℕ) → n ≤ 2 ^ 20 → (events : List NetworkEvent) → Follows n (network n events)
 follows n few [] =
@@ -271,36 +349,33 @@ follows n few [] =
       all = [];
       same = refl;
       lists = record { sent = λ k c there. absurd (cc there); posted = λ e k l there. absurd (cc there) };
+      balance = λ e k l. omega (arith, flat (eqb k 0) 0, flat (ltb (2 * k + 1) n) 0, flat (ltb (2 * k + 2) n) 0);
     }
 follows n few (Acts i a ∷ past) = acts_follow n (network n past) (follows n few past) i a
 follows n few (Restarts i ∷ past) = restarts_follow n (network n past) (follows n few past) i
-follows n few (Arrives k ∷ past) =
-    arrived_follow n (network n past) (follows n few past) few k (carried_at (network n past).carried k) refl
+follows n few (Arrives k ∷ past) = arrived_follow n (network n past) (follows n few past) few k (carried_at (network n past).carried k) refl
 
 -- a process at which a number is least
 least : (n : ℕ) (f : ℕ → ℕ) → 0 < n → (i : ℕ) × (i < n) × ((j : ℕ) → j < n → f i ≤ f j)
 least zero f l = absurd (omega (arith, l))
-least (suc n) f l =
-    elim (cases_lt 0 n) [
-      | inl m ↦
-          let z = least n f m in
-          elim (cases_lt (f n) (f z.0)) [
-            | inl less ↦ (
-              n,
-              omega arith,
-              λ j k. elim (cases_eq j n) [ inl e ↦ rw e (omega arith) | inr off ↦ omega (arith, less, z.2 j (omega (arith, k, off))) ],
-            )
-            | inr more ↦ (
-              z.0,
-              omega (arith, z.1),
-              λ j k. elim (cases_eq j n) [ inl e ↦ rw e (omega (arith, more)) | inr off ↦ z.2 j (omega (arith, k, off)) ],
-            )
-          ]
-      | inr none ↦ (0, l, λ j k. let e : j ≡ 0 = omega (arith, k, none) in rw e (omega arith))
+least (suc zero) f l = (0, l, λ j k. let e : j ≡ 0 = omega (arith, k) in rw e (omega arith))
+least (suc (suc n)) f l =
+    let z = least (suc n) f (omega arith) in
+    let last : ℕ = suc n in
+    elim (cases_lt (f last) (f z.0)) [
+      | inl less ↦ (
+        last,
+        omega arith,
+        λ j k. elim (cases_eq j last) [ inl e ↦ rw e (omega arith) | inr off ↦ omega (arith, less, z.2 j (omega (arith, k, off))) ],
+      )
+      | inr more ↦ (
+        z.0,
+        omega (arith, z.1),
+        λ j k. elim (cases_eq j last) [ inl e ↦ rw e (omega (arith, more)) | inr off ↦ z.2 j (omega (arith, k, off)) ],
+      )
     ]
 
-all_or_one : (n e : ℕ) (f : ℕ → ℕ) → ((j : ℕ) → j < n → e ≤ f j)
-    → ((j : ℕ) → j < n → f j ≡ e) ⊎ ((j : ℕ) × (j < n) × (e < f j))
+all_or_one : (n e : ℕ) (f : ℕ → ℕ) → ((j : ℕ) → j < n → e ≤ f j) → ((j : ℕ) → j < n → f j ≡ e) ⊎ ((j : ℕ) × (j < n) × (e < f j))
 all_or_one zero e f h = inl (λ j l. absurd (omega (arith, l)))
 all_or_one (suc n) e f h =
     elim (cases_lt e (f n)) [
@@ -322,10 +397,7 @@ module _ (n last : ℕ) (few : n ≤ 2 ^ 20) (all : List EpochEvent) (cs : List 
       let a = and_parts (is_in_epoch e (epochs_after n all) j) (is_useful n (world_of e (epochs_after n all)) (Does j Moves)) t in
       let b = and_parts (ltb j n) (is_step (moved ((epochs_after n all).at j).state).next) a.1 in
       absurd (cc (b.1, still.moved j (ltb-true j n b.0)))
-  nothing e (Does j Opens) t = absurd (cc (and_parts (is_in_epoch e (epochs_after n all) j) false t).1)
-  nothing e (Does j Closes) t = absurd (cc (and_parts (is_in_epoch e (epochs_after n all) j) false t).1)
-  nothing e (Does j (Sends k)) t = absurd (cc (and_parts (is_in_epoch e (epochs_after n all) j) false t).1)
-  nothing e (Does j Receives) t = absurd (cc (and_parts (is_in_epoch e (epochs_after n all) j) false t).1)
+  nothing e (Does j _) t = absurd (cc (and_parts (is_in_epoch e (epochs_after n all) j) false t).1)
   nothing e (Comes k) t = comes (control_at ((epochs_after n all).controls e) k) refl t where
     comes : (o : Option ControlMessage) → control_at ((epochs_after n all).controls e) k ≡ o
         → (is_receiver_in_epoch e (epochs_after n all) o && is_taken n (world_of e (epochs_after n all)) o) ≡ true → ⊥
@@ -349,8 +421,7 @@ module _ (n last : ℕ) (few : n ≤ 2 ^ 20) (all : List EpochEvent) (cs : List 
       let w : Epochs = epochs_after n all in
       let m = least n (λ j. (w.at j).epoch) (omega (arith, l)) in
       let e : ℕ = (w.at m.0).epoch in
-      let over : IsOver n e w
-      = elim (all_or_one n e (λ j. (w.at j).epoch) m.2) [
+      let over : IsOver n e w = elim (all_or_one n e (λ j. (w.at j).epoch) m.2) [
         | inl same ↦
             record {
               come = m.2;
@@ -362,10 +433,7 @@ module _ (n last : ℕ) (few : n ≤ 2 ^ 20) (all : List EpochEvent) (cs : List 
       elim (goes_on_epoch n e all (omega (arith, l)) few (λ d. room) over) [
         | inl done ↦
             let top : last ≤ e
-            = elim (cases_lt e last) [
-              | inl less ↦ absurd (cc (done m.0 m.1 refl, still.reopened m.0 m.1 less))
-              | inr k ↦ k
-            ] in
+            = elim (cases_lt e last) [ inl less ↦ absurd (cc (done m.0 m.1 refl, still.reopened m.0 m.1 less)) | inr k ↦ k ] in
             let here : (w.at i).epoch ≡ e = omega (arith, top, still.within i l, m.2 i l) in
             (omega (arith, here, top, still.within m.0 m.1), done i l here)
         | inr u ↦ absurd (nothing e u.0 u.1)
@@ -375,9 +443,29 @@ pub all_end : AllEndLaw
 all_end n last events few room still i l =
     let s : Network = network n events in
     let f : Follows n s = follows n few events in
-    let lists : Agree n (epochs_after n f.all).controls s.carried f.all
-    = subst (λ w. Agree n w.controls s.carried f.all) f.same f.lists in
+    let lists : Agree n (epochs_after n f.all).controls s.carried f.all = subst (λ w. Agree n w.controls s.carried f.all) f.same f.lists in
     let P : Epochs → Type 0 = λ w. ((w.at 0).state.over ≡ false → (w.at 0).state.wave + 1 < 2 ^ 64)
-    → IsStill n last (record { epochs = w; carried = s.carried })
-    → ((w.at i).epoch ≡ last) × (has_notified (w.at i).state ≡ true) in
+    → IsStill n last (record { epochs = w; carried = s.carried }) → ((w.at i).epoch ≡ last) × (has_notified (w.at i).state ≡ true) in
     subst P (sym f.same) (λ room still. ends n last few f.all s.carried lists still room i l) room still
+
+-- No control message is refused as `Late`.
+pub never_late : NeverLateLaw
+never_late n j c events few there =
+    let s : Network = network n events in
+    let f = follows n few events in
+    let e : ℕ = c.epoch in
+    let i : ℕ = c.message.to in
+    let same : (s.epochs.at i).epoch ≡ ((epochs_after n f.all).at i).epoch = ap (λ (z : Epochs). (z.at i).epoch) f.same in
+    elim (cases_lt e (s.epochs.at i).epoch) [
+      | inr near ↦ near
+      | inl late ↦
+          elim (cases_lt i n) [
+            | inr past ↦ absurd (omega (arith, late, same, beyond n f.all i past))
+            | inl l ↦
+                let x : World = after n (events_of n e f.all) in
+                let over : (x.at i).over ≡ true = notified_over (x.at i) ((epochs n f.all e).left i (omega (arith, late, same))) in
+                let done = all_taken n i (events_of n e f.all) l over in
+                let due : bit (eqb c.epoch e && eqb c.message.to i) ≡ 1 = rw (eq-eqb e e refl, eq-eqb i i refl) refl in
+                absurd (omega (arith, f.balance e i l, done.0, done.1, carried_less e i j s.carried c there, due))
+          ]
+    ]

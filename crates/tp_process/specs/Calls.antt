@@ -1,6 +1,6 @@
 -- What each call does to the state of one process in one epoch, and when it is refused. A refused call changes nothing.
 use Rattle.std.specs.Prelude.{ℕ, ◌+◌, ◌-◌, ◌*◌, ◌^◌, ◌==◌, ◌&&◌, ◌||◌, Bool, true, false, not, nat_lt, if◌then◌else◌, Option}
-use Rattle.std.specs.Prelude.{Some, None}
+use Rattle.std.specs.Prelude.{Some, None, Result, Ok, Err}
 use Rattle.tp_base.specs.Tree.{parent}
 use Rattle.tp_process.specs.declared.control_message.Token.{Token}
 use Rattle.tp_process.specs.declared.control_message.Token.TheVariants.{Down, Up, Over}
@@ -8,33 +8,13 @@ use Rattle.tp_process.specs.declared.control_message.ControlMessage.{ControlMess
 use Rattle.tp_process.specs.declared.outcome.Next.{Next}
 use Rattle.tp_process.specs.declared.outcome.Next.TheVariants.{Send, Again, Ended, Nothing}
 use Rattle.tp_process.specs.declared.outcome.Refusal.{Refusal}
-use Rattle.tp_process.specs.declared.outcome.Refusal.TheVariants.{Inactive, Full, NotDue}
-use Rattle.tp_process.specs.State.{EpochState}
+use Rattle.tp_process.specs.declared.outcome.Refusal.TheVariants.{Inactive, Full, NotDue, Miscounted, Mismatched}
+use Rattle.tp_process.specs.State.{EpochState, new_state, read_state}
 use Rattle.tp_process.specs.declared.epoch_state.TheConstants.{LIMIT}
 
--- the state at the beginning of an epoch: one piece of work is open
+-- the state at the beginning of an epoch
 abbrev pub blank : ℕ → ℕ → EpochState
-blank number processes =
-    record {
-      number = number;
-      processes = processes;
-      pending = 1;
-      sent = 0;
-      received = 0;
-      wave = 0;
-      taken_sent = 0;
-      taken_received = 0;
-      last_received = 0;
-      known = false;
-      here = false;
-      down_left = false;
-      down_right = false;
-      up_left = false;
-      up_right = false;
-      over = false;
-      over_left = false;
-      over_right = false;
-    }
+blank number processes = read_state (new_state number processes)
 
 abbrev pub open_refusal : EpochState → Option Refusal
 open_refusal p = if p.pending == 0 then Some Inactive else (if nat_lt p.pending LIMIT then None else Some Full)
@@ -128,8 +108,12 @@ takes from w (Up s r) p =
     if is_up_due w s r p then (if is_left from p then takes_left s r p else (if is_right from p then takes_right s r p else p)) else p
 takes from w Over p = if p.over then p else ends p
 
+-- The control message is for this process, and its sender has the same number of processes.
+abbrev pub is_for : ControlMessage → EpochState → Bool
+is_for l p = (l.processes == p.processes) && (l.to == p.number)
+
 abbrev pub took : ControlMessage → EpochState → EpochState
-took l p = if l.to == p.number then takes l.from l.wave l.token p else p
+took l p = if is_for l p then takes l.from l.wave l.token p else p
 
 -- A control message is due if the process waits for it; any other is refused.
 abbrev pub is_due : ℕ → ℕ → Token → EpochState → Bool
@@ -141,7 +125,7 @@ abbrev pub due : Bool → Option Refusal
 due b = if b then None else Some NotDue
 
 abbrev pub take_refusal : ControlMessage → EpochState → Option Refusal
-take_refusal l p = due ((l.to == p.number) && is_due l.from l.wave l.token p)
+take_refusal l p = if l.processes == p.processes then due ((l.to == p.number) && is_due l.from l.wave l.token p) else Some Mismatched
 
 -- Process 0 starts the next wave if it is idle and no wave is open.
 abbrev pub can_start : EpochState → Bool
@@ -156,7 +140,7 @@ can_give p =
     not p.up_left && not p.up_right && (p.pending == 0) && do_fit p.taken_sent p.sent && do_fit p.taken_received p.received
 
 abbrev pub control : EpochState → ℕ → Token → ControlMessage
-control p to token = record { from = p.number; to = to; wave = p.wave; token = token }
+control p to token = record { from = p.number; to = to; wave = p.wave; processes = p.processes; token = token }
 
 -- what a process does next: its new state, and what `next` returns
 pub record Move : Type 0 where
@@ -196,5 +180,22 @@ visits p =
 abbrev pub acts : EpochState → Move
 acts p = if p.over then notifies p else (if p.here then visits p else record { state = p; next = Nothing })
 
+-- The wave has come from all processes, so process 0 judges it next. Without children it starts the wave in that call.
+abbrev pub is_complete : EpochState → Bool
+is_complete p =
+    if p.here then not p.down_left && not p.down_right && not p.up_left && not p.up_right else not (has p (left_of p))
+
+-- the number of messages that the wave counts as sent
+abbrev pub counts_sent : EpochState → ℕ
+counts_sent p = if p.here then p.taken_sent + p.sent else p.sent
+
+-- Process 0 judges a wave that counts fewer messages as sent than the previous wave counted as received.
+abbrev pub is_miscounted : EpochState → Bool
+is_miscounted p =
+    (p.number == 0) && not p.over && p.known && (p.pending == 0) && is_complete p && nat_lt (counts_sent p) p.last_received
+
+abbrev pub next_result : EpochState → Result Next Refusal
+next_result p = if is_miscounted p then Err Miscounted else Ok (acts (ready p)).next
+
 abbrev pub moved : EpochState → Move
-moved p = acts (ready p)
+moved p = if is_miscounted p then record { state = p; next = Nothing } else acts (ready p)

@@ -180,9 +180,10 @@ progress_count n e [] all = 0
 progress_count n e (o ∷ later) all =
     if is_of e o && is_progress n (epochs_after n (later ++ all)) o then progress_count n e later all + 1 else progress_count n e later all
 
--- After an epoch has terminated at most 21n more of its events are useful,
+-- After an epoch has terminated at most 14n - 11 more of its events are useful,
 abbrev pub SoonEpochLaw : Type 0
-SoonEpochLaw = (n e : ℕ) (later all : List EpochEvent) → 0 < n → IsOver n e (epochs_after n all) → progress_count n e later all ≤ 21 * n
+SoonEpochLaw = (n e : ℕ) (later all : List EpochEvent) → 0 < n → IsOver n e (epochs_after n all)
+    → progress_count n e later all + 11 ≤ 14 * n
 
 -- and process 0 starts at most two more waves in it.
 abbrev pub FewWavesEpochLaw : Type 0

@@ -1,6 +1,6 @@
 -- The state of a process, and how it is stored: a C program can write any bytes, so a flag is a byte that is set if it
 -- is not 0.
-use Rattle.std.specs.Prelude.{ℕ, ◌==◌, Bool, not, if◌then◌else◌}
+use Rattle.std.specs.Prelude.{ℕ, ◌==◌, Bool, not}
 use Rattle.tp_process.specs.declared.epoch_state.StoredState.{StoredState}
 use Rattle.tp_process.specs.declared.process.Process.{Process}
 
@@ -33,9 +33,6 @@ pub record ProcessState : Type 0 where
 abbrev pub is_set : ℕ → Bool
 is_set flag = not (flag == 0)
 
-abbrev pub byte : Bool → ℕ
-byte flag = if flag then 1 else 0
-
 -- what the stored numbers and bytes mean
 abbrev pub read_state : StoredState → EpochState
 read_state p =
@@ -63,29 +60,26 @@ read_state p =
 abbrev pub read : Process → ProcessState
 read r = record { mark = r.mark; epoch = r.epoch; state = read_state r.state }
 
--- how a state is stored at first
-abbrev pub stored_state : EpochState → StoredState
-stored_state p =
+-- how a state is stored at the beginning of an epoch: one piece of work is open
+abbrev pub new_state : ℕ → ℕ → StoredState
+new_state number processes =
     record {
-      number = p.number;
-      processes = p.processes;
-      pending = p.pending;
-      sent = p.sent;
-      received = p.received;
-      wave = p.wave;
-      taken_sent = p.taken_sent;
-      taken_received = p.taken_received;
-      last_received = p.last_received;
-      known = byte p.known;
-      here = byte p.here;
-      down_left = byte p.down_left;
-      down_right = byte p.down_right;
-      up_left = byte p.up_left;
-      up_right = byte p.up_right;
-      over = byte p.over;
-      over_left = byte p.over_left;
-      over_right = byte p.over_right;
+      number = number;
+      processes = processes;
+      pending = 1;
+      sent = 0;
+      received = 0;
+      wave = 0;
+      taken_sent = 0;
+      taken_received = 0;
+      last_received = 0;
+      known = 0;
+      here = 0;
+      down_left = 0;
+      down_right = 0;
+      up_left = 0;
+      up_right = 0;
+      over = 0;
+      over_left = 0;
+      over_right = 0;
     }
-
-abbrev pub stored : ProcessState → Process
-stored r = record { mark = r.mark; epoch = r.epoch; state = stored_state r.state }

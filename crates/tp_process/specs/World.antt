@@ -5,7 +5,7 @@ use Rattle.tp_process.specs.declared.control_message.ControlMessage.{ControlMess
 use Rattle.tp_process.specs.declared.outcome.Next.{Next}
 use Rattle.tp_process.specs.declared.outcome.Next.TheVariants.{Send, Again, Ended}
 use Rattle.tp_process.specs.State.{EpochState}
-use Rattle.tp_process.specs.Calls.{blank, opened, closed, sent, can_send, received, can_receive, took, moved, is_due}
+use Rattle.tp_process.specs.Calls.{blank, opened, closed, sent, can_send, received, can_receive, took, moved, is_due, is_for}
 
 pub record World : Type 0 where
   -- the processes, by number
@@ -109,7 +109,7 @@ is_step _ = false
 -- The receiver of the control message takes it.
 abbrev pub is_taken : ℕ → World → Option ControlMessage → Bool
 is_taken n w None = false
-is_taken n w (Some l) = nat_lt l.to n && ((l.to == (w.at l.to).number) && is_due l.from l.wave l.token (w.at l.to))
+is_taken n w (Some l) = nat_lt l.to n && (is_for l (w.at l.to) && is_due l.from l.wave l.token (w.at l.to))
 
 -- The event is useful: a wave makes progress.
 abbrev pub is_useful : ℕ → World → Event → Bool
@@ -122,9 +122,9 @@ abbrev pub useful : ℕ → List Event → List Event → ℕ
 useful n [] events = 0
 useful n (e ∷ later) events = if is_useful n (after n (later ++ events)) e then useful n later events + 1 else useful n later events
 
--- Liveness, a bound: after termination at most 21n more events are useful, whatever happens, in whatever order.
+-- Liveness, a bound: after termination at most 14n - 11 more events are useful, whatever happens, in whatever order.
 abbrev pub SoonLaw : Type 0
-SoonLaw = (n : ℕ) (later events : List Event) → 0 < n → IsQuiet n (after n events) → useful n later events ≤ 21 * n
+SoonLaw = (n : ℕ) (later events : List Event) → 0 < n → IsQuiet n (after n events) → useful n later events + 11 ≤ 14 * n
 
 -- Liveness, no deadlock: until `next` returns `Ended` at each process, a useful event is possible: a call of `next`, or
 -- a control message.

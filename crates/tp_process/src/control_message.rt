@@ -19,5 +19,7 @@ pub struct ControlMessage {
     pub to: u64,
     /// The wave's number, from 1.
     pub wave: u64,
+    /// The number of processes, as the sender has it: a process that was opened with another number refuses the message.
+    pub processes: u32,
     pub token: Token,
 }

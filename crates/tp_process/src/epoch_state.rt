@@ -1,13 +1,15 @@
 //! The state of one process in one epoch, as it is stored, and its calls: its counters, and the progress of the newest
 //! wave.
 
-ghost use Rattle.std.specs.Prelude.{◌≡◌, ◌+◌, not, OnErr};
+ghost use Rattle.std.specs.Prelude.{◌≡◌, ◌+◌, ◌&&◌, nat_lt, not, OnErr};
+ghost use Rattle.tp_process.specs.declared.epoch_state.TheConstants.{LIMIT};
 ghost use Rattle.std.specs.Result.{result_err};
-ghost use Rattle.tp_process.specs.Calls.{blank, closed, control, ends, gives, is_down_due, is_due, judges, left_of};
-ghost use Rattle.tp_process.specs.Calls.{moved, opened, opens, received, right_of, sent, takes, notifies, took, due, visits};
-ghost use Rattle.tp_process.specs.Calls.{close_refusal, open_refusal, receive_refusal, send_refusal, take_refusal};
+ghost use Rattle.tp_process.specs.Calls.{acts, control, due, ends, gives, is_down_due, is_due, is_miscounted, judges};
+ghost use Rattle.tp_process.specs.Calls.{left_of, moved, next_result, notifies, opens, ready, right_of, takes};
+ghost use Rattle.tp_process.specs.Calls.{took, visits};
+ghost use Rattle.tp_process.specs.Calls.{take_refusal};
 ghost use Rattle.tp_process.specs.Epochs.{has_notified};
-ghost use Rattle.tp_process.specs.State.{is_set, read_state, stored_state};
+ghost use Rattle.tp_process.specs.State.{is_set, new_state, read_state};
 
 use crate::control_message::{ControlMessage, Token};
 use crate::outcome::{Next, Refusal};
@@ -23,13 +25,13 @@ pub(crate) const LIMIT: u64 = 1 << 43;
 #[derive(Clone, Copy, Debug, PartialEq, Eq)]
 #[repr(C)]
 pub struct StoredState {
-    number: u32,
-    processes: u32,
-    pending: u64,
-    sent: u64,
-    received: u64,
+    pub(crate) number: u32,
+    pub(crate) processes: u32,
+    pub(crate) pending: u64,
+    pub(crate) sent: u64,
+    pub(crate) received: u64,
     /// The number of the newest wave that came here.
-    wave: u64,
+    pub(crate) wave: u64,
     /// What the children reported in it.
     taken_sent: u64,
     taken_received: u64,
@@ -46,7 +48,7 @@ pub struct StoredState {
     up_left: u8,
     up_right: u8,
     /// The process knows the end; and the children that it still has to notify.
-    over: u8,
+    pub(crate) over: u8,
     over_left: u8,
     over_right: u8,
 }
@@ -54,7 +56,7 @@ pub struct StoredState {
 impl StoredState {
     /// Returns process `number` of `processes` at the beginning of an epoch: one piece of work is open.
     pub fn new(number: u32, processes: u32) -> StoredState
-        ensures { result ≡ stored_state (blank number processes) }
+        ensures { result ≡ new_state number processes }
     {
         StoredState {
             number,
@@ -78,104 +80,39 @@ impl StoredState {
         }
     }
 
-    /// Opens one more piece of work.
-    ///
-    /// Refused: `Inactive` if none is open; `Full` if 2^43 are.
-    pub fn add_work(&mut self) -> Result<(), Refusal>
-        ensures refused { result_err result ≡ open_refusal (read_state self.old) }
-        ensures state { read_state self.new ≡ opened (read_state self.old) }
-        ensures kept { OnErr result (self.new ≡ self.old) }
-    {
-        if self.pending == 0 {
-            return Err(Refusal::Inactive);
-        }
-        if self.pending >= LIMIT {
-            return Err(Refusal::Full);
-        }
-        self.pending += 1;
-        Ok(())
-    }
-
-    /// Closes a piece of work.
-    ///
-    /// Refused: `Inactive` if none is open.
-    pub fn finish_work(&mut self) -> Result<(), Refusal>
-        ensures refused { result_err result ≡ close_refusal (read_state self.old) }
-        ensures state { read_state self.new ≡ closed (read_state self.old) }
-        ensures kept { OnErr result (self.new ≡ self.old) }
-    {
-        if self.pending == 0 {
-            return Err(Refusal::Inactive);
-        }
-        self.pending -= 1;
-        Ok(())
-    }
-
-    /// Counts a message as sent.
-    ///
-    /// Refused: `Inactive` if no work is open; `Full` if 2^43 messages were sent.
-    pub fn count_sent(&mut self) -> Result<(), Refusal>
-        ensures refused { result_err result ≡ send_refusal (read_state self.old) }
-        ensures state { read_state self.new ≡ sent (read_state self.old) }
-        ensures kept { OnErr result (self.new ≡ self.old) }
-    {
-        if self.pending == 0 {
-            return Err(Refusal::Inactive);
-        }
-        if self.sent >= LIMIT {
-            return Err(Refusal::Full);
-        }
-        self.sent += 1;
-        Ok(())
-    }
-
-    /// Counts a message as received, and opens the piece of work that it makes.
-    ///
-    /// Refused: `Full` if 2^43 pieces of work are open, or 2^43 messages were received.
-    pub fn count_received(&mut self) -> Result<(), Refusal>
-        ensures refused { result_err result ≡ receive_refusal (read_state self.old) }
-        ensures state { read_state self.new ≡ received (read_state self.old) }
-        ensures kept { OnErr result (self.new ≡ self.old) }
-    {
-        if self.pending >= LIMIT || self.received >= LIMIT {
-            return Err(Refusal::Full);
-        }
-        self.pending += 1;
-        self.received += 1;
-        Ok(())
-    }
-
     /// Takes a control message.
     ///
-    /// Refused: `NotDue` if it is for another process or of another wave, or was taken before, or if a sum would
-    /// overflow.
+    /// Refused: `Mismatched` if its sender has another number of processes; `NotDue` if it is for another process or of
+    /// another wave, or was taken before, or if a sum would overflow.
     #[inline(always)]
     pub fn take(&mut self, message: ControlMessage) -> Result<(), Refusal>
         ensures refused { result_err result ≡ take_refusal message (read_state self.old) }
         ensures state { read_state self.new ≡ took message (read_state self.old) }
         ensures kept { OnErr result (self.new ≡ self.old) }
     {
+        if message.processes != self.processes {
+            return Err(Refusal::Mismatched);
+        }
         if message.to != self.number as u64 {
             return Err(Refusal::NotDue);
         }
         match message.token {
-            Token::Down => self.take_down(message.wave),
+            Token::Down => {
+                if self.here != 0 || self.wave.checked_add(1) != Some(message.wave) {
+                    return Err(Refusal::NotDue);
+                }
+                self.visit(message.wave);
+                Ok(())
+            }
             Token::Up(sent, received) => self.take_up(message.from, message.wave, sent, received),
-            Token::Over => self.take_over(),
+            Token::Over => {
+                if self.over != 0 {
+                    return Err(Refusal::NotDue);
+                }
+                self.end();
+                Ok(())
+            }
         }
-    }
-
-    #[inline(always)]
-    fn take_down(&mut self, wave: u64) -> Result<(), Refusal>
-        ensures refused { result_err result ≡ due (is_down_due wave (read_state self.old)) }
-        ensures state { read_state self.new ≡ takes 0 wave Token.Down (read_state self.old) }
-        ensures kept { OnErr result (self.new ≡ self.old) }
-    {
-        if self.here != 0 || self.wave.checked_add(1) != Some(wave) {
-            return Err(Refusal::NotDue);
-        }
-        self.visit(wave);
-        Ok(())
     }
 
     #[inline(always)]
@@ -205,48 +142,6 @@ impl StoredState {
         Ok(())
     }
 
-    fn take_over(&mut self) -> Result<(), Refusal>
-        ensures refused { result_err result ≡ due (not (read_state self.old).over) }
-        ensures state { read_state self.new ≡ takes 0 0 Token.Over (read_state self.old) }
-        ensures kept { OnErr result (self.new ≡ self.old) }
-    {
-        if self.over != 0 {
-            return Err(Refusal::NotDue);
-        }
-        self.end();
-        Ok(())
-    }
-
-    pub fn pending(&self) -> u64
-        ensures { result ≡ (read_state self.now).pending }
-    {
-        self.pending
-    }
-
-    pub fn sent(&self) -> u64
-        ensures { result ≡ (read_state self.now).sent }
-    {
-        self.sent
-    }
-
-    pub fn received(&self) -> u64
-        ensures { result ≡ (read_state self.now).received }
-    {
-        self.received
-    }
-
-    pub fn wave(&self) -> u64
-        ensures { result ≡ (read_state self.now).wave }
-    {
-        self.wave
-    }
-
-    pub fn is_over(&self) -> bool
-        ensures { result ≡ (read_state self.now).over }
-    {
-        self.over != 0
-    }
-
     /// Returns whether the process knows the end and has notified its children.
     pub fn has_notified(&self) -> bool
         ensures { result ≡ has_notified (read_state self.now) }
@@ -254,18 +149,45 @@ impl StoredState {
         self.over != 0 && self.over_left == 0 && self.over_right == 0
     }
 
-    /// Returns the process at the beginning of the next epoch.
-    pub fn again(&self) -> StoredState
-        ensures { result ≡ stored_state (blank self.now.number self.now.processes) }
+    /// Returns what the process has to do next, and records that it does it.
+    ///
+    /// Refused: `Miscounted` if process 0 judges a wave that no right count gives.
+    #[inline(always)]
+    pub fn next(&mut self) -> Result<Next, Refusal>
+        ensures next { result ≡ next_result (read_state self.old) }
+        ensures state { read_state self.new ≡ (moved (read_state self.old)).state }
+        ensures kept { OnErr result (self.new ≡ self.old) }
     {
-        StoredState::new(self.number, self.processes)
+        if self.is_miscounted() {
+            return Err(Refusal::Miscounted);
+        }
+        Ok(self.act())
     }
 
-    /// Returns what the process has to do next, and records that it does it.
     #[inline(always)]
-    pub fn next(&mut self) -> Next
-        ensures state { read_state self.new ≡ (moved (read_state self.old)).state }
-        ensures next { result ≡ (moved (read_state self.old)).next }
+    fn is_miscounted(&self) -> bool
+        ensures { result ≡ is_miscounted (read_state self.now) }
+    {
+        if self.number != 0 || self.over != 0 || self.known == 0 || self.pending != 0 {
+            return false;
+        }
+        if self.here != 0 {
+            if self.down_left != 0
+                || self.down_right != 0
+                || self.up_left != 0
+                || self.up_right != 0
+            {
+                return false;
+            }
+            return is_below(self.taken_sent, self.sent, self.last_received);
+        }
+        self.left() >= self.processes as u64 && self.sent < self.last_received
+    }
+
+    #[inline(always)]
+    fn act(&mut self) -> Next
+        ensures state { read_state self.new ≡ (acts (ready (read_state self.old))).state }
+        ensures next { result ≡ (acts (ready (read_state self.old))).next }
     {
         if self.over != 0 {
             return self.notify();
@@ -409,6 +331,7 @@ impl StoredState {
             from: self.number as u64,
             to,
             wave: self.wave,
+            processes: self.processes,
             token,
         }
     }
@@ -419,4 +342,21 @@ fn flag(set: bool) -> u8
     ensures { is_set result ≡ set }
 {
     if set { 1 } else { 0 }
+}
+
+/// Returns whether both numbers are below the limit: as it is a power of two, one comparison is enough.
+pub(crate) fn are_below_limit(first: u64, second: u64) -> bool
+    ensures { result ≡ nat_lt first LIMIT && nat_lt second LIMIT }
+{
+    (first | second) < LIMIT
+}
+
+/// Returns whether a sum is below a bound.
+fn is_below(first: u64, second: u64, bound: u64) -> bool
+    ensures { result ≡ nat_lt (first + second) bound }
+{
+    match first.checked_add(second) {
+        Some(sum) => sum < bound,
+        None => false,
+    }
 }

@@ -5,7 +5,7 @@ ghost use Rattle.tp_process.specs.World.{ControlMessagesLaw, EndedLaw, FewWavesL
 ghost use Rattle.tp_process.specs.Epochs.{AheadLaw, CallsLaw, ControlMessagesEpochLaw, EpochLaw, FewWavesEpochLaw, GoesOnEpochLaw, LagsLaw};
 ghost use Rattle.tp_process.specs.Epochs.{LeftEpochLaw, MessageLaw, NearLaw, NeverEarlyEpochLaw, NoneLateLaw, OnceEpochLaw, SoonEpochLaw};
 ghost use Rattle.tp_process.specs.Network.{AllEndLaw, HandedLaw, NeverLateLaw};
-ghost use Rattle.tp_process.specs.Opening.{OpenCallsLaw, OpenLaw};
+ghost use Rattle.tp_process.specs.Opening.{CountedLaw, OpenCallsLaw, OpenLaw};
 
 use crate::epoch_state::LIMIT;
 use crate::process::MARK;
@@ -24,19 +24,19 @@ pub fn never_early()
 {}
 
 /// Termination is stable: nothing begins again without a message or open work.
-#[tactic(auto, using(crate::proofs::Early::quiet_stays))]
+#[tactic(auto, using(crate::proofs::Network::quiet_stays))]
 pub fn quiet_stays()
     ensures { QuietLaw }
 {}
 
 /// After termination process 0 starts at most two more waves.
-#[tactic(auto, using(crate::proofs::Early::few_waves))]
+#[tactic(auto, using(crate::proofs::Network::few_waves))]
 pub fn few_waves()
     ensures { FewWavesLaw }
 {}
 
-/// Liveness: after termination at most 21 events per process are useful; one is possible until all processes know the
-/// end; and a control message that has come need not come again.
+/// Liveness: after termination at most 14n - 11 events of n processes are useful; one is possible until all processes know
+/// the end; and a control message that has come need not come again.
 pub fn never_silent()
     ensures soon { SoonLaw }
     ensures goes_on { GoesOnLaw }
@@ -44,7 +44,7 @@ pub fn never_silent()
 {}
 
 /// A wave costs two control messages for each process except process 0, and the end costs one.
-#[tactic(auto, using(crate::proofs::ControlMessages::few_control_messages))]
+#[tactic(auto, using(crate::proofs::Network::few_control_messages))]
 pub fn few_control_messages()
     ensures { ControlMessagesLaw }
 {}
@@ -55,10 +55,16 @@ pub fn each_epoch()
     ensures calls { CallsLaw }
 {}
 
-/// Every process that `new` returned stays open, so no call on it is refused as `NotOpen`.
+/// Every process that `new` returned stays open, so no call on it is refused as `NotOpen`; nor is `next` refused.
 pub fn stays_open()
     ensures marked { OpenLaw }
     ensures calls { OpenCallsLaw }
+{}
+
+/// No call of `next` is refused as `Miscounted` if each message that is received was counted as sent before.
+#[tactic(auto, using(crate::proofs::Network::never_miscounted))]
+pub fn never_miscounted()
+    ensures { CountedLaw }
 {}
 
 /// Safety in every epoch: if a process knows the end of an epoch, or has left the epoch, nothing of it is left.

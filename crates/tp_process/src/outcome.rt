@@ -36,4 +36,9 @@ pub enum Refusal {
     NotOpen,
     /// There is no process of this number, or no process at all.
     NoProcess,
+    /// Process 0 judges a wave that counts fewer messages as sent than the previous wave counted as received: a bug of
+    /// the program, which sends messages uncounted, or counts receipts twice.
+    Miscounted,
+    /// The control message comes from a process that was opened with another number of processes: a bug of the program.
+    Mismatched,
 }

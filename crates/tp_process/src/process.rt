@@ -1,20 +1,21 @@
 //! The process that a program owns: the detector's state in the present epoch, the number of the epoch, and a mark that
 //! says whether it is open. Any bytes are a valid `Process`, and every call is defined for them.
 
-ghost use Rattle.std.specs.Prelude.{◌≡◌, ◌&&◌, None, OnErr};
+ghost use Rattle.std.specs.Prelude.{◌≡◌, ◌&&◌, None, OnErr, nat_lt, if◌then◌else◌};
 ghost use Rattle.std.specs.Result.{result_err};
 ghost use Rattle.tp_process.specs.Calls.{close_refusal, closed, moved, open_refusal, opened};
 ghost use Rattle.tp_process.specs.Calls.{receive_refusal, send_refusal, sent, take_refusal};
 ghost use Rattle.tp_process.specs.Epochs.{with_state, of_epoch, received_in, reopen_refusal, reopened, took_in};
 ghost use Rattle.tp_process.specs.Opening.{checked, checked_in, if_open, is_open, new_process, next_of, unopened};
 ghost use Rattle.tp_process.specs.State.{read};
+ghost use Rattle.tp_process.specs.declared.outcome.Refusal.TheVariants.{NotYet, Late};
 
 use crate::control_message::ControlMessage;
-use crate::epoch_state::StoredState;
+use crate::epoch_state::{LIMIT, StoredState, are_below_limit};
 use crate::outcome::{Next, Refusal};
 
-/// The value of `mark` in an open process: `gerfmuod` in ASCII.
-pub(crate) const MARK: u64 = 0x6765_7266_6d75_6f64;
+/// The value of `mark` in an open process: `gerf` in ASCII. It has 31 bits, so a compiler compares it in one instruction.
+pub(crate) const MARK: u64 = 0x6765_7266;
 
 /// One process of a distributed program, as the detector sees it: 96 bytes of plain data.
 ///
@@ -77,28 +78,28 @@ impl Process {
     pub fn pending(&self) -> u64
         ensures { result ≡ (read self.now).state.pending }
     {
-        self.state.pending()
+        self.state.pending
     }
 
     /// Returns the number of messages that were counted as sent in this epoch.
     pub fn sent(&self) -> u64
         ensures { result ≡ (read self.now).state.sent }
     {
-        self.state.sent()
+        self.state.sent
     }
 
     /// Returns the number of messages that were counted as received in this epoch.
     pub fn received(&self) -> u64
         ensures { result ≡ (read self.now).state.received }
     {
-        self.state.received()
+        self.state.received
     }
 
     /// Returns the number of the newest wave that came here in this epoch, from 1; 0 before the first.
     pub fn wave(&self) -> u64
         ensures { result ≡ (read self.now).state.wave }
     {
-        self.state.wave()
+        self.state.wave
     }
 
     /// Returns whether the process is open and knows that this epoch has terminated: no process has work, and no
@@ -106,7 +107,7 @@ impl Process {
     pub fn is_over(&self) -> bool
         ensures { result ≡ is_open (read self.now) && (read self.now).state.over }
     {
-        self.mark == MARK && self.state.is_over()
+        self.mark == MARK && self.state.over != 0
     }
 
     /// Opens one more piece of work.
@@ -118,7 +119,15 @@ impl Process {
         ensures kept { OnErr result (self.new ≡ self.old) }
     {
         self.check_open()?;
-        self.state.add_work()
+        let state = &mut self.state;
+        if state.pending == 0 {
+            return Err(Refusal::Inactive);
+        }
+        if state.pending >= LIMIT {
+            return Err(Refusal::Full);
+        }
+        state.pending += 1;
+        Ok(())
     }
 
     /// Closes a piece of work.
@@ -130,7 +139,12 @@ impl Process {
         ensures kept { OnErr result (self.new ≡ self.old) }
     {
         self.check_open()?;
-        self.state.finish_work()
+        let state = &mut self.state;
+        let Some(pending) = state.pending.checked_sub(1) else {
+            return Err(Refusal::Inactive);
+        };
+        state.pending = pending;
+        Ok(())
     }
 
     /// Counts a message as sent. Call it before the transport gets the message, and send the message with `epoch()`.
@@ -142,7 +156,15 @@ impl Process {
         ensures kept { OnErr result (self.new ≡ self.old) }
     {
         self.check_open()?;
-        self.state.count_sent()
+        let state = &mut self.state;
+        if state.pending == 0 {
+            return Err(Refusal::Inactive);
+        }
+        if state.sent >= LIMIT {
+            return Err(Refusal::Full);
+        }
+        state.sent += 1;
+        Ok(())
     }
 
     /// Counts a message of an epoch as received, and opens the piece of work that it brings. Call it before the message
@@ -158,7 +180,13 @@ impl Process {
     {
         self.check_open()?;
         self.check_epoch(epoch)?;
-        self.state.count_received()
+        let state = &mut self.state;
+        if !are_below_limit(state.pending, state.received) {
+            return Err(Refusal::Full);
+        }
+        state.pending += 1;
+        state.received += 1;
+        Ok(())
     }
 
     /// The same call as `count_sent`, under its name in the monitor interface.
@@ -192,8 +220,8 @@ impl Process {
     /// Takes a control message of an epoch. It may come in any order, late, or more than once.
     ///
     /// Refused: `NotOpen`; `NotYet` if its epoch is later: keep it, and take it again after `reopen`; `Late` if its
-    /// epoch is older; `NotDue` if it is for another process or of another wave, or was taken before, or if a sum would
-    /// overflow.
+    /// epoch is older; `Mismatched` if its sender was opened with another number of processes; `NotDue` if it is for
+    /// another process or of another wave, or was taken before, or if a sum would overflow.
     #[inline(always)]
     pub fn take(&mut self, epoch: u64, message: ControlMessage) -> Result<(), Refusal>
         ensures refused { result_err result ≡ checked_in epoch (read self.old) (take_refusal message (read self.old).state) }
@@ -208,7 +236,8 @@ impl Process {
     /// Returns what the process has to do next. Call it after every other call, until it returns `Ended` or `Nothing`.
     /// A control message that it returns belongs to `epoch()`.
     ///
-    /// Refused: `NotOpen`.
+    /// Refused: `NotOpen`; `Miscounted` at process 0 if the wave that it judges counts fewer messages as sent than the
+    /// previous wave counted as received, which a right count excludes. Nothing changes, so the call is refused again.
     #[inline(always)]
     pub fn next(&mut self) -> Result<Next, Refusal>
         ensures next { result ≡ next_of (read self.old) }
@@ -216,7 +245,7 @@ impl Process {
         ensures kept { OnErr result (self.new ≡ self.old) }
     {
         self.check_open()?;
-        Ok(self.state.next())
+        self.state.next()
     }
 
     /// Begins the next epoch here, with one piece of work open. It waits for no other process.
@@ -235,7 +264,7 @@ impl Process {
             return Err(Refusal::Full);
         };
         self.epoch = epoch;
-        self.state = self.state.again();
+        self.state = StoredState::new(self.state.number, self.state.processes);
         Ok(())
     }
 
@@ -254,10 +283,21 @@ impl Process {
     {
         if epoch == self.epoch {
             Ok(())
-        } else if epoch > self.epoch {
-            Err(Refusal::NotYet)
         } else {
-            Err(Refusal::Late)
+            Err(self.other_epoch(epoch))
+        }
+    }
+
+    /// Returns why a message of another epoch is refused. Out of line, so that a call that is not refused is shorter.
+    #[cold]
+    #[inline(never)]
+    fn other_epoch(&self, epoch: u64) -> Refusal
+        ensures { result ≡ if nat_lt (read self.now).epoch epoch then NotYet else Late }
+    {
+        if epoch > self.epoch {
+            Refusal::NotYet
+        } else {
+            Refusal::Late
         }
     }
 }

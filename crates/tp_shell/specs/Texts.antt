@@ -17,3 +17,9 @@ HasShownText text old new = (line : List ℕ) × Appends old new (line ++ codes 
 abbrev pub HasTextOf : Option (List ℕ) → WordsFault → Type 0
 HasTextOf text (faults.Words line) = IfSome text (λ bytes. IsLineOf bytes (string_bytes line))
 HasTextOf text fault = Unit {0}
+
+-- the error line: for arguments that are at fault, the parser's own text
+abbrev pub words_line : WordsFault → List ℕ
+words_line (faults.Words text) = string_bytes text ++ codes "\n"
+words_line faults.Memory = codes "refused 17 NoMemory\n"
+words_line faults.Write = codes "fault write\n"

@@ -1,5 +1,5 @@
-//! The arguments of the command line.
-ghost use Rattle.std.specs.Prelude.{◌≡◌, ◌≢◌, ℕ, List, ⊤, IfOk, map};
+//! The arguments of the command line, and what the environment asks for.
+ghost use Rattle.std.specs.Prelude.{◌≡◌, ◌≢◌, ℕ, List, ⊤, IfOk, codes, map};
 ghost use Rattle.std.specs.String.{string_bytes};
 
 use crate::status::Status;
@@ -48,17 +48,27 @@ pub fn words_of(alloc: Global, arguments: &[String]) -> Result<Vec<&str>, AllocE
 }
 
 /// Returns the error line and the exit status for arguments that could not be read: an allocation failed, or one of
-/// them is not UTF-8. The caller gives the line for each of the two.
-pub fn without_words(
-    fault: ErrorKind,
-    no_memory: &'static str,
-    not_text: &'static str,
-) -> (&'static str, u8)
-    ensures memory { fault ≡ ErrorKind.OutOfMemory → (result.0.now ≡ no_memory.now) × (result.1 ≡ 3) }
-    ensures words { fault ≢ ErrorKind.OutOfMemory → (result.0.now ≡ not_text.now) × (result.1 ≡ 1) }
+/// them is not UTF-8.
+pub fn without_words(fault: ErrorKind) -> (&'static str, u8)
+    ensures memory { fault ≡ ErrorKind.OutOfMemory → (result.0.now ≡ codes "refused 17 NoMemory\n") × (result.1 ≡ 3) }
+    ensures words { fault ≢ ErrorKind.OutOfMemory → (result.0.now ≡ codes "fault words\n") × (result.1 ≡ 1) }
 {
     match fault {
-        ErrorKind::OutOfMemory => (no_memory, Status::Failed.code()),
-        _ => (not_text, Status::Fault.code()),
+        ErrorKind::OutOfMemory => ("refused 17 NoMemory\n", Status::Failed.code()),
+        _ => ("fault words\n", Status::Fault.code()),
     }
+}
+
+/// Returns whether these arguments ask for the version of a subcommand, for which the program's own is shown.
+pub fn asks_version(words: &[&str]) -> bool {
+    let options = words.iter().skip(2);
+    options
+        .filter(|word| matches!(**word, "--version" | "-V"))
+        .count()
+        > 0
+}
+
+/// Returns whether the environment asks for exact lines alone: for no reasons, no prompts and no progress.
+pub fn is_quiet<R: Env + AllocGlobal>(rt: &R) -> bool {
+    env::var(rt, "GERFMUOD_QUIET").is_ok()
 }

@@ -5,15 +5,17 @@
 mod diagnostics;
 mod environment;
 mod options;
+mod process;
 mod profile;
 mod status;
 mod streams;
 mod words;
 
 pub use diagnostics::{Diagnostics, Told, complain};
-pub use environment::{HasArguments, arguments, without_words, words_of};
+pub use environment::{HasArguments, arguments, asks_version, is_quiet, without_words, words_of};
 pub use options::{VERSION, config_of, count_of, count_option, with_counts};
+pub use process::{Messages, Output, explain_failure};
 pub use profile::{Log, Profile, Run, Timed};
 pub use status::Status;
 pub use streams::{ReadFault, Source, write_text};
-pub use words::{ParserError, WordsFault, show};
+pub use words::{ParserError, WordsFault, names_a_file, show, tell_words};

@@ -9,7 +9,7 @@ pub use events::Run;
 use events::events_of;
 pub use log::Log;
 use std::alloc::Global;
-use std::fs;
+use std::fs::{self, OpenOptions};
 use std::io::{self, ErrorKind};
 use std::rt::{Clock, Files};
 use std::sync::Wait;
@@ -23,6 +23,14 @@ pub struct Profile<'a> {
 }
 
 impl<'a> Profile<'a> {
+    /// Opens the file of this path, so that one that cannot be written is known before the run. Its content stays.
+    pub fn open<R: Files>(rt: &R, path: &str) -> io::Result<()> {
+        let mut options = OpenOptions::new();
+        options.write(true).create(true);
+        options.open(rt, path)?;
+        Ok(())
+    }
+
     /// Returns the profile of a run of this many bodies that begins now, to be written to a file of this path. Nothing
     /// is logged if there is no path, or if the allocation of the log fails.
     pub fn new<C: Clock>(alloc: Global, clock: &C, path: Option<&'a str>, bodies: u64) -> Self {

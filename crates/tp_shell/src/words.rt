@@ -5,8 +5,9 @@ ghost use Rattle.std.specs.String.{string_bytes};
 ghost use Rattle.clap.specs.Values.{kind_of};
 ghost use Rattle.tp_shell.specs.Command.{IsMetBy, IsToBeShown};
 ghost use Rattle.tp_shell.specs.Streams.{HasShown};
-ghost use Rattle.tp_shell.specs.Texts.{HasShownText, HasTextOf, IsLineOf};
+ghost use Rattle.tp_shell.specs.Texts.{HasShownText, HasTextOf, IsLineOf, words_line};
 
+use crate::diagnostics::Diagnostics;
 use clap::Error;
 use clap::error::ErrorKind;
 use std::alloc::{AllocError, Global};
@@ -22,6 +23,23 @@ pub enum WordsFault {
     Memory,
     /// Help or the version was asked for, and could not be written.
     Write,
+}
+
+/// Prints the error line of arguments that make no request.
+pub fn tell_words<E: Diagnostics>(fault: &WordsFault, err: &mut E)
+    ensures { E.tells err.old (words_line fault.now) err.new }
+{
+    match fault {
+        WordsFault::Words(text) => err.tell_parts(&[text.as_str(), "\n"]),
+        WordsFault::Memory => err.tell("refused 17 NoMemory\n"),
+        WordsFault::Write => err.tell("fault write\n"),
+    }
+}
+
+/// Returns whether this is the parser's message about an argument too many that is no option, such as the name of a file.
+pub fn names_a_file(message: &str) -> bool {
+    let unexpected = message.strip_prefix("error: unexpected argument '");
+    matches!(unexpected, Some(argument) if !argument.starts_with('-'))
 }
 
 /// A parser's error: why arguments make no request, and a text that is shown or printed.

@@ -19,7 +19,7 @@ use Rattle.tp_team.specs.State.{in_turns, left, signalled_by, LosesNoWakeUp, Set
 use Rattle.tp_team.specs.Calls.{TakesTurn, Reports, Decides, Starts, stopped_by, came, opened, with_pool}
 use Rattle.tp_team.specs.Laws.{Described, Spawned, Expected, Released, Started, Turned, Stopped, Repeated}
 use Rattle.tp_team.specs.Laws.{HasWaited, waits, returns, CountsThreads, NeverLosesWakeUp}
-use Rattle.tp_team.proofs.Waking.{needed_few, settled, unstarted, none_sleeps, described_started}
+use Rattle.tp_team.proofs.Waking.{needed_few, settled, unstarted, repeated_awake, none_sleeps, described_started}
 
 same_waiting : {a b : State} → a ≡ b → a.waiting ≡ b.waiting
 same_waiting e = ap (λ (x : State). x.waiting) e
@@ -149,4 +149,4 @@ loses_no_wake_up tr p (Stopped task n ∷ past) b h =
     let k = loses_no_wake_up tr p past h.0 h.1 in
     settled h.2.settles (subst (λ (w : Waiting). in_turns w ≤ MAX_THREADS) (sym (stopped_waiting h.2.ended task h.0)) k.few)
 loses_no_wake_up tr p (Repeated ∷ past) b h =
-    subst (λ (x : State). LosesNoWakeUp x) (sym h.2) (unstarted h.0 _ 0 refl (loses_no_wake_up tr p past h.0 h.1))
+    subst (λ (x : State). LosesNoWakeUp x) (sym h.2) (repeated_awake h.0 (loses_no_wake_up tr p past h.0 h.1))

@@ -13,7 +13,7 @@ use Rattle.tp_team.specs.declared.limits.TheConstants.{MAX_THREADS}
 use Rattle.tp_team.specs.declared.waiting.Waiting.{Waiting}
 use Rattle.tp_team.specs.declared.state.State.{State}
 use Rattle.tp_team.specs.State.{in_turns, needed, signalled_by, HasReady, HasEnded, Settles, LosesNoWakeUp}
-use Rattle.tp_team.specs.Calls.{HasToWait}
+use Rattle.tp_team.specs.Calls.{HasToWait, repeated}
 use Rattle.tp_team.specs.Laws.{IsIdle, NeverStuck}
 
 pub needed_few : (ended ready : Bool) (w : Waiting) → needed ended ready w ≤ w.sleeping
@@ -72,6 +72,18 @@ unstarted a pool threads off k = record {
   where
     by_end : HasEnded (record a { pool = pool; threads = threads }) → a.waiting.sleeping ≡ 0
     by_end (inl h) = k.ends (inl h)
+    by_end (inr h) = absurd (let t = h.started in cc)
+
+-- the next run was prepared: no task is ready, and the team has not ended
+pub repeated_awake : (a : State) → LosesNoWakeUp a → LosesNoWakeUp (repeated a)
+repeated_awake a k = record {
+  wakes = λ h s. absurd (let t = h.started in cc);
+  ends = λ h. by_end h;
+  few = k.few;
+}
+  where
+    by_end : HasEnded (repeated a) → a.waiting.sleeping ≡ 0
+    by_end (inl h) = cc
     by_end (inr h) = absurd (let t = h.started in cc)
 
 -- no thread sleeps

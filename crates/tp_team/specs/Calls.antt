@@ -1,6 +1,7 @@
 -- The calls of a team: for which reasons each is refused, in their order, and what it does.
 use Rattle.std.specs.Prelude.{ℕ, ◌+◌, ◌-◌, ◌≡◌, ◌≤◌, ◌<◌, ◌==◌, ◌&&◌, ◌||◌, ◌⊎◌, ◌↔◌, List, [], ◌∷◌, Bool, true, false, length}
 use Rattle.std.specs.Prelude.{Option, Some, None, IsTrue, IsSome, IfSome, IfNone, nat_lt, nat_le, if◌then◌else◌}
+use Rattle.std.specs.Option.{is_some}
 use Rattle.tp_base.specs.declared.refusal.Refusal.{Refusal}
 use Rattle.tp_base.specs.declared.refusal.Refusal.TheVariants as refusal
 use Rattle.tp_base.specs.Checks as base
@@ -61,6 +62,13 @@ start_checks a threads pool =
 abbrev pub again_checks : State → List Check → List Check
 again_checks a pool = fault_check a.fault ((is_busy a, team.Running) ∷ pool)
 
+-- a turn has not returned, or a task runs and there is no fault
+abbrev pub may_have_bodies : State → Bool
+may_have_bodies a = if is_some a.fault then nat_lt 0 (in_turns a.waiting) else is_busy a
+
+abbrev pub reset_checks : State → List Check → List Check
+reset_checks a pool = (may_have_bodies a, team.Running) ∷ pool
+
 abbrev pub spawn_checks : State → List Check → List Check
 spawn_checks a pool = fault_check a.fault ((has_finished a, team.Pool refusal.Ended) ∷ pool)
 
@@ -88,8 +96,9 @@ opened traced processors = record {
 abbrev pub with_graph : Graph → State → State
 with_graph g a = with_pool (graph.described g (length g.offsets - 1) a.pool) a
 
+-- `again`, before which there is no fault, and `reset`
 abbrev pub repeated : State → State
-repeated a = record a { pool = dag.as_described a.pool; threads = 0 }
+repeated a = record a { pool = dag.as_described a.pool; threads = 0; fault = None }
 
 -- The pool changes so, and then as many sleeping threads are signalled as have to be.
 pub record Changes (Change : PoolState → PoolState → Type 0) (old new : State) (signals : ℕ) : Type 0 where

@@ -38,7 +38,7 @@ pub data Call : Type 0 where
   Started : (threads signals : ℕ) → Call
   Turned : (arrival : Arrival) (done : Option ℕ) (polls : ℕ) (reply : Reply) → Call
   Stopped : (task : Option ℕ) (signals : ℕ) → Call
-  -- `again`
+  -- `again` and `reset`
   Repeated : Call
 
 -- A thread that comes back waited.
@@ -101,7 +101,7 @@ abbrev pub runs : ℕ → Turn → Bool
 runs t (turn.Run u) = u == t
 runs t _ = false
 
--- how many turns of this run, which are those since the last `again`, made their thread run task t
+-- how many turns of this run, which are those since the last `again` or `reset`, made their thread run task t
 abbrev pub dispatches : ℕ → List Call → ℕ
 dispatches t [] = 0
 dispatches t (Repeated ∷ past) = 0

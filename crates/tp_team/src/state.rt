@@ -75,6 +75,17 @@ impl State {
         self.pool.running() > 0
     }
 
+    /// Whether a turn has not returned, or a task runs and there is no fault.
+    pub(crate) fn may_have_bodies(&self) -> bool
+        requires { in_turns self.now.waiting ≤ MAX_THREADS }
+        ensures { result ≡ of_calls.may_have_bodies self.now }
+    {
+        if self.fault.is_some() {
+            return self.waiting.total() > 0;
+        }
+        self.is_busy()
+    }
+
     // the fault, and then what comes of the test
     #[inline]
     fn fault_or(&self, holds: bool, refusal: TeamRefusal) -> Option<TeamRefusal>

@@ -2,13 +2,13 @@
 ghost use Rattle.std.specs.Prelude.{◌≡◌, ◌≤◌, ◌<◌, ◌+◌, ◌-◌, ◌⊎◌, ℕ, length, Ok, Err, Some, None, IsTrue, true, false};
 ghost use Rattle.std.specs.Prelude.{IfOk, OnOk, OnErr, IfErr, IfSome};
 ghost use Rattle.tp_base.specs.declared.refusal.Refusal.TheVariants as refusal;
-ghost use Rattle.tp_dag.specs.State.{is_traced, ready_tasks};
+ghost use Rattle.tp_dag.specs.State.{is_traced, ready_tasks, unfinished_tasks};
 ghost use Rattle.tp_dag.specs.Calls as dag;
 ghost use Rattle.tp_dag.specs.Calls.{Becomes, one_more, one_less};
 ghost use Rattle.tp_dag.specs.Describing.{fault_of};
 ghost use Rattle.tp_team.specs.declared.refusal.TeamRefusal.TheVariants as team;
 ghost use Rattle.tp_team.specs.State.{LosesNoWakeUp, Settles};
-ghost use Rattle.tp_team.specs.Calls.{first, of_pool, fault_check, describe_checks, record_checks, start_checks, again_checks};
+ghost use Rattle.tp_team.specs.Calls.{first, of_pool, fault_check, describe_checks, record_checks, start_checks, again_checks, reset_checks};
 ghost use Rattle.tp_team.specs.Calls.{spawn_checks, IsGraphRefusal};
 ghost use Rattle.tp_team.specs.Calls.{opened, Changes, with_pool, with_graph, repeated, Starts, Stops, TakesTurn};
 ghost use Rattle.tp_team.specs.Laws.{NeverStuck};
@@ -173,6 +173,26 @@ impl Team {
         Ok(())
     }
 
+    /// The same graph once more, also after a fault, which is forgotten, or before a run: the tasks of a run that was ended early count as
+    /// never dispatched. After a fault the team does not know which bodies still run: the caller calls this when all have returned.
+    ///
+    /// Refused, and nothing changes: `Running` if a turn has not returned, or if a task runs and there is no fault; `WrongLife` if tasks
+    /// were added in a run.
+    pub fn reset(&mut self) -> Result<(), TeamRefusal>
+        ensures ok { OnOk result (self.new ≡ repeated self.old) }
+        ensures err { OnErr result (self.new ≡ self.old) }
+        ensures checks { IfSome (first (reset_checks self.old (of_pool (dag.reset_checks self.old.pool)))) (λ r. result ≡ Err r) }
+        ensures exact { IfErr result (λ r. first (reset_checks self.old (of_pool (dag.reset_checks self.old.pool))) ≡ Some r) }
+    {
+        if self.state.may_have_bodies() {
+            return Err(TeamRefusal::Running);
+        }
+        self.state.pool.reset()?;
+        self.state.threads = 0;
+        self.state.fault = None;
+        Ok(())
+    }
+
     /// One more input from outside for a task. Returns how many sleeping threads are to be signalled.
     ///
     /// Refused, and nothing changes: the fault; and as the pool's `outside`.
@@ -246,6 +266,13 @@ impl Team {
         ensures { result ≡ length self.now.pool.tasks }
     {
         self.state.pool.tasks()
+    }
+
+    /// Returns the number of tasks that are not done.
+    pub fn left(&self) -> u32
+        ensures { result ≡ unfinished_tasks self.now.pool }
+    {
+        self.state.pool.left()
     }
 
     /// Returns the number of ready tasks: a thread that spins polls whether it is 0.

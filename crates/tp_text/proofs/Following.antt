@@ -1,50 +1,21 @@
 -- The lines that a tracer finds for the steps of a run, and the trace that they give.
-use Rattle.std.proofs.Common.{◌≡◌, ◌≢◌, ℕ, zero, suc, ◌+◌, ◌-◌, ◌*◌, ◌<◌, ◌≤◌, Bool, true, false, not, ◌||◌, ◌&&◌, ◌==◌, IsTrue, List, []}
-use Rattle.std.proofs.Common.{◌∷◌, ◌++◌, length, reverse, drop, get_or, Option, Some, None, slice_get, slice_set, slice_index_or, nat_le}
-use Rattle.std.proofs.Common.{if◌then◌else◌, refl, sym, ap, subst, ◌∙◌, inl, inr, arith}
-use Rattle.std.specs.List.{All}
-use Rattle.std.specs.Prelude.{IsFalse, OnOk, Result, Ok, Err}
-use Rattle.std.specs.Result.{result_err}
-use Rattle.std.proofs.Math.Seq.{drop-cons}
-use Rattle.std.proofs.lemmas.Bool.{and_parts, leb-true, cases_Bool, cases_eq, eq-eqb, ne_eqb}
-use Rattle.std.proofs.lemmas.List.{drop_all, length-drop, get_or-reverse, get_or-set_same, get_or-set_other}
-use Rattle.std.proofs.lemmas.Option.{get_or_from_slice_get}
-use Rattle.tp_base.specs.History.{Event}
-use Rattle.tp_base.specs.declared.ids.Generation.{Generation}
-use Rattle.tp_base.specs.declared.ids.MessageId.{MessageId}
-use Rattle.tp_base.specs.declared.ids.NodeId.{NodeId}
-use Rattle.tp_base.specs.declared.limits.TheConstants.{MAX_STEPS}
-use Rattle.tp_base.specs.declared.Step.{Step}
-use Rattle.tp_base.specs.declared.Step.TheVariants.{Send, Recv, Start, Down, Give, Up, Judge, Reopen}
-use Rattle.tp_base.specs.declared.Refusal.{Refusal}
-use Rattle.tp_wave.specs.ControlChecks.{control_refusal}
-use Rattle.tp_wave.specs.Control.{in_wave, is_control, AreLawfulWaves}
-use Rattle.tp_wave.specs.Generations.{present, present_events}
+use Rattle.tp_text.proofs.Names.{◌≡◌, ◌≢◌, ℕ, zero, suc, ◌+◌, ◌-◌, ◌*◌, ◌<◌, ◌≤◌, Bool, true, false, not, ◌||◌, ◌&&◌, ◌==◌, IsTrue, List}
+use Rattle.tp_text.proofs.Names.{[], ◌∷◌, ◌++◌, length, reverse, drop, take, get_or, Option, Some, None, slice_get, slice_set}
+use Rattle.tp_text.proofs.Names.{slice_index_or, nat_le, if◌then◌else◌, refl, sym, ap, subst, ◌∙◌, inl, inr, arith, All, IsFalse, OnOk}
+use Rattle.tp_text.proofs.Names.{Result, Ok, Err, result_err, and_parts, leb-true, cases_Bool, cases_eq, eq-eqb, ne_eqb, get_or-reverse}
+use Rattle.tp_text.proofs.Names.{reverse-append, length-reverse, length-take-le, take_more, take-append-drop, get_or-set_same}
+use Rattle.tp_text.proofs.Names.{get_or-set_other, get_or_from_slice_get, slice_get-get_or, slice_get_read, slice_get_within, Event}
+use Rattle.tp_text.proofs.Names.{Generation, MessageId, NodeId, MAX_STEPS, Step, Send, Recv, Start, Down, Give, Up, Judge, Reopen, Refusal}
+use Rattle.tp_text.proofs.Names.{control_refusal, in_wave, is_control, AreLawfulWaves, present, present_events, History, steps_of, IsNext}
+use Rattle.tp_text.proofs.Names.{IsRun, any, count, is_judge, is_reopen, is_recv_at, is_send_of, is_start, four_equal, judgement, waves}
+use Rattle.tp_text.proofs.Names.{steps-present, generations_law, checks_exact, count-le, pool_step, two_tell_law, length-steps_of}
+use Rattle.tp_text.proofs.Names.{lawful_waves, AreRuns, history_after, InEach, length-present, runs_are_counted, Tracer, TraceLine, Plain}
+use Rattle.tp_text.proofs.Names.{Judged, step_in, steps_in, AreJustified, IsJustified, IsNodeCount, IsSpelled, trace, trace_line, AreWords}
+use Rattle.tp_text.proofs.Names.{IsWritten, line_of, lines_of, version_of, AreStepsOfRuns, CanBeTraced, IsTraceOf, TracesAreReadBack}
+use Rattle.tp_text.proofs.Names.{HasFollowed, HasNode, MayFollow, All-nil, All-cons, All-head, All-tail, Version}
 use Rattle.tp_wave.specs.Generations as histories
-use Rattle.tp_wave.specs.Machine.{History, steps_of, IsNext, IsRun}
-use Rattle.tp_wave.specs.Steps.{any, count, is_judge, is_reopen, is_recv_at, is_send_of, is_start}
-use Rattle.tp_wave.specs.Sums.{four_equal, judgement, waves}
-use Rattle.tp_wave.proofs.Generations.{steps-present}
 use Rattle.tp_wave.proofs.Generations as events
-use Rattle.tp_wave.proofs.Exact.{checks_exact}
-use Rattle.tp_wave.proofs.Given.{count-le, pool_step}
-use Rattle.tp_wave.proofs.Judged.{two_tell_law}
-use Rattle.tp_wave.proofs.Positions.{length-steps_of}
-use Rattle.tp_wave.proofs.Visits.{lawful_waves}
-use Rattle.tp_core.specs.Generations.{InEach}
-use Rattle.tp_core.proofs.Generations.{length-present}
-use Rattle.tp_text.specs.declared.tracer.Tracer.{Tracer}
-use Rattle.tp_text.specs.declared.traced.TraceLine.{TraceLine}
-use Rattle.tp_text.specs.declared.traced.TraceLine.TheVariants.{Plain, Judged}
-use Rattle.tp_text.specs.AuditText.{step_in, steps_in, AreJustified, IsJustified}
-use Rattle.tp_text.specs.Script.{IsNodeCount}
-use Rattle.tp_text.specs.Spelling.{IsSpelled}
-use Rattle.tp_text.specs.Trace.{trace, trace_line, AreWords, IsWritten}
-use Rattle.tp_text.specs.TraceOf.{line_of, lines_of, version_of, CanBeTraced, IsTraceOf, TracesAreReadBack}
-use Rattle.tp_text.specs.Following.{HasFollowed, HasNode, MayFollow}
-use Rattle.tp_text.proofs.Splits.{All-nil, All-cons, All-head, All-tail}
 use Rattle.tp_text.proofs.UniqueTraces.{traces_determined}
-use Rattle.tp_text.specs.declared.version.Version.{Version}
 use Rattle.tp_text.specs.declared.version.Version.TheVariants as versions
 
 -- ---- reading what was printed
@@ -113,105 +84,101 @@ written_lines v n (s ∷ past) h l p =
 each_past : (P : History → Type 0) (e : Event) (h : History) → histories.InEach P (e ∷ h) → histories.InEach P h
 each_past P e h each later past is = each (e ∷ later) past (ap (λ x. e ∷ x) is)
 
--- the steps of the waves are lawful in each generation
-waves_in_each : (n : ℕ) (h : History) → histories.InEach (IsRun n) h → InEach (AreLawfulWaves n) (steps_of h)
-waves_in_each n h run [] past e =
-    subst (λ x. AreLawfulWaves n (present x)) e
-    (subst (AreLawfulWaves n) (steps-present h) (lawful_waves n (present_events h) (run [] h refl)))
-waves_in_each n [] run (s ∷ later) past e = cc
-waves_in_each n (x ∷ h) run (s ∷ later) past e = waves_in_each n h (each_past (IsRun n) x h run) later past (cc)
+past_runs : (n : ℕ) (s : Step) (past : List Step) → AreStepsOfRuns n (s ∷ past) → AreStepsOfRuns n past
+past_runs n s past ([], each, is) = cc
+past_runs n s past (e ∷ h, each, is) = (h, each_past (IsRun n) e h each, cc)
 
-pub is_trace_of : (v : Version) (n : ℕ) (h : History) (text : List ℕ) → IsNodeCount n → histories.InEach (IsRun n) h
-    → v ≡ version_of (steps_of h)
-    → CanBeTraced (steps_of h) → text ≡ trace v n (lines_of n (steps_of h)) → IsTraceOf n (steps_of h) text
-is_trace_of v n h text count run is can e = record {
+-- the steps of the waves are lawful in each generation
+waves_in_each : (n : ℕ) (ss : List Step) → AreStepsOfRuns n ss → InEach (AreLawfulWaves n) ss
+waves_in_each n ss (h, run, is) [] past e =
+    subst (λ x. AreLawfulWaves n (present x)) (is ∙ e)
+    (subst (AreLawfulWaves n) (steps-present h) (lawful_waves n (present_events h) (run [] h refl)))
+waves_in_each n [] runs (s ∷ later) past e = cc
+waves_in_each n (x ∷ ss) runs (s ∷ later) past e = waves_in_each n ss (past_runs n x ss runs) later past (cc)
+
+pub is_trace_of : (v : Version) (n : ℕ) (ss : List Step) (text : List ℕ) → IsNodeCount n → AreStepsOfRuns n ss → v ≡ version_of ss
+    → CanBeTraced ss → text ≡ trace v n (lines_of n ss) → IsTraceOf n ss text
+is_trace_of v n ss text count runs is can e = record {
   nodes = count;
-  written = written_lines (version_of (steps_of h)) n (steps_of h) (waves_in_each n h run) can.0 can.1;
-  text = e ∙ ap (λ x. trace x n (lines_of n (steps_of h))) is;
+  written = written_lines (version_of ss) n ss (waves_in_each n ss runs) can.0 can.1;
+  text = e ∙ ap (λ x. trace x n (lines_of n ss)) is;
 }
 
--- ---- the version of the trace
+-- The steps of a core are the steps of runs.
+pub core_runs : (n : ℕ) (ss : List Step) → 1 ≤ n → AreRuns n ss → AreStepsOfRuns n ss
+core_runs n ss some r =
+    let counted = runs_are_counted n ss some r in
+    (history_after n ss, generations_law n (history_after n ss) counted.are_runs, counted.steps_are)
 
--- version 1 has no line for a reopening
-first_spelled : (s : Step) → IsSpelled versions.One s → IsFalse (is_reopen s)
-first_spelled Reopen p = absurd p.2
-first_spelled _ p = refl
+-- ---- steps in the order of time
 
-none_reopened : (ss : List Step) → All (IsSpelled versions.One) ss → IsFalse (any is_reopen ss)
-none_reopened [] p = refl
-none_reopened (s ∷ ss) p =
-    rw (first_spelled s (All-head (IsSpelled versions.One) s ss p)) (none_reopened ss (All-tail (IsSpelled versions.One) s ss p))
+steps_of-get : (h : History) (i : ℕ) (e : Event) → get_or (steps_of h) i e.1 ≡ (get_or h i e).1
+steps_of-get [] i e = refl
+steps_of-get (x ∷ h) zero e = refl
+steps_of-get (x ∷ h) (suc i) e = steps_of-get h i e
 
-first_version : (ss : List Step) → All (IsSpelled versions.One) ss → versions.One ≡ version_of ss
-first_version ss p = rw (none_reopened ss p) refl
+-- The events of a history, oldest first, and its steps are at the same places.
+pub step_at : (h : History) (k : ℕ) (e : Event) → slice_get (reverse h) k ≡ Some e → slice_get (reverse (steps_of h)) k ≡ Some e.1
+step_at h k e at =
+    let within : k < length h = omega (arith, slice_get_within (reverse h) k e at, length-reverse h) in
+    let there : k < length (steps_of h) = omega (arith, within, length-steps_of h) in
+    slice_get_read (reverse (steps_of h)) (length (steps_of h)) k e.1 (sym (length-reverse (steps_of h))) there
+    (sym (get_or-reverse (steps_of h) k e.1 there ∙ ap (λ n. get_or (steps_of h) (n - 1 - k) e.1) (length-steps_of h)
+    ∙ steps_of-get h (length h - 1 - k) e
+    ∙ ap (λ x. x.1) (sym (get_or-reverse h k e within) ∙ get_or_from_slice_get (reverse h) k e e at)))
 
-second_version : (ss : List Step) → true ≡ any is_reopen ss → versions.Two ≡ version_of ss
-second_version ss e = rw (← e) refl
+pub some_event : (h : History) (k : ℕ) → slice_get (reverse h) k ≡ None → k < length (reverse (steps_of h)) → ⊥
+some_event h k none within =
+    let some = slice_get-get_or (reverse h) k (record { 0 = 0 }, Reopen)
+    (omega (arith, within, length-reverse h, length-reverse (steps_of h), length-steps_of h)) in cc
 
--- The history can be traced, in this version.
-abbrev pub IsTracedIn : List Step → Version → Type 0
-IsTracedIn ss v = (v ≡ version_of ss) × CanBeTraced ss
+-- the k oldest of the steps, the newest first; `xs` has the oldest first
+abbrev pub oldest : ℕ → List Step → List Step
+oldest k xs = reverse (take k xs)
 
-traced_in : (ss : List Step) (v : Version) → v ≡ version_of ss → length ss ≤ MAX_STEPS → All (IsSpelled v) ss → IsTracedIn ss v
-traced_in ss v is few p = (is, (few, subst (λ x. All (IsSpelled x) ss) is p))
+pub oldest_next : (k : ℕ) (xs : List Step) (s : Step) → slice_get xs k ≡ Some s → oldest (k + 1) xs ≡ s ∷ oldest k xs
+oldest_next k xs s at =
+    ap reverse (take_more xs k s (slice_get_within xs k s at)) ∙ reverse-append (take k xs) (get_or xs k s ∷ [])
+    ∙ ap (λ x. x ∷ oldest k xs) (get_or_from_slice_get xs k s s at)
 
-pub traced_first : (ss : List Step) → length ss ≤ MAX_STEPS → All (IsSpelled versions.One) ss → IsTracedIn ss versions.One
-traced_first ss few p = traced_in ss versions.One (first_version ss p) few p
+-- What holds of steps, and then of those before the newest one, holds of the oldest ones.
+before : (P : List Step → Type 0) → ((s : Step) (past : List Step) → P (s ∷ past) → P past) → (later past : List Step)
+    → P (later ++ past) → P past
+before P past_of [] past p = p
+before P past_of (s ∷ later) past p = before P past_of later past (past_of s (later ++ past) p)
 
-pub traced_second : (ss : List Step) → length ss ≤ MAX_STEPS → true ≡ any is_reopen ss → All (IsSpelled versions.Two) ss
-    → IsTracedIn ss versions.Two
-traced_second ss few is p = traced_in ss versions.Two (second_version ss is) few p
+at_oldest : (P : List Step → Type 0) → ((s : Step) (past : List Step) → P (s ∷ past) → P past) → (k : ℕ) (xs : List Step)
+    → P (reverse xs) → P (oldest k xs)
+at_oldest P past_of k xs p =
+    before P past_of (reverse (drop k xs)) (oldest k xs)
+    (subst P (ap reverse (sym (take-append-drop k xs)) ∙ reverse-append (take k xs) (drop k xs)) p)
 
--- If version 1 does not spell the steps, nor version 2 after a reopening, their own version does not spell them.
-pub no_version : (ss : List Step) → ¬ All (IsSpelled versions.One) ss → (IsTrue (any is_reopen ss) → ¬ All (IsSpelled versions.Two) ss)
-    → ¬ All (IsSpelled (version_of ss)) ss
-no_version ss one two =
-    elim (cases_Bool (any is_reopen ss)) [
-      | inl some ↦ rw some (two some)
-      | inr none ↦ rw none one
+pub spelled_there : (v : Version) (xs : List Step) (k : ℕ) (s : Step) → slice_get xs k ≡ Some s → All (IsSpelled v) (reverse xs)
+    → IsSpelled v s
+spelled_there v xs k s at p =
+    All-head (IsSpelled v) s (oldest k xs)
+    (subst (All (IsSpelled v)) (oldest_next k xs s at) (at_oldest (All (IsSpelled v)) (All-tail (IsSpelled v)) (k + 1) xs p))
+
+second_false : (a b : Bool) → IsFalse (a || b) → IsFalse b
+second_false true b e = cc
+second_false false b e = e
+
+-- A reopening is found.
+pub second_version : (k : ℕ) (xs : List Step) → slice_get xs k ≡ Some Reopen → versions.Two ≡ version_of (reverse xs)
+second_version k xs at =
+    elim (cases_Bool (any is_reopen (reverse xs))) [
+      | inl some ↦ rw some refl
+      | inr none ↦ let last : IsFalse (any is_reopen (Reopen ∷ oldest k xs)) = subst (λ x. IsFalse (any is_reopen x)) (oldest_next k xs Reopen at)
+          (at_oldest (λ x. IsFalse (any is_reopen x)) (λ s past e. second_false (is_reopen s) (any is_reopen past) e) (k + 1) xs none) in cc
     ]
 
--- ---- events in the order of time
+none_of_two : (s : Step) (b : Bool) → s ≢ Reopen → IsFalse b → IsFalse (is_reopen s || b)
+none_of_two Reopen b other e = absurd (other refl)
+none_of_two _ b other e = e
 
--- the oldest events, this many, newest first
-abbrev pub oldest : ℕ → List Event → List Event
-oldest k h = drop (length h - k) h
-
-pub oldest_none : (h : List Event) → oldest 0 h ≡ []
-oldest_none h = drop_all (length h - 0) h (omega arith)
-
-pub oldest_next : (h : List Event) (k : ℕ) (e : Event) → k < length h → slice_get (reverse h) k ≡ Some e → oldest (k + 1) h ≡ e ∷ oldest k h
-oldest_next h k e within at =
-    let place : suc (length h - (k + 1)) ≡ length h - k = omega (arith, within) in
-    let same : length h - 1 - k ≡ length h - (k + 1) = omega (arith, within) in
-    let found : get_or h (length h - (k + 1)) e ≡ e =
-    ap (λ i. get_or h i e) (sym same) ∙ sym (get_or-reverse h k e within) ∙ get_or_from_slice_get (reverse h) k e e at in
-    drop-cons h (length h - (k + 1)) e (omega (arith, within)) ∙ ap (λ x. x ∷ drop (suc (length h - (k + 1))) h) found
-    ∙ ap (λ i. e ∷ drop i h) place
-
--- what holds in each generation holds in each of the oldest events
-each-drop : (P : History → Type 0) (i : ℕ) (h : History) → histories.InEach P h → histories.InEach P (drop i h)
-each-drop P zero h each = each
-each-drop P (suc i) [] each = each
-each-drop P (suc i) (e ∷ h) each = each-drop P i h (each_past P e h each)
-
-spelled-drop : (v : Version) (i : ℕ) (h : List Event) → All (IsSpelled v) (steps_of h) → All (IsSpelled v) (steps_of (drop i h))
-spelled-drop v zero h p = p
-spelled-drop v (suc i) [] p = p
-spelled-drop v (suc i) (e ∷ h) p = spelled-drop v i h (All-tail (IsSpelled v) e.1 (steps_of h) p)
-
--- the step of the event at a position is spelled
-pub spelled_there : (v : Version) (h : List Event) (k : ℕ) (e : Event) → k < length h → slice_get (reverse h) k ≡ Some e
-    → All (IsSpelled v) (steps_of h) → IsSpelled v e.1
-spelled_there v h k e within at p =
-    All-head (IsSpelled v) e.1 (steps_of (oldest k h))
-    (subst (λ x. All (IsSpelled v) (steps_of x)) (oldest_next h k e within at) (spelled-drop v (length h - (k + 1)) h p))
-
-pub spelled_next : (v : Version) (h : List Event) (k : ℕ) (e : Event) → k < length h → slice_get (reverse h) k ≡ Some e → IsSpelled v e.1
-    → All (IsSpelled v) (steps_of (oldest k h)) → All (IsSpelled v) (steps_of (oldest (k + 1) h))
-spelled_next v h k e within at p before =
-    subst (λ x. All (IsSpelled v) (steps_of x)) (sym (oldest_next h k e within at))
-    (All-cons (IsSpelled v) e.1 (steps_of (oldest k h)) p before)
+pub none_next : (k : ℕ) (xs : List Step) (s : Step) → slice_get xs k ≡ Some s → s ≢ Reopen → IsFalse (any is_reopen (oldest k xs))
+    → IsFalse (any is_reopen (oldest (k + 1) xs))
+none_next k xs s at other none = rw (oldest_next k xs s at) (none_of_two s (any is_reopen (oldest k xs)) other none)
 
 -- ---- the next step
 
@@ -240,67 +207,30 @@ may_reopen n past Reopen e r l = record {
 }
 may_reopen n past _ e r l = cc
 
-may_follow : (n : ℕ) (past : History) (e : Event) → histories.InEach (IsRun n) (e ∷ past) → length past < MAX_STEPS
-    → MayFollow n (present (steps_of past)) e.1
-may_follow n past e each l =
-    let few : length (present_events past) < MAX_STEPS = omega (arith, l, events.length-present past) in
-    subst (λ x. MayFollow n x e.1) (steps-present past)
+may_follow : (n : ℕ) (past : List Step) (s : Step) → AreStepsOfRuns n (s ∷ past) → length past < MAX_STEPS → MayFollow n (present past) s
+may_follow n past s ([], each, is) l = cc
+may_follow n past s (e ∷ h, each, is) l =
+    let same : steps_of h ≡ past = cc in
+    let few : length (present_events h) < MAX_STEPS = omega (arith, l, events.length-present h, length-steps_of h, ap length same) in
+    let step : e.1 ≡ s = cc in
+    subst (λ x. MayFollow n (present x) s) same (subst (MayFollow n (present (steps_of h))) step
+    (subst (λ x. MayFollow n x e.1) (steps-present h)
     (elim (cases_Bool (is_reopen e.1)) [
-      | inl reopens ↦ may_reopen n (present_events past) e.1 reopens (each (e ∷ []) past refl) few
-      | inr on ↦ may_go_on n (present_events past) e (subst (IsRun n) (events.present-goes_on e past on) (each [] (e ∷ past) refl)) few
-    ])
+      | inl reopens ↦ may_reopen n (present_events h) e.1 reopens (each (e ∷ []) h refl) few
+      | inr on ↦ may_go_on n (present_events h) e (subst (IsRun n) (events.present-goes_on e h on) (each [] (e ∷ h) refl)) few
+    ])))
 
-pub may_follow_next : (n : ℕ) (h : History) (k : ℕ) (e : Event) → k < length h → slice_get (reverse h) k ≡ Some e
-    → histories.InEach (IsRun n) h → length h ≤ MAX_STEPS → MayFollow n (present (steps_of (oldest k h))) e.1
-may_follow_next n h k e within at each l =
-    may_follow n (oldest k h) e
-    (subst (histories.InEach (IsRun n)) (oldest_next h k e within at) (each-drop (IsRun n) (length h - (k + 1)) h each))
-    (omega (arith, within, l, length-drop (length h - k) h))
-
-pub followed_next : (n : ℕ) (h : History) (k : ℕ) (e : Event) (t : Tracer) → k < length h → slice_get (reverse h) k ≡ Some e
-    → HasFollowed n (present (e.1 ∷ steps_of (oldest k h))) t → HasFollowed n (present (steps_of (oldest (k + 1) h))) t
-followed_next n h k e t within at f = subst (λ x. HasFollowed n (present (steps_of x)) t) (sym (oldest_next h k e within at)) f
-
--- ---- finding a reopening
-
-or_second : (a b : Bool) → IsTrue b → IsTrue (a || b)
-or_second true b e = refl
-or_second false b e = e
-
-none_of_two : (s : Step) (b : Bool) → s ≢ Reopen → IsFalse b → IsFalse (is_reopen s || b)
-none_of_two Reopen b other e = absurd (other refl)
-none_of_two _ b other e = e
-
-reopened-drop : (i : ℕ) (h : History) → IsTrue (any is_reopen (steps_of (drop i h))) → IsTrue (any is_reopen (steps_of h))
-reopened-drop zero h e = e
-reopened-drop (suc i) [] e = e
-reopened-drop (suc i) (x ∷ h) e = or_second (is_reopen x.1) (any is_reopen (steps_of h)) (reopened-drop i h e)
-
-pub reopened_there : (h : History) (k : ℕ) (e : Event) → k < length h → slice_get (reverse h) k ≡ Some e → e.1 ≡ Reopen
-    → true ≡ any is_reopen (steps_of h)
-reopened_there h k e within at is =
-    let first : IsTrue (any is_reopen (e.1 ∷ steps_of (oldest k h))) = rw is refl in
-    sym (reopened-drop (length h - (k + 1)) h (subst (λ x. IsTrue (any is_reopen (steps_of x))) (sym (oldest_next h k e within at)) first))
-
-pub none_next : (h : History) (k : ℕ) (e : Event) → k < length h → slice_get (reverse h) k ≡ Some e → e.1 ≢ Reopen
-    → IsFalse (any is_reopen (steps_of (oldest k h))) → IsFalse (any is_reopen (steps_of (oldest (k + 1) h)))
-none_next h k e within at other before =
-    subst (λ x. IsFalse (any is_reopen (steps_of x))) (sym (oldest_next h k e within at))
-    (none_of_two e.1 (any is_reopen (steps_of (oldest k h))) other before)
-
-pub begun : (v : Version) (n : ℕ) (h : History) (old new : List ℕ) → old ≡ [] → new ≡ old ++ trace v n []
-    → new ≡ trace v n (lines_of n (steps_of (oldest 0 h)))
-begun v n h old new none head =
-    head ∙ ap (λ x. x ++ trace v n []) none ∙ ap (λ x. trace v n (lines_of n (steps_of x))) (sym (oldest_none h))
+pub may_follow_next : (n k : ℕ) (xs : List Step) (s : Step) → slice_get xs k ≡ Some s → AreStepsOfRuns n (reverse xs)
+    → length xs ≤ MAX_STEPS → MayFollow n (present (oldest k xs)) s
+may_follow_next n k xs s at runs few =
+    may_follow n (oldest k xs) s (subst (AreStepsOfRuns n) (oldest_next k xs s at) (at_oldest (AreStepsOfRuns n) (past_runs n) (k + 1) xs runs))
+    (omega (arith, few, slice_get_within xs k s at, length-reverse (take k xs), length-take-le k xs))
 
 -- one more line is appended
-pub traced_next : (v : Version) (n : ℕ) (h : History) (k : ℕ) (e : Event) (l : TraceLine) (old new : List ℕ) → k < length h
-    → slice_get (reverse h) k ≡ Some e
-    → l ≡ line_of n (steps_of (oldest k h)) e.1 → old ≡ trace v n (lines_of n (steps_of (oldest k h))) → new ≡ old ++ trace_line v l
-    → new ≡ trace v n (lines_of n (steps_of (oldest (k + 1) h)))
-traced_next v n h k e l old new within at is before written =
-    written ∙ ap (λ x. old ++ trace_line v x) is ∙ ap (λ x. x ++ trace_line v (line_of n (steps_of (oldest k h)) e.1)) before
-    ∙ ap (λ x. trace v n (lines_of n (steps_of x))) (sym (oldest_next h k e within at))
+pub traced_next : (v : Version) (n : ℕ) (past : List Step) (s : Step) (l : TraceLine) (old new : List ℕ) → l ≡ line_of n past s
+    → old ≡ trace v n (lines_of n past) → new ≡ old ++ trace_line v l → new ≡ trace v n (lines_of n (s ∷ past))
+traced_next v n past s l old new is before written =
+    written ∙ ap (λ x. old ++ trace_line v x) is ∙ ap (λ x. x ++ trace_line v (line_of n past s)) before
 
 -- ---- counting messages
 

@@ -1,17 +1,9 @@
 -- A step to which the reply is `ended W` is a judgement, and what is accepted later is added after it.
-use Rattle.std.proofs.Common.{ℕ, ◌≡◌, ◌≢◌, List, [], ◌∷◌, ◌++◌, Bool, true, false, Option, Some, None, Ok, refl, sym, ap, subst, ◌∙◌}
-use Rattle.std.proofs.Common.{append_assoc, is_some, if◌then◌else◌, ◌==◌}
-use Rattle.tp_base.specs.declared.Refusal.{Refusal}
-use Rattle.tp_base.specs.declared.Step.{Step}
-use Rattle.tp_base.specs.declared.Step.TheVariants.{Give, Judge}
-use Rattle.tp_wave.specs.Generations.{present, generation}
-use Rattle.tp_wave.specs.Sums.{judgement, sums_of}
-use Rattle.tp_core.specs.declared.Reply.{Reply}
-use Rattle.tp_core.specs.declared.Reply.TheVariants.{Plain, WaveSums, Over}
-use Rattle.tp_core.specs.Accepted.{Accepted, answered, next, after_all, refusal, with_step, reply_to, judged}
-use Rattle.tp_core.proofs.Reaching.{accepted_never_early}
-use Rattle.tp_text.specs.Ended.{EndedIsNeverEarly}
-use Rattle.tp_text.specs.SimText.{fresh}
+use Rattle.tp_text.proofs.Names.{ℕ, ◌≡◌, ◌≢◌, List, [], ◌∷◌, ◌++◌, Bool, true, false, Option, Some, None, Ok, refl, sym, ap, subst, ◌∙◌}
+use Rattle.tp_text.proofs.Names.{append_assoc, is_some, if◌then◌else◌, ◌==◌, Refusal, Step, Give, Judge, present, generation, judgement}
+use Rattle.tp_text.proofs.Names.{sums_of, Reply, WaveSums, Over, Accepted, answered, next, after_all, refusal, with_step, reply_to, judged}
+use Rattle.tp_text.proofs.Names.{accepted_never_early, EndedIsNeverEarly, fresh}
+use Rattle.tp_core.specs.declared.Reply.TheVariants.{Plain}
 use Rattle.tp_text.proofs.Present.{present-append, same_generation}
 use Rattle.tp_text.proofs.Taking.{nodes_kept}
 

@@ -1,6 +1,5 @@
 -- What the test of a loop shows about the elements that are left.
-use Rattle.std.proofs.lemmas.Bool.Decides.{nat_tests}
-use Rattle.std.proofs.Common.{◌≡◌, ◌==◌, ◌<◌, List, [], ◌∷◌, length, true, false, refl, arith}
+use Rattle.tp_text.proofs.Names.{nat_tests, ◌≡◌, ◌==◌, ◌<◌, List, [], ◌∷◌, length, true, false, refl, arith}
 
 pub some_left : {X : Type 0} (xs : List X) → false ≡ (length xs == 0) → 0 < length xs
 some_left [] e = absurd cc

@@ -1,3 +1,4 @@
+pub mod Names
 pub mod Left
 pub mod Splits
 pub mod Numbers

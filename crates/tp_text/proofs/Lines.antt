@@ -1,9 +1,6 @@
 -- The numbers after a word, up to the end of the line.
-use Rattle.std.proofs.Common.{◌≡◌, ◌≢◌, ℕ, ◌≤◌, ◌+◌, List, [], ◌∷◌, ◌++◌, length, decimal, sym, ap, ◌∙◌, arith, append_assoc}
-use Rattle.std.specs.List.{All}
-use Rattle.tp_text.specs.Spelling.{IsNumber, spaced}
-use Rattle.tp_text.specs.Words.{IsDigit, BeginsWithout}
-use Rattle.tp_text.proofs.Splits.{All-head, All-tail}
+use Rattle.tp_text.proofs.Names.{◌≡◌, ◌≢◌, ℕ, ◌≤◌, ◌+◌, List, [], ◌∷◌, ◌++◌, length, decimal, sym, ap, ◌∙◌, arith, append_assoc, All}
+use Rattle.tp_text.proofs.Names.{IsNumber, spaced, IsDigit, BeginsWithout, All-head, All-tail}
 use Rattle.tp_text.proofs.Numbers.{one_number}
 
 -- The text does not begin with at most n numbers, each after a space, and a line feed.

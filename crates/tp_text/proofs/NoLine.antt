@@ -1,17 +1,9 @@
 -- Texts that begin with no line for a step, or with none for the number of nodes.
-use Rattle.std.proofs.Common.{◌≡◌, ◌≢◌, ℕ, ◌≤◌, Bool, true, false, not, List, [], ◌∷◌, ◌++◌, length, codes, refl, sym, ap, ◌∙◌, arith, lit≤}
-use Rattle.std.proofs.lemmas.Slice.Eq.{bytes_eq-Decides}
-use Rattle.std.specs.List.{All}
-use Rattle.std.specs.Str.{bytes_eq}
-use Rattle.tp_text.specs.declared.keyword.Keyword.{Keyword}
-use Rattle.tp_text.specs.declared.words.Operands.{Operands}
-use Rattle.tp_text.specs.Keywords.{keyword_text}
-use Rattle.tp_text.specs.Script.{BeginsWithStep, BeginsWithNodes, IsNodeCount, nodes_line}
-use Rattle.tp_text.specs.Spelling.{IsNumber, spaced, word_of, numbers_of}
-use Rattle.tp_text.specs.Words.{IsWordByte, Splits, numbers_in}
-use Rattle.tp_text.proofs.Splits.{All-nil, All-cons}
+use Rattle.tp_text.proofs.Names.{◌≡◌, ◌≢◌, ℕ, ◌≤◌, Bool, true, false, not, List, [], ◌∷◌, ◌++◌, length, codes, refl, sym, ap, ◌∙◌, arith}
+use Rattle.tp_text.proofs.Names.{lit≤, bytes_eq-Decides, All, bytes_eq, Keyword, Operands, keyword_text, BeginsWithStep, BeginsWithNodes}
+use Rattle.tp_text.proofs.Names.{IsNodeCount, nodes_line, IsNumber, spaced, word_of, numbers_of, IsWordByte, Splits, numbers_in, All-nil}
+use Rattle.tp_text.proofs.Names.{All-cons, Version}
 use Rattle.tp_text.proofs.Spelled.{line_parts, one_word, same_numbers, step_word, keyword_of_step}
-use Rattle.tp_text.specs.declared.version.Version.{Version}
 
 not_false : (b : Bool) → false ≡ not b → b ≡ true
 not_false true e = refl

@@ -1,18 +1,11 @@
 -- Numbers as decimal digits at the front of a text.
-use Rattle.std.proofs.Common.{◌≡◌, ◌≢◌, ℕ, zero, suc, ◌<◌, ◌≤◌, ◌+◌, ◌-◌, ◌*◌, List, [], ◌∷◌, ◌++◌, length, get_or, take, drop, decimal}
-use Rattle.std.proofs.Common.{sym, ap, ◌∙◌, subst, arith}
-use Rattle.std.proofs.lemmas.Fmt.{decimal_nonempty, first_decimal, decimal_digit, digits_decimal, decimal-digits_value, decimal_injective}
-use Rattle.std.proofs.lemmas.Fmt.{length-decimal-le}
-use Rattle.std.proofs.lemmas.Int.Digits.{digits_value_more}
-use Rattle.std.proofs.lemmas.List.{get_or_default, get_or-take, length-drop, length-take-le, take-append-drop, take_all}
-use Rattle.std.proofs.lemmas.Str.{digit_value_digit}
-use Rattle.std.proofs.lemmas.Str.Parse.{IsNumeralModel, numerals_by_value, tells_by_index, digits_value_short}
-use Rattle.std.specs.List.{All}
-use Rattle.std.specs.Prelude.{slice_index}
-use Rattle.std.specs.Str.Parse.{digits_value}
-use Rattle.tp_text.specs.Spelling.{IsNumber}
-use Rattle.tp_text.specs.Words.{IsDigit, BeginsWithout, Splits}
-use Rattle.tp_text.proofs.Splits.{All-head, All-tail, split_unique}
+use Rattle.tp_text.proofs.Names.{◌≡◌, ◌≢◌, ℕ, zero, suc, ◌<◌, ◌≤◌, ◌+◌, ◌-◌, ◌*◌, List, [], ◌∷◌, ◌++◌, length, get_or, take, drop, decimal}
+use Rattle.tp_text.proofs.Names.{sym, ap, ◌∙◌, subst, arith, decimal_nonempty, first_decimal, decimal_digit, digits_decimal}
+use Rattle.tp_text.proofs.Names.{decimal-digits_value, decimal_injective, length-decimal-le, digits_value_more, get_or_default, get_or-take}
+use Rattle.tp_text.proofs.Names.{length-drop, length-take-le, take-append-drop, take_all, digit_value_digit, IsNumeralModel}
+use Rattle.tp_text.proofs.Names.{numerals_by_value, tells_by_index, digits_value_short, All, slice_index, digits_value, IsNumber, IsDigit}
+use Rattle.tp_text.proofs.Names.{BeginsWithout, Splits, All-head, All-tail}
+use Rattle.tp_text.proofs.Splits.{split_unique}
 
 abbrev AreDigits : List ℕ → Type 0
 AreDigits ds = (i : ℕ) → i < length ds → IsDigit (get_or ds i 0)

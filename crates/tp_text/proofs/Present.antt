@@ -1,15 +1,8 @@
 -- Steps that continue the present generation.
-use Rattle.std.proofs.Common.{◌≡◌, ℕ, ◌+◌, ◌≤◌, true, false, cond, List, [], ◌∷◌, ◌++◌, refl, sym, ap, subst, ◌∙◌, inl, inr, arith}
-use Rattle.std.specs.Prelude.{IsFalse}
-use Rattle.std.proofs.lemmas.Bool.{cases_Bool}
-use Rattle.tp_base.specs.declared.Step.{Step}
-use Rattle.tp_base.specs.declared.Step.TheVariants.{Reopen}
-use Rattle.tp_wave.specs.Generations.{present, present_events, generation}
-use Rattle.tp_wave.specs.Machine.{History, Needs, IsRun}
-use Rattle.tp_wave.specs.Steps.{any, count, is_reopen}
+use Rattle.tp_text.proofs.Names.{◌≡◌, ℕ, ◌+◌, ◌≤◌, true, false, cond, List, [], ◌∷◌, ◌++◌, refl, sym, ap, subst, ◌∙◌, inl, inr, arith}
+use Rattle.tp_text.proofs.Names.{IsFalse, cases_Bool, Step, Reopen, present, present_events, generation, History, Needs, IsRun, any, count}
+use Rattle.tp_text.proofs.Names.{is_reopen, present-goes_on, RunsOfOneGeneration}
 use Rattle.tp_wave.proofs.Generations as events
-use Rattle.tp_core.proofs.Generations.{present-goes_on}
-use Rattle.tp_text.specs.TraceOf.{RunsOfOneGeneration}
 
 -- If none of these steps is a reopening, they are in the generation that was present before.
 pub present-append : (later past : List Step) → IsFalse (any is_reopen later) → present (later ++ past) ≡ later ++ present past

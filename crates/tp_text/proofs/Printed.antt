@@ -1,17 +1,11 @@
 -- The closing lines and their sums, node by node.
-use Rattle.std.proofs.Common.{◌≡◌, ℕ, zero, suc, ◌+◌, ◌<◌, ◌≤◌, Bool, true, false, not, ◌&&◌, List, [], ◌∷◌, ◌++◌, length, take, codes}
-use Rattle.std.proofs.Common.{decimal, refl, sym, ap, ◌∙◌, add-one, append_assoc, arith, rules, if◌then◌else◌}
+use Rattle.tp_text.proofs.Names.{◌≡◌, ℕ, zero, suc, ◌+◌, ◌<◌, ◌≤◌, Bool, true, false, not, ◌&&◌, List, [], ◌∷◌, ◌++◌, length, take, codes}
+use Rattle.tp_text.proofs.Names.{decimal, refl, sym, ap, ◌∙◌, add-one, append_assoc, arith, rules, if◌then◌else◌, nat_tests, IsTrue}
+use Rattle.tp_text.proofs.Names.{IsFalse, ◌↔◌, ◌==◌, list_any, NodeNumbers, Accepted, world_of, numbers_at, no_numbers, World, Action}
+use Rattle.tp_text.proofs.Names.{Message, IsQuiet, is_done, is_quiet, total, listed, node_lines, node_line, counts, all_numbers, closing}
+use Rattle.tp_text.proofs.Names.{line}
 use Rattle.std.proofs.Math.Seq.{get_or-take, length-take-le}
-use Rattle.std.proofs.lemmas.Bool.Decides.{nat_tests}
-use Rattle.std.specs.Prelude.{IsTrue, IsFalse, ◌↔◌, ◌==◌}
-use Rattle.std.specs.List.{list_any, slice_index_or}
-use Rattle.tp_core.specs.declared.NodeNumbers.{NodeNumbers}
-use Rattle.tp_core.specs.Accepted.{Accepted, world_of, numbers_at, no_numbers}
-use Rattle.tp_core.specs.World.{World, Action, Message, IsQuiet, is_done, is_quiet}
-use Rattle.tp_base.specs.Totals.{total}
-use Rattle.tp_text.specs.Printed.{listed}
-use Rattle.tp_text.specs.SimText.{node_lines, node_line, counts, all_numbers, closing}
-use Rattle.tp_text.specs.Spelling.{line}
+use Rattle.std.specs.List.{slice_index_or}
 
 pub lines_more : (n : ℕ) (f : ℕ → NodeNumbers) → node_lines (n + 1) f ≡ node_lines n f ++ node_line n (f n)
 lines_more n f = rw add-one refl

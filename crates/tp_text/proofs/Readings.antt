@@ -1,25 +1,11 @@
 -- What is read of a trace, from the lines that were taken; and that all results for some bytes are the same.
-use Rattle.std.proofs.Common.{◌≡◌, ℕ, ◌+◌, ◌<◌, ◌++◌, List, [], ◌∷◌, true, Option, Some, None, length, take, reverse, is_some}
-use Rattle.std.proofs.Common.{refl, sym, ap, subst, ◌∙◌, inl, inr, arith, append-nil, length-append}
-use Rattle.std.proofs.lemmas.List.{length-reverse, reverse-append, reverse-reverse}
-use Rattle.std.proofs.Math.Seq.{take-append_seam}
-use Rattle.std.specs.Prelude.{MatchOption}
-use Rattle.tp_base.specs.declared.Step.{Step}
-use Rattle.tp_core.specs.Accepted.{Accepted}
-use Rattle.tp_core.specs.Generations.{AreRuns}
-use Rattle.tp_text.specs.declared.account.Account.{Account}
-use Rattle.tp_text.specs.declared.auditor.Auditor.{Auditor}
-use Rattle.tp_text.specs.declared.auditor.Flaw.{Flaw}
+use Rattle.tp_text.proofs.Names.{◌≡◌, ℕ, ◌+◌, ◌<◌, ◌++◌, List, [], ◌∷◌, true, Option, Some, None, length, take, reverse, is_some, refl, sym}
+use Rattle.tp_text.proofs.Names.{ap, subst, ◌∙◌, inl, inr, arith, append-nil, length-append, length-reverse, reverse-append}
+use Rattle.tp_text.proofs.Names.{reverse-reverse, take-append_seam, MatchOption, Step, Accepted, AreRuns, Account, Auditor, Flaw, TraceLine}
+use Rattle.tp_text.proofs.Names.{Verdict, Sound, Refused, Version, AreStopped, AreTaken, IsFound, Knows, account, flaw_line, steps_in}
+use Rattle.tp_text.proofs.Names.{summary, IsAuditText, IsSound, syntax_text, AreSoundPart, AreStepsBeforeFault, HasLines, IsSoundTraceOf}
+use Rattle.tp_text.proofs.Names.{LacksHead, ReadingsAreDetermined, TellsLineBehind, trace, BreaksOff, IsTrace}
 use Rattle.tp_text.specs.declared.reading.Reading.TheVariants as readings
-use Rattle.tp_text.specs.declared.traced.TraceLine.{TraceLine}
-use Rattle.tp_text.specs.declared.verdict.Verdict.{Verdict}
-use Rattle.tp_text.specs.declared.verdict.Verdict.TheVariants.{Sound, Refused}
-use Rattle.tp_text.specs.declared.version.Version.{Version}
-use Rattle.tp_text.specs.Auditing.{AreStopped, AreTaken, IsFound, Knows}
-use Rattle.tp_text.specs.AuditText.{account, flaw_line, steps_in, summary, IsAuditText, IsSound}
-use Rattle.tp_text.specs.Reading.{syntax_text, AreSoundPart, AreStepsBeforeFault, HasLines, IsSoundTraceOf, LacksHead}
-use Rattle.tp_text.specs.Reading.{ReadingsAreDetermined, TellsLineBehind}
-use Rattle.tp_text.specs.Trace.{trace, BreaksOff, IsTrace}
 use Rattle.tp_text.proofs.Recounting.{answer_found, length_steps}
 use Rattle.tp_text.proofs.UniqueAudits.{audits_determined, has_format, has_nodes, same_place, sound_or_flawed}
 use Rattle.tp_text.proofs.UniqueTraces.{no_line_in_nothing, same_trace, traces_determined}

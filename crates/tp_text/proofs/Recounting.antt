@@ -1,34 +1,16 @@
 -- The lines of a trace, taken one by one.
-use Rattle.std.proofs.Common.{◌≡◌, ◌≢◌, ℕ, ◌+◌, ◌≤◌, Bool, true, false, List, [], ◌∷◌, ◌++◌, length, Option, Some, None, Result, Ok}
-use Rattle.std.proofs.Common.{Err, refl, sym, ap, subst, ◌∙◌, append_assoc, length-append, arith, inl, inr, is_some}
-use Rattle.std.specs.Prelude.{MatchOption}
-use Rattle.std.specs.List.{All}
-use Rattle.tp_base.specs.declared.Refusal.{Refusal}
-use Rattle.tp_base.specs.declared.Refusal.TheVariants.{NoMemory}
-use Rattle.tp_base.specs.declared.Step.{Step}
+use Rattle.tp_text.proofs.Names.{◌≡◌, ◌≢◌, ℕ, ◌+◌, ◌≤◌, Bool, true, false, List, [], ◌∷◌, ◌++◌, length, Option, Some, None, Result, Ok, Err}
+use Rattle.tp_text.proofs.Names.{refl, sym, ap, subst, ◌∙◌, append_assoc, length-append, arith, inl, inr, is_some, MatchOption, All}
+use Rattle.tp_text.proofs.Names.{Refusal, NoMemory, Step, judgement, present, Reply, Accepted, Answers, IsRefusedFor, asks_memory, judged}
+use Rattle.tp_text.proofs.Names.{refusal, reply_to, lawful_where_none, Auditor, Flaw, TraceLine, Plain, Judged, Verdict, Sound, Refused}
+use Rattle.tp_text.proofs.Names.{account, flaw_line, steps_in, step_in, summary, taken, HasFlawAt, IsAuditText, IsJustified, IsSound}
+use Rattle.tp_text.proofs.Names.{AreStopped, AreTaken, IsFound, IsTold, syntax_text, LacksHead, nodes_line, IsNodeCount, BeginsWithNodes}
+use Rattle.tp_text.proofs.Names.{format_line, trace, trace_line, words, BeginsWithFormat, BreaksOff, IsTrace, IsWritten, LacksNodes}
+use Rattle.tp_text.proofs.Names.{All-nil, All-cons, Version}
 use Rattle.tp_base.specs.declared.Step.TheVariants as steps
-use Rattle.tp_wave.specs.Sums.{judgement}
-use Rattle.tp_wave.specs.Generations.{present}
-use Rattle.tp_core.specs.declared.Reply.{Reply}
-use Rattle.tp_core.specs.Accepted.{Accepted, Answers, IsRefusedFor, asks_memory, judged, refusal, reply_to}
-use Rattle.tp_core.proofs.Exact.{lawful_where_none}
-use Rattle.tp_text.specs.declared.auditor.Auditor.{Auditor}
-use Rattle.tp_text.specs.declared.auditor.Flaw.{Flaw}
 use Rattle.tp_text.specs.declared.auditor.Flaw.TheVariants as flaws
-use Rattle.tp_text.specs.declared.traced.TraceLine.{TraceLine}
-use Rattle.tp_text.specs.declared.traced.TraceLine.TheVariants.{Plain, Judged}
-use Rattle.tp_text.specs.declared.verdict.Verdict.{Verdict}
-use Rattle.tp_text.specs.declared.verdict.Verdict.TheVariants.{Sound, Refused}
-use Rattle.tp_text.specs.AuditText.{account, flaw_line, steps_in, step_in, summary, taken, HasFlawAt, IsAuditText, IsJustified, IsSound}
-use Rattle.tp_text.specs.Auditing.{AreStopped, AreTaken, IsFound, IsTold}
-use Rattle.tp_text.specs.Reading.{syntax_text, LacksHead}
-use Rattle.tp_text.specs.Script.{nodes_line, IsNodeCount, BeginsWithNodes}
-use Rattle.tp_text.specs.Trace.{format_line, trace, trace_line, words, BeginsWithFormat, BreaksOff, IsTrace, IsWritten}
-use Rattle.tp_text.specs.Trace.{LacksNodes}
-use Rattle.tp_text.proofs.Splits.{All-nil, All-cons}
 use Rattle.tp_text.proofs.Taking.{step_counts}
 use Rattle.tp_text.proofs.TraceLines.{judge_parts}
-use Rattle.tp_text.specs.declared.version.Version.{Version}
 
 -- ---- one line
 

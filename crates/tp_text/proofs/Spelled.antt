@@ -1,23 +1,14 @@
 -- The line of a step determines the step.
-use Rattle.std.proofs.Common.{◌≡◌, ℕ, Bool, true, cond, eqb, not, ◌&&◌, List, [], ◌∷◌, ◌++◌, get_or, decimal, codes, refl, sym, ap, ◌∙◌}
-use Rattle.std.proofs.Common.{arith, append_assoc}
-use Rattle.std.proofs.lemmas.Bool.{and_parts}
-use Rattle.std.proofs.lemmas.Bool.Decides.{nat_tests}
-use Rattle.std.specs.List.{All}
-use Rattle.std.specs.Str.{bytes_eq}
-use Rattle.tp_base.specs.declared.Step.{Step}
+use Rattle.tp_text.proofs.Names.{◌≡◌, ℕ, Bool, true, cond, eqb, not, ◌&&◌, List, [], ◌∷◌, ◌++◌, get_or, decimal, codes, refl, sym, ap, ◌∙◌}
+use Rattle.tp_text.proofs.Names.{arith, append_assoc, and_parts, nat_tests, All, bytes_eq, Step, Keyword, keyword_text, step_line, Version}
+use Rattle.tp_text.proofs.Names.{IsNumber, IsSpelled, IsOfVersion, spaced, line, word_of, numbers_of, IsWordByte, BeginsWithout, Splits}
+use Rattle.tp_text.proofs.Names.{All-nil, All-cons, All-head, All-tail}
 use Rattle.tp_base.specs.declared.Step.TheVariants as steps
-use Rattle.tp_text.specs.declared.keyword.Keyword.{Keyword}
 use Rattle.tp_text.specs.declared.keyword.Keyword.TheVariants as keywords
-use Rattle.tp_text.specs.Keywords.{keyword_text}
-use Rattle.tp_text.specs.Script.{step_line}
-use Rattle.tp_text.specs.declared.version.Version.{Version}
 use Rattle.tp_text.specs.declared.version.Version.TheVariants as versions
-use Rattle.tp_text.specs.Spelling.{IsNumber, IsSpelled, IsOfVersion, spaced, line, word_of, numbers_of}
-use Rattle.tp_text.specs.Words.{IsWordByte, BeginsWithout, Splits}
 use Rattle.tp_text.proofs.Lines.{ends_number}
 use Rattle.tp_text.proofs.Numbers.{one_number}
-use Rattle.tp_text.proofs.Splits.{All-nil, All-cons, All-head, All-tail, split_unique}
+use Rattle.tp_text.proofs.Splits.{split_unique}
 
 abbrev is_word : List ℕ → Bool
 is_word [] = true

@@ -1,20 +1,5 @@
--- Lemmas on `All`; and that a text splits in one way into bytes of one kind and a rest that does not begin with one.
-use Rattle.std.proofs.Common.{◌≡◌, ℕ, zero, suc, List, [], ◌∷◌, ◌++◌, refl, sym, subst, arith}
-use Rattle.std.specs.List.{All}
-use Rattle.tp_text.specs.Words.{BeginsWithout}
-
-pub All-nil : {X : Type 0} (P : X → Type 0) → All P []
-All-nil P k d h = absurd (omega arith)
-
-pub All-head : {X : Type 0} (P : X → Type 0) (x : X) (xs : List X) → All P (x ∷ xs) → P x
-All-head P x xs h = h zero x (omega arith)
-
-pub All-tail : {X : Type 0} (P : X → Type 0) (x : X) (xs : List X) → All P (x ∷ xs) → All P xs
-All-tail P x xs h = λ k d l. h (suc k) d (omega arith)
-
-pub All-cons : {X : Type 0} (P : X → Type 0) (x : X) (xs : List X) → P x → All P xs → All P (x ∷ xs)
-All-cons P x xs p h zero d l = p
-All-cons P x xs p h (suc k) d l = h k d (omega arith)
+-- A text splits in one way into bytes of one kind and a rest that does not begin with one.
+use Rattle.tp_text.proofs.Names.{◌≡◌, ℕ, List, [], ◌∷◌, ◌++◌, refl, sym, subst, All, All-head, All-tail, BeginsWithout}
 
 pub split_unique : (P : ℕ → Type 0) (xs ys a b : List ℕ) → All P xs → All P ys → BeginsWithout P a → BeginsWithout P b
     → xs ++ a ≡ ys ++ b → (xs ≡ ys) × (a ≡ b)

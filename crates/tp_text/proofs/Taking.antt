@@ -1,18 +1,10 @@
 -- The lines of a script that were taken, and the replies to them.
-use Rattle.std.proofs.Common.{◌≡◌, ℕ, ◌+◌, ◌≤◌, ◌<◌, Bool, true, false, List, [], ◌∷◌, ◌++◌, length, codes, decimal, is_some, Result, refl}
-use Rattle.std.proofs.Common.{sym, ap, subst, ◌∙◌, append_assoc, append-nil, length-append, arith, lit≤, inl, inr, if◌then◌else◌}
-use Rattle.std.specs.List.{All, flat_map}
-use Rattle.tp_base.specs.declared.Refusal.{Refusal}
-use Rattle.tp_base.specs.declared.Step.{Step}
-use Rattle.tp_core.specs.declared.Reply.{Reply}
-use Rattle.tp_core.specs.Accepted.{Accepted, answer, next, answers, after_all, refusal, with_step}
-use Rattle.tp_text.specs.declared.verdict.Verdict.TheVariants.{Sound, Refused}
-use Rattle.tp_text.specs.Script.{nodes_at, nodes_line, step_line, script, version_lines, IsNodeCount, IsScript, BeginsWithNodes}
-use Rattle.tp_text.specs.Script.{BeginsWithStep, BeginsWithVersion, StopsAfter}
-use Rattle.tp_text.specs.SimText.{answer_line, closing, fresh, IsSimText}
-use Rattle.tp_text.specs.Spelling.{IsSpelled, line, spelling}
-use Rattle.tp_text.proofs.Splits.{All-nil, All-cons, All-head, All-tail}
-use Rattle.tp_text.specs.declared.version.Version.{Version}
+use Rattle.tp_text.proofs.Names.{◌≡◌, ℕ, ◌+◌, ◌≤◌, ◌<◌, Bool, true, false, List, [], ◌∷◌, ◌++◌, length, codes, decimal, is_some, Result}
+use Rattle.tp_text.proofs.Names.{refl, sym, ap, subst, ◌∙◌, append_assoc, append-nil, length-append, arith, lit≤, inl, inr, if◌then◌else◌}
+use Rattle.tp_text.proofs.Names.{All, flat_map, Refusal, Step, Reply, Accepted, answer, next, answers, after_all, refusal, with_step, Sound}
+use Rattle.tp_text.proofs.Names.{Refused, nodes_at, nodes_line, step_line, script, version_lines, IsNodeCount, IsScript, BeginsWithNodes}
+use Rattle.tp_text.proofs.Names.{BeginsWithStep, BeginsWithVersion, StopsAfter, answer_line, closing, fresh, IsSimText, IsSpelled, line}
+use Rattle.tp_text.proofs.Names.{spelling, All-nil, All-cons, All-head, All-tail, Version}
 use Rattle.tp_text.specs.declared.version.Version.TheVariants as versions
 
 -- one more element at the end

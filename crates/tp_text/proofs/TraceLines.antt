@@ -1,23 +1,13 @@
 -- What the first line of a text is in a trace, by its first word and what follows it.
-use Rattle.std.proofs.Common.{◌≡◌, ◌≢◌, ℕ, ◌≤◌, nat_eq, true, false, List, [], ◌∷◌, ◌++◌, Option, Some, None, length, drop, take, codes}
-use Rattle.std.proofs.Common.{refl, sym, ap, ◌∙◌, append_assoc, arith}
-use Rattle.std.specs.Cmp.Lexicographic.{same_text, pointwise}
-use Rattle.std.proofs.lemmas.List.{take-append-drop}
-use Rattle.std.specs.List.{All}
-use Rattle.tp_base.specs.declared.Step.{Step}
+use Rattle.tp_text.proofs.Names.{◌≡◌, ◌≢◌, ℕ, ◌≤◌, nat_eq, true, false, List, [], ◌∷◌, ◌++◌, Option, Some, None, length, drop, take, codes}
+use Rattle.tp_text.proofs.Names.{refl, sym, ap, ◌∙◌, append_assoc, arith, same_text, pointwise, take-append-drop, All, Step, Keyword, Plain}
+use Rattle.tp_text.proofs.Names.{Judged, Operands, keyword_text, step_line, IsNumber, IsSpelled, IsOfVersion, spaced, word_of, numbers_of}
+use Rattle.tp_text.proofs.Names.{trace_line, words, AreWords, BeginsWithLine, IsWordByte, BeginsWithout, Splits, numbers_in, All-nil}
+use Rattle.tp_text.proofs.Names.{All-cons, Version}
 use Rattle.tp_base.specs.declared.Step.TheVariants as steps
-use Rattle.tp_text.specs.declared.keyword.Keyword.{Keyword}
 use Rattle.tp_text.specs.declared.keyword.Keyword.TheVariants as keywords
-use Rattle.tp_text.specs.declared.traced.TraceLine.TheVariants.{Plain, Judged}
-use Rattle.tp_text.specs.declared.words.Operands.{Operands}
-use Rattle.tp_text.specs.Keywords.{keyword_text}
-use Rattle.tp_text.specs.Script.{step_line}
-use Rattle.tp_text.specs.Spelling.{IsNumber, IsSpelled, IsOfVersion, spaced, word_of, numbers_of}
-use Rattle.tp_text.specs.Trace.{trace_line, words, AreWords, BeginsWithLine}
-use Rattle.tp_text.specs.Words.{IsWordByte, BeginsWithout, Splits, numbers_in}
 use Rattle.tp_text.proofs.Spelled.{line_parts, one_word, same_numbers, step_word, word_bytes, keyword_of_step, step_spelled, step_again}
-use Rattle.tp_text.proofs.Splits.{split_unique, All-nil, All-cons}
-use Rattle.tp_text.specs.declared.version.Version.{Version}
+use Rattle.tp_text.proofs.Splits.{split_unique}
 
 -- ---- the claim of a judgement line
 

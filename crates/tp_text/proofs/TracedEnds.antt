@@ -1,22 +1,10 @@
 -- What a sound trace says about the end of the pool.
-use Rattle.std.proofs.Common.{◌≡◌, ◌≢◌, ℕ, ◌+◌, ◌-◌, ◌≤◌, Bool, true, false, cond, ◌||◌, ◌&&◌, nat_le, if◌then◌else◌, append_assoc, List}
-use Rattle.std.proofs.Common.{[], ◌∷◌, ◌++◌, Option, Some, None, inl, inr, refl, sym, ap, subst, ◌∙◌, arith, is_some, length}
-use Rattle.std.specs.Prelude.{IsFalse}
-use Rattle.std.proofs.lemmas.Bool.Decides.{nat_tests}
-use Rattle.tp_base.specs.declared.Step.{Step}
+use Rattle.tp_text.proofs.Names.{◌≡◌, ◌≢◌, ℕ, ◌+◌, ◌-◌, ◌≤◌, Bool, true, false, cond, ◌||◌, ◌&&◌, nat_le, if◌then◌else◌, append_assoc, List}
+use Rattle.tp_text.proofs.Names.{[], ◌∷◌, ◌++◌, Option, Some, None, inl, inr, refl, sym, ap, subst, ◌∙◌, arith, is_some, length, IsFalse}
+use Rattle.tp_text.proofs.Names.{nat_tests, Step, present, any, is_judge, is_reopen, is_start, four_equal, judgement, is_ended, until}
+use Rattle.tp_text.proofs.Names.{visit, waves, cases_Bool, lt-leb, IsOverFrom, AreRuns, never_early, present_run, TraceLine, Plain, Judged}
+use Rattle.tp_text.proofs.Names.{steps_in, step_in, last_judgement, AreJustified, IsSound, EndedIsOver, NotEndedClaimsNoEnd, ReopenedIsOver}
 use Rattle.tp_base.specs.declared.Step.TheVariants as steps
-use Rattle.tp_wave.specs.Generations.{present}
-use Rattle.tp_wave.specs.Steps.{any, is_judge, is_reopen, is_start}
-use Rattle.tp_wave.specs.Sums.{four_equal, judgement, is_ended, until, visit, waves}
-use Rattle.std.proofs.lemmas.Bool.{cases_Bool, lt-leb}
-use Rattle.tp_core.specs.NeverEarly.{IsOverFrom}
-use Rattle.tp_core.specs.Generations.{AreRuns}
-use Rattle.tp_core.proofs.Early.{never_early}
-use Rattle.tp_core.proofs.Generations.{present_run}
-use Rattle.tp_text.specs.declared.traced.TraceLine.{TraceLine}
-use Rattle.tp_text.specs.declared.traced.TraceLine.TheVariants.{Plain, Judged}
-use Rattle.tp_text.specs.AuditText.{steps_in, step_in, last_judgement, AreJustified, IsSound}
-use Rattle.tp_text.specs.TracedEnd.{EndedIsOver, NotEndedClaimsNoEnd, ReopenedIsOver}
 use Rattle.tp_text.proofs.Present.{present-append}
 use Rattle.tp_text.proofs.Recounting.{sound_past, sound_behind}
 

@@ -1,17 +1,11 @@
 -- A text is the script of at most one list of steps, and there is at most one reply to it.
-use Rattle.std.proofs.Common.{◌≡◌, ℕ, ◌+◌, List, [], ◌∷◌, ◌++◌, length, drop, slice_index_or, codes, decimal, refl, sym, inl, inr, ap}
-use Rattle.std.proofs.Common.{subst, ◌∙◌, arith, append_assoc, append-nil, length-append}
-use Rattle.std.specs.List.{All, flat_map}
-use Rattle.tp_base.specs.declared.Step.{Step}
-use Rattle.tp_text.specs.Script.{nodes_at, nodes_line, step_line, script, version_lines, IsNodeCount, IsScript, BeginsWithNodes}
-use Rattle.tp_text.specs.Script.{BeginsWithStep, BeginsWithVersion, LacksNodesBehind, StopsAfter, HasFaultAt, ScriptsAreDetermined}
-use Rattle.tp_text.specs.declared.verdict.Verdict.TheVariants.{Sound, Refused}
-use Rattle.tp_text.specs.SimText.{report, TextsAreDetermined}
-use Rattle.tp_text.specs.Spelling.{IsSpelled, line, spaced, word_of, numbers_of}
+use Rattle.tp_text.proofs.Names.{◌≡◌, ℕ, ◌+◌, List, [], ◌∷◌, ◌++◌, length, drop, slice_index_or, codes, decimal, refl, sym, inl, inr, ap}
+use Rattle.tp_text.proofs.Names.{subst, ◌∙◌, arith, append_assoc, append-nil, length-append, All, flat_map, Step, nodes_at, nodes_line}
+use Rattle.tp_text.proofs.Names.{step_line, script, version_lines, IsNodeCount, IsScript, BeginsWithNodes, BeginsWithStep}
+use Rattle.tp_text.proofs.Names.{BeginsWithVersion, LacksNodesBehind, StopsAfter, HasFaultAt, ScriptsAreDetermined, Sound, Refused, report}
+use Rattle.tp_text.proofs.Names.{TextsAreDetermined, IsSpelled, line, spaced, word_of, numbers_of, All-head, All-tail, Version}
 use Rattle.tp_text.proofs.NoLine.{is_number}
 use Rattle.tp_text.proofs.Spelled.{one_word, line_parts, word_bytes, ends_word, same_numbers, same_step}
-use Rattle.tp_text.proofs.Splits.{All-head, All-tail}
-use Rattle.tp_text.specs.declared.version.Version.{Version}
 use Rattle.tp_text.specs.declared.version.Version.TheVariants as versions
 
 pub same_count : (n m : ℕ) (a b : List ℕ) → IsNodeCount n → IsNodeCount m → nodes_line n ++ a ≡ nodes_line m ++ b → (n ≡ m) × (a ≡ b)

@@ -1,24 +1,13 @@
 -- There is at most one reply to a trace.
-use Rattle.std.proofs.Common.{◌≡◌, ℕ, ◌+◌, List, [], ◌∷◌, ◌++◌, Option, Some, None, length, codes, decimal, refl, sym, inl, inr, ap, subst}
-use Rattle.std.proofs.Common.{◌∙◌, arith, append-nil}
-use Rattle.tp_core.specs.Accepted.{refusal}
-use Rattle.tp_core.proofs.Exact.{none_where_lawful}
-use Rattle.tp_text.specs.declared.auditor.Flaw.{Flaw}
+use Rattle.tp_text.proofs.Names.{◌≡◌, ℕ, ◌+◌, List, [], ◌∷◌, ◌++◌, Option, Some, None, length, codes, decimal, refl, sym, inl, inr, ap}
+use Rattle.tp_text.proofs.Names.{subst, ◌∙◌, arith, append-nil, refusal, none_where_lawful, Flaw, TraceLine, Plain, Judged, Sound, Refused}
+use Rattle.tp_text.proofs.Names.{account, flaw_line, step_in, steps_in, summary, taken, AuditsAreDetermined, HasFlawAt, IsComplaint, IsFlaw}
+use Rattle.tp_text.proofs.Names.{IsSound, IsNodeCount, line, trace, BeginsWithFormat, BreaksOff, HasTraceFaultAt, IsTrace, LacksNodes}
+use Rattle.tp_text.proofs.Names.{trace_line, flat_map, Version}
 use Rattle.tp_text.specs.declared.auditor.Flaw.TheVariants as flaws
-use Rattle.tp_text.specs.declared.traced.TraceLine.{TraceLine}
-use Rattle.tp_text.specs.declared.traced.TraceLine.TheVariants.{Plain, Judged}
-use Rattle.tp_text.specs.declared.verdict.Verdict.TheVariants.{Sound, Refused}
-use Rattle.tp_text.specs.AuditText.{account, flaw_line, step_in, steps_in, summary, taken, AuditsAreDetermined, HasFlawAt, IsComplaint}
-use Rattle.tp_text.specs.AuditText.{IsFlaw, IsSound}
-use Rattle.tp_text.specs.Script.{IsNodeCount}
-use Rattle.tp_text.specs.Spelling.{line}
-use Rattle.tp_text.specs.Trace.{trace, BeginsWithFormat, BreaksOff, HasTraceFaultAt, IsTrace, LacksNodes}
 use Rattle.tp_text.proofs.Recounting.{length_steps, sound_behind}
 use Rattle.tp_text.proofs.UniqueTraces.{behind, no_line_in_nothing, same_format, same_trace, spread, traces_determined}
 use Rattle.tp_text.proofs.UniqueTraces.{oldest_first}
-use Rattle.tp_text.specs.Trace.{trace_line}
-use Rattle.std.specs.List.{flat_map}
-use Rattle.tp_text.specs.declared.version.Version.{Version}
 
 -- ---- flaws
 

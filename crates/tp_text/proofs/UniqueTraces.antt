@@ -1,19 +1,13 @@
 -- A text is the trace of at most one list of lines.
-use Rattle.std.proofs.Common.{◌≡◌, ℕ, List, [], ◌∷◌, ◌++◌, Option, Some, None, length, drop, codes, refl, sym, ap, subst, ◌∙◌, arith}
-use Rattle.std.proofs.Common.{append_assoc, append-nil, length-append}
+use Rattle.tp_text.proofs.Names.{◌≡◌, ℕ, List, [], ◌∷◌, ◌++◌, Option, Some, None, length, drop, codes, refl, sym, ap, subst, ◌∙◌, arith}
+use Rattle.tp_text.proofs.Names.{append_assoc, append-nil, length-append, All, flat_map, TraceLine, Plain, Judged, nodes_line, step_line}
+use Rattle.tp_text.proofs.Names.{IsNodeCount, spaced, word_of, numbers_of, format_line, trace, trace_line, words, AreWords, IsWritten}
+use Rattle.tp_text.proofs.Names.{BeginsWithLine, TracesAreDetermined, All-head, All-tail, Version}
 use Rattle.std.specs.Prelude.{slice_index_or}
-use Rattle.std.specs.List.{All, flat_map}
-use Rattle.tp_text.specs.declared.traced.TraceLine.{TraceLine}
-use Rattle.tp_text.specs.declared.traced.TraceLine.TheVariants.{Plain, Judged}
-use Rattle.tp_text.specs.Script.{nodes_line, step_line, IsNodeCount}
-use Rattle.tp_text.specs.Spelling.{spaced, word_of, numbers_of}
-use Rattle.tp_text.specs.Trace.{format_line, trace, trace_line, words, AreWords, IsWritten, BeginsWithLine, TracesAreDetermined}
 use Rattle.tp_text.proofs.Spelled.{line_parts, same_numbers, same_step, step_word, word_bytes, ends_word}
-use Rattle.tp_text.proofs.Splits.{All-head, All-tail}
 use Rattle.tp_text.proofs.Taking.{All-more}
 use Rattle.tp_text.proofs.TraceLines.{is_judgement, judge_parts, judge_word, one_wave}
 use Rattle.tp_text.proofs.Unique.{same_count}
-use Rattle.tp_text.specs.declared.version.Version.{Version}
 use Rattle.tp_text.specs.declared.version.Version.TheVariants as versions
 
 -- ---- one line

@@ -7,7 +7,7 @@ use Rattle.tp_base.specs.declared.Step.TheVariants.{Judge}
 use Rattle.tp_wave.specs.Steps.{any, is_reopen}
 use Rattle.tp_wave.specs.Sums.{judgement}
 use Rattle.tp_wave.specs.Generations.{present, InEach}
-use Rattle.tp_wave.specs.Machine.{History, IsRun}
+use Rattle.tp_wave.specs.Machine.{History, steps_of, IsRun}
 use Rattle.tp_text.specs.declared.traced.TraceLine.{TraceLine}
 use Rattle.tp_text.specs.declared.traced.TraceLine.TheVariants.{Plain, Judged}
 use Rattle.tp_text.specs.declared.version.Version.{Version}
@@ -37,6 +37,10 @@ IsTraceOf n steps bytes = IsTrace bytes (version_of steps) n (lines_of n steps)
 -- There are no more steps than a core takes, and the grammar of their version has a line for each.
 abbrev pub CanBeTraced : List Step → Type 0
 CanBeTraced steps = (length steps ≤ MAX_STEPS) × All (IsSpelled (version_of steps)) steps
+
+-- These are the steps of a history that is a run of the machine in each of its generations.
+abbrev pub AreStepsOfRuns : ℕ → List Step → Type 0
+AreStepsOfRuns n steps = (h : History) × InEach (IsRun n) h × (steps_of h ≡ steps)
 
 -- Reading inverts printing: if the trace of some steps is read, the result has these steps, and each of its judgement
 -- lines claims the judgement over the steps before it in its generation.

@@ -30,5 +30,5 @@ pub use laws::{
 pub use reading::{Reading, Trace, read_trace};
 pub use recount::audit;
 pub use simulation::sim;
-pub use tracing::print_trace;
+pub use tracing::{print_steps, print_trace};
 pub use verdict::Verdict;

@@ -1,19 +1,59 @@
-//! Printing the trace of a history.
-ghost use Rattle.std.specs.Prelude.{◌≡◌, ◌≤◌, ◌↔◌, ◌⊎◌, length, IfErr, IfOk, IsTrue, MatchOption};
+//! Printing the trace of a history, or of a list of steps.
+ghost use Rattle.std.specs.Prelude.{◌≡◌, ◌≤◌, ◌<◌, ◌↔◌, ◌⊎◌, ℕ, List, Some, length, reverse, slice_get, IfErr, IfOk, IsTrue};
 ghost use Rattle.std.specs.List.{All};
+ghost use Rattle.tp_base.specs.declared.Step.{Step};
 ghost use Rattle.tp_base.specs.declared.limits.TheConstants.{MAX_NODES, MAX_STEPS};
+ghost use Rattle.tp_core.specs.Generations.{AreRuns};
 ghost use Rattle.tp_wave.specs.Generations.{InEach};
 ghost use Rattle.tp_wave.specs.Machine.{steps_of, IsRun};
-ghost use Rattle.tp_wave.specs.Steps.{any, is_reopen};
 ghost use Rattle.tp_text.specs.Spelling.{IsSpelled};
 ghost use Rattle.tp_text.specs.Trace.{trace};
-ghost use Rattle.tp_text.specs.TraceOf.{lines_of, version_of, IsTraceOf, CanBeTraced};
+ghost use Rattle.tp_text.specs.TraceOf.{lines_of, version_of, IsTraceOf, CanBeTraced, AreStepsOfRuns};
 
 use crate::step_lines::{has_line, push_head, push_line};
 use crate::tracer::Tracer;
 use crate::version::Version;
 use std::alloc::{AllocError, Global};
 use tp_base::{History, MAX_STEPS, Refusal, Step};
+
+/// Steps that can be read by their place. Contracts see the list of them, oldest first.
+trait Steps {
+    ghost listed: { Self → List Step };
+
+    fn count(&self) -> usize
+        ensures { result ≡ length (listed self.now) };
+
+    fn at_place(&self, place: usize) -> Step
+        requires { place < length (listed self.now) }
+        ensures { slice_get (listed self.now) place ≡ Some result };
+}
+
+impl Steps for History {
+    ghost listed = { λ h. reverse (steps_of h.events) };
+
+    fn count(&self) -> usize {
+        self.len()
+    }
+
+    fn at_place(&self, place: usize) -> Step {
+        let Some((_, step)) = self.at(place) else {
+            unreachable!()
+        };
+        step
+    }
+}
+
+impl<'a> Steps for &'a [Step] {
+    ghost listed = { λ s. s.now };
+
+    fn count(&self) -> usize {
+        self.len()
+    }
+
+    fn at_place(&self, place: usize) -> Step {
+        self[place]
+    }
+}
 
 /// Returns the trace of a pool's history on `nodes` nodes, 1 to 8: a line for each step, oldest first. Each judgement
 /// line claims the judgement over the steps before it in its generation, with messages counted anew. Only the text is
@@ -34,82 +74,78 @@ pub fn print_trace(alloc: Global, history: &History, nodes: u32) -> Result<Vec<u
     ensures err { IfErr result (λ r. ((r ≡ Refusal.BadSpec) × ¬ CanBeTraced (steps_of history.now.events))
         ⊎ ((r ≡ Refusal.NoMemory) × CanBeTraced (steps_of history.now.events))) }
 {
-    let Some(version) = traced_version(history) else {
-        return Err(Refusal::BadSpec);
-    };
-    Ok(traced(alloc, history, nodes, version)?)
+    printed(alloc, history, nodes)
 }
 
-/// Returns the version of a history's trace. `None` if there are more steps than a core takes, or the grammar has no
-/// line for one of them.
-fn traced_version(history: &History) -> Option<Version>
-    ensures { MatchOption result
-        (¬ CanBeTraced (steps_of history.now.events))
-        (λ v. (v ≡ version_of (steps_of history.now.events)) × CanBeTraced (steps_of history.now.events)) }
+/// Returns the trace of the steps that a core has taken, which are oldest first, as `print_trace` does.
+pub fn print_steps(alloc: Global, steps: &[Step], nodes: u32) -> Result<Vec<u8>, Refusal>
+    requires nodes { (1 ≤ nodes) × (nodes ≤ MAX_NODES) }
+    requires runs { AreRuns nodes (reverse steps.now) }
+    ensures ok { IfOk result (λ text. IsTraceOf nodes (reverse steps.now) text.items) }
+    ensures can { IfOk result (λ text. CanBeTraced (reverse steps.now)) }
+    ensures err { IfErr result (λ r. ((r ≡ Refusal.BadSpec) × ¬ CanBeTraced (reverse steps.now))
+        ⊎ ((r ≡ Refusal.NoMemory) × CanBeTraced (reverse steps.now))) }
 {
-    if history.len() > MAX_STEPS as usize {
-        return None;
+    printed(alloc, &steps, nodes)
+}
+
+/// Returns the trace of any steps of runs.
+fn printed<S: Steps>(alloc: Global, steps: &S, nodes: u32) -> Result<Vec<u8>, Refusal>
+    requires nodes { (1 ≤ nodes) × (nodes ≤ MAX_NODES) }
+    requires runs { AreStepsOfRuns nodes (reverse (S.listed steps.now)) }
+    ensures ok { IfOk result (λ text. IsTraceOf nodes (reverse (S.listed steps.now)) text.items) }
+    ensures can { IfOk result (λ text. CanBeTraced (reverse (S.listed steps.now))) }
+    ensures err { IfErr result (λ r. ((r ≡ Refusal.BadSpec) × ¬ CanBeTraced (reverse (S.listed steps.now)))
+        ⊎ ((r ≡ Refusal.NoMemory) × CanBeTraced (reverse (S.listed steps.now)))) }
+{
+    let version = traced_version(steps);
+    if steps.count() > MAX_STEPS as usize || !has_lines(version, steps) {
+        return Err(Refusal::BadSpec);
     }
-    // A history of one generation that can be traced is checked in one pass.
-    if has_lines(Version::One, history) {
-        return Some(Version::One);
+    Ok(traced(alloc, steps, nodes, version)?)
+}
+
+/// Returns the version of the trace: 2 exactly if the pool was reopened.
+fn traced_version<S: Steps>(steps: &S) -> Version
+    ensures { result ≡ version_of (reverse (S.listed steps.now)) }
+{
+    for place in 0..steps.count() {
+        if let Step::Reopen = steps.at_place(place) {
+            return Version::Two;
+        }
     }
-    if is_reopened(history) && has_lines(Version::Two, history) {
-        return Some(Version::Two);
-    }
-    None
+    Version::One
 }
 
 /// Returns whether the grammar has a line for each step.
-fn has_lines(version: Version, history: &History) -> bool
-    ensures { IsTrue result ↔ All (IsSpelled version) (steps_of history.now.events) }
+fn has_lines<S: Steps>(version: Version, steps: &S) -> bool
+    ensures { IsTrue result ↔ All (IsSpelled version) (reverse (S.listed steps.now)) }
 {
-    for place in 0..history.len() {
-        let Some((_, step)) = history.at(place) else {
-            unreachable!()
-        };
-        if !has_line(version, step) {
+    for place in 0..steps.count() {
+        if !has_line(version, steps.at_place(place)) {
             return false;
         }
     }
     true
 }
 
-/// Returns whether the pool was reopened.
-fn is_reopened(history: &History) -> bool
-    ensures { result ≡ any is_reopen (steps_of history.now.events) }
-{
-    for place in 0..history.len() {
-        let Some((_, step)) = history.at(place) else {
-            unreachable!()
-        };
-        if let Step::Reopen = step {
-            return true;
-        }
-    }
-    false
-}
-
-/// Returns the trace of a history in a version. Refused if an allocation fails.
-fn traced(
+/// Returns the trace of steps in a version. Refused if an allocation fails.
+fn traced<S: Steps>(
     alloc: Global,
-    history: &History,
+    steps: &S,
     nodes: u32,
     version: Version,
 ) -> Result<Vec<u8>, AllocError>
     requires nodes { (1 ≤ nodes) × (nodes ≤ MAX_NODES) }
-    requires run { InEach (IsRun nodes) history.now.events }
-    requires few { length history.now.events ≤ MAX_STEPS }
-    ensures { IfOk result (λ text. text.items ≡ trace version nodes (lines_of nodes (steps_of history.now.events))) }
+    requires runs { AreStepsOfRuns nodes (reverse (S.listed steps.now)) }
+    requires few { length (S.listed steps.now) ≤ MAX_STEPS }
+    ensures { IfOk result (λ text. text.items ≡ trace version nodes (lines_of nodes (reverse (S.listed steps.now)))) }
 {
     let mut out = Vec::new(alloc);
     push_head(version, &mut out, nodes)?;
     let mut tracer = Tracer::new(nodes);
-    for index in 0..history.len() {
-        let Some((_, step)) = history.at(index) else {
-            unreachable!()
-        };
-        push_line(version, &mut out, tracer.line(step))?;
+    for place in 0..steps.count() {
+        push_line(version, &mut out, tracer.line(steps.at_place(place)))?;
     }
     Ok(out)
 }

@@ -7,4 +7,5 @@ pub mod Marking
 pub mod Placing
 pub mod Reporting
 pub mod Rounds
+mod Single
 pub mod Walking

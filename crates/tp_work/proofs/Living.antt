@@ -153,21 +153,6 @@ pub no_life_on : (s : Step) (newer : ℕ → List ℕ) (past : List Step) (stage
 no_life_on s newer past stages new answer is_no told on before once =
     no_life-with (moment_of s) (is_reopen s) newer (λ t. moments t past) stages new answer is_no told on before once
 
-goes_on : (newer past : List Step) (s : Step) → IsFalse (any is_reopen (newer ++ s ∷ past)) → IsFalse (is_reopen s)
-goes_on [] past s none =
-    elim (cases_Bool (is_reopen s)) [ inl reopens ↦ absurd (let bad : true ≡ false = rw reopens at none in cc) | inr on ↦ on ]
-goes_on (d ∷ newer) past s none =
-    elim (cases_Bool (is_reopen d)) [
-      | inl reopens ↦ absurd (let bad : true ≡ false = rw reopens at none in cc)
-      | inr on ↦ goes_on newer past s (rw on at none)
-    ]
-
-pub no_life : (s : Step) (newer past : List Step) (stages new : List ℕ) (answer : Bool) → IsFalse answer → Told s answer stages new
-    → AreStages past stages → LivesOnce (length stages) (newer ++ s ∷ past) → ⊥
-no_life s newer past stages new answer is_no told before once =
-    no_life_on s (λ t. moments t newer) past stages new answer is_no told (goes_on newer past s once.one_generation) before
-    (λ t. sym (moments-append t newer (s ∷ past)) ∙ once.each t)
-
 -- ---- all steps
 pub lives_if_over : (steps : List Step) (stages : List ℕ) → AreStages steps stages → IsFalse (any is_reopen steps)
     → All (λ k. k ≡ 3) stages → LivesOnce (length stages) steps
@@ -187,11 +172,3 @@ pub over_if_lives : (steps : List Step) (stages : List ℕ) → AreStages steps 
 over_if_lives steps stages are once t d within =
     let life : first_moments (stage stages t) ≡ 2 ∷ 1 ∷ 0 ∷ [] = sym (are t) ∙ once.each t ∙ grind (arith, nat_tests, within) in
     get_or_default stages t d 0 within ∙ sym (length-first_moments (stage stages t)) ∙ ap length life
-
--- What follows from all stages together.
-pub stages-tell : (steps : List Step) (stages : List ℕ) (n : ℕ) (answer : Bool) → AreStages steps stages × IsFalse (any is_reopen steps)
-    → length stages ≡ n
-    → (IsTrue answer ↔ All (λ k. k ≡ 3) stages) → (IsTrue answer ↔ LivesOnce n steps)
-stages-tell steps stages n answer are long told =
-    subst (λ (k : ℕ). IsTrue answer ↔ LivesOnce k steps) long
-    ((λ is_yes. lives_if_over steps stages are.0 are.1 (told.0 is_yes)), (λ once. told.1 (over_if_lives steps stages are.0 once)))

@@ -110,34 +110,6 @@ lack_by_check Holds (Ok false) lack told is =
     (inl (refl, λ holds. let no : false ≡ true = told.1 holds in cc))
 lack_by_check Holds (Err e) lack told is = subst (λ (o : Option Refusal). MatchOption o Holds (Lacks Holds)) (sym is) (inr refl)
 
--- The report of a pool that is over gives its outcome, if each task was done once.
-pub is_outcome : (n workers answered : ℕ) (g : TaskGraph) (r : Report) → IsReport n g r → HasEnded n r → IsDoneOnce g.tasks r
-    → answered ≡ n * workers
-    → IsOutcome n workers g
-    (record {
-      results = r.results;
-      tasks = r.done;
-      messages = r.sent;
-      announced = r.announced;
-      workers = answered;
-      history = r.history;
-    })
-is_outcome n workers answered g r report over once all_answered =
-    let h = r.history.events in
-    let all : present_events h ≡ h = all_present h once.1.one_generation in
-    let steps : present (steps_of h) ≡ steps_of h = sym (steps-present h) ∙ ap steps_of all in
-    record {
-      each_once = once.0;
-      right = report.right;
-      run = subst (IsRun n) all (present_run n h report.of_run.run);
-      ended = subst IsTrue (report.of_run.ended ∙ ap (is_ended n) steps) over.detected;
-      announced = over.announced;
-      lives = once.1;
-      tasks = (report.done, report.of_run.done ∙ ap (count is_done) steps);
-      messages = report.of_run.sent ∙ ap (count is_send) steps;
-      answered = all_answered;
-    }
-
 -- ---- faults
 -- The report of a pool that stops gives its fault.
 pub is_fault_by : (n : ℕ) (g : TaskGraph) (rounds : ℕ) (Why : Report → Refusal → Type 0) (f : Fault) (r : Report) → IsReport n g r

@@ -1,4 +1,4 @@
-//! Checks in the history that each task was inserted, began and was done exactly once.
+//! Checks in the history that each task was inserted, began and was done exactly once in each generation.
 ghost use Rattle.std.specs.Prelude.{◌≡◌, ◌<◌, ◌≤◌, ◌+◌, ◌↔◌, ◌++◌, ◌∷◌, [], length, map, reverse, slice_set, vec_capacity, vec_len, All};
 ghost use Rattle.std.specs.Prelude.{IfOk, IfSome, IsFalse, IsTrue, List, MatchOption, None};
 ghost use Rattle.tp_base.specs.History.{Event};
@@ -10,19 +10,6 @@ ghost use Rattle.tp_work.specs.Lives.{AreStages, IsFollowed, LivesInEach, LivesO
 
 use std::alloc::{AllocError, Global};
 use tp_base::{History, Step};
-
-/// Returns whether each of `tasks` tasks was inserted, then began, and then was done, each once, no other task ever
-/// was, and nothing was reopened. Takes O(tasks + events) time.
-pub(crate) fn each_lives(alloc: Global, tasks: u32, history: &History) -> Result<bool, AllocError>
-    ensures { IfOk result (λ yes. IsTrue yes ↔ LivesOnce tasks (steps_of history.now.events)) }
-{
-    let mut stages = vec![in alloc; 0u8; tasks as usize]?;
-    let stages = stages.as_mut_slice();
-    if !follow_each(stages, history) {
-        return Ok(false);
-    }
-    Ok(all_over(stages))
-}
 
 /// Returns the number of messages sent in each of `generations` generations, oldest first, or `None` unless each task
 /// lived once in each of them. Takes O(tasks * generations + events) time.
@@ -44,25 +31,6 @@ pub(crate) fn sent_in_each(
         return Ok(None);
     }
     Ok(Some(sent))
-}
-
-/// Follows all events. Returns whether each task's stages come in order, there is an entry for each task, and nothing
-/// is reopened.
-fn follow_each(stages: &mut [u8], history: &History) -> bool
-    requires { All (λ stage. stage ≡ 0) stages.old }
-    ensures followed { IsTrue result → AreStages (steps_of history.now.events) stages.new
-        × IsFalse (any is_reopen (steps_of history.now.events)) }
-    ensures no { IsFalse result → LivesOnce (length stages.old) (steps_of history.now.events) → ⊥ }
-{
-    for place in 0..history.len() {
-        let Some((_, step)) = history.at(place) else {
-            unreachable!()
-        };
-        if !follow(stages, step) {
-            return false;
-        }
-    }
-    true
 }
 
 /// Follows all events through all generations, and lists the number of messages of each. Returns whether each task

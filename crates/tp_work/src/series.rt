@@ -1,6 +1,6 @@
 //! Running a pool through several generations, reopened after each but the last.
 ghost use Rattle.std.specs.Prelude.{◌≡◌, ◌≤◌, ◌<◌, ◌+◌, ◌*◌, ◌-◌, ◌++◌, ◌∷◌, [], ℕ, length, map, reverse, slice_index, slice_index_or};
-ghost use Rattle.std.specs.Prelude.{vec_capacity, vec_len, Err, IfErr, IfOk, IfSome, MatchOption, MatchResult, None, Ok, OnOk, Some};
+ghost use Rattle.std.specs.Prelude.{vec_capacity, vec_len, Err, IfErr, IfOk, IfSome, MatchOption, MatchResult, None, Ok, OnOk, Some, if◌then◌else◌};
 ghost use Rattle.std.specs.List.{All};
 ghost use Rattle.tp_base.specs.declared.limits.TheConstants.{MAX_STEPS};
 ghost use Rattle.tp_base.specs.declared.refusal.Refusal.TheVariants.{HistoryFull, Missing, NoMemory};
@@ -21,12 +21,11 @@ use crate::gate::Gate;
 use crate::gathered::{Report, count_told};
 use crate::lives::sent_in_each;
 use crate::once::each_once;
-use crate::run::{answer_to, lack_by};
 use crate::runner::{Ran, Runner, fault_with, report_of, ungathered};
 use std::alloc::{AllocError, Global};
 use std::sync::Wait;
 use std::thread::Threads;
-use tp_base::{History, Refusal, TaskId};
+use tp_base::{History, MAX_STEPS, Refusal, TaskId};
 use tp_board::{Blanks, Brand, Ended, Ledgers};
 use tp_graph::{Comparable, Graph, Named, Only, Value};
 use tp_node::{Pool, Reopened};
@@ -511,5 +510,29 @@ fn tell(rounds: &mut [Round], sent: &[u32])
 {
     for place in 0..rounds.len() {
         rounds[place].messages = sent[place];
+    }
+}
+
+/// Returns the refusal for a fault, after `events` events.
+fn answer_to(fault: Refusal, events: usize) -> Refusal
+    ensures { IsAnswer events fault result }
+{
+    let Refusal::HistoryFull(_) = fault else {
+        return fault;
+    };
+    if events as u64 == MAX_STEPS as u64 || events as u64 == MAX_STEPS as u64 - 1 {
+        return Refusal::HistoryFull(events as u32);
+    }
+    Refusal::Missing
+}
+
+/// Returns what is missing, by a check: `Missing` if it fails, and `NoMemory` if an allocation failed in it.
+fn lack_by(checked: Result<bool, AllocError>) -> Option<Refusal>
+    ensures { MatchResult checked (λ yes. result ≡ (if yes then None else Some Missing)) (λ _. result ≡ Some NoMemory) }
+{
+    match checked {
+        Ok(true) => None,
+        Ok(false) => Some(Refusal::Missing),
+        Err(_) => Some(Refusal::NoMemory),
     }
 }

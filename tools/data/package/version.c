@@ -1,8 +1,5 @@
 /* version.c: prints the version of an installed library; fails if it is not that of the headers. */
 #include <gerfmuod.h>
-#include <gerfmuod_graph.h>
-#include <gerfmuod_process.h>
-#include <gerfmuod_team.h>
 #include <stdio.h>
 
 int main(void) {

@@ -1,7 +1,7 @@
 // version.cpp: the same in C++, with all headers.
-#include <gerfmuod.h>
-#include <gerfmuod.hpp>
-#include <gerfmuod_process.h>
+#include <gerfmuod/core.h>
+#include <gerfmuod/gerfmuod.hpp>
+#include <gerfmuod/process.h>
 #include <iostream>
 
 int main() {

@@ -12,20 +12,21 @@
     processes    the detector for distributed programs over Open MPI, call by call and simulated, and a hand-written one,
                  Safra's ring, and repeated reductions
 
-Without a name all of them. Before anything is timed the outputs of all programs are compared; the status is 1 if one
-differs. Then all run once in each round, and it prints the medians of the rounds: all rows, and the tables of
-docs/PERFORMANCE.md; what begins is printed on standard error. `front` names the three measurements of README's table. A
-series that has an impossible row fails, and --write stores none that began on a machine with other work, or next to which
-others worked. `make` and `make lib` build what is measured; bench/README.md says what the others need and how to read the
-numbers.
+Without a name all of them. Before anything is timed the outputs of all programs are compared; the status is 1 if one differs. Then all run
+once in each round, and it prints the medians of the rounds: all rows, and the tables of docs/PERFORMANCE.md; what begins is printed on
+standard error. `front` names the three measurements of README's table. A series that has an impossible row fails, and --write stores none
+that began on a machine with other work, or next to which others worked. `make` and `make lib` build what is measured; bench/README.md says
+what the others need and how to read the numbers.
+
+`compare OLD NEW` compares the programs of two folders, OLD/bin and NEW/bin, which run in turns: some cases of `run`, `rod` and `patterns`,
+with no busy process and with four. It begins only on a machine at rest, and its status is 1 if others worked; --anyway permits both.
 """
 import os
 import sys
-import tempfile
 
-from .. import plots, running
+from .. import plots
 from ..repository import processors
-from . import conditions, document, figures, rows, soundness, tables
+from . import comparing, conditions, document, figures, rows, soundness, tables
 from .cases import FRONT, MEASUREMENTS, PROGRAMS
 from .measuring import TIMED, Bench
 from .peers import Peers
@@ -41,7 +42,7 @@ class ImpossibleRow(Exception):
 
 
 def arguments(parser):
-    parser.add_argument("measurements", nargs="*", metavar="NAME", help=", ".join(["front", *MEASUREMENTS]))
+    parser.add_argument("measurements", nargs="*", metavar="NAME", help=f"{', '.join(['front', *MEASUREMENTS])}; or compare OLD NEW")
     form = parser.add_mutually_exclusive_group()
     for name, what in (("quick", ": the default"), ("full", ", instructions, load")):
         rounds = f"{ROUNDS[name]} rounds, or {PROCESSES[name]} of {RUNS[name]} timed runs"
@@ -58,7 +59,6 @@ def arguments(parser):
 
 
 def measured(options, name, folder, peers):
-    """Returns the rows of a measurement, as a file would have them."""
     form, found = "full" if options.full else "quick", []
     # (the full form measures `run` without busy processes, and again with one for each processor)
     loads = [0, processors()] if options.full and name == "run" else [0]
@@ -75,19 +75,7 @@ def measured(options, name, folder, peers):
     return rows.read(path, kind)
 
 
-def store(name, found, its_origin, is_anyway):
-    """Stores the rows of a measurement, if the machine was at rest. Returns whether it did."""
-    faults = conditions.faults(its_origin.load_average, its_origin.others)
-    if faults:
-        print(f"{name}: {'marked' if is_anyway else 'not stored'}: {faults}", file=sys.stderr, flush=True)
-    if faults and not is_anyway:
-        return False
-    rows.keep(name, found, its_origin._replace(marked=faults))
-    return True
-
-
 def measure_all(options, names, folder):
-    """Measures, prints, and stores; returns the exit status."""
     peers, load_average = Peers(folder), conditions.load_average()
     if options.write and not options.anyway and (faults := conditions.faults(load_average)):
         sys.exit(f"nothing is measured: {faults}")
@@ -105,10 +93,17 @@ def measure_all(options, names, folder):
             continue
         end = conditions.now()
         its_origin = conditions.origin_of(name, form, found, end[0] - start[0], load_average, conditions.others(start, end))
-        parts = [f"## {name}", rows.text_of(found, rows.kind_of(name)), tables.of(name, found), tables.of_origins([its_origin]), ""]
+        parts = [f"## {name}", rows.text_of(found, rows.kind_of(name)), tables.TABLES[name](found), tables.of_origins([its_origin]), ""]
         print("\n\n".join(parts), flush=True)
-        if options.write:
-            (stored if store(name, found, its_origin, options.anyway) else failed).append(name)
+        if not options.write:
+            continue
+        if faults := conditions.faults(load_average, its_origin.others):
+            print(f"{name}: {'marked' if options.anyway else 'not stored'}: {faults}", file=sys.stderr, flush=True)
+        if faults and not options.anyway:
+            failed.append(name)
+        else:
+            rows.keep(name, found, its_origin._replace(marked=faults))
+            stored.append(name)
     if stored:
         print("waits until the load average has fallen", file=sys.stderr, flush=True)
         seconds, known = conditions.seconds_to_rest(), rows.origins()
@@ -116,31 +111,20 @@ def measure_all(options, names, folder):
     return 1 if failed else 0
 
 
-def draw():
-    """Draws the plots and writes the tables; returns the exit status."""
-    faults = plots.write(figures.PLOTS)
-    document.write()
-    return 1 if faults else 0
-
-
-def check():
-    tally = running.Tally()
-    plots.check(tally, figures.PLOTS)
-    document.check(tally)
-    return tally.end()
-
-
 def fault_of(options):
     """Returns why these options do not go together; an empty text if they do."""
-    unknown = [name for name in options.measurements if name not in ("front", *MEASUREMENTS)]
+    is_comparison = options.measurements[:1] == ["compare"]
+    unknown = [name for name in options.measurements if name not in ("front", *MEASUREMENTS) and not is_comparison]
     numbers = [number for number in (options.rounds, options.load) if number is not None]
     asked = [options.measurements, options.full, options.quick, options.instructions, options.only, numbers]
     faults = {
+        "compare takes two folders, and of the options --rounds, --load, --only and --anyway": is_comparison
+        and (len(options.measurements) != 3 or options.full or options.quick or options.instructions or options.write),
         f"no measurement: {' '.join(unknown)}": unknown,
         "--draw and --check measure nothing, and take no other option": (options.draw or options.check) and any(asked),
         "--write stores whole measurements: not with --only": options.write and options.only,
         "--rounds is 1 or more, --load 0 or more": options.rounds == 0 or min(numbers, default=0) < 0,
-        "--anyway is for --write": options.anyway and not options.write,
+        "--anyway is for --write": options.anyway and not options.write and not is_comparison,
     }
     return next((fault for fault, holds in faults.items() if holds), "")
 
@@ -149,7 +133,13 @@ def run(options):
     if fault_of(options):
         options.parser.error(fault_of(options))
     if options.check:
-        return check()
+        plots.check(options.tally, figures.PLOTS)
+        return document.check(options.tally)
+    if options.measurements[:1] == ["compare"]:
+        peers, rounds = Peers(options.temporary), options.rounds or PROCESSES["full"]
+        bench = Bench(peers, options.temporary, rounds, RUNS["full"], 0, True, False, options.only)
+        folders = [os.path.join(options.folder_of_call, folder) for folder in options.measurements[1:]]
+        return comparing.compare(bench, folders, comparing.LOADS if options.load is None else [options.load], options.anyway)
     status = 0
     if not options.draw:
         asked = {*(options.measurements or MEASUREMENTS), *(FRONT if "front" in options.measurements else [])}
@@ -157,8 +147,8 @@ def run(options):
         missing = [path for path in dict.fromkeys(path for name in names for path in PROGRAMS[name]) if not os.path.isfile(path)]
         if missing:
             sys.exit(f"missing: {' '.join(missing)}: `make` and `make lib` build them")
-        with tempfile.TemporaryDirectory() as folder:
-            status = measure_all(options, names, folder)
+        status = measure_all(options, names, options.temporary)
     if options.draw or options.write:
-        status = draw() or status
+        status = 1 if plots.write(figures.PLOTS) else status
+        document.write()
     return status

@@ -1,5 +1,4 @@
 """What is measured: for each measurement its cases, and the programs that are compared on them."""
-import dataclasses
 
 from ..repository import TOP
 from . import inputs, processes
@@ -25,6 +24,8 @@ RODS = [(640_000, 10_000, 100), (640_000, 1_000, 100), (64_000, 100, 100)]
 BODY_CELLS, BODY_STEPS = 120_000, 100
 BODIES = [100, 200, 500, 800, 1_000, 1_500, 2_000, 4_000, 10_000]
 LIBRARY_STEPS = 999_999
+# the lines of texts, the quick form's first
+SIZES = [200_000, 1_000_000]
 GRID_WIDTH, GRID_STEPS = 16, 100
 GRID_TASKS = GRID_WIDTH * GRID_STEPS
 GRID_PLACES = [(1, 1), (1, 4), (2, 2), (4, 1)]
@@ -34,9 +35,7 @@ PATTERNS_OF_TASKS = [
 ]
 QUICK_PATTERNS = ["stencil", "spread"]
 # the options of those patterns that have some
-PATTERN_OPTIONS = {
-    "nearest": ["--radius", "2"], "spread": ["--seed", "0"], "random_nearest": ["--radius", "2", "--seed", "0"],
-}
+PATTERN_OPTIONS = {"nearest": ["--radius", "2"], "spread": ["--seed", "0"], "random_nearest": ["--radius", "2", "--seed", "0"]}
 # iterations of the kernel in a task, and which of these sizes one worker has, and four workers
 ITERATIONS = [50 * 2**power for power in range(11)]
 ALONE, TOGETHER = ITERATIONS[:8], ITERATIONS[3:]
@@ -55,6 +54,11 @@ def chosen(bench, *names):
     return bench.only in " ".join(names)
 
 
+def fits(pool, place):
+    """Whether a pool can run there: the last one has too many events at two nodes and more."""
+    return pool != "product:64:1:0" or place[0] == 1
+
+
 def texts(bench, measurement, kind, lines, write):
     """`tp sim` or `tp audit` on a text, compared with the hand-written core with each kind of map."""
     name = f"{kind}, {lines:,} lines"
@@ -65,40 +69,28 @@ def texts(bench, measurement, kind, lines, write):
         count = sum(1 for _ in text)
     hashed = bench.peers.rust("texts", "texts.rs")
     ordered = bench.peers.rust("texts_sorted", "texts.rs", "--cfg", "sorted")
-    peers = [
-        Candidate("core with a HashMap", [hashed, measurement]),
-        Candidate("core with a BTreeMap", [ordered, measurement]),
-    ]
+    peers = [Candidate("core with a HashMap", [hashed, measurement]), Candidate("core with a BTreeMap", [ordered, measurement])]
     case = Case(measurement, name, "line", count, path)
     return measure(bench, case, there(Candidate("tp", [TP, measurement]), *peers))
 
 
-def sizes(bench):
-    return [200_000] if bench.is_quick else [200_000, 1_000_000]
-
-
 def sim(bench):
-    for lines in sizes(bench):
+    for lines in SIZES[: 1 if bench.is_quick else 2]:
         yield from texts(bench, "sim", "steps of tasks", lines, lambda out: inputs.write_task_steps(out, lines))
         yield from texts(bench, "sim", "all steps", lines, lambda out: inputs.write_all_steps(out, lines, False))
 
 
 def audit(bench):
-    for lines in sizes(bench):
+    for lines in SIZES[: 1 if bench.is_quick else 2]:
         yield from texts(bench, "audit", "all steps", lines, lambda out: inputs.write_all_steps(out, lines, True))
 
 
 def run(bench):
-    """The pools of `tp run`, at nodes by workers, compared with the other runtimes and with the tasks in sequence.
-
-    The runs that are timed are those of `samples pool`, which calls the same function; instructions are those of `tp run`.
-    """
+    """The pools of `tp run`: timed are the runs of `samples pool`, which calls the same function; instructions are those of `tp run`."""
     peers = bench.peers
     for pool, tasks in TASKS.items():
-        # the last pool has too many events at two nodes and more
-        places = [place for place in PLACES if pool != "product:64:1:0" or place[0] == 1]
-        places = [place for place in places if not bench.is_quick or place in [(1, 1), (2, 2), (8, 8)]]
-        for place in places if chosen(bench, pool) else []:
+        places = [(1, 1), (2, 2), (8, 8)] if bench.is_quick else PLACES
+        for place in (place for place in places if fits(pool, place) and chosen(bench, pool)):
             candidates = there(
                 *by_workers("tp", [*POOL, pool], [place], [TP, "run", pool]),
                 *by_workers("runtime by hand", [peers.rust("runtime", "runtime/main.rs"), pool], [place]),
@@ -123,7 +115,6 @@ def grid_programs(bench, arguments, places):
 
 
 def kernel_of(bench):
-    """Returns what times an iteration: one task of many. All programs print the same for it."""
     candidates = grid_programs(bench, ["no_comm", "1", "1", str(KERNEL_ITERATIONS)], GRID_PLACES[:1])
     case = Case("patterns", f"one task, {KERNEL_ITERATIONS:,} iterations", "task", 1)
     compare(case, candidates)
@@ -141,7 +132,7 @@ def grid(bench, pattern, iterations, places, kernel):
 
 def grids(bench):
     """`patterns` on grids of Task Bench, with tasks of many sizes."""
-    bench = dataclasses.replace(bench, counts=False)
+    bench = bench._replace(counts=False)
     names = [name for name in (QUICK_PATTERNS if bench.is_quick else PATTERNS_OF_TASKS) if chosen(bench, name)]
     kernel = kernel_of(bench) if names else None
     for name in names:
@@ -158,7 +149,6 @@ def rod_peers(bench, arguments, places):
 
 
 def rod(bench):
-    """`heat` on a rod of cells."""
     loop = bench.peers.rust("rod", "rod.rs")
     for cells, block, steps in RODS[-1:] if bench.is_quick else RODS:
         name = f"{cells:,} cells in blocks of {block:,}, {steps} steps"
@@ -173,7 +163,6 @@ def rod(bench):
 
 
 def body(bench):
-    """`heat` in blocks of many sizes."""
     path = bench.file(f"cells-{BODY_CELLS}", lambda out: inputs.write_cells(out, BODY_CELLS))
     for block in BODIES[::2] if bench.is_quick else BODIES:
         arguments = [str(BODY_STEPS), str(block)]
@@ -181,7 +170,7 @@ def body(bench):
         if chosen(bench, name):
             candidates = by_workers("heat", [*HEAT, *arguments], GRID_PLACES) + rod_peers(bench, arguments, GRID_PLACES[:2])
             case = Case("body", name, "body", -(-BODY_CELLS // block) * BODY_STEPS, path)
-            yield from measure(dataclasses.replace(bench, counts=False), case, there(*candidates))
+            yield from measure(bench._replace(counts=False), case, there(*candidates))
 
 
 def product(bench):
@@ -196,12 +185,11 @@ def product(bench):
 
 
 def library(bench):
-    """Steps that a program in C reports to the library, and the same steps of the hand-written core: none of them, and many."""
     for kind in ("tasks", "messages"):
         for steps in (0, LIBRARY_STEPS) if chosen(bench, f"steps of {kind}") else ():
             arguments = [kind, str(steps)]
             candidates = there(
-                Candidate("library from C", [bench.peers.library_steps(), *arguments]),
+                Candidate("library from C", [bench.peers.over_library("library_steps"), *arguments]),
                 Candidate("core with a HashMap", [bench.peers.rust("core_steps", "core_steps.rs"), *arguments]),
             )
             yield from measure(bench, Case("library", f"{steps:,} steps of {kind}", "step", steps), candidates)

@@ -6,7 +6,6 @@ import time
 
 from .. import running
 from ..repository import TOP, processors, text_of
-from .measuring import counter
 from .rows import Origin
 
 # the load average of a minute before a series, and the processors that others use during a measurement, at most
@@ -27,7 +26,6 @@ def now():
 
 
 def others(start, end):
-    """Returns how many processors other programs used on average."""
     seconds, all_used, own_used = (after - before for before, after in zip(start, end))
     return round(max(all_used - own_used, 0.0) / seconds, 2)
 
@@ -57,19 +55,15 @@ def first_line(*command):
     return running.run(command, cwd=TOP).out.decode().partition("\n")[0]
 
 
-def commit():
-    """Returns the commit, and `and changes` if the tree differs from it."""
-    changed = first_line("git", "status", "--porcelain", "--untracked-files=no", "--", "crates", "bench", "tools")
-    return first_line("git", "rev-parse", "--short", "HEAD") + " and changes" * bool(changed)
-
-
 def origin_of(measurement, form, rows, seconds, load_average, others):
+    changed = first_line("git", "status", "--porcelain", "--untracked-files=no", "--", "crates", "bench", "tools")
+    commit = first_line("git", "rev-parse", "--short", "HEAD") + " and changes" * bool(changed)
     names = re.findall(r"^model name\s*: (.*)", text_of("/proc/cpuinfo"), re.M)
     memory = int(re.search(r"^MemTotal: +(\d+)", text_of("/proc/meminfo"), re.M)[1])
     compilers = filter(None, [first_line("rustc", "--version"), first_line("g++", "--version")])
     return Origin(
-        measurement, time.strftime("%Y-%m-%d"), commit(), form, rows[0].rounds, round(seconds), load_average,
+        measurement, time.strftime("%Y-%m-%d"), commit, form, rows[0].rounds, round(seconds), load_average,
         names[0] if names else platform.machine(), processors(), memory / 2**20, f"{platform.system()} {platform.release()}",
         "; ".join(re.sub(r" *\([^)]*\)", "", compiler) for compiler in compilers),
-        counter() if any(row.instructions for row in rows) else "", others,
+        "cachegrind" if any(row.instructions for row in rows) else "", others,
     )

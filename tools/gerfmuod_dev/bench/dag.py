@@ -1,8 +1,7 @@
 """Task graphs with the caller's bodies: the programs of capi/examples and capi/bench, compared with OpenMP, oneTBB, StarPU and OpenBLAS.
 
-Each program measures all configurations of one process in turn, in each round, and checks each result against another
-method; a first round is not counted. Peers that need a process of their own run between. A program that cannot be
-compiled is named and left out.
+Each program measures all configurations of one process in turn, in each round, and checks each result against another method; a first round
+is not counted. Peers that need a process of their own run between. A program that cannot be compiled is named and left out.
 """
 import os
 import re
@@ -12,7 +11,7 @@ from typing import NamedTuple
 
 from .. import running, shared_object
 from ..repository import TOP
-from .measuring import busy_processes, quartiles
+from .measuring import busy_processes, quantiles
 from .peers import Peers
 from .rows import Row
 
@@ -67,11 +66,9 @@ class Process(NamedTuple):
 
 
 class Programs(Peers):
-    """The compiled programs of capi/examples and capi/bench."""
-
     def __init__(self, folder):
         super().__init__(folder, SOURCES)
-        self.over = shared_object.compile_team(folder), f"-L{TOP}/lib", "-lgerfmuod", "-pthread"
+        self.over = shared_object.compile_part(shared_object.TEAM, folder), f"-L{TOP}/lib", "-lgerfmuod", "-pthread"
 
     def own(self, name, folder="examples"):
         return self.program(name, C, f"{folder}/{name}.c", (*self.over, "-lm"))
@@ -85,9 +82,6 @@ class Programs(Peers):
         compiler = (*C, "-DHAVE_BLAS", "-DHAVE_STARPU", *(option for option in options if option not in libraries))
         return self.program("cholesky_starpu", compiler, "examples/cholesky.c", (*self.over, "-lopenblas", "-lm", *libraries))
 
-    def tbb(self):
-        return self.program("grain_tbb", CPP, "bench/peers/grain_tbb.cpp", ("-pthread", "-ltbb"))
-
 
 def times_of(process, rounds):
     """Returns the number of tasks and the milliseconds of each way of a process, in order; exits with status 1 if it fails."""
@@ -97,16 +91,6 @@ def times_of(process, rounds):
     if result.status or len(lines) != len(process.ways):
         raise SystemExit(f"{' '.join(command)}: {running.short(result.out, 2000)}, {result.description(2000)}")
     return [(int(tasks), [float(time) for time in times]) for _, tasks, *times in lines]
-
-
-def row_of(bench, case, way, tasks, times, counted):
-    """Returns the row of a way, with its instructions if they were counted."""
-    numbers = sorted(times)
-    lower, median, upper = quartiles(numbers)
-    return Row(
-        "dag", case, "task", tasks, way.program, way.nodes, way.workers, bench.load, len(numbers), median,
-        lower, upper, numbers[int(0.9 * (len(numbers) - 1))], None, None, None, None, counted,
-    )
 
 
 def compare(bench, case, processes, counted=None):
@@ -123,22 +107,24 @@ def compare(bench, case, processes, counted=None):
                 for way, (tasks, times) in zip(process.ways, times_of(process, rounds)):
                     found.setdefault(way, (tasks, []))[1].extend(times)
             left -= rounds
-    return [row_of(bench, case, way, *found[way], (counted or {}).get(way)) for way in found]
+    return [
+        Row(
+            "dag", case, "task", tasks, way.program, way.nodes, way.workers, bench.load, len(times), *quantiles(times),
+            None, None, None, None, (counted or {}).get(way),
+        ) for way, (tasks, times) in found.items()
+    ]
 
 
 def cholesky(bench, programs):
-    """Measures Cholesky factorizations with kernels of OpenBLAS."""
     sizes = [(1024, 128)] if bench.is_quick else CHOLESKY
     whole = [Way("OpenBLAS dpotrf", f"whole:{workers}", 1, workers) for workers in (1, WORKERS)]
     ways, with_starpu = [LOOP, *POOL, OPENMP, *whole], [Way("StarPU", "starpu", 1, WORKERS)]
     one_thread = {"OPENBLAS_NUM_THREADS": "1"}
     starpu = {**one_thread, "STARPU_NCPU": str(WORKERS), "STARPU_SCHED": "lws", "STARPU_SILENT": "1", "STARPU_HOME": bench.folder}
-    for order, tile in sizes:
-        size = [str(order), str(tile)]
-        yield from compare(bench, f"Cholesky, order {order}, tiles of {tile}", [
-            Process(programs.cholesky(), size, ways, one_thread),
-            Process(programs.starpu(), size, with_starpu, starpu),
-        ])
+    for size in sizes:
+        words, case = list(map(str, size)), "Cholesky, order {}, tiles of {}".format(*size)
+        own = Process(programs.cholesky(), words, ways, one_thread), Process(programs.starpu(), words, with_starpu, starpu)
+        yield from compare(bench, case, own)
 
 
 def jacobi_and_sort(bench, programs):
@@ -152,14 +138,9 @@ def jacobi_and_sort(bench, programs):
             yield from compare(bench, case.format(*size), [Process(programs.own(name), [*map(str, size)], its_ways)])
 
 
-def instructions(process):
-    """Returns the instructions of one round, by the difference of processes with one round and none."""
-    none, one = (running.instructions(process.command(rounds), env={**os.environ, **NO_STRING_MOVES}) for rounds in (0, 1))
-    return one - none
-
-
 def on_tbb(programs, size, threads):
-    return Process(programs.tbb(), size, [Way("oneTBB flow graph", str(threads), 1, threads)])
+    program = programs.program("grain_tbb", CPP, "bench/peers/grain_tbb.cpp", ("-pthread", "-ltbb"))
+    return Process(program, size, [Way("oneTBB flow graph", str(threads), 1, threads)])
 
 
 def size_of(shape, tasks, iterations):
@@ -168,17 +149,18 @@ def size_of(shape, tasks, iterations):
 
 
 def instructions_by_way(bench, programs, shape):
-    """Returns the instructions of one round with empty bodies and one thread; none if they are not counted."""
+    """Returns the instructions of one round, by the difference to none, with empty bodies and one thread; none if they are not counted."""
     if not bench.counts or bench.load or not shutil.which("valgrind"):
         return {}
-    size = size_of(shape, COUNTED_TASKS, 0)
-    processes = [Process(programs.own("grain", "bench"), size, [way]) for way in (POOL[0], TRACED, OPENMP_ALONE)]
-    processes.append(on_tbb(programs, size, 1))
-    return {process.ways[0]: instructions(process) * EMPTY_TASKS // COUNTED_TASKS for process in processes if process.program}
+    size, counts = size_of(shape, COUNTED_TASKS, 0), {}
+    own = [Process(programs.own("grain", "bench"), size, [way]) for way in (POOL[0], TRACED, OPENMP_ALONE)]
+    for process in (process for process in [*own, on_tbb(programs, size, 1)] if process.program):
+        none, one = (running.instructions(process.command(rounds), env={**os.environ, **NO_STRING_MOVES}) for rounds in (0, 1))
+        counts[process.ways[0]] = (one - none) * EMPTY_TASKS // COUNTED_TASKS
+    return counts
 
 
 def empty(bench, programs):
-    """Measures the overhead of a task: graphs with empty bodies."""
     ways = [*POOL, TRACED, OPENMP_ALONE, OPENMP]
     for shape in ["wave", "three"] if bench.is_quick else SHAPES:
         case = f"{shape}, empty bodies"
@@ -188,14 +170,9 @@ def empty(bench, programs):
             yield from compare(bench, case, [own, *(on_tbb(programs, size, threads) for threads in (1, WORKERS))], counted)
 
 
-def iterations_per_microsecond(programs):
-    (_, times), = times_of(Process(programs.own("grain", "bench"), size_of("wide", 1, CALIBRATION), [LOOP]), 3)
-    return CALIBRATION / (min(times) * 1000)
-
-
 def bodies(bench, programs):
-    """Measures graphs with bodies of a few microseconds, for METG(50%)."""
-    speed = iterations_per_microsecond(programs)
+    (_, times), = times_of(Process(programs.own("grain", "bench"), size_of("wide", 1, CALIBRATION), [LOOP]), 3)
+    speed = CALIBRATION / (min(times) * 1000)
     ways = [LOOP, *POOL[1:], OPENMP]
     for shape in ["stencil"] if bench.is_quick else ["stencil", "wave", "three"]:
         for microseconds in BODIES[1::2] if bench.is_quick else BODIES:

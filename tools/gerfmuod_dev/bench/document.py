@@ -14,20 +14,10 @@ PAGES = "docs/PERFORMANCE.md", DETAILS, "README.md"
 # tables of details.md, each with its measurement
 MORE = {"more": ("run", tables.more_of_pools), "kernels": ("patterns", tables.kernels)}
 BLOCK = re.compile(r"(<!-- bench (\w+) -->\n).*?(<!-- end of bench -->\n)", re.S)
-PLOT_TITLES = {
-    "time-by-nodes": "Microseconds a task against nodes and workers, for three pools and four programs",
-    "instructions-a-task": "Instructions a task of each program at one node with one worker",
-    "efficiency-by-task": "Which part of four workers' time is kernels, against the size of a task, for two patterns",
-    "metg-by-pattern": "METG(50%) of each pattern, for five programs at one node with four workers",
-    "speed-up-by-body": "How many times as fast four workers are as one, against the length of a body",
-}
 
 
 def refusal_of(measurements, folder):
-    """Returns what a page says instead of a table of these measurements; an empty text if they have one.
-
-    No table outside of docs/measurements is drawn from rows that are marked, and none from rows of several series.
-    """
+    """Returns what a page says instead of a table of no rows, of several series, or of marked rows outside of docs/measurements."""
     command, known = f"tools/dev bench {' '.join(measurements)} --full --write", origins()
     if not all(map(kept, measurements)):
         return f"Not measured: `{command}` does it."
@@ -50,12 +40,11 @@ def block(name, folder):
     if name == "front":
         return tables.front(*map(kept, FRONT))
     pictures = "figures/" if folder else "../figures/"
-    plots = [f"![{PLOT_TITLES[plot]}]({pictures}{plot}.svg)" for plot in figures.of(name)]
+    plots = [f"![{figures.PLOTS[plot][2]}]({pictures}{plot}.svg)" for plot in figures.of(name)]
     return "\n\n".join([table_of(kept(measurement)), *plots, f"All rows: [{measurement}.csv]({folder}{measurement}.csv)."])
 
 
 def blocks(page):
-    """Yields the name of each block of a page, its text, and what it is by the stored rows."""
     for found in BLOCK.finditer(text_of(f"{TOP}/{page}")):
         yield found[2], found[0], f"{found[1]}\n{block(found[2], '' if page == DETAILS else 'measurements/')}\n\n{found[3]}"
 

@@ -1,11 +1,11 @@
 """The plots of measurements: which numbers each one shows, as `drawing.py` takes them, from the stored rows."""
 import os
 
-from ..repository import TOP
+from ..repository import figure
 from . import metg
 from .cases import PLACES, TASKS
 from .rows import kept
-from .tables import BODY_PLACES, bodies, having, rest
+from .tables import BODY_PLACES, bodies, having
 
 RUNTIMES = ["tp", "runtime by hand", "oneTBB flow graph", "OpenMP tasks"]
 POOLS = [pool for pool in TASKS if pool != "product:64:1:0"]
@@ -27,8 +27,7 @@ def programs_in(rows, names):
 
 
 def time_by_nodes(rows):
-    """Microseconds a task against nodes and workers, a panel for each pool."""
-    rows, panels = rest(rows), []
+    rows, panels = having(rows, load=0), []
     programs = programs_in(rows, RUNTIMES)
     for pool in POOLS:
         own = [having(rows, case=pool, program=program) for program in programs]
@@ -39,7 +38,6 @@ def time_by_nodes(rows):
 
 
 def instructions_a_task(rows):
-    """Instructions a task of each program, at one node with one worker."""
     names, groups = [*RUNTIMES, "one after the other"], []
     for pool in TASKS:
         found = {row.program: ("", row.instructions / row.units) for row in rows if row.case == pool and row.instructions}
@@ -57,7 +55,6 @@ def efficiency_by_task(rows):
 
 
 def metg_by_pattern(rows):
-    """METG(50%) of each program at one node with four workers, a group of bars for each pattern."""
     programs, groups, signs = programs_in(rows, GRID_PROGRAMS), [], {"under": "<", "over": ">"}
     for pattern in metg.patterns_of(rows):
         found = [metg.metg(metg.curve(rows, pattern, name, 1, 4)) for name in programs]
@@ -66,35 +63,29 @@ def metg_by_pattern(rows):
 
 
 def speed_up_by_body(rows):
-    """The speed-up over one worker, against the length of a body."""
     names = ["heat, 1×4", "heat, 2×2", "heat, 4×1", "oneTBB, 4 threads", "OpenMP, 4 threads"]
     own = [[body for body in bodies(rows) if place in body.speed_ups] for place in BODY_PLACES]
-    lines = [[(body.microseconds[place[0]], body.speed_ups[place]) for body in line] for place, line in zip(BODY_PLACES, own)]
+    lines = [[(body.microseconds[place[0]], body.speed_ups[place][0]) for body in line] for place, line in zip(BODY_PLACES, own)]
     return lines_plot(names, [("", lines)], "microseconds of a body at one worker", "times as fast as one worker")
 
 
-# each plot with its measurement
+# each plot with its measurement and its title
 PLOTS = {
-    "time-by-nodes": ("run", time_by_nodes),
-    "instructions-a-task": ("run", instructions_a_task),
-    "efficiency-by-task": ("patterns", efficiency_by_task),
-    "metg-by-pattern": ("patterns", metg_by_pattern),
-    "speed-up-by-body": ("body", speed_up_by_body),
+    "time-by-nodes": ("run", time_by_nodes, "Microseconds a task against nodes and workers, for three pools and four programs"),
+    "instructions-a-task": ("run", instructions_a_task, "Instructions a task of each program at one node with one worker"),
+    "efficiency-by-task": (
+        "patterns", efficiency_by_task, "Which part of four workers' time is kernels, against the size of a task, for two patterns"),
+    "metg-by-pattern": ("patterns", metg_by_pattern, "METG(50%) of each pattern, for five programs at one node with four workers"),
+    "speed-up-by-body": ("body", speed_up_by_body, "How many times as fast four workers are as one, against the length of a body"),
 }
 
 
 def plot_of(name):
-    """Returns the numbers of a plot; nothing if its measurement is not stored or has none of them."""
-    measurement, numbers_of = PLOTS[name]
+    measurement, numbers_of, _ = PLOTS[name]
     rows = kept(measurement)
     plot = numbers_of(rows) if rows else {}
     return plot if plot.get("panels") or plot.get("groups") else None
 
 
-def path_of(name):
-    return f"{TOP}/docs/figures/{name}.svg"
-
-
 def of(measurement):
-    """Returns the names of the plots of a measurement that are drawn."""
-    return [name for name, (source, _) in PLOTS.items() if source == measurement and os.path.exists(path_of(name))]
+    return [name for name, (source, _, _) in PLOTS.items() if source == measurement and os.path.exists(figure(name))]

@@ -9,9 +9,7 @@ STRETCH = 4_000
 KINDS = {"insert": 16, "supply": 24, "begin": 16, "done": 16, "send": 5, "receive": 6, "end": 6, "open": 3, "close": 3}
 
 # steps that are refused, with a fresh number
-REFUSED = [
-    "supply {}", "begin {}", "done {}", "insert 8 {} 1", "close 0 999999", "recv 0 999999", "send 3 3 {}", "up 0",
-]
+REFUSED = ["supply {}", "begin {}", "done {}", "insert 8 {} 1", "close 0 999999", "recv 0 999999", "send 3 3 {}", "up 0"]
 
 
 def write_cells(out, count):
@@ -31,32 +29,27 @@ class Writer:
     def __init__(self, generator, is_trace):
         self.generator, self.is_trace = generator, is_trace
         self.lines = ["trace 1"] * is_trace + [f"nodes {NODES}"]
-        self.pending = [1] * NODES
-        self.home, self.waiting, self.ready, self.running = [], deque(), [], []
+        self.pending, self.home = [1] * NODES, []
+        # tasks with the number of their missing inputs, ready and running ones, actions, and messages that are sent, received and kept
+        self.waiting, self.ready, self.running = deque(), [], []
         self.actions, self.under, self.received, self.anchor = [], deque(), [], []
-        self.messages = self.opened = self.taken = 0
-        self.waves, self.last = 0, None
+        self.messages = self.opened = self.taken = self.waves = 0
+        self.last = None
 
     def write(self, *parts):
         self.lines.append(" ".join(map(str, parts)))
 
     def take_any(self, items):
-        """Removes a random item from a list and returns it."""
         place = self.generator.randrange(len(items))
         items[place], items[-1] = items[-1], items[place]
         return items.pop()
 
     def active(self):
-        """Returns an active node, or None."""
         first = self.generator.randrange(NODES)
         return next((number % NODES for number in range(first, first + NODES) if self.pending[number % NODES]), None)
 
     def wait(self, task, inputs):
-        """Has a task wait for this number of further inputs."""
-        if inputs:
-            self.waiting.append((task, inputs))
-        else:
-            self.ready.append(task)
+        self.waiting.append((task, inputs)) if inputs else self.ready.append(task)
 
     def insert(self):
         node, inputs, task = self.active(), self.generator.choice([0, 1, 1, 2, 2, 3]), len(self.home)
@@ -86,56 +79,56 @@ class Writer:
     def send(self):
         node = self.active()
         if node is not None:
-            to = (node + self.generator.randrange(1, NODES)) % NODES
-            self.write("send", node, to, self.messages)
-            self.under.append((to, self.messages))
+            self.under.append(((node + self.generator.randrange(1, NODES)) % NODES, self.messages))
+            self.write("send", node, *self.under[-1])
             self.messages += 1
 
     def receive(self):
         if self.under:
-            to, message = self.under.popleft()
-            self.write("recv", to, message)
-            self.pending[to] += 1
+            self.received.append(self.under.popleft())
+            self.write("recv", *self.received[-1])
+            self.pending[self.received[-1][0]] += 1
             self.taken += 1
-            self.received.append((to, message))
-
-    def end(self):
-        if self.received:
-            to, message = self.take_any(self.received)
-            self.write("end", to, message)
-            self.pending[to] -= 1
 
     def open(self):
         node = self.active()
         if node is not None:
-            self.write("open", node, self.opened)
-            self.pending[node] += 1
             self.actions.append((node, self.opened))
+            self.write("open", *self.actions[-1])
+            self.pending[node] += 1
             self.opened += 1
 
-    def close(self):
-        if self.actions:
-            node, action = self.take_any(self.actions)
-            self.write("close", node, action)
+    def finish(self, word, things):
+        """Ends an action, or the handling of a message."""
+        if things:
+            node, number = self.take_any(things)
+            self.write(word, node, number)
             self.pending[node] -= 1
+
+    def end(self):
+        self.finish("end", self.received)
+
+    def close(self):
+        self.finish("close", self.actions)
 
     def refused(self):
         """Writes a step that is refused in every state."""
         self.write(self.generator.choice(REFUSED).format(len(self.home)))
 
     def drain(self, left):
-        """Ends everything except for this number of messages."""
+        """Ends everything except for this number of messages, and writes two waves."""
         self.received += self.anchor
         self.anchor = []
         while len(self.under) > left:
             self.receive()
-        for items, step in ((self.received, self.end), (self.actions, self.close), (self.waiting, self.supply),
-                           (self.ready, self.begin), (self.running, self.done)):
+        ends = (self.received, self.end), (self.actions, self.close), (self.waiting, self.supply)
+        for items, step in (*ends, (self.ready, self.begin), (self.running, self.done)):
             while items:
                 step()
+        for _ in range(2):
+            self.wave()
 
     def wave(self):
-        """Writes a wave over idle nodes, and its judgement."""
         sums = self.messages, self.taken
         claim = f"ended {self.waves}" if self.last == sums and sums[0] == sums[1] else "not"
         self.lines += ["start", *(f"down {node}" for node in range(1, NODES))]
@@ -145,7 +138,6 @@ class Writer:
 
 
 def busy(writer, lines):
-    """Writes lines of all kinds of work, up to this number of lines."""
     steps = [getattr(writer, kind) for kind in KINDS]
     while len(writer.lines) < lines:
         if not writer.is_trace and writer.generator.random() < 0.08:
@@ -155,7 +147,6 @@ def busy(writer, lines):
 
 
 def write_all_steps(out, lines, is_trace):
-    """Writes a text of about this number of lines with all kinds of steps, which ends with the judged end of its pool."""
     writer = Writer(random.Random(7), is_trace)
     busy(writer, STRETCH)
     for node in range(NODES):
@@ -166,19 +157,14 @@ def write_all_steps(out, lines, is_trace):
         if not writer.under:
             writer.send()
         writer.drain(1)
-        writer.wave()
-        writer.wave()
         # a message that is received and not ended keeps its node active
         writer.receive()
         writer.anchor, writer.received = writer.received, []
     writer.drain(0)
-    writer.wave()
-    writer.wave()
     out.writelines(f"{line}\n" for line in writer.lines)
 
 
 def write_task_steps(out, lines):
-    """Writes a script of about this number of lines with the steps of tasks alone."""
     writer = Writer(random.Random(7), False)
     steps = [writer.insert, writer.supply, writer.begin, writer.done, writer.refused]
     while len(writer.lines) < lines:

@@ -2,11 +2,10 @@
 import contextlib
 import os
 import re
-import shutil
 import statistics
 import subprocess
 import sys
-from dataclasses import astuple, dataclass, fields
+from typing import NamedTuple
 
 from .. import running
 from .rows import Row
@@ -17,8 +16,7 @@ WITH_MESSAGES = ["run", "patterns"]
 TIMED = ["run", "patterns", "body", "rod"]
 
 
-@dataclass(frozen=True)
-class Case:
+class Case(NamedTuple):
     """What all programs of a comparison have to do: a number of units of work, on an input."""
 
     measurement: str
@@ -28,12 +26,8 @@ class Case:
     stdin: str = os.devnull
 
 
-@dataclass(frozen=True)
-class Candidate:
-    """A program of a comparison with its command, and the nodes and workers that it uses.
-
-    `counted` is the command whose instructions are counted, if it is another one: its output has to be the same.
-    """
+class Candidate(NamedTuple):
+    """A program with its command, nodes and workers; `counted` is the command whose instructions are counted, if it is another one."""
 
     program: str
     command: list
@@ -42,10 +36,8 @@ class Candidate:
     counted: list = None
 
 
-@dataclass(frozen=True)
-class Kernel:
-    """One task of many iterations with which each program times an iteration, in each round: `least` has the least
-    nanoseconds so far, by program."""
+class Kernel(NamedTuple):
+    """One task of many iterations with which each program times an iteration in each round; `least` has its least nanoseconds."""
 
     case: Case
     candidates: list
@@ -58,12 +50,8 @@ class Kernel:
             self.least[candidate.program] = min(time, self.least.get(candidate.program, time))
 
 
-@dataclass(frozen=True)
-class Cost:
-    """The cost of a process: nanoseconds, nanoseconds of processor, context switches, page faults, KiB.
-
-    If the process timed its runs, these are the numbers of one run, and `time` is that of the first.
-    """
+class Cost(NamedTuple):
+    """The cost of a process, or of one run of it if it times them: nanoseconds, those of processor, context switches, page faults, KiB."""
 
     time: float
     processor: float
@@ -72,10 +60,8 @@ class Cost:
     memory: float
 
 
-@dataclass(frozen=True)
-class Bench:
-    """How programs are measured: the peers, a folder for files, the rounds, how many runs a process makes in a round if it
-    times them, the busy processes that run too, which cases."""
+class Bench(NamedTuple):
+    """How programs are measured: peers, a folder for files, rounds, runs of a process if it times them, busy processes, which cases."""
 
     peers: object
     folder: str
@@ -96,7 +82,6 @@ class Bench:
 
 
 def by_workers(program, command, configurations, counted=None):
-    """Returns a candidate for each number of nodes and workers."""
     candidates = []
     for nodes, workers in configurations:
         options = ["--nodes", str(nodes), "--workers", str(workers)]
@@ -115,10 +100,7 @@ def output_of(command, case):
 
 
 def compare(case, candidates):
-    """Exits with status 1 if the output of a program is not that of the first program.
-
-    The first program at the same number of nodes that prints its messages says how many there are.
-    """
+    """Exits with status 1 if a program's output, or its messages at a number of nodes, are not those of the first that prints them."""
     expected, sent = None, {}
     for candidate in candidates:
         for command in filter(None, [[*candidate.command, *timing(case, 2)], candidate.counted]):
@@ -142,7 +124,7 @@ def cost_of(bench, candidate, case):
     numbers = dict(re.findall(r"^([a-z]+) (\d+)$", output, re.M))
     if numbers.get("status") != "0":
         raise SystemExit(f"{' '.join(candidate.command)}: wait returns {numbers.get('status')}")
-    cost = Cost(*(int(numbers[field.name]) for field in fields(Cost)))
+    cost = Cost(*(int(numbers[name]) for name in Cost._fields))
     if not is_timed:
         return cost, [cost.time]
     first, *others = map(int, re.findall(r"^nanoseconds (\d+)$", output, re.M))
@@ -152,43 +134,21 @@ def cost_of(bench, candidate, case):
     return Cost(first, cost.processor / runs, cost.switches / runs, cost.faults / runs, cost.memory), others
 
 
-CACHEGRIND = (
-    ["valgrind", "--tool=cachegrind", "--cache-sim=no", f"--cachegrind-out-file={os.devnull}"],
-    rb"I +refs: +([\d,]+)",
-)
-
-
-def counter():
-    """Returns the name of the program that counts instructions here; an empty text if there is none."""
-    return "cachegrind" if shutil.which("valgrind") else ""
-
-
-def instructions(candidate, case):
-    """Returns the instructions of the whole process at one run, or None if they cannot be counted."""
-    if not counter():
-        return None
-    command, form = CACHEGRIND
-    found = re.search(form, running.run([*command, *(candidate.counted or candidate.command)], case.stdin).err, re.M)
-    return int(found[1].replace(b",", b"")) if found else None
-
-
-def quartiles(numbers):
-    """Returns the lower quartile, the median and the upper quartile."""
-    return statistics.quantiles(numbers, n=4, method="inclusive") if len(numbers) > 1 else numbers * 3
+def quantiles(numbers):
+    """Returns the median, the lower and the upper quartile, and what nine of ten of the numbers stay below."""
+    numbers = sorted(numbers)
+    lower, median, upper = statistics.quantiles(numbers, n=4, method="inclusive") if len(numbers) > 1 else numbers * 3
+    return median, lower, upper, numbers[int(0.9 * (len(numbers) - 1))]
 
 
 def row_of(case, candidate, bench, measured, counted):
-    """Returns the row of a program: the medians of its times and costs."""
-    costs = [cost for cost, _ in measured]
-    times = sorted(time / 1e6 for _, own in measured for time in own)
-    median = Cost(*map(statistics.median, zip(*map(astuple, costs))))
-    lower, middle, upper = quartiles(times)
-    processor = quartiles([cost.processor / 1e6 for cost in costs])
+    median = Cost(*map(statistics.median, zip(*(cost for cost, _ in measured))))
+    processor = quantiles([cost.processor / 1e6 for cost, _ in measured])
     own = (bench.runs, median.time / 1e6) if case.measurement in TIMED else (None, None)
     return Row(
         case.measurement, case.name, case.unit, case.units, candidate.program, candidate.nodes, candidate.workers,
-        bench.load, len(costs), middle, lower, upper, times[int(0.9 * (len(times) - 1))],
-        processor[1], float(median.switches), float(median.faults), median.memory / 1024, counted, *own, processor[0], processor[2],
+        bench.load, len(measured), *quantiles([time / 1e6 for _, times in measured for time in times]),
+        processor[0], float(median.switches), float(median.faults), median.memory / 1024, counted, *own, *processor[1:3],
     )
 
 
@@ -207,7 +167,7 @@ def measure(bench, case, candidates, kernel=None):
     rows = []
     for candidate, own in zip(candidates, measured):
         is_counted = bench.counts and not bench.load and candidate.nodes * candidate.workers == 1
-        counted = instructions(candidate, case) if is_counted else None
+        counted = running.instructions(candidate.counted or candidate.command, case.stdin) if is_counted else None
         row = row_of(case, candidate, bench, own, counted)
         rows.append(row._replace(kernel_nanoseconds=kernel.least[candidate.program]) if kernel else row)
     return rows
@@ -215,7 +175,6 @@ def measure(bench, case, candidates, kernel=None):
 
 @contextlib.contextmanager
 def busy_processes(count):
-    """Runs this number of processes that only take processor time."""
     busy = [subprocess.Popen([sys.executable, "-c", "while True: pass"]) for _ in range(count)]
     try:
         yield

@@ -5,11 +5,10 @@ the time of the run. The time of an iteration is the least of one task of many u
 round, so the machine's best speed counts. A task's size is the time of the run times the workers, divided by the tasks, so it includes the
 runtime's overhead. All times are those that the programs take of their own runs.
 """
-from dataclasses import dataclass
+from typing import NamedTuple
 
 
-@dataclass(frozen=True)
-class Point:
+class Point(NamedTuple):
     """A size of tasks, in microseconds: of a task, and of its kernel alone."""
 
     task: float
@@ -29,8 +28,7 @@ def spelt(microseconds):
     return f"{microseconds:.0f}" if microseconds >= 100 else f"{microseconds:.1f}" if microseconds >= 10 else f"{microseconds:.2f}"
 
 
-@dataclass(frozen=True)
-class Metg:
+class Metg(NamedTuple):
     """Microseconds of the smallest task; the bound is `under` or `over` if no measured size is on the other side, or empty."""
 
     bound: str
@@ -55,7 +53,6 @@ def patterns_of(rows):
 
 
 def iterations_of(case):
-    """Returns the iterations of each task of a case."""
     return int(case.split(", ")[1].split()[0].replace(",", ""))
 
 
@@ -66,7 +63,6 @@ def point_of(row, time="milliseconds"):
 
 
 def curve(rows, pattern, program, nodes, workers, time="milliseconds"):
-    """Returns the sizes of tasks that were measured, the smallest first."""
     own = [row for row in rows if (row.program, row.nodes, row.workers) == (program, nodes, workers)]
     own = sorted((row for row in own if pattern_of(row.case) == pattern), key=lambda row: iterations_of(row.case))
     return [point_of(row, time) for row in own]

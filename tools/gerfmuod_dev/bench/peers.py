@@ -41,16 +41,11 @@ class Peers:
     def depend(self, name):
         return self.program(name, (*CPP, "-fopenmp"), f"{name}.cpp")
 
-    def library_steps(self):
-        words = ("gcc", "-std=c11", "-O2", f"-I{TOP}/capi/include")
-        return self.program("library_steps", words, "library_steps.c", (f"-L{TOP}/lib", "-lgerfmuod", "-pthread"))
-
-    def processes(self):
-        words = ("gcc", "-std=c11", "-O2", f"-I{TOP}/capi/include")
-        return self.program("processes", words, "processes.c", (f"-L{TOP}/lib", "-lgerfmuod"))
+    def over_library(self, name, source=""):
+        compiler = ("gcc", "-std=c11", "-O2", f"-I{TOP}/capi/include")
+        return self.program(name, compiler, source or f"{name}.c", (f"-L{TOP}/lib", "-lgerfmuod", "-pthread"))
 
     @property
     def measure(self):
-        """The program that measures another one."""
         path = self.program("measure", (os.environ.get("CC") or "cc", "-O2"), "measure.c")
         return path or sys.exit("nothing can be measured without bench/peers/measure.c, which needs a C compiler")

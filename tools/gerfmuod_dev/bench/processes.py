@@ -5,11 +5,11 @@ counters over the same tree, Safra's ring (EWD 998), and repeated reductions of 
 """
 import re
 import sys
+from statistics import median
 
 from .. import mpi, running
 from ..c_programs import output_of
-from ..repository import TOP
-from . import measuring
+from .measuring import quantiles
 from .rows import ProcessRow
 
 # the argument of the programs for each detector, and its name in the rows; the last one needs MPI
@@ -20,7 +20,6 @@ CALLS = {"send": 1, "message": 2, "wave": 3}
 SIMULATED = [2**power for power in range(0, 21, 2)]
 # a process whose instructions are counted does this number of turns
 TURNS = 1_000_000
-NO_INPUT = measuring.Case("processes", "calls", "call", TURNS)
 NO_ROW = ProcessRow("processes", "", "", 1, 1, *[None] * 9)
 # lines that the programs print
 NUMBER = r"([\d.]+)"
@@ -51,10 +50,6 @@ def print_case(case):
     print(f"processes: {case}", file=sys.stderr, flush=True)
 
 
-def middle(numbers):
-    return sorted(numbers)[len(numbers) // 2]
-
-
 def row(case, argument, **values):
     """Returns the row of a detector. Open MPI does not count the messages of reductions."""
     if argument == "reductions":
@@ -63,7 +58,6 @@ def row(case, argument, **values):
 
 
 def idle(program, rounds):
-    """Measures the detection alone: every process finishes its only piece of work at a barrier."""
     for processes in PROCESSES:
         print_case(f"idle, {processes} processes")
         for argument in DETECTORS:
@@ -81,24 +75,19 @@ def search_tree(program, tree, rounds):
                 own.append(over_mpi(program, processes, [tree, argument, "right", str(seed)], SEARCH))
         for argument, own in searches.items():
             milliseconds, waves, messages = zip(*own)
-            times = sorted(1000 * time for time in milliseconds)
-            yield row(
-                f"tree {tree}", argument, processes=processes, rounds=rounds, microseconds=middle(times),
-                lower_quartile=times[rounds // 4], upper_quartile=times[rounds * 3 // 4], slowest_tenth=times[rounds * 9 // 10],
-                control_messages=middle(messages), waves=middle(waves),
-            )
+            numbers = [*quantiles([1000 * time for time in milliseconds]), median(messages), median(waves)]
+            yield row(f"tree {tree}", argument, processes=processes, rounds=rounds, **dict(zip(IDLE_FIELDS, numbers)))
 
 
 def calls(bench, program, rounds, turns):
-    """Measures calls: nanoseconds, and instructions, if they are counted."""
     for kind, calls_of_turn in CALLS.items():
         for argument in WITHOUT_MPI:
             print_case(f"calls, {kind}, {DETECTORS[argument]}")
             command = [program, "calls", kind, argument]
             times = [numbers_in(output_of([*command, str(turns)]), rf"calls, {NUMBER} ns each")[0] for _ in range(rounds)]
-            counted = [measuring.instructions(measuring.Candidate("", [*command, str(number)]), NO_INPUT) for number in (0, TURNS)]
-            count = (counted[1] - counted[0]) / TURNS / calls_of_turn if bench.counts and all(counted) else None
-            yield row(f"calls: {kind}", argument, rounds=rounds, nanoseconds_a_call=middle(times), instructions=count)
+            none, turned = (running.instructions([*command, str(number)]) if bench.counts else None for number in (0, TURNS))
+            count = (turned - none) / TURNS / calls_of_turn if none and turned else None
+            yield row(f"calls: {kind}", argument, rounds=rounds, nanoseconds_a_call=median(times), instructions=count)
 
 
 def simulated(program, sizes):
@@ -111,25 +100,15 @@ def simulated(program, sizes):
 
 
 def storms(program, sizes):
-    """Measures random programs over a network that brings control messages in any order, and some of them twice."""
     for processes in sizes:
         print_case(f"random programs, {processes:,} processes")
         waves, messages, _ = numbers_in(output_of([program, str(processes), "1"]), STORM)
         yield row("random programs", "proved", processes=processes, control_messages=messages, waves=waves)
 
 
-def compile_storm(folder):
-    """Returns the path of the compiled program capi/tests/process/storm.c."""
-    path = f"{folder}/storm"
-    source = f"{TOP}/capi/tests/process/storm.c"
-    output_of(["gcc", "-std=c11", "-O2", f"-I{TOP}/capi/include", "-o", path, source, f"-L{TOP}/lib", "-lgerfmuod"])
-    return path
-
-
 def measure(bench):
-    """Yields all rows. Without Open MPI those over MPI are left out."""
     quick = bench.is_quick
-    program = bench.peers.processes()
+    program = bench.peers.over_library("processes")
     if mpi.missing():
         print(f"{mpi.missing()}: not installed, so nothing is measured over MPI", file=sys.stderr)
     else:
@@ -138,4 +117,4 @@ def measure(bench):
     yield from calls(bench, program, bench.rounds, 1_000_000 if quick else 10_000_000)
     sizes = SIMULATED[:6] if quick else SIMULATED
     yield from simulated(program, sizes)
-    yield from storms(compile_storm(bench.folder), sizes[:-1:2] if quick else sizes[::2])
+    yield from storms(bench.peers.over_library("storm", "../../capi/tests/process/storm.c"), sizes[:-1:2] if quick else sizes[::2])

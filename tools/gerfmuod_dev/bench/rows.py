@@ -103,7 +103,6 @@ def named(kind):
 
 
 def spelt(value):
-    """Returns a number with the digits that are significant."""
     if isinstance(value, float):
         return f"{value:.4g}" if abs(value) < 1000 else f"{value:.0f}"
     return "" if value is None else str(value)
@@ -117,11 +116,6 @@ def text_of(rows, kind=Row):
     return text.getvalue()
 
 
-def value_of(text, kind):
-    """Returns the value of a field; None if a number is missing."""
-    return kind(text) if text or kind is str else None
-
-
 def read(path, kind=Row):
     """Returns the rows of a file; none if it does not exist. Columns of the end may be missing."""
     if not os.path.exists(path):
@@ -130,9 +124,10 @@ def read(path, kind=Row):
         first, *lines = csv.reader(text)
     if first != named(kind)[: len(first)]:
         raise SystemExit(f"{path}: its columns are not {','.join(named(kind))}")
-    kinds = [kind.__annotations__[field] for field in kind._fields]
+    kinds = kind.__annotations__.values()
     try:
-        return [kind(*map(value_of, line, kinds)) for line in lines]
+        # (a number that is missing is None)
+        return [kind(*(of(text) if text or of is str else None for text, of in zip(line, kinds))) for line in lines]
     except (TypeError, ValueError) as error:
         raise SystemExit(f"{path}: a row cannot be read: {error}") from None
 
@@ -143,18 +138,12 @@ def write(path, rows, kind=Row):
         file.write(text_of(rows, kind))
 
 
-def path_of(measurement):
-    return f"{FOLDER}/{measurement}.csv"
-
-
 def kind_of(measurement):
-    """Returns the kind of a measurement's rows."""
     return ProcessRow if measurement == "processes" else Row
 
 
 def kept(measurement):
-    """Returns the rows of a measurement that are stored in docs."""
-    return read(path_of(measurement), kind_of(measurement))
+    return read(f"{FOLDER}/{measurement}.csv", kind_of(measurement))
 
 
 def origins():
@@ -162,8 +151,7 @@ def origins():
 
 
 def keep(measurement, rows, origin):
-    """Stores the rows of a measurement in docs, instead of those that were there."""
-    write(path_of(measurement), rows, kind_of(measurement))
+    write(f"{FOLDER}/{measurement}.csv", rows, kind_of(measurement))
     keep_origins({measurement: origin})
 
 

@@ -7,25 +7,12 @@ from .tables import bodies
 MOST_EFFICIENCY = 1.05
 
 
-def has_times(row):
-    """Whether a row's median is positive and between its quartiles."""
-    return 0 < row.lower_quartile <= row.milliseconds <= row.upper_quartile
-
-
 def of_row(row):
     """Returns what is impossible in a row of `patterns`; an empty text if nothing is."""
     if not row.kernel_nanoseconds:
         return "it has no time of an iteration"
     efficiency = metg.point_of(row).efficiency
     return f"its kernels take {efficiency:.2f} of the workers' time" if efficiency > MOST_EFFICIENCY else ""
-
-
-def of_bodies(rows):
-    """Yields the speed-ups that are greater than the number of workers."""
-    for body in bodies(rows):
-        for (program, nodes, workers), speed_up in body.speed_ups.items():
-            if speed_up > MOST_EFFICIENCY * nodes * workers:
-                yield f"blocks of {body.block}, {program}, {nodes} by {workers}: {speed_up:.2f} times as fast as one worker"
 
 
 def missing(rows):
@@ -43,9 +30,13 @@ def impossible(measurement, rows):
     if measurement not in ("patterns", "body", "run", "rod"):
         return []
     names = {id(row): f"{row.case}, {row.program}, {row.where}" for row in rows}
-    found = [f"{names[id(row)]}: {row.milliseconds} ms is not a time" for row in rows if not has_times(row)]
-    if found:
-        return found
+    untimed = [row for row in rows if not 0 < row.lower_quartile <= row.milliseconds <= row.upper_quartile]
+    if untimed:
+        return [f"{names[id(row)]}: {row.milliseconds} ms is not a time" for row in untimed]
     if measurement == "patterns":
-        found = [f"{names[id(row)]}: {reason}" for row in rows if (reason := of_row(row))]
-    return found + (list(of_bodies(rows)) if measurement == "body" else [])
+        return [f"{names[id(row)]}: {reason}" for row in rows if (reason := of_row(row))]
+    return [
+        f"blocks of {body.block}, {program}, {nodes} by {workers}: {speed_up:.2f} times as fast as one worker"
+        for body in bodies(rows) for (program, nodes, workers), (speed_up, _, _) in body.speed_ups.items()
+        if measurement == "body" and speed_up > MOST_EFFICIENCY * nodes * workers
+    ]

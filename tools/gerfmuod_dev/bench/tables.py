@@ -9,23 +9,15 @@ from .cases import GRID_PLACES, LIBRARY_STEPS, MEASUREMENTS, PLACES, PRODUCT_PLA
 from .rows import Origin
 
 
-def rest(rows):
-    """Returns the rows that were measured without busy processes."""
-    return [row for row in rows if row.load == 0]
-
-
 def having(rows, **values):
-    """Returns the rows with these values."""
     return [row for row in rows if all(getattr(row, name) == value for name, value in values.items())]
 
 
 def found(rows, **values):
-    """Returns the first row with these values, or None."""
     return next(iter(having(rows, **values)), None)
 
 
 def distinct(rows, field):
-    """Returns the values of a field, each once."""
     return list(dict.fromkeys(getattr(row, field) for row in rows))
 
 
@@ -38,7 +30,6 @@ def cell(number, form="{:.2f}"):
 
 
 def with_quartiles(row, form="{:.1f}"):
-    """Returns the time of a row with its quartiles."""
     return f"{form.format(row.milliseconds)} ({form.format(row.lower_quartile)}–{form.format(row.upper_quartile)})" if row else ""
 
 
@@ -48,7 +39,6 @@ def overlap(one, other):
 
 
 def each_unit(row):
-    """Returns the instructions of a unit of work, or None if they were not counted."""
     return ratio(row.instructions, row.units) if row else None
 
 
@@ -69,12 +59,7 @@ def grid(head, rows, field, column_of, text_of):
     return pivot(head, distinct(rows, field), dict(zip(columns, columns)), lambda *key: texts_of_rows.get(key, ""))
 
 
-def spelt(places):
-    return [f"{nodes} by {workers}" for nodes, workers in places]
-
-
 def texts(rows):
-    """Returns a line for each text, with the numbers of all programs in their order."""
     columns = {
         "nanoseconds a line": lambda row: row.milliseconds * 1e6 / row.units,
         "instructions a line": each_unit,
@@ -89,7 +74,6 @@ def texts(rows):
 
 
 def instructions_of_pools(rows):
-    """Returns a line for each pool: the instructions of each program at one node with one worker."""
     programs, lines = distinct([row for row in rows if row.instructions], "program"), []
     for pool, tasks in TASKS.items():
         counts = {name: each_unit(found(rows, case=pool, nodes=1, workers=1, program=name)) for name in programs}
@@ -101,18 +85,6 @@ def instructions_of_pools(rows):
     return [title, table(head, lines)] if lines else []
 
 
-def by_places(rows, cell_of):
-    """Returns a line for each pool, with a cell for tp's row and the row of the hand-written runtime at each place."""
-
-    def cell_at(pool, place):
-        here = having(rows, case=pool, where=place)
-        pair = found(here, program="tp"), found(here, program="runtime by hand")
-        return cell_of(*pair) if all(pair) else ""
-
-    places = [place for place in spelt(PLACES) if having(rows, where=place)]
-    return pivot("Pool", distinct(rows, "case"), dict(zip(places, places)), cell_at)
-
-
 NO_DIFFERENCE = "no difference seen"
 
 
@@ -122,8 +94,7 @@ def ratio_text(middle, least, most):
 
 def ratio_of_rows(median, lower, upper, tp, other):
     """Returns the ratio of two rows with its quartiles, of a number whose median and quartiles are in these fields."""
-    pairs = (median, median), (lower, upper), (upper, lower)
-    ratios = [ratio(getattr(tp, own), getattr(other, its)) for own, its in pairs]
+    ratios = [ratio(getattr(tp, own), getattr(other, its)) for own, its in ((median, median), (lower, upper), (upper, lower))]
     return ratio_text(*ratios) if all(ratios) else ""
 
 
@@ -131,33 +102,38 @@ TIME = functools.partial(ratio_of_rows, "milliseconds", "lower_quartile", "upper
 PROCESSOR_TIME = functools.partial(ratio_of_rows, "processor_milliseconds", "processor_lower_quartile", "processor_upper_quartile")
 
 
-def switches(tp, other):
-    return ", ".join(f"{row.context_switches / row.units:.2f}" for row in (tp, other))
+def by_places(rows, title, cell_of):
+    """Returns a title, and a line for each pool, with a cell for tp's row and the row of the hand-written runtime at each place."""
+
+    def cell_at(pool, place):
+        pair = [found(rows, case=pool, where=place, program=program) for program in ("tp", "runtime by hand")]
+        return cell_of(*pair) if all(pair) else ""
+
+    places = [place for place in map("{0[0]} by {0[1]}".format, PLACES) if having(rows, where=place)]
+    return f"{title}:\n\n{pivot('Pool', distinct(rows, 'case'), dict(zip(places, places)), cell_at)}"
 
 
 def times(rows, busy=""):
-    return [f"Time of a run of tp by that of the runtime by hand{busy}:", by_places(rows, TIME)]
-
-
-def processors(rows, busy=""):
-    return [
-        f"Processor time of a run of tp by that of the runtime by hand{busy}, with a part of the process's start:",
-        by_places(rows, PROCESSOR_TIME),
-        f"Context switches a task, of tp and of the runtime by hand{busy}:",
-        by_places(rows, switches),
-    ]
+    return by_places(rows, f"Time of a run of tp by that of the runtime by hand{busy}", TIME)
 
 
 def pools(rows):
-    return "\n\n".join([*instructions_of_pools(rest(rows)), *times(rest(rows))])
+    rows = having(rows, load=0)
+    return "\n\n".join([*instructions_of_pools(rows), times(rows)])
 
 
 def more_of_pools(rows):
     """Returns what else was measured: processor time and context switches, and all of it on a machine that has other work."""
-    parts = processors(rest(rows))
-    for load in filter(None, distinct(rows, "load")):
-        own, busy = having(rows, load=load), f", next to {load} busy processes"
-        parts += [*times(own, busy), *processors(own, busy)]
+
+    def switches(*pair):
+        return ", ".join(f"{row.context_switches / row.units:.2f}" for row in pair)
+
+    parts, what = [], "Processor time of a run of tp by that of the runtime by hand{}, with a part of the process's start"
+    for load in distinct(rows, "load"):
+        own, busy = having(rows, load=load), f", next to {load} busy processes" if load else ""
+        parts += [times(own, busy)] if load else []
+        parts.append(by_places(own, what.format(busy), PROCESSOR_TIME))
+        parts.append(by_places(own, f"Context switches a task, of tp and of the runtime by hand{busy}", switches))
     return "\n\n".join(parts)
 
 
@@ -181,14 +157,10 @@ def grids(rows):
 
 
 def kernels(rows):
-    """Returns the time of an iteration of the kernel in each program."""
-
-    def number(program, number_of):
-        return cell(number_of([row.kernel_nanoseconds for row in having(rows, program=program)]))
-
+    own = {program: [row.kernel_nanoseconds for row in having(rows, program=program)] for program in distinct(rows, "program")}
     columns = {"least": min, "median": statistics.median, "most": max}
     title = "Nanoseconds an iteration, by one task of many, timed again for each pattern and size:\n\n"
-    return title + pivot("Program", distinct(rows, "program"), columns, number)
+    return title + pivot("Program", own, columns, lambda program, number_of: cell(number_of(own[program])))
 
 
 def milliseconds(places, rows):
@@ -198,11 +170,11 @@ def milliseconds(places, rows):
         lines = []
         for program in distinct(having(rows, case=case), "program"):
             own = having(rows, case=case, program=program)
-            here = [found(own, where=place) for place in spelt(places)]
+            here = [found(own, nodes=nodes, workers=workers) for nodes, workers in places]
             counted = next(filter(None, map(each_unit, own)), None)
             lines.append([program, *map(with_quartiles, here), f"{own[-1].MiB:.0f}", cell(counted, "{:.1f}")])
         whose = "a run" if rows[0].runs else "the whole process"
-        head = [f"Milliseconds of {whose} (quartiles)", *spelt(places), "MiB", f"instructions a {rows[0].unit}"]
+        head = [f"Milliseconds of {whose} (quartiles)", *map("{0[0]} by {0[1]}".format, places), "MiB", f"instructions a {rows[0].unit}"]
         parts += [f"{case[0].upper()}{case[1:]}:", table(head, lines)]
     return "\n\n".join(parts)
 
@@ -211,47 +183,40 @@ BODY_PLACES = [("heat", 1, 4), ("heat", 2, 2), ("heat", 4, 1), ("oneTBB flow gra
 
 
 class Body(NamedTuple):
-    """A size of blocks: microseconds of a body with one worker by program, and at each place the speed-up and its quartiles."""
+    """A size of blocks: microseconds of a body with one worker by program, and at each place the speed-up with its quartiles."""
 
     block: str
     microseconds: dict
     speed_ups: dict
-    quartiles: dict
-
-    def spelt(self, place):
-        return ratio_text(self.speed_ups[place], *self.quartiles[place]) if place in self.speed_ups else ""
-
-
-def body_of(block, rows):
-    alone = {row.program: row for row in rows if row.nodes * row.workers == 1}
-    speed_ups, quartiles = {}, {}
-    for row in rows:
-        if row.program in alone:
-            place, one = (row.program, row.nodes, row.workers), alone[row.program]
-            speed_ups[place] = one.milliseconds / row.milliseconds
-            quartiles[place] = one.lower_quartile / row.upper_quartile, one.upper_quartile / row.lower_quartile
-    return Body(block, {name: row.milliseconds * 1000 / row.units for name, row in alone.items()}, speed_ups, quartiles)
 
 
 def bodies(rows):
-    return [body_of(case.split(", ")[0].replace("blocks of ", ""), having(rows, case=case)) for case in distinct(rows, "case")]
+    found = {}
+    for row in rows:
+        block = found.setdefault(row.case, Body(row.case.split(", ")[0].replace("blocks of ", ""), {}, {}))
+        alone = having(rows, case=row.case, program=row.program, where="1 by 1")
+        if alone:
+            block.microseconds[row.program] = alone[0].milliseconds * 1000 / alone[0].units
+            fields = ("milliseconds",) * 2, ("lower_quartile", "upper_quartile"), ("upper_quartile", "lower_quartile")
+            speed_ups = [getattr(alone[0], own) / getattr(row, its) for own, its in fields]
+            block.speed_ups[row.program, row.nodes, row.workers] = speed_ups
+    return list(found.values())
 
 
 def twice_as_fast(sizes, place):
-    """Returns the microseconds of the smallest body from which on all that were measured are twice as fast at a place.
-
-    If smaller ones are twice as fast too, but not all up to this one, that is said.
-    """
+    """Returns the microseconds of the smallest body from which on all are twice as fast at a place, and whether some below are, too."""
     length, smaller = None, list(sizes)
-    while smaller and smaller[-1].speed_ups.get(place, 0) >= 2:
+    while smaller and smaller[-1].speed_ups.get(place, [0])[0] >= 2:
         length = smaller.pop().microseconds[place[0]]
-    some = ", and some below" * any(size.speed_ups.get(place, 0) >= 2 for size in smaller)
+    some = ", and some below" * any(size.speed_ups.get(place, [0])[0] >= 2 for size in smaller)
     return f"{length:.1f}{some}" if length else f"none{some.replace('below', 'sizes')}"
 
 
 def body(rows):
-    sizes = bodies(rows)
-    lines = [[size.block, cell(size.microseconds.get("heat"), "{:.1f}"), *map(size.spelt, BODY_PLACES)] for size in sizes]
+    sizes, lines = bodies(rows), []
+    for size in sizes:
+        ratios = [ratio_text(*size.speed_ups[place]) if place in size.speed_ups else "" for place in BODY_PLACES]
+        lines.append([size.block, cell(size.microseconds.get("heat"), "{:.1f}"), *ratios])
     lines.append(["twice as fast from", "", *(twice_as_fast(sizes, place) for place in BODY_PLACES)])
     names = [f"{name}, {nodes} by {workers}" for name, nodes, workers in BODY_PLACES]
     title = (
@@ -274,22 +239,14 @@ WITHOUT_RUNTIME = list(FRONT)[-2:]
 FRONT_POOLS = ["wavefront:64:64:0", "reduce:1024:0"]
 
 
-def front_line(head, rows, form):
-    """Returns a line of times: those are bold that the quartiles do not tell from the least one."""
-    best = min(filter(None, rows), key=lambda row: row.milliseconds)
-    cells = [with_quartiles(row, form) for row in rows]
-    return [head, *(f"**{text}**" if row and overlap(row, best) else text for row, text in zip(rows, cells))]
-
-
 def front_rows(all_rows, case, place, names):
-    """Returns the row of each program; the loop has one thread at each place."""
     places = [place] * (len(names) - 1) + ["1 by 1"]
     return [found(all_rows, case=case, program=name, where=where) for name, where in zip(names, places)]
 
 
 def front(runs, body_rows, rod_rows):
     """Returns the table of README: some rows of three measurements, and where threads or a loop are better than a runtime."""
-    lines, without, runs, sizes = [], [], rest(runs), bodies(body_rows)
+    lines, without, runs, sizes = [], [], having(runs, load=0), bodies(body_rows)
     pools, rods = ([names[order] for names in FRONT.values()] for order in (0, 1))
     for pool in FRONT_POOLS:
         counts = [each_unit(row) for row in front_rows(runs, pool, "1 by 1", pools)]
@@ -301,9 +258,11 @@ def front(runs, body_rows, rod_rows):
     cases = [(f"`{pool}`", front_rows(runs, pool, "1 by 4", pools), "{:.2f}") for pool in FRONT_POOLS]
     cases += [(case, front_rows(rod_rows, case, "1 by 4", rods), "{:.1f}") for case in distinct(rod_rows, "case")]
     for case, here, form in cases:
-        lines.append(front_line(f"{'' if case[0] == '`' else 'Rod: '}{case}, 4 workers, ms", here, form))
-        _, best = min((row.milliseconds, name) for row, name in zip(here, FRONT) if row)
-        without += [f"{case} ({best})"] * (best in WITHOUT_RUNTIME)
+        best, name = min(((row, name) for row, name in zip(here, FRONT) if row), key=lambda pair: pair[0].milliseconds)
+        # (those are bold that the quartiles do not tell from the least one)
+        cells = [f"**{with_quartiles(row, form)}**" if row and overlap(row, best) else with_quartiles(row, form) for row in here]
+        lines.append([f"{'' if case[0] == '`' else 'Rod: '}{case}, 4 workers, ms", *cells])
+        without += [f"{case} ({name})"] * (name in WITHOUT_RUNTIME)
     parts = [table(["On four cores, a run (quartiles)", *FRONT], lines)]
     return "\n\n".join(parts + [f"No runtime pays, with four workers, for {'; '.join(without)}."] * bool(without))
 
@@ -331,13 +290,10 @@ def program_and_place(row):
     return f"{row.program}, {row.where}"
 
 
-def time_of(row):
-    return with_quartiles(row) if row.nodes * row.workers > 1 else f"{row.milliseconds:.1f}"
-
-
-def time_of_a_task(row):
-    median, lower, upper = (time * 1e6 / row.units for time in (row.milliseconds, row.lower_quartile, row.upper_quartile))
-    return f"{median:,.0f} ({lower:,.0f}–{upper:,.0f})" if row.nodes * row.workers > 1 else f"{median:,.0f}"
+def time_text(form, unit_of, row):
+    """Returns the time of a row in a unit, with its quartiles if it has several workers."""
+    times = [form.format(time * unit_of(row)) for time in (row.milliseconds, row.lower_quartile, row.upper_quartile)]
+    return "{} ({}–{})".format(*times) if row.nodes * row.workers > 1 else times[0]
 
 
 def smallest_bodies(rows):
@@ -359,20 +315,19 @@ def smallest_bodies(rows):
 
 
 def task_graphs(rows):
-    """Returns all tables of task graphs, each with its title."""
     small = [row for row in rows if GRAPH_BODY.match(row.case)]
     empty = [row for row in rows if row.case.endswith("empty bodies")]
     whole, counted = [row for row in rows if row not in small + empty], [row for row in empty if row.instructions]
+    nanoseconds = functools.partial(time_text, "{:,.0f}", lambda row: 1e6 / row.units)
     parts = [
         f"{title}:\n\n{grid('', own, 'case', program_and_place, text_of)}"
         for title, own, text_of in (
-            ("Milliseconds", whole, time_of),
-            ("Nanoseconds a task, with its description", empty, time_of_a_task),
+            ("Milliseconds", whole, functools.partial(time_text, "{:.1f}", lambda _: 1)),
+            ("Nanoseconds a task, with its description", empty, nanoseconds),
             ("Instructions a task, with its description, one thread", counted, lambda row: cell(each_unit(row), "{:,.0f}")),
         ) if own
     ]
-    if small:
-        parts.append(f"METG(50%) in microseconds, four workers:\n\n{smallest_bodies(small)}")
+    parts += [f"METG(50%) in microseconds, four workers:\n\n{smallest_bodies(small)}"] if small else []
     return "\n\n".join(parts)
 
 
@@ -382,22 +337,19 @@ def times_and_messages(row):
     return f"{row.microseconds:,.1f} {quartiles}; {messages}; {row.waves:,.0f}"
 
 
-def steps_and_messages(row):
-    return ", ".join(f"{number:,.0f}" for number in (row.steps, row.control_messages, row.waves) if number is not None)
-
-
 def detectors(rows):
     what = "microseconds to the last process that knows the end (quartiles); control messages; waves, rounds of the token, reductions"
     shown = [(case, what, times_and_messages) for case in distinct([row for row in rows if row.microseconds is not None], "case")]
-    shown += [("simulated", "steps, control messages, waves", steps_and_messages)]
-    shown += [("random programs", "control messages, waves", steps_and_messages)]
+    for case, *fields in (("simulated", "steps", "control_messages", "waves"), ("random programs", "control_messages", "waves")):
+        text_of = functools.partial(lambda fields, row: ", ".join(f"{getattr(row, field):,.0f}" for field in fields), fields)
+        shown.append((case, ", ".join(fields).replace("_", " "), text_of))
     parts = [
         f"{case[0].upper()}{case[1:]}, by processes: {what}:\n\n"
         + grid("Detector", having(rows, case=case), "detector", lambda row: f"{row.processes:,}", text_of)
         for case, what, text_of in shown
     ]
     lines = [
-        [row.case[len("calls: ") :], row.detector, cell(row.nanoseconds_a_call, "{:.1f}"), cell(row.instructions, "{:.0f}")]
+        [row.case[len("calls: "):], row.detector, cell(row.nanoseconds_a_call, "{:.1f}"), cell(row.instructions, "{:.0f}")]
         for row in rows if row.nanoseconds_a_call is not None
     ]
     calls = table(["Calls", "Detector", "nanoseconds", "instructions"], lines)
@@ -411,22 +363,13 @@ TABLES = {
 assert TABLES.keys() == MEASUREMENTS.keys()
 
 
-def of(measurement, rows):
-    return TABLES[measurement](rows)
-
-
 def of_origins(origins):
-    """Returns the table of the day, the commit and the machine of each measurement."""
     shown = ["date", "commit", "form", "rounds", "seconds", "load_average", "others", "seconds_to_rest", "marked"]
     columns = {name.replace("_", " "): name for name in shown if any(getattr(origin, name) not in (None, "") for origin in origins)}
     known = {f"`{origin.measurement}`": origin for origin in origins}
-
-    def value(measurement, name):
-        return cell(getattr(known[measurement], name), "{}")
-
-    parts = [pivot("Measurement", known, columns, value)]
+    parts = [pivot("Measurement", known, columns, lambda measurement, name: cell(getattr(known[measurement], name), "{}"))]
     fields = [Origin._fields.index(name) for name in ("processor", "others")]
-    for machine in dict.fromkeys(tuple(origin)[fields[0] : fields[1]] for origin in origins):
+    for machine in dict.fromkeys(tuple(origin)[fields[0]:fields[1]] for origin in origins):
         name, processors, memory, system, compilers, counter = machine
         counts = f"; instructions by {counter}" if counter else ""
         parts.append(f"{name}, {processors} processors, {memory:.0f} GiB; {system};\n{compilers}{counts}.")

@@ -1,5 +1,9 @@
 """Tests of what decides whether rows are stored and what tables say; pytest runs them."""
-from . import conditions, metg, soundness, tables
+import pytest
+
+from . import comparing, conditions, metg, soundness, tables
+from .measuring import Bench, quantiles
+from .peers import Peers
 from .rows import Row
 
 
@@ -47,7 +51,7 @@ def test_speed_up_is_not_more_than_the_workers():
 
 def test_smallest_body_is_named_only_if_all_larger_ones_are_fast():
     place = "heat", 1, 4
-    bodies = [tables.Body("", {"heat": length}, {place: speed_up}, {}) for length, speed_up in ((1, 1.0), (2, 2.1), (3, 1.9), (4, 2.5))]
+    bodies = [tables.Body("", {"heat": length}, {place: [speed_up]}) for length, speed_up in ((1, 1.0), (2, 2.1), (3, 1.9), (4, 2.5))]
     assert tables.twice_as_fast(bodies, place) == "4.0, and some below"
     assert tables.twice_as_fast(bodies[:3], place) == "none, and some sizes"
     assert tables.twice_as_fast(bodies[:1], place) == "none" and tables.twice_as_fast(bodies[3:], place) == "4.0"
@@ -65,3 +69,26 @@ def test_conditions():
     assert conditions.others((0, 10, 1), (100, 60, 31)) == 0.2 and conditions.others((0, 0, 0), (1, 1, 2)) == 0
     assert conditions.faults(0.5, 0.15) == "" and "load average" in conditions.faults(0.51, 0.15)
     assert "others used 0.16 processors" in conditions.faults(0.5, 0.16)
+
+
+def test_two_folders_are_compared(tmp_path, monkeypatch, capsys):
+    for name, time in (("old", 3), ("new", 6)):
+        for program in comparing.PROGRAMS:
+            path = tmp_path / name / program
+            path.parent.mkdir(parents=True, exist_ok=True)
+            path.write_text(f"#!/bin/sh\necho done\n[ ${{0##*/}} = tp ] || seq -f 'nanoseconds {time}00000%g' {len(name)}\n")
+            path.chmod(0o755)
+    monkeypatch.setattr(conditions, "load_average", lambda: 0.0)
+    monkeypatch.setattr(conditions, "others", lambda *_: 0.2)
+    bench = Bench(Peers(tmp_path), tmp_path, 1, 3, 0, False, False, "wavefront")
+    folders = [str(tmp_path / name) for name in comparing.NAMES]
+    assert comparing.compare(bench, folders, [0], False) == 1 and comparing.compare(bench, folders, [0], True) == 0
+    assert "| wavefront:64:64:0 | 8 by 8 | 3.00 (3.00–3.00) | 6.00 (6.00–6.00) | 2.00 |" in capsys.readouterr().out
+    (tmp_path / "new/bin/tp").write_text("#!/bin/sh\necho other\n")
+    with pytest.raises(SystemExit, match="another output"):
+        comparing.compare(bench, folders, [0], True)
+
+
+def test_quantiles():
+    assert quantiles([40, 10, 20, 30, 50]) == (30, 20, 40, 40) and quantiles([7]) == (7, 7, 7, 7)
+    assert quantiles(range(101)) == (50, 25, 75, 90)

@@ -1,12 +1,10 @@
 """Tries the built programs at their limits.
 
-Each of these needs `make` before, or the paths of programs that were built in another way. The last line is `N passed,
-M failed, K skipped`; the status is 1 if one failed.
+Each of these needs `make` before, or the paths of programs that were built in another way.
 """
 import inspect
-import tempfile
 
-from .. import repository, running
+from .. import running
 from . import memory, strange, terminal, texts
 
 
@@ -25,13 +23,8 @@ class Limit:
             parser.add_argument(f"--{name}", help=what, **kind)
 
     def run(self, options):
-        """Runs the function in a folder of its own; returns the exit status."""
-        repository.go_to_top()
         running.require(*(getattr(options, name) for name in self.programs))
-        tally = running.Tally()
-        with tempfile.TemporaryDirectory() as folder:
-            self.action(tally, options, folder)
-        return tally.end()
+        self.action(options.tally, options, options.temporary)
 
 
 QUICK = False, "a few cases: the form of make test"
@@ -41,6 +34,7 @@ LIMITS = {
     "memory": Limit(memory.address_space, "tp"),
     "live": Limit(memory.live, "samples"),
     "strange": Limit(strange.strange, "tp", quick=QUICK),
+    "manners": Limit(strange.manners, "tp", "samples"),
     "progress": Limit(terminal.progress, "samples"),
     "reasons": Limit(terminal.reasons, "tp"),
     "cuts": Limit(texts.cuts, "tp"),

@@ -1,10 +1,9 @@
 """Runs the built programs, and the tests of memory, without enough memory, and measures how much a stencil has at a time."""
 import collections
-import contextlib
 import itertools
 import os
+import pathlib
 import re
-import resource
 import sys
 
 from .. import running
@@ -18,11 +17,11 @@ MESSAGES = {"tp": [b"refused 17 NoMemory\n"], "samples": [b"there is no memory\n
 MESSAGES["samples draw"] = [*MESSAGES["tp"], *MESSAGES["samples"]]
 # a command line, its input, and in `refuse` whether the quick form has it, in `memory` by how many percent its limit grows
 COMMAND = re.compile(r"^(?:(quick|full|\d+): )(.*?)(?: < (\w+))?$", re.M)
-ROW = ["3 -1 4 1 -5 9 2 6"]
+WHAT, ROW = "allocations that fail in turn", ["3 -1 4 1 -5 9 2 6"]
 # the first limit in KB, and how many there are
 FIRST_LIMIT, LIMITS = 8192, 50
 # crates with tests that repeat a call which ran out of memory, after they have checked that nothing changed
-CRATES = ["test_parts", "test_whole"]
+CRATES = ["test_whole"]
 TESTS = re.compile(
     r"^(memory::memory_that_is_refused_changes_nothing|slots::a_refused_growth_loses_nothing|two_nodes::a_node_refused_memory_is_as_before"
     r"|two_nodes::a_pool_is_reopened_and_runs_again|refused_runs::\w+): ", re.M
@@ -62,10 +61,11 @@ def is_refused(result, line):
 
 
 def judge(tally, line, expected, runs, kinds):
-    """Counts whether each run, given with what it lacks, was refused or is as expected without an error, and whether all kinds came."""
+    """Counts whether each run, given with what it lacks, was refused or is as expected, and whether all kinds came."""
     counts = collections.Counter()
     for lack, result in runs:
-        is_whole = result == running.Result(expected.status, expected.out, b"")
+        # (a program that cannot read the environment does not know that it should be quiet, and says why)
+        is_whole = result[:2] == expected[:2] and (not result.err or result.err.startswith(b"reason: "))
         kind = "refused" if is_refused(result, line) else "whole" if is_whole else "wrong"
         counts[kind] += 1
         tally.judge(kind != "wrong", f"{line}, {lack}: {result.description()}")
@@ -77,16 +77,11 @@ def refusing(command, stdin, library, folder, also_later=False):
     """Yields the number of the allocation that fails, and the result: for each allocation, and last for one more than the run has."""
     report = f"{folder}/report"
     for number in itertools.count(1):
-        with contextlib.suppress(FileNotFoundError):
-            os.remove(report)
+        pathlib.Path(report).unlink(missing_ok=True)
         variables = {"REFUSE": str(number), "REFUSE_REPORT": report, "LD_PRELOAD": library, **({"REFUSE_ON": "1"} if also_later else {})}
         yield number, running.run(command, stdin, env={**os.environ, **variables})
         if not os.path.exists(report):
             return
-
-
-def library_of(tally, folder):
-    return running.preload_library(tally, "refuse", folder, "allocations that fail in turn")
 
 
 def refuse(tally, options, folder):
@@ -97,23 +92,21 @@ def refuse(tally, options, folder):
     nothing on standard output, with status 3; `pools` may also print a line for each pool. Each command has to be refused at
     least once. Needs a C compiler. With --quick it tries a few commands, each with one allocation failing at a time.
     """
-    library = library_of(tally, folder)
-    for form, line, command, stdin in commands("refuse", options, folder) if library else ():
-        for also_later in (False, True) if not options.quick else (False,) if form == "quick" else ():
-            runs = refusing(command, stdin, library, folder, also_later)
-            later = " and all after it" * also_later
-            named = ((f"allocation {number}{later} failing", result) for number, result in runs)
-            judge(tally, line, running.run(command, stdin), named, ["refused"])
+    library = running.preload_library(tally, "refuse", folder, WHAT)
+    for size, line, command, stdin in commands("refuse", options, folder) if library else ():
+        for also_later in (False, True) if not options.quick else (False,) if size == "quick" else ():
+            form = f"allocation {{}}{' and all after it' * also_later} failing"
+            runs = ((form.format(number), result) for number, result in refusing(command, stdin, library, folder, also_later))
+            judge(tally, line, running.run(command, stdin), runs, ["refused"])
 
 
 def refuse_tests(tally, _, folder):
     """Fails each allocation of the proved tests of memory in turn.
 
-    Each time a test has to pass, because it repeats a call that ran out of memory, after it has checked that nothing changed.
-    Prints the number of allocations of each test, and then how often each call failed, as the tests name it. Needs a C
-    compiler, and the programs of tests that `rt test` leaves in crates/*/out.
+    Each time a test has to pass: it repeats a call that ran out of memory, after it has checked that nothing changed. Prints the number of
+    allocations of each test, and how often each call failed. Needs a C compiler, and the programs that `rt test` leaves in crates/*/out.
     """
-    library, calls = library_of(tally, folder), collections.Counter()
+    library, calls = running.preload_library(tally, "refuse", folder, WHAT), collections.Counter()
     for program in (f"crates/{crate}/out/{crate}_tests" for crate in CRATES if library):
         tests = TESTS.findall(running.run([program, "--list"]).out.decode(errors="replace"))
         tally.judge(tests, f"{program} is missing, or has no tests of memory: `rt test` builds it")
@@ -126,15 +119,6 @@ def refuse_tests(tally, _, folder):
     print("\n".join(f"{count:7} {call}" for call, count in sorted(calls.items())))
 
 
-def limited(command, stdin, growth):
-    """Yields runs of a command at limits of its address space, which grow by this percentage."""
-    limit = FIRST_LIMIT
-    for _ in range(LIMITS):
-        limits = 1024 * limit, 1024 * limit
-        yield f"{limit} KB", running.run(command, stdin, preexec_fn=lambda: resource.setrlimit(resource.RLIMIT_AS, limits))
-        limit += limit * growth // 100
-
-
 def address_space(tally, options, folder):
     """Runs the program in small address spaces.
 
@@ -142,35 +126,30 @@ def address_space(tally, options, folder):
     whole output, or else that it is out of memory. It has to be refused at least once, and to succeed at least once.
     """
     for growth, line, command, stdin in commands("memory", options, folder):
-        judge(tally, line, running.run(command, stdin), limited(command, stdin, int(growth)), ["refused", "whole"])
-
-
-def most_at_a_time(command, stdin, library, report):
-    """Returns the most bytes that a run had at a time, or None if it failed."""
-    result = running.run(command, stdin, env={**os.environ, "LD_PRELOAD": library, "LIVE_REPORT": report})
-    if result.status:
-        return None
-    with open(report, "rb") as file:
-        return int.from_bytes(file.read(), sys.byteorder)
+        limits = [FIRST_LIMIT]
+        while len(limits) < LIMITS:
+            limits.append(limits[-1] + limits[-1] * int(growth) // 100)
+        runs = ((f"{limit} KB", running.run(["prlimit", f"--as={1024 * limit}", *command], stdin)) for limit in limits)
+        judge(tally, line, running.run(command, stdin), runs, ["refused", "whole"])
 
 
 def live(tally, options, folder):
     """Measures how much memory a stencil has at a time, by its steps.
 
-    Runs `samples heat` and `relax` for 1 to 1,000 steps, at one node with one worker and at two with two. A run of more steps
-    may have only some rows more memory at a time than one of a single step: a value is dropped once its last reader has run.
+    Runs `samples heat` and `relax` for 1 to 1,000 steps, at one node with one worker and at two with two. A run of more steps may have only
+    some rows more memory at a time than one of a single step: a value is dropped once its last reader has run.
     """
     library = running.preload_library(tally, "live", folder, "the memory that a stencil has at a time")
     with open(f"{folder}/heat", "w", encoding="utf-8") as file:
         inputs.write_cells(file, CELLS)
     rows = (" ".join(str(row * column % 1009) for column in range(WIDTH)) for row in range(CELLS // WIDTH))
     running.write(f"{folder}/relax", rows)
-    for count, (name, size) in itertools.product("12", (("heat", "8000"), ("relax", "8"))) if library else ():
-        first = None
-        for steps in map(str, STEPS):
-            command = [options.samples, name, steps, size, "--nodes", count, "--workers", count]
-            most = most_at_a_time(command, f"{folder}/{name}", library, f"{folder}/report")
-            first = first or most
-            line = f"{' '.join(command[1:])}: {'failed' if most is None else f'{most / 1e6:.1f} MB at a time'}"
-            print(line, flush=True)
-            tally.judge(most is not None and most <= first + ROWS * 8 * CELLS, f"{line}, the first run {first} bytes")
+    environment, first = {**os.environ, "LD_PRELOAD": library or "", "LIVE_REPORT": f"{folder}/report"}, None
+    for count, (name, size), steps in itertools.product("12", (("heat", "8000"), ("relax", "8")), STEPS) if library else ():
+        command = [options.samples, name, str(steps), size, "--nodes", count, "--workers", count]
+        result = running.run(command, f"{folder}/{name}", env=environment)
+        most = int.from_bytes(pathlib.Path(f"{folder}/report").read_bytes(), sys.byteorder)
+        first = most if steps == STEPS[0] else first
+        line = f"{' '.join(command[1:])}: {most / 1e6:.1f} MB at a time"
+        print(line, flush=True)
+        tally.judge(not result.status and most <= first + ROWS * 8 * CELLS, f"{line}, the first run {first} bytes: {result.description()}")

@@ -53,11 +53,9 @@ class World:
         return unfinished + sum(action[1] == i for action in self.actions)
 
     def counted(self, name, i):
-        """Returns how often a node sent, or received."""
         return sum(step[:2] == (name, i) for step in self.list)
 
     def take(self, step):
-        """Takes a step, and returns the line that the program prints for it."""
         try:
             reply = getattr(self, step[0])(*step[1:])
         except Refused as refused:
@@ -188,7 +186,6 @@ def read(text, command):
 
 
 def simulated(nodes, steps):
-    """Returns what `sim` prints for the steps of a script."""
     world = World(nodes)
     out = [world.take(step) for step, _ in steps]
     counts = [(world.pending(i), world.counted("send", i), world.counted("recv", i)) for i in range(nodes)]

@@ -1,11 +1,15 @@
-"""Runs `tp` with strange streams, texts that are too long, and too few threads: each case by a line of bash, in which it is "$@"."""
+"""Runs programs with strange streams, texts that are too long, and too few threads: each case by a line of bash, in which it is "$@"."""
+import json
 import os
+import re
 import shutil
 
 from .. import running
+from ..repository import TOP, text_of
 from ..running import Result
+from .terminal import USER
 
-READ_FAULT, LONG_FAULT, WRITE_FAULT = (Result(1, b"", b"fault %s\n" % what) for what in (b"read", b"too long", b"write"))
+READ_FAULT, LONG_FAULT = (Result(1, b"", b"fault %s\n" % what) for what in (b"read", b"too long"))
 HISTORY_FULL = Result(3, b"", b"refused 16 HistoryFull\n")
 BAD_SPEC = Result(1, b"", b"refused 26 BadSpec\n")
 NO_TEXT = Result(2, b"syntax line 1\n", b"")
@@ -13,8 +17,8 @@ ONE_NODE = b"node 0 pending 1 sent 0 received 0\ntotal pending 1 sent 0 received
 AUDITED = b"steps 1048576\ntasks 0 done 0\nmessages 0 received 0\nnot ended\n"
 MOST_BYTES, MOST_STEPS = 33_554_432, 1_048_576
 INPUTS = {"sim": b"nodes 1\n", "audit": b"trace 1\nnodes 1\n"}
-# streams that the shell opens: closed, a directory, only for writing; closed, a full device, only for reading
-READING, WRITING = ("<&-", "< /", "0> /dev/null"), (">&-", "> /dev/full", "1< /dev/null")
+# streams that the shell opens: closed, a directory, only for writing
+READING = "<&-", "< /", "0> /dev/null"
 STATUS = "exit ${PIPESTATUS[0]}"
 OTHER_USER = "setpriv --reuid=61234 --regid=61234 --clear-groups"
 
@@ -35,16 +39,10 @@ def streams():
         for command in INPUTS:
             yield READ_FAULT, [command], b"", f'exec "$@" {stream}'
         yield Result(0, b"66\ntasks 7\nmessages 0\nended\n", b""), ["run", "reduce:4:0"], b"", f'exec "$@" {stream}'
-    for command in *INPUTS, "run reduce:4:0", "--help", "sim --help", "--version":
-        stdin = INPUTS.get(command, b"")
-        for stream in WRITING:
-            yield WRITE_FAULT, command.split(), stdin, f'exec "$@" {stream}'
-        # (nothing can be printed then, so only the status says it)
-        yield Result(1, b"", b""), command.split(), stdin, 'exec "$@" >&- 2>&-'
-        # (the reader has ended before the first byte)
-        yield WRITE_FAULT, command.split(), stdin, f'{{ sleep 0.2; "$@"; }} | true; {STATUS}'
+    # (nothing can be printed then, so only the status says it)
+    yield Result(1, b"", b""), ["run", "reduce:4:0"], b"", 'exec "$@" >&- 2>&-'
     # (the output is longer than a pipe holds)
-    yield Result(1, b"ok\n", WRITE_FAULT.err), ["sim"], INPUTS["sim"] + b"ready 0\n" * 100_000, f'"$@" | head -n 1; {STATUS}'
+    yield Result(1, b"ok\n", b""), ["sim"], INPUTS["sim"] + b"ready 0\n" * 100_000, f'"$@" | head -n 1; {STATUS}'
 
 
 def lengths(program):
@@ -73,13 +71,6 @@ def threads(tally):
         yield expected, command, b"", f'exec {OTHER_USER} prlimit --nproc={most} "$@"'
 
 
-def try_case(tally, program, expected, arguments, stdin=b"", line='exec "$@"'):
-    """Checks that a run ends with this status and prints this, and nothing else."""
-    result = running.run(["bash", "-c", line, "bash", program, *arguments], stdin)
-    shown = f"{line} {str(arguments)[:200]}: {running.short(result.out)}, {result.description()}"
-    tally.judge(result == expected, f"{shown}; expected {expected.description()}")
-
-
 def strange(tally, options, folder):
     """Runs the program in unusual environments.
 
@@ -97,5 +88,25 @@ def strange(tally, options, folder):
     cases += arguments_and_pools()
     if not options.quick:
         cases += [*streams(), *lengths(program), *threads(tally)]
-    for case in cases:
-        try_case(tally, program, *case)
+    for expected, arguments, *more in cases:
+        stdin, line = [*more, *[b"", 'exec "$@"'][len(more):]]
+        result = running.run(["bash", "-c", line, "bash", program, *arguments], stdin)
+        shown = f"{line} {str(arguments)[:200]}: {running.short(result.out)}, {result.description()}"
+        tally.judge(result == expected, f"{shown}; expected {expected.description()}")
+
+
+def manners(tally, options, folder):
+    """Runs each subcommand in each situation of a table: a closed pipe, a full disk, no file, wrong arguments, help, the version.
+
+    A row of tools/data/limits/manners.json has a line of bash, the arguments that it adds, the status, and patterns of the output
+    and of standard error, in which NAME is the program's name. No line of help has more than 83 characters.
+    """
+    table = json.loads(text_of(f"{TOP}/tools/data/limits/manners.json"))
+    for name, arguments, stdin in table["commands"]:
+        for situation, line, more, status, out, err in table["situations"]:
+            command = ["bash", "-c", line, "bash", getattr(options, name), *arguments, *more]
+            result = running.run(command, stdin.encode(), env=USER, cwd=folder)
+            texts = zip((out, err), (result.out, result.err))
+            is_well = all(re.fullmatch(pattern.replace("NAME", name), text.decode(), re.S) for pattern, text in texts)
+            is_well &= result.status == status and (more != ["--help"] or max(map(len, result.out.decode().split("\n"))) <= 83)
+            tally.judge(is_well, f"{situation}, {name} {arguments}: {running.short(result.out)}, {result.description()}")

@@ -24,6 +24,8 @@ LONG = ["run", "product:64:2:0", "--workers", "2", "--generations", "9"]
 # runs by kind: `reasons` has for each way to an error of `tp` the arguments, the input, the result, and the reason at a terminal, which
 # other errors do not have; the others have the input, the arguments and what is printed
 CASES = json.loads(text_of(f"{TOP}/tools/data/limits/terminal.json"))
+# the environment of a user, to whom reasons are printed
+USER = {name: value for name, value in os.environ.items() if name != "GERFMUOD_QUIET"}
 # the most cells whose step, in blocks of one, has enough events at one node; at two nodes it needs more than there are
 MOST_CELLS = 131_072
 
@@ -46,7 +48,7 @@ def run_at_terminal(command, stdin=os.devnull, is_typed=False, first=None, until
         if isinstance(stdin, bytes) and not is_typed:
             source.write(stdin)
             source.seek(0)
-        process = subprocess.Popen(command, stdin=typed if is_typed else source, stdout=out, stderr=slave)
+        process = subprocess.Popen(command, stdin=typed if is_typed else source, stdout=out, stderr=slave, env=USER)
         os.close(slave)
         timer = threading.Timer(running.SECONDS, process.kill)
         timer.start()
@@ -60,12 +62,12 @@ def run_at_terminal(command, stdin=os.devnull, is_typed=False, first=None, until
                 text += piece
                 if until and re.match(until, text):
                     process.kill()
-        status = running.status_of(process.wait())
+        code = process.wait()
         timer.cancel()
         for descriptor in (master, keyboard, typed):
             os.close(descriptor)
         out.seek(0)
-        return Result(status, out.read(), text.replace(b"\r\n", b"\n"))
+        return Result(code if code >= 0 else 128 - code, out.read(), text.replace(b"\r\n", b"\n"))
 
 
 def judge(tally, command, expected, result):
@@ -77,13 +79,15 @@ def judge(tally, command, expected, result):
 def reasons(tally, options, _):
     """Runs `tp` with and without a terminal as its standard error.
 
-    Output and status are the same. At a terminal a second line gives the reason of an error, if there is one, and the program
-    announces that it reads from the terminal. A run of over a second prints its progress there, and clears it at its end.
+    Output and status are the same. A second line gives the reason of an error, if there is one, unless the environment has
+    GERFMUOD_QUIET. At a terminal the program announces that it reads there. A run of over a second prints its progress there, and
+    clears it at its end.
     """
     for arguments, text, status, out, err, reason in CASES["reasons"]:
         command, text = [options.tp, *arguments], text.encode()
         judge(tally, command, Result(status, out.encode(), err.encode()), running.run(command, text))
-        judge(tally, command, Result(status, out.encode(), (err + reason).encode()), run_at_terminal(command, text))
+        for result in running.run(command, text, env=USER), run_at_terminal(command, text):
+            judge(tally, command, Result(status, out.encode(), (err + reason).encode()), result)
     piped, paused = running.run([options.tp, *LONG]), run_at_terminal([options.tp, *LONG], first=pause)
     tally.judge(not piped.status and piped.out and not piped.err, f"a long run, piped: {piped.description()}")
     is_well = (paused.status, paused.out) == (0, piped.out) and PROGRESS.fullmatch(paused.err)
@@ -94,15 +98,6 @@ def reasons(tally, options, _):
         judge(tally, command, expected, run_at_terminal(command, text, is_typed=True))
 
 
-def write_inputs(folder):
-    grid = [" ".join(str((row * 37 + column * 101) % 1000) for column in range(420)) for row in range(420)]
-    for name, lines in {
-        "rod": [number * 7919 % 100_003 for number in range(2000)], "grid": grid[:100], "matrices": [*grid, "", *grid],
-        "most": [0] * MOST_CELLS, "more": [0] * (MOST_CELLS + 1),
-    }.items():
-        running.write(f"{folder}/{name}", lines)
-
-
 def progress(tally, options, folder):
     """Runs the samples over lent data at a terminal, and on inputs that are too large to be stored.
 
@@ -110,7 +105,11 @@ def progress(tally, options, folder):
     standard output what they print without a terminal, and with `--quiet` no progress. If standard input is a terminal too, they
     announce once what they read. Steps of too many events are refused, and so is an argument that is not UTF-8.
     """
-    write_inputs(folder)
+    grid = [" ".join(str((row * 37 + column * 101) % 1000) for column in range(420)) for row in range(420)]
+    rod, most = [number * 7919 % 100_003 for number in range(2000)], [0] * MOST_CELLS
+    inputs = {"rod": rod, "grid": grid[:100], "matrices": [*grid, "", *grid], "most": most, "more": [*most, 0]}
+    for name, lines in inputs.items():
+        running.write(f"{folder}/{name}", lines)
     for name, arguments in CASES["endless"]:
         result = run_at_terminal([options.samples, *arguments], f"{folder}/{name}", until=LINE)
         tally.judge(re.match(LINE, result.err), f"{arguments} printed no progress: {result.description()}")

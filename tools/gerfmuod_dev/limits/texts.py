@@ -1,15 +1,14 @@
 """Compares what `tp sim` and `tp audit` do with stored, odd and random texts with the second model (second_model.py)."""
 import ast
-import os
+import copy
 import random
 import re
 
-from .. import running
+from .. import repository, running
 from ..repository import text_of
-from . import random_texts
-from .second_model import expected
+from .second_model import COUNTS_OF, World, expected
 
-FOLDER = "crates/tp_examples/data"
+FOLDERS = ("tools/data/scripts", "tools/data/traces")
 # the texts that a test of test_whole cuts: each with its kind and the sum of the replies to its pieces
 TEST = "crates/test_whole/src/cuts.rt"
 ROW = re.compile(r'Kind::(Script|Trace),\s+b("(?:[^"\\]|\\.)*"),\s+([\d_]+),?\s*\)', re.S)
@@ -52,6 +51,77 @@ def sum_of_pieces(command, text):
     return total
 
 
+def helpful_steps(version, world):
+    """Yields the steps that bring the pool nearer to its end, and then to its reopening."""
+    generation = (world.generation,) if version == 2 else ()
+    for task, life in world.life.items():
+        yield {"ready": "begin", "running": "done"}.get(life, "supply"), task
+    for message, node in world.under.items():
+        yield "recv", node, message, *generation
+    for kind, node, number in sorted(world.actions):
+        yield {"opening": ("ready", node), "named": ("close", node, number), "message": ("end", node, number, *generation)}[kind]
+    yield from [("start",), ("judge",)]
+    for node in range(world.nodes):
+        yield from [("give", node), ("down", node), ("up", node)]
+    if version == 2:
+        yield ("reopen",)
+
+
+def random_steps(generator, version, nodes, count):
+    world, steps = World(nodes), []
+    while len(steps) < count:
+        name = generator.choice([*COUNTS_OF[version]])
+        step = name, *(generator.randrange(4) for _ in range(COUNTS_OF[version][name]))
+        if version == 2 and name in ("send", "recv", "end"):
+            step = *step[:-1], generator.choice([world.generation] * 6 + [world.generation - 1, world.generation + 1])
+        if generator.random() < 0.7:
+            lawful = [other for other in helpful_steps(version, world) if not copy.deepcopy(world).take(other).startswith("refused")]
+            step = generator.choice(lawful) if lawful else step
+        steps.append((step, world.take(step)))
+    return steps
+
+
+def line(step, *more):
+    return " ".join(map(str, (*step, *more))) + "\n"
+
+
+def script(version, nodes, steps):
+    return "script 2\n" * (version == 2) + f"nodes {nodes}\n" + "".join(line(step) for step, _ in steps)
+
+
+def sound_trace(version, nodes, steps):
+    accepted = [(step, reply) for step, reply in steps if not reply.startswith("refused")]
+    lines = [line(step, *[reply] * (step == ("judge",))) for step, reply in accepted]
+    return f"trace {version}\nnodes {nodes}\n" + "".join(lines)
+
+
+def spoiled_trace(generator, version, nodes, steps):
+    """Returns the same; sometimes with a refused step among them, or with a changed judgement."""
+    kept = []
+    for step, reply in steps:
+        if reply.startswith("refused") and generator.random() < 0.03:
+            reply = generator.choice(["not", "ended 1"])
+        elif step == ("judge",) and generator.random() < 0.03:
+            reply = generator.choice(["not", "ended 1", "ended 2"])
+        kept.append((step, reply))
+    return sound_trace(version, nodes, kept)
+
+
+def damaged(generator, text):
+    result = bytearray(text.encode())
+    if generator.random() < 0.15:
+        result[generator.randrange(len(result))] = generator.choice(b"0129 \n\rxjr")
+    return bytes(result)
+
+
+def random_texts(generator, count):
+    for _ in range(count):
+        version, nodes = generator.choice([1, 2]), generator.choice([1, 1, 2, 2, 3, 5])
+        steps = random_steps(generator, version, nodes, generator.randrange(10, 160))
+        yield "sim", damaged(generator, script(version, nodes, steps))
+        yield "audit", damaged(generator, spoiled_trace(generator, version, nodes, steps))
+
+
 def cuts(tally, options, _):
     """Cuts each stored script and trace after each of its bytes.
 
@@ -63,28 +133,24 @@ def cuts(tally, options, _):
         text = ast.literal_eval(re.sub(r"\\\n\s*", "", literal)).encode()
         found = sum_of_pieces({"Script": "sim", "Trace": "audit"}[kind], text)
         tally.judge(int(total) == found, f"{TEST}: the sum of the {kind.lower()} {running.short(text)} has to be {found}")
-    stored = [text_of(f"{FOLDER}/{name}").encode() for name in sorted(os.listdir(FOLDER))]
+    stored = [text_of(path).encode() for folder in FOLDERS for path in repository.files_in(folder)]
     texts = [piece for text in stored for piece in pieces("audit" if text.startswith(b"trace") else "sim", text)]
     odd = [*(b"nodes 1" + text for text in ODD), *(head + b"nodes 1\n" for head in BEFORE)]
     texts += [(command, head + text) for text in odd for command, head in (("sim", b""), ("audit", b"trace 1\n"), ("audit", b""))]
     try_all(tally, options.tp, texts)
 
 
-def many_generations(count):
-    """Yields a script and a trace of one node that is reopened again and again."""
-    for command, head, judgements in ("sim", "script 2", ("", "")), ("audit", "trace 2", (" not", " ended 1")):
-        waves = "".join(f"start\ngive 0\njudge{judgement}\n" for judgement in judgements)
-        yield command, (f"{head}\nnodes 1\n" + f"ready 0\n{waves}reopen\n" * count).encode()
-
-
 def random_cases(tally, options, _):
     """Creates random scripts and traces of both versions.
 
     The program's output and status are compared with those of a second model. Half of a script's steps are lawful ones, so that pools
-    end and are reopened; the others may be of any kind and number. Prints each text for which they differ. What is rare has to
-    come in some output.
+    end and are reopened; the others may be of any kind and number. What is rare has to come in some output.
     """
-    texts = [*many_generations(100), *random_texts.random_texts(random.Random(options.seed), options.texts)]
+    texts = [*random_texts(random.Random(options.seed), options.texts)]
+    # (a script and a trace of one node that is reopened again and again)
+    for command, head, judgements in ("sim", "script 2", ("", "")), ("audit", "trace 2", (" not", " ended 1")):
+        waves = "".join(f"start\ngive 0\njudge{judgement}\n" for judgement in judgements)
+        texts.append((command, (f"{head}\nnodes 1\n" + f"ready 0\n{waves}reopen\n" * 100).encode()))
     outputs = try_all(tally, options.tp, texts)
     for rare in RARE:
         tally.judge(any(rare in output for output in outputs), f"no output has {rare!r}: more texts or another seed?")

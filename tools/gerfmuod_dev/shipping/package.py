@@ -3,26 +3,31 @@
 Compares the versions in the sources; what the pages of the manual have and the completion offers with what they are generated from; the
 installed files with the list that `make uninstall` reads, their modes with the usual ones, and the links of the documents with them. Runs
 programs in C, C++, Fortran, Rust and Python over nothing but the installed files, by pkg-config and by CMake, shared and static. After
-`make uninstall` nothing is left. It skips what is not installed, and counts that. The last line is `N passed, M failed, K skipped`; the
-status is 1 if one failed.
+`make uninstall` nothing is left. Then tools/release-test packs a release and tries it here. What is not installed is skipped, and counted.
 """
 import compileall
+import glob
+import json
 import os
+import re
 import sys
 import tempfile
 from dataclasses import dataclass
 
-from .. import built, docs, library, repository, running, shared_object, version
-from ..running import Tally, short, write
-from . import generated
+from .. import docs, library, repository, running, shared_object
+from ..running import short, write
 
-PROJECT = "tools/data/package"
 SONAME = shared_object.SONAME
 # variables of make: a folder of its own, and the folders of Debian, with headers in a folder of their own
 USUAL = {"PREFIX": "/usr/gerfmuod", "LIBDIR": "/usr/gerfmuod/lib", "INCLUDEDIR": "/usr/gerfmuod/include"}
 OTHER = {"PREFIX": "/usr", "LIBDIR": "/usr/lib/x86_64-linux-gnu", "INCLUDEDIR": "/usr/include/gerfmuod", "MANDIR": "/srv/man"}
 LIST, DOCUMENTS = ("PREFIX", "/share/gerfmuod/installed"), ("PREFIX", "/share/doc/gerfmuod")
-CC, CXX, FORTRAN = "${CC:-cc} $CFLAGS", "${CXX:-c++} -std=c++17 $CXXFLAGS", "${FC:-gfortran} $FFLAGS"
+# the sources that repeat the version, as a number or as a text; arguments, the last of which is completed, and how; lines of sh with the
+# program that each needs and what it prints
+TABLES = repository.text_of(f"{repository.TOP}/tools/data/package/tables.json")
+COMPLETE = '. tools/completion.bash; COMP_WORDS=("$@"); COMP_CWORD=$(($# - 1)); _gerfmuod "$1" "${@: -1}"; echo "${COMPREPLY[@]}"'
+# what a page of the manual has otherwise
+SIGN = re.compile(r"/?\*+/?|(Usage|Options|Examples):|gerfmuod[\w/]*\.h:")
 ALLOWED = ("PKG_CONFIG_ALLOW_SYSTEM_CFLAGS", "PKG_CONFIG_ALLOW_SYSTEM_LIBS", "PYTHONDONTWRITEBYTECODE")
 
 
@@ -59,70 +64,42 @@ class Tree:
 
 
 def check_files(tally, tree):
-    """Compares the installed files with the list of them and with the headers, their modes with the usual ones, and the links of the
-    documents with them; the sources of crates are not installed."""
+    """Compares the installed files with their list and the headers, their modes with the usual ones, and the links of documents."""
     listed = {tree.destination + path for path in repository.text_of(tree.path(*LIST)).splitlines() if not path.endswith("/")}
     differing = {*repository.files_in(tree.destination)} ^ listed
     tally.judge(not differing, f"the list of installed files differs from them: {sorted(differing)[:5]}")
-    headers = sorted(map(os.path.basename, library.HEADERS))
-    tally.judge(sorted(os.listdir(tree.path("INCLUDEDIR"))) == headers, f"not these headers are installed: {headers}")
-    executable = (tree.path("PREFIX", "/bin"), tree.path("LIBDIR", f"/{SONAME}"))
+    headers = sorted("gerfmuod.h" if path.endswith("/gerfmuod.h") else f"gerfmuod/{os.path.basename(path)}" for path in library.HEADERS)
+    found = [os.path.relpath(path, tree.path("INCLUDEDIR")) for path in repository.files_in(tree.path("INCLUDEDIR"))]
+    tally.judge(sorted(found) == headers, f"not these headers are installed: {headers}")
+    executable = (tree.path("PREFIX", "/bin"), *glob.glob(tree.path("LIBDIR", "/*.so*")))
     for folder, folders, names in os.walk(tree.destination):
         for path in (f"{folder}/{name}" for name in [*folders, *names] if not os.path.islink(f"{folder}/{name}")):
             mode, is_executable = os.stat(path).st_mode & 0o777, os.path.isdir(path) or path.startswith(executable)
             tally.judge(mode == (0o755 if is_executable else 0o644), f"{path} has the mode {mode:o}")
     for page in (path for path in repository.files_in(tree.path(*DOCUMENTS)) if path.endswith(".md")):
-        dead = [link for link in docs.dead_links(page) if not link.startswith("../../crates/")]
+        dead = docs.dead_links(page)
         tally.judge(not dead, f"dead links in {page}: {dead}")
 
 
-def by_pkg_config(tree, program):
-    """Yields for each line of sh that uses pkg-config the program that it needs, and what it prints."""
-    include, libraries = tree.variables["INCLUDEDIR"], tree.variables["LIBDIR"]
-    moved = "env -u PKG_CONFIG_SYSROOT_DIR pkg-config --define-variable=prefix=/moved --variable=includedir gerfmuod"
-    yield "sh", "pkg-config --modversion gerfmuod", version.version()
-    yield "sh", "pkg-config --cflags --libs gerfmuod", f"-I{tree.destination}{include} -L{tree.destination}{libraries} -lgerfmuod -pthread"
-    yield "sh", moved, f"/moved{include[len(tree.variables['PREFIX']):]}"
-    number = f"version {version.number()}"
-    shared, static = (f"$(pkg-config {option} --cflags --libs gerfmuod) && {program}" for option in ("--shared", "--static"))
-    yield "cc", f"{CC} {PROJECT}/version.c -o {program} {shared} && grep -q {SONAME} {program}", number
-    yield "cc", f"{CC} -static {PROJECT}/version.c -o {program} {static} && ! grep -q {SONAME} {program}", number
-    yield "c++", f"{CXX} {PROJECT}/version.cpp -o {program} {shared} && grep -q {SONAME} {program}", number
-
-
-def by_cmake(tree, folder):
-    """Returns the line of sh that configures, builds and runs a project over the installed package, which is not at its prefix."""
-    major, minor, patch = version.parts()
-    older = f"{major - 1}.9" if major else f"0.{minor - 1}"
-    found = f"{major};{major}.{minor};{version.version()}"
-    not_found = f"{older};{major}.{minor}.{patch + 1};{major}.{minor + 1};{major + 1}"
-    is_usual = tree.variables["LIBDIR"] == f"{tree.variables['PREFIX']}/lib"
-    place = f"CMAKE_PREFIX_PATH={tree.path('PREFIX')}" if is_usual else f"Gerfmuod_DIR={tree.path('LIBDIR', '/cmake/Gerfmuod')}"
-    configure = f"cmake -S {PROJECT} -B {folder} '-DFOUND={found}' '-DNOT_FOUND={not_found}' -D{place}"
-    run = f"cd {folder} && ./shared && ./cpp && ./static && grep -q {SONAME} shared && grep -q {SONAME} cpp && ! grep -q {SONAME} static"
-    return f"{configure} && cmake --build {folder} && {run}"
-
-
-def examples(tree, program):
-    """Yields the same for each line that compiles and runs a program of the installed documents with the installed files."""
-    own, flags = tree.path(*DOCUMENTS, "/capi/examples"), "$(pkg-config --cflags --libs gerfmuod)"
-    fortran = f"{FORTRAN} -J {os.path.dirname(program)} {tree.path('INCLUDEDIR')}/gerfmuod.f90"
-    rust = f"rustc --edition 2024 -O -L native={tree.path('LIBDIR')} -l static=gerfmuod"
-    yield "cc", f"{CC} {own}/two_waves.c -o {program} {flags} && {program}", "two generations"
-    yield "cc", f"{CC} {own}/first.c -o {program} {flags} -lm && {program}", "3.844231"
-    yield "c++", f"{CXX} {own}/first.cpp -o {program} {flags} && {program}", "3.844231"
-    yield "gfortran", f"{fortran} {own}/first.f90 -o {program} {flags} && {program}", "3.844231"
-    yield "rustc", f"{rust} {own}/ring.rs -o {program} && {program}", "none was left"
-    yield sys.executable, f"{sys.executable} {own}/../../python/examples/first.py", "3.844231"
-
-
 def check_programs(tally, tree, folder):
-    """Runs the lines of sh over the installed files, and compares what they print."""
-    lines = [("cmake", by_cmake(tree, f"{folder}/cmake"), f"version {version.number()}")]
-    if tally.has("pkg-config", "programs over the installed package"):
-        lines += [*by_pkg_config(tree, f"{folder}/program"), *examples(tree, f"{folder}/program")]
-    for needed, line, expected in lines:
-        if tally.has(needed, line):
+    """Runs the lines of sh of a stored table over the installed files, and compares what they print."""
+    major, minor, patch = map(int, repository.version().split("."))
+    version, older = repository.version(), f"{major - 1}.9" if major else f"0.{minor - 1}"
+    is_usual = tree.variables["LIBDIR"] == f"{tree.variables['PREFIX']}/lib"
+    values = {
+        **tree.variables, "DESTDIR": tree.destination, "FOLDER": folder, "PROGRAM": f"{folder}/program", "SONAME": SONAME,
+        "VERSION": version, "NUMBER": repository.version_number(), "PYTHON": sys.executable,
+        "BELOW": tree.variables["INCLUDEDIR"][len(tree.variables["PREFIX"]):], "EXAMPLES": tree.path(*DOCUMENTS, "/capi/examples"),
+        "CC": "${CC:-cc} $CFLAGS", "CXX": "${CXX:-c++} -std=c++17 $CXXFLAGS",
+        "FOUND": f"{major};{major}.{minor};{version};{older}...{version};{major}.{minor}...<{major + 1}",
+        # (the package is not at its prefix)
+        "PLACE": f"CMAKE_PREFIX_PATH={tree.path('PREFIX')}" if is_usual else f"Gerfmuod_DIR={tree.path('LIBDIR', '/cmake/Gerfmuod')}",
+        "NOT_FOUND": f"{older};{major}.{minor}.{patch + 1};{major}.{minor + 1};{major + 1};{older}...<{version};{major + 1}...{major + 2}",
+    }
+    tables = json.loads(re.sub(r"@(\w+)@", lambda found: str(values[found[1]]), TABLES))
+    has_pkg_config = tally.has("pkg-config", "programs over the installed package")
+    for needed, expected, line in tables["lines"]:
+        if (has_pkg_config or needed == "cmake") and tally.has(needed, line):
             check(tally, running.run(["sh", "-c", line], env=tree.environment()), line, expected)
 
 
@@ -146,25 +123,70 @@ def check_uninstall(tally, tree):
     tally.judge(not os.listdir(tree.destination), f"make uninstall leaves {os.listdir(tree.destination)}")
 
 
+def check_version(tally):
+    for path, pattern in json.loads(TABLES)["versions"]:
+        found = re.findall(pattern, repository.text_of(path))
+        expected = [str(repository.version_number())], [repository.version()]
+        tally.judge(found in expected, f"{path} has the version {found}, and {repository.VERSION} {expected}")
+
+
+def check_manual(tally, built, folder):
+    """Has groff lay out each page, which then has all words of what `--help` prints, or of its header, except for headings and stars."""
+    if not all([tally.has(command, "the manual") for command in ("help2man", "pandoc", "groff")]):
+        return
+    result = running.run(["packaging/manual", folder], env={**os.environ, "BUILT": built, "VERSION": repository.version()})
+    check(tally, result, "packaging/manual")
+    for path in repository.files_in(folder):
+        name, section = os.path.basename(path)[:-2], path[-1]
+        if section == "1":
+            program, *arguments = name.split("-")
+            text = running.run([f"{built}/bin/{program}", *arguments, "--help"]).out.decode()
+        else:
+            # (the page of a call is a link to that of its header)
+            text = repository.text_of(f"capi/include/{name.replace('_', '/', 1)}", "") or repository.text_of(f"capi/include/{name}", name)
+        result = running.run(["groff", "-man", "-Tascii", "-P-cbou", "-rLL=500n", "-rHY=0", f"-I{folder}", path])
+        words = (word.rstrip(".") for word in dict.fromkeys(text.split()) if not SIGN.fullmatch(word))
+        missing = [word for word in words if word.encode() not in result.out]
+        tally.judge(not result.status and not missing, f"{path} lacks {missing[:5]}: {short(result.err)}")
+
+
+def check_completion(tally, built):
+    environment = {**os.environ, "PATH": f"{built}/bin:{os.environ['PATH']}"}
+    for line, expected in json.loads(TABLES)["completed"] if tally.has("bash", "its completion") else ():
+        result = running.run(["bash", "--norc", "-c", COMPLETE, "bash", *line.split(" ")], env=environment)
+        tally.judge(result.out.decode().split() == expected, f"{line}: completed as {short(result.out + result.err)}, not as {expected}")
+
+
+def check_release(tally, built):
+    """Packs what is built for users, and tries that with the compilers of this machine."""
+    environment = {**os.environ, "BUILT": built, "VERSION": repository.version()}
+    result = running.run(["tools/release-test", "--here"], env=environment, timeout=1200)
+    check(tally, result, "tools/release-test --here", " passed, 0 failed")
+    skipped = [line for line in result.out.decode().splitlines() if line.startswith("SKIPPED")]
+    print(*skipped, sep="\n", end="\n" * bool(skipped), flush=True)
+    tally.skipped += len(skipped)
+
+
 def arguments(parser):
+    parser.add_argument("--sources", action="store_true", help="only whether what is built is of these sources")
     parser.add_argument("--built", metavar="FOLDER", type=os.path.abspath, help="a folder with bin/ and lib/ of any sources")
 
 
 def run(options):
-    repository.go_to_top()
-    tally, built_folder = Tally(), options.built or repository.TOP
-    version.check(tally)
-    reasons = [] if options.built else [library.reason_not_built(), *map(built.reason_not_built, ("tp", "samples"))]
+    tally, folder, built_folder = options.tally, options.temporary, options.built or repository.TOP
+    check_version(tally)
+    reasons = [] if options.built else [library.reason_not_built(), *map(repository.reason_not_built, ("tp", "samples"))]
     if any(reasons):
         tally.fails(f"{next(filter(None, reasons))}: `make` and `make lib` build what is installed")
-        return tally.end()
-    with tempfile.TemporaryDirectory() as folder:
-        generated.check_manual(tally, built_folder, f"{folder}/manual")
-        generated.check_completion(tally, built_folder)
-        for name, variables in (("usual", USUAL), ("other", OTHER)):
-            tree = Tree(f"{folder}/{name}", variables, built_folder)
-            if check(tally, tree.make("install"), "make install"):
-                check_files(tally, tree)
-                check_programs(tally, tree, tempfile.mkdtemp(dir=folder))
-                check_uninstall(tally, tree)
-    return tally.end()
+    if any(reasons) or options.sources:
+        return None
+    check_manual(tally, built_folder, f"{folder}/manual")
+    check_completion(tally, built_folder)
+    for name, variables in (("usual", USUAL), ("other", OTHER)):
+        tree = Tree(f"{folder}/{name}", variables, built_folder)
+        if check(tally, tree.make("install"), "make install"):
+            check_files(tally, tree)
+            check_programs(tally, tree, tempfile.mkdtemp(dir=folder))
+            check_uninstall(tally, tree)
+    check_release(tally, built_folder)
+    return None

@@ -1,7 +1,9 @@
-/* barriers.c TASKS ROUNDS: TASKS empty tasks between two barriers, ROUNDS times; every thread makes its share. */
+/* barriers.c TASKS ROUNDS [SECONDS]: TASKS empty tasks between two barriers, ROUNDS times; every thread makes its share. The runtime
+ * ends, and closes the tool, SECONDS before the program does. */
 #include <omp.h>
 #include <stdio.h>
 #include <stdlib.h>
+#include <unistd.h>
 
 int main(int count, char **arguments) {
     int tasks = count > 1 ? atoi(arguments[1]) : 1000, rounds = count > 2 ? atoi(arguments[2]) : 10;
@@ -19,5 +21,6 @@ int main(int count, char **arguments) {
 #pragma omp barrier
     }
     printf("%ld\n", ran);
+    if (count > 3) omp_pause_resource_all(omp_pause_hard), sleep((unsigned)atoi(arguments[3]));
     return ran != (long)tasks * rounds;
 }

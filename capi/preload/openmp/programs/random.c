@@ -1,11 +1,13 @@
 /* random.c SEED TASKS: a random program: nested tasks with random clauses on six addresses, taskwaits and taskgroups. Each task that
- * names an address exclusively checks that no other one uses it meanwhile, of its siblings. */
+ * names an address exclusively checks that no other one uses it meanwhile, of its siblings. Threads that wait for dependences are
+ * only in a team of one: libomp 14 has what others count for such a wait on the stack of the thread, which goes on too early. */
+#include <omp.h>
 #include <stdio.h>
 #include <stdlib.h>
 
 enum { CELLS = 6, DEPTH = 3 };
 typedef struct cell { int value, users; } cell;
-static int left, wrong;
+static int left, wrong, is_alone;
 
 static unsigned next(unsigned *seed) { return (*seed = *seed * 1664525u + 1013904223u) >> 16; }
 static void make(int depth, unsigned seed);
@@ -33,14 +35,14 @@ static void make_one(int depth, unsigned *seed, cell *a, cell *b) {
     case 5: TASK("omp task depend(in : *a) depend(mutexinoutset : *b)", b, NULL);
     case 6: TASK("omp task depend(inout : *a, *b)", a, b);
     case 7: TASK("omp task depend(mutexinoutset : *a, *b) untied", a, b);
-    case 8: TASK("omp task depend(inout : *a) if (0)", a, NULL);
+    case 8: TASK("omp task depend(inout : *a) if (!is_alone)", a, NULL);
     case 9: TASK("omp task depend(in : *a, *b) final(1)", NULL, NULL);
     case 10:
 #pragma omp taskgroup
         make(depth - 1, own);
         break;
     default:
-        if (own % 3 == 0) {
+        if (!is_alone || own % 3 == 0) {
 #pragma omp taskwait
         } else {
 #pragma omp taskwait depend(in : *a) depend(inout : *b)
@@ -60,7 +62,7 @@ int main(int count, char **arguments) {
     left = count > 2 ? atoi(arguments[2]) : 500;
 #pragma omp parallel
 #pragma omp single
-    while (__sync_fetch_and_add(&left, 0) > 0) make(DEPTH, next(&seed));
+    for (is_alone = omp_get_num_threads() == 1; __sync_fetch_and_add(&left, 0) > 0;) make(DEPTH, next(&seed));
     printf("%s\n", wrong ? "WRONG" : "as it should be");
     return wrong != 0;
 }

@@ -13,7 +13,7 @@ pub(crate) const NO_NUMBER: u32 = 4_294_967_295;
 /// The result of a call on a task graph.
 #[repr(C)]
 #[derive(Clone, Copy, Debug, PartialEq, Eq)]
-pub struct GraphAnswer {
+pub struct GraphResult {
     /// 0, or the number of the refusal.
     pub refused: u32,
     /// Of a turn: 1, run the task `number`; 2, spin; 3, sleep; 4, leave. Else 0, or as the call says.
@@ -24,13 +24,13 @@ pub struct GraphAnswer {
     pub signals: u32,
 }
 
-const _: () = prove!(size_of::<GraphAnswer>() == 16);
+const _: () = prove!(size_of::<GraphResult>() == 16);
 
 /// Returns the result of a call that was not refused.
-pub(crate) fn plain(next: u32, number: u32, signals: u32) -> GraphAnswer
+pub(crate) fn plain(next: u32, number: u32, signals: u32) -> GraphResult
     ensures { result ≡ plain next number signals }
 {
-    GraphAnswer {
+    GraphResult {
         refused: 0,
         next,
         number,
@@ -39,10 +39,10 @@ pub(crate) fn plain(next: u32, number: u32, signals: u32) -> GraphAnswer
 }
 
 /// Returns the result of a call that was refused because of a task or a limit, with the number of threads to signal.
-pub(crate) fn refused_with(refusal: TeamRefusal, number: u32, signals: u32) -> GraphAnswer
+pub(crate) fn refused_with(refusal: TeamRefusal, number: u32, signals: u32) -> GraphResult
     ensures { result ≡ refused_with refusal number signals }
 {
-    GraphAnswer {
+    GraphResult {
         refused: refusal.number(),
         next: 0,
         number,
@@ -51,7 +51,7 @@ pub(crate) fn refused_with(refusal: TeamRefusal, number: u32, signals: u32) -> G
 }
 
 /// Returns the result of a refused call.
-pub(crate) fn refused(refusal: TeamRefusal) -> GraphAnswer
+pub(crate) fn refused(refusal: TeamRefusal) -> GraphResult
     ensures { result ≡ refusal_answer refusal }
 {
     refused_with(refusal, limit_of(refusal), 0)
@@ -86,14 +86,14 @@ fn number_or_none(task: Option<u32>) -> u32
     }
 }
 
-fn of_fault(fault: Fault, signals: u32) -> GraphAnswer
+fn of_fault(fault: Fault, signals: u32) -> GraphResult
     ensures { result ≡ fault_answer fault signals }
 {
     refused_with(fault.refusal, number_or_none(fault.task), signals)
 }
 
 /// Returns the result of a turn.
-pub(crate) fn of_reply(reply: Reply) -> GraphAnswer
+pub(crate) fn of_reply(reply: Reply) -> GraphResult
     ensures { result ≡ reply_answer reply }
 {
     match reply.turn {
@@ -106,7 +106,7 @@ pub(crate) fn of_reply(reply: Reply) -> GraphAnswer
 }
 
 /// Returns the fault that ended a graph, if there is one.
-pub(crate) fn of_found_fault(found: Option<Fault>) -> GraphAnswer
+pub(crate) fn of_found_fault(found: Option<Fault>) -> GraphResult
     ensures { result ≡ found_fault_answer found }
 {
     match found {
@@ -116,7 +116,7 @@ pub(crate) fn of_found_fault(found: Option<Fault>) -> GraphAnswer
 }
 
 /// Returns an event, if there is one.
-pub(crate) fn of_event(event: Option<Event>) -> GraphAnswer
+pub(crate) fn of_event(event: Option<Event>) -> GraphResult
     ensures { result ≡ event_answer event }
 {
     match event {

@@ -18,12 +18,15 @@ pub enum TeamCall {
     Fault,
     Count,
     Event,
+    Reset,
+    Left,
 }
 
 /// A call on an open graph.
 #[derive(Clone, Copy)]
 pub enum Call {
     Close,
+    AddHandle,
     OfTeam(TeamCall),
 }
 
@@ -45,6 +48,9 @@ pub(crate) fn call_of(number: u32) -> Option<Call>
         10 => Some(Call::OfTeam(TeamCall::Fault)),
         11 => Some(Call::OfTeam(TeamCall::Count)),
         12 => Some(Call::OfTeam(TeamCall::Event)),
+        13 => Some(Call::OfTeam(TeamCall::Reset)),
+        14 => Some(Call::OfTeam(TeamCall::Left)),
+        15 => Some(Call::AddHandle),
         _ => None,
     }
 }

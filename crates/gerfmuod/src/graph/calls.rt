@@ -1,15 +1,17 @@
 //! The calls on a task graph, as C gets their results.
-ghost use Rattle.gerfmuod.specs.Graph.{IsDescribeCall, IsGraphCall, IsSpawnCall};
+ghost use Rattle.gerfmuod.specs.GraphCalls.{IsDescribeCall, IsGraphCall, IsSpawnCall, IsTaskCall};
 
-use crate::graph::answer::{GraphAnswer, plain, refused};
+use crate::graph::access::RawAccess;
+use crate::graph::answer::{GraphResult, plain, refused};
 use crate::graph::call::{Call, call_of};
+use crate::graph::data::{handle_added, task_added};
 use crate::graph::slot::GraphSlot;
 use crate::graph::team::{called, described, spawned};
 use tp_base::Refusal;
 use tp_team::TeamRefusal;
 
 /// Makes the call of a number.
-pub(crate) fn call(slot: &mut GraphSlot, number: u32, first: u32, second: u32) -> GraphAnswer
+pub(crate) fn call(slot: &mut GraphSlot, number: u32, first: u32, second: u32) -> GraphResult
     ensures { IsGraphCall slot.old number first second result slot.new }
 {
     if !slot.is_open() {
@@ -21,12 +23,13 @@ pub(crate) fn call(slot: &mut GraphSlot, number: u32, first: u32, second: u32) -
             slot.close();
             plain(0, 0, 0)
         }
+        Some(Call::AddHandle) => handle_added(slot),
         Some(Call::OfTeam(call)) => called(&mut slot.team, call, first, second),
     }
 }
 
 /// Adds a task.
-pub(crate) fn spawn(slot: &mut GraphSlot, class: u32, inputs: &[u32], outside: u32) -> GraphAnswer
+pub(crate) fn spawn(slot: &mut GraphSlot, class: u32, inputs: &[u32], outside: u32) -> GraphResult
     ensures { IsSpawnCall slot.old class inputs.now outside result slot.new }
 {
     if !slot.is_open() {
@@ -35,13 +38,28 @@ pub(crate) fn spawn(slot: &mut GraphSlot, class: u32, inputs: &[u32], outside: u
     spawned(&mut slot.team, class, inputs, outside)
 }
 
+/// Adds a task that accesses data.
+pub(crate) fn task(
+    slot: &mut GraphSlot,
+    class: u32,
+    accesses: &[RawAccess],
+    outside: u32,
+) -> GraphResult
+    ensures { IsTaskCall slot.old class accesses.now outside result slot.new }
+{
+    if !slot.is_open() {
+        return refused(TeamRefusal::Pool(Refusal::NoPool));
+    }
+    task_added(slot, class, accesses, outside)
+}
+
 /// Describes a whole graph.
 pub(crate) fn describe(
     slot: &mut GraphSlot,
     classes: &[u8],
     offsets: &[u32],
     inputs: &[u32],
-) -> GraphAnswer
+) -> GraphResult
     ensures { IsDescribeCall slot.old (record { classes = classes.now; offsets = offsets.now; inputs = inputs.now }) result slot.new }
 {
     if !slot.is_open() {

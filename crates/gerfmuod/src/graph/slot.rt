@@ -1,9 +1,10 @@
-//! The content of a `gerfmuod_graph`: a team, and a mark that says whether it is open.
+//! The content of a `gerfmuod_graph`: a team, the flow of its data handles, and a mark that says whether it is open.
 ghost use Rattle.std.specs.Prelude.{◌≡◌};
 ghost use Rattle.gerfmuod.specs.Graph.{closed, opened_graph};
 
 use std::alloc::Global;
 use std::marker::Model;
+use tp_flow::{Access, Flow};
 use tp_team::Team;
 
 /// The value of `mark` in an open graph: `gerfgrph` in ASCII.
@@ -24,6 +25,10 @@ fn can_be_sent<T: Send>() {}
 pub(crate) struct GraphSlot {
     mark: u64,
     pub(crate) team: Team,
+    pub(crate) flow: Flow,
+    // room for the accesses and the inputs of one task
+    pub(crate) accesses: Vec<Access>,
+    pub(crate) inputs: Vec<u32>,
     alloc: Global,
 }
 
@@ -32,9 +37,11 @@ impl Model for GraphSlot {
 
     ghost Value = { GraphState };
 
-    ghost use Rattle.gerfmuod.specs.GraphSlot.{state_of};
+    ghost use Rattle.gerfmuod.specs.GraphSlot.{state_of, HasNextNumber};
 
     ghost view = { state_of };
+
+    ghost invariant = { λ p. HasNextNumber (state_of p) };
 }
 
 impl GraphSlot {
@@ -46,6 +53,9 @@ impl GraphSlot {
         GraphSlot {
             mark: MARK,
             team: Team::open(alloc, is_traced != 0, processors),
+            flow: Flow::new(alloc),
+            accesses: Vec::new(alloc),
+            inputs: Vec::new(alloc),
             alloc,
         }
     }
@@ -57,11 +67,14 @@ impl GraphSlot {
         self.mark == MARK
     }
 
-    /// Drops the team, and marks the graph as not open.
+    /// Drops what the graph allocated, and marks it as not open.
     pub(crate) fn close(&mut self)
         ensures { self.new ≡ closed }
     {
         self.mark = 0;
         self.team = Team::open(self.alloc, false, 0);
+        self.flow = Flow::new(self.alloc);
+        self.accesses = Vec::new(self.alloc);
+        self.inputs = Vec::new(self.alloc);
     }
 }

@@ -3,13 +3,13 @@ ghost use Rattle.std.specs.Prelude.{◌≡◌};
 ghost use Rattle.gerfmuod.specs.Graph.{IsDescribe, IsSpawn, IsTeamCall};
 
 use crate::graph::answer::{
-    GraphAnswer, of_event, of_found_fault, of_reply, plain, refused, refused_with, task_named,
+    GraphResult, of_event, of_found_fault, of_reply, plain, refused, refused_with, task_named,
 };
 use crate::graph::call::TeamCall;
 use tp_team::Team;
 
 /// Makes a call.
-pub(crate) fn called(team: &mut Team, call: TeamCall, first: u32, second: u32) -> GraphAnswer
+pub(crate) fn called(team: &mut Team, call: TeamCall, first: u32, second: u32) -> GraphResult
     ensures { IsTeamCall call first second team.old result team.new }
 {
     match call {
@@ -38,11 +38,16 @@ pub(crate) fn called(team: &mut Team, call: TeamCall, first: u32, second: u32) -
         TeamCall::Fault => of_found_fault(team.fault()),
         TeamCall::Count => plain(team.ready(), team.tasks(), 0),
         TeamCall::Event => of_event(team.event(first)),
+        TeamCall::Reset => match team.reset() {
+            Ok(()) => plain(0, 0, 0),
+            Err(refusal) => refused(refusal),
+        },
+        TeamCall::Left => plain(0, team.left(), 0),
     }
 }
 
 /// Adds a task.
-pub(crate) fn spawned(team: &mut Team, class: u32, inputs: &[u32], outside: u32) -> GraphAnswer
+pub(crate) fn spawned(team: &mut Team, class: u32, inputs: &[u32], outside: u32) -> GraphResult
     ensures { IsSpawn class inputs.now outside team.old result team.new }
 {
     match team.spawn(class, inputs, outside) {
@@ -57,7 +62,7 @@ pub(crate) fn described(
     classes: &[u8],
     offsets: &[u32],
     inputs: &[u32],
-) -> GraphAnswer
+) -> GraphResult
     ensures { IsDescribe (record { classes = classes.now; offsets = offsets.now; inputs = inputs.now }) team.old result team.new }
 {
     match team.describe(classes, offsets, inputs) {

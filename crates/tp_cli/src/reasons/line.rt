@@ -1,9 +1,11 @@
-//! The reason for the first line of a script or a trace that is not of the grammar.
-ghost use Rattle.tp_cli.specs.Reasons.{MayExplain};
+//! The reason for a line of a script or a trace that is not of the grammar, or that was refused.
+ghost use Rattle.tp_shell.specs.Streams.{MayExplain};
 
 use crate::reasons::number::{cut, number_of, short_number_of};
+use crate::reasons::pending::explain_pending;
 use crate::text::TextKind;
 use itoa::Buffer;
+use std::alloc::Global;
 use tp_base::MAX_INPUTS;
 use tp_shell::Diagnostics;
 
@@ -17,13 +19,28 @@ struct Numbers {
     last: u32,
 }
 
-/// Prints what is wrong with the line that the reply names as not of the grammar, if it names one.
-pub(crate) fn explain_text<E: Diagnostics>(kind: TextKind, text: &[u8], answer: &[u8], err: &mut E)
+/// Prints what is wrong with the line that the reply names as not of the grammar, or what is pending if the line was
+/// refused for that.
+pub(crate) fn explain_text<E: Diagnostics>(
+    alloc: Global,
+    kind: TextKind,
+    text: &[u8],
+    answer: &[u8],
+    err: &mut E,
+)
     ensures { MayExplain E.tells err.old err.new }
 {
     if let Some(line) = line_named(answer) {
         explain_line(kind, text, line, err);
+    } else if let Some(line) = line_not_idle(answer) {
+        explain_pending(alloc, text, line, err);
     }
+}
+
+/// Returns the L of the reply `line L refused 11 NotIdle`.
+fn line_not_idle(answer: &[u8]) -> Option<u32> {
+    let rest = answer.strip_prefix(b"line ")?;
+    number_of(rest.strip_suffix(b" refused 11 NotIdle\n")?)
 }
 
 /// Returns the L of the reply `syntax line L`. A text has fewer than 1,000,000,000 lines.
@@ -39,16 +56,34 @@ fn explain_line<E: Diagnostics>(kind: TextKind, text: &[u8], line: u32, err: &mu
     let (words, is_ended) = find_line(text, line);
     let mut digits = Buffer::new();
     let number = digits.format(line);
-    if !is_ended && words.is_empty() {
-        err.tell_parts(&["line ", number, " is missing\n"])
-    } else if !is_ended {
-        err.tell_parts(&["line ", number, " has no end\n"])
+    if let Some(what) = unseen(words, is_ended) {
+        err.tell_parts(&["reason: line ", number, what])
     } else if kind == TextKind::Trace && line <= 1 {
-        err.tell_parts(&["line ", number, " is neither `trace 1` nor `trace 2`\n"])
+        err.tell_parts(&[
+            "reason: line ",
+            number,
+            " is neither `trace 1` nor `trace 2`\n",
+        ])
     } else if line <= nodes_at(kind, is_second) {
-        err.tell_parts(&["line ", number, " is not `nodes N`, N from 1 to 8\n"])
+        err.tell_parts(&[
+            "reason: line ",
+            number,
+            " is not `nodes N`, N from 1 to 8\n",
+        ])
     } else {
         explain_step(kind, is_second, number, words, err)
+    }
+}
+
+/// Returns what is wrong with a line that an editor does not show, if something is.
+fn unseen(words: &[u8], is_ended: bool) -> Option<&'static str> {
+    match words {
+        [] if !is_ended => Some(" is missing\n"),
+        _ if !is_ended => Some(" has no end\n"),
+        [0xef, 0xbb, 0xbf, ..] => Some(" begins with a byte order mark\n"),
+        [.., b'\r'] => Some(" ends with a carriage return: lines end with a line feed alone\n"),
+        [.., b' '] => Some(" ends with a space\n"),
+        _ => None,
     }
 }
 
@@ -62,7 +97,7 @@ fn is_second(kind: TextKind, text: &[u8]) -> bool {
 }
 
 /// Returns the line of a text, and whether a line feed ends it.
-fn find_line(text: &[u8], line: u32) -> (&[u8], bool) {
+pub(crate) fn find_line(text: &[u8], line: u32) -> (&[u8], bool) {
     let mut rest = text;
     for _ in 1..line {
         match cut(rest, b'\n') {
@@ -98,12 +133,12 @@ fn explain_step<E: Diagnostics>(
     };
     match word {
         b"reopen" if !is_second => err.tell_parts(&[
-            "line ",
+            "reason: line ",
             line,
             ": version 1 has no step `reopen`\n",
         ]),
         b"judge" if kind == TextKind::Trace => err.tell_parts(&[
-            "line ",
+            "reason: line ",
             line,
             ": after `judge` comes `not` or `ended W`, W at least 1\n",
         ]),
@@ -130,8 +165,8 @@ fn explain_unknown<E: Diagnostics>(line: &str, word: &[u8], err: &mut E)
     ensures { MayExplain E.tells err.old err.new }
 {
     match shown(word) {
-        Some(word) => err.tell_parts(&["line ", line, ": unknown step `", word, "`\n"]),
-        None => err.tell_parts(&["line ", line, ": not a step\n"]),
+        Some(word) => err.tell_parts(&["reason: line ", line, ": unknown step `", word, "`\n"]),
+        None => err.tell_parts(&["reason: line ", line, ": not a step\n"]),
     }
 }
 
@@ -154,9 +189,9 @@ fn explain_numbers<E: Diagnostics>(
     }
     match word {
         b"insert" if last > u32::from(MAX_INPUTS) => {
-            err.tell_parts(&["line ", line, ": a task has at most 16 inputs\n"])
+            err.tell_parts(&["reason: line ", line, ": a task has at most 16 inputs\n"])
         }
-        _ => err.tell_parts(&["line ", line, " does not match the grammar\n"]),
+        _ => err.tell_parts(&["reason: line ", line, " does not match the grammar\n"]),
     }
 }
 
@@ -167,7 +202,7 @@ fn explain_count<E: Diagnostics>(line: &str, count: usize, due: usize, err: &mut
     let mut has = Buffer::new();
     let mut takes = Buffer::new();
     err.tell_parts(&[
-        "line ",
+        "reason: line ",
         line,
         ": wrong count of numbers: ",
         has.format(count),
@@ -182,8 +217,8 @@ fn explain_other<E: Diagnostics>(line: &str, word: &[u8], err: &mut E)
     ensures { MayExplain E.tells err.old err.new }
 {
     match shown(word) {
-        Some(word) => err.tell_parts(&["line ", line, ": `", word, "` is not ", A_NUMBER]),
-        None => err.tell_parts(&["line ", line, ": not ", A_NUMBER]),
+        Some(word) => err.tell_parts(&["reason: line ", line, ": `", word, "` is not ", A_NUMBER]),
+        None => err.tell_parts(&["reason: line ", line, ": not ", A_NUMBER]),
     }
 }
 

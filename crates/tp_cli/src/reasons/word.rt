@@ -1,5 +1,5 @@
 //! The reasons why a specification names no pool, and why several may not be registered.
-ghost use Rattle.tp_cli.specs.Reasons.{MayExplain};
+ghost use Rattle.tp_shell.specs.Streams.{MayExplain};
 
 use crate::reasons::number::short_number_of;
 use itoa::Buffer;
@@ -60,7 +60,7 @@ pub(crate) fn explain_words<E: Diagnostics>(words: &[&str], err: &mut E)
     ensures { MayExplain E.tells err.old err.new }
 {
     if words.len() > SPECS.len() {
-        return err.tell("more than 8 pools\n");
+        return err.tell("reason: more than 8 pools\n");
     }
     if let Some((spec, reason)) = words_reason(words) {
         write_reason(spec, reason, err);
@@ -135,7 +135,11 @@ fn write_reason<E: Diagnostics>(word: &str, reason: WordReason, err: &mut E)
 {
     match reason {
         WordReason::UnknownKind => {
-            err.tell_parts(&[word, ": the kind must be product, wavefront or reduce\n"])
+            err.tell_parts(&[
+                "reason: ",
+                word,
+                ": the kind must be product, wavefront or reduce\n",
+            ])
         }
         WordReason::Form(form) => write_form(word, form, err),
         WordReason::NoNumber(field) => write_no_number(word, field.name(), err),
@@ -149,7 +153,7 @@ fn write_reason<E: Diagnostics>(word: &str, reason: WordReason, err: &mut E)
                 err,
             )
         }
-        WordReason::Repeated => err.tell_parts(&[word, " repeats an earlier one\n"]),
+        WordReason::Repeated => err.tell_parts(&["reason: ", word, " repeats an earlier one\n"]),
         WordReason::Undivided(side, order) => write_undivided(word, side, order, err),
     }
 }
@@ -158,7 +162,7 @@ fn write_reason<E: Diagnostics>(word: &str, reason: WordReason, err: &mut E)
 fn write_form<E: Diagnostics>(word: &str, form: &str, err: &mut E)
     ensures { MayExplain E.tells err.old err.new }
 {
-    err.tell_parts(&[word, ": the form must be ", form, "\n"])
+    err.tell_parts(&["reason: ", word, ": the form must be ", form, "\n"])
 }
 
 /// Prints that a part of a specification, of this name, is no number.
@@ -166,6 +170,7 @@ fn write_no_number<E: Diagnostics>(word: &str, name: &str, err: &mut E)
     ensures { MayExplain E.tells err.old err.new }
 {
     err.tell_parts(&[
+        "reason: ",
         word,
         ": ",
         name,
@@ -183,7 +188,9 @@ fn write_range<'a, E: Diagnostics>(
 )
     ensures { MayExplain E.tells err.old err.new }
 {
-    err.tell_parts(&[word, ": ", name, " ", number, " is ", range, "\n"])
+    err.tell_parts(&[
+        "reason: ", word, ": ", name, " ", number, " is ", range, "\n",
+    ])
 }
 
 /// Prints that the side of the tiles does not divide the order of a product.
@@ -193,6 +200,7 @@ fn write_undivided<E: Diagnostics>(word: &str, side: u32, order: u32, err: &mut 
     let mut sides = Buffer::new();
     let mut orders = Buffer::new();
     err.tell_parts(&[
+        "reason: ",
         word,
         ": SIDE ",
         sides.format(side),

@@ -131,7 +131,10 @@ fn push_process(text: &mut String, node: u32, has_tasks: bool) -> Result<(), All
     } else {
         text.push_str("all nodes")?;
     }
-    text.push_str("\"}}")
+    write!(
+        text,
+        "\"}}}},\n{{\"ph\":\"M\",\"pid\":{process},\"name\":\"process_sort_index\",\"args\":{{\"sort_index\":{process}}}}}"
+    )
 }
 
 /// Appends how many bodies of a node were done, over time.

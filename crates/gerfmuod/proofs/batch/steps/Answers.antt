@@ -4,12 +4,12 @@ use Rattle.gerfmuod.proofs.batch.steps.Goals as goal
 
 pub returns : goal.returns
 returns c =
-    let events = c.args.events.now in
+    let steps = c.args.steps.now in
     let room = c.args.answers.now in
     let entered = c.if-not-enter.ensures.entered refl in
     let before : c.slot.inside.room ≡ c.args.slot.now.core = ap (λ (s : CoreState). s.core) (c.slot.view_is ∙ entered.1) in
-    let given : take c.min-length.result events ≡ take (length room) events =
-    ap (λ k. take k events) c.min-length.ensures ∙ take_min (length room) events in
+    let given : take c.min-length.result steps ≡ take (length room) steps =
+    ap (λ k. take k steps) c.min-length.ensures ∙ take_min (length room) steps in
     let after = c.leave.ensures in
-    taken_by_call events _ room c.args.slot.now c.leave.new.self c.slot.inside.room c.taken-count.result c.taken-count.new.answers
+    taken_by_call steps _ room c.args.slot.now c.leave.new.self c.slot.inside.room c.taken-count.result c.taken-count.new.answers
     given before entered.0 (rw after refl) (rw after c.taken-count.ensures)

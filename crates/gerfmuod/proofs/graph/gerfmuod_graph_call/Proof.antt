@@ -1,7 +1,7 @@
 -- The proof of `gerfmuod_graph_call`: it passes its arguments on with a borrow of the graph.
 use Rattle.gerfmuod.proofs.Borrowing.{[], ◌∷◌, refl, full_share, id⊢, vptr, flat, ◌$◌, !, done, enter, of_opd, addr, stop, no_more}
 use Rattle.gerfmuod.proofs.Borrowing.{and_then, returns, alloc_all, pass_all, free_all, look_at, get, through, sets, lands_as, framed}
-use Rattle.gerfmuod.proofs.Borrowing.{layout, tables, triple_of, graph_answer_row, graph_row, graph_answer_laws, exported, gives, passes_on}
+use Rattle.gerfmuod.proofs.Borrowing.{layout, tables, triple_of, graph_result_row, graph_row, graph_result_laws, exported, gives, passes_on}
 use Rattle.gerfmuod.proofs.Borrowing.{lent, dropped, drops, nums, nums_go, spells, tell, typed, u32s, vals, IsGraphCall}
 use Rattle.gerfmuod.specs.contracts.graph.gerfmuod_graph_call as f
 use Rattle.gerfmuod.proofs.graph.gerfmuod_graph_call.Statement.{statement}
@@ -11,7 +11,7 @@ use Rattle.gerfmuod.proofs.graph.calls.call.Met.{met}
 
 pub gerfmuod_graph_call_spec : {M : Type 1} → statement M
 gerfmuod_graph_call_spec 𝓤 𝓛 𝓜 𝓡 wired =
-    exported 𝓛 𝓜 𝓡 graph_row graph_answer_row graph_answer_laws 0 (nums 3) f.ended.kept.1
+    exported 𝓛 𝓜 𝓡 graph_row graph_result_row graph_result_laws 0 (nums 3) f.ended.kept.1
     (λ κs a n u out new. IsGraphCall n a.0 a.1.0 a.1.1.0 u new)
     (dropped {n = 0} (nums 3) f.ended.kept.1) (nums_go 𝓛 0 3 f.ended.kept.1) (drops 𝓛 0 (nums 3) f.ended.kept.1)
     f.Key.name code.function (code.unfolded 𝓤 𝓛.H 𝓜 𝓡 wired) (λ κs. spells 3) (λ κs. tell 3)
@@ -20,6 +20,6 @@ gerfmuod_graph_call_spec 𝓤 𝓛 𝓜 𝓡 wired =
     (λ α γ. refl) (λ α γ. id⊢ 𝓤 _) (λ α γ v. id⊢ 𝓤 _) (λ Q.
     enter ! _ _ _ _ _ $ alloc_all ! (λ l. pass_all ! refl ((tt, tt), typed 3 a are) $
     sets ! (of_opd ! (get ! refl)) refl (tt, tt) $ sets ! (addr ! (through ! refl (stop !))) refl (tt, tt) $
-    passes_on ! (framed 𝓤 𝓛.H 𝓜 (tables 𝓤 𝓛.H 𝓜 𝓡 𝓡.env)) (layout graph_answer_row) (vptr b o ∷ flat (u32s 3) (vals 3 a)) Q
+    passes_on ! (framed 𝓤 𝓛.H 𝓜 (tables 𝓤 𝓛.H 𝓜 𝓡 𝓡.env)) (layout graph_result_row) (vptr b o ∷ flat (u32s 3) (vals 3 a)) Q
     (and_then ! (get ! refl) (and_then ! (get ! refl) (and_then ! (get ! refl) (and_then ! (get ! refl) (no_more !)))))
     (λ v good. lands_as ! refl refl good $ returns ! (look_at ! 0 refl) $ free_all ! refl $ done !))))

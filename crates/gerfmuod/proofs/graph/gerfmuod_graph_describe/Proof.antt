@@ -2,7 +2,7 @@
 use Rattle.gerfmuod.proofs.Borrowing.{List, [], ◌∷◌, refl, full_share, id⊢, named, vptr, flat, ◌$◌, !, done, enter, of_opd, addr, stop}
 use Rattle.gerfmuod.proofs.Borrowing.{no_more, and_then, returns, alloc_all, pass_all, free_all, look_at, get, through, sets, lands_as}
 use Rattle.gerfmuod.proofs.Borrowing.{framed, layout, tables, triple_of, u8, u32, yes, plain, shr_slice_of, shr_slice_vals, shr_slice_Tells}
-use Rattle.gerfmuod.proofs.Borrowing.{types_at, Goes-dropped, Slot, graph_row, graph_answer_row, graph_answer_laws, exported, gives, passes_on, lent}
+use Rattle.gerfmuod.proofs.Borrowing.{types_at, Goes-dropped, Slot, graph_row, graph_result_row, graph_result_laws, exported, gives, passes_on, lent}
 use Rattle.gerfmuod.proofs.Borrowing.{dropped, drops, IsDescribeCall, Val}
 use Rattle.gerfmuod.specs.contracts.graph.gerfmuod_graph_describe as f
 use Rattle.gerfmuod.proofs.graph.gerfmuod_graph_describe.Statement.{statement}
@@ -24,7 +24,7 @@ slots = classes ∷ offsets ∷ inputs ∷ []
 
 pub gerfmuod_graph_describe_spec : {M : Type 1} → statement M
 gerfmuod_graph_describe_spec 𝓤 𝓛 𝓜 𝓡 wired =
-    exported 𝓛 𝓜 𝓡 graph_row graph_answer_row graph_answer_laws 3 slots f.ended.kept.1
+    exported 𝓛 𝓜 𝓡 graph_row graph_result_row graph_result_laws 3 slots f.ended.kept.1
     (λ κs a n u out new. IsDescribeCall n (record { classes = a.0.now; offsets = a.1.0.now; inputs = a.1.1.0.now }) u new)
     (dropped slots f.ended.kept.1) (
       Goes-dropped 𝓛 3 classes yes (λ κs x w. refl),
@@ -51,6 +51,6 @@ gerfmuod_graph_describe_spec 𝓤 𝓛 𝓜 𝓡 wired =
       ),
     ) $
     sets ! (of_opd ! (get ! refl)) refl (tt, tt) $ sets ! (addr ! (through ! refl (stop !))) refl (tt, tt) $
-    passes_on ! (framed 𝓤 𝓛.H 𝓜 (tables 𝓤 𝓛.H 𝓜 𝓡 𝓡.env)) (layout graph_answer_row) (vptr b o ∷ flat (types_at slots κs) vs) Q
+    passes_on ! (framed 𝓤 𝓛.H 𝓜 (tables 𝓤 𝓛.H 𝓜 𝓡 𝓡.env)) (layout graph_result_row) (vptr b o ∷ flat (types_at slots κs) vs) Q
     (and_then ! (get ! refl) (and_then ! (get ! refl) (and_then ! (get ! refl) (and_then ! (get ! refl) (no_more !)))))
     (λ v good. lands_as ! refl refl good $ returns ! (look_at ! 0 refl) $ free_all ! refl $ done !))))

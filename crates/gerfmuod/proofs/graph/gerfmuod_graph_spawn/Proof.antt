@@ -2,7 +2,7 @@
 use Rattle.gerfmuod.proofs.Borrowing.{List, [], ◌∷◌, refl, full_share, id⊢, named, vint, vptr, w32, flat, ◌$◌, !, done, enter, of_opd, addr}
 use Rattle.gerfmuod.proofs.Borrowing.{stop, no_more, and_then, returns, alloc_all, pass_all, free_all, look_at, get, through, sets, lands_as}
 use Rattle.gerfmuod.proofs.Borrowing.{framed, layout, tables, triple_of, u32, yes, plain, uint_vals, uint_Tells, shr_slice_of, shr_slice_vals}
-use Rattle.gerfmuod.proofs.Borrowing.{shr_slice_Tells, types_at, Goes-dropped, Slot, graph_row, graph_answer_row, graph_answer_laws, exported}
+use Rattle.gerfmuod.proofs.Borrowing.{shr_slice_Tells, types_at, Goes-dropped, Slot, graph_row, graph_result_row, graph_result_laws, exported}
 use Rattle.gerfmuod.proofs.Borrowing.{passes_on, gives, lent, dropped, drops, IsSpawnCall, Val}
 use Rattle.gerfmuod.specs.contracts.graph.gerfmuod_graph_spawn as f
 use Rattle.gerfmuod.proofs.graph.gerfmuod_graph_spawn.Statement.{statement}
@@ -16,7 +16,7 @@ slots = plain (λ _. u32) ∷ shr_slice_of (0 ∷ []) tt (plain (λ _. u32)) ∷
 pub gerfmuod_graph_spawn_spec : {M : Type 1} → statement M
 gerfmuod_graph_spawn_spec 𝓤 𝓛 𝓜 𝓡 wired =
     let num = Goes-dropped 𝓛 1 (plain (λ _. u32)) yes (λ κs x w. refl) in
-    exported 𝓛 𝓜 𝓡 graph_row graph_answer_row graph_answer_laws 1 slots f.ended.kept.1
+    exported 𝓛 𝓜 𝓡 graph_row graph_result_row graph_result_laws 1 slots f.ended.kept.1
     (λ κs a n u out new. IsSpawnCall n a.0 a.1.0.now a.1.1.0 u new) (dropped slots f.ended.kept.1)
     (num, (Goes-dropped 𝓛 1 (shr_slice_of (0 ∷ []) tt (plain (λ _. u32))) yes (λ κs x w. refl), (num, tt)))
     (drops 𝓛 1 slots f.ended.kept.1)
@@ -31,6 +31,6 @@ gerfmuod_graph_spawn_spec 𝓤 𝓛 𝓜 𝓡 wired =
     enter ! _ _ _ _ _ $ alloc_all ! (λ l.
     pass_all ! refl ((tt, tt), ((tt, record { fits = i }), ((tt, (tt, (record { fits = few }, tt))), ((tt, record { fits = j }), tt)))) $
     sets ! (of_opd ! (get ! refl)) refl (tt, tt) $ sets ! (addr ! (through ! refl (stop !))) refl (tt, tt) $
-    passes_on ! (framed 𝓤 𝓛.H 𝓜 (tables 𝓤 𝓛.H 𝓜 𝓡 𝓡.env)) (layout graph_answer_row) (vptr b o ∷ flat (types_at slots κs) vs) Q
+    passes_on ! (framed 𝓤 𝓛.H 𝓜 (tables 𝓤 𝓛.H 𝓜 𝓡 𝓡.env)) (layout graph_result_row) (vptr b o ∷ flat (types_at slots κs) vs) Q
     (and_then ! (get ! refl) (and_then ! (get ! refl) (and_then ! (get ! refl) (and_then ! (get ! refl) (no_more !)))))
     (λ v good. lands_as ! refl refl good $ returns ! (look_at ! 0 refl) $ free_all ! refl $ done !))))

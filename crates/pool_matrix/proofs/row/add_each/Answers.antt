@@ -3,7 +3,7 @@ use Rattle.std.proofs.lemmas.Int.{to_z-of_z}
 use Rattle.tp_graph.specs.Values.{gather}
 use Rattle.tp_graph.proofs.Made.{gathered}
 use Rattle.pool_matrix.specs.Rows.{one_more, row_entry}
-use Rattle.pool_matrix.proofs.Fours.{row_of_none, row_of_one, rows_joined, row_stays}
+use Rattle.pool_matrix.proofs.RowSums.{row_of_none, row_of_one, rows_joined, row_stays}
 use Rattle.pool_matrix.proofs.row.add_each.Goals as goal
 
 pub loop-z-init : goal.loop-z-init

@@ -13,13 +13,13 @@ slice_bounds-sums-end c =
     omega (arith, long, c.loop-row.invariant.long, ap length c.as_mut_slice-tile.ensures.value, last) in
     search (rules, room)
 
-pub returns-in_err-add_rows : goal.returns-in_err-add_rows
-returns-in_err-add_rows c =
+pub returns-in_err-add_each : goal.returns-in_err-add_each
+returns-in_err-add_each c =
     let m = c.args.matrices in
     let side = c.args.side in
     let row = c.loop-row.row in
     let begun = rw (← c.as_mut_slice-tile.ensures.value) at (c.in_ok-made.ensures) in
-    let failed = c.in_err-add_rows.ensures.1 in
+    let failed = c.in_err-add_each.ensures.1 in
     let w : row * side + side - row * side ≡ side = omega arith in
     let none = tile_fails m.order side m.left.now m.right.now c.args.i c.args.j c.args.k c.args.before.now c.as_mut_slice-tile.result.now
     c.requires.some begun row (row * side + side - row * side) c.loop-row.tile c.loop-row-test.true w c.loop-row.invariant failed in
@@ -31,11 +31,11 @@ loop-row-preserved c =
     let side = c.args.side in
     let row = c.loop-row.row in
     let begun = rw (← c.as_mut_slice-tile.ensures.value) at (c.in_ok-made.ensures) in
-    let made = c.in_ok-add_rows.ensures in
+    let made = c.in_ok-add_each.ensures in
     let w : row * side + side - row * side ≡ side = omega arith in
     tile_step m.order side m.left.now m.right.now c.args.i c.args.j c.args.k c.args.before.now c.as_mut_slice-tile.result.now
     c.requires.some begun row (row * side + side - row * side) c.loop-row.tile c.loop-row-test.true w c.loop-row.invariant
-    c.add_rows.new.sums made
+    c.add_each.new.sums made
 
 pub returns : goal.returns
 returns c =

@@ -27,18 +27,19 @@ returns-in-Ok-Answer-clause-unread g c =
 pub returns-in-Ok-Run-clause-answered : goal.returns-in-Ok-Run-clause-answered
 returns-in-Ok-Run-clause-answered g c =
     let asked = rw c.in-Ok-Run.field-0-is at c.in-Ok-Run.ensures.asked in
-    IfOk-weaker c.run.result _ _
+    IfOk-weaker c.run-ended.result _ _
     (λ status did.
     answered_run (map (λ w. w.now) c.args.words.now) _ _ _ _ c.in-Ok-Run.spec.now c.in-Ok-Run.plan status did.1.0 asked.0 did.0 did.1.1
     did.1.2)
-    c.run.ensures.ran
+    c.run-ended.ensures.ran
 
 pub returns-in-Ok-Run-clause-why : goal.returns-in-Ok-Run-clause-why
 returns-in-Ok-Run-clause-why g c =
     let asked = rw c.in-Ok-Run.field-0-is at c.in-Ok-Run.ensures.asked in
-    both c.run.result _ _ _
-    (λ fault why kept. run_fault (map (λ w. w.now) c.args.words.now) _ _ c.in-Ok-Run.spec.now c.in-Ok-Run.plan _ fault asked.0 why kept)
-    c.run.ensures.why c.run.ensures.unwritten
+    both c.run-ended.result _ _ _
+    (λ fault why kept.
+    run_fault (map (λ w. w.now) c.args.words.now) _ _ c.in-Ok-Run.spec.now c.in-Ok-Run.plan _ _ fault asked.0 asked.1 why kept)
+    c.run-ended.ensures.why c.run-ended.ensures.unwritten
 
 pub returns-in-Ok-Pools-clause-answered : goal.returns-in-Ok-Pools-clause-answered
 returns-in-Ok-Pools-clause-answered g c =

@@ -1,5 +1,6 @@
 use Rattle.std.proofs.Common.{rules, ◌≡◌, Err, IfErr, refl, subst, sym}
 use Rattle.std.proofs.lemmas.Result.{IfErr-weaker, IfOk-weaker}
+use Rattle.std.specs.Option.{option_map}
 use Rattle.tp_base.specs.declared.refusal.Refusal.TheVariants.{BadSpec}
 use Rattle.tp_cli.proofs.Ending.{names_none}
 use Rattle.tp_cli.specs.Runs.{IsRunFault, IsTextOf}
@@ -38,9 +39,10 @@ returns-in-Ok-write_text-clause-ran g c =
 
 pub returns-in-Ok-write_text-clause-why : goal.returns-in-Ok-write_text-clause-why
 returns-in-Ok-write_text-clause-why g c =
-    let made : IsRunFault c.args.plan c.args.spec.now faults.Write =
+    let file = option_map (λ f. f.now) c.args.file in
+    let made : IsRunFault c.args.plan c.args.spec.now file faults.Write =
     (c.in-Ok-text_watched.text.items, (c.in-Ok.graph, c.in-Ok.ensures.only, c.in-Ok-text_watched.ensures)) in
-    IfErr-weaker c.status_of_profile.result _ _ (λ fault is. subst (IsRunFault c.args.plan c.args.spec.now) (sym is) made)
+    IfErr-weaker c.status_of_profile.result _ _ (λ fault is. subst (IsRunFault c.args.plan c.args.spec.now file) (sym is) made)
     c.status_of_profile.ensures.why
 
 pub returns-in-Ok-write_text-clause-unnamed : goal.returns-in-Ok-write_text-clause-unnamed

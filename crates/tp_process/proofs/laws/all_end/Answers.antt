@@ -1,6 +1,5 @@
 -- The theorems that `all_end` names.
-use Rattle.tp_process.proofs.Network.{all_end}
-use Rattle.tp_process.proofs.Ties.{handed_law}
+use Rattle.tp_process.proofs.Network.{all_end, handed_law}
 use Rattle.tp_process.proofs.laws.all_end.Goals as goal
 
 pub returns : goal.returns

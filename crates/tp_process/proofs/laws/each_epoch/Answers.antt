@@ -1,6 +1,5 @@
 -- The theorems that `each_epoch` names.
-use Rattle.tp_process.proofs.Epochs.{epoch_law}
-use Rattle.tp_process.proofs.Ties.{calls}
+use Rattle.tp_process.proofs.Network.{epoch_law, calls}
 use Rattle.tp_process.proofs.laws.each_epoch.Goals as goal
 
 pub returns : goal.returns

@@ -1,6 +1,5 @@
 -- The theorems that `goes_on_each` names.
-use Rattle.tp_process.proofs.Ahead.{goes_on_epoch, lags}
-use Rattle.tp_process.proofs.Few.{once_epoch, soon_epoch}
+use Rattle.tp_process.proofs.Network.{goes_on_epoch, lags, once_epoch, soon_epoch}
 use Rattle.tp_process.proofs.laws.goes_on_each.Goals as goal
 
 pub returns : goal.returns

@@ -1,5 +1,5 @@
 -- The theorems that `never_early` names.
-use Rattle.tp_process.proofs.Early.{ended, never_early}
+use Rattle.tp_process.proofs.Network.{ended, never_early}
 use Rattle.tp_process.proofs.laws.never_early.Goals as goal
 
 pub returns : goal.returns

@@ -1,5 +1,5 @@
 -- The theorems that `never_early_each` names.
-use Rattle.tp_process.proofs.Epochs.{left_epoch, never_early_epoch, none_late}
+use Rattle.tp_process.proofs.Network.{left_epoch, never_early_epoch, none_late}
 use Rattle.tp_process.proofs.laws.never_early_each.Goals as goal
 
 pub returns : goal.returns

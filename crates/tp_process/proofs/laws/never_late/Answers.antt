@@ -1,5 +1,5 @@
 -- The theorem that `never_late` names.
-use Rattle.tp_process.proofs.Late.{never_late}
+use Rattle.tp_process.proofs.Network.{never_late}
 use Rattle.tp_process.proofs.laws.never_late.Goals as goal
 
 pub returns : goal.returns

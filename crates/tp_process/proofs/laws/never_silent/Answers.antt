@@ -1,7 +1,5 @@
 -- The theorems that `never_silent` names.
-use Rattle.tp_process.proofs.Goes.{goes_on}
-use Rattle.tp_process.proofs.Soon.{soon}
-use Rattle.tp_process.proofs.Once.{once}
+use Rattle.tp_process.proofs.Network.{goes_on, soon, once}
 use Rattle.tp_process.proofs.laws.never_silent.Goals as goal
 
 pub returns : goal.returns

@@ -1,5 +1,5 @@
 -- The theorems that `stays_open` names.
-use Rattle.tp_process.proofs.Opening.{open_calls, stays_open}
+use Rattle.tp_process.proofs.Network.{open_calls, stays_open}
 use Rattle.tp_process.proofs.laws.stays_open.Goals as goal
 
 pub returns : goal.returns

@@ -1,6 +1,4 @@
-use Rattle.std.proofs.Common.{◌+◌, ◌*◌, ◌<◌, length, slice_index, arith, ap, ◌∙◌}
-use borrow.Author.Count.{below_more}
-use Rattle.tp_text.specs.Words.{IsDigit}
+use Rattle.tp_text.proofs.Names.{◌+◌, ◌*◌, ◌<◌, length, slice_index, arith, ap, ◌∙◌, below_more, IsDigit}
 use Rattle.tp_text.proofs.number.leading_digits.Goals as goal
 use Rattle.tp_text.proofs.Numbers.{value_more, value_small}
 

@@ -1,6 +1,4 @@
-use Rattle.std.proofs.Common.{◌-◌, ◌≡◌, ◌<◌, ◌≤◌, ℕ, length, slice_index, take}
-use Rattle.std.specs.Str.Parse.{digits_value}
-use Rattle.tp_text.specs.Words.{IsDigit}
+use Rattle.tp_text.proofs.Names.{◌-◌, ◌≡◌, ◌<◌, ◌≤◌, ℕ, length, slice_index, take, digits_value, IsDigit}
 use Rattle.tp_text.proofs.number.leading_digits.Given as goal
 
 abbrev pub invariant-loop-len : goal.invariant-loop-len

@@ -1,4 +1,4 @@
-use Rattle.std.proofs.Common.{◌≡◌, true, false, refl, arith}
+use Rattle.tp_text.proofs.Names.{◌≡◌, true, false, refl, arith}
 use Rattle.tp_text.proofs.number.leading_number.Goals as goal
 use Rattle.tp_text.proofs.number.leading_number.Goals.{then-len-eq0-via-then-len-eq0, then-len-eq0-via-else-len-eq0+then-len-gt6}
 use Rattle.tp_text.proofs.number.leading_number.Goals.{then-len-eq0-via-else-len-eq0+else-len-gt6+then-is_padded}

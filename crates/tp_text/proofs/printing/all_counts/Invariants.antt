@@ -1,6 +1,4 @@
-use Rattle.std.proofs.Common.{◌≡◌, ◌≤◌, ◌*◌, ◌^◌}
-use Rattle.tp_base.specs.Totals.{total}
-use Rattle.tp_text.specs.Printed.{listed}
+use Rattle.tp_text.proofs.Names.{◌≡◌, ◌≤◌, ◌*◌, ◌^◌, total, listed}
 use Rattle.tp_text.proofs.printing.all_counts.Given as goal
 
 abbrev pub invariant-loop-numbers : goal.invariant-loop-numbers

@@ -1,4 +1,4 @@
-use Rattle.std.proofs.Common.{take, ◌∙◌, rules}
+use Rattle.tp_text.proofs.Names.{take, ◌∙◌, rules}
 use Rattle.tp_text.proofs.Printed.{closing_written, Lists, AddsUp, lists_first}
 use Rattle.tp_text.proofs.printing.push_closing.Goals as goal
 

@@ -1,6 +1,4 @@
-use Rattle.std.proofs.Common.{◌≡◌, ◌++◌}
-use Rattle.tp_text.specs.Printed.{listed}
-use Rattle.tp_text.specs.SimText.{node_lines}
+use Rattle.tp_text.proofs.Names.{◌≡◌, ◌++◌, listed, node_lines}
 use Rattle.tp_text.proofs.printing.push_nodes.Given as goal
 
 abbrev pub invariant-loop-i : goal.invariant-loop-i

@@ -1,9 +1,5 @@
-use Rattle.std.proofs.Common.{subst}
+use Rattle.tp_text.proofs.Names.{subst, Refused, IsRecounted, IsAuditText, AreStepsBeforeFault}
 use Rattle.tp_text.specs.declared.recount.Recounted.TheVariants as recounts
-use Rattle.tp_text.specs.declared.verdict.Verdict.TheVariants.{Refused}
-use Rattle.tp_text.specs.Auditing.{IsRecounted}
-use Rattle.tp_text.specs.AuditText.{IsAuditText}
-use Rattle.tp_text.specs.Reading.{AreStepsBeforeFault}
 use Rattle.tp_text.proofs.Readings.{broken_read, broken_told, handed_runs}
 use Rattle.tp_text.proofs.Recounting.{broken_answered}
 use Rattle.tp_text.proofs.reading.reading_of.Goals as goal

@@ -1,6 +1,5 @@
-use Rattle.std.proofs.Common.{subst}
+use Rattle.tp_text.proofs.Names.{subst, IsRecounted}
 use Rattle.tp_text.specs.declared.recount.Recounted.TheVariants as recounts
-use Rattle.tp_text.specs.Auditing.{IsRecounted}
 use Rattle.tp_text.proofs.Recounting.{answer_as, answer_found, broken_answered}
 use Rattle.tp_text.proofs.recount.audited.Goals as goal
 

@@ -1,4 +1,4 @@
-use Rattle.std.proofs.Common.{[], ◌∷◌}
+use Rattle.tp_text.proofs.Names.{[], ◌∷◌}
 use Rattle.tp_text.proofs.Recounting.{fault_format, fault_nodes, reads_none, reads_one}
 use Rattle.tp_text.proofs.recount.lines_taken.Goals as goal
 

@@ -1,6 +1,4 @@
-use Rattle.std.proofs.Common.{List, length}
-use Rattle.tp_text.specs.declared.traced.TraceLine.{TraceLine}
-use Rattle.tp_text.specs.Auditing.{Knows}
+use Rattle.tp_text.proofs.Names.{List, length, TraceLine, Knows}
 use Rattle.tp_text.proofs.Recounting.{Reads}
 use Rattle.tp_text.proofs.recount.lines_taken.Given as goal
 

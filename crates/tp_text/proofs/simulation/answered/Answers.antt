@@ -1,8 +1,4 @@
-use Rattle.std.proofs.Common.{[], ◌∷◌, ◌++◌, ◌+◌, codes, decimal, sym, ap, ◌∙◌, arith}
-use Rattle.std.proofs.lemmas.Grind.{common_steps}
-use Rattle.tp_core.specs.Accepted.{Accepted}
-use Rattle.tp_text.specs.SimText.{fresh}
-use Rattle.tp_text.specs.Spelling.{line}
+use Rattle.tp_text.proofs.Names.{[], ◌∷◌, ◌++◌, ◌+◌, codes, decimal, sym, ap, ◌∙◌, arith, common_steps, Accepted, fresh, line}
 use Rattle.tp_text.proofs.Taking.{fault_nodes, takes_none, takes_one, takes_all, takes_fault, nodes_kept}
 use Rattle.tp_text.proofs.Left.{some_left, none_left}
 use Rattle.tp_text.proofs.simulation.answered.Goals as goal

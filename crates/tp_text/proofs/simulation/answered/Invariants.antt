@@ -1,5 +1,4 @@
-use Rattle.std.proofs.Common.{List, length}
-use Rattle.tp_base.specs.declared.Step.{Step}
+use Rattle.tp_text.proofs.Names.{List, length, Step}
 use Rattle.tp_text.proofs.Taking.{Takes}
 use Rattle.tp_text.proofs.simulation.answered.Given as goal
 

@@ -1,30 +1,12 @@
-use Rattle.std.proofs.Common.{◌∙◌, arith, refl}
-use Rattle.tp_wave.specs.Machine.{steps_of}
-use Rattle.tp_wave.proofs.Positions.{length-steps_of}
-use Rattle.tp_text.proofs.Following.{no_version, traced_first, traced_second}
+use Rattle.tp_text.proofs.Names.{ap, ◌∙◌, Some}
+use Rattle.tp_text.proofs.Following.{none_next, second_version}
 use Rattle.tp_text.proofs.tracing.traced_version.Goals as goal
-use Rattle.tp_text.proofs.tracing.traced_version.Goals.{else-is_reopened-via-then-is_reopened+else-has_lines-2}
-use Rattle.tp_text.proofs.tracing.traced_version.Goals.{else-is_reopened-via-else-is_reopened}
 
-pub returns-then-len : goal.returns-then-len
-returns-then-len c = λ can. omega (arith, can.0, c.len.ensures, c.if-len.true, length-steps_of c.args.history.now.events)
+pub loop-place-preserved : goal.loop-place-preserved
+loop-place-preserved g c =
+    none_next c.loop-place.place (g.S.Steps.listed c.args.steps.now) c.at_place.result c.at_place.ensures
+    c.in_default.not-Reopen c.loop-place.invariant
 
-pub returns-then-has_lines : goal.returns-then-has_lines
-returns-then-has_lines c =
-    traced_first (steps_of c.args.history.now.events)
-    (omega (arith, c.len.ensures, c.if-len.false, length-steps_of c.args.history.now.events))
-    (c.if-has_lines.ensures.0 refl)
-
-pub returns-then-has_lines-2 : goal.returns-then-has_lines-2
-returns-then-has_lines-2 c =
-    traced_second (steps_of c.args.history.now.events)
-    (omega (arith, c.len.ensures, c.if-len.false, length-steps_of c.args.history.now.events))
-    c.if-is_reopened.ensures (c.if-has_lines-2.ensures.0 refl)
-
-pub returns : goal.returns
-returns c = λ can.
-    no_version (steps_of c.args.history.now.events) (λ all. let bad = c.if-has_lines.ensures.1 all in cc)
-    (elim c.else-is_reopened.branch [
-      | else-is_reopened-via-then-is_reopened+else-has_lines-2 w ↦ λ reopened all. let bad = w.if-has_lines-2.ensures.1 all in cc
-      | else-is_reopened-via-else-is_reopened w ↦ λ reopened all. let bad = w.if-is_reopened.ensures ∙ reopened in cc
-    ]) can.1
+pub returns-in-Reopen : goal.returns-in-Reopen
+returns-in-Reopen g c =
+    second_version c.loop-place.place (g.S.Steps.listed c.args.steps.now) (c.at_place.ensures ∙ ap (λ s. Some s) c.in-Reopen.is)

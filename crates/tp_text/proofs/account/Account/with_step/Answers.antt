@@ -1,8 +1,5 @@
-use Rattle.std.proofs.Common.{arith, ap}
-use Rattle.tp_wave.proofs.Given.{count-le}
-use Rattle.tp_text.specs.declared.account.Account.{Account}
-use Rattle.tp_text.specs.AuditText.{is_insert}
-use Rattle.tp_wave.specs.Steps.{is_done, is_recv, is_reopen, is_send}
+use Rattle.tp_text.proofs.Names.{arith, ap, count-le, Account, is_insert, is_recv, is_reopen, is_send}
+use Rattle.tp_wave.specs.Steps.{is_done}
 use Rattle.tp_text.proofs.account.Account.with_step.Goals as goal
 
 pub overflow_add-result : goal.overflow_add-result

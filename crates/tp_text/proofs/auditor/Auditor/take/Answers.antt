@@ -1,5 +1,4 @@
-use Rattle.std.proofs.Common.{arith, refl, rules}
-use Rattle.std.proofs.lemmas.Grind.{common_steps}
+use Rattle.tp_text.proofs.Names.{arith, refl, rules, common_steps}
 use Rattle.tp_text.proofs.Recounting.{found_more, found_none, none_found, refused_at, said_as, taken_more, unjustified_at}
 use Rattle.tp_text.proofs.auditor.Auditor.take.Goals as goal
 

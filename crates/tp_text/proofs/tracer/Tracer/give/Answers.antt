@@ -1,5 +1,4 @@
-use Rattle.std.proofs.Common.{◌<◌, arith, refl}
-use Rattle.tp_base.specs.declared.Step.TheVariants.{Give}
+use Rattle.tp_text.proofs.Names.{◌<◌, arith, refl, Give}
 use Rattle.tp_text.proofs.Following.{few_sent, few_received, not_refused}
 use Rattle.tp_text.proofs.tracer.Tracer.give.Goals as goal
 

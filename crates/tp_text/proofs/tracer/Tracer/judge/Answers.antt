@@ -1,5 +1,4 @@
-use Rattle.std.proofs.Common.{refl}
-use Rattle.tp_base.specs.declared.Step.TheVariants.{Judge}
+use Rattle.tp_text.proofs.Names.{refl, Judge}
 use Rattle.tp_text.proofs.Following.{not_refused}
 use Rattle.tp_text.proofs.tracer.Tracer.judge.Goals as goal
 

@@ -1,8 +1,5 @@
-use Rattle.std.proofs.Common.{arith, refl, subst, rules}
-use Rattle.std.proofs.lemmas.Grind.{common_steps}
+use Rattle.tp_text.proofs.Names.{arith, refl, subst, rules, common_steps, present, MayFollow}
 use Rattle.tp_text.proofs.Following.{few_sent, few_received, sender, receiver, sent_one, received_one, judged_line, other_line, other_step}
-use Rattle.tp_wave.specs.Generations.{present}
-use Rattle.tp_text.specs.Following.{MayFollow}
 use Rattle.tp_text.proofs.tracer.Tracer.line.Goals as goal
 
 pub overflow_add-self : goal.overflow_add-self

@@ -1,5 +1,4 @@
-use Rattle.std.proofs.Common.{arith}
-use Rattle.tp_wave.proofs.Given.{started_law}
+use Rattle.tp_text.proofs.Names.{arith, started_law}
 use Rattle.tp_text.proofs.tracer.Tracer.start.Goals as goal
 
 pub start-started-requires : goal.start-started-requires

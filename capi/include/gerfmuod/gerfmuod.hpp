@@ -1,0 +1,404 @@
+// gerfmuod/gerfmuod.hpp: task graphs in C++17, with lambdas as bodies, over gerfmuod/team.h.
+//
+//     using gerfmuod::read, gerfmuod::write;
+//     gerfmuod::Pool pool;
+//     gerfmuod::Data<double> x(pool), y(pool), z(pool);
+//     pool.task([](double &x) { x = std::sqrt(2.0); }, write(x));
+//     pool.task([](double &y) { y = std::exp(1.0); }, write(y));
+//     pool.task([](double x, double y, double &z) { z = x * y; }, read(x), read(y), write(z)); // waits for both
+//     pool.run(4);
+//
+// Tasks are described in the order of a sequential program, and the run gives its result. Or a task names the tasks that it waits
+// for: auto a = pool.task(f), b = pool.task(g); pool.task(h, {a, b}).
+//
+// In a run, a body runs once, after all tasks that it waits for, and sees what they wrote. A pool is used by one thread,
+// except that run() calls the bodies on several threads, and that any thread, also a body, may call task(), task_on(), handle(),
+// outside(), release(), stop(), failed() and size(). If a body throws, the pool stops, and run() throws that exception.
+// Link with -lgerfmuod -pthread.
+#ifndef GERFMUOD_HPP
+#define GERFMUOD_HPP
+
+#include "team.h"
+
+#include <algorithm>
+#include <array>
+#include <chrono>
+#include <cstddef>
+#include <cstdint>
+#include <cstdio>
+#include <cstring>
+#include <exception>
+#include <initializer_list>
+#include <memory>
+#include <mutex>
+#include <new>
+#include <optional>
+#include <stdexcept>
+#include <string>
+#include <thread>
+#include <tuple>
+#include <type_traits>
+#include <utility>
+#include <vector>
+
+namespace gerfmuod {
+
+// A call was refused, as the call of the same name in gerfmuod/team.h is. what() is the refusal's name, the task that it is
+// about, and what it means.
+class Refused : public std::runtime_error {
+  public:
+    explicit Refused(std::uint32_t number, std::uint32_t about = GERFMUOD_GRAPH_NONE)
+        : std::runtime_error(text(number, about)), refusal(number), task(about) {}
+
+    const std::uint32_t refusal; // an enum gerfmuod_refusal
+    const std::uint32_t task;    // or GERFMUOD_GRAPH_NONE
+
+  private:
+    static std::string text(std::uint32_t number, std::uint32_t about) {
+        std::string where = about == GERFMUOD_GRAPH_NONE ? "" : " at task " + std::to_string(about);
+        std::string text = gerfmuod_refusal_text(number); // its name, and after a colon what it means
+        return text.insert(text.find(':'), where);
+    }
+};
+
+// A task of the pool that created it, to be used as an input of later tasks. Task() is of no pool.
+class Task {
+  public:
+    Task() = default;
+    std::uint32_t number() const { return own; }
+    friend bool operator==(Task a, Task b) { return a.pool == b.pool && a.own == b.own; }
+    friend bool operator!=(Task a, Task b) { return !(a == b); }
+
+  private:
+    friend class Pool;
+    Task(std::uint64_t pool_, std::uint32_t number) : pool(pool_), own(number) {}
+    std::uint64_t pool = 0; // no two pools of a process have the same number, and none has 0
+    std::uint32_t own = GERFMUOD_GRAPH_NONE;
+};
+
+// A piece of data that tasks access, of the pool that created it. Handle() is of no pool.
+class Handle {
+  public:
+    Handle() = default;
+    std::uint32_t number() const { return own; }
+
+  private:
+    friend class Pool;
+    Handle(std::uint64_t pool_, std::uint32_t number) : pool(pool_), own(number) {}
+    std::uint64_t pool = 0;
+    std::uint32_t own = 0;
+};
+
+// What a task does with a piece of data, an enum gerfmuod_mode. A task that writes a part of it, or reads it before, updates it.
+struct Access {
+    Handle handle;
+    std::uint32_t mode;
+};
+inline Access read(Handle handle) { return {handle, GERFMUOD_READ}; }
+inline Access write(Handle handle) { return {handle, GERFMUOD_WRITE}; }
+inline Access update(Handle handle) { return {handle, GERFMUOD_UPDATE}; }
+
+// The same of a value, which is passed to the body (see Data below).
+template <typename T>
+struct AccessedValue : Access {
+    T *value;
+};
+
+// How a pool is opened: Pool pool(gerfmuod::Options().traced().keep_bodies()). From C++20 on also Pool pool({.is_traced = true}).
+struct Options {
+    bool is_traced = false;    // trace() has the events of the run, of at most 349,522 tasks
+    bool keeps_bodies = false; // a body and what it captures live as long as the pool, which again() needs
+
+    Options traced() const { return {true, keeps_bodies}; }
+    Options keep_bodies() const { return {is_traced, true}; }
+};
+
+class Pool {
+  public:
+    // Throws Refused: NoMemory.
+    explicit Pool(Options options = {}) : keeps_bodies(options.keeps_bodies) {
+        gerfmuod_team *opened;
+        std::uint32_t refused = (options.is_traced ? gerfmuod_team_open_traced : gerfmuod_team_open)(&opened);
+        team.reset(opened);
+        if (refused) throw Refused(refused);
+    }
+    // Stops a run of run_async(), and waits for its threads.
+    ~Pool() { team.reset(); } // before the bodies
+
+    // One more task, before the start or in a run, of a class 0 (first) to 3. It waits for the tasks in `after`, and for
+    // `releases` calls of release(). The body is called without arguments, and may be one that can only be moved. It is
+    // destroyed as soon as it ran, unless the pool keeps bodies. Throws std::invalid_argument if a task is not of this pool,
+    // and Refused as gerfmuod_team_spawn.
+    template <typename F>
+    Task task(F &&body, std::initializer_list<Task> after = {}, std::uint32_t class_ = 0, std::uint32_t releases = 0) {
+        return add(Body(std::forward<F>(body)), after.begin(), after.size(), class_, releases);
+    }
+    template <typename F>
+    Task task(F &&body, const std::vector<Task> &after, std::uint32_t class_ = 0, std::uint32_t releases = 0) {
+        return add(Body(std::forward<F>(body)), after.data(), after.size(), class_, releases);
+    }
+
+    // One more piece of data. Throws Refused as gerfmuod_team_handle.
+    Handle handle() {
+        std::uint32_t number;
+        check(gerfmuod_team_handle(team.get(), &number));
+        return Handle(id, number);
+    }
+    // One more task that accesses these pieces of data: if two tasks access one, and one of them writes or updates it, the later
+    // one waits for the earlier one. Throws std::invalid_argument if a handle is not of this pool, and Refused as
+    // gerfmuod_team_task_on.
+    template <typename F>
+    Task task_on(std::initializer_list<Access> accesses, F &&body, std::uint32_t class_ = 0, std::uint32_t releases = 0) {
+        return add_on(Body(std::forward<F>(body)), accesses.begin(), accesses.size(), class_, releases);
+    }
+    template <typename F>
+    Task task_on(const std::vector<Access> &accesses, F &&body, std::uint32_t class_ = 0, std::uint32_t releases = 0) {
+        return add_on(Body(std::forward<F>(body)), accesses.data(), accesses.size(), class_, releases);
+    }
+    // The same of class 0, whose body is called with the values of the Data among the accesses, in this order: task(f, read(a),
+    // update(b)) calls f(a, b), and the first one is const.
+    template <typename F, typename... Accesses,
+              std::enable_if_t<sizeof...(Accesses) != 0 && (std::is_convertible_v<Accesses, Access> && ...), int> = 0>
+    Task task(F &&body, Accesses... accesses) {
+        auto call_with = [own = std::decay_t<F>(std::forward<F>(body)), values = std::tuple_cat(value_of(accesses)...)]() mutable {
+            std::apply(own, values);
+        };
+        return task_on({accesses...}, std::move(call_with));
+    }
+
+    // One more input from outside for a task, such as a message, a timer or a device: its body does not run before release()
+    // was called once for each. A body may call it, for a task that waits for that body.
+    void outside(Task task) { check(gerfmuod_team_outside(team.get(), number_of(task)), task.own); }
+    // One input from outside of a task is there; the body sees what this thread wrote before. If the input cannot come, release
+    // it all the same, and let the body throw; or call stop().
+    void release(Task task) { check(gerfmuod_team_release(team.get(), number_of(task)), task.own); }
+    // Ends the run: bodies that run are finished, no further one begins, and run() throws Refused: Stopped.
+    void stop() { gerfmuod_team_stop(team.get(), GERFMUOD_GRAPH_NONE); }
+
+    // Runs all tasks on `threads` threads, of which the caller is one. Throws the first exception that a body threw; failed()
+    // is then the task of that body. Throws Refused as gerfmuod_team_run.
+    void run(std::uint32_t threads = default_threads()) {
+        if (exchange_in_run(true)) throw Refused(GERFMUOD_REFUSED_RUNNING);
+        finish(gerfmuod_team_run(team.get(), threads, call, this));
+    }
+
+    // run() on `threads` other threads: it returns at once. wait() or wait_for() ends the run. Throws Refused before any body runs.
+    void run_async(std::uint32_t threads = default_threads()) {
+        if (exchange_in_run(true)) throw Refused(GERFMUOD_REFUSED_RUNNING);
+        std::uint32_t refused = gerfmuod_team_run_async(team.get(), threads, call, this);
+        if (refused) finish(refused);
+    }
+    // Waits until all tasks are done, and throws as run().
+    void wait() { finish(gerfmuod_team_wait(team.get(), GERFMUOD_TEAM_NO_LIMIT)); }
+    // The same for a time of less than 49 days. Returns whether the run has ended.
+    bool wait_for(std::chrono::milliseconds time) {
+        std::uint32_t refused = gerfmuod_team_wait(team.get(), static_cast<std::uint32_t>(time.count()));
+        if (refused != GERFMUOD_REFUSED_RUNNING) finish(refused);
+        return refused != GERFMUOD_REFUSED_RUNNING;
+    }
+    // The number of tasks that are not done.
+    std::size_t left() const { return gerfmuod_team_left(team.get()); }
+
+    // The same graph once more, after run(): run() may be called again. Inputs from outside have to be announced again. Throws
+    // std::logic_error if the pool does not keep bodies.
+    void again() {
+        if (!keeps_bodies) throw std::logic_error("a pool runs again only if it was opened with keep_bodies()");
+        check(gerfmuod_team_again(team.get()));
+    }
+    // The same, also after a run that was stopped or in which a body threw: the tasks count as never run. Throws as again().
+    void reset() {
+        if (!keeps_bodies) throw std::logic_error("a pool runs again only if it was opened with keep_bodies()");
+        check(gerfmuod_team_reset(team.get()));
+        std::lock_guard<std::mutex> held(lock);
+        thrower = GERFMUOD_GRAPH_NONE;
+    }
+    // The task because of which the pool ended, if there is one.
+    std::optional<Task> failed() const {
+        std::lock_guard<std::mutex> held(lock);
+        std::uint32_t number = thrower == GERFMUOD_GRAPH_NONE ? gerfmuod_team_failed(team.get()) : thrower;
+        return number == GERFMUOD_GRAPH_NONE ? std::nullopt : std::optional<Task>(Task(id, number));
+    }
+    // The number of tasks that were described.
+    std::size_t size() const { return std::lock_guard<std::mutex>(lock), count; }
+    // The events of the run as a trace, which `tp audit` judges. It is empty if the pool is not traced.
+    std::string trace() const {
+        std::string text(gerfmuod_team_trace(team.get(), nullptr, 0), '\0');
+        gerfmuod_team_trace(team.get(), &text[0], text.size() + 1);
+        return text;
+    }
+
+    // Records each later run; each thread keeps its newest `slices` bodies and waits. Call it before the first task.
+    void record(std::uint32_t slices = 65536) { check(gerfmuod_team_record(team.get(), slices)); }
+    // Writes the last run as trace events, or as a summary.
+    void profile(std::FILE *file) const { check(gerfmuod_team_profile(team.get(), file)); }
+    void summary(std::FILE *file) const { check(gerfmuod_team_summary(team.get(), file)); }
+    static std::uint32_t default_threads() { return std::max(1u, std::thread::hardware_concurrency()); }
+
+  private:
+    struct Close { void operator()(gerfmuod_team *it) const { gerfmuod_team_close(it); } };
+
+    // A body of any type. A small one without a destructor is stored in `room`; of another one, `room` has a pointer to it. So
+    // to move a Body calls nothing of the caller's.
+    class Body {
+      public:
+        Body() = default;
+        template <typename F, typename Own = std::decay_t<F>, typename = std::enable_if_t<!std::is_same_v<Own, Body>>>
+        explicit Body(F &&body) {
+            static_assert(std::is_invocable_v<Own &>, "a body is called without arguments");
+            if constexpr (is_small<Own>) {
+                new (room) Own(std::forward<F>(body));
+                act = [](void *own, bool is_call) {
+                    if (is_call) (*std::launder(static_cast<Own *>(own)))();
+                };
+            } else {
+                new (room) Own *(new Own(std::forward<F>(body)));
+                act = [](void *pointer, bool is_call) {
+                    Own *own = *std::launder(static_cast<Own **>(pointer));
+                    if (is_call) (*own)();
+                    else delete own;
+                };
+            }
+        }
+        Body(Body &&other) noexcept { *this = std::move(other); }
+        Body &operator=(Body &&other) noexcept {
+            destroy();
+            std::memcpy(room, other.room, sizeof room);
+            act = std::exchange(other.act, nullptr);
+            return *this;
+        }
+        ~Body() { destroy(); }
+        void operator()() { act(room, true); }
+
+      private:
+        static constexpr std::size_t most = 24;
+        template <typename Own>
+        static constexpr bool is_small = sizeof(Own) <= most && alignof(Own) <= alignof(void *) &&
+                                         std::is_trivially_copyable_v<Own> && std::is_trivially_destructible_v<Own>;
+        void destroy() noexcept {
+            if (auto last = std::exchange(act, nullptr)) last(room, false);
+        }
+
+        alignas(void *) unsigned char room[most] = {};
+        void (*act)(void *room, bool is_call) = nullptr; // calls the body, or destroys it
+    };
+
+    // Returns a number that no other pool of this process has.
+    static std::uint64_t next_id() {
+        static std::mutex lock_of_ids;
+        static std::uint64_t last = 0;
+        return std::lock_guard<std::mutex>(lock_of_ids), ++last;
+    }
+    // Ends a run: throws the first exception of a body, or if the run was refused.
+    void finish(std::uint32_t refused) {
+        std::exception_ptr first = std::exchange(thrown, nullptr);
+        exchange_in_run(false);
+        if (first) std::rethrow_exception(first);
+        check(refused);
+    }
+    bool exchange_in_run(bool now) { return std::lock_guard<std::mutex>(lock), std::exchange(is_in_run, now); }
+    std::uint32_t number_of(Task task) const {
+        if (task.pool != id) throw std::invalid_argument("a task of no pool, or of another one");
+        return task.own;
+    }
+    // Throws if a call about a task, or about none, was refused. Every call is refused as the fault that ended the pool.
+    void check(std::uint32_t refused, std::uint32_t task = GERFMUOD_GRAPH_NONE) const {
+        if (refused) throw Refused(refused, refused == gerfmuod_team_fault(team.get()) ? gerfmuod_team_failed(team.get()) : task);
+    }
+    template <typename T>
+    static std::tuple<T &> value_of(const AccessedValue<T> &accessed) { return std::tuple<T &>(*accessed.value); }
+    static std::tuple<> value_of(const Access &) { return {}; }
+
+    // An array of this length, which allocates only if it is long.
+    template <typename T>
+    class Array {
+      public:
+        explicit Array(std::size_t length) : many(length > few.size() ? length : 0) {}
+        T *data() { return many.empty() ? few.data() : many.data(); }
+
+      private:
+        std::array<T, 16> few;
+        std::vector<T> many;
+    };
+    Task add(Body &&body, const Task *after, std::size_t inputs, std::uint32_t class_, std::uint32_t releases) {
+        Array<std::uint32_t> numbers(inputs);
+        for (std::size_t k = 0; k < inputs; k++) numbers.data()[k] = number_of(after[k]);
+        return keep(std::move(body), [&] {
+            return gerfmuod_team_spawn(team.get(), class_, numbers.data(), inputs, releases, nullptr, nullptr, nullptr);
+        });
+    }
+    Task add_on(Body &&body, const Access *accesses, std::size_t length, std::uint32_t class_, std::uint32_t releases) {
+        Array<gerfmuod_access> pieces(length);
+        for (std::size_t k = 0; k < length; k++) {
+            if (accesses[k].handle.pool != id) throw std::invalid_argument("a handle of no pool, or of another one");
+            pieces.data()[k] = {accesses[k].handle.own, accesses[k].mode};
+        }
+        return keep(std::move(body), [&] {
+            return gerfmuod_team_task_on(team.get(), class_, pieces.data(), length, releases, nullptr, nullptr, nullptr);
+        });
+    }
+    // Stores the body of a task that `spawn` adds.
+    template <typename F>
+    Task keep(Body &&body, F &&spawn) {
+        std::lock_guard<std::mutex> held(lock);
+        Body &own = body_of(count, true);
+        own = std::move(body); // before any thread can run it
+        std::uint32_t refused = spawn();
+        if (refused) body = std::move(own); // the caller's, who destroys it without the lock: it may call the pool
+        check(refused);
+        return Task(id, count++);
+    }
+    // The body that the team calls. No exception leaves it.
+    static int call(void *context, std::uint32_t task) noexcept {
+        Pool *pool = static_cast<Pool *>(context);
+        Body &own = pool->body_of(task);
+        try {
+            if (pool->keeps_bodies) own();
+            else Body(std::move(own))();
+            return 0;
+        } catch (...) {
+            std::lock_guard<std::mutex> held(pool->lock);
+            if (!pool->thrown) pool->thrown = std::current_exception(), pool->thrower = task;
+            return 1;
+        }
+    }
+    // Returns the body of a task. A block of bodies never moves: it has twice the room of the one before, and the first one 64.
+    Body &body_of(std::uint32_t task, bool is_new = false) {
+        std::uint32_t block = 0, place = task;
+        for (; place >= 64u << block; block++) place -= 64u << block;
+        if (is_new && !blocks[block]) blocks[block].reset(new Body[64u << block]);
+        return blocks[block][place];
+    }
+
+    const std::uint64_t id = next_id();
+    const bool keeps_bodies;
+    std::unique_ptr<gerfmuod_team, Close> team;
+    mutable std::mutex lock; // of what follows; a body is read without it: its task was taken after it was written
+    bool is_in_run = false;
+    std::uint32_t count = 0;
+    std::array<std::unique_ptr<Body[]>, 22> blocks; // for more tasks than a pool can have
+    std::exception_ptr thrown;
+    std::uint32_t thrower = GERFMUOD_GRAPH_NONE;
+};
+
+// A value that tasks access: its handle, and the value, for bodies that access it and for the time outside of a run. It lives longer
+// than the run.
+template <typename T>
+class Data {
+  public:
+    template <typename... Arguments>
+    explicit Data(Pool &pool, Arguments &&...arguments) : value(std::forward<Arguments>(arguments)...), handle(pool.handle()) {}
+    Data(const Data &) = delete;
+    Data &operator=(const Data &) = delete;
+
+    T value;
+    const Handle handle;
+};
+template <typename T>
+AccessedValue<const T> read(const Data<T> &data) { return {{data.handle, GERFMUOD_READ}, &data.value}; }
+template <typename T>
+AccessedValue<T> write(Data<T> &data) { return {{data.handle, GERFMUOD_WRITE}, &data.value}; }
+template <typename T>
+AccessedValue<T> update(Data<T> &data) { return {{data.handle, GERFMUOD_UPDATE}, &data.value}; }
+
+} // namespace gerfmuod
+#endif

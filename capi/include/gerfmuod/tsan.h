@@ -1,0 +1,113 @@
+/* gerfmuod/tsan.h: the calls on a core and on a process as ThreadSanitizer sees them. core.h and process.h include this file if they
+ * are compiled with -fsanitize=thread. The library is not, so each call first reports that it reads or writes the first bytes of the
+ * core, or all of the process, whose fields a program may read. */
+#ifndef GERFMUOD_TSAN_H
+#define GERFMUOD_TSAN_H
+
+#include <stddef.h>
+#include <stdint.h>
+
+void __tsan_read8(void *address);
+void __tsan_write8(void *address);
+void __tsan_read_range(void *address, size_t size);
+void __tsan_write_range(void *address, size_t size);
+
+#endif
+
+#define GERFMUOD_TSAN(result, access, name, parameters, arguments) \
+    static inline result gerfmuod_tsan_##name parameters {         \
+        GERFMUOD_TSAN_##access;                                    \
+        return gerfmuod_##name arguments;                          \
+    }
+
+#if defined(GERFMUOD_CORE_H) && !defined(gerfmuod_core_open)
+#define GERFMUOD_TSAN_READ __tsan_read8((void *)(uintptr_t)core)
+#define GERFMUOD_TSAN_WRITE __tsan_write8(core)
+GERFMUOD_TSAN(uint32_t, WRITE, core_open, (gerfmuod_core *core, uint32_t nodes), (core, nodes))
+GERFMUOD_TSAN(uint32_t, WRITE, core_close, (gerfmuod_core *core), (core))
+GERFMUOD_TSAN(uint32_t, WRITE, core_restart, (gerfmuod_core *core), (core))
+GERFMUOD_TSAN(uint32_t, WRITE, core_reserve,
+              (gerfmuod_core *core, uint32_t steps, uint32_t tasks, uint32_t messages),
+              (core, steps, tasks, messages))
+GERFMUOD_TSAN(gerfmuod_settled, WRITE, core_settle, (gerfmuod_core *core), (core))
+GERFMUOD_TSAN(gerfmuod_step_result, WRITE, core_step,
+              (gerfmuod_core *core, uint32_t kind, uint32_t first, uint32_t second, uint32_t third, uint32_t generation),
+              (core, kind, first, second, third, generation))
+GERFMUOD_TSAN(size_t, WRITE, core_steps,
+              (gerfmuod_core *core, const gerfmuod_step *steps, size_t steps_length, gerfmuod_step_result *results,
+               size_t results_length),
+              (core, steps, steps_length, results, results_length))
+GERFMUOD_TSAN(gerfmuod_step_result, WRITE, core_step_by,
+              (gerfmuod_core *core, uint32_t maker_kind, uint32_t maker, uint32_t kind, uint32_t first, uint32_t second,
+               uint32_t third, uint32_t generation),
+              (core, maker_kind, maker, kind, first, second, third, generation))
+GERFMUOD_TSAN(gerfmuod_counters, READ, core_counters, (const gerfmuod_core *core, uint32_t node), (core, node))
+GERFMUOD_TSAN(gerfmuod_status, READ, core_status, (const gerfmuod_core *core), (core))
+GERFMUOD_TSAN(gerfmuod_written, READ, core_trace,
+              (const gerfmuod_core *core, char *buffer, size_t buffer_length),
+              (core, buffer, buffer_length))
+
+#define gerfmuod_core_open gerfmuod_tsan_core_open
+#define gerfmuod_core_close gerfmuod_tsan_core_close
+#define gerfmuod_core_restart gerfmuod_tsan_core_restart
+#define gerfmuod_core_reserve gerfmuod_tsan_core_reserve
+#define gerfmuod_core_settle gerfmuod_tsan_core_settle
+#define gerfmuod_core_step gerfmuod_tsan_core_step
+#define gerfmuod_core_steps gerfmuod_tsan_core_steps
+#define gerfmuod_core_step_by gerfmuod_tsan_core_step_by
+#define gerfmuod_core_counters gerfmuod_tsan_core_counters
+#define gerfmuod_core_status gerfmuod_tsan_core_status
+#define gerfmuod_core_trace gerfmuod_tsan_core_trace
+#undef GERFMUOD_TSAN_READ
+#undef GERFMUOD_TSAN_WRITE
+#endif
+
+#if defined(GERFMUOD_PROCESS_H) && !defined(gerfmuod_process_init)
+#define GERFMUOD_TSAN_READ __tsan_read_range((void *)(uintptr_t)process, sizeof *process)
+#define GERFMUOD_TSAN_WRITE __tsan_write_range(process, sizeof *process)
+GERFMUOD_TSAN(uint32_t, WRITE, process_init,
+              (gerfmuod_process *process, uint32_t number, uint32_t processes),
+              (process, number, processes))
+GERFMUOD_TSAN(uint32_t, WRITE, process_add_work, (gerfmuod_process *process), (process))
+GERFMUOD_TSAN(uint32_t, WRITE, process_finish_work, (gerfmuod_process *process), (process))
+GERFMUOD_TSAN(uint32_t, WRITE, process_count_sent, (gerfmuod_process *process), (process))
+GERFMUOD_TSAN(uint32_t, WRITE, process_count_received, (gerfmuod_process *process, uint64_t epoch), (process, epoch))
+GERFMUOD_TSAN(uint32_t, WRITE, process_outgoing_message_start, (gerfmuod_process *process), (process))
+GERFMUOD_TSAN(uint32_t, WRITE, process_incoming_message_start, (gerfmuod_process *process, uint64_t epoch), (process, epoch))
+GERFMUOD_TSAN(uint32_t, WRITE, process_incoming_message_end, (gerfmuod_process *process), (process))
+GERFMUOD_TSAN(uint32_t, WRITE, process_take,
+              (gerfmuod_process *process, const gerfmuod_control_message *message),
+              (process, message))
+GERFMUOD_TSAN(uint32_t, WRITE, process_next, (gerfmuod_process *process, gerfmuod_control_message *message), (process, message))
+GERFMUOD_TSAN(uint32_t, WRITE, process_reopen, (gerfmuod_process *process), (process))
+GERFMUOD_TSAN(bool, READ, process_is_open, (const gerfmuod_process *process), (process))
+GERFMUOD_TSAN(bool, READ, process_knows_end, (const gerfmuod_process *process), (process))
+GERFMUOD_TSAN(uint64_t, READ, process_epoch, (const gerfmuod_process *process), (process))
+GERFMUOD_TSAN(uint64_t, READ, process_pending, (const gerfmuod_process *process), (process))
+GERFMUOD_TSAN(uint64_t, READ, process_sent, (const gerfmuod_process *process), (process))
+GERFMUOD_TSAN(uint64_t, READ, process_received, (const gerfmuod_process *process), (process))
+GERFMUOD_TSAN(uint64_t, READ, process_wave, (const gerfmuod_process *process), (process))
+
+#define gerfmuod_process_init gerfmuod_tsan_process_init
+#define gerfmuod_process_add_work gerfmuod_tsan_process_add_work
+#define gerfmuod_process_finish_work gerfmuod_tsan_process_finish_work
+#define gerfmuod_process_count_sent gerfmuod_tsan_process_count_sent
+#define gerfmuod_process_count_received gerfmuod_tsan_process_count_received
+#define gerfmuod_process_outgoing_message_start gerfmuod_tsan_process_outgoing_message_start
+#define gerfmuod_process_incoming_message_start gerfmuod_tsan_process_incoming_message_start
+#define gerfmuod_process_incoming_message_end gerfmuod_tsan_process_incoming_message_end
+#define gerfmuod_process_take gerfmuod_tsan_process_take
+#define gerfmuod_process_next gerfmuod_tsan_process_next
+#define gerfmuod_process_reopen gerfmuod_tsan_process_reopen
+#define gerfmuod_process_is_open gerfmuod_tsan_process_is_open
+#define gerfmuod_process_knows_end gerfmuod_tsan_process_knows_end
+#define gerfmuod_process_epoch gerfmuod_tsan_process_epoch
+#define gerfmuod_process_pending gerfmuod_tsan_process_pending
+#define gerfmuod_process_sent gerfmuod_tsan_process_sent
+#define gerfmuod_process_received gerfmuod_tsan_process_received
+#define gerfmuod_process_wave gerfmuod_tsan_process_wave
+#undef GERFMUOD_TSAN_READ
+#undef GERFMUOD_TSAN_WRITE
+#endif
+
+#undef GERFMUOD_TSAN

@@ -1,0 +1,124 @@
+//! The steps as C passes them: the number of a kind and the numbers of what it names.
+ghost use Rattle.std.specs.Prelude.{◌≡◌, IsTrue, Some};
+ghost use Rattle.tp_base.specs.declared.Step.TheVariants.{ActionOpen, Send, Recv, MessageEnd};
+ghost use Rattle.gerfmuod.specs.RawSteps.{insert_asked, other_step, step_asked, task_step, action as as_action, age, message as as_message};
+ghost use Rattle.gerfmuod.specs.RawSteps.{node as as_node};
+ghost use Rattle.gerfmuod.specs.Calls.{has_plain_reply};
+
+use tp_base::{ActionId, Generation, Inputs, MAX_INPUTS, MessageId, NodeId, Step, TaskId};
+
+/// A step as C passes it: the number of its kind, 0 to 15, and its arguments. Arguments that a kind does not have are
+/// ignored.
+#[repr(C)]
+#[derive(Clone, Copy, Debug, PartialEq, Eq)]
+pub struct RawStep {
+    pub kind: u32,
+    pub first: u32,
+    pub second: u32,
+    pub third: u32,
+    /// The generation of a message.
+    pub generation: u32,
+}
+
+const _: () = prove!(size_of::<RawStep>() == 20);
+
+/// Returns the step, or `None` if there is no such kind, or for a task of more than 16 inputs.
+#[inline(always)]
+pub(crate) fn step_of(raw: RawStep) -> Option<Step>
+    ensures { result ≡ step_asked raw }
+{
+    // Most events are steps of tasks, and a comparison takes less time than a jump table of all kinds.
+    if raw.kind <= 3 {
+        task_step(raw)
+    } else {
+        other_step(raw)
+    }
+}
+
+/// Returns the step of a kind up to 3.
+#[inline(always)]
+fn task_step(raw: RawStep) -> Option<Step>
+    ensures { result ≡ task_step raw }
+{
+    match raw.kind {
+        0 => insert_step(raw.first, raw.second, raw.third),
+        1 => Some(Step::Supply(TaskId(raw.first))),
+        2 => Some(Step::Begin(TaskId(raw.first))),
+        3 => Some(Step::Done(TaskId(raw.first))),
+        _ => None,
+    }
+}
+
+/// Returns the step of a kind above 3.
+#[inline(always)]
+fn other_step(raw: RawStep) -> Option<Step>
+    ensures { result ≡ other_step raw }
+{
+    match raw.kind {
+        4 => open_step(raw.first, raw.second),
+        5 => Some(Step::ActionClose(NodeId(raw.first), ActionId(raw.second))),
+        6 => Some(Step::Ready(NodeId(raw.first))),
+        7 => send_step(raw.first, raw.second, raw.third, raw.generation),
+        8 => receive_step(raw.first, raw.second, raw.generation),
+        9 => message_end_step(raw.first, raw.second, raw.generation),
+        10 => Some(Step::Start),
+        11 => Some(Step::Down(NodeId(raw.first))),
+        12 => Some(Step::Give(NodeId(raw.first))),
+        13 => Some(Step::Up(NodeId(raw.first))),
+        14 => Some(Step::Judge),
+        15 => Some(Step::Reopen),
+        _ => None,
+    }
+}
+
+/// Returns the step that inserts a task, or `None` for one of more than 16 inputs.
+#[inline(always)]
+pub(crate) fn insert_step(home: u32, task: u32, inputs: u32) -> Option<Step>
+    ensures step { result ≡ insert_asked home task inputs }
+    ensures plain { IsTrue (has_plain_reply result) }
+{
+    if inputs > u32::from(MAX_INPUTS) {
+        return None;
+    }
+    match Inputs::new(inputs as u8) {
+        Some(inputs) => Some(Step::Insert(NodeId(home), TaskId(task), inputs)),
+        None => None,
+    }
+}
+
+/// Returns the step that opens an action.
+#[inline(always)]
+pub(crate) fn open_step(node: u32, action: u32) -> Option<Step>
+    ensures { result ≡ Some (ActionOpen (as_node node) (as_action action)) }
+{
+    Some(Step::ActionOpen(NodeId(node), ActionId(action)))
+}
+
+/// Returns the step that sends a message.
+#[inline(always)]
+pub(crate) fn send_step(from: u32, to: u32, message: u32, generation: u32) -> Option<Step>
+    ensures { result ≡ Some (Send (as_node from) (as_node to) (as_message message) (age generation)) }
+{
+    Some(Step::Send(
+        NodeId(from),
+        NodeId(to),
+        MessageId(message),
+        Generation(generation),
+    ))
+}
+
+/// Returns the step that receives a message.
+#[inline(always)]
+pub(crate) fn receive_step(node: u32, message: u32, generation: u32) -> Option<Step>
+    ensures { result ≡ Some (Recv (as_node node) (as_message message) (age generation)) }
+{
+    Some(Step::Recv(NodeId(node), MessageId(message), Generation(generation)))
+}
+
+/// Returns the step that ends the handling of a message.
+#[inline(always)]
+pub(crate) fn message_end_step(node: u32, message: u32, generation: u32) -> Option<Step>
+    ensures { result ≡ Some (MessageEnd (as_node node) (as_message message) (age generation)) }
+{
+    Some(Step::MessageEnd(NodeId(node), MessageId(message), Generation(generation)))
+}

@@ -1,0 +1,14 @@
+use Rattle.std.proofs.Common.{◌↔◌, ℕ, List, subst, eqb}
+use Rattle.std.proofs.lemmas.List.Filters.{dedup_is}
+use Rattle.std.proofs.lemmas.Map.Keys.{IsStrictlyIncreasing-dedup}
+use Rattle.tp_flow.specs.Description.{Has}
+use Rattle.tp_flow.proofs.Lists.{same_elements}
+use Rattle.tp_flow.proofs.uses.find_inputs.Goals as goal
+
+pub returns : goal.returns
+returns c = λ tasks kept.
+    let left = dedup_is eqb _ _ c.dedup.ensures.filtered in record {
+      ascending = rw left (IsStrictlyIncreasing-dedup _ c.sort_unstable.ensures.sorted);
+      awaited = λ s. subst (λ (all : List ℕ). Has c.dedup.new.self.items s ↔ Has all s) (c.in_ok-find_awaited.ensures tasks kept)
+          (same_elements _ _ _ c.sort_unstable.ensures.permutation left s);
+    }

@@ -1,0 +1,3 @@
+pub mod Description
+pub mod State
+pub mod Laws

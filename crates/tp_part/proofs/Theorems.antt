@@ -1,0 +1,625 @@
+-- How many calls parts make, and the theorems about all parts of a graph together.
+pub mod Calls
+pub use Calls.*
+
+-- ---- one part
+abbrev pub GoesBy : List Call → PartState → Type 0
+GoesBy calls a = Goes (λ t. list_any (is_run t) calls) (λ t. list_any (is_end t) calls) (λ u. list_any (is_arrival u) calls)
+    (λ u q. list_any (is_send u q) calls) a
+
+-- What is true of part p of n after these calls.
+pub record HeadOf (g : Graph) (n p number parts described : ℕ) (started : Bool) : Type 0 where
+  pub is_number : number ≡ p
+  pub are_parts : parts ≡ n
+  pub all : IsTrue started → described ≡ length g
+
+pub record Knows (g : Graph) (n p : ℕ) (calls : List Call) (a : PartState) : Type 0 where
+  pub head : HeadOf g n p a.number a.parts a.described a.started
+  pub plan : PlanOf g n p a
+  pub goes : GoesBy calls a
+
+-- The first of the checks does not hold, nor do the others.
+first_none : (b : Bool) (r : Refusal) (o : Option Refusal) → cond b (Some r) o ≡ None → (b ≡ false) × (o ≡ None)
+first_none true r o h = cc
+first_none false r o h = (refl, h)
+
+arrived_none : (u : ℕ) (a : PartState) → first_refusal (arrived_checks a u) ≡ None
+    → (a.started ≡ true) × (is_read u a.incoming ≡ true) × (has_arrived u a.incoming ≡ false)
+arrived_none u a h = (let b = first_none _ _ _ h in let c = first_none _ _ _ b.1 in
+    (not_false a.started b.0, not_false (is_read u a.incoming) c.0, (first_none _ _ _ c.1).0))
+
+task_none : (a : PartState) (owner class : ℕ) (us : List ℕ) → first_refusal (task_checks a owner class us) ≡ None
+    → (a.started ≡ false) × (nat_le a.parts owner ≡ false) × (list_all (λ u. nat_lt u a.described) us ≡ true)
+task_none a owner class us h = (let b = first_none _ _ _ h in let c = first_none _ _ _ b.1 in let d = first_none _ _ _ c.1 in
+    (b.0, c.0, not_false (list_all (λ u. nat_lt u a.described) us) (first_none _ _ _ d.1).0))
+
+module _ (g : Graph) (n p : ℕ) where
+  described : (calls : List Call) (a : PartState) (x : Task) → Knows g n p calls a → slice_get g a.described ≡ Some x
+      → first_refusal (task_checks a x.owner x.class x.inputs) ≡ None → Knows g n p (Described ∷ calls)
+      (with_task x.owner x.class x.inputs a)
+  described calls a x k is none_holds = elim (cases_eq x.owner a.number) [
+    | inl e ↦ subst (λ (b : Bool). Knows g n p (Described ∷ calls) (cond b (with_own x.class x.inputs a) (with_foreign x.owner x.inputs a)))
+        (sym (eq-eqb x.owner a.number e)) (record {
+          head = head;
+          plan = subst (λ (es : List Pair). Plan g n p (a.described + 1) (a.numbers ++ a.described ∷ [])
+              (a.links ++ map (λ s. record { source = s; target = length a.tasks }) (own_places a.numbers x.inputs)) es
+              (map ends a.outgoing))
+              (sym (map-append ends a.incoming (edges_to (length a.tasks) a.numbers x.inputs)))
+              (plan_own g n p a.described a.numbers a.links (map ends a.incoming) (map ends a.outgoing) x k.plan is few c0.2
+              (length a.tasks) k.goes.tasks.long (e ∙ k.head.is_number));
+          goes = goes_own x.class x.inputs k.goes c0.0;
+        })
+    | inr e ↦ subst (λ (b : Bool). Knows g n p (Described ∷ calls) (cond b (with_own x.class x.inputs a) (with_foreign x.owner x.inputs a)))
+        (sym (ne_eqb x.owner a.number e)) (record {
+          head = head;
+          plan = plan_foreign g n p a.described a.numbers a.links (map ends a.incoming) (map ends a.outgoing) x k.plan is few c0.2
+              a.outgoing refl (λ s. e (s ∙ sym k.head.is_number));
+          goes = goes_foreign x.owner x.inputs k.goes c0.0;
+        })
+  ]
+    where
+      c0 : (a.started ≡ false) × (nat_le a.parts x.owner ≡ false) × (list_all (λ u. nat_lt u a.described) x.inputs ≡ true)
+      c0 = task_none a x.owner x.class x.inputs none_holds
+
+      few : x.owner < n
+      few = (let h = c0.1 in let e = k.head.are_parts in grind (arith, nat_tests, h, e))
+
+      head : HeadOf g n p a.number a.parts (a.described + 1) a.started
+      head = record {
+        is_number = k.head.is_number;
+        are_parts = k.head.are_parts;
+        all = λ h. true_or_false a.started h c0.0;
+      }
+
+  started : (a : PartState) → first_refusal (next_checks a) ≡ None → a.started ≡ true
+  started a h = not_false a.started (first_none _ _ _ h).0
+
+  -- a call
+  next_knows : (c : Call) (calls : List Call) (a b : PartState) → Knows g n p calls a → Does g c a b → Knows g n p (c ∷ calls) b
+  next_knows Described calls a b k d = subst (Knows g n p (Described ∷ calls)) (sym d.3) (described calls a d.0 k d.1 d.2)
+  next_knows Started calls a b k d = subst (Knows g n p (Started ∷ calls)) (sym d.2) (record {
+    head = record { is_number = k.head.is_number; are_parts = k.head.are_parts; all = λ h. d.0 };
+    plan = k.plan;
+    goes = goes_start k.goes;
+  })
+  next_knows (Ran t) calls a b k d = (let r = d.1 in subst (Knows g n p (Ran t ∷ calls)) (sym r.becomes) (record {
+    head = k.head;
+    plan = k.plan;
+    goes = goes_run _ _ _ _ a k.goes k.plan.up t r.place r.ready.task r.own r.ready.is r.ready.fresh (started a d.0) r.ready.arrived;
+  }))
+  next_knows (Sent u q) calls a b k d = (let r = d.1 in subst (Knows g n p (Sent u q ∷ calls)) (sym r.becomes)
+      (record { head = k.head; plan = k.plan; goes = goes_send u q r.place r.edge k.goes r.due r.is r.value r.target }))
+  next_knows Waited calls a b k d = subst (Knows g n p (Waited ∷ calls)) (sym d.2)
+      (record { head = k.head; plan = k.plan; goes = k.goes })
+  next_knows Stopped calls a b k d = subst (Knows g n p (Stopped ∷ calls)) (sym d.2)
+      (record { head = k.head; plan = k.plan; goes = k.goes })
+  next_knows (Ended t) calls a b k d = subst (Knows g n p (Ended t ∷ calls)) (sym d.becomes) (record {
+    head = k.head;
+    plan = subst (λ (es : List Pair). Plan g n p a.described a.numbers a.links (map ends a.incoming) es) (sym
+        (pass_ends t a.outgoing)) k.plan;
+    goes = goes_end _ _ _ _ a k.goes k.plan.up t d.place d.task d.own d.is d.runs;
+  })
+  next_knows (Came u) calls a b k d = (let c0 = arrived_none u a d.0 in subst (Knows g n p (Came u ∷ calls)) (sym d.1) (record {
+    head = k.head;
+    plan = subst (λ (es : List Pair). Plan g n p a.described a.numbers a.links es (map ends a.outgoing)) (sym
+        (pass_ends u a.incoming)) k.plan;
+    goes = goes_come u k.goes c0.0 c0.1;
+  }))
+
+  pub knows : (calls : List Call) (a : PartState) → Reaches g n p calls a → Knows g n p calls a
+  knows [] a h = subst (Knows g n p []) (sym h) (record {
+    head = record { is_number = refl; are_parts = refl; all = λ h. cc };
+    plan = plan_new g n p;
+    goes = goes_new p n;
+  })
+  knows (c ∷ calls) b h = next_knows c calls h.0 b (knows calls h.0 h.1.0) h.1.1
+
+  -- ---- a call was not made before
+  new_run : (t : ℕ) (calls : List Call) (a b : PartState) → Knows g n p calls a → Does g (Ran t) a b → list_any (is_run t) calls ≡ false
+  new_run t calls a b k d = (let r = d.1 in
+      not_true (list_any (is_run t) calls) (sym (k.goes.tasks.at r.place t r.ready.task r.own r.ready.is).0 ∙ ap is_fresh r.ready.fresh))
+
+  new_end : (t : ℕ) (calls : List Call) (a b : PartState) → Knows g n p calls a → Does g (Ended t) a b → list_any (is_end t) calls ≡ false
+  new_end t calls a b k d = sym (k.goes.tasks.at d.place t d.task d.own d.is).1 ∙ ap is_done d.runs
+
+  new_send : (u q : ℕ) (calls : List Call) (a b : PartState) → Knows g n p calls a → Does g (Sent u q) a b
+      → list_any (is_send u q) calls ≡ false
+  new_send u q calls a b k d = elim (cases_Bool (list_any (is_send u q) calls)) [
+    | inr f ↦ f
+    | inl h ↦ (let r = d.1 in let w = k.goes.messages.sent_is u q h in
+        let at = k.plan.out_once w.place r.place (u, q) w.edge (map_get ends a.outgoing r.place r.edge r.is
+        ∙ ap Some (same_ends r.value r.target)) in
+        let j = k.goes.messages.box_once w.message a.sent r.place (subst (λ (i : ℕ). slice_get a.outbox w.message ≡ Some i) at w.at) r.due in
+        let l = w.before in absurd (omega (arith, j, l)))
+  ]
+
+  new_arrival : (u : ℕ) (calls : List Call) (a b : PartState) → Knows g n p calls a → Does g (Came u) a b
+      → list_any (is_arrival u) calls ≡ false
+  new_arrival u calls a b k d = elim (cases_Bool (list_any (is_arrival u) calls)) [
+    | inr f ↦ f
+    | inl h ↦ (let w = k.goes.values.came_in u h in
+        true_or_false (has_arrived u a.incoming) (any_from (λ (e : Edge). (e.value == u) && e.passed) a.incoming w.0 w.1 w.2
+        (and_from (w.1.value == u) w.1.passed (eq-eqb w.1.value u w.3) (k.goes.values.came w.0 w.1 w.2 ∙ (ap (λ (v : ℕ). list_any
+        (is_arrival v) calls) w.3 ∙ h)))) (arrived_none u a d.0).2)
+  ]
+
+-- ---- all parts
+at_here : (c : CallAt) (past : List CallAt) (p : ℕ) → c.part ≡ p → calls_at p (c ∷ past) ≡ c.call ∷ calls_at p past
+at_here c past p e = ap (λ (b : Bool). cond b (c.call ∷ calls_at p past) (calls_at p past)) (eq-eqb c.part p e)
+
+at_other : (c : CallAt) (past : List CallAt) (p : ℕ) → c.part ≢ p → calls_at p (c ∷ past) ≡ calls_at p past
+at_other c past p e = ap (λ (b : Bool). cond b (c.call ∷ calls_at p past) (calls_at p past)) (ne_eqb c.part p e)
+
+-- the newest call, with the states of its part
+pub head_of : (g : Graph) (n : ℕ) (c : CallAt) (past : List CallAt) → IsRun g n (c ∷ past)
+    → (a : PartState) × (b : PartState) × Reaches g n c.part (calls_at c.part past) a × Does g c.call a b
+head_of g n c past h = (let r = h.parts c.part in let l = subst (λ (cs : List Call). Reaches g n c.part cs r.0)
+    (at_here c past c.part refl) r.1 in
+    (l.0, r.0, l.1.0, l.1.1))
+
+pub tail_of : (g : Graph) (n : ℕ) (c : CallAt) (past : List CallAt) → IsRun g n (c ∷ past) → IsRun g n past
+tail_of g n c past h = record {
+  parts = λ p. (let r = h.parts p in elim (cases_eq c.part p) [
+    | inl e ↦ (let l = subst (λ (cs : List Call). Reaches g n p cs r.0) (at_here c past p e) r.1 in (l.0, l.1.0))
+    | inr e ↦ (r.0, subst (λ (cs : List Call). Reaches g n p cs r.0) (at_other c past p e) r.1)
+  ]);
+  carried = h.carried.1;
+}
+
+pub knows_at : (g : Graph) (n : ℕ) (calls : List CallAt) (p : ℕ) (h : IsRun g n calls) → Knows g n p (calls_at p calls) (h.parts p).0
+knows_at g n calls p h = knows g n p (calls_at p calls) (h.parts p).0 (h.parts p).1
+
+-- how often a call was made at one part
+pub at_part : (test : Call → Bool) (q : ℕ) (calls : List CallAt) → count_where (λ (c : CallAt). test c.call && (c.part == q)) calls
+    ≡ count_where test (calls_at q calls)
+at_part test q [] = refl
+at_part test q (c ∷ past) = (let r = at_part test q past in let n = count_next (λ (d : CallAt). test d.call && (d.part == q)) c past in
+    elim (cases_eq c.part q) [
+      | inl e ↦ (let m = count_next test c.call (calls_at q past) in let s = ap (count_where test) (at_here c past q e) in
+          let o = ap (λ (b : Bool). one (test c.call && b)) (eq-eqb c.part q e) in let b = ap one (and_true (test c.call)) in
+          omega (arith, r, n, m, s, o, b))
+      | inr e ↦ (let s = ap (count_where test) (at_other c past q e) in
+          let o = ap (λ (b : Bool). one (test c.call && b)) (ne_eqb c.part q e) in let b = ap one (and_false (test c.call)) in
+          omega (arith, r, n, s, o, b))
+    ])
+
+-- A call was made at a part now, or before.
+has_here : (test : Call → Bool) (c : CallAt) (past : List CallAt) → test c.call ≡ true → Has c.part test (c ∷ past)
+has_here test c past t = subst (λ (cs : List Call). list_any test cs ≡ true) (sym (at_here c past c.part refl)) (or_left (test c.call) _ t)
+
+has_more : (test : Call → Bool) (c : CallAt) (past : List CallAt) (p : ℕ) → Has p test past → Has p test (c ∷ past)
+has_more test c past p h = elim (cases_eq c.part p) [
+  | inl e ↦ subst (λ (cs : List Call). list_any test cs ≡ true) (sym (at_here c past p e)) (or_right (test c.call) _ h)
+  | inr e ↦ subst (λ (cs : List Call). list_any test cs ≡ true) (sym (at_other c past p e)) h
+]
+
+has_cases : (test : Call → Bool) (c : CallAt) (past : List CallAt) (p : ℕ) → Has p test (c ∷ past)
+    → ((c.part ≡ p) × (test c.call ≡ true)) ⊎ Has p test past
+has_cases test c past p h = elim (cases_eq c.part p) [
+  | inr o ↦ inr (subst (λ (cs : List Call). list_any test cs ≡ true) (at_other c past p o) h)
+  | inl e ↦ elim (or_cases (test c.call) _ (subst (λ (cs : List Call). list_any test cs ≡ true) (at_here c past p e) h)) [
+    | inl i ↦ inl (e, i)
+    | inr m ↦ inr m
+  ]
+]
+
+-- a call in the list was made at its part
+pub made : (test : Call → Bool) (calls : List CallAt) (k : ℕ) (c : CallAt) → slice_get calls k ≡ Some c → test c.call ≡ true
+    → Has c.part test calls
+made test [] k c h t = cc
+made test (d ∷ past) zero c h t = (let s : c ≡ d = sym (some_same d c h) in
+    subst (λ (x : CallAt). Has x.part test (d ∷ past)) (sym s) (has_here test d past (ap (λ (x : CallAt). test x.call) (sym s) ∙ t)))
+made test (d ∷ past) (suc k) c h t = has_more test d past c.part (made test past k c h t)
+
+-- ---- each once
+-- A call that was not made before at its part is made there at most once.
+once_at : (test : Call → Bool) (g : Graph) (n p : ℕ) → ((c : Call) (calls : List Call) (a b : PartState) → test c ≡ true
+    → Knows g n p calls a → Does g c a b → list_any test calls ≡ false) → (calls : List Call) (a : PartState) → Reaches g n p calls a
+    → count_where test calls ≤ 1
+once_at test g n p fresh [] a h = omega arith
+once_at test g n p fresh (c ∷ calls) b h = (let m = count_next test c calls in elim (cases_Bool (test c)) [
+  | inr f ↦ (let o = ap one f in let r = once_at test g n p fresh calls h.0 h.1.0 in omega (arith, m, o, r))
+  | inl t ↦ (let o = ap one t in let f = fresh c calls h.0 b t (knows g n p calls h.0 h.1.0) h.1.1 in
+      let z = count_zero test calls (λ k e i. elim (cases_Bool (test e)) [
+        | inr v ↦ ap one v
+        | inl v ↦ true_or_false (list_any test calls) (any_from test calls k e i v) f
+      ]) in omega (arith, m, o, z))
+])
+
+-- If it is made at one part alone, it is made once in all.
+once : (test : Call → Bool) (g : Graph) (n : ℕ) (calls : List CallAt) → IsRun g n calls
+    → ((p : ℕ) (c : Call) (cs : List Call) (a b : PartState) → test c ≡ true → Knows g n p cs a → Does g c a b → list_any test cs ≡ false)
+    → ((p q : ℕ) → Has p test calls → Has q test calls → p ≡ q) → times test calls ≤ 1
+once test g n calls h fresh one_part = elim (same_or (times test calls) 0) [
+  | inl z ↦ omega (arith, z)
+  | inr o ↦ (let f = find_one (λ (c : CallAt). test c.call) calls o in let m = made test calls f.0 f.1 f.2 f.3 in
+      let s = count_same (λ (c : CallAt). test c.call) (λ (c : CallAt). test c.call && (c.part == f.1.part)) calls (λ k c i.
+      elim (cases_Bool (test c.call)) [
+        | inl t ↦ t ∙ sym (and_from (test c.call) (c.part == f.1.part) t (eq-eqb c.part f.1.part (one_part c.part f.1.part
+            (made test calls k c i t) m)))
+        | inr v ↦ v ∙ sym (ap (λ (b : Bool). b && (c.part == f.1.part)) v)
+      ]) in
+      let a = at_part test f.1.part calls in
+      let l = once_at test g n f.1.part (fresh f.1.part) (calls_at f.1.part calls) (h.parts f.1.part).0 (h.parts f.1.part).1 in
+      omega (arith, s, a, l))
+]
+
+run_is : (t : ℕ) (c : Call) → is_run t c ≡ true → c ≡ Ran t
+run_is t (Ran u) h = ap Ran (eqb-true u t h)
+run_is t _ h = cc
+
+end_is : (t : ℕ) (c : Call) → is_end t c ≡ true → c ≡ Ended t
+end_is t (Ended u) h = ap Ended (eqb-true u t h)
+end_is t _ h = cc
+
+send_is : (u q : ℕ) (c : Call) → is_send u q c ≡ true → c ≡ Sent u q
+send_is u q (Sent v r) h = (let p = and_parts (v == u) (r == q) h in let a = eqb-true v u p.0 in let b = eqb-true r q p.1 in cc)
+send_is u q _ h = cc
+
+pub arrival_is : (u : ℕ) (c : Call) → is_arrival u c ≡ true → c ≡ Came u
+arrival_is u (Came v) h = ap Came (eqb-true v u h)
+arrival_is u _ h = cc
+
+-- What a call that was made says of the graph.
+module _ (g : Graph) (n : ℕ) (calls : List CallAt) (h : IsRun g n calls) where
+  pub owns_run : (p t : ℕ) → Has p (is_run t) calls → Owns g p t
+  owns_run p t i = (let k = knows_at g n calls p h in
+      let r = k.goes.tasks.own t (or_left (list_any (is_run t) (calls_at p calls)) (list_any (is_end t) (calls_at p calls)) i) in
+      (k.plan.own_is r.0 t r.1).0)
+
+  pub owns_end : (p t : ℕ) → Has p (is_end t) calls → Owns g p t
+  owns_end p t i = (let k = knows_at g n calls p h in
+      let r = k.goes.tasks.own t (or_right (list_any (is_run t) (calls_at p calls)) (list_any (is_end t) (calls_at p calls)) i) in
+      (k.plan.own_is r.0 t r.1).0)
+
+  -- a message that was sent
+  pub sent_at : (p u q : ℕ) → Has p (is_send u q) calls
+      → Owns g p u × (q ≢ p) × ((t : ℕ) × Owns g q t × HasInput g t u) × Has p (is_end u) calls × (q < n)
+  sent_at p u q i = (let k = knows_at g n calls p h in let a = (h.parts p).0 in let w = k.goes.messages.sent_is u q i in
+      let s = k.plan.out_is w.place u q w.edge in let b = k.goes.messages.box_is w.message w.place w.at in
+      let e : ends b.0 ≡ (u, q) = there (map ends a.outgoing) w.place (ends b.0) (u, q) (map_get ends a.outgoing w.place b.0 b.1) w.edge in (
+        s.0,
+        s.1,
+        (s.2.0, s.2.1, s.2.2),
+        ap (λ (z : Pair). list_any (is_end z.0) (calls_at p calls)) (sym e) ∙ (sym (k.goes.messages.due w.place b.0 b.1) ∙ b.2),
+        k.plan.owners q s.2.0 s.2.3 s.2.1,
+      ))
+
+pub each_once : EachOnce
+each_once g n calls h = (
+  record {
+    run = λ t. once (is_run t) g n calls h (λ p c cs a b i k d. new_run g n p t cs a b k (subst (λ (e : Call). Does g e a b)
+        (run_is t c i) d)) (λ p q x y. one_owner g p q t (owns_run g n calls h p t x) (owns_run g n calls h q t y));
+    ended = λ t. once (is_end t) g n calls h (λ p c cs a b i k d. new_end g n p t cs a b k (subst (λ (e : Call). Does g e a b)
+        (end_is t c i) d)) (λ p q x y. one_owner g p q t (owns_end g n calls h p t x) (owns_end g n calls h q t y));
+    sent = λ u q. once (is_send u q) g n calls h (λ p c cs a b i k d. new_send g n p u q cs a b k (subst (λ (e : Call). Does g e a b)
+        (send_is u q c i) d)) (λ p r x y. one_owner g p r u (sent_at g n calls h p u q x).0 (sent_at g n calls h r u q y).0);
+    arrived = λ u q. once_at (is_arrival u) g n q (λ c cs a b i k d. new_arrival g n q u cs a b k (subst (λ (e : Call). Does g e a b)
+        (arrival_is u c i) d)) (calls_at q calls) (h.parts q).0 (h.parts q).1;
+  },
+  owns_run g n calls h,
+)
+
+-- ---- after its inputs
+-- A value that arrived was sent.
+pub carried_at : (u p : ℕ) (calls : List CallAt) → IsCarried calls → Has p (is_arrival u) calls → WasSent u p calls
+carried_at u p [] c h = absurd (false≢true h)
+carried_at u p (c ∷ past) carried h = (let s : WasSent u p past = elim (has_cases (is_arrival u) c past p h) [
+  | inr i ↦ carried_at u p past carried.1 i
+  | inl i ↦ subst (λ (q : ℕ). WasSent u q past) i.0 (subst (λ (d : Call). Brings c.part d past) (arrival_is u c.call i.1) carried.0)
+] in (s.0, has_more (is_send u p) c past s.0 s.1))
+
+pub after_its_inputs : AfterItsInputs
+after_its_inputs g n past p t u h input = (let c : CallAt = record { part = p; call = Ran t } in let r = tail_of g n c past h in
+    let x = head_of g n c past h in
+    let k = knows g n p (calls_at p past) x.0 x.2 in go x.0 x.1 r k x.3)
+  where
+    go : (a b : PartState) → IsRun g n past → Knows g n p (calls_at p past) a → Does g (Ran t) a b → IsHere g past p u
+    go a b r k d = (let w = d.1 in elim (k.plan.read_some w.place t u w.own input) [
+      | inl s ↦ (let done = w.ready.inputs s.0 s.2 in record {
+        owner = p;
+        owns = (k.plan.own_is s.0 u s.1).0;
+        ended = sym (k.goes.tasks.at s.0 u done.task s.1 done.is).1 ∙ ap is_done done.stage;
+        here = inl refl;
+      })
+      | inr i ↦ (let f = map_got ends a.incoming i.1.0 (u, w.place) i.1.1 in let v : f.0.value ≡ u = ap (λ (z : Pair). z.0) f.2 in
+          let passed = w.ready.arrived i.1.0 f.0 f.1 (ap (λ (z : Pair). z.1) f.2) in
+          let here : Has p (is_arrival u) past = ap (λ (y : ℕ). list_any (is_arrival y) (calls_at p past)) (sym v)
+          ∙ (sym (k.goes.values.came i.1.0 f.0 f.1) ∙ passed) in
+          let s = carried_at u p past r.carried here in let o = sent_at g n past r s.0 u p s.1 in
+          record { owner = s.0; owns = o.0; ended = o.3; here = inr here })
+    ])
+
+-- ---- may leave
+done_stage : (s : Stage) → is_done s ≡ true → s ≡ stage.Done
+done_stage stage.Done h = refl
+done_stage stage.Running h = cc
+done_stage stage.Fresh h = cc
+
+-- the newest call of a part
+newest_leads : (g : Graph) (n p : ℕ) (c : Call) (calls : List Call) (b : PartState) → newest_of calls ≡ Some c → Reaches g n p calls b
+    → (a : PartState) × Does g c a b
+newest_leads g n p c [] b h l = cc
+newest_leads g n p c (d ∷ calls) b h l = (l.0, subst (λ (e : Call). Does g e l.0 b) (some_same d c h) l.1.1)
+
+pub may_leave : MayLeave
+may_leave g n calls p u h stop sent = (let k = knows_at g n calls p h in let r = h.parts p in
+    let d = newest_leads g n p Stopped (calls_at p calls) r.0 stop r.1 in let b = d.1.2 in
+    let s = sent_at g n calls h sent.0 u p sent.1 in
+    let over = subst IsOver (sym b) d.1.1 in let all = k.head.all (ap (λ (a : PartState). a.started) b ∙ started g n p d.0 d.1.0) in
+    let w = owned_within g p s.2.0 s.2.1 in let at = k.plan.own_some s.2.0 s.2.1 (omega (arith, w, all)) in
+    let long = k.goes.tasks.long in let inside = slice_get_within r.0.numbers at.0 s.2.0 at.1 in
+    let x = at_below r.0.tasks at.0 (omega (arith, long, inside)) in
+    elim (k.plan.read_some at.0 s.2.0 u at.1 s.2.2) [
+      | inl o ↦ absurd (s.1 (one_owner g p sent.0 u (k.plan.own_is o.0 u o.1).0 s.0))
+      | inr o ↦ (let i = o.1 in let f = map_got ends r.0.incoming i.0 (u, at.0) i.1 in
+          let passed = k.goes.fed at.0 i.0 x.0 f.0 x.1 (ap is_fresh (over.done at.0 x.0 x.1)) f.1 (ap (λ (z : Pair). z.1) f.2) in
+          ap (λ (v : ℕ). list_any (is_arrival v) (calls_at p calls)) (sym (ap (λ (z : Pair). z.0) f.2))
+          ∙ (sym (k.goes.values.came i.0 f.0 f.1) ∙ passed))
+    ])
+
+-- ---- never silent
+-- What the newest call at a part says of it now.
+record Rests (g : Graph) (a : PartState) : Type 0 where
+  all : a.described ≡ length g
+  sent_all : HasSentAll a
+  idle : ((k : ℕ) → IsReady k a → ⊥) ⊎ AreDone a
+
+module _ (g : Graph) (n : ℕ) (calls : List CallAt) (some : 1 ≤ n) (h : IsRun g n calls) (settled : IsSettled calls)
+    (last : (p : ℕ) → p < n → WaitsOrStops (newest_of (calls_at p calls))) where
+  abbrev state : ℕ → PartState
+  state p = (h.parts p).0
+
+  at : (p : ℕ) → Knows g n p (calls_at p calls) (state p)
+  at p = knows_at g n calls p h
+
+  rests : (p : ℕ) → p < n → Rests g (state p)
+  rests p l = elim (last p l) [
+    | inl e ↦ (let d = newest_leads g n p Waited (calls_at p calls) (state p) e (h.parts p).1 in let w = subst IsWaiting
+        (sym d.1.2) d.1.1 in record {
+          all = (at p).head.all (ap (λ (a : PartState). a.started) d.1.2 ∙ started g n p d.0 d.1.0);
+          sent_all = w.none_due;
+          idle = inl w.none_ready;
+        })
+    | inr e ↦ (let d = newest_leads g n p Stopped (calls_at p calls) (state p) e (h.parts p).1 in let w = subst IsOver (sym d.1.2) d.1.1 in
+        record {
+          all = (at p).head.all (ap (λ (a : PartState). a.started) d.1.2 ∙ started g n p d.0 d.1.0);
+          sent_all = w.none_due;
+          idle = inr w.done;
+        })
+  ]
+
+  -- each owner is a part
+  owner_few : (p t : ℕ) → Owns g p t → p < n
+  owner_few p t o = (let r = rests 0 (omega (arith, some)) in let w = owned_within g p t o in let a = r.all in
+      (at 0).plan.owners p t (omega (arith, w, a)) o)
+
+  -- A value that is done at its owner is at each part that reads it.
+  comes : (o p u t : ℕ) → Owns g o u → Has o (is_end u) calls → Owns g p t → HasInput g t u → p ≢ o → Has p (is_arrival u) calls
+  comes o p u t own done reader input apart = (let k = at o in let r = rests o (owner_few o u own) in let w = owned_within g p t reader in
+      let a = r.all in
+      let i = k.plan.out_some u p t own reader input apart (omega (arith, w, a)) in
+      let f = map_got ends (state o).outgoing i.0 (u, p) i.1 in let v : f.0.value ≡ u = ap (λ (z : Pair). z.0) f.2 in
+      let passed = k.goes.messages.due i.0 f.0 f.1 ∙ (ap (λ (y : ℕ). list_any (is_end y) (calls_at o calls)) v ∙ done) in
+      let b = k.goes.messages.box_some i.0 f.0 f.1 passed in let in_box = slice_get_within (state o).outbox b.0 i.0 b.1 in let e = r.sent_all in
+      let s = k.goes.messages.sent_some b.0 i.0 f.0 (omega (arith, in_box, e)) b.1 f.1 in
+      settled.arrived u p (o, subst (λ (z : Pair). list_any (is_send z.0 z.1) (calls_at o calls) ≡ true) f.2 s))
+
+  is_ended : (p t k : ℕ) (x : Progress) → slice_get (state p).numbers k ≡ Some t → slice_get (state p).tasks k ≡ Some x → p < n
+      → ((o u : ℕ) → u < t → Owns g o u → Has o (is_end u) calls) → (s : Stage) → x.stage ≡ s → Has p (is_end t) calls
+  is_ended p t k x own is l before stage.Done e = sym ((at p).goes.tasks.at k t x own is).1 ∙ ap is_done e
+  is_ended p t k x own is l before stage.Running e = settled.ended p t
+      (not_false (list_any (is_run t) (calls_at p calls)) (sym ((at p).goes.tasks.at k t x own is).0 ∙ ap is_fresh e))
+  is_ended p t k x own is l before stage.Fresh e = elim (rests p l).idle [
+    | inr done ↦ (let c : stage.Fresh ≡ stage.Done = sym e ∙ done k x is in cc)
+    | inl none_ready ↦ absurd (none_ready k (record {
+      task = x;
+      is = is;
+      fresh = e;
+      inputs = λ s r. (let w = (at p).plan.link_is r.0 k s r.1 in let t_is = there (state p).numbers k w.0 t w.2 own in
+          let input = subst (λ (v : ℕ). HasInput g v w.1) t_is w.4 in let own_u = (at p).plan.own_is s w.1 w.3 in
+          let mine = (at p).plan.own_is k t own in let less = (at p).plan.lower t w.1 mine.1 input in
+          let ended = before p w.1 less own_u.0 in let long = (at p).goes.tasks.long in
+          let inside = slice_get_within (state p).numbers s w.1 w.3 in
+          let y = at_below (state p).tasks s (omega (arith, long, inside)) in
+          record { task = y.0; is = y.1; stage = done_stage y.0.stage (((at p).goes.tasks.at s w.1 y.0 w.3 y.1).1 ∙ ended) });
+      arrived = λ i f a to. (let w = (at p).plan.in_is i f.value f.target (map_get ends (state p).incoming i f a) in
+          let t_is = there (state p).numbers k w.0 t (subst (λ (v : ℕ). slice_get (state p).numbers v ≡ Some w.0) to w.1) own in
+          let input = subst (λ (v : ℕ). HasInput g v f.value) t_is w.2 in let mine = (at p).plan.own_is k t own in
+          let less = (at p).plan.lower t f.value mine.1 input in let inside = owned_within g p t mine.0 in
+          let o = at_below g f.value (omega (arith, less, inside)) in let own_u : Owns g o.0.owner f.value = (o.0, o.1, refl) in
+          (at p).goes.values.came i f a ∙ comes o.0.owner p f.value t own_u (before o.0.owner f.value less own_u) mine.0 input
+          (λ same. w.3 (subst (λ (q : ℕ). Owns g q f.value) (sym same) own_u)));
+    }))
+  ]
+
+  below : (m p t : ℕ) → t < m → Owns g p t → Has p (is_end t) calls
+  below zero p t l own = absurd (omega (arith, l))
+  below (suc m) p t l own = (let few = owner_few p t own in let r = rests p few in let w = owned_within g p t own in let a = r.all in
+      let k = (at p).plan.own_some t own (omega (arith, w, a)) in let long = (at p).goes.tasks.long in
+      let inside = slice_get_within (state p).numbers k.0 t k.1 in let x = at_below (state p).tasks k.0 (omega (arith, long, inside)) in
+      is_ended p t k.0 x.0 k.1 x.1 few (λ o u less own_u. below m o u (omega (arith, l, less)) own_u) x.0.stage refl)
+
+  all_done : (p : ℕ) → AreDone (state p)
+  all_done p k x i = (let long = (at p).goes.tasks.long in let inside = slice_get_within (state p).tasks k x i in
+      let t = at_below (state p).numbers k (omega (arith, long, inside)) in let own = ((at p).plan.own_is k t.0 t.1).0 in
+      done_stage x.stage (((at p).goes.tasks.at k t.0 x t.1 i).1 ∙ below (t.0 + 1) p t.0 (omega arith) own))
+
+  pub ended_all : AllEnded g n calls
+  ended_all = record {
+    tasks = λ p t own. below (t + 1) p t (omega arith) own;
+    over = λ p l. elim (last p l) [
+      | inr e ↦ e
+      | inl e ↦ (let d = newest_leads g n p Waited (calls_at p calls) (state p) e (h.parts p).1 in
+          absurd (d.1.1.not_done (subst AreDone d.1.2 (all_done p))))
+    ];
+  }
+
+pub never_silent : NeverSilent
+never_silent g n calls some h settled last = ended_all g n calls some h settled last
+
+-- ---- sums
+sum_ones : (m : ℕ) → sum_below (λ k. 1) m ≡ m
+sum_ones zero = refl
+sum_ones (suc m) = (let r = sum_ones m in omega (arith, r))
+
+sum_tests : (test : ℕ → Bool) (m : ℕ) → sum_below (λ k. one (test k)) m ≤ count_below test m
+sum_tests test zero = omega arith
+sum_tests test (suc m) = (let r = sum_tests test m in elim (test m) as (λ b. sum_below (λ k. one (test k)) m + one b ≤ cond b
+    (count_below test m + 1)
+    (count_below test m)) [ true ↦ omega (arith, r) | false ↦ omega (arith, r) ])
+
+key_next : (b : Bool) (v m : ℕ) → one (b && nat_lt v (suc m)) ≡ one (b && nat_lt v m) + one (b && (v == m))
+key_next false v m = refl
+key_next true v m = elim (same_or v m) [
+  | inl e ↦ (let a : nat_lt v (suc m) ≡ true = grind (arith, nat_tests, e) in let b : nat_lt v m ≡ false = grind (arith, nat_tests, e) in
+      let x = ap one a in let y = ap one b in let z = ap one (eq-eqb v m e) in omega (arith, x, y, z))
+  | inr o ↦ (let a : nat_lt v (suc m) ≡ nat_lt v m = grind (arith, nat_tests, o) in let x = ap one a in let z = ap one (ne_eqb v m o) in
+      omega (arith, x, z))
+]
+
+-- Those of a kind have keys below m, and at most f k of them have key k.
+module _ (kind : CallAt → Bool) (key : CallAt → ℕ) (f : ℕ → ℕ) (xs : List CallAt)
+    (few : (k : ℕ) → count_where (λ x. kind x && (key x == k)) xs ≤ f k) where
+  below_few : (m : ℕ) → count_where (λ x. kind x && nat_lt (key x) m) xs ≤ sum_below f m
+  below_few zero = (let z = count_zero (λ x. kind x && nat_lt (key x) 0) xs (λ i x e. none (kind x) (key x)) in omega (arith, z))
+    where
+      none : (b : Bool) (v : ℕ) → one (b && nat_lt v 0) ≡ 0
+      none true v = (let h : nat_lt v 0 ≡ false = grind (arith, nat_tests) in ap one h)
+      none false v = refl
+  below_few (suc m) = (let s = count_sum (λ x. kind x && nat_lt (key x) m) (λ x. kind x && (key x == m))
+      (λ x. kind x && nat_lt (key x) (suc m)) xs (λ i x e. key_next (kind x) (key x) m) in
+      let r = below_few m in let l = few m in omega (arith, s, r, l))
+
+  keyed : (m : ℕ) → ((i : ℕ) (x : CallAt) → slice_get xs i ≡ Some x → kind x ≡ true → key x < m) → count_where kind xs ≤ sum_below f m
+  keyed m low = (let r = below_few m in let s = count_same kind (λ x. kind x && nat_lt (key x) m) xs (λ i x e. elim (cases_Bool (kind x)) [
+    | inl t ↦ (let l = low i x e t in t ∙ sym (and_from (kind x) (nat_lt (key x) m) t (grind (arith, nat_tests, l))))
+    | inr n ↦ n ∙ sym (ap (λ (b : Bool). b && nat_lt (key x) m) n)
+  ]) in omega (arith, r, s))
+
+-- ---- kinds of calls
+abbrev runs_any : Call → Bool
+runs_any (Ran t) = true
+runs_any _ = false
+
+abbrev ends_any : Call → Bool
+ends_any (Ended t) = true
+ends_any _ = false
+
+abbrev sends_any : Call → Bool
+sends_any (Sent u q) = true
+sends_any _ = false
+
+abbrev comes_any : Call → Bool
+comes_any (Came u) = true
+comes_any _ = false
+
+abbrev task_of : Call → ℕ
+task_of (Ran t) = t
+task_of (Ended t) = t
+task_of (Sent u q) = u
+task_of (Came u) = u
+task_of _ = 0
+
+abbrev target_of : ℕ → Call → ℕ
+target_of p (Sent u q) = q
+target_of p _ = p
+
+split_all : (calls : List CallAt) → times is_progress calls ≤ times runs_any calls + times ends_any calls + times sends_any calls + times
+    comes_any calls
+split_all [] = omega arith
+split_all (c ∷ past) = (let s = split c.call in let r = split_all past in
+    let a = count_next (λ (d : CallAt). is_progress d.call) c past in let b = count_next (λ (d : CallAt). runs_any d.call) c past in
+    let e = count_next (λ (d : CallAt). ends_any d.call) c past in let f = count_next (λ (d : CallAt). sends_any d.call) c past in
+    let h = count_next (λ (d : CallAt). comes_any d.call) c past in omega (arith, s, r, a, b, e, f, h))
+  where
+    split : (c : Call) → one (is_progress c) ≤ one (runs_any c) + one (ends_any c) + one (sends_any c) + one (comes_any c)
+    split (Ran t) = omega arith
+    split (Ended t) = omega arith
+    split (Sent u q) = omega arith
+    split (Came u) = omega arith
+    split _ = omega arith
+
+run_test : (t : ℕ) (c : Call) → is_run t c ≡ (runs_any c && (task_of c == t))
+run_test t (Ran u) = refl
+run_test t _ = refl
+
+end_test : (t : ℕ) (c : Call) → is_end t c ≡ (ends_any c && (task_of c == t))
+end_test t (Ended u) = refl
+end_test t _ = refl
+
+send_test : (u q p : ℕ) (c : Call) → is_send u q c ≡ ((sends_any c && (task_of c == u)) && (target_of p c == q))
+send_test u q p (Sent v r) = refl
+send_test u q p _ = refl
+
+come_test : (u q p : ℕ) (c : Call) → (is_arrival u c && (p == q)) ≡ ((comes_any c && (task_of c == u)) && (target_of p c == q))
+come_test u q p (Came v) = refl
+come_test u q p _ = refl
+
+-- ---- messages of the graph
+is_message : (g : Graph) (p q u t : ℕ) → Owns g p u → q ≢ p → Owns g q t → HasInput g t u → goes g u q ≡ true
+is_message g p q u t own apart reader input = and_from (reads g q u) (not (owned_by q (slice_get g u)))
+    (any_from (λ (x : Task). (x.owner == q) && is_among u x.inputs) g t reader.0 reader.1
+    (and_from (reader.0.owner == q) (is_among u reader.0.inputs) (eq-eqb reader.0.owner q reader.2)
+    (any_from (λ v. v == u) reader.0.inputs input.2.0 u (ap (λ (z : Task). slice_get z.inputs input.2.0)
+    (there g t reader.0 input.0 reader.1 input.1) ∙ input.2.1) (eq-eqb u u refl))))
+    (ap not (ap (owned_by q) own.1 ∙ ne_eqb own.0.owner q (λ e. apart (sym e ∙ own.2))))
+
+module _ (g : Graph) (n : ℕ) (calls : List CallAt) (h : IsRun g n calls) where
+  few : AreOnce calls
+  few = (each_once g n calls h).0
+
+  -- what happens once for each task
+  tasks_few : (kind : Call → Bool) (test : ℕ → Call → Bool) → ((t : ℕ) (c : Call) → test t c ≡ (kind c && (task_of c == t)))
+      → ((p t : ℕ) → Has p (test t) calls → Owns g p t) → ((t : ℕ) → times (test t) calls ≤ 1) → times kind calls ≤ length g
+  tasks_few kind test same owns once = (let k = keyed (λ c. kind c.call) (λ c. task_of c.call) (λ t. 1) calls
+      (λ t. let s = count_same (λ (c : CallAt). test t c.call) (λ c. kind c.call && (task_of c.call == t)) calls
+      (λ i c e. same t c.call) in let o = once t in omega (arith, s, o)) (length g)
+      (λ i c e t. owned_within g c.part (task_of c.call) (owns c.part (task_of c.call) (made (test (task_of c.call)) calls i c e
+      (same (task_of c.call) c.call ∙ and_from (kind c.call) (task_of c.call == task_of c.call) t
+      (eq-eqb (task_of c.call) (task_of c.call) refl))))) in
+      let s = sum_ones (length g) in omega (arith, k, s))
+
+  -- a message that was sent is one of the graph
+  is_one : (p u q : ℕ) → Has p (is_send u q) calls → (u < length g) × (q < n) × (goes g u q ≡ true)
+  is_one p u q m = (let s = sent_at g n calls h p u q m in (owned_within g p u s.0, s.4, is_message g p q u s.2.0 s.0 s.1 s.2.1 s.2.2))
+
+  -- what happens once for each message
+  messages_few : (kind : Call → Bool) (test : ℕ → ℕ → CallAt → Bool)
+      → ((u q : ℕ) (c : CallAt) → test u q c ≡ ((kind c.call && (task_of c.call == u)) && (target_of c.part c.call == q)))
+      → ((i u q : ℕ) (c : CallAt) → slice_get calls i ≡ Some c → test u q c ≡ true → (u < length g) × (q < n) × (goes g u q ≡ true))
+      → ((u q : ℕ) → count_where (test u q) calls ≤ 1) → times kind calls ≤ messages g n
+  messages_few kind test same are once = keyed (λ c. kind c.call) (λ c. task_of c.call) (λ u. count_below (goes g u) n) calls
+      (λ u. let k = keyed (λ c. kind c.call && (task_of c.call == u)) (λ c. target_of c.part c.call) (λ q. one (goes g u q)) calls (each u) n
+      (λ i c e t. (are i u (target_of c.part c.call) c e (passes u c t)).1) in
+      let s = sum_tests (goes g u) n in omega (arith, k, s)) (length g)
+      (λ i c e t. (are i (task_of c.call) (target_of c.part c.call) c e (passes (task_of c.call) c (and_from (kind c.call)
+      (task_of c.call == task_of c.call) t (eq-eqb (task_of c.call) (task_of c.call) refl)))).0)
+    where
+      passes : (u : ℕ) (c : CallAt) → (kind c.call && (task_of c.call == u)) ≡ true → test u (target_of c.part c.call) c ≡ true
+      passes u c t = same u (target_of c.part c.call) c ∙ and_from (kind c.call && (task_of c.call == u))
+          (target_of c.part c.call == target_of c.part c.call) t (eq-eqb (target_of c.part c.call) (target_of c.part c.call) refl)
+
+      each : (u q : ℕ) → count_where (λ (c : CallAt). (kind c.call && (task_of c.call == u)) && (target_of c.part c.call == q)) calls
+          ≤ one (goes g u q)
+      each u q = (let s = count_same (test u q) (λ c. (kind c.call && (task_of c.call == u)) && (target_of c.part c.call == q)) calls
+          (λ i c e. same u q c) in elim (cases_Bool (goes g u q)) [
+            | inl t ↦ (let o = ap one t in let l = once u q in omega (arith, s, l, o))
+            | inr f ↦ (let z = count_zero (test u q) calls (λ i c e. elim (cases_Bool (test u q c)) [
+              | inr y ↦ ap one y
+              | inl y ↦ true_or_false (goes g u q) (are i u q c e y).2 f
+            ]) in omega (arith, s, z))
+          ])
+
+pub all_end : AllEnd
+all_end g n calls h = (let s = split_all calls in let one_few = few g n calls h in
+    let a = tasks_few g n calls h runs_any is_run run_test (owns_run g n calls h) one_few.run in
+    let b = tasks_few g n calls h ends_any is_end end_test (owns_end g n calls h) one_few.ended in
+    let c = messages_few g n calls h sends_any (λ u q c. is_send u q c.call) (λ u q c. send_test u q c.part c.call)
+    (λ i u q c e t. is_one g n calls h c.part u q (made (is_send u q) calls i c e t)) one_few.sent in
+    let d = messages_few g n calls h comes_any (λ u q c. is_arrival u c.call && (c.part == q)) (λ u q c. come_test u q c.part c.call)
+    (λ i u q c e t. let y = and_parts (is_arrival u c.call) (c.part == q) t in let m = carried_at u c.part calls h.carried
+    (made (is_arrival u) calls i c e y.0) in is_one g n calls h m.0 u q (ap (λ (r : ℕ). list_any (is_send u r) (calls_at m.0 calls))
+    (sym (eqb-true c.part q y.1)) ∙ m.1)) (λ u q. let a = one_few.arrived u q in let b = at_part (is_arrival u) q calls in
+    omega (arith, a, b)) in
+    omega (arith, s, a, b, c, d))

@@ -1,0 +1,402 @@
+-- How far a part is, by its calls: which tasks ran and are done, which values arrived, and which messages were sent.
+pub mod Plans
+pub use Plans.*
+
+-- A message with the value of task u to part q was sent.
+pub record WasPosted (u q : ℕ) (outs : List Edge) (box : List ℕ) (sent : ℕ) : Type 0 where
+  pub message : ℕ
+  pub before : message < sent
+  pub place : ℕ
+  pub at : slice_get box message ≡ Some place
+  pub edge : slice_get (map ends outs) place ≡ Some (u, q)
+
+-- R: which tasks ran; E: which are done.
+abbrev pub Agrees : (ℕ → Bool) → (ℕ → Bool) → ℕ → Progress → Type 0
+Agrees R E t x = (is_fresh x.stage ≡ not (R t)) × (is_done x.stage ≡ E t)
+
+pub record TasksGo (R E : ℕ → Bool) (ns : List ℕ) (xs : List Progress) : Type 0 where
+  pub long : length xs ≡ length ns
+  pub at : (k t : ℕ) (x : Progress) → slice_get ns k ≡ Some t → slice_get xs k ≡ Some x → Agrees R E t x
+  pub own : (t : ℕ) → (R t || E t) ≡ true → (k : ℕ) × (slice_get ns k ≡ Some t)
+
+-- C: which values arrived.
+pub record ValuesCome (C : ℕ → Bool) (ins : List Edge) : Type 0 where
+  pub came : (i : ℕ) (e : Edge) → slice_get ins i ≡ Some e → e.passed ≡ C e.value
+  pub came_in : (u : ℕ) → C u ≡ true → (i : ℕ) × (e : Edge) × (slice_get ins i ≡ Some e) × (e.value ≡ u)
+
+-- S: which messages were sent.
+pub record MessagesGo (E : ℕ → Bool) (S : ℕ → ℕ → Bool) (outs : List Edge) (box : List ℕ) (sent : ℕ) : Type 0 where
+  pub due : (i : ℕ) (e : Edge) → slice_get outs i ≡ Some e → e.passed ≡ E e.value
+  pub box_is : (j i : ℕ) → slice_get box j ≡ Some i → (e : Edge) × (slice_get outs i ≡ Some e) × (e.passed ≡ true)
+  pub box_some : (i : ℕ) (e : Edge) → slice_get outs i ≡ Some e → e.passed ≡ true → (j : ℕ) × (slice_get box j ≡ Some i)
+  pub box_once : (j l i : ℕ) → slice_get box j ≡ Some i → slice_get box l ≡ Some i → j ≡ l
+  pub sent_is : (u q : ℕ) → S u q ≡ true → WasPosted u q outs box sent
+  pub sent_some : (j i : ℕ) (e : Edge) → j < sent → slice_get box j ≡ Some i → slice_get outs i ≡ Some e → S e.value e.target ≡ true
+  pub few : sent ≤ length box
+
+-- The values that a task read arrived before it ran.
+abbrev pub AreFed : List Progress → List Edge → Type 0
+AreFed xs ins = (k i : ℕ) (x : Progress) (e : Edge) → slice_get xs k ≡ Some x → is_fresh x.stage ≡ false → slice_get ins i ≡ Some e
+    → e.target ≡ k → e.passed ≡ true
+
+pub record Goes (R E C : ℕ → Bool) (S : ℕ → ℕ → Bool) (a : PartState) : Type 0 where
+  pub tasks : TasksGo R E a.numbers a.tasks
+  pub values : ValuesCome C a.incoming
+  pub messages : MessagesGo E S a.outgoing a.outbox a.sent
+  pub fed : AreFed a.tasks a.incoming
+  pub early : IsFalse a.started → ((t : ℕ) → R t ≡ false) × ((t : ℕ) → E t ≡ false) × ((u : ℕ) → C u ≡ false)
+
+abbrev pub no_test : ℕ → Bool
+no_test t = false
+
+pub goes_new : (number parts : ℕ) → Goes no_test no_test no_test (λ u q. false) (new_part number parts)
+goes_new number parts = record {
+  tasks = record { long = refl; at = λ k t x a b. cc; own = λ t h. absurd (false≢true h) };
+  values = record { came = λ i e h. cc; came_in = λ u h. absurd (false≢true h) };
+  messages = record {
+    due = λ i e h. cc;
+    box_is = λ j i h. cc;
+    box_some = λ i e h p. cc;
+    box_once = λ j l i a b. cc;
+    sent_is = λ u q h. absurd (false≢true h);
+    sent_some = λ j i e l a b. cc;
+    few = omega arith;
+  };
+  fed = λ k i x e a b f t. cc;
+  early = λ h. (λ t. refl, λ t. refl, λ u. refl);
+}
+
+-- ---- what a value that is passed on leaves
+pub pass_value : (u : ℕ) (e : Edge) → (passed_on u e).value ≡ e.value
+pass_value u e = elim (e.value == u) as (λ b. (cond b (pass_one e) e).value ≡ e.value) [ true ↦ refl | false ↦ refl ]
+
+pub pass_target : (u : ℕ) (e : Edge) → (passed_on u e).target ≡ e.target
+pass_target u e = elim (e.value == u) as (λ b. (cond b (pass_one e) e).target ≡ e.target) [ true ↦ refl | false ↦ refl ]
+
+pub same_ends : {v w q r : ℕ} → v ≡ w → q ≡ r → ◌≡◌ {A = Pair} (v, q) (w, r)
+same_ends a b = cc
+
+pub pass_ends : (u : ℕ) (es : List Edge) → map ends (pass u es) ≡ map ends es
+pass_ends u [] = refl
+pass_ends u (e ∷ es) = (let h : ends (passed_on u e) ≡ ends e = same_ends (pass_value u e) (pass_target u e) in
+    ap (λ (x : Pair). x ∷ map ends (pass u es)) h ∙ ap (λ (xs : List Pair). ends e ∷ xs) (pass_ends u es))
+
+pub pass_stays : (u : ℕ) (e : Edge) → e.passed ≡ true → (passed_on u e).passed ≡ true
+pass_stays u e h = elim (e.value == u) as (λ b. (cond b (pass_one e) e).passed ≡ true) [ true ↦ refl | false ↦ h ]
+
+pub pass_here : (u : ℕ) (e : Edge) → e.value ≡ u → passed_on u e ≡ pass_one e
+pass_here u e v = ap (λ (b : Bool). cond b (pass_one e) e) (eq-eqb e.value u v)
+
+pub pass_other : (u : ℕ) (e : Edge) → e.value ≢ u → passed_on u e ≡ e
+pass_other u e v = ap (λ (b : Bool). cond b (pass_one e) e) (ne_eqb e.value u v)
+
+-- the test has value u, too
+pub passed_is : (u : ℕ) (e : Edge) (B : ℕ → Bool) → e.passed ≡ B e.value
+    → (passed_on u e).passed ≡ ((u == (passed_on u e).value) || B (passed_on u e).value)
+passed_is u e B h = elim (cases_eq e.value u) [
+  | inl v ↦ ap (λ (x : Edge). x.passed) (pass_here u e v)
+      ∙ sym (ap (λ (b : Bool). b || B (passed_on u e).value) (eq-eqb u (passed_on u e).value (sym (pass_value u e ∙ v))))
+  | inr v ↦ ap (λ (x : Edge). x.passed) (pass_other u e v) ∙ (h ∙ (ap B (sym (pass_value u e))
+      ∙ sym (ap (λ (b : Bool). b || B (passed_on u e).value) (ne_eqb u (passed_on u e).value (λ s. v (sym (s ∙ pass_value u e)))))))
+]
+
+-- ---- the places of a value
+pub record PlacesOf (u : ℕ) (es : List Edge) (n : ℕ) (ks : List ℕ) : Type 0 where
+  pub is : (j i : ℕ) → slice_get ks j ≡ Some i → (i < n) × (is_of u (slice_get es i) ≡ true)
+  pub some : (i : ℕ) → i < n → is_of u (slice_get es i) ≡ true → Among ks i
+  pub once : (j l i : ℕ) → slice_get ks j ≡ Some i → slice_get ks l ≡ Some i → j ≡ l
+
+pub places_of : (u : ℕ) (es : List Edge) (n : ℕ) → PlacesOf u es n (places u es n)
+places_of u es zero = record { is = λ j i h. cc; some = λ i l h. absurd (omega (arith, l)); once = λ j l i a b. cc }
+places_of u es (suc n) = go (is_of u (slice_get es n)) refl (places_of u es n)
+  where
+    below : (l i : ℕ) → PlacesOf u es n (places u es n) → n ≡ i → slice_get (places u es n) l ≡ Some i → ⊥
+    below l i r s h = (let w = (r.is l i h).0 in omega (arith, s, w))
+
+    once_next : PlacesOf u es n (places u es n) → (j l i : ℕ) → slice_get (n ∷ places u es n) j ≡ Some i
+        → slice_get (n ∷ places u es n) l ≡ Some i → j ≡ l
+    once_next r zero zero i a b = refl
+    once_next r zero (suc l) i a b = absurd (below l i r (some_same n i a) b)
+    once_next r (suc j) zero i a b = absurd (below j i r (some_same n i b) a)
+    once_next r (suc j) (suc l) i a b = ap suc (r.once j l i a b)
+
+    go : (b : Bool) → is_of u (slice_get es n) ≡ b → PlacesOf u es n (places u es n)
+        → PlacesOf u es (suc n) (cond b (n ∷ places u es n) (places u es n))
+    go false f r = record {
+      is = λ j i h. (let a = r.is j i h in let l = a.0 in (omega (arith, l), a.1));
+      some = λ i l h. elim (same_or i n) [
+        | inl s ↦ true_or_false (is_of u (slice_get es i)) h (ap (λ (k : ℕ). is_of u (slice_get es k)) s ∙ f)
+        | inr o ↦ r.some i (omega (arith, l, o)) h
+      ];
+      once = r.once;
+    }
+    go true t r = record {
+      is = λ j i h. elim (front n (places u es n) j i h) [
+        | inl s ↦ (omega (arith, s), ap (λ (k : ℕ). is_of u (slice_get es k)) (sym s) ∙ t)
+        | inr m ↦ (let a = r.is m.0 i m.1 in let l = a.0 in (omega (arith, l), a.1))
+      ];
+      some = λ i l h. elim (same_or i n) [
+        | inl s ↦ (0, ap Some (sym s))
+        | inr o ↦ (let a = r.some i (omega (arith, l, o)) h in (suc a.0, a.1))
+      ];
+      once = once_next r;
+    }
+
+-- ---- a stage is written
+module _ (R E : ℕ → Bool) (ns : List ℕ) (xs : List Progress) (g : TasksGo R E ns xs) (up : Ascends ns) (t k : ℕ)
+    (own : slice_get ns k ≡ Some t) where
+  tasks_set : (y : Progress) (R2 E2 : ℕ → Bool) → Agrees R2 E2 t y
+      → ((v : ℕ) → t ≢ v → (R2 v ≡ R v) × (E2 v ≡ E v)) → TasksGo R2 E2 ns (set xs k y)
+  tasks_set y R2 E2 here apart = record {
+    long = length-set xs k y ∙ g.long;
+    at = λ j v z b d. elim (set_apart xs k j z y d) [
+      | inl o ↦ (let a = g.at j v z b o.0 in let c = apart v (λ e. o.1 (same_place ns j k t up (b ∙ ap Some (sym e)) own)) in
+          (a.0 ∙ ap not (sym c.0), a.1 ∙ sym c.1))
+      | inr o ↦ subst (λ (w : ℕ). Agrees R2 E2 w z) (there ns k t v own (subst (λ (i : ℕ). slice_get ns i ≡ Some v) o.0 b))
+          (subst (λ (w : Progress). Agrees R2 E2 t w) (sym o.1) here)
+    ];
+    own = λ v h. elim (cases_eq t v) [
+      | inl e ↦ (k, own ∙ ap Some e)
+      | inr o ↦ (let c = apart v o in g.own v (ap (λ (b : Bool). b || E v) (sym c.0) ∙ (ap (λ (b : Bool). R2 v || b) (sym c.1) ∙ h)))
+    ];
+  }
+
+fed_set : (xs : List Progress) (ins : List Edge) (k : ℕ) (y : Progress) → AreFed xs ins
+    → ((i : ℕ) (e : Edge) → slice_get ins i ≡ Some e → e.target ≡ k → e.passed ≡ true) → AreFed (set xs k y) ins
+fed_set xs ins k y fed all j i z e d f h to = elim (set_apart xs k j z y d) [
+  | inl o ↦ fed j i z e o.0 f h to
+  | inr o ↦ all i e h (to ∙ o.0)
+]
+
+also : (B : ℕ → Bool) (t v : ℕ) → t ≢ v → ((t == v) || B v) ≡ B v
+also B t v o = ap (λ (c : Bool). c || B v) (ne_eqb t v o)
+
+here_too : (B : ℕ → Bool) (t : ℕ) → ((t == t) || B t) ≡ true
+here_too B t = ap (λ (c : Bool). c || B t) (eq-eqb t t refl)
+
+-- ---- the messages of a task that is done are posted
+module _ (E : ℕ → Bool) (S : ℕ → ℕ → Bool) (outs : List Edge) (box : List ℕ) (sent : ℕ) (g : MessagesGo E S outs box sent) (t : ℕ)
+    (not_yet : E t ≡ false) where
+  -- an edge of the task
+  abbrev posted : List ℕ
+  posted = places t outs (length outs)
+
+  posted_is : (l i : ℕ) → slice_get posted l ≡ Some i → (e : Edge) × (slice_get outs i ≡ Some e) × (e.value ≡ t)
+  posted_is l i q = is_value_of t outs i ((places_of t outs (length outs)).is l i q).1
+
+  -- a message that was posted before is not posted again
+  clash : (j i l : ℕ) → slice_get box j ≡ Some i → slice_get posted l ≡ Some i → ⊥
+  clash j i l o q = (let w = g.box_is j i o in let v = posted_is l i q in let s = there outs i w.0 v.0 w.1 v.1 in
+      true_or_false (E t) (ap E (sym (ap (λ (z : Edge). z.value) s ∙ v.2)) ∙ (sym (g.due i w.0 w.1) ∙ w.2)) not_yet)
+
+  messages_end : MessagesGo (λ v. (t == v) || E v) S (pass t outs) (box ++ posted) sent
+  messages_end = record {
+    due = λ i e h. (let m = map_got (passed_on t) outs i e h in
+        subst (λ (z : Edge). z.passed ≡ ((t == z.value) || E z.value)) m.2 (passed_is t m.0 E (g.due i m.0 m.1)));
+    box_is = λ j i h. elim (push_cases box posted j i h) [
+      | inl o ↦ (let w = g.box_is j i o in (passed_on t w.0, map_get (passed_on t) outs i w.0 w.1, pass_stays t w.0 w.2))
+      | inr o ↦ (let w = posted_is o.0 i o.2 in
+          (passed_on t w.0, map_get (passed_on t) outs i w.0 w.1, ap (λ (z : Edge). z.passed) (pass_here t w.0 w.2)))
+    ];
+    box_some = λ i e h p. (let m = map_got (passed_on t) outs i e h in elim (cases_eq m.0.value t) [
+      | inl v ↦ (let w = (places_of t outs (length outs)).some i (slice_get_within outs i m.0 m.1) (of_value t outs i m.0 m.1 v) in
+          (length box + w.0, push_new box posted w.0 i w.1))
+      | inr v ↦ (let w = g.box_some i m.0 m.1 (ap (λ (z : Edge). z.passed) (sym (pass_other t m.0 v) ∙ m.2) ∙ p) in
+          (w.0, push_old box posted w.0 i w.1))
+    ]);
+    box_once = λ j l i b d. elim (push_cases box posted j i b) [
+      | inl o ↦ elim (push_cases box posted l i d) [ inl q ↦ g.box_once j l i o q | inr q ↦ absurd (clash j i q.0 o q.2) ]
+      | inr o ↦ elim (push_cases box posted l i d) [
+        | inl q ↦ absurd (clash l i o.0 q o.2)
+        | inr q ↦ o.1 ∙ (ap (λ (n : ℕ). length box + n) ((places_of t outs (length outs)).once o.0 q.0 i o.2 q.2) ∙ sym q.1)
+      ]
+    ];
+    sent_is = λ u q h. (let w = g.sent_is u q h in record {
+      message = w.message;
+      before = w.before;
+      place = w.place;
+      at = push_old box posted w.message w.place w.at;
+      edge = ap (λ (xs : List Pair). slice_get xs w.place) (pass_ends t outs) ∙ w.edge;
+    });
+    sent_some = λ j i e l b h. (let m = map_got (passed_on t) outs i e h in let f = g.few in elim (push_cases box posted j i b) [
+      | inl o ↦ subst (λ (z : Edge). S z.value z.target ≡ true) m.2
+          (ap (λ (w : ℕ). S w (passed_on t m.0).target) (pass_value t m.0) ∙ (ap (S m.0.value) (pass_target t m.0)
+          ∙ g.sent_some j i m.0 l o m.1))
+      | inr o ↦ (let n = o.1 in absurd (omega (arith, n, l, f)))
+    ]);
+    few = (let l = length-append box posted in let f = g.few in omega (arith, l, f));
+  }
+
+module _ (R E C : ℕ → Bool) (S : ℕ → ℕ → Bool) (a : PartState) (g : Goes R E C S a) (up : Ascends a.numbers) (t k : ℕ) (x : Progress)
+    (own : slice_get a.numbers k ≡ Some t) (is : slice_get a.tasks k ≡ Some x) where
+  -- ---- a task runs
+  pub goes_run : x.stage ≡ stage.Fresh → IsTrue a.started
+      → ((i : ℕ) (e : Edge) → slice_get a.incoming i ≡ Some e → e.target ≡ k → IsTrue e.passed)
+      → Goes (λ v. (t == v) || R v) E C S (record a { tasks = set a.tasks k (record x { stage = stage.Running }) })
+  goes_run fresh started arrived = record {
+    tasks = tasks_set R E a.numbers a.tasks g.tasks up t k own (record x { stage = stage.Running }) (λ v. (t == v) || R v) E
+        (sym (ap not (here_too R t)), sym (ap is_done fresh) ∙ (g.tasks.at k t x own is).1) (λ v o. (also R t v o, refl));
+    values = g.values;
+    messages = g.messages;
+    fed = fed_set a.tasks a.incoming k (record x { stage = stage.Running }) g.fed arrived;
+    early = λ h. true_or_false a.started started h;
+  }
+
+  -- ---- a task is done
+  pub goes_end : x.stage ≡ stage.Running
+      → Goes R (λ v. (t == v) || E v) C S
+      (record a {
+        tasks = set a.tasks k (record x { stage = stage.Done });
+        outgoing = pass t a.outgoing;
+        outbox = a.outbox ++ places t a.outgoing (length a.outgoing);
+      })
+  goes_end runs = (let was = g.tasks.at k t x own is in let ran = not_false (R t) (sym was.0 ∙ ap is_fresh runs) in record {
+    tasks = tasks_set R E a.numbers a.tasks g.tasks up t k own (record x { stage = stage.Done }) R (λ v. (t == v) || E v)
+        (sym (ap not ran), sym (here_too E t)) (λ v o. (refl, also E t v o));
+    values = g.values;
+    messages = messages_end E S a.outgoing a.outbox a.sent g.messages t (sym was.1 ∙ ap is_done runs);
+    fed = fed_set a.tasks a.incoming k (record x { stage = stage.Done }) g.fed (λ i e h to. g.fed k i x e is (ap is_fresh runs) h to);
+    early = λ h. true_or_false (R t) ran ((g.early h).0 t);
+  })
+
+-- ---- a message is sent
+pub goes_send : {R E C : ℕ → Bool} {S : ℕ → ℕ → Bool} {a : PartState} (u q i : ℕ) (e : Edge) → Goes R E C S a
+    → slice_get a.outbox a.sent ≡ Some i
+    → slice_get a.outgoing i ≡ Some e → e.value ≡ u → e.target ≡ q
+    → Goes R E C (λ v r. ((u == v) && (q == r)) || S v r) (record a { sent = a.sent + 1 })
+goes_send {S = S} {a = a} u q i e goes due is value target = (let g = goes.messages in record {
+  tasks = goes.tasks;
+  values = goes.values;
+  messages = record {
+    due = g.due;
+    box_is = g.box_is;
+    box_some = g.box_some;
+    box_once = g.box_once;
+    sent_is = λ v r h. elim (or_cases ((u == v) && (q == r)) (S v r) h) [
+      | inl b ↦ (let p = and_parts (u == v) (q == r) b in record {
+        message = a.sent;
+        before = omega arith;
+        place = i;
+        at = due;
+        edge = map_get ends a.outgoing i e is ∙ ap Some (same_ends (value ∙ eqb-true u v p.0) (target ∙ eqb-true q r p.1));
+      })
+      | inr b ↦ (let w = g.sent_is v r b in let l = w.before in
+          record { message = w.message; before = omega (arith, l); place = w.place; at = w.at; edge = w.edge })
+    ];
+    sent_some = λ j k d l b h. elim (same_or j a.sent) [
+      | inl s ↦ (let k_is = there a.outbox a.sent k i (subst (λ (m : ℕ). slice_get a.outbox m ≡ Some k) s b) due in
+          let d_is = there a.outgoing i d e (subst (λ (m : ℕ). slice_get a.outgoing m ≡ Some d) k_is h) is in
+          or_left ((u == d.value) && (q == d.target)) (S d.value d.target) (and_from (u == d.value) (q == d.target)
+          (eq-eqb u d.value (sym (ap (λ (z : Edge). z.value) d_is ∙ value))) (eq-eqb q d.target (sym (ap (λ (z : Edge). z.target) d_is
+          ∙ target)))))
+      | inr o ↦ or_right ((u == d.value) && (q == d.target)) (S d.value d.target) (g.sent_some j k d (omega (arith, l, o)) b h)
+    ];
+    few = (let w = slice_get_within a.outbox a.sent i due in omega (arith, w));
+  };
+  fed = goes.fed;
+  early = goes.early;
+})
+
+-- ---- a value arrives
+pub goes_come : {R E C : ℕ → Bool} {S : ℕ → ℕ → Bool} {a : PartState} (u : ℕ) → Goes R E C S a → IsTrue a.started
+    → is_read u a.incoming ≡ true
+    → Goes R E (λ v. (u == v) || C v) S (with_arrival u a)
+goes_come {C = C} {a = a} u g started read = record {
+  tasks = g.tasks;
+  values = record {
+    came = λ i e h. (let m = map_got (passed_on u) a.incoming i e h in
+        subst (λ (z : Edge). z.passed ≡ ((u == z.value) || C z.value)) m.2 (passed_is u m.0 C (g.values.came i m.0 m.1)));
+    came_in = λ v h. elim (or_cases (u == v) (C v) h) [
+      | inl b ↦ (let r = any_at (λ (e : Edge). e.value == u) a.incoming read in (
+        r.place,
+        passed_on u r.item,
+        map_get (passed_on u) a.incoming r.place r.item r.is,
+        pass_value u r.item ∙ (eqb-true r.item.value u r.test_is ∙ eqb-true u v b),
+      ))
+      | inr b ↦ (let w = g.values.came_in v b in
+          (w.0, passed_on u w.1, map_get (passed_on u) a.incoming w.0 w.1 w.2, pass_value u w.1 ∙ w.3))
+    ];
+  };
+  messages = g.messages;
+  fed = λ k i x e d f h to. (let m = map_got (passed_on u) a.incoming i e h in
+      ap (λ (z : Edge). z.passed) (sym m.2) ∙ pass_stays u m.0
+      (g.fed k i x m.0 d f m.1 (sym (pass_target u m.0) ∙ (ap (λ (z : Edge). z.target) m.2 ∙ to))));
+  early = λ h. true_or_false a.started started h;
+}
+
+-- ---- the start
+pub goes_start : {R E C : ℕ → Bool} {S : ℕ → ℕ → Bool} {a : PartState} → Goes R E C S a → Goes R E C S (record a { started = true })
+goes_start g = record { tasks = g.tasks; values = g.values; messages = g.messages; fed = g.fed; early = λ h. cc }
+
+-- ---- an own task is described
+pub goes_own : {R E C : ℕ → Bool} {S : ℕ → ℕ → Bool} {a : PartState} (class : ℕ) (us : List ℕ) → Goes R E C S a → IsFalse a.started
+    → Goes R E C S (with_own class us a)
+goes_own {R} {E} {C} {S} {a} class us g before = (let none_yet = g.early before in let c = length a.tasks in let even = g.tasks.long in record {
+  tasks = record {
+    long = length_push a.tasks fresh ∙ (ap (λ (n : ℕ). n + 1) even ∙ sym (length_push a.numbers a.described));
+    at = λ k t x b d. elim (last_cases a.tasks k x fresh d) [
+      | inr o ↦ subst (λ (z : Progress). Agrees R E t z) (sym o.1) (sym (ap not (none_yet.0 t)), sym (none_yet.1 t))
+      | inl o ↦ elim (last_cases a.numbers k t a.described b) [
+        | inl q ↦ g.tasks.at k t x q o
+        | inr q ↦ (let w = slice_get_within a.tasks k x o in let e = q.0 in absurd (omega (arith, w, even, e)))
+      ]
+    ];
+    own = λ t h. true_or_false (R t || E t) h (ap (λ (b : Bool). b || E t) (none_yet.0 t) ∙ none_yet.1 t);
+  };
+  values = record {
+    came = λ i e h. elim (push_cases a.incoming (edges_to c a.numbers us) i e h) [
+      | inl o ↦ g.values.came i e o
+      | inr o ↦ ap (λ (z : Edge). z.passed) ((split c a.numbers us).edges_is o.0 e o.2).2 ∙ sym (none_yet.2 e.value)
+    ];
+    came_in = λ u h. true_or_false (C u) h (none_yet.2 u);
+  };
+  messages = g.messages;
+  fed = λ k i x e b f h to. elim (last_cases a.tasks k x fresh b) [
+    | inr o ↦ true_or_false (is_fresh x.stage) (ap (λ (z : Progress). is_fresh z.stage) o.1) f
+    | inl o ↦ elim (push_cases a.incoming (edges_to c a.numbers us) i e h) [
+      | inl q ↦ g.fed k i x e o f q to
+      | inr q ↦ (let m : e.target ≡ c = ap (λ (z : Edge). z.target) ((split c a.numbers us).edges_is q.0 e q.2).2 in
+          let w = slice_get_within a.tasks k x o in absurd (omega (arith, m, to, w)))
+    ]
+  ];
+  early = g.early;
+})
+  where
+    fresh : Progress
+    fresh = record { class = class; stage = stage.Fresh }
+
+-- ---- a task of another part is described
+pub goes_foreign : {R E C : ℕ → Bool} {S : ℕ → ℕ → Bool} {a : PartState} (q : ℕ) (us : List ℕ) → Goes R E C S a → IsFalse a.started
+    → Goes R E C S (with_foreign q us a)
+goes_foreign {S = S} {a = a} q us goes before = (let none_yet = goes.early before in let g = goes.messages in record {
+  tasks = goes.tasks;
+  values = goes.values;
+  messages = record {
+    due = λ i e h. elim (messages_is q i a.numbers us a.outgoing e h) [
+      | inl o ↦ g.due i e o
+      | inr o ↦ ap (λ (z : Edge). z.passed) o.2 ∙ sym (none_yet.1 e.value)
+    ];
+    box_is = λ j i h. (let w = g.box_is j i h in (w.0, messages_old q i a.numbers us a.outgoing w.0 w.1, w.2));
+    box_some = λ i e h p. elim (messages_is q i a.numbers us a.outgoing e h) [
+      | inl o ↦ g.box_some i e o p
+      | inr o ↦ true_or_false e.passed p (ap (λ (z : Edge). z.passed) o.2)
+    ];
+    box_once = g.box_once;
+    sent_is = λ u r h. (let w = g.sent_is u r h in let m = map_got ends a.outgoing w.place (u, r) w.edge in record {
+      message = w.message;
+      before = w.before;
+      place = w.place;
+      at = w.at;
+      edge = map_get ends more w.place m.0 (messages_old q w.place a.numbers us a.outgoing m.0 m.1) ∙ ap Some m.2;
+    });
+    sent_some = λ j i e l b h. (let w = g.box_is j i b in
+        let s = there more i w.0 e (messages_old q i a.numbers us a.outgoing w.0 w.1) h in
+        subst (λ (z : Edge). S z.value z.target ≡ true) s (g.sent_some j i w.0 l b w.1));
+    few = g.few;
+  };
+  fed = goes.fed;
+  early = goes.early;
+})
+  where
+    more : List Edge
+    more = with_messages q a.numbers us a.outgoing

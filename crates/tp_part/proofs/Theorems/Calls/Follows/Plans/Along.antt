@@ -1,0 +1,448 @@
+-- A value is passed on along its edges, from the newest to the oldest, to tasks and to messages; and the chains of edges.
+pub mod Lists
+pub use Lists.*
+use Rattle.tp_part.specs.Chains.{IsChain}
+
+pub newest_few : (u : ℕ) (es : List Edge) (n : ℕ) → newest u es n ≤ n
+newest_few u es zero = omega arith
+newest_few u es (suc n) = elim (is_of u (slice_get es n)) as (λ b. cond b (suc n) (newest u es n) ≤ suc n)
+    [ true ↦ omega arith | false ↦ (let r = newest_few u es n in omega (arith, r)) ]
+
+-- lists that have the same values at the first n places
+pub newest_same : (u : ℕ) (es fs : List Edge) (n : ℕ) → ((k : ℕ) → k < n → is_of u (slice_get fs k) ≡ is_of u (slice_get es k))
+    → newest u fs n ≡ newest u es n
+newest_same u es fs zero h = refl
+newest_same u es fs (suc n) h = (let r = newest_same u es fs n (λ k l. h k (omega (arith, l))) in
+    ap (λ (b : Bool). cond b (suc n) (newest u fs n)) (h n (omega arith))
+    ∙ ap (λ (m : ℕ). cond (is_of u (slice_get es n)) (suc n) m) r)
+
+pub is_value_of : (u : ℕ) (es : List Edge) (k : ℕ) → is_of u (slice_get es k) ≡ true → (e : Edge) × (slice_get es k ≡ Some e) ×
+    (e.value ≡ u)
+is_value_of u es k h = go (slice_get es k) refl h
+  where
+    go : (o : Option Edge) → slice_get es k ≡ o → is_of u o ≡ true → (e : Edge) × (slice_get es k ≡ Some e) × (e.value ≡ u)
+    go None i t = absurd (false≢true t)
+    go (Some e) i t = (e, i, eqb-true e.value u t)
+
+pub of_value : (u : ℕ) (es : List Edge) (k : ℕ) (e : Edge) → slice_get es k ≡ Some e → e.value ≡ u → is_of u (slice_get es k) ≡ true
+of_value u es k e i v = ap (is_of u) i ∙ eq-eqb e.value u v
+
+-- What the edges of other values leave as it is, is the same at the newest edge of the value.
+pub skip : {X : Type 0} (F : ℕ → X) (u : ℕ) (es : List Edge)
+    → ((k : ℕ) (e : Edge) → slice_get es k ≡ Some e → (e.value == u) ≡ false → F (suc k) ≡ F k) → (n : ℕ) → n ≤ length es
+    → F n ≡ F (newest u es n)
+skip F u es same zero l = refl
+skip F u es same (suc n) l = (let r = skip F u es same n (omega (arith, l)) in let x = at_below es n (omega (arith, l)) in
+    elim (cases_Bool (is_of u (slice_get es n))) [
+      | inl t ↦ ap (λ (b : Bool). F (cond b (suc n) (newest u es n))) (sym t)
+      | inr f ↦ same n x.0 x.1 (sym (ap (is_of u) x.1) ∙ f) ∙ (r ∙ ap (λ (b : Bool). F (cond b (suc n) (newest u es n))) (sym f))
+    ])
+
+-- Place k is that of the newest of the first k + 1 edges.
+pub at_newest : (u : ℕ) (es : List Edge) (k : ℕ) → newest u es (suc k) ≡ suc k → (e : Edge) × (slice_get es k ≡ Some e) × (e.value ≡ u)
+at_newest u es k h = elim (cases_Bool (is_of u (slice_get es k))) [
+  | inl t ↦ is_value_of u es k t
+  | inr f ↦ (let s = sym (ap (λ (b : Bool). cond b (suc k) (newest u es k)) f) ∙ h in let l = newest_few u es k in absurd (omega (arith, s, l)))
+]
+
+-- ---- a place of the chain
+-- Of the edges of value u, those at `left` and behind it are passed over; the next one is at place left - 1, if left is not 0.
+pub record IsLeft (u : ℕ) (es : List Edge) (left : ℕ) : Type 0 where
+  pub within : left ≤ length es
+  pub is : newest u es left ≡ left
+
+pub newest_left : (u : ℕ) (es : List Edge) (n left : ℕ) → n ≤ length es → left ≡ newest u es n → IsLeft u es left
+newest_left u es n left l e = (let f = newest_few u es n in record {
+  within = omega (arith, l, e, f);
+  is = ap (newest u es) e ∙ (sym (skip (newest u es) u es (λ k x i v. ap (λ (b : Bool). cond b (suc k) (newest u es k)) (ap (is_of u) i ∙ v)) n l)
+      ∙ sym e);
+})
+
+-- the edge at hand
+pub at_left : (u : ℕ) (es : List Edge) (left : ℕ) → IsLeft u es left → 1 ≤ left → (e : Edge) × (slice_get es (left - 1) ≡ Some e) ×
+    (e.value ≡ u)
+at_left u es left i l = (let m : left ≡ suc (left - 1) = omega (arith, l) in at_newest u es (left - 1)
+    (sym (ap (newest u es) m) ∙ (i.is ∙ m)))
+
+pub value_left : (u : ℕ) (es : List Edge) (left : ℕ) (e : Edge) → IsLeft u es left → 1 ≤ left → slice_get es (left - 1) ≡ Some e
+    → e.value ≡ u
+value_left u es left e i l h = (let a = at_left u es left i l in ap (λ (x : Edge). x.value) (there es (left - 1) e a.0 h a.1) ∙ a.2)
+
+-- ---- the edges before a place, and those from there on
+pub split_at : {A : Type 0} (es : List A) (k : ℕ) (e : A) → slice_get es k ≡ Some e → (take (suc k) es ≡ take k es ++ e ∷ []) ×
+    (drop k es ≡ e ∷ drop (suc k) es)
+split_at [] k e h = cc
+split_at (x ∷ es) zero e h = (let s : x ≡ e = some_same x e h in (ap (λ y. y ∷ []) s, ap (λ y. y ∷ es) s))
+split_at (x ∷ es) (suc k) e h = (let r = split_at es k e h in (ap (λ ys. x ∷ ys) r.0, r.1))
+
+any_next : (test : Edge → Bool) (es : List Edge) (k : ℕ) (e : Edge) → slice_get es k ≡ Some e → test e ≡ false
+    → list_any test (take (suc k) es) ≡ list_any test (take k es)
+any_next test es k e i f = ap (list_any test) (split_at es k e i).0 ∙ (list_any-append test (take k es) (e ∷ [])
+    ∙ (ap (λ (b : Bool). list_any test (take k es) || (b || false)) f ∙ or_none (list_any test (take k es))))
+  where
+    or_none : (b : Bool) → (b || false) ≡ b
+    or_none true = refl
+    or_none false = refl
+
+-- An edge that passes is one of the value: it is before the newest one, or that.
+pub any_left : (test : Edge → Bool) (u : ℕ) (es : List Edge) (n : ℕ) → ((e : Edge) → (e.value == u) ≡ false → test e ≡ false)
+    → n ≤ length es → list_any test (take n es) ≡ list_any test (take (newest u es n) es)
+any_left test u es n none l = skip (λ k. list_any test (take k es)) u es (λ k e i v. any_next test es k e i (none e v)) n l
+
+not_edge : (u q : ℕ) (e : Edge) → (e.value == u) ≡ false → is_edge u q e ≡ false
+not_edge u q e h = ap (λ (b : Bool). b && (e.target == q)) h
+
+-- ---- a search along the chain
+pub record Searching (u q : ℕ) (es : List Edge) (left : ℕ) : Type 0 where
+  pub at : IsLeft u es left
+  pub rest : has_edge u q es ≡ has_edge u q (take left es)
+
+pub search_start : (u q : ℕ) (es : List Edge) (left : ℕ) → left ≡ newest u es (length es) → Searching u q es left
+search_start u q es left e = record {
+  at = newest_left u es (length es) left (omega arith) e;
+  rest = ap (has_edge u q) (sym (take-length es)) ∙ (any_left (is_edge u q) u es (length es) (not_edge u q) (omega arith)
+      ∙ ap (λ (k : ℕ). has_edge u q (take k es)) (sym e));
+}
+
+pub search_next : (u q : ℕ) (es : List Edge) (left older : ℕ) (e : Edge) → Searching u q es left → 1 ≤ left
+    → slice_get es (left - 1) ≡ Some e → e.target ≢ q → older ≡ newest e.value es (left - 1) → Searching u q es older
+search_next u q es left older e s l i o h = (let w = s.at.within in let m : left ≡ suc (left - 1) = omega (arith, l) in
+    let same : older ≡ newest u es (left - 1) = h ∙ ap (λ (v : ℕ). newest v es (left - 1)) (value_left u es left e s.at l i) in record {
+      at = newest_left u es (left - 1) older (omega (arith, w)) same;
+      rest = s.rest ∙ (ap (λ (k : ℕ). has_edge u q (take k es)) m
+          ∙ (any_next (is_edge u q) es (left - 1) e i (ap (λ (b : Bool). (e.value == u) && b) (ne_eqb e.target q o) ∙ and_false (e.value == u))
+          ∙ (any_left (is_edge u q) u es (left - 1) (not_edge u q) (omega (arith, w)) ∙ ap (λ (k : ℕ). has_edge u q (take k es)) (sym same))));
+    })
+
+pub search_found : (u q : ℕ) (es : List Edge) (left : ℕ) (e : Edge) → Searching u q es left → 1 ≤ left → slice_get es (left - 1) ≡ Some e
+    → e.target ≡ q → has_edge u q es ≡ true
+search_found u q es left e s l i t = any_from (is_edge u q) es (left - 1) e i (and_from (e.value == u) (e.target == q)
+    (eq-eqb e.value u (value_left u es left e s.at l i)) (eq-eqb e.target q t))
+
+-- ---- edges are passed
+-- The edges of value u from place n on are passed.
+abbrev pub passed_from : ℕ → List Edge → ℕ → List Edge
+passed_from u es n = take n es ++ pass u (drop n es)
+
+from_next : (u : ℕ) (es : List Edge) (k : ℕ) (e : Edge) → slice_get es k ≡ Some e
+    → passed_from u es k ≡ take k es ++ passed_on u e ∷ pass u (drop (suc k) es)
+from_next u es k e i = ap (λ (fs : List Edge). take k es ++ pass u fs) (split_at es k e i).1
+
+from_same : (u : ℕ) (es : List Edge) (k : ℕ) (e : Edge) → slice_get es k ≡ Some e → (e.value == u) ≡ false
+    → passed_from u es (suc k) ≡ passed_from u es k
+from_same u es k e i v = ap (λ (fs : List Edge). fs ++ pass u (drop (suc k) es)) (split_at es k e i).0
+    ∙ (append_assoc (take k es) (e ∷ []) (pass u (drop (suc k) es))
+    ∙ (ap (λ (b : Bool). take k es ++ cond b (pass_one e) e ∷ pass u (drop (suc k) es)) (sym v) ∙ sym (from_next u es k e i)))
+
+-- one edge is written, at the end of the first
+write_at : (es ys : List Edge) (k : ℕ) (e y : Edge) → slice_get es k ≡ Some e
+    → (slice_get (take (suc k) es ++ ys) k ≡ Some e) × (set (take (suc k) es ++ ys) k y ≡ take k es ++ y ∷ ys)
+write_at [] ys k e y h = cc
+write_at (x ∷ es) ys zero e y h = (h, refl)
+write_at (x ∷ es) ys (suc k) e y h = (let r = write_at es ys k e y h in (r.0, ap (λ zs. x ∷ zs) r.1))
+
+get_front : (es ys : List Edge) (k j : ℕ) → j < k → k ≤ length es → slice_get (take k es ++ ys) j ≡ slice_get es j
+get_front [] ys k j l m = absurd (omega (arith, l, m))
+get_front (x ∷ es) ys zero j l m = absurd (omega (arith, l))
+get_front (x ∷ es) ys (suc k) zero l m = refl
+get_front (x ∷ es) ys (suc k) (suc j) l m = get_front es ys k j (omega (arith, l)) (omega (arith, m))
+
+pub record Passing (u : ℕ) (first now : List Edge) (left : ℕ) : Type 0 where
+  pub long : length now ≡ length first
+  pub at : IsLeft u first left
+  pub now_is : now ≡ passed_from u first left
+
+pub pass_start : (u : ℕ) (es : List Edge) (left : ℕ) → left ≡ newest u es (length es) → Passing u es es left
+pass_start u es left h = record {
+  long = refl;
+  at = newest_left u es (length es) left (omega arith) h;
+  now_is = sym (append-nil es) ∙ (ap (λ (fs : List Edge). fs ++ pass u []) (sym (take-length es))
+      ∙ (ap (λ (fs : List Edge). take (length es) es ++ pass u fs) (sym (drop-length es))
+      ∙ (skip (passed_from u es) u es (from_same u es) (length es) (omega arith) ∙ ap (passed_from u es) (sym h))));
+}
+
+pub pass_end : (u : ℕ) (first now : List Edge) (left : ℕ) → Passing u first now left → left ≡ 0 → now ≡ pass u first
+pass_end u first now left p z = p.now_is ∙ ap (passed_from u first) z
+
+-- the edge at hand was not touched
+pub passing_at : (u : ℕ) (first now : List Edge) (left : ℕ) (e : Edge) → Passing u first now left → 1 ≤ left
+    → slice_get now (left - 1) ≡ Some e → (slice_get first (left - 1) ≡ Some e) × (e.value ≡ u)
+passing_at u first now left e p l i = (let m : left ≡ suc (left - 1) = omega (arith, l) in let a = at_left u first left p.at l in
+    let g = (write_at first (pass u (drop left first)) (left - 1) a.0 a.0 a.1).0 in
+    let n : slice_get now (left - 1) ≡ Some a.0 = ap (λ (es : List Edge). slice_get es (left - 1)) (p.now_is
+    ∙ ap (λ (k : ℕ). take k first ++ pass u (drop left first)) m) ∙ g in
+    let s = there now (left - 1) a.0 e n i in (a.1 ∙ ap Some s, ap (λ (x : Edge). x.value) (sym s) ∙ a.2))
+
+-- The next older edge, after one was passed.
+pub record PassedNext (u : ℕ) (first new : List Edge) (left older : ℕ) : Type 0 where
+  pub passing : Passing u first new older
+  pub older_is : older ≡ newest u first (left - 1)
+
+pub pass_next : (u : ℕ) (first now new : List Edge) (left older : ℕ) (e : Edge) → Passing u first now left → 1 ≤ left
+    → slice_get now (left - 1) ≡ Some e → new ≡ set now (left - 1) (pass_one e)
+    → ((d : Edge) → slice_get new (left - 1) ≡ Some d → older ≡ newest d.value new (left - 1)) → PassedNext u first new left older
+pass_next u first now new left older e p l i become h = (let m : left ≡ suc (left - 1) = omega (arith, l) in
+    let w = p.at.within in let a = passing_at u first now left e p l i in
+    let new_is : new ≡ take (left - 1) first ++ pass_one e ∷ pass u (drop left first) = become
+    ∙ (ap (λ (es : List Edge). set es (left - 1) (pass_one e)) (p.now_is ∙ ap (λ (j : ℕ). take j first ++ pass u (drop left first)) m)
+    ∙ (write_at first (pass u (drop left first)) (left - 1) e (pass_one e) a.0).1) in
+    let older_is : older ≡ newest u first (left - 1) = h (pass_one e) (ap (λ (es : List Edge). slice_get es (left - 1)) become
+    ∙ set_here now (left - 1) e (pass_one e) i) ∙ (ap (λ (v : ℕ). newest v new (left - 1)) a.1 ∙ newest_same u first new (left - 1) (λ j b.
+    ap (λ (es : List Edge). is_of u (slice_get es j)) new_is ∙ ap (is_of u) (get_front first (pass_one e ∷ pass u (drop left first))
+    (left - 1) j b (omega (arith, w))))) in record {
+      older_is = older_is;
+      passing = record {
+        long = ap length become ∙ (length-set now (left - 1) (pass_one e) ∙ p.long);
+        at = newest_left u first (left - 1) older (omega (arith, w)) older_is;
+        now_is = new_is ∙ (ap (λ (j : ℕ). take (left - 1) first ++ pass_one e ∷ pass u (drop j first)) m
+            ∙ (ap (λ (b : Bool). take (left - 1) first ++ cond b (pass_one e) e ∷ pass u (drop (suc (left - 1)) first))
+            (sym (eq-eqb e.value u a.1)) ∙ (sym (from_next u first (left - 1) e a.0)
+            ∙ (skip (passed_from u first) u first (from_same u first) (left - 1) (omega (arith, w)) ∙ ap (passed_from u first)
+            (sym older_is)))));
+      };
+    })
+
+-- the places that are yet to come
+pub places_next : (u : ℕ) (es : List Edge) (n left : ℕ) → n ≤ length es → left ≡ newest u es n → places u es n ≡ places u es left
+places_next u es n left l h = skip (places u es) u es (λ k e i v. ap (λ (b : Bool). cond b (k ∷ places u es k) (places u es k))
+    (ap (is_of u) i ∙ v)) n l ∙ ap (places u es) (sym h)
+
+pub place_at : (u : ℕ) (es : List Edge) (left : ℕ) → IsLeft u es left → 1 ≤ left → places u es left ≡ (left - 1) ∷ places u es (left - 1)
+place_at u es left i l = (let m : left ≡ suc (left - 1) = omega (arith, l) in let a = at_left u es left i l in
+    ap (places u es) m ∙ ap (λ (b : Bool). cond b ((left - 1) ∷ places u es (left - 1)) (places u es (left - 1))) (of_value u es (left - 1) a.0 a.1 a.2))
+
+-- ---- whether there is an edge of the value
+pub read_newest : (u : ℕ) (es : List Edge) → newest u es (length es) ≡ 0 → is_read u es ≡ false
+read_newest u es h = ap (is_read u) (sym (take-length es)) ∙ (any_left (λ e. e.value == u) u es (length es) (λ e v. v) (omega arith)
+    ∙ ap (λ (k : ℕ). is_read u (take k es)) h)
+
+pub newest_read : (u : ℕ) (es : List Edge) (n : ℕ) (e : Edge) → newest u es (length es) ≡ n → 1 ≤ n → slice_get es (n - 1) ≡ Some e
+    → (e.value ≡ u) × (is_read u es ≡ true)
+newest_read u es n e h l i = (let v = value_left u es n e (newest_left u es (length es) n (omega arith) (sym h)) l i in
+    (v, any_from (λ x. x.value == u) es (n - 1) e i (eq-eqb e.value u v)))
+
+-- ---- own tasks are released
+-- A value is passed along its edges before `left`.
+pub record Released (u : ℕ) (first now : List Edge) (left : ℕ) (old pool : PoolState) : Type 0 where
+  pub passing : Passing u first now left
+  pub awaited : AreAwaited now pool.tasks
+  pub fresh : NonePassed u first
+  pub same : SameBut old pool
+
+pub same_pool : (a : PoolState) → SameBut a a
+same_pool a = record { started = refl; kept = refl; inputs = refl; tasks = refl }
+
+-- so `release` is not refused
+pub may_release : (a : PoolState) (t : ℕ) (x : Entry) → slice_get a.tasks t ≡ Some x → 1 ≤ x.outside → first_refusal
+    (release_checks a t) ≡ None
+may_release a t x i l = (let w = slice_get_within a.tasks t x i in
+    let p : nat_le (length a.tasks) t ≡ false = grind (arith, nat_tests, w) in
+    let q : (outside_at (slice_get a.tasks t) == 0) ≡ false = ap (λ (o : Option Entry). outside_at o == 0) i ∙ ne_eqb x.outside 0
+    (λ z. omega (arith, z, l)) in
+    free _ _ _ p ∙ free _ _ _ q)
+
+-- the contract of `release`, when it is not refused
+pub was_released : {a b : PoolState} {t : ℕ} (r : Result (Unit {0}) Refusal) → OnOk r (Becomes t one_less a b)
+    → IfErr r (λ (e : Refusal). first_refusal (release_checks a t) ≡ Some e) → first_refusal (release_checks a t) ≡ None
+    → Becomes t one_less a b
+was_released (Ok u) ok err none = ok
+was_released (Err e) ok err none = (let h = sym none ∙ err in cc)
+
+-- an edge whose value did not arrive: its task waits
+pub awaits : {es : List Edge} {a : PoolState} (n : ℕ) (e : Edge) → AreAwaited es a.tasks → slice_get es n ≡ Some e
+    → IsFalse e.passed → Awaits e.target a
+awaits {es} {a} n e w i f = (let x = at_below a.tasks e.target (w.within n e i) in let o = w.counted e.target x.0 x.1 in
+    let c = count_at (is_awaited_at e.target) es n e i in
+    let t : one (is_awaited_at e.target e) ≡ 1 = ap one (and_from (e.target == e.target) (not e.passed)
+    (eq-eqb e.target e.target refl) (ap not f)) in record { task = x.0; is = x.1; some = omega (arith, o, c, t) })
+
+-- the counts after one edge is passed and its task released
+pub awaited_next : {es new : List Edge} {a b : PoolState} (n : ℕ) (e : Edge) → AreAwaited es a.tasks → slice_get es n ≡ Some e
+    → IsFalse e.passed
+    → Becomes e.target one_less a b → new ≡ set es n (pass_one e) → AreAwaited new b.tasks
+awaited_next {es} {new} {a} {b} n e w i f become step = (let long = length-set a.tasks e.target (one_less become.was) in
+    subst (λ (fs : List Edge). AreAwaited fs b.tasks) (sym step) (subst (λ (z : PoolState). AreAwaited (set es n (pass_one e)) z.tasks)
+    (sym become.becomes) (record {
+      within = λ m d j. elim (set_apart es n m d (pass_one e) j) [
+        | inl o ↦ (let l = w.within m d o.0 in omega (arith, l, long))
+        | inr o ↦ (let l = w.within n e i in let t = ap (λ (x : Edge). x.target) o.1 in omega (arith, l, long, t))
+      ];
+      counted = λ k x j. (let c = count_set (is_awaited_at k) es n e (pass_one e) i in
+          let z : one (is_awaited_at k (pass_one e)) ≡ 0 = ap one (and_false (e.target == k)) in
+          elim (set_apart a.tasks e.target k x (one_less become.was) j) [
+            | inl o ↦ (let h = w.counted k x o.0 in
+                let y : one (is_awaited_at k e) ≡ 0 = ap (λ (d : Bool). one (d && not e.passed)) (ne_eqb e.target k (λ q. o.1 (sym q))) in
+                omega (arith, c, z, h, y))
+            | inr o ↦ (let h = w.counted e.target become.was become.is in
+                let y : one (is_awaited_at k e) ≡ 1 = ap one (and_from (e.target == k) (not e.passed) (eq-eqb e.target k (sym o.0))
+                (ap not f)) in
+                let g : x.outside ≡ become.was.outside - 1 = ap (λ (v : Entry). v.outside) o.1 in
+                let m : count_where (is_awaited_at k) es ≡ count_where (is_awaited_at e.target) es = ap (λ (v : ℕ). count_where
+                (is_awaited_at v) es) o.0 in
+                omega (arith, c, z, h, y, g, m))
+          ]);
+    })))
+
+pub is_fresh_edge : {first now : List Edge} {old a : PoolState} {u left : ℕ} (e : Edge) → Released u first now left old a → 1 ≤ left
+    → slice_get now (left - 1) ≡ Some e → IsFalse e.passed
+is_fresh_edge {first} {now} {u = u} {left = left} e r l i = (let p = passing_at u first now left e r.passing l i in
+    r.fresh (left - 1) e p.0 p.1)
+
+pub released_next : {first now new : List Edge} {old a b : PoolState} {u left older : ℕ} (e : Edge) → Released u first now left old a
+    → 1 ≤ left → slice_get now (left - 1) ≡ Some e → Becomes e.target one_less a b → new ≡ set now (left - 1) (pass_one e)
+    → ((d : Edge) → slice_get new (left - 1) ≡ Some d → older ≡ newest d.value new (left - 1)) → Released u first new older old b
+released_next {first} {now} {new} {old} {a} {b} {u} {left} {older} e r l i become step h = record {
+  passing = (pass_next u first now new left older e r.passing l i step h).passing;
+  awaited = awaited_next (left - 1) e r.awaited i (is_fresh_edge e r l i) become step;
+  fresh = r.fresh;
+  same = record {
+    started = ap (λ (z : PoolState). z.started) become.becomes ∙ r.same.started;
+    kept = ap (λ (z : PoolState). z.kept) become.becomes ∙ r.same.kept;
+    inputs = ap (λ (z : PoolState). z.inputs) become.becomes ∙ r.same.inputs;
+    tasks = ap (λ (z : PoolState). map progress_of z.tasks) become.becomes
+        ∙ (map_same progress_of a.tasks e.target become.was (one_less become.was) become.is refl ∙ r.same.tasks);
+  };
+}
+
+-- ---- messages are posted
+pub record Posted (u : ℕ) (first now : List Edge) (left : ℕ) (old box : List ℕ) (most room : ℕ) : Type 0 where
+  pub passing : Passing u first now left
+  pub items : box ++ places u first left ≡ old ++ places u first (length first)
+  pub same : room ≡ most
+  pub fits : length box + length (places u first left) ≤ most
+
+pub posted_start : (u : ℕ) (first : List Edge) (left : ℕ) (box : List ℕ) (room : ℕ) → left ≡ newest u first (length first)
+    → length box + length (places u first (length first)) ≤ room → Posted u first first left box box room room
+posted_start u first left box room h l = (let p = places_next u first (length first) left (omega arith) h in record {
+  passing = pass_start u first left h;
+  items = ap (λ (ks : List ℕ). box ++ ks) (sym p);
+  same = refl;
+  fits = subst (λ (ks : List ℕ). length box + length ks ≤ room) p l;
+})
+
+one_more : (k : ℕ) (ks : List ℕ) → length (k ∷ ks) ≡ length ks + 1
+one_more k ks = omega arith
+
+pub posted_room : {u left most room : ℕ} {first now : List Edge} {old box : List ℕ} → Posted u first now left old box most room → 1 ≤ left
+    → length box < room
+posted_room {u} {left} {first = first} p l = (let r = p.fits in let s = p.same in
+    let n = ap length (place_at u first left p.passing.at l) in let m = one_more (left - 1) (places u first (left - 1)) in
+    omega (arith, r, s, n, m))
+
+pub posted_next : {u left older most room more_room : ℕ} {first now new : List Edge} {old box more : List ℕ}
+    → Posted u first now left old box most room → 1 ≤ left
+    → ((e : Edge) → slice_get now (left - 1) ≡ Some e → new ≡ set now (left - 1) (pass_one e))
+    → ((d : Edge) → slice_get new (left - 1) ≡ Some d → older ≡ newest d.value new (left - 1))
+    → more ≡ box ++ (left - 1) ∷ [] → more_room ≡ room → Posted u first new older old more most more_room
+posted_next {u} {left} {older} {most} {room} {more_room} {first} {now} {new} {old} {box} {more} p l step h pushed cap_is =
+    (let r = p.fits in let w = p.passing.at.within in let long = p.passing.long in let x = at_below now (left - 1) (omega (arith, w, long, l)) in
+    let n = pass_next u first now new left older x.0 p.passing l x.1 (step x.0 x.1) h in
+    let at = place_at u first left p.passing.at l in let q = places_next u first (left - 1) older (omega (arith, w)) n.older_is in
+    let a = ap length at in let m = one_more (left - 1) (places u first (left - 1)) in
+    let b = ap length pushed in let c = length_push box (left - 1) in let d = ap length q in record {
+      passing = n.passing;
+      items = ap (λ (ks : List ℕ). ks ++ places u first older) pushed ∙ (append_assoc box ((left - 1) ∷ []) (places u first older)
+          ∙ (ap (λ (ks : List ℕ). box ++ (left - 1) ∷ ks) (sym q) ∙ (ap (λ (ks : List ℕ). box ++ ks) (sym at) ∙ p.items)));
+      same = cap_is ∙ p.same;
+      fits = omega (arith, r, a, m, b, c, d);
+    })
+
+pub posted_end : {u left most room : ℕ} {first now : List Edge} {old box : List ℕ} → Posted u first now left old box most room → left ≡ 0
+    → box ≡ old ++ places u first (length first)
+posted_end {u} {left} {first = first} {box = box} p z = sym (append-nil box) ∙ (ap (λ (k : ℕ). box ++ places u first k) (sym z) ∙ p.items)
+
+at_end : {A : Type 0} (xs : List A) (x : A) → slice_get (xs ++ x ∷ []) (length xs) ≡ Some x
+at_end xs x = elim (get_push xs (length xs) x) [ inl o ↦ absurd (o.0 refl) | inr o ↦ o.1 ]
+
+-- the newest of the first n, if one edge more is behind them
+newest_front : (u : ℕ) (es : List Edge) (e : Edge) (n : ℕ) → n ≤ length es → newest u (es ++ e ∷ []) n ≡ newest u es n
+newest_front u es e n l = newest_same u es (es ++ e ∷ []) n (λ k m. elim (get_push es k e) [
+  | inl o ↦ ap (is_of u) o.1
+  | inr o ↦ (let w = o.0 in absurd (omega (arith, w, m, l)))
+])
+
+newest_end : (u : ℕ) (es : List Edge) (e : Edge) → newest u (es ++ e ∷ []) (length (es ++ e ∷ []))
+    ≡ (if e.value == u then length es + 1 else newest u es (length es))
+newest_end u es e = ap (newest u (es ++ e ∷ [])) (length_push es e ∙ (let s : length es + 1 ≡ suc (length es) = omega arith in s))
+    ∙ (ap (λ (o : Option Edge). cond (is_of u o) (suc (length es)) (newest u (es ++ e ∷ []) (length es))) (at_end es e)
+    ∙ (ap (λ (m : ℕ). cond (e.value == u) (suc (length es)) m) (newest_front u es e (length es) (omega arith))
+    ∙ ap (λ (m : ℕ). cond (e.value == u) m (newest u es (length es))) (let s : suc (length es) ≡ length es + 1 = omega arith in s)))
+
+pub chain_add : {es more : List Edge} {ks kes : List ℕ} {first now : ℕ → ℕ} (value target older number : ℕ) → IsChain es ks first
+    → length es < MAX_INPUTS → more ≡ es ++ new_edge value target ∷ [] → kes ≡ ks ++ older ∷ [] → older ≡ first value
+    → number ≡ length es + 1 → ((u : ℕ) → now u ≡ (if value == u then number else first u)) → IsChain more kes now
+chain_add {es} {more} {ks} {kes} {first} {now} value target older number c few items olders is count heads =
+    (let e : Edge = new_edge value target in let l = length_push es e in let m = length_push ks older in let long = c.long in
+    subst (λ (xs : List Edge). IsChain xs kes now) (sym items) (subst (λ (ns : List ℕ). IsChain (es ++ e ∷ []) ns now) (sym olders) (record {
+      few = omega (arith, l, few);
+      long = omega (arith, l, m, long);
+      heads = λ u. heads u ∙ (ap (λ (k : ℕ). cond (value == u) k (first u)) count
+          ∙ (ap (λ (k : ℕ). cond (value == u) (length es + 1) k) (c.heads u) ∙ sym (newest_end u es e)));
+      chain = λ k n d i j. elim (last_cases es k d e i) [
+        | inl o ↦ (let w = slice_get_within es k d o in elim (last_cases ks k n older j) [
+          | inl r ↦ c.chain k n d o r ∙ sym (newest_front d.value es e k (omega (arith, w)))
+          | inr r ↦ (let x = r.0 in absurd (omega (arith, w, x, long)))
+        ])
+        | inr o ↦ elim (last_cases ks k n older j) [
+          | inl r ↦ (let w = slice_get_within ks k n r in let x = o.0 in absurd (omega (arith, w, x, long)))
+          | inr r ↦ r.1 ∙ (is ∙ (c.heads value ∙ (sym (newest_front value es e (length es) (omega arith))
+              ∙ (ap (λ (w : ℕ). newest w (es ++ e ∷ []) (length es)) (sym (ap (λ (x : Edge). x.value) o.1))
+              ∙ ap (newest d.value (es ++ e ∷ [])) (sym o.0)))))
+        ]
+      ];
+    })))
+
+-- the newest edge is taken away
+pub split_last : {A : Type 0} (xs : List A) (n : ℕ) (x : A) → length xs ≡ n + 1 → slice_get xs n ≡ Some x → xs ≡ take n xs ++ x ∷ []
+split_last xs n x l h = (let m : length xs ≡ suc n = omega (arith, l) in
+    sym (take-length xs) ∙ (ap (λ (k : ℕ). take k xs) m ∙ (split_at xs n x h).0))
+
+pub chain_some : {es : List Edge} {ks : List ℕ} {first : ℕ → ℕ} (n : ℕ) (e : Edge) → IsChain es ks first → length es ≡ n + 1
+    → slice_get es n ≡ Some e → 1 ≤ first e.value
+chain_some {es} {first = first} n e c l i = (let s : length es ≡ suc n = omega (arith, l) in
+    let h : first e.value ≡ suc n = c.heads e.value ∙ (ap (newest e.value es) s
+    ∙ ap (λ (b : Bool). cond b (suc n) (newest e.value es n)) (of_value e.value es n e i refl)) in omega (arith, h))
+
+pub chain_remove : {es less : List Edge} {ks les : List ℕ} {first now : ℕ → ℕ} (n m : ℕ) (e : Edge) → IsChain es ks first
+    → length es ≡ n + 1 → slice_get es n ≡ Some e → slice_get ks n ≡ Some m → less ≡ take n es → les ≡ take n ks
+    → ((u : ℕ) → now u ≡ (if e.value == u then m else first u)) → IsChain less les now
+chain_remove {es} {less} {ks} {les} {first} {now} n m e c l i j items olders heads = (let even = c.long in
+    let is : es ≡ less ++ e ∷ [] = split_last es n e l i ∙ ap (λ (xs : List Edge). xs ++ e ∷ []) (sym items) in
+    let os : ks ≡ les ++ m ∷ [] = split_last ks n m (omega (arith, even, l)) j ∙ ap (λ (ns : List ℕ). ns ++ m ∷ []) (sym olders) in
+    let d : IsChain (less ++ e ∷ []) (les ++ m ∷ []) first =
+    subst (λ (ns : List ℕ). IsChain (less ++ e ∷ []) ns first) os (subst (λ (xs : List Edge). IsChain xs ks first) is c) in
+    let a = length_push less e in let b = length_push les m in let long = d.long in let few = d.few in
+    let same : length less ≡ length les = omega (arith, a, b, long) in
+    let m_is : m ≡ newest e.value less (length less) = d.chain (length less) m e (at_end less e)
+    (ap (slice_get (les ++ m ∷ [])) same ∙ at_end les m) ∙ newest_front e.value less e (length less) (omega arith) in record {
+      few = omega (arith, few, a);
+      long = sym same;
+      heads = λ u. heads u ∙ (elim (cases_eq e.value u) [
+        | inl v ↦ ap (λ (t : Bool). cond t m (first u)) (eq-eqb e.value u v) ∙ (m_is ∙ ap (λ (w : ℕ). newest w less (length less)) v)
+        | inr o ↦ ap (λ (t : Bool). cond t m (first u)) (ne_eqb e.value u o) ∙ (d.heads u ∙ (newest_end u less e
+            ∙ ap (λ (t : Bool). cond t (length less + 1) (newest u less (length less))) (ne_eqb e.value u o)))
+      ]);
+      chain = λ k o x y z. (let w = slice_get_within less k x y in
+          d.chain k o x (push_old less (e ∷ []) k x y) (push_old les (m ∷ []) k o z) ∙ newest_front x.value less e k (omega (arith, w)));
+    })
+
+-- an edge is passed
+pub chain_pass : {es : List Edge} {ks : List ℕ} {first : ℕ → ℕ} (k : ℕ) (e : Edge) → IsChain es ks first → slice_get es k ≡ Some e
+    → IsChain (set es k (pass_one e)) ks first
+chain_pass {es} k e c i = (let m = length-set es k (pass_one e) in let long = c.long in let few = c.few in record {
+  few = omega (arith, few, m);
+  long = omega (arith, long, m);
+  heads = λ u. c.heads u ∙ sym (ap (newest u (set es k (pass_one e))) m ∙ same u (length es));
+  chain = λ j n d a b. elim (set_apart es k j d (pass_one e) a) [
+    | inl o ↦ c.chain j n d o.0 b ∙ sym (same d.value j)
+    | inr o ↦ c.chain j n e (subst (λ (w : ℕ). slice_get es w ≡ Some e) (sym o.0) i) b
+        ∙ (ap (λ (w : ℕ). newest w es j) (sym (ap (λ (z : Edge). z.value) o.1)) ∙ sym (same d.value j))
+  ];
+})
+  where
+    same : (u n : ℕ) → newest u (set es k (pass_one e)) n ≡ newest u es n
+    same u n = newest_same u es (set es k (pass_one e)) n (λ j l. elim (same_or j k) [
+      | inl o ↦ ap (λ (w : ℕ). is_of u (slice_get (set es k (pass_one e)) w)) o ∙ (ap (is_of u) (set_here es k e (pass_one e) i)
+          ∙ (sym (ap (is_of u) i) ∙ ap (λ (w : ℕ). is_of u (slice_get es w)) (sym o)))
+      | inr o ↦ ap (is_of u) (set_there es k j (pass_one e) o)
+    ])

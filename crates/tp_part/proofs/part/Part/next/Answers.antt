@@ -1,0 +1,49 @@
+use Rattle.tp_part.proofs.Theorems.{◌≡◌, ◌∙◌, Some, ap, arith, refl, sym, slice_get_within, index_is, holds_next, runs_shown, waits_shown}
+use Rattle.tp_part.proofs.Theorems.{end_shown, pool_shown}
+use Rattle.tp_part.proofs.part.Part.next.Goals as goal
+use Rattle.tp_part.proofs.part.Part.next.Goals.{in-Run, in-Wait, in-Finished}
+
+pub index-requires-in-Run : goal.index-requires-in-Run
+index-requires-in-Run c = let d = c.next_of.ensures.run c.in-Run.place c.in-Run.is in
+    let w = slice_get_within c.self.inside.pool.tasks c.in-Run.place d.becomes.was d.becomes.is in let l = c.self.invariant.long in
+    let o = c.self.inside.numbers.ok.0 in omega (arith, w, l, o)
+
+pub invariant_of-self-2 : goal.invariant_of-self-2
+invariant_of-self-2 c = holds_next c.next_of.result c.self.invariant c.next_of.ensures.run c.next_of.ensures.wait c.next_of.ensures.over
+
+pub returns-clause-run : goal.returns-clause-run
+returns-clause-run c = elim c.match-next_of.branch [
+  | in-Run w ↦ rw w.result-is (λ t h. let e : w.index-in-Run.result.now ≡ t = cc in
+      let d = c.next_of.ensures.run w.in-Run.place w.in-Run.is in
+      let m = slice_get_within c.self.inside.pool.tasks w.in-Run.place d.becomes.was d.becomes.is in let l = c.self.invariant.long in
+      let s = c.self.invariant.sent in let h = c.if-self-len.false in let n = c.len.ensures in let o = c.self.inside.outbox.ok.0 in
+      runs_shown c.self.inside t w.in-Run.place c.self.view_is c.self.invariant.arriving.awaited
+      (index_is c.self.inside.numbers.items w.in-Run.place w.index-in-Run.result.now (omega (arith, m, l)) w.index-in-Run.ensures
+      ∙ ap Some e)
+      (omega (arith, s, h, n, o)) d refl)
+  | in-Wait w ↦ rw w.result-is (λ t h. cc)
+  | in-Finished w ↦ rw w.result-is (λ t h. cc)
+]
+
+pub returns-clause-wait : goal.returns-clause-wait
+returns-clause-wait c = elim c.match-next_of.branch [
+  | in-Run w ↦ (λ h. let e = sym w.result-is ∙ h in cc)
+  | in-Finished w ↦ (λ h. let e = sym w.result-is ∙ h in cc)
+  | in-Wait w ↦ (λ h. let s = c.self.invariant.sent in let f = c.if-self-len.false in let n = c.len.ensures in
+      let o = c.self.inside.outbox.ok.0 in (
+        waits_shown c.self.inside c.self.view_is c.self.invariant.arriving.awaited (omega (arith, s, f, n, o)) (c.next_of.ensures.idle w.in-Wait.is)
+            (c.next_of.ensures.some_left w.in-Wait.is),
+        pool_shown c.self.inside c.self.view_is (c.next_of.ensures.wait w.in-Wait.is),
+      ))
+]
+
+pub returns-clause-over : goal.returns-clause-over
+returns-clause-over c = elim c.match-next_of.branch [
+  | in-Run w ↦ (λ h. let e = sym w.result-is ∙ h in cc)
+  | in-Wait w ↦ (λ h. let e = sym w.result-is ∙ h in cc)
+  | in-Finished w ↦ (λ h. let s = c.self.invariant.sent in let f = c.if-self-len.false in let n = c.len.ensures in
+      let o = c.self.inside.outbox.ok.0 in (
+        end_shown c.self.inside c.self.view_is (omega (arith, s, f, n, o)) (c.next_of.ensures.finished w.in-Finished.is),
+        pool_shown c.self.inside c.self.view_is (c.next_of.ensures.over w.in-Finished.is),
+      ))
+]

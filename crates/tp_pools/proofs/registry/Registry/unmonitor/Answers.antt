@@ -1,5 +1,0 @@
-use Rattle.std.proofs.Common.{rules}
-use Rattle.tp_pools.proofs.registry.Registry.unmonitor.Goals as goal
-
-pub returns-clause-refusal : goal.returns-clause-refusal
-returns-clause-refusal c = search rules

@@ -1,3 +1,0 @@
-pub mod Answers
-pub mod Pools
-pub mod Runs

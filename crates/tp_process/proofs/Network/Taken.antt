@@ -1,0 +1,316 @@
+-- The control messages to a process: those that were sent, and those that it took.
+pub mod EachEpoch
+pub use EachEpoch.*
+
+-- ==== Accounts of one epoch: the number of control messages that were sent to a process, and the number that it took.
+-- the number of control messages to process k in a list
+abbrev pub sent_to : ℕ → List ControlMessage → ℕ
+sent_to k [] = 0
+sent_to k (l ∷ ls) = cond (eqb l.to k) (sent_to k ls + 1) (sent_to k ls)
+
+abbrev pub sends_to : ℕ → Next → ℕ
+sends_to k (Send l) = bit (eqb l.to k)
+sends_to k _ = 0
+
+pub posted_to : (k : ℕ) (next : Next) (ls : List ControlMessage) → sent_to k (posted next ls) ≡ sent_to k ls + sends_to k next
+posted_to k (Send l) ls =
+    elim (cases_Bool (eqb l.to k)) [ inl t ↦ rw t (omega arith) | inr t ↦ rw t (omega arith) ]
+posted_to k _ ls = omega arith
+
+-- what p still has to send to process k in its newest wave and for the end (`owes`), and what its waves and the end
+-- cost (`costs_to`)
+abbrev pub is_child : ℕ → EpochState → Bool
+is_child k p = not (eqb p.number 0) && eqb (parent p.number) k
+
+abbrev pub owes : ℕ → EpochState → ℕ
+owes k p =
+    cond (eqb (left_of p) k) (bit (p.here && p.down_left) + cond p.over (bit p.over_left) 1) 0
+    + cond (eqb (right_of p) k) (bit (p.here && p.down_right) + cond p.over (bit p.over_right) 1) 0
+    + cond (is_child k p) (bit p.here) 0
+
+abbrev pub costs_to : ℕ → EpochState → ℕ
+costs_to k p = cond (eqb (left_of p) k) (p.wave + 1) 0 + cond (eqb (right_of p) k) (p.wave + 1) 0 + cond (is_child k p) p.wave 0
+
+-- A step from p to r sends d control messages to process k: what p owes falls by d, but for what new waves cost.
+abbrev pub Pays : ℕ → EpochState → EpochState → ℕ → Type 0
+Pays k p r d = owes k r + d + costs_to k p ≡ owes k p + costs_to k r
+
+opened_owes : (a b c lh rh : Bool) (dl dr w : ℕ) → (a ≡ true → lh ≡ true) → (b ≡ true → rh ≡ true)
+    → cond a (bit lh + dl) 0 + cond b (bit rh + dr) 0 + cond c 1 0 + 0 + (cond a (w + 1) 0 + cond b (w + 1) 0 + cond c w 0)
+    ≡ cond a (0 + dl) 0 + cond b (0 + dr) 0 + cond c 0 0 + (cond a (w + 1 + 1) 0 + cond b (w + 1 + 1) 0 + cond c (w + 1) 0)
+opened_owes a b c lh rh dl dr w f g = grind (arith, nat_tests)
+
+module _ (n k : ℕ) (p : EpochState) (l : k < n) (size : p.processes ≡ n) where
+  has_left : eqb (left_of p) k ≡ true → ltb (left_of p) p.processes ≡ true
+  has_left a = lt-ltb (left_of p) p.processes (omega (arith, eqb-true (left_of p) k a, l, size))
+
+  has_right : eqb (right_of p) k ≡ true → ltb (right_of p) p.processes ≡ true
+  has_right a = lt-ltb (right_of p) p.processes (omega (arith, eqb-true (right_of p) k a, l, size))
+
+  ends_pays : p.over ≡ false → Pays k p (ends p) 0
+  ends_pays o =
+      elim (cases_Bool (eqb (left_of p) k)) [
+        | inl a ↦ rw (o, a, ne_eqb (right_of p) k (λ e. absurd (omega (arith, e, eqb-true (left_of p) k a))), has_left a) (omega arith)
+        | inr a ↦
+            elim (cases_Bool (eqb (right_of p) k)) [ inl b ↦ rw (o, a, b, has_right b) (omega arith) | inr b ↦ rw (a, b) (omega arith) ]
+      ]
+
+  opens_pays : p.here ≡ false → Pays k p (opens (p.wave + 1) p) 0
+  opens_pays h =
+      rw h
+      (opened_owes (eqb (left_of p) k) (eqb (right_of p) k) (is_child k p) (has p (left_of p)) (has p (right_of p))
+      (cond p.over (bit p.over_left) 1) (cond p.over (bit p.over_right) 1) p.wave has_left has_right)
+
+  acts_pays : Pays k p (acts p).state (sends_to k (acts p).next)
+  acts_pays =
+      acts_cases p (λ m. Pays k p m.state (sends_to k m.next))
+      (λ o t. elim (cases_Bool (eqb (left_of p) k)) [ inl a ↦ rw (o, t, a) (omega arith) | inr a ↦ rw a (omega arith) ])
+      (λ o t. elim (cases_Bool (eqb (right_of p) k)) [ inl a ↦ rw (o, t, a) (omega arith) | inr a ↦ rw a (omega arith) ])
+      (λ o a b. omega arith)
+      (λ o h t. elim (cases_Bool (eqb (left_of p) k)) [ inl a ↦ rw (h, t, a) (omega arith) | inr a ↦ rw a (omega arith) ])
+      (λ o h t. elim (cases_Bool (eqb (right_of p) k)) [ inl a ↦ rw (h, t, a) (omega arith) | inr a ↦ rw a (omega arith) ])
+      (λ c z t. ends_pays c.over) (λ c z t. rw (c.here, c.down_left, c.down_right, z) (omega arith)) (λ c z.
+      elim (cases_Bool (eqb (parent p.number) k)) [
+        | inl a ↦ rw (c.here, c.down_left, c.down_right, z, a) (omega arith)
+        | inr a ↦ rw (c.here, c.down_left, c.down_right, z, a) (omega arith)
+      ]) (λ o. omega arith)
+
+  takes_pays : (from u : ℕ) (c : Token) → Pays k p (takes from u c p) 0
+  takes_pays from u c =
+      takes_cases from u c p (λ c. Unit {0}) (λ z. Pays k p z 0) tt
+      (λ t away next. subst (λ w. Pays k p (opens w p) 0) (sym next) (opens_pays away)) (λ s r t a b d e. omega arith)
+      (λ s r t a b d e. omega arith) (λ t o. ends_pays o) (λ d. omega arith)
+
+-- the number of control messages that process p took to reach its wave and the end; `gap` is the reports that are
+-- missing
+abbrev pub reach : EpochState → ℕ
+reach p = cond (eqb p.number 0) 0 (p.wave + bit p.over) + cond (has p (left_of p)) p.wave 0 + cond (has p (right_of p)) p.wave 0
+
+abbrev pub gap : EpochState → ℕ
+gap p = bit (p.here && p.up_left) + bit (p.here && p.up_right)
+
+-- A step from p to r takes at most d control messages.
+abbrev pub Takes : EpochState → EpochState → ℕ → Type 0
+Takes p r d = reach r + gap p ≤ reach p + gap r + d
+
+one_more : (b : Bool) (w : ℕ) → cond b (w + 1) 0 ≡ cond b w 0 + bit b
+one_more true w = refl
+one_more false w = refl
+
+else_more : (b : Bool) (w v : ℕ) → cond b 0 (w + 1 + v) ≡ cond b 0 (w + v) + cond b 0 1
+else_more true w v = refl
+else_more false w v = omega arith
+
+opens_takes : (p : EpochState) → p.here ≡ false → Takes p (opens (p.wave + 1) p) (cond (eqb p.number 0) 0 1)
+opens_takes p h =
+    rw h
+    (omega (
+      arith,
+      one_more (has p (left_of p)) p.wave,
+      one_more (has p (right_of p)) p.wave,
+      else_more (eqb p.number 0) p.wave (bit p.over),
+    ))
+
+acts_takes : (p : EpochState) → Takes p (acts p).state 0
+acts_takes p =
+    acts_cases p (λ m. Takes p m.state 0) (λ o t. omega arith) (λ o t. omega arith) (λ o a b. omega arith) (λ o h t. omega arith)
+    (λ o h t. omega arith) (λ c z t. rw z (omega arith)) (λ c z t. rw (c.here, c.left, c.right) (omega arith))
+    (λ c z. rw (c.here, c.left, c.right) (omega arith)) (λ o. omega arith)
+
+pub moved_takes : (p : EpochState) → Takes p (moved p).state 0
+moved_takes p =
+    cond_both (is_miscounted p) _ _ (λ (m : Move). Takes p m.state 0) (λ t. omega arith) (λ t.
+    let started : Takes p (ready p) 0 = ready_cases p (λ z. Takes p z 0)
+    (λ number o away. subst (λ b. Takes p (opens (p.wave + 1) p) (cond b 0 1)) (eq-eqb p.number 0 number) (opens_takes p away))
+    (omega arith) in
+    omega (arith, started, acts_takes (ready p)))
+
+pub takes_takes : (from u : ℕ) (c : Token) (p : EpochState) → Takes p (takes from u c p) 1
+takes_takes from u c p =
+    takes_cases from u c p (λ c. Unit {0}) (λ z. Takes p z 1) tt (λ t away next.
+    let one : cond (eqb p.number 0) 0 1 ≤ 1 = cond_both (eqb p.number 0) 0 1 (λ z. z ≤ 1) (λ t. omega arith) (λ t. omega arith) in
+    subst (λ w. Takes p (opens w p) 1) (sym next) (omega (arith, one, opens_takes p away)))
+    (λ s r t h b d e. rw (h, d) (omega arith)) (λ s r t h b d e. rw (h, d) (omega arith))
+    (λ t o. elim (cases_Bool (eqb p.number 0)) [ inl z ↦ rw z (omega arith) | inr z ↦ rw (z, o) (omega arith) ]) (λ d. omega arith)
+
+-- What was sent to process k and what all still have to send to it add up to what the waves and the end cost.
+abbrev pub Sums : ℕ → ℕ → (ℕ → EpochState) → List ControlMessage → Type 0
+Sums n k at ls = sent_to k ls + total n (λ j. owes k (at j)) ≡ total n (λ j. costs_to k (at j))
+
+sums_put : (n k i d : ℕ) (at : ℕ → EpochState) (new : EpochState) (old ls : List ControlMessage) → i < n
+    → sent_to k ls ≡ sent_to k old + d → Pays k (at i) new d → Sums n k at old → Sums n k (put i new at) ls
+sums_put n k i d at new old ls l more pays v =
+    let a : total n (λ j. owes k (put i new at j)) + owes k (at i) ≡ total n (λ j. owes k (at j)) + owes k new
+    = total_put n i new at (owes k) l in
+    let b : total n (λ j. costs_to k (put i new at j)) + costs_to k (at i) ≡ total n (λ j. costs_to k (at j)) + costs_to k new
+    = total_put n i new at (costs_to k) l in
+    omega (arith, a, b, more, pays, v)
+
+pub sums_after : (n k : ℕ) (events : List Event) → k < n → Sums n k (after n events).at (after n events).controls
+sums_after n k events m =
+    let same : total n (λ j. owes k (blank j n)) ≡ total n (λ j. costs_to k (blank j n))
+    = total-equal n (λ j. owes k (blank j n)) (λ j. costs_to k (blank j n)) (λ j l. omega arith) in
+    kept_after n (Sums n k)
+    (record {
+      count = λ q i a s r x l v h.
+          let new : EpochState = record (x.at i) { pending = a; sent = s; received = r } in
+          sums_put n k i 0 x.at new x.controls x.controls l (omega arith) (omega arith) h;
+      start = λ q x l v o away h.
+          sums_put n k 0 0 x.at (opens ((x.at 0).wave + 1) (x.at 0)) x.controls x.controls l (omega arith)
+          (opens_pays n k (x.at 0) m (v.inv.each 0 l).processes away) h;
+      act = λ q i x l v h.
+          let next : Next = (acts (x.at i)).next in
+          sums_put n k i (sends_to k next) x.at (acts (x.at i)).state x.controls (posted next x.controls) l (posted_to k next x.controls)
+          (acts_pays n k (x.at i) m (v.inv.each i l).processes) h;
+      take = λ q j x v a l e t h.
+          sums_put n k a.to 0 x.at (takes a.from a.wave a.token (x.at a.to)) x.controls x.controls l (omega arith)
+          (takes_pays n k (x.at a.to) m (v.inv.each a.to l).processes a.from a.wave a.token) h;
+    }) events
+    (omega (arith, same))
+
+-- ==== A process that knows the end of an epoch has taken every control message that was sent to it.
+-- Wave w came to the process, and its children have reported.
+pub record IsThrough (w : ℕ) (p : EpochState) : Type 0 where
+  pub wave : p.wave ≡ w
+  pub left : (p.here && p.up_left) ≡ false
+  pub right : (p.here && p.up_right) ≡ false
+
+through : (n q : ℕ) (x : World) (v : Good n q x) → Finished n v.wave x → (k : ℕ) → k < n → IsThrough (x.at 0).wave (x.at k)
+through n q x v f k l =
+    elim (cases_eq k 0) [
+      | inl e ↦ rw e (record { wave = refl; left = and_right _ _ f.root.left; right = and_right _ _ f.root.right })
+      | inr off ↦
+          let z = f.given k (omega (arith, off)) l in
+          record { wave = z.wave ∙ sym v.inv.root.wave; left = and_left _ _ z.gone; right = and_left _ _ z.gone }
+    ]
+
+-- A sum with one part that is not 0.
+one-le : (n a v : ℕ) → total n (λ j. cond (eqb j a) v 0) ≤ cond (ltb a n) v 0
+one-le zero a v = grind (arith, nat_tests)
+one-le (suc n) a v = grind (arith, nat_tests, one-le n a v)
+
+-- what process j can have to send to process k, if it is the parent or a child of k
+abbrev share : ℕ → ℕ → ℕ → ℕ
+share w k j = cond (eqb j (parent k)) (cond (eqb k 0) 0 (w + 1)) 0 + (cond (eqb j (2 * k + 1)) w 0 + cond (eqb j (2 * k + 2)) w 0)
+
+costs-le : (w k j : ℕ) (p : EpochState) → p.number ≡ j → p.wave ≤ w → costs_to k p ≤ share w k j
+costs-le w k j p number near =
+    elim (cases_Bool (eqb (left_of p) k)) [
+      | inl a ↦
+          let at : 2 * j + 1 ≡ k = omega (arith, number, eqb-true (left_of p) k a) in
+          let other : eqb (right_of p) k ≡ false = ne_eqb (right_of p) k (λ e. absurd (omega (arith, e, number, at))) in
+          let no : is_child k p ≡ false = and_right (not (eqb p.number 0)) (eqb (parent p.number) k)
+          (ne_eqb (parent p.number) k (λ e. absurd (omega (arith, e, number, at)))) in
+          rw (a, other, no, eq-eqb j (parent k) (omega (arith, at)), ne_eqb k 0 (λ e. absurd (omega (arith, e, at)))) (omega (arith, near))
+      | inr a ↦
+          elim (cases_Bool (eqb (right_of p) k)) [
+            | inl b ↦
+                let at : 2 * j + 2 ≡ k = omega (arith, number, eqb-true (right_of p) k b) in
+                let no : is_child k p ≡ false = and_right (not (eqb p.number 0)) (eqb (parent p.number) k)
+                (ne_eqb (parent p.number) k (λ e. absurd (omega (arith, e, number, at)))) in
+                rw (a, b, no, eq-eqb j (parent k) (omega (arith, at)), ne_eqb k 0 (λ e. absurd (omega (arith, e, at))))
+                (omega (arith, near))
+            | inr b ↦
+                elim (cases_Bool (is_child k p)) [
+                  | inr c ↦ rw (a, b, c) (omega arith)
+                  | inl c ↦
+                      let d = and_parts (not (eqb p.number 0)) (eqb (parent p.number) k) c in
+                      let away : p.number ≡ 0 → ⊥ = eqb-false p.number 0 (not-true (eqb p.number 0) d.0) in
+                      let up : parent p.number ≡ k = eqb-true (parent p.number) k d.1 in
+                      elim (cases_eq j (2 * k + 1)) [
+                        | inl e ↦ rw (a, b, c, eq-eqb j (2 * k + 1) e) (omega (arith, near))
+                        | inr off ↦
+                            let e : j ≡ 2 * k + 2 = omega (arith, off, up, number, λ (z : p.number ≡ 0). away z) in
+                            rw (a, b, c, eq-eqb j (2 * k + 2) e) (omega (arith, near))
+                      ]
+                ]
+          ]
+    ]
+
+-- what can have been sent to process k in w waves and for the end
+abbrev pub at_most_sent : ℕ → ℕ → ℕ → ℕ
+at_most_sent n w k = cond (eqb k 0) 0 (w + 1) + (cond (ltb (2 * k + 1) n) w 0 + cond (ltb (2 * k + 2) n) w 0)
+
+sent-le : (n k : ℕ) (events : List Event) → k < n
+    → sent_to k (after n events).controls ≤ at_most_sent n ((after n events).at 0).wave k
+sent-le n k events l =
+    let x : World = after n events in
+    let v = good_after n events in
+    let w : ℕ = (x.at 0).wave in
+    let sums : total n (λ j. costs_to k (x.at j)) ≤ total n (share w k) = total-le n (λ j. costs_to k (x.at j)) (share w k)
+    (λ j m. costs-le w k j (x.at j) (v.1.inv.each j m).number (omega (arith, (v.1.inv.each j m).near, v.1.inv.root.wave))) in
+    let first : ℕ → ℕ = λ j. cond (eqb j (parent k)) (cond (eqb k 0) 0 (w + 1)) 0 in
+    let parts : total n (share w k)
+    ≡ total n first + (total n (λ j. cond (eqb j (2 * k + 1)) w 0) + total n (λ j. cond (eqb j (2 * k + 2)) w 0))
+    = total_add n first (λ j. cond (eqb j (2 * k + 1)) w 0 + cond (eqb j (2 * k + 2)) w 0)
+    ∙ ap (λ m. total n first + m) (total_add n (λ j. cond (eqb j (2 * k + 1)) w 0) (λ j. cond (eqb j (2 * k + 2)) w 0)) in
+    let shown : cond (ltb (parent k) n) (cond (eqb k 0) 0 (w + 1)) 0 ≤ cond (eqb k 0) 0 (w + 1)
+    = cond_both (ltb (parent k) n) _ 0 (λ z. z ≤ cond (eqb k 0) 0 (w + 1)) (λ t. omega arith) (λ t. omega arith) in
+    let top : total n first ≤ cond (eqb k 0) 0 (w + 1) = omega (arith, one-le n (parent k) (cond (eqb k 0) 0 (w + 1)), shown) in
+    omega (arith, sums, parts, top, one-le n (2 * k + 1) w, one-le n (2 * k + 2) w, sums_after n k events l)
+
+-- A process that knows the end has taken every control message that was sent to it.
+pub all_taken : (n k : ℕ) (events : List Event) → k < n → ((after n events).at k).over ≡ true
+    → (gap ((after n events).at k) ≡ 0) × (sent_to k (after n events).controls ≤ reach ((after n events).at k))
+all_taken n k events l over =
+    let x : World = after n events in
+    let v = good_after n events in
+    let w : ℕ = (x.at 0).wave in
+    let p : EpochState = x.at k in
+    let z : IsThrough w p = through n v.0 x v.1 (v.1.inv.over k l over) k l in
+    let hold : Holds n v.1.wave v.1.floor v.1.gifts x.at k p = v.1.inv.each k l in
+    let is : reach p ≡ at_most_sent n w k = rw (hold.number, hold.processes, z.wave, over) (omega arith) in (
+      rw (z.left, z.right) refl,
+      omega (arith, is, sent-le n k events l),
+    )
+
+-- ==== The number of control messages that are sent in one epoch: at most 2(n - 1) for each wave, and n - 1 for the end.
+length_by : (n : ℕ) (ls : List ControlMessage) → AllOf n ls → length ls ≡ total n (λ k. sent_to k ls)
+length_by n [] t = sym (total-zero n)
+length_by n (l ∷ ls) t =
+    let one : total n (λ k. sent_to k (l ∷ ls)) ≡ total n (λ k. sent_to k ls) + 1
+    = total_one-changes n l.to 1 (λ k. sent_to k ls) (λ k. sent_to k (l ∷ ls)) t.1 (rw (eq-eqb l.to l.to refl))
+    (λ k off. rw (ne_eqb l.to k (λ e. off (sym e)))) in
+    omega (arith, one, length_by n ls t.2)
+
+total_times : (n c : ℕ) (f : ℕ → ℕ) → total n (λ k. c * f k) ≡ c * total n f
+total_times zero c f = omega arith
+total_times (suc n) c f = rw (mul-add c (total n f) (f n)) (omega (arith, total_times n c f))
+
+times_bit : (b : Bool) (w : ℕ) → cond b w 0 ≡ w * bit b
+times_bit true w = omega arith
+times_bit false w = omega arith
+
+times_inner : (b : Bool) (w : ℕ) → cond b 0 w ≡ w * cond b 0 1
+times_inner true w = omega arith
+times_inner false w = omega arith
+
+most_sent : (n w : ℕ) → 0 < n → total n (at_most_sent n w) ≡ (2 * w + 1) * (n - 1)
+most_sent n w first =
+    let each : (k : ℕ) → k < n → at_most_sent n w k ≡ (w + 1) * inner k + w * kids_of n k = λ k l.
+    rw (mul-add w (bit (ltb (2 * k + 1) n)) (bit (ltb (2 * k + 2) n)))
+    (omega (arith, times_inner (eqb k 0) (w + 1), times_bit (ltb (2 * k + 1) n) w, times_bit (ltb (2 * k + 2) n) w)) in
+    let inners : total n inner ≡ n - 1 = omega (arith, both n first, kids_all n) in
+    let two : (w + 1) + w ≡ 2 * w + 1 = omega arith in
+    total-equal n _ _ each ∙ total_add n (λ k. (w + 1) * inner k) (λ k. w * kids_of n k)
+    ∙ ap (λ z. z + total n (λ k. w * kids_of n k)) (total_times n (w + 1) inner ∙ ap (λ z. (w + 1) * z) inners)
+    ∙ ap (λ z. (w + 1) * (n - 1) + z) (total_times n w (kids_of n) ∙ ap (λ z. w * z) (kids_all n))
+    ∙ sym (add-mul (w + 1) w (n - 1)) ∙ ap (λ z. z * (n - 1)) two
+
+pub few_control_messages : ControlMessagesLaw
+few_control_messages n events l =
+    let ls : List ControlMessage = (after n events).controls in
+    omega (
+      arith,
+      length_by n ls (slim_after n events).1,
+      total-le n (λ k. sent_to k ls) (at_most_sent n ((after n events).at 0).wave) (λ k m. sent-le n k events m),
+      most_sent n ((after n events).at 0).wave l,
+    )
+
+pub few_control_messages_epoch : ControlMessagesEpochLaw
+few_control_messages_epoch n all l =
+    let e : ℕ = ((epochs_after n all).at 0).epoch in
+    let h = epochs n all e in
+    subst (λ ls. length ls ≤ (2 * ((epochs_after n all).at 0).state.wave + 1) * (n - 1)) (sym h.controls)
+    (subst (λ p. length (after n (events_of n e all)).controls ≤ (2 * p.wave + 1) * (n - 1)) (sym (h.now 0 refl))
+    (few_control_messages n (events_of n e all) l))

@@ -1,0 +1,511 @@
+-- Once a control message has come, it is never taken again; and after termination a useful event is possible, until each
+-- process has notified its children of the end.
+pub mod Bounds
+pub use Bounds.*
+
+-- ==== Control messages are idempotent: one that has come is never taken again.
+-- The control message is no longer due at process m, whose newest wave is w.
+abbrev pub SpentBy : ℕ → ℕ → Token → (m w : ℕ) (here left right over : Bool) → Type 0
+SpentBy from u Down m w h ul ur o = u ≤ w
+SpentBy from u (Up s r) m w h ul ur o =
+    (u < w) ⊎ ((u ≡ w) × ((h ≡ false) ⊎ (((ul && eqb from (2 * m + 1)) ≡ false) × ((ur && eqb from (2 * m + 2)) ≡ false))))
+SpentBy from u Over m w h ul ur o = o ≡ true
+
+abbrev pub Spent : ℕ → ℕ → Token → EpochState → Type 0
+Spent from u c p = SpentBy from u c p.number p.wave p.here p.up_left p.up_right p.over
+
+spent_is_not_due : (from u : ℕ) (c : Token) (p : EpochState) → Spent from u c p → is_due from u c p ≡ false
+spent_is_not_due from u Down p e = and_right (not p.here) (eqb u (p.wave + 1)) (ne_eqb u (p.wave + 1) (λ d. absurd (omega (arith, d, e))))
+spent_is_not_due from u (Up s r) p e = grind (arith, nat_tests)
+spent_is_not_due from u Over p e = not_from_true p.over e
+
+-- A flag that only falls, and a number: if the test failed before, it fails after.
+still_none : (a b : Bool) (from m : ℕ) → (a ≡ false → b ≡ false) → (a && eqb from m) ≡ false → (b && eqb from m) ≡ false
+still_none a b from m f e = elim (and_cases a (eqb from m) e) [ inl t ↦ and_left b (eqb from m) (f t) | inr t ↦ and_right b (eqb from m) t ]
+
+-- What a process does later does not change that.
+module _ (from u : ℕ) (p : EpochState) where
+  spent_opens : (c : Token) (w : ℕ) (h ul ur : Bool) → p.wave < w → Spent from u c p → SpentBy from u c p.number w h ul ur p.over
+  spent_opens Down w h ul ur l e = omega (arith, e, l)
+  spent_opens (Up s r) w h ul ur l e = elim e [ inl less ↦ inl (omega (arith, less, l)) | inr rest ↦ inl (omega (arith, rest.0, l)) ]
+  spent_opens Over w h ul ur l e = e
+
+  spent_fewer : (c : Token) (h ul ur : Bool) → (p.here ≡ false → h ≡ false) → (p.up_left ≡ false → ul ≡ false)
+      → (p.up_right ≡ false → ur ≡ false) → Spent from u c p → SpentBy from u c p.number p.wave h ul ur p.over
+  spent_fewer Down h ul ur f g k e = e
+  spent_fewer (Up s r) h ul ur f g k e =
+      elim e [
+        | inl less ↦ inl less
+        | inr rest ↦
+            inr (
+              rest.0,
+              elim rest.1 [
+                | inl away ↦ inl (f away)
+                | inr both ↦ inr (still_none p.up_left ul from _ g both.0, still_none p.up_right ur from _ k both.1)
+              ],
+            )
+      ]
+  spent_fewer Over h ul ur f g k e = e
+
+  spent_ends : (c : Token) → Spent from u c p → Spent from u c (ends p)
+  spent_ends Down e = e
+  spent_ends (Up s r) e = e
+  spent_ends Over e = refl
+
+  spent_acts : (c : Token) → Spent from u c p → Spent from u c (acts p).state
+  spent_acts c e =
+      let gone : SpentBy from u c p.number p.wave false p.up_left p.up_right p.over
+      = spent_fewer c false p.up_left p.up_right (λ t. refl) (λ t. t) (λ t. t) e in
+      acts_cases p (λ m. Spent from u c m.state) (λ o t. e) (λ o t. e) (λ o a b. e) (λ o h t. e) (λ o h t. e) (λ k z t. spent_ends c e)
+      (λ k z t. gone) (λ k z. gone) (λ o. e)
+
+  spent_takes : (c : Token) (f w : ℕ) (d : Token) → Spent from u c p → Spent from u c (takes f w d p)
+  spent_takes c f w d e =
+      takes_cases f w d p (λ k. Unit {0}) (Spent from u c) tt
+      (λ k away next. spent_opens c w true (has p (left_of p)) (has p (right_of p)) (omega (arith, next)) e)
+      (λ s r k a b t g. spent_fewer c p.here false p.up_right (λ t. t) (λ t. refl) (λ t. t) e)
+      (λ s r k a b t g. spent_fewer c p.here p.up_left false (λ t. t) (λ t. t) (λ t. refl) e) (λ k a. spent_ends c e) (λ a. e)
+
+spent_after : (n from u j : ℕ) (c : Token) (later events : List Event) → Spent from u c ((after n events).at j)
+    → Spent from u c ((after n (later ++ events)).at j)
+spent_after n from u j c later events =
+    kept_later n (λ at ls. Spent from u c (at j))
+    (record {
+      count = λ q i a s r x l v h. put_keeps (Spent from u c) i j _ x.at (λ e. e) h;
+      start = λ q x l v o away h.
+          let p : EpochState = x.at 0 in
+          put_keeps (Spent from u c) 0 j (opens (p.wave + 1) p) x.at
+          (spent_opens from u p c (p.wave + 1) true (has p (left_of p)) (has p (right_of p)) (omega arith)) h;
+      act = λ q i x l v h. put_keeps (Spent from u c) i j _ x.at (spent_acts from u (x.at i) c) h;
+      take = λ q k x v a l e t h.
+          put_keeps (Spent from u c) a.to j _ x.at (spent_takes from u (x.at a.to) c a.from a.wave a.token) h;
+    }) later events
+
+pub fits : (a b : ℕ) → a + b < 2 ^ 64 → do_fit a b ≡ true
+fits a b l = lt-ltb (a + b) (2 ^ 64) l
+
+-- The own number of a process, or that of a child that has not reported, can be added to the sum so far.
+pub record HasRoom (n i sum : ℕ) (left right : Bool) : Type 0 where
+  pub own : left ≡ false → right ≡ false → sum + LIMIT < 2 ^ 64
+  pub left_child : left ≡ true → sum + LIMIT * size n (2 * i + 1) < 2 ^ 64
+  pub right_child : right ≡ true → sum + LIMIT * size n (2 * i + 2) < 2 ^ 64
+
+has_room : (n i sum a b : ℕ) (left right : Bool) → n ≤ 2 ^ 20 → i < n → sum ≡ taken left a + taken right b
+    → (left ≡ false → a ≤ LIMIT * size n (2 * i + 1)) → (right ≡ false → b ≤ LIMIT * size n (2 * i + 2)) → HasRoom n i sum left right
+has_room n i sum a b left right few m e small_a small_b =
+    let at_left : taken left a ≤ LIMIT * size n (2 * i + 1) = taken-le left a _ small_a in
+    let at_right : taken right b ≤ LIMIT * size n (2 * i + 2) = taken-le right b _ small_b in
+    let whole : size n i ≤ n = size-le n i m in
+    let parts : size n i ≡ 1 + (size n (2 * i + 1) + size n (2 * i + 2)) = size_at n i m in
+    record {
+      own = λ f g. omega (arith, e, at_left, at_right, whole, parts, few);
+      left_child = λ f. omega (arith, rw f at e, at_right, whole, parts, few);
+      right_child = λ f. omega (arith, rw f at e, at_left, whole, parts, few);
+    }
+
+-- A control message that comes is taken, or was no longer due.
+module _ (n q : ℕ) (x : World) (few : n ≤ 2 ^ 20) (v : Good n q x) (i : ℕ) (l : i < n) where
+  pub rooms : (x.at i).here ≡ true → HasRoom n i (x.at i).taken_sent (x.at i).up_left (x.at i).up_right
+      × HasRoom n i (x.at i).taken_received (x.at i).up_left (x.at i).up_right
+  rooms here =
+      let p : EpochState = x.at i in
+      let z : Here n v.wave v.gifts x.at i p = (v.inv.each i l).here here in
+      let left : p.up_left ≡ false → IsSmallGift n (2 * i + 1) v.gifts
+      = λ f. gift_small n q v.wave v.floor v.gifts x v.inv (2 * i + 1) (z.left f) in
+      let right : p.up_right ≡ false → IsSmallGift n (2 * i + 2) v.gifts
+      = λ f. gift_small n q v.wave v.floor v.gifts x v.inv (2 * i + 2) (z.right f) in (
+        has_room n i p.taken_sent _ _ p.up_left p.up_right few l z.sent (λ f. (left f).sent) (λ f. (right f).sent),
+        has_room n i p.taken_received _ _ p.up_left p.up_right few l z.received (λ f. (left f).received) (λ f. (right f).received),
+      )
+
+  -- The sums of a child can be added without overflow.
+  room : (c s : ℕ) (r : ℕ) → (x.at i).here ≡ true → Reported v.wave v.gifts x.at c s r
+      → ((is_left c (x.at i) || is_right c (x.at i)) ≡ true) → do_fit (x.at i).taken_sent s && do_fit (x.at i).taken_received r ≡ true
+  room c s r here t d =
+      let p : EpochState = x.at i in
+      let hold : Holds n v.wave v.floor v.gifts x.at i p = v.inv.each i l in
+      let a = rooms here in
+      let small : IsSmallGift n c v.gifts = gift_small n q v.wave v.floor v.gifts x v.inv c (λ z. t.given) in
+      elim (or_cases (is_left c p) (is_right c p) d) [
+        | inl y ↦
+            let b = and_parts p.up_left (eqb c (left_of p)) y in
+            let e : c ≡ 2 * i + 1 = omega (arith, eqb-true c (left_of p) b.1, hold.number) in
+            let own : IsSmallGift n (2 * i + 1) v.gifts = rw e at small in
+            and_from _ _ (fits p.taken_sent s (omega (arith, a.0.left_child b.0, rw e at t.sent, own.sent)))
+            (fits p.taken_received r (omega (arith, a.1.left_child b.0, rw e at t.received, own.received)))
+        | inr y ↦
+            let b = and_parts p.up_right (eqb c (right_of p)) y in
+            let e : c ≡ 2 * i + 2 = omega (arith, eqb-true c (right_of p) b.1, hold.number) in
+            let own : IsSmallGift n (2 * i + 2) v.gifts = rw e at small in
+            and_from _ _ (fits p.taken_sent s (omega (arith, a.0.right_child b.0, rw e at t.sent, own.sent)))
+            (fits p.taken_received r (omega (arith, a.1.right_child b.0, rw e at t.received, own.received)))
+      ]
+
+  -- One that is not due was taken before.
+  undue : (from u : ℕ) (c : Token) → Known n v.wave v.gifts x from u c → Path v.wave x.at from i u c
+      → is_due from u c (x.at i) ≡ false → Spent from u c (x.at i)
+  undue from u Down t way d =
+      let hold : Holds n v.wave v.floor v.gifts x.at i (x.at i) = v.inv.each i l in
+      elim (and_cases (not (x.at i).here) (eqb u ((x.at i).wave + 1)) d) [
+        | inl here ↦ omega (arith, t, (hold.here (not-false (x.at i).here here)).wave)
+        | inr off ↦ omega (arith, t, hold.close, eqb-false u ((x.at i).wave + 1) off)
+      ]
+  undue from u (Up s r) t way d =
+      let p : EpochState = x.at i in
+      let hold : Holds n v.wave v.floor v.gifts x.at i p = v.inv.each i l in
+      elim (cases_lt u p.wave) [
+        | inl less ↦ inl less
+        | inr more ↦
+            let same : u ≡ p.wave = elim (cases_eq u v.wave) [
+              | inl e ↦ omega (arith, more, way e, e)
+              | inr off ↦ omega (arith, more, t.0, off, hold.close)
+            ] in
+            elim (cases_Bool p.here) [
+              | inr away ↦ inr (same, inl away)
+              | inl here ↦
+                  let none : (is_left from p || is_right from p) ≡ false = false_from_ne_true _ (λ e.
+                  let fits = and_parts _ _ (room from s r here (t.1 (same ∙ (hold.here here).wave)) e) in
+                  let due : is_due from u (Up s r) p ≡ true =
+                  and_from _ _ (and_from _ _ (and_from _ _ (and_from p.here (eqb u p.wave) here (eq-eqb u p.wave same)) fits.0) fits.1) e in
+                  absurd (cc (due, d))) in
+                  inr (same, inr (or_parts (is_left from p) (is_right from p) none))
+            ]
+      ]
+  undue from u Over t way d = not-false (x.at i).over d
+
+  first_spent : (from u : ℕ) (c : Token) → Known n v.wave v.gifts x from u c → Path v.wave x.at from i u c
+      → Spent from u c (takes from u c (x.at i))
+  first_spent from u c t way =
+      let p : EpochState = x.at i in
+      takes_cases from u c p (λ d. c ≡ d) (Spent from u c) refl
+      (λ k away next. subst (λ d. Spent from u d (opens u p)) (sym k) (omega arith)) (λ s r k here same waits e.
+      subst (λ d. Spent from u d (takes_left s r p)) (sym k)
+      (inr (same, inr (refl, and_right p.up_right _ (ne_eqb from (right_of p) (λ z. absurd (omega (arith, z, e))))))))
+      (λ s r k here same waits e.
+      subst (λ d. Spent from u d (takes_right s r p)) (sym k)
+      (inr (same, inr (and_right p.up_left _ (ne_eqb from (left_of p) (λ z. absurd (omega (arith, z, e)))), refl))))
+      (λ k o. subst (λ d. Spent from u d (ends p)) (sym k) refl) (undue from u c t way)
+
+pub some_same : {A : Type 0} (a b : A) → Some a ≡ Some b → a ≡ b
+some_same a b e = cc
+
+of_at : (n : ℕ) (ls : List ControlMessage) (k : ℕ) (l : ControlMessage) → AllOf n ls → control_at ls k ≡ Some l → l.processes ≡ n
+of_at n [] k l t e = absurd (cc e)
+of_at n (a ∷ ls) zero l t e = subst (λ (z : ControlMessage). z.processes ≡ n) (some_same a l e) t.0
+of_at n (a ∷ ls) (suc k) l t e = of_at n ls k l t.2 e
+
+is_for_all : (l : ControlMessage) (p : EpochState) → l.processes ≡ p.processes → p.number ≡ l.to → is_for l p ≡ true
+is_for_all l p e f = and_from _ _ (eq-eqb _ _ e) (eq-eqb _ _ (sym f))
+
+-- A control message that has come is spent.
+spent_came : (n q : ℕ) (x : World) → n ≤ 2 ^ 20 → (v : Good n q x) (l : ControlMessage) → Known n v.wave v.gifts x l.from l.wave l.token
+    → Path v.wave x.at l.from l.to l.wave l.token → l.processes ≡ n → l.to < n
+    → Spent l.from l.wave l.token ((came n x (Some l)).at l.to)
+spent_came n q x few v l t way same m =
+    let hold = v.inv.each l.to m in
+    let mine : is_for l (x.at l.to) ≡ true = is_for_all l (x.at l.to) (same ∙ sym hold.processes) hold.number in
+    rw (lt-ltb l.to n m, eq-eqb l.to l.to refl, mine) (first_spent n q x few v l.to m l.from l.wave l.token t way)
+
+pub once : OnceLaw
+once n k later events l few there =
+    let x : World = after n events in
+    let v = good_after n events in
+    let known_of : Known n v.1.wave v.1.gifts x l.from l.wave l.token × Path v.1.wave x.at l.from l.to l.wave l.token
+    = rw there at (known_at n v.1.wave v.1.gifts x x.controls k v.1.inv.controls) in
+    let same : l.processes ≡ n = of_at n x.controls k l (slim_after n events).1 there in
+    let y : World = after n (later ++ Comes k ∷ events) in
+    elim (cases_lt l.to n) [
+      | inl m ↦
+          let came_so : Spent l.from l.wave l.token ((after n (Comes k ∷ events)).at l.to)
+          = subst (λ o. Spent l.from l.wave l.token ((came n x o).at l.to)) (sym there)
+          (spent_came n v.0 x few v.1 l known_of.0 known_of.1 same m) in
+          let now : Spent l.from l.wave l.token (y.at l.to) =
+          spent_after n l.from l.wave l.to l.token later (Comes k ∷ events) came_so in
+          and_right _ _ (and_right _ _ (spent_is_not_due l.from l.wave l.token (y.at l.to) now))
+      | inr past ↦ and_left _ _ (le-ltb l.to n past)
+    ]
+
+-- ==== Liveness in one epoch.
+-- The move returns something to do.
+abbrev DoesStep : Move → Type 0
+DoesStep m = is_step m.next ≡ true
+
+ready_here : (p : EpochState) → p.here ≡ true → ready p ≡ p
+ready_here p here = ready_cases p (λ z. z ≡ p) (λ number o away. absurd (cc (away, here))) refl
+
+-- A process that knows the end goes on to notify its children.
+pub moved_over : (p : EpochState) → p.over ≡ true → moved p ≡ acts p
+moved_over p over =
+    let none : Move = record { state = p; next = Nothing } in
+    ap (λ b. cond b none (acts (ready p)))
+    (and_left _ _ (and_left _ _ (and_left _ _ (and_left _ _ (and_right (eqb p.number 0) (not p.over) (not_from_true p.over over))))))
+    ∙ ap acts (ready_cases p (λ z. z ≡ p) (λ number o away. absurd (cc (o, over))) refl)
+
+acts_down : (p : EpochState) → p.over ≡ false → p.here ≡ true → p.down_left ≡ true → DoesStep (acts p)
+acts_down p o h d = rw (o, h, d)
+
+acts_down_right : (p : EpochState) → p.over ≡ false → p.here ≡ true → p.down_left ≡ false → p.down_right ≡ true → DoesStep (acts p)
+acts_down_right p o h dl dr = rw (o, h, dl, dr)
+
+gives_something : (p : EpochState) → DoesStep (gives p)
+gives_something p = cond_both (eqb p.number 0) _ _ DoesStep (λ t. cond_both (is_end p) _ _ DoesStep (λ t. refl) (λ t. refl)) (λ t. refl)
+
+acts_gives : (p : EpochState) → p.over ≡ false → p.here ≡ true → p.down_left ≡ false → p.down_right ≡ false → can_give p ≡ true
+    → DoesStep (acts p)
+acts_gives p o h dl dr g =
+    cond_both p.over _ _ DoesStep (λ t. absurd (cc (t, o))) (λ a.
+    cond_both p.here _ _ DoesStep (λ b.
+    cond_both p.down_left _ _ DoesStep (λ t. absurd (cc (t, dl))) (λ c.
+    cond_both p.down_right _ _ DoesStep (λ t. absurd (cc (t, dr))) (λ d.
+    cond_both (can_give p) _ _ DoesStep (λ t. gives_something p) (λ t. absurd (cc (t, g)))))) (λ t. absurd (cc (t, h))))
+
+can_give_from : (p : EpochState) → p.up_left ≡ false → p.up_right ≡ false → p.pending ≡ 0 → p.taken_sent + p.sent < 2 ^ 64
+    → p.taken_received + p.received < 2 ^ 64 → can_give p ≡ true
+can_give_from p l r i s t =
+    and_from _ _
+    (and_from _ _ (and_from _ _ (and_from _ _ (not_from_false p.up_left l) (not_from_false p.up_right r)) (eq-eqb p.pending 0 i))
+    (fits p.taken_sent p.sent s)) (fits p.taken_received p.received t)
+
+-- An idle process that a wave has just come to has something to do.
+acts_opened : (p : EpochState) (w : ℕ) → p.over ≡ false → p.pending ≡ 0 → p.sent ≤ LIMIT → p.received ≤ LIMIT → DoesStep (acts (opens w p))
+acts_opened p w o i s r =
+    elim (cases_Bool (has p (left_of p))) [
+      | inl t ↦ acts_down (opens w p) o refl t
+      | inr f ↦
+          elim (cases_Bool (has p (right_of p))) [
+            | inl t ↦ acts_down_right (opens w p) o refl f t
+            | inr e ↦ acts_gives (opens w p) o refl f e (can_give_from (opens w p) f e i (omega (arith, s)) (omega (arith, r)))
+          ]
+    ]
+
+-- The control message is to a process that does not know the end.
+abbrev pub IsOpenTo : World → Option ControlMessage → Type 0
+IsOpenTo x None = Unit {0}
+IsOpenTo x (Some l) = (x.at l.to).over ≡ false
+
+abbrev pub IsToOpen : World → Event → Type 0
+IsToOpen x (Does i a) = Unit {0}
+IsToOpen x (Comes k) = IsOpenTo x (control_at x.controls k)
+
+module _ (n q : ℕ) (x : World) (few : n ≤ 2 ^ 20) (quiet : IsQuiet n x) (v : Good n q x) where
+  abbrev Useful : Type 0
+  Useful = (e : Event) × (is_useful n x e ≡ true)
+
+  -- A useful event; if it is a control message, its receiver does not know the end.
+  abbrev Telling : Type 0
+  Telling = (u : Useful) × IsToOpen x u.0
+
+  moves_on : (i : ℕ) → i < n → DoesStep (moved (x.at i)) → Useful
+  moves_on i l d = (Does i Moves, and_from (ltb i n) (is_step (moved (x.at i)).next) (lt-ltb i n l) d)
+
+  here_moves : (i : ℕ) → i < n → (x.at i).here ≡ true → DoesStep (acts (x.at i)) → Useful
+  here_moves i l h d = moves_on i l (subst DoesStep (sym (moves_are n q i x l v ∙ ap acts (ready_here (x.at i) h))) d)
+
+  comes_on : (a : ControlMessage) → Has x.controls a → a.processes ≡ n → a.to < n → is_due a.from a.wave a.token (x.at a.to) ≡ true → Useful
+  comes_on a h same l d =
+      let hold = v.inv.each a.to l in (
+        Comes h.which,
+        rw h.there
+            (and_from (ltb a.to n) _ (lt-ltb a.to n l)
+            (and_from (is_for a (x.at a.to)) (is_due a.from a.wave a.token (x.at a.to))
+            (is_for_all a (x.at a.to) (same ∙ sym hold.processes) hold.number) d)),
+      )
+
+  -- The newest wave is on its way to child c.
+  down_comes : (i c : ℕ) → c < n → (x.at c).here ≡ false → ((x.at c).wave ≡ v.wave → ⊥)
+      → Has x.controls (control_of n i c v.wave Down) → Useful
+  down_comes i c l away other h =
+      let hold : Holds n v.wave v.floor v.gifts x.at c (x.at c) = v.inv.each c l in
+      comes_on (control_of n i c v.wave Down) h refl l
+      (and_from (not (x.at c).here) (eqb v.wave ((x.at c).wave + 1)) (not_from_false (x.at c).here away)
+      (eq-eqb _ _ (omega (arith, hold.near, hold.close, other))))
+
+  -- The sums of child c are on their way to its parent.
+  up_comes : (i c s r : ℕ) → i < n → (x.at i).here ≡ true → c < n → parent c ≡ i
+      → (x.at i).taken_sent + LIMIT * size n c < 2 ^ 64 → (x.at i).taken_received + LIMIT * size n c < 2 ^ 64
+      → HasGiven v.wave (x.at c) → (is_left c (x.at i) || is_right c (x.at i)) ≡ true
+      → Has x.controls (control_of n c (parent c) v.wave (Up s r)) → Useful
+  up_comes i c s r l here m e room_sent room_received k d h =
+      let known_of : IsKnown n v.wave v.gifts x (control_at x.controls h.which) =
+      known_at n v.wave v.gifts x x.controls h.which v.inv.controls in
+      let report : Reported v.wave v.gifts x.at c s r = (rw h.there at known_of).0.1 refl in
+      let small : IsSmallGift n c v.gifts = gift_small n q v.wave v.floor v.gifts x v.inv c (λ z. k) in
+      let wave : (x.at i).wave ≡ v.wave = ((v.inv.each i l).here here).wave in
+      comes_on (control_of n c i v.wave (Up s r)) (rw e at h) refl l
+      (and_from _ _
+      (and_from _ _
+      (and_from _ _ (and_from (x.at i).here (eqb v.wave (x.at i).wave) here (eq-eqb _ _ (sym wave)))
+      (fits (x.at i).taken_sent s (omega (arith, report.sent, small.sent, room_sent))))
+      (fits (x.at i).taken_received r (omega (arith, report.received, small.received, room_received))))
+      d)
+
+  -- If no process knows the end and a wave is at process i, a useful event is possible at i or below it.
+  module _ (open_yet : (i : ℕ) → i < n → (x.at i).over ≡ false) where
+    -- a child that has not reported
+    below : (i c : ℕ) → i < n → (x.at i).here ≡ true → c < n → parent c ≡ i → 0 < c
+        → (x.at i).taken_sent + LIMIT * size n c < 2 ^ 64 → (x.at i).taken_received + LIMIT * size n c < 2 ^ 64
+        → (is_left c (x.at i) || is_right c (x.at i)) ≡ true
+        → Has x.controls (control_of n i c v.wave Down) → ((x.at c).here ≡ true → Useful) → Useful
+    below i c l here m e positive room_sent room_received d down deeper =
+        elim (cases_Bool (x.at c).here) [
+          | inl t ↦ deeper t
+          | inr away ↦
+              elim (cases_eq (x.at c).wave v.wave) [
+                | inl same ↦
+                    let k : HasGiven v.wave (x.at c) = record { wave = same; gone = away } in
+                    let z = (v.inv.posts c m).up positive ((v.inv.each i l).here here).begun same away in
+                    up_comes i c z.0 z.1 l here m e room_sent room_received k d z.2
+                | inr other ↦ down_comes i c m away other down
+              ]
+        ]
+
+    wave_on : (b i : ℕ) → n ≤ i + b → i < n → (x.at i).here ≡ true → Useful
+    wave_on zero i near l here = absurd (omega arith)
+    wave_on (suc b) i near l here =
+        let p : EpochState = x.at i in
+        let hold : Holds n v.wave v.floor v.gifts x.at i p = v.inv.each i l in
+        let z : Here n v.wave v.gifts x.at i p = hold.here here in
+        let posts : Posts n v.wave x.controls i p = v.inv.posts i l in
+        let o : p.over ≡ false = open_yet i l in
+        let room = rooms n q x few v i l here in
+        elim (cases_Bool p.down_left) [
+          | inl t ↦ here_moves i l here (acts_down p o here t)
+          | inr dl ↦
+              elim (cases_Bool p.up_left) [
+                | inl t ↦
+                    let m : 2 * i + 1 < n = z.left_there t in
+                    below i (2 * i + 1) l here m (omega arith) (omega arith) (room.0.left_child t) (room.1.left_child t)
+                    (or_left _ _ (and_from p.up_left (eqb (2 * i + 1) (left_of p)) t (eq-eqb _ _ (omega (arith, hold.number)))))
+                    (posts.down_left here dl m) (λ h. wave_on b (2 * i + 1) (omega (arith, near)) m h)
+                | inr ul ↦
+                    elim (cases_Bool p.down_right) [
+                      | inl t ↦ here_moves i l here (acts_down_right p o here dl t)
+                      | inr dr ↦
+                          elim (cases_Bool p.up_right) [
+                            | inl t ↦
+                                let m : 2 * i + 2 < n = z.right_there t in
+                                below i (2 * i + 2) l here m (omega arith) (omega arith) (room.0.right_child t) (room.1.right_child t)
+                                (or_right _ _ (and_from p.up_right (eqb (2 * i + 2) (right_of p)) t
+                                (eq-eqb _ _ (omega (arith, hold.number))))) (posts.down_right here dr m)
+                                (λ h. wave_on b (2 * i + 2) (omega (arith, near)) m h)
+                            | inr ur ↦
+                                here_moves i l here
+                                (acts_gives p o here dl dr
+                                (can_give_from p ul ur (quiet.idle i l) (omega (arith, room.0.own ul ur, (v.inv.small i l).sent))
+                                (omega (arith, room.1.own ul ur, (v.inv.small i l).received))))
+                          ]
+                    ]
+              ]
+        ]
+
+  -- Process 0 does not know the end.
+  root_on : 0 < n → (x.at 0).wave + 1 < 2 ^ 64 → (x.at 0).over ≡ false → Useful
+  root_on l room o =
+      let open_yet : (i : ℕ) → i < n → (x.at i).over ≡ false = λ i m.
+      elim (cases_Bool (x.at i).over) [ inl t ↦ absurd (cc ((v.inv.over i m t).root.over, o)) | inr f ↦ f ] in
+      elim (cases_Bool (x.at 0).here) [
+        | inl here ↦ wave_on open_yet n 0 (omega arith) l here
+        | inr away ↦
+            let p : EpochState = x.at 0 in
+            let starts : can_start p ≡ true =
+            and_from _ _
+            (and_from _ _
+            (and_from _ _ (and_from _ _ (eq-eqb p.number 0 (v.inv.each 0 l).number) (not_from_false p.over o)) (not_from_false p.here away))
+            (eq-eqb p.pending 0 (quiet.idle 0 l))) (fits p.wave 1 room) in
+            moves_on 0 l
+            (subst DoesStep (sym (moves_are n q 0 x l v))
+            (cond_both (can_start p) (opens (p.wave + 1) p) p (λ z. DoesStep (acts z))
+            (λ t. acts_opened p (p.wave + 1) o (quiet.idle 0 l) (v.inv.small 0 l).sent (v.inv.small 0 l).received)
+            (λ t. absurd (cc (t, starts)))))
+      ]
+
+  -- If process i knows the end, it has notified its children or can notify one.
+  tells_on : (i : ℕ) → i < n → (x.at i).over ≡ true → (has_notified (x.at i) ≡ true) ⊎ Telling
+  unfolding moves_on
+  tells_on i l o =
+      let p : EpochState = x.at i in
+      let tells_so : DoesStep (acts p) → Telling = λ d. (moves_on i l (subst DoesStep (sym (moved_over p o)) d), tt) in
+      elim (cases_Bool p.over_left) [
+        | inl t ↦ inr (tells_so (rw (o, t)))
+        | inr f ↦ elim (cases_Bool p.over_right) [ inl t ↦ inr (tells_so (rw (o, f, t))) | inr e ↦ inl (rw (o, f, e) refl) ]
+      ]
+
+  over_comes : (i c u : ℕ) → c < n → (x.at c).over ≡ false → Has x.controls (control_of n i c u Over) → Telling
+  unfolding comes_on
+  over_comes i c u l f h = (
+    comes_on (control_of n i c u Over) h refl l (not_from_false (x.at c).over f),
+    subst (λ o. IsOpenTo x o) (sym h.there) f,
+  )
+
+  -- The first b processes have notified their children, or a useful event is possible.
+  end_on : (x.at 0).over ≡ true → (b : ℕ) → b ≤ n → ((i : ℕ) → i < b → has_notified (x.at i) ≡ true) ⊎ Telling
+  end_on o zero l = inl (λ i m. absurd (omega arith))
+  end_on o (suc b) l =
+      elim (end_on o b (omega arith)) [
+        | inr e ↦ inr e
+        | inl all ↦
+            let more : (x.at b).over ≡ true → ((i : ℕ) → i < suc b → has_notified (x.at i) ≡ true) ⊎ Telling = λ t.
+            elim (tells_on b (omega arith) t) [
+              | inr e ↦ inr e
+              | inl d ↦ inl (λ i m. elim (cases_eq i b) [ inl e ↦ rw e d | inr off ↦ all i (omega (arith, off, m)) ])
+            ] in
+            elim (cases_Bool (x.at b).over) [
+              | inl t ↦ more t
+              | inr f ↦
+                  elim (cases_eq b 0) [
+                    | inl e ↦ absurd (cc (rw e at f, o))
+                    | inr off ↦
+                        let above : ℕ = parent b in
+                        let less : above < b = omega (arith, off) in
+                        let d = notified_parts (x.at above) (all above less) in
+                        let posts : Posts n v.wave x.controls above (x.at above) = v.inv.posts above (omega (arith, less, l)) in
+                        elim (cases_eq b (2 * above + 1)) [
+                          | inl e ↦
+                              let z = posts.over_left d.0 d.1 (omega (arith, e, l)) in
+                              inr (over_comes above b z.0 (omega (arith, l)) f (subst
+                              (λ c. Has x.controls (control_of n above c z.0 Over)) (sym e) z.1))
+                          | inr other ↦
+                              let e : b ≡ 2 * above + 2 = omega (arith, other, off) in
+                              let z = posts.over_right d.0 d.2 (omega (arith, e, l)) in
+                              inr (over_comes above b z.0 (omega (arith, l)) f (subst
+                              (λ c. Has x.controls (control_of n above c z.0 Over)) (sym e) z.1))
+                        ]
+                  ]
+            ]
+      ]
+
+to_open : (n : ℕ) (x : World) (e : Event) → ((i : ℕ) → i < n → (x.at i).over ≡ false) → is_useful n x e ≡ true → IsToOpen x e
+to_open n x (Does i a) unknown t = tt
+to_open n x (Comes k) unknown t = at_receiver (control_at x.controls k) t where
+  at_receiver : (o : Option ControlMessage) → is_taken n x o ≡ true → IsOpenTo x o
+  at_receiver None t = tt
+  at_receiver (Some l) t =
+      unknown l.to (ltb-true l.to n (and_parts (ltb l.to n) (is_for l (x.at l.to) && is_due l.from l.wave l.token (x.at l.to)) t).0)
+
+-- `next` returns `Ended` at a process that has notified its children.
+pub notified_ended : (p : EpochState) → has_notified p ≡ true → (moved p).next ≡ Ended
+notified_ended p t = let a = notified_parts p t in ap (λ (m : Move). m.next) (moved_over p a.0) ∙ rw (a.0, a.1, a.2)
+
+-- The same, with the bound on the number of waves needed only until process 0 knows the end.
+pub goes_on_to : (n : ℕ) (events : List Event) → 0 < n → n ≤ 2 ^ 20
+    → (((after n events).at 0).over ≡ false → ((after n events).at 0).wave + 1 < 2 ^ 64) → IsQuiet n (after n events)
+    → ((i : ℕ) → i < n → has_notified ((after n events).at i) ≡ true)
+    ⊎ ((u : (e : Event) × (is_useful n (after n events) e ≡ true)) × IsToOpen (after n events) u.0)
+goes_on_to n events l few room quiet =
+    let v = good_after n events in
+    let x : World = after n events in
+    elim (cases_Bool (x.at 0).over) [
+      | inl t ↦ end_on n v.0 x few quiet v.1 t n (omega arith)
+      | inr f ↦
+          let u : (e : Event) × (is_useful n x e ≡ true) = root_on n v.0 x few quiet v.1 l (room f) f in
+          let none : (i : ℕ) → i < n → (x.at i).over ≡ false = λ i m.
+          elim (cases_Bool (x.at i).over) [ inl t ↦ absurd (cc ((v.1.inv.over i m t).root.over, f)) | inr d ↦ d ] in
+          inr (u, to_open n x u.0 none u.1)
+    ]
+
+pub goes_on : GoesOnLaw
+goes_on n events l few room quiet =
+    elim (goes_on_to n events l few (λ f. room) quiet) [
+      | inl all ↦ inl (λ i m. notified_ended ((after n events).at i) (all i m))
+      | inr u ↦ inr u.0
+    ]

@@ -1,0 +1,472 @@
+-- Safety: the invariant holds at the beginning and every event preserves it, so the end is never detected too early.
+pub mod Judgement
+pub use Judgement.*
+
+begins : (n : ℕ) → Good n 0 (beginning n)
+begins n =
+    record {
+      wave = 0;
+      floor = λ i. 0;
+      gifts = record { own = λ i. none; all = λ i. none };
+      inv = record {
+        balance = omega (arith, total-zero n);
+        each = λ i m.
+            record {
+              number = refl;
+              processes = refl;
+              near = omega arith;
+              close = omega arith;
+              floor = omega arith;
+              above = λ p e. refl;
+              given = λ k.
+                  record {
+                    sent = omega arith;
+                    received = omega arith;
+                    idle = λ b e. absurd (omega (arith, b));
+                    left = λ m. record { wave = refl; gone = refl };
+                    right = λ m. record { wave = refl; gone = refl };
+                    sums = refl;
+                  };
+              here = λ f. absurd (cc f);
+            };
+        beyond = λ c m. refl;
+        root = record { wave = refl; floors = λ f. absurd (cc f); last = λ f. absurd (cc f); quiet = λ f. absurd (cc f) };
+        over = λ i m f. absurd (cc f);
+        controls = tt;
+        pace = newest_pace n 0 _ (beginning n);
+        posts = λ i m.
+            record {
+              down_left = λ f. absurd (cc f);
+              down_right = λ f. absurd (cc f);
+              up = λ a b. absurd (omega (arith, b));
+              over_left = λ f. absurd (cc f);
+              over_right = λ f. absurd (cc f);
+            };
+        small = λ i m. record { sent = omega arith; received = omega arith };
+      };
+    }
+
+-- After a move of process i the invariant holds.
+abbrev IsGoodMove : ℕ → ℕ → ℕ → World → Move → Type 0
+IsGoodMove n q i x m = Good n q (record x { at = put i m.state x.at; controls = posted m.next x.controls })
+
+-- p, which owes other control messages
+abbrev owing : EpochState → Bool → Bool → Bool → Bool → Bool → EpochState
+owing p dl dr told ol or = record p { down_left = dl; down_right = dr; over = told; over_left = ol; over_right = or }
+
+module _ (n q i : ℕ) (x : World) (l : i < n) (v : Good n q x) where
+  -- The control messages that a process owes change, or it learns of the end.
+  good_owes : (dl dr told ol or : Bool) (ls : List ControlMessage)
+      → (Settled (x.at i) → Settled (owing (x.at i) dl dr told ol or))
+      → (told ≡ true → ((x.at i).over ≡ true) ⊎ Finished n v.wave (changed i (owing (x.at i) dl dr told ol or) x.under_way ls x))
+      → (AllKnown n v.wave v.gifts (changed i (owing (x.at i) dl dr told ol or) x.under_way ls x) x.controls
+      → AllKnown n v.wave v.gifts (changed i (owing (x.at i) dl dr told ol or) x.under_way ls x) ls)
+      → ((a : ControlMessage) → Has x.controls a → Has ls a) → Posts n v.wave ls i (owing (x.at i) dl dr told ol or)
+      → Good n q (changed i (owing (x.at i) dl dr told ol or) x.under_way ls x)
+  good_owes dl dr told ol or ls settled over known_of more posts =
+      let p : EpochState = owing (x.at i) dl dr told ol or in
+      let hold : Holds n v.wave v.floor v.gifts x.at i (x.at i) = v.inv.each i l in
+      let k : Keeps v.wave v.gifts v.gifts i (x.at i) p = same_reports v.wave i v.gifts (x.at i) p (λ e. e) (λ y. y) in
+      good
+      (step n q v.wave i v.floor v.gifts v.gifts x l v.inv p k refl refl x.under_way ls q (balance_same n i x p refl refl v.inv.balance)
+      (holds_kept n v.wave i v.gifts v.gifts x.at p k l v.floor v.floor i p (λ y. (refl, refl)) hold.floor hold)
+      (λ e. (refl, refl, settled)) (λ y here. v.inv.root.floors here i l y) (quiet_put n i x p ls (λ e. e)) over known_of
+      (pace_kept n q v.wave i v.gifts v.gifts x p ls l v.inv.pace refl refl refl (λ e. refl) (λ j off. refl)
+      (λ m y. v.inv.pace.late m i l y)) more posts (v.inv.small i l))
+
+  -- A process that learns of the end owes a notification to each child.
+  good_ends : Finished n v.wave (record x { at = put i (ends (x.at i)) x.at }) → Good n q (record x { at = put i (ends (x.at i)) x.at })
+  good_ends f =
+      let p : EpochState = x.at i in
+      let hold : Holds n v.wave v.floor v.gifts x.at i p = v.inv.each i l in
+      let had : Posts n v.wave x.controls i p = v.inv.posts i l in
+      good_owes p.down_left p.down_right true (has p (left_of p)) (has p (right_of p)) x.controls
+      (λ o. record { over = refl; left = o.left; right = o.right }) (λ e. inr f) (λ t. t) (λ a h. h)
+      (record {
+        down_left = had.down_left;
+        down_right = had.down_right;
+        up = had.up;
+        over_left = λ f e m. no_child n i 1 p hold.number hold.processes e m;
+        over_right = λ f e m. no_child n i 2 p hold.number hold.processes e m;
+      })
+
+  -- A process sends a control message to a child.
+  good_message : (dl dr ol or : Bool) (to : ℕ) (c : Token)
+      → ((y : World) → (Finished n v.wave x → Finished n v.wave y) → Known n v.wave v.gifts y (x.at i).number (x.at i).wave c)
+      → Path v.wave (put i (owing (x.at i) dl dr (x.at i).over ol or) x.at) (x.at i).number to (x.at i).wave c
+      → (Posts n v.wave (control (x.at i) to c ∷ x.controls) i (x.at i) → Posts n v.wave (control (x.at i) to c ∷ x.controls) i
+      (owing (x.at i) dl dr (x.at i).over ol or))
+      → IsGoodMove n q i x (record { state = owing (x.at i) dl dr (x.at i).over ol or; next = Send (control (x.at i) to c) })
+  good_message dl dr ol or to c known_of way posts =
+      let ls : List ControlMessage = control (x.at i) to c ∷ x.controls in
+      let p : EpochState = owing (x.at i) dl dr (x.at i).over ol or in
+      let more : (b : ControlMessage) → Has x.controls b → Has ls b = λ b h. has_more _ b x.controls h in
+      let still : Finished n v.wave x → Finished n v.wave (changed i p x.under_way ls x)
+      = finished_put n v.wave i v.gifts v.gifts x p x.under_way ls (same_reports v.wave i v.gifts (x.at i) p (λ e. e) (λ y. y))
+      (quiet_put n i x p ls (λ e. e)) (λ e o. o) in
+      good_owes dl dr (x.at i).over ol or ls (λ o. o) (λ o. inl o) (λ t. ((known_of (changed i p x.under_way ls x) still, way), t)) more
+      (posts (posts_more n v.wave x.controls ls i (x.at i) more (v.inv.posts i l)))
+
+-- Process 0 judges the wave.
+module _ (n q : ℕ) (x : World) (l : 0 < n) (v : Good n q x) (c : CanGive (x.at 0)) where
+  root_ends : is_end (x.at 0) ≡ true → IsGoodMove n q 0 x (record { state = ends (x.at 0); next = Again })
+  root_ends t =
+      let both = and_parts (x.at 0).known (eqb (x.at 0).last_received ((x.at 0).taken_sent + (x.at 0).sent)) t in
+      let quiet = end_is_quiet n q v.wave v.floor v.gifts x l v.inv c.here c.idle c.left c.right both.0 (eqb-true _ _ both.1) in
+      good_ends n q 0 x l v
+      (record {
+        quiet = quiet_put n 0 x (ends (x.at 0)) x.controls (λ e. e) quiet;
+        root = record { over = refl; left = c.left; right = c.right };
+        given = λ j p m.
+            rw (ne_eqb j 0 (λ e. absurd (omega (arith, e, p))))
+            (all_given n q v.wave v.floor v.gifts x l v.inv c.here c.idle c.left c.right j p m);
+      })
+
+  root_goes_on : is_end (x.at 0) ≡ false → IsGoodMove n q 0 x (record {
+    state = record (x.at 0) { here = false; known = true; last_received = (x.at 0).taken_received + (x.at 0).received };
+    next = Again;
+  })
+  root_goes_on t = good (judge_step n q v.wave v.floor v.gifts x l v.inv c.here c.idle c.left c.right t)
+
+total_one : (n : ℕ) (f : ℕ → ℕ) → n ≡ 1 → total n f ≡ f 0
+total_one n f e = rw e (omega arith)
+
+module _ (n q i : ℕ) (x : World) (l : i < n) (v : Good n q x) where
+  is_root : eqb (x.at i).number 0 ≡ true → i ≡ 0
+  is_root z = sym (v.inv.each i l).number ∙ eqb-true (x.at i).number 0 z
+
+  good_acts : IsGoodMove n q i x (acts (x.at i))
+  good_acts =
+      let p : EpochState = x.at i in
+      let hold : Holds n v.wave v.floor v.gifts x.at i p = v.inv.each i l in
+      let down : (dl dr : Bool) (to : ℕ) → p.number ≡ parent to
+      → Path v.wave (put i (owing p dl dr p.over p.over_left p.over_right) x.at) p.number to p.wave Down = λ dl dr to d.
+      let new : EpochState = owing p dl dr p.over p.over_left p.over_right in (
+        d,
+        λ e. subst (λ j. (put i new x.at j).wave ≡ v.wave) (sym hold.number) (put_same (λ (z : EpochState). z.wave) i i new x.at refl ∙ e),
+      ) in
+      acts_cases p (IsGoodMove n q i x) (λ o t.
+      good_message n q i x l v p.down_left p.down_right false p.over_right (left_of p) Over (λ y still. still (v.inv.over i l o)) tt (λ had.
+      record {
+        down_left = had.down_left;
+        down_right = had.down_right;
+        up = had.up;
+        over_left = λ f e m. (p.wave, record { which = 0; there = rw (hold.number, hold.processes) });
+        over_right = had.over_right;
+      }))
+      (λ o t.
+      good_message n q i x l v p.down_left p.down_right p.over_left false (right_of p) Over (λ y still. still (v.inv.over i l o)) tt (λ had.
+      record {
+        down_left = had.down_left;
+        down_right = had.down_right;
+        up = had.up;
+        over_left = had.over_left;
+        over_right = λ f e m. (p.wave, record { which = 0; there = rw (hold.number, hold.processes) });
+      }))
+      (λ o a b. good_same n q i x l v) (λ o h t.
+      good_message n q i x l v false p.down_right p.over_left p.over_right (left_of p) Down (λ y still. hold.near)
+      (down false p.down_right (left_of p) (omega arith)) (λ had.
+      record {
+        down_left = λ f e m. record { which = 0; there = rw (hold.number, hold.processes, (hold.here h).wave) };
+        down_right = had.down_right;
+        up = had.up;
+        over_left = had.over_left;
+        over_right = had.over_right;
+      }))
+      (λ o h t.
+      good_message n q i x l v p.down_left false p.over_left p.over_right (right_of p) Down (λ y still. hold.near)
+      (down p.down_left false (right_of p) (omega arith)) (λ had.
+      record {
+        down_left = had.down_left;
+        down_right = λ f e m. record { which = 0; there = rw (hold.number, hold.processes, (hold.here h).wave) };
+        up = had.up;
+        over_left = had.over_left;
+        over_right = had.over_right;
+      }))
+      (λ c z t.
+      let e : i ≡ 0 = is_root z in
+      subst (λ k. IsGoodMove n q k x (record { state = ends (x.at k); next = Again })) (sym e)
+      (root_ends n q x (rw e at l) v (rw e at c) (rw e at t))) (λ c z t.
+      let e : i ≡ 0 = is_root z in
+      subst (λ k.
+      IsGoodMove n q k x (record {
+        state = record (x.at k) { here = false; known = true; last_received = (x.at k).taken_received + (x.at k).received };
+        next = Again;
+      })) (sym e) (root_goes_on n q x (rw e at l) v (rw e at c) (rw e at t)))
+      (λ c z.
+      good (give_step n q v.wave i v.floor v.gifts x l v.inv c.here c.idle c.left c.right
+      (λ e. eqb-false p.number 0 z (hold.number ∙ e))))
+      (λ o. good_same n q i x l v)
+
+  pub good_ready : Good n q (record x { at = put i (ready (x.at i)) x.at })
+  good_ready =
+      ready_cases (x.at i) (λ z. Good n q (record x { at = put i z x.at })) (λ number o away.
+      let e : i ≡ 0 = sym (v.inv.each i l).number ∙ number in
+      subst (λ z. Good n q (record x { at = put z (opens ((x.at z).wave + 1) (x.at z)) x.at })) (sym e)
+      (good (start_step n q v.wave v.floor v.gifts x (rw e at l) v.inv (rw e at away) (rw e at o)))) (good_same n q i x l v)
+
+  -- The counts are right: `next` is not refused.
+  pub counted : is_miscounted (x.at i) ≡ false
+  counted = false_from_ne_true _ (λ t.
+      let p : EpochState = x.at i in
+      let a = and_parts _ (ltb (counts_sent p) p.last_received) t in
+      let b = and_parts _ (is_complete p) a.0 in
+      let c = and_parts _ (eqb p.pending 0) b.0 in
+      let d = and_parts _ p.known c.0 in
+      let e = and_parts (eqb p.number 0) (not p.over) d.0 in
+      let root : i ≡ 0 = is_root e.0 in
+      let first : 0 < n = rw root at l in
+      let known : (x.at 0).known ≡ true = rw root at d.1 in
+      let more : (x.at 0).last_received ≤ counts_sent (x.at 0) → ⊥
+      = λ z. absurd (omega (arith, ltb-true (counts_sent (x.at 0)) (x.at 0).last_received (rw root at a.1), z)) in
+      elim (cases_Bool (x.at 0).here) [
+        | inl here ↦
+            let f = and_parts _ (not (x.at 0).up_right) (rw (root, here) at b.1) in
+            let g = and_parts _ (not (x.at 0).up_left) f.0 in
+            more
+            (rw here
+            (no_less n q v.wave v.floor v.gifts x first v.inv here (eqb-true _ 0 (rw root at c.1)) (not-true _ g.1) (not-true _ f.1) known))
+        | inr away ↦
+            let alone : ltb (2 * (x.at 0).number + 1) (x.at 0).processes ≡ false = not-true _ (rw (root, away) at b.1) in
+            let hold : Holds n v.wave v.floor v.gifts x.at 0 (x.at 0) = v.inv.each 0 first in
+            let one : n ≡ 1
+            = omega (arith, first, ltb-false (2 * (x.at 0).number + 1) (x.at 0).processes alone, hold.number, hold.processes) in
+            let sum : total n v.floor ≡ v.floor 0 = total_one n v.floor one in
+            more (rw away (omega (arith, v.inv.root.last known, sum, hold.floor)))
+      ])
+
+pub moves_are : (n q i : ℕ) (x : World) → i < n → Good n q x → moved (x.at i) ≡ acts (ready (x.at i))
+moves_are n q i x l v =
+    let none : Move = record { state = x.at i; next = Nothing } in ap (λ b. cond b none (acts (ready (x.at i)))) (counted n q i x l v)
+
+good_moves : (n q i : ℕ) (x : World) → i < n → Good n q x → IsGoodMove n q i x (moved (x.at i))
+good_moves n q i x l v =
+    subst (IsGoodMove n q i x) (sym (moves_are n q i x l v))
+    (acted_from i (ready (x.at i)) x.at (λ f a. Good n q (record x { at = f; controls = posted a x.controls }))
+    (good_acts n q i (record x { at = put i (ready (x.at i)) x.at }) l (good_ready n q i x l v)))
+
+module _ (n q i : ℕ) (x : World) (l : i < n) (v : Good n q x) where
+  good_takes : (from wave : ℕ) (c : Token) → Known n v.wave v.gifts x from wave c → Path v.wave x.at from i wave c
+      → Good n q (record x { at = put i (takes from wave c (x.at i)) x.at })
+  good_takes from wave c t way =
+      let p : EpochState = x.at i in
+      let hold : Holds n v.wave v.floor v.gifts x.at i p = v.inv.each i l in
+      takes_cases from wave c p (λ c. Known n v.wave v.gifts x from wave c × Path v.wave x.at from i wave c)
+      (λ z. Good n q (record x { at = put i z x.at })) (t, way) (λ t away next.
+      good (visit_step n q v.wave i v.floor v.gifts x l v.inv wave away next t.0
+      (λ p. subst (λ j. (x.at j).wave ≡ v.wave) t.1.0 (t.1.1 (omega (arith, next, t.0, hold.close)))))) (λ s r t here same waits e.
+      let from_left : from ≡ 2 * i + 1 = omega (arith, e, hold.number) in
+      good (left_step n q v.wave i v.floor v.gifts x l v.inv s r here waits (rw from_left at (t.0.1 (same ∙ (hold.here here).wave)))))
+      (λ s r t here same waits e.
+      let from_right : from ≡ 2 * i + 2 = omega (arith, e, hold.number) in
+      good (right_step n q v.wave i v.floor v.gifts x l v.inv s r here waits (rw from_right at (t.0.1 (same ∙ (hold.here here).wave)))))
+      (λ t o.
+      good_ends n q i x l v
+      (finished_put n v.wave i v.gifts v.gifts x (ends p) x.under_way x.controls
+      (same_reports v.wave i v.gifts p (ends p) (λ e. e) (λ y. y)) (quiet_put n i x (ends p) x.controls (λ e. e))
+      (λ e s. record { over = refl; left = s.left; right = s.right }) t.0)) (λ d. good_same n q i x l v)
+
+abbrev pub IsKnown : ℕ → ℕ → Gifts → World → Option ControlMessage → Type 0
+IsKnown n w g x None = Unit {0}
+IsKnown n w g x (Some a) = Known n w g x a.from a.wave a.token × Path w x.at a.from a.to a.wave a.token
+
+pub known_at : (n w : ℕ) (g : Gifts) (x : World) (ls : List ControlMessage) (k : ℕ) → AllKnown n w g x ls
+    → IsKnown n w g x (control_at ls k)
+known_at n w g x [] k t = tt
+known_at n w g x (a ∷ ls) zero t = t.0
+known_at n w g x (a ∷ ls) (suc k) t = known_at n w g x ls k t.1
+
+good_came : (n q : ℕ) (x : World) (v : Good n q x) (o : Option ControlMessage) → IsKnown n v.wave v.gifts x o → Good n q (came n x o)
+good_came n q x v None t = v
+good_came n q x v (Some a) t =
+    cond_both (ltb a.to n) (record x { at = put a.to (took a (x.at a.to)) x.at }) x (Good n q) (λ l.
+    cond_both (is_for a (x.at a.to)) (takes a.from a.wave a.token (x.at a.to)) (x.at a.to)
+    (λ z. Good n q (record x { at = put a.to z x.at })) (λ e. good_takes n q a.to x (ltb-true a.to n l) v a.from a.wave a.token t.0 t.1)
+    (λ e. good_same n q a.to x (ltb-true a.to n l) v)) (λ l. v)
+
+good_does : (n q : ℕ) (x : World) (i : ℕ) (a : Act) → i < n → Good n q x → (c : ℕ) × Good n c (does n x i a)
+good_does n q x i Opens l v = (q, good_opens n q i x l v)
+good_does n q x i Closes l v = (q, good_closes n q i x l v)
+good_does n q x i (Sends j) l v =
+    cond_both (can_send (x.at i) && ltb j n) _ x (λ z. (c : ℕ) × Good n c z)
+    (λ t. let a = and_parts (can_send (x.at i)) (ltb j n) t in (v.wave, good_sends n q i x l v j (ltb-true j n a.1) a.0)) (λ t. (q, v))
+good_does n q x i Receives l v =
+    cond_both (can_receive (x.at i) && ltb 0 (x.under_way i)) _ x (λ z. (c : ℕ) × Good n c z)
+    (λ t. let a = and_parts (can_receive (x.at i)) (ltb 0 (x.under_way i)) t in
+    (v.wave, good_receives n q i x l v a.0 (ltb-true 0 (x.under_way i) a.1))) (λ t. (q, v))
+good_does n q x i Moves l v = (q, good_moves n q i x l v)
+
+pub good_happens : (n q : ℕ) (x : World) (e : Event) → Good n q x → (c : ℕ) × Good n c (happens n x e)
+good_happens n q x (Does i a) v =
+    cond_both (ltb i n) (does n x i a) x (λ z. (c : ℕ) × Good n c z) (λ t. good_does n q x i a (ltb-true i n t) v) (λ t. (q, v))
+good_happens n q x (Comes k) v = (q, good_came n q x v (control_at x.controls k) (known_at n v.wave v.gifts x x.controls k v.inv.controls))
+
+pub good_after : (n : ℕ) (events : List Event) → (c : ℕ) × Good n c (after n events)
+good_after n [] = (0, begins n)
+good_after n (e ∷ past) = let v = good_after n past in good_happens n v.0 (after n past) e v.1
+
+-- ==== What every step preserves holds at all times: P says it of the processes and of the control messages sent.
+pub record IsKept (n : ℕ) (P : (ℕ → EpochState) → List ControlMessage → Type 0) : Type 0 where
+  pub count : (q i a s r : ℕ) (x : World) → i < n → Good n q x → P x.at x.controls
+      → P (put i (record (x.at i) { pending = a; sent = s; received = r }) x.at) x.controls
+  pub start : (q : ℕ) (x : World) → 0 < n → Good n q x → (x.at 0).over ≡ false → (x.at 0).here ≡ false → P x.at x.controls
+      → P (put 0 (opens ((x.at 0).wave + 1) (x.at 0)) x.at) x.controls
+  pub act : (q i : ℕ) (x : World) → i < n → Good n q x → P x.at x.controls
+      → P (put i (acts (x.at i)).state x.at) (posted (acts (x.at i)).next x.controls)
+  pub take : (q k : ℕ) (x : World) (v : Good n q x) (a : ControlMessage) → a.to < n → control_at x.controls k ≡ Some a
+      → Known n v.wave v.gifts x a.from a.wave a.token → P x.at x.controls
+      → P (put a.to (takes a.from a.wave a.token (x.at a.to)) x.at) x.controls
+
+module _ (n : ℕ) (P : (ℕ → EpochState) → List ControlMessage → Type 0) (k : IsKept n P) where
+  kept_ready : (q i : ℕ) (x : World) → i < n → Good n q x → P x.at x.controls → P (put i (ready (x.at i)) x.at) x.controls
+  kept_ready q i x l v h =
+      ready_cases (x.at i) (λ z. P (put i z x.at) x.controls) (λ number o away.
+      let e : i ≡ 0 = sym (v.inv.each i l).number ∙ number in
+      subst (λ z. P (put z (opens ((x.at z).wave + 1) (x.at z)) x.at) x.controls) (sym e)
+      (k.start q x (rw e at l) v (rw e at o) (rw e at away) h)) (subst (λ f. P f x.controls) (sym (put_id i x.at)) h)
+
+  kept_does : (q : ℕ) (x : World) (i : ℕ) (a : Act) → i < n → Good n q x → P x.at x.controls
+      → (a ≡ Moves) ⊎ IsCount i x (does n x i a) → P (does n x i a).at (does n x i a).controls
+  kept_does q x i a l v h (inl e) =
+      let y : World = record x { at = put i (ready (x.at i)) x.at } in
+      subst (λ a. P (does n x i a).at (does n x i a).controls) (sym e)
+      (subst (λ m. P (put i m.state x.at) (posted m.next x.controls)) (sym (moves_are n q i x l v))
+      (acted_from i (ready (x.at i)) x.at (λ f a. P f (posted a x.controls))
+      (k.act q i y l (good_ready n q i x l v) (kept_ready q i x l v h))))
+  kept_does q x i a l v h (inr c) =
+      subst (λ f. P f (does n x i a).controls) (sym c.at)
+      (subst (P (put i c.new x.at)) (sym c.controls)
+      (subst (λ z. P (put i z x.at) x.controls) (sym c.same) (k.count q i c.new.pending c.new.sent c.new.received x l v h)))
+
+  kept_came : (q j : ℕ) (x : World) (v : Good n q x) (o : Option ControlMessage) → control_at x.controls j ≡ o
+      → IsKnown n v.wave v.gifts x o → P x.at x.controls → P (came n x o).at (came n x o).controls
+  kept_came q j x v None e t h = h
+  kept_came q j x v (Some a) e t h =
+      cond_both (ltb a.to n) _ x (λ z. P z.at z.controls) (λ m.
+      let l : a.to < n = ltb-true a.to n m in
+      cond_both (is_for a (x.at a.to)) _ (x.at a.to) (λ z. P (put a.to z x.at) x.controls) (λ d. k.take q j x v a l e t.0 h)
+      (λ d. subst (λ f. P f x.controls) (sym (put_id a.to x.at)) h)) (λ m. h)
+
+  pub kept : (q : ℕ) (x : World) (e : Event) → Good n q x → P x.at x.controls → P (happens n x e).at (happens n x e).controls
+  kept q x (Does i a) v h =
+      cond_both (ltb i n) (does n x i a) x (λ z. P z.at z.controls)
+      (λ t. kept_does q x i a (ltb-true i n t) v h (does_counts n x i a)) (λ t. h)
+  kept q x (Comes j) v h = kept_came q j x v (control_at x.controls j) refl (known_at n v.wave v.gifts x x.controls j v.inv.controls) h
+
+  pub kept_after : (events : List Event) → P (λ i. blank i n) [] → P (after n events).at (after n events).controls
+  kept_after [] h = h
+  kept_after (e ∷ past) h = let v = good_after n past in kept v.0 (after n past) e v.1 (kept_after past h)
+
+  pub kept_later : (later events : List Event) → P (after n events).at (after n events).controls
+      → P (after n (later ++ events)).at (after n (later ++ events)).controls
+  kept_later [] events h = h
+  kept_later (e ∷ later) events h =
+      let v = good_after n (later ++ events) in kept v.0 (after n (later ++ events)) e v.1 (kept_later later events h)
+
+-- ==== A quiet world.
+moved_idle : (p : EpochState) → (moved p).state.pending ≡ p.pending
+moved_idle p =
+    cond_both (is_miscounted p) _ _ (λ (m : Move). m.state.pending ≡ p.pending) (λ t. refl)
+    (λ t. ap (λ (z : EpochState). z.pending) (acts_keeps (ready p)) ∙ ready_cases p (λ z. z.pending ≡ p.pending) (λ a b c. refl) refl)
+
+opened_idle : (p : EpochState) → p.pending ≡ 0 → (opened p).pending ≡ 0
+opened_idle p e =
+    cond_both (not (eqb p.pending 0) && ltb p.pending LIMIT) _ p (λ (z : EpochState). z.pending ≡ 0)
+    (λ t. absurd (eqb-false p.pending 0 (not-true _ (and_parts (not (eqb p.pending 0)) (ltb p.pending LIMIT) t).0) e)) (λ t. e)
+
+-- Nothing is sent or received there.
+pub none_sent : (n i j : ℕ) (x : World) → i < n → IsQuiet n x → does n x i (Sends j) ≡ x
+none_sent n i j x l z =
+    cond_both (can_send (x.at i) && ltb j n) _ x (λ y. y ≡ x) (λ t.
+    let a = and_parts (can_send (x.at i)) (ltb j n) t in
+    absurd (eqb-false (x.at i).pending 0 (not-true _ (and_parts (not (eqb (x.at i).pending 0)) (ltb (x.at i).sent LIMIT) a.0).0)
+    (z.idle i l))) (λ t. refl)
+
+pub none_received : (n i : ℕ) (x : World) → i < n → IsQuiet n x → does n x i Receives ≡ x
+none_received n i x l z =
+    cond_both (can_receive (x.at i) && ltb 0 (x.under_way i)) _ x (λ y. y ≡ x) (λ t.
+    let a = and_parts (can_receive (x.at i)) (ltb 0 (x.under_way i)) t in
+    absurd (omega (arith, ltb-true 0 (x.under_way i) a.1, z.none_under_way i l))) (λ t. refl)
+
+quiet_does : (n : ℕ) (x : World) (i : ℕ) (a : Act) → i < n → IsQuiet n x → IsQuiet n (does n x i a)
+quiet_does n x i Opens l z = quiet_put n i x (opened (x.at i)) x.controls (opened_idle (x.at i)) z
+quiet_does n x i Closes l z = quiet_put n i x (closed (x.at i)) x.controls (λ e. omega (arith, e)) z
+quiet_does n x i (Sends j) l z = subst (IsQuiet n) (sym (none_sent n i j x l z)) z
+quiet_does n x i Receives l z = subst (IsQuiet n) (sym (none_received n i x l z)) z
+quiet_does n x i Moves l z =
+    quiet_put n i x (moved (x.at i)).state (posted (moved (x.at i)).next x.controls) (λ e. moved_idle (x.at i) ∙ e) z
+
+quiet_came : (n : ℕ) (x : World) (o : Option ControlMessage) → IsQuiet n x → IsQuiet n (came n x o)
+quiet_came n x None z = z
+quiet_came n x (Some a) z =
+    cond_both (ltb a.to n) (record x { at = put a.to (took a (x.at a.to)) x.at }) x (IsQuiet n) (λ l.
+    quiet_put n a.to x (took a (x.at a.to)) x.controls (λ e.
+    cond_both (is_for a (x.at a.to)) (takes a.from a.wave a.token (x.at a.to)) (x.at a.to) (λ y. y.pending ≡ 0)
+    (λ t. takes_idle a.from a.wave a.token (x.at a.to) ∙ e) (λ t. e))
+    z) (λ l. z)
+
+quiet_happens : (n : ℕ) (x : World) (e : Event) → IsQuiet n x → IsQuiet n (happens n x e)
+quiet_happens n x (Does i a) z = cond_both (ltb i n) (does n x i a) x (IsQuiet n) (λ t. quiet_does n x i a (ltb-true i n t) z) (λ t. z)
+quiet_happens n x (Comes k) z = quiet_came n x (control_at x.controls k) z
+
+pub quiet_stays : QuietLaw
+quiet_stays n [] events z = z
+quiet_stays n (e ∷ later) events z = quiet_happens n (after n (later ++ events)) e (quiet_stays n later events z)
+
+pub never_early : NeverEarlyLaw
+never_early n i later events l over = quiet_stays n later events ((good_after n events).1.inv.over i l over).quiet
+
+pub notified_parts : (p : EpochState) → has_notified p ≡ true → (p.over ≡ true) × (p.over_left ≡ false) × (p.over_right ≡ false)
+notified_parts p t =
+    let a = and_parts (p.over && not p.over_left) (not p.over_right) t in
+    let b = and_parts p.over (not p.over_left) a.0 in (b.0, not-true p.over_left b.1, not-true p.over_right a.1)
+
+pub notified_over : (p : EpochState) → has_notified p ≡ true → p.over ≡ true
+notified_over p t = (notified_parts p t).0
+
+-- If `next` returns `Ended`, the process knows the end.
+moved_ended : (p : EpochState) → (moved p).next ≡ Ended → p.over ≡ true
+moved_ended p =
+    cond_both (is_miscounted p) _ _ (λ (m : Move). m.next ≡ Ended → p.over ≡ true) (λ t e. absurd (cc e))
+    (λ t. ready_cases p (λ z. (acts z).next ≡ Ended → p.over ≡ true) (λ a b c. over (opens (p.wave + 1) p)) (over p))
+  where
+    over : (p : EpochState) → (acts p).next ≡ Ended → p.over ≡ true
+    over p =
+        acts_cases p (λ m. m.next ≡ Ended → p.over ≡ true) (λ a b e. a) (λ a b e. a) (λ a b c e. a) (λ a b c e. absurd (cc e))
+        (λ a b c e. absurd (cc e)) (λ a b c e. absurd (cc e)) (λ a b c e. absurd (cc e)) (λ a b e. absurd (cc e)) (λ a e. absurd (cc e))
+
+pub ended : EndedLaw
+ended n i later events l e = never_early n i later events l (moved_ended ((after n events).at i) e)
+
+-- In a quiet world nothing is sent or received, so the wave q of the last message stays.
+calm_does : (n q : ℕ) (x : World) (i : ℕ) (a : Act) → i < n → IsQuiet n x → Good n q x → Good n q (does n x i a)
+calm_does n q x i Opens l z v = good_opens n q i x l v
+calm_does n q x i Closes l z v = good_closes n q i x l v
+calm_does n q x i (Sends j) l z v = subst (Good n q) (sym (none_sent n i j x l z)) v
+calm_does n q x i Receives l z v = subst (Good n q) (sym (none_received n i x l z)) v
+calm_does n q x i Moves l z v = good_moves n q i x l v
+
+pub calm_happens : (n q : ℕ) (x : World) (e : Event) → IsQuiet n x → Good n q x → Good n q (happens n x e)
+calm_happens n q x (Does i a) z v = cond_both (ltb i n) (does n x i a) x (Good n q) (λ t. calm_does n q x i a (ltb-true i n t) z v) (λ t. v)
+calm_happens n q x (Comes k) z v = good_came n q x v (control_at x.controls k) (known_at n v.wave v.gifts x x.controls k v.inv.controls)
+
+pub calm_after : (n q : ℕ) (later events : List Event) → IsQuiet n (after n events) → Good n q (after n events)
+    → Good n q (after n (later ++ events))
+calm_after n q [] events z v = v
+calm_after n q (e ∷ later) events z v =
+    calm_happens n q (after n (later ++ events)) e (quiet_stays n later events z) (calm_after n q later events z v)
+
+pub nothing_under_way : (n : ℕ) (x : World) → IsQuiet n x → total n x.under_way ≡ 0
+nothing_under_way n x z = total-equal n x.under_way (λ j. 0) z.none_under_way ∙ total-zero n
+
+pub few_waves : FewWavesLaw
+few_waves n later events l z =
+    let v = good_after n events in
+    let u : Good n v.0 (after n (later ++ events)) = calm_after n v.0 later events z v.1 in
+    omega (
+      arith,
+      u.inv.pace.few (nothing_under_way n _ (quiet_stays n later events z)),
+      u.inv.root.wave,
+      v.1.inv.root.wave,
+      v.1.inv.pace.past,
+    )

@@ -1,0 +1,389 @@
+-- The steps at the end of a wave preserve the invariant: a process passes the wave up; process 0 judges it and starts
+-- the next one.
+pub mod Steps
+pub use Steps.*
+
+counts_equal : (a b : Counts) → a.sent ≡ b.sent → a.received ≡ b.received → a ≡ b
+counts_equal a b e f = ap (λ s. record { sent = s; received = a.received }) e ∙ ap (λ r. record { sent = b.sent; received = r }) f
+
+-- p after it has passed the wave up, with what process 0 keeps of the wave
+abbrev pub gone : EpochState → Bool → ℕ → EpochState
+gone p known last = record p { here = false; known = known; last_received = last }
+
+-- what a process and all processes below it have counted
+abbrev pub ours : EpochState → Counts
+ours p = record { sent = p.taken_sent + p.sent; received = p.taken_received + p.received }
+
+abbrev pub with_gift : ℕ → EpochState → Gifts → Gifts
+with_gift i p g = record { own = put i (mine p) g.own; all = put i (ours p) g.all }
+
+module _ (n q w i : ℕ) (low : ℕ → ℕ) (g : Gifts) (x : World) (l : i < n) (v : Inv n q w low g x) (there : (x.at i).here ≡ true)
+    (idle : (x.at i).pending ≡ 0) (no_left : (x.at i).up_left ≡ false) (no_right : (x.at i).up_right ≡ false) where
+  pub give_keeps : (known : Bool) (last : ℕ) → Keeps w g (with_gift i (x.at i) g) i (x.at i) (gone (x.at i) known last)
+  give_keeps known last =
+      record {
+        wave = λ e. e;
+        given = λ y. absurd (cc (y.gone, there));
+        own = λ j off. put_other i j (mine (x.at i)) g.own off;
+        all = λ j off. put_other i j (ours (x.at i)) g.all off;
+      }
+
+  give_own : (roof : ℕ → ℕ) (known : Bool) (last : ℕ) → roof i ≤ (x.at i).sent
+      → Holds n w roof (with_gift i (x.at i) g) (put i (gone (x.at i) known last) x.at) i (gone (x.at i) known last)
+  give_own roof known last under =
+      let hold : Holds n w low g x.at i (x.at i) = v.each i l in
+      let z : Here n w g x.at i (x.at i) = hold.here there in
+      let new : EpochState = gone (x.at i) known last in
+      let k : Keeps w g (with_gift i (x.at i) g) i (x.at i) new = give_keeps known last in
+      record {
+        number = hold.number;
+        processes = hold.processes;
+        near = hold.near;
+        close = hold.close;
+        floor = under;
+        above = λ p e. wave_kept n w i g (with_gift i (x.at i) g) x.at new k (parent i) (hold.above p e);
+        given = λ y.
+            record {
+              sent = rw (eq-eqb i i refl) (omega arith);
+              received = rw (eq-eqb i i refl) (omega arith);
+              idle = λ b e. idle;
+              left = λ m. given_kept n w i g (with_gift i (x.at i) g) x.at new k (2 * i + 1) (z.left no_left m);
+              right = λ m. given_kept n w i g (with_gift i (x.at i) g) x.at new k (2 * i + 2) (z.right no_right m);
+              sums =
+                  rw (
+                    eq-eqb i i refl,
+                    ne_eqb (2 * i + 1) i (λ e. absurd (omega (arith, e))),
+                    ne_eqb (2 * i + 2) i
+                        (λ e. absurd (omega (arith, e))),
+                  )
+                  (counts_equal (ours (x.at i)) (plus (mine (x.at i)) (plus (g.all (2 * i + 1)) (g.all (2 * i + 2))))
+                  (omega (arith, rw (no_left, no_right) at z.sent)) (omega (arith, rw (no_left, no_right) at z.received)));
+            };
+        here = λ f. absurd (cc f);
+      }
+
+  -- A process passes the wave up to its parent.
+  pub give_step : (i ≡ 0 → ⊥) → Inv n q w low (with_gift i (x.at i) g)
+      (record x {
+        at = put i (record (x.at i) { here = false }) x.at;
+        controls = control (x.at i) (parent (x.at i).number)
+            (Up ((x.at i).taken_sent + (x.at i).sent) ((x.at i).taken_received + (x.at i).received)) ∷ x.controls;
+      })
+  give_step below =
+      let hold : Holds n w low g x.at i (x.at i) = v.each i l in
+      let new : EpochState = gone (x.at i) (x.at i).known (x.at i).last_received in
+      let sums : Token = Up ((x.at i).taken_sent + (x.at i).sent) ((x.at i).taken_received + (x.at i).received) in
+      control_step n q w i low g (with_gift i (x.at i) g) x l v new (give_keeps (x.at i).known (x.at i).last_received)
+      (record { pending = refl; sent = refl; received = refl; over = refl; known = refl; last = refl })
+      (control (x.at i) (parent (x.at i).number) sums ∷ x.controls) (give_own low (x.at i).known (x.at i).last_received hold.floor)
+      (λ e. absurd (below e)) (λ y. (rw (eq-eqb i i refl) hold.floor, rw (eq-eqb i i refl)))
+      (λ t. (
+        (
+          (
+            hold.near,
+            λ e.
+                rw hold.number
+                (record {
+                  given = rw (eq-eqb i i refl) (record { wave = (hold.here there).wave; gone = refl });
+                  sent = rw (eq-eqb i i refl);
+                  received = rw (eq-eqb i i refl);
+                }),
+          ),
+          λ e.
+              subst (λ j. (put i new x.at (parent j)).wave ≡ w) (sym hold.number)
+              (wave_kept n w i g (with_gift i (x.at i) g) x.at new (give_keeps (x.at i).known (x.at i).last_received) (parent i)
+              (hold.above (omega (arith, below)) (hold.here there).wave)),
+        ),
+        t,
+      )) (λ a h. has_more (control (x.at i) (parent (x.at i).number) sums) a x.controls h)
+      (record {
+        down_left = λ f. absurd (cc f);
+        down_right = λ f. absurd (cc f);
+        up = λ a b k f. (
+          (x.at i).taken_sent + (x.at i).sent,
+          (x.at i).taken_received + (x.at i).received,
+          record { which = 0; there = rw (hold.number, hold.processes, (hold.here there).wave) },
+        );
+        over_left = λ f e m. let z = (v.posts i l).over_left f e m in (z.0, has_more _ _ x.controls z.1);
+        over_right = λ f e m. let z = (v.posts i l).over_right f e m in (z.0, has_more _ _ x.controls z.1);
+      })
+
+-- If the children of process 0 have passed the wave up, all processes below have.
+given_below : (n q w : ℕ) (low : ℕ → ℕ) (g : Gifts) (x : World) → Inv n q w low g x
+    → ((c : ℕ) → c < n → (c ≡ 1) ⊎ (c ≡ 2) → HasGiven w (x.at c)) → (b j : ℕ) → j < b → 0 < j → j < n → HasGiven w (x.at j)
+given_below n q w low g x v top zero j k p m = absurd (omega arith)
+given_below n q w low g x v top (suc b) j k p m =
+    let above : ℕ = parent j in
+    elim (cases_eq above 0) [
+      | inl e ↦
+          let small : j < 3 = omega (arith, e) in
+          elim (cases_eq j 1) [ inl one ↦ top j m (inl one) | inr other ↦ top j m (inr (omega (arith, small, p, other))) ]
+      | inr off ↦
+          let up : HasGiven w (x.at above) = given_below n q w low g x v top b above (omega arith) (omega (arith, off)) (omega arith) in
+          let z : Visited n w g x.at above (x.at above) = (v.each above (omega arith)).given up in
+          elim (cases_eq j (2 * above + 1)) [
+            | inl e ↦ rw e (z.left (omega (arith, e)))
+            | inr other ↦
+                let e : j ≡ 2 * above + 2 = omega (arith, other) in
+                rw e (z.right (omega (arith, e)))
+          ]
+    ]
+
+-- The wave ends at process 0: it is idle, and its children have reported.
+module _ (n q w : ℕ) (low : ℕ → ℕ) (g : Gifts) (x : World) (l : 0 < n) (v : Inv n q w low g x) (there : (x.at 0).here ≡ true)
+    (idle : (x.at 0).pending ≡ 0) (no_left : (x.at 0).up_left ≡ false) (no_right : (x.at 0).up_right ≡ false) where
+  pub all_given : (j : ℕ) → 0 < j → j < n → HasGiven w (x.at j)
+  all_given j p m =
+      let z : Here n w g x.at 0 (x.at 0) = (v.each 0 l).here there in
+      given_below n q w low g x v
+      (λ c less e. elim e [
+        | inl one ↦ rw one (z.left no_left (omega (arith, one)))
+        | inr two ↦ rw two (z.right no_right (omega (arith, two)))
+      ]) (suc j) j (omega arith) p m
+
+  -- process 0 after the judgement, if the end was not detected
+  abbrev judged : EpochState
+  judged = gone (x.at 0) true ((x.at 0).taken_received + (x.at 0).received)
+
+  keeps : Keeps w g (with_gift 0 (x.at 0) g) 0 (x.at 0) judged
+  keeps = give_keeps n q w 0 low g x l v there idle no_left no_right true ((x.at 0).taken_received + (x.at 0).received)
+
+  -- the invariant of each process after that
+  held : (j : ℕ) → j < n → Holds n w (λ j. (x.at j).sent) (with_gift 0 (x.at 0) g) (put 0 judged x.at) j (put 0 judged x.at j)
+  held j m =
+      put_holds (λ j z. Holds n w (λ j. (x.at j).sent) (with_gift 0 (x.at 0) g) (put 0 judged x.at) j z) 0 j judged x.at (λ e.
+      rw e
+      (give_own n q w 0 low g x l v there idle no_left no_right (λ j. (x.at j).sent) true ((x.at 0).taken_received + (x.at 0).received)
+      (omega arith))) (λ off.
+      holds_kept n w 0 g (with_gift 0 (x.at 0) g) x.at judged keeps l low (λ j. (x.at j).sent) j (x.at j)
+      (λ y. (keeps.own j off, keeps.all j off)) (omega arith) (v.each j m))
+
+  visited : (j : ℕ) → j < n → Visited n w (with_gift 0 (x.at 0) g) (put 0 judged x.at) j (put 0 judged x.at j)
+  visited j m =
+      (held j m).given
+      (put_holds (λ j z. HasGiven w z) 0 j judged x.at (λ e. record { wave = v.root.wave; gone = refl })
+      (λ off. all_given j (omega (arith, off)) m))
+
+  beyond_kept : (c : ℕ) → n ≤ c → (with_gift 0 (x.at 0) g).all c ≡ none
+  beyond_kept c m = put_other 0 c (ours (x.at 0)) g.all (λ e. absurd (omega (arith, e))) ∙ v.beyond c m
+
+  -- The sums at process 0 are the sums of all reports.
+  sent_in_all : total n (λ j. ((with_gift 0 (x.at 0) g).own j).sent) ≡ (x.at 0).taken_sent + (x.at 0).sent
+  sent_in_all =
+      tree_sum n (λ j. ((with_gift 0 (x.at 0) g).own j).sent) (λ j. ((with_gift 0 (x.at 0) g).all j).sent)
+      (λ j m. ap (λ z. z.sent) (visited j m).sums) (λ c m. ap (λ z. z.sent) (beyond_kept c m))
+
+  received_in_all : total n (λ j. ((with_gift 0 (x.at 0) g).own j).received) ≡ (x.at 0).taken_received + (x.at 0).received
+  received_in_all =
+      tree_sum n (λ j. ((with_gift 0 (x.at 0) g).own j).received) (λ j. ((with_gift 0 (x.at 0) g).all j).received)
+      (λ j m. ap (λ z. z.received) (visited j m).sums) (λ c m. ap (λ z. z.received) (beyond_kept c m))
+
+  -- The wave counts at least as many sent messages as there were when the wave before it ended.
+  floor_in_all : total n low ≤ (x.at 0).taken_sent + (x.at 0).sent
+  floor_in_all =
+      let each : (j : ℕ) → j < n → low j ≤ ((with_gift 0 (x.at 0) g).own j).sent = λ j m.
+      put_holds (λ j z. low j ≤ z.sent) 0 j (mine (x.at 0)) g.own (λ e. rw e (v.each 0 l).floor)
+      (λ off. v.root.floors there j m (all_given j (omega (arith, off)) m)) in
+      omega (arith, total-le n low (λ j. ((with_gift 0 (x.at 0) g).own j).sent) each, sent_in_all)
+
+  -- The four counter test is sound: if the two numbers are equal, the world is quiet. And the second is never less.
+  pub end_is_quiet : (x.at 0).known ≡ true → (x.at 0).last_received ≡ (x.at 0).taken_sent + (x.at 0).sent → IsQuiet n x
+  end_is_quiet known same = v.root.quiet known (omega (arith, v.root.last known, floor_in_all, same))
+
+  pub no_less : (x.at 0).known ≡ true → (x.at 0).last_received ≤ (x.at 0).taken_sent + (x.at 0).sent
+  no_less known = omega (arith, v.root.last known, floor_in_all)
+
+  same_received : total n (λ j. (put 0 judged x.at j).received) ≡ total n (λ j. (x.at j).received)
+  same_received = total_same-put n 0 judged x.at (λ z. z.received) refl
+
+  less_received : (j : ℕ) → j < n → ((with_gift 0 (x.at 0) g).own j).received ≤ (put 0 judged x.at j).received
+  less_received j m = (visited j m).received
+
+  -- The wave counts at most as many received messages as were sent by its end,
+  last_in_all : (x.at 0).taken_received + (x.at 0).received ≤ total n (λ j. (x.at j).sent)
+  last_in_all = omega (arith, received_in_all, total-le n _ _ less_received, same_received, v.balance)
+
+  -- and if it counts as many, the world is quiet.
+  quiet_there : (x.at 0).taken_received + (x.at 0).received ≡ total n (λ j. (x.at j).sent) → IsQuiet n (record x { at = put 0 judged x.at })
+  quiet_there enough =
+      let begun : 0 < w = ((v.each 0 l).here there).begun in
+      record {
+        idle = λ j m.
+            (visited j m).idle begun
+            (total_same n _ _ less_received (omega (arith, enough, received_in_all, same_received, v.balance)) j m);
+        none_under_way = λ j m.
+            sym (total_same n (λ j. 0) x.under_way (λ j m. omega arith)
+            (omega (arith, enough, received_in_all, total-le n _ _ less_received, same_received, v.balance, total-zero n)) j m);
+      }
+
+  -- A wave that began after the last message was sent or received has the exact sums.
+  own_now : q < w → (j : ℕ) → j < n → (with_gift 0 (x.at 0) g).own j ≡ mine (x.at j)
+  own_now m j k =
+      put_holds (λ j z. z ≡ mine (x.at j)) 0 j (mine (x.at 0)) g.own (λ e. rw e)
+      (λ off. v.pace.late m j k (all_given j (omega (arith, off)) k))
+
+  judge_pace : is_end (x.at 0) ≡ false → Pace n q w (with_gift 0 (x.at 0) g) (record x { at = put 0 judged x.at })
+  judge_pace more =
+      let sent_now : q < w → (x.at 0).taken_sent + (x.at 0).sent ≡ total n (λ j. (x.at j).sent)
+      = λ m. sym sent_in_all ∙ total-equal n _ _ (λ j k. ap (λ z. z.sent) (own_now m j k)) in
+      let received_now : q < w → (x.at 0).taken_received + (x.at 0).received ≡ total n (λ j. (x.at j).received)
+      = λ m. sym received_in_all ∙ total-equal n _ _ (λ j k. ap (λ z. z.received) (own_now m j k)) in
+      record {
+        past = v.pace.past;
+        late = λ m j k y. own_now m j k ∙ sym (put_same mine 0 j judged x.at refl);
+        during = λ f. absurd (cc f);
+        between = λ f m. (refl, received_now m ∙ sym same_received);
+        few = v.pace.few;
+        fewer = λ e f.
+            elim (cases_lt (q + 1) w) [
+              | inl m ↦
+                  let z = v.pace.during there m in
+                  let same : (x.at 0).last_received ≡ (x.at 0).taken_sent + (x.at 0).sent
+                  = omega (arith, z.1, sent_now (omega (arith, m)), v.balance, e) in
+                  absurd (cc (more, and_from (x.at 0).known _ z.0 (eq-eqb _ _ same)))
+              | inr less ↦ less
+            ];
+      }
+
+  -- The wave ends and the end is not detected.
+  pub judge_step : is_end (x.at 0) ≡ false → Inv n q w (λ j. (x.at j).sent) (with_gift 0 (x.at 0) g) (record x { at = put 0 judged x.at })
+  judge_step more =
+      let h : Gifts = with_gift 0 (x.at 0) g in
+      let y : World = record x { at = put 0 judged x.at } in
+      let ended : Finished n w x → Finished n w y
+      = finished_put n w 0 g h x judged x.under_way x.controls keeps (quiet_put n 0 x judged x.controls (λ e. e)) (λ e o. o) in
+      record {
+        balance = balance_same n 0 x judged refl refl v.balance;
+        each = held;
+        beyond = beyond_kept;
+        root = record { wave = v.root.wave; floors = λ f. absurd (cc f); last = λ f. last_in_all; quiet = λ f e. quiet_there e };
+        over = λ j m f. ended (v.over j m (sym (put_same (λ z. z.over) 0 j judged x.at refl) ∙ f));
+        controls = controls_kept n w 0 g h x y judged keeps refl ended x.controls v.controls;
+        pace = judge_pace more;
+        posts = λ j m.
+            put_holds (λ j z. Posts n w x.controls j z) 0 j judged x.at (λ e.
+            rw e
+            (record {
+              down_left = λ f. absurd (cc f);
+              down_right = λ f. absurd (cc f);
+              up = λ a. absurd (omega (arith, a));
+              over_left = (v.posts 0 l).over_left;
+              over_right = (v.posts 0 l).over_right;
+            }))
+            (λ off. v.posts j m);
+        small = λ j m. put_keeps IsSmall 0 j judged x.at (λ o. o) (v.small j m);
+      }
+
+-- Process 0 starts the next wave.
+module _ (n q w : ℕ) (low : ℕ → ℕ) (g : Gifts) (x : World) (l : 0 < n) (v : Inv n q w low g x) (away : (x.at 0).here ≡ false) where
+  pub given_before : (j : ℕ) → j < n → HasGiven w (x.at j)
+  given_before j m =
+      let top : HasGiven w (x.at 0) = record { wave = v.root.wave; gone = away } in
+      let z : Visited n w g x.at 0 (x.at 0) = (v.each 0 l).given top in
+      elim (cases_eq j 0) [
+        | inl e ↦ rw e top
+        | inr off ↦
+            given_below n q w low g x v
+            (λ c less e. elim e [ inl one ↦ rw one (z.left (omega (arith, one))) | inr two ↦ rw two (z.right (omega (arith, two))) ])
+            (suc j) j (omega arith) (omega (arith, off)) m
+      ]
+
+  later_known : (ls : List ControlMessage) (y : World) → (Finished n w x → Finished n (w + 1) y)
+      → AllKnown n w g x ls → AllKnown n (w + 1) g y ls
+  later_known [] y quiet t = t
+  later_known (a ∷ ls) y quiet t =
+      ((later a.from a.wave a.token t.0.0, way a.from a.to a.wave a.token t.0.0 t.0.1), later_known ls y quiet t.1)
+    where
+      later : (from wave : ℕ) (c : Token) → Known n w g x from wave c → Known n (w + 1) g y from wave c
+      later from wave Down t = omega (arith, t)
+      later from wave (Up s r) t = (omega (arith, t.0), λ e. absurd (omega (arith, t.0, e)))
+      later from wave Over t = quiet t
+
+      way : (from to wave : ℕ) (c : Token) → Known n w g x from wave c → Path w x.at from to wave c → Path (w + 1) y.at from to wave c
+      way from to wave Down t p = (p.0, λ e. absurd (omega (arith, t, e)))
+      way from to wave (Up s r) t p = λ e. absurd (omega (arith, t.0, e))
+      way from to wave Over t p = tt
+
+  pub start_step : (x.at 0).over ≡ false → Inv n q (w + 1) low g (record x { at = put 0 (opens ((x.at 0).wave + 1) (x.at 0)) x.at })
+  start_step open_yet =
+      let u : ℕ = (x.at 0).wave + 1 in
+      let new : EpochState = opens u (x.at 0) in
+      let y : World = record x { at = put 0 new x.at } in
+      let next : u ≡ w + 1 = omega (arith, v.root.wave) in
+      let hold : Holds n w low g x.at 0 (x.at 0) = v.each 0 l in
+      let quiet : IsQuiet n x → IsQuiet n y = quiet_put n 0 x new x.controls (λ e. e) in
+      let ended : Finished n w x → Finished n (w + 1) y = λ f. absurd (cc (f.root.over, open_yet)) in
+      let none_gave : (j : ℕ) → j < n → HasGiven (w + 1) (put 0 new x.at j) → ⊥ = λ j m.
+      put_holds (λ j z. HasGiven (w + 1) z → ⊥) 0 j new x.at (λ e k. absurd (cc k.gone))
+      (λ off k. absurd (omega (arith, k.wave, (given_before j m).wave))) in
+      record {
+        balance = balance_same n 0 x new refl refl v.balance;
+        each = λ j m.
+            put_holds (λ j z. j < n → Holds n (w + 1) low g (put 0 new x.at) j z) 0 j new x.at (λ e m.
+            record {
+              number = hold.number ∙ sym e;
+              processes = hold.processes;
+              near = omega (arith, next);
+              close = omega (arith, next);
+              floor = rw e hold.floor;
+              above = λ p f. absurd (omega (arith, p, e));
+              given = λ k. absurd (cc k.gone);
+              here = λ f.
+                  rw (e, next)
+                  (opens_here n (w + 1) 0 low g (put 0 (opens (w + 1) (x.at 0)) x.at) (x.at 0) hold.number hold.processes
+                  (omega arith) v.beyond);
+            })
+            (λ off m.
+            let k : HasGiven w (x.at j) = given_before j m in
+            record {
+              number = (v.each j m).number;
+              processes = (v.each j m).processes;
+              near = omega (arith, k.wave);
+              close = omega (arith, k.wave);
+              floor = (v.each j m).floor;
+              above = λ p f. absurd (omega (arith, f, k.wave));
+              given = λ z. absurd (omega (arith, z.wave, k.wave));
+              here = λ f. absurd (cc (f, k.gone));
+            })
+            m;
+        beyond = v.beyond;
+        root = record {
+          wave = next;
+          floors = λ f j m k. absurd (none_gave j m k);
+          last = v.root.last;
+          quiet = λ f e. quiet (v.root.quiet f e);
+        };
+        over = λ j m f. ended (v.over j m (sym (put_same (λ z. z.over) 0 j new x.at refl) ∙ f));
+        controls = later_known x.controls y ended v.controls;
+        pace =
+            record {
+              past = omega (arith, v.pace.past);
+              late = λ m j k y. absurd (none_gave j k y);
+              during = λ f m.
+                  let z = v.pace.between away (omega arith) in
+                  (z.0, z.1 ∙ sym (total_same-put n 0 new x.at (λ z. z.received) refl));
+              between = λ f. absurd (cc f);
+              few = λ e. omega (arith, v.pace.fewer e away);
+              fewer = λ e f. absurd (cc f);
+            };
+        posts = λ j m.
+            put_holds (λ j z. Posts n (w + 1) x.controls j z) 0 j new x.at (λ e.
+            rw e
+            (record {
+              down_left = λ f e m. no_child n 0 1 (x.at 0) hold.number hold.processes e m;
+              down_right = λ f e m. no_child n 0 2 (x.at 0) hold.number hold.processes e m;
+              up = λ a. absurd (omega (arith, a));
+              over_left = (v.posts 0 l).over_left;
+              over_right = (v.posts 0 l).over_right;
+            }))
+            (λ off.
+            let k : HasGiven w (x.at j) = given_before j m in
+            record {
+              down_left = λ f. absurd (cc (f, k.gone));
+              down_right = λ f. absurd (cc (f, k.gone));
+              up = λ a b z f. absurd (omega (arith, z, k.wave));
+              over_left = (v.posts j m).over_left;
+              over_right = (v.posts j m).over_right;
+            });
+        small = λ j m. put_keeps IsSmall 0 j new x.at (λ o. o) (v.small j m);
+      }

@@ -1,0 +1,6 @@
+use Rattle.tp_text.proofs.Names.{IsFalse, any, is_reopen}
+use Rattle.tp_text.proofs.Following.{oldest}
+use Rattle.tp_text.proofs.tracing.traced_version.Given as goal
+
+abbrev pub invariant-loop-place : goal.invariant-loop-place
+invariant-loop-place g l = IsFalse (any is_reopen (oldest l.place (g.S.Steps.listed l.steps)))
