@@ -109,25 +109,8 @@ spawned : (class : ℕ) (inputs : List ℕ) (outside : ℕ) (old new : State) (u
 spawned class inputs outside old new u h =
     judged _ _ _ old u new (λ s. omega (arith, one_task_more class inputs outside old new s.0 s.2)) h
 
--- ---- a whole graph
-more_inputs : (ss : List ℕ) (a : PoolState) → count (with_inputs ss a) ≡ count a
-more_inputs [] a = refl
-more_inputs (s ∷ ss) a = more_inputs ss (with_input s a)
-
 one_task : (class : ℕ) (a : PoolState) → count (with_task class a) ≡ count a + 1
 one_task class a = length-append a.tasks _
-
-more_tasks : (g : Graph) (n : ℕ) (a : PoolState) → count a ≤ count (described g n a)
-more_tasks g zero a = omega arith
-more_tasks g (suc n) a =
-    let b = described g n a in
-    omega (arith, more_tasks g n a, more_inputs (inputs_of g n) (with_task (class_of g n) b), one_task (class_of g n) b)
-
-described_by : (o : Option TeamRefusal) (g : Graph) (old new : State) (u : GraphResult) → IsGraphJudged o g old u new → tasks old ≤ tasks new
-described_by (Some r) g old new u h = same old new h.same
-described_by None g old new u (inl h) = omega (arith, ap tasks h.becomes, more_tasks g (length g.offsets - 1) old.pool)
-described_by None g old new u (inr (inl (r, t, first, h))) = same old new h.same
-described_by None g old new u (inr (inr (t, h))) = same old new h.same
 
 -- ---- the next number
 later : (newest : Option ℕ) (n m : ℕ) → n ≤ m → is_not_above newest n ≡ false → is_not_above newest m ≡ false
@@ -142,10 +125,6 @@ pub next_spawned : (class : ℕ) (inputs : List ℕ) (outside : ℕ) (old new : 
     → IsSpawn class inputs outside old u new
     → is_not_above newest (length old.pool.tasks) ≡ false → is_not_above newest (length new.pool.tasks) ≡ false
 next_spawned class inputs outside old new u newest h = later newest (tasks old) (tasks new) (spawned class inputs outside old new u h)
-
-pub next_described : (g : Graph) (old new : State) (u : GraphResult) (newest : Option ℕ) → IsDescribe g old u new
-    → is_not_above newest (length old.pool.tasks) ≡ false → is_not_above newest (length new.pool.tasks) ≡ false
-next_described g old new u newest h = later newest (tasks old) (tasks new) (described_by _ g old new u h)
 
 -- a spawn on an open graph, whose view is `old`
 pub spawn_call : (old : GraphState) (b : Bool) (team new : State) (flow : FlowState) (class : ℕ) (inputs : List ℕ) (outside : ℕ) (u : GraphResult)

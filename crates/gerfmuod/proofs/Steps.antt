@@ -20,13 +20,6 @@ HasRoom a = IsFalse (is_ended a.nodes (present a.steps)) → length a.steps + 9 
 room_left : (a : Accepted) → a.nodes ≤ 8 → IsFalse (is_full a) → length a.steps + 1 + 9 * a.nodes ≤ MAX_STEPS
 room_left a few left = grind (arith, nat_tests)
 
-pub room_after_step : (old new : Accepted) (s : Step) (r : Result Reply Refusal) → Answers old s r new → old.nodes ≤ 8
-    → IsFalse (is_full old)
-    → HasRoom old → HasRoom new
-room_after_step old new s (Ok reply) a few left room =
-    subst HasRoom (sym a.2) (λ e. let l = room_left old few left in omega (arith, l))
-room_after_step old new s (Err r) a few left room = subst HasRoom (sym a.1) room
-
 ended_here : (n w : ℕ) (past : List Step) → judgement n past ≡ Some w → IsTrue (is_ended n (Judge ∷ past))
 ended_here n w past e = rw e refl
 
@@ -44,20 +37,6 @@ room_after_settling old new (Err r) s room = subst HasRoom (sym s.1) room
 -- a refusal other than `HistoryFull`
 other : (r s : Refusal) → r ≡ s → number_of s ≢ 16 → number_of r ≢ 16
 other r s e differs = subst (λ (x : Refusal). number_of x ≢ 16) (sym e) differs
-
-refused_with_room : (ended busy full : Bool) (taken : ℕ) (asks : Bool) (r : Refusal) → (IsFalse ended → IsFalse full)
-    → IsRefusedFor (first_refusal ((ended, Ended) ∷ (busy, NotIdle) ∷ (full, HistoryFull taken) ∷ [])) asks r
-    → number_of r ≢ 16
-refused_with_room true busy full taken asks r room i = other r Ended i (λ e. omega (arith, e))
-refused_with_room false true full taken asks r room i = other r NotIdle i (λ e. omega (arith, e))
-refused_with_room false false true taken asks r room i = absurd (both_ways true (room refl) refl)
-refused_with_room false false false taken asks r room i = other r NoMemory i.0 (λ e. omega (arith, e))
-
-pub settled_with_room : (old new : Accepted) (r : Refusal) → Settles old (Err r) new → HasRoom old → number_of r ≢ 16
-settled_with_room old new r s room =
-    refused_with_room (is_ended old.nodes (present old.steps)) (not (is_quiet (world_of old)))
-    (nat_lt MAX_STEPS (length old.steps + 9 * old.nodes)) (length old.steps) (ends_before (length old.steps) (9 * old.nodes)) r
-    (λ e. let l = room e in grind (arith, nat_tests, l)) s.0
 
 not_ended : (b : Bool) (more : List Check) → first_refusal ((b, Ended) ∷ more) ≡ None → IsFalse b
 not_ended true more e = cc
@@ -234,9 +213,6 @@ pub record AfterSteps (events : List RawStep) (room : List StepResult) (old : Ac
   pub taken : AreTaken old (take k events) (take k answers) now
   pub rest : drop k answers ≡ drop k room
   pub long : length answers ≡ length room
-
-pub after_none : (events : List RawStep) (room : List StepResult) (old : Accepted) → AfterSteps events room old 0 room old
-after_none events room old = record { taken = refl; rest = refl; long = refl }
 
 rest_after : (answers room : List StepResult) (k : ℕ) → drop k answers ≡ drop k room → drop (k + 1) answers ≡ drop (k + 1) room
 rest_after answers room k e = sym (drop-drop 1 k answers) ∙ ap (λ (xs : List StepResult). drop 1 xs) e ∙ drop-drop 1 k room

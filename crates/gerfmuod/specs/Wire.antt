@@ -9,7 +9,8 @@ use Rattle.tp_process.specs.declared.control_message.ControlMessage.{ControlMess
 use Rattle.tp_process.specs.declared.outcome.Next.{Next}
 use Rattle.tp_process.specs.declared.outcome.Next.TheVariants.{Send, Again, Ended, Nothing}
 use Rattle.tp_process.specs.declared.outcome.Refusal.{Refusal}
-use Rattle.tp_process.specs.declared.outcome.Refusal.TheVariants.{Inactive, Full, NotDue, NotYet, Late, NotEnded, NotOpen, NoProcess, Miscounted, Mismatched}
+use Rattle.tp_process.specs.declared.outcome.Refusal.TheVariants.{Inactive, Full, NotDue, NotYet, Late, NotEnded, NotOpen, NoProcess}
+use Rattle.tp_process.specs.declared.outcome.Refusal.TheVariants.{Miscounted, Mismatched}
 use Rattle.tp_process.specs.State.{EpochState, ProcessState}
 use Rattle.tp_process.specs.declared.process.Process.{Process}
 use Rattle.gerfmuod.specs.declared.wire.WireMessage.{WireMessage}

@@ -1,5 +1,6 @@
 -- A grid of cells, row by row, and its steps.
-use Rattle.std.specs.Prelude.{◌≡◌, ◌≢◌, ◌<◌, ◌≤◌, ◌+◌, ◌-◌, ◌*◌, ◌%◌, ◌^◌, ◌⊎◌, ◌&&◌, ◌==◌, ◌++◌, ℕ, ℤ, pos, ◌+ℤ◌, ◌*ℤ◌, Bool, List, length}
+use Rattle.std.specs.Prelude.{◌≡◌, ◌≢◌, ◌<◌, ◌≤◌, ◌+◌, ◌-◌, ◌*◌, ◌%◌, ◌^◌, ◌⊎◌, ◌&&◌, ◌==◌, ◌++◌, ℕ, ℤ, pos}
+use Rattle.std.specs.Prelude.{◌+ℤ◌, ◌*ℤ◌, Bool, List, length}
 use Rattle.std.specs.Prelude.{take, drop, if◌then◌else◌, nat_lt}
 use Rattle.std.specs.Int.{int_div_euclid}
 use Rattle.pool_blocks.specs.Lists.{at, list_of}

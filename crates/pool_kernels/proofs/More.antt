@@ -43,10 +43,6 @@ rank_grows f (suc n) i h =
     (λ (not : suc n ≤ i). let same : i ≡ suc n = omega arith in subst (λ x. rank f i ≤ rank f x) same (omega arith))
     (cases_lt i (suc n))
 
-rank_small : (b : Bool) (m n : ℕ) → m ≤ n → (if b then suc m else m) ≤ suc n
-rank_small true m n h = omega arith
-rank_small false m n h = omega arith
-
 -- tests that agree below a number have one rank and one n-th there
 pub rank_alike : (f h : ℕ → Bool) (n : ℕ) → ((i : ℕ) → i < n → f i ≡ h i) → rank f n ≡ rank h n
 rank_alike f h zero e = refl

@@ -31,9 +31,6 @@ pub none_where : (count : ℕ) (f : ℕ → ℤ) (i : ℕ) → i < count → Non
 none_where count f i h e =
     ap (λ b. if b then Some (list_of count f) else None) (unfit_at count f i h (checked_none (fits (f i)) (f i) e))
 
-pub fitting_some : (xs : List ℤ) → all_fit xs ≡ true → fitting xs ≡ Some xs
-fitting_some xs e = ap (λ b. if b then Some xs else None) e
-
 checked_fits : (b : Bool) (x y : ℤ) → Some y ≡ (if b then Some x else None) → b ≡ true
 checked_fits true x y e = refl
 checked_fits false x y e = absurd (cc)

@@ -1,7 +1,7 @@
 //! Tests: each call that can fail to allocate, slots, the core; readers and writers that fail; a pool on one thread, with forged messages
-//! and with failing allocations; pools on worker threads, and with gates between the threads; patterns; the texts for a terminal. They
-//! are not in the crates that they test, whose functions would be proved once more with them. They are in one crate, since each program
-//! of tests loads all that it tests.
+//! and with failing allocations; pools on worker threads, and with gates between the threads; patterns. They are not in the crates that
+//! they test, whose functions would be proved once more with them. They are in one crate, since each program of tests loads all that it
+//! tests.
 #![tactic(auto)]
 
 #[cfg(test)]
@@ -53,8 +53,4 @@ mod several;
 #[cfg(test)]
 mod slots;
 #[cfg(test)]
-mod terminal;
-#[cfg(test)]
 mod two_nodes;
-#[cfg(test)]
-mod why_messages;

@@ -65,18 +65,6 @@ pools_unnamed name rows is lacks =
     (unnamed (codes "pools") rows pools_reads_nothing (λ e.
     absurd (apart (codes "pools") (codes "run") 112 114 refl refl (omega arith) e)) (λ _. lacks))
 
-pub unknown_name : (name : Text) (rows : List Row) → name ≢ codes "sim" → name ≢ codes "audit" → name ≢ codes "run" → name ≢ codes "pools"
-    → IsNeither (Some (name, rows))
-unknown_name name rows not_sim not_audit not_run not_pools = unnamed name rows unread (λ e. absurd (not_run e)) (λ e. absurd (not_pools e))
-  where
-    unread : (kind : TextKind) → name ≢ reading_word kind
-    unread Script = not_sim
-    unread Trace = not_audit
-
--- no subcommand makes no request
-pub none_neither : IsNeither None
-none_neither = (λ kind reads. let none = reads.1 in cc, λ spec run. let none = run.1 in cc, λ specs pools. let none = pools.1 in cc)
-
 -- what was found is what the arguments ask for
 pub neither_asked : (app : App) (words : List Text) (m : ArgMatches) → app ≡ tp_app → HasMatchesOf app words m
     → IsNeither (subcommand_rows_of m) → AsksForNothing words
@@ -99,8 +87,3 @@ pub asked_as : {X : Type 0} (o : Option X) (P P' : Type 0) (Q Q' : X → Type 0)
     → MatchOption o P' Q'
 asked_as None P P' Q Q' nothing something p = nothing p
 asked_as (Some x) P P' Q Q' nothing something p = something x p
-
--- the result of `?` for nothing
-pub nothing_passed : {X : Type 0} (r : Option X) (P : Type 0) (Q : X → Type 0) → r ≡ None → P → MatchOption r P Q
-nothing_passed None P Q is p = p
-nothing_passed (Some x) P Q is p = cc

@@ -35,11 +35,6 @@ use Rattle.tp_text.specs.declared.Verdict.TheVariants as verdicts
 
 -- ---- faults on the way
 
--- what holds for an error, if it is the one
-pub IfErr-each : {X E : Type 0} (r : Result X E) (P : E → Type 0) → ((e : E) → r ≡ Err e → P e) → IfErr r P
-IfErr-each (Ok x) P all = tt
-IfErr-each (Err e) P all = all e refl
-
 -- what follows of an error from two facts
 pub both : {X E : Type 0} (r : Result X E) (P Q R : E → Type 0) → ((e : E) → P e → Q e → R e) → IfErr r P → IfErr r Q → IfErr r R
 both (Ok x) P Q R all p q = tt

@@ -46,12 +46,6 @@ pub record AreRegisteredTo (k : ℕ) (words : List Word) (registry : Pools) : Ty
   pub named : take k words ≡ map word_of graphs
   pub pools : registry ≡ pools_of graphs
 
-pub none_registered : (words : List Word) (pools : Pools) → pools ≡ [] → AreRegisteredTo 0 words pools
-none_registered words pools is = record {
-  taken = λ i word r lt. absurd (omega arith);
-  graphs = [];
-  named = refl;
-  pools = is;
 }
 
 among-registered : (k : ℕ) (words : List Word) (pools : Pools) (h : AreRegisteredTo k words pools) (word : Word)

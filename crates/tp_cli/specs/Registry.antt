@@ -1,6 +1,7 @@
 -- A registry as the list of its pools, in the order of registration, the checks of its calls, and a run of all its registered
 -- pools: one result for each, in order, and the states of the pools after these.
-use Rattle.std.specs.Prelude.{ℕ, ◌≡◌, ◌≢◌, ◌<◌, ⊤, ◌==◌, List, [], ◌∷◌, Bool, true, false, not, Option, Some, is_none, unwrap_or, length, map}
+use Rattle.std.specs.Prelude.{ℕ, ◌≡◌, ◌≢◌, ◌<◌, ⊤, ◌==◌, List, [], ◌∷◌, Bool, true, false, not, Option, Some, is_none, unwrap_or}
+use Rattle.std.specs.Prelude.{length, map}
 use Rattle.std.specs.Prelude.{Result, Ok, Err, slice_get, slice_index_or, slice_set, take}
 use Rattle.std.specs.Option.{option_map}
 use Rattle.std.specs.List.{count_by, filter, list_any}

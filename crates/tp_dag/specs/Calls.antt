@@ -164,7 +164,8 @@ abbrev pub no_events : Option (List Event) → Option (List Event)
 no_events (Some es) = Some []
 no_events None = None
 
--- `again` and `reset`: the graph as it was described. No task was dispatched, none waits for an input from outside, and the pool was not started.
+-- `again` and `reset`: the graph as it was described. No task was dispatched, none waits for an input from outside, and the pool was not
+-- started.
 abbrev pub as_described : PoolState → PoolState
 as_described a = record a {
   started = false;

@@ -64,7 +64,7 @@ fn width_option<'a>(alloc: Global) -> Arg<'a> {
 }
 
 fn until_flag<'a>(alloc: Global) -> Arg<'a> {
-    flag(alloc, "until-fault").help("Draws an unsound trace up to its first wrong line")
+    flag(alloc, "until-fault").help("Draws an unsound trace up to its first fault")
 }
 
 fn dot_flag<'a>(alloc: Global) -> Arg<'a> {

@@ -80,7 +80,7 @@ fn a_part_of_two(rt: HostRuntime) {
     assert!(rt; are_right(&mut part, &rows));
 }
 
-// Task 0 is of part 0, tasks 1 and 2 are of part 1 and read 0, task 3 is of part 0 and reads 1 once and 2 twice. Part 1 is told to send
+// Task 0 is of part 0, tasks 1 and 2 are of part 1 and read 0, task 3 is of part 0 and reads 1 once and 2 twice. Part 1 asks for
 // 1 before 2, and 2 arrives first; a message that comes again changes nothing.
 #[test]
 fn two_parts_to_the_end(rt: HostRuntime) {

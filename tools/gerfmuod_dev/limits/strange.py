@@ -99,7 +99,7 @@ def manners(tally, options, folder):
     """Runs each subcommand in each situation of a table: a closed pipe, a full disk, no file, wrong arguments, help, the version.
 
     A row of tools/data/limits/manners.json has a line of bash, the arguments that it adds, the status, and patterns of the output
-    and of standard error, in which NAME is the program's name. No line of help has more than 83 characters.
+    and of standard error, in which NAME is the program's name. No line of help has more than 80 characters.
     """
     table = json.loads(text_of(f"{TOP}/tools/data/limits/manners.json"))
     for name, arguments, stdin in table["commands"]:
@@ -108,5 +108,5 @@ def manners(tally, options, folder):
             result = running.run(command, stdin.encode(), env=USER, cwd=folder)
             texts = zip((out, err), (result.out, result.err))
             is_well = all(re.fullmatch(pattern.replace("NAME", name), text.decode(), re.S) for pattern, text in texts)
-            is_well &= result.status == status and (more != ["--help"] or max(map(len, result.out.decode().split("\n"))) <= 83)
+            is_well &= result.status == status and (more != ["--help"] or max(map(len, result.out.decode().split("\n"))) <= 80)
             tally.judge(is_well, f"{situation}, {name} {arguments}: {running.short(result.out)}, {result.description()}")
