@@ -20,7 +20,8 @@ async def work(number, listeners):
     """Runs the tasks that come to one process; returns how many."""
     writers = [(await asyncio.open_connection(*listener.getsockname()))[1] for listener in listeners]
     accepted = [listeners[number].accept()[0] for _ in listeners]
-    readers = [(await asyncio.open_connection(sock=connection))[0] for connection in accepted]
+    # a stream is closed once its writer is lost, so both are kept
+    incoming = [await asyncio.open_connection(sock=connection) for connection in accepted]
     detector = Detector(number, len(listeners), lambda to, control: writers[to].write(CONTROL + control))
     ran = 0
 
@@ -51,7 +52,7 @@ async def work(number, listeners):
     if number == 0:
         send(DEPTH)
     detector.finish()
-    await asyncio.gather(wait_for_end(), *map(receive, readers))
+    await asyncio.gather(wait_for_end(), *(receive(reader) for reader, _ in incoming))
     return ran
 
 

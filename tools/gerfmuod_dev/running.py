@@ -100,7 +100,8 @@ def run(command, stdin=os.devnull, **options):
                 raise
             return Result(NOT_STARTED, b"", f"{error}\n".encode())
         except subprocess.TimeoutExpired as error:
-            return Result(NOT_ENDED, error.stdout or b"", f"it did not end within {error.timeout:.0f} seconds\n".encode())
+            reason = f"it did not end within {error.timeout:.0f} seconds\n".encode()
+            return Result(NOT_ENDED, error.stdout or b"", reason + (error.stderr or b""))
     return Result(process.returncode if process.returncode >= 0 else 128 - process.returncode, process.stdout or b"", process.stderr or b"")
 
 
