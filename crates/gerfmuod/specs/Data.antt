@@ -72,4 +72,4 @@ pub record SpawnsTask (class : ℕ) (accesses : List Access) (outside : ℕ)
 abbrev pub IsTask : ℕ → List RawAccess → ℕ → GraphState → GraphResult → GraphState → Type 0
 IsTask class accesses outside old answer new =
     IsJudged (first (access_checks old.flow accesses)) true (SpawnsTask class (map access_of accesses) outside old answer new)
-        old answer new
+    old answer new

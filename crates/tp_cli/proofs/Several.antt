@@ -46,8 +46,6 @@ pub record AreRegisteredTo (k : ℕ) (words : List Word) (registry : Pools) : Ty
   pub named : take k words ≡ map word_of graphs
   pub pools : registry ≡ pools_of graphs
 
-}
-
 among-registered : (k : ℕ) (words : List Word) (pools : Pools) (h : AreRegisteredTo k words pools) (word : Word)
     → is_named pools word ≡ is_among (take k words) word
 among-registered k words pools h word =
