@@ -18,6 +18,7 @@ module gerfmuod
   integer(c_int32_t), parameter :: gerfmuod_refused_no_thread = 64, gerfmuod_refused_not_started = 65
   integer(c_int32_t), parameter :: gerfmuod_refused_stopped = 66, gerfmuod_refused_running = 67
   integer(c_int32_t), parameter :: gerfmuod_refused_not_written = 68
+  integer(c_int32_t), parameter :: gerfmuod_refused_different = 69
 
   ! what a task does with a piece of data
   integer(c_int32_t), parameter :: gerfmuod_read = 1, gerfmuod_write = 2, gerfmuod_update = 3

@@ -17,60 +17,18 @@
  *
  * Process 0 compares the result with one factorization of the whole matrix. The exit status is not 0 if they differ by 1e-9. */
 #define _POSIX_C_SOURCE 200809L
-#include <mpi.h>
-#include "../examples/kernels.h"
+#include "tiles.h"
 #include <gerfmuod/team.h>
-#include <math.h>
 #include <pthread.h>
-#include <stdbool.h>
-#include <stdio.h>
-#include <stdlib.h>
 #include <string.h>
 #include <time.h>
 
-static int me, processes, grid[2]; /* grid: the rows and columns of processes, over which tiles are dealt out */
-static int order, tile, tiles;
 static bool is_early;
 
-/* Of each tile (i, j), at i * tiles + j: its numbers, if it is of this process or comes to it; the last task here that writes
- * it, or its arrival; and to which processes it is sent. */
-static double **numbers;
+
+/* Of each tile (i, j): the last task here that writes it, or its arrival; and to which processes it is sent. */
 static uint32_t *writer;
 static bool *goes_to;
-
-static int place(int i, int j) { return i * tiles + j; }
-static int owner(int i, int j) { return i % grid[0] * grid[1] + j % grid[1]; }
-static double *at(int i, int j) { return numbers[place(i, j)]; }
-
-/* Ends all processes if a call was refused. */
-static void need(uint32_t refused, const char *what) {
-    if (!refused) return;
-    fprintf(stderr, "process %d: %s: %s\n", me, what, gerfmuod_refusal_text(refused));
-    MPI_Abort(MPI_COMM_WORLD, 3);
-}
-
-static void *allocate(size_t count, size_t size) {
-    void *block = calloc(count, size);
-    if (count && !block) MPI_Abort(MPI_COMM_WORLD, 9);
-    return block;
-}
-
-static double *new_tile(void) { return allocate((size_t)tile * (size_t)tile, sizeof(double)); }
-
-/* Element (i, j) of the matrix that is factored, which is symmetric and positive definite. */
-static double element(int i, int j) {
-    uint64_t x = (uint64_t)(i > j ? i : j) << 32 | (uint64_t)(i > j ? j : i);
-    x = (x ^ x >> 33) * 0xff51afd7ed558ccdu;
-    x = (x ^ x >> 33) * 0xc4ceb9fe1a85ec53u;
-    return (double)((x ^ x >> 33) >> 11) * 0x1p-53 + (i == j ? order : 0);
-}
-
-/* Makes tile (i, j), with the values before the factorization. */
-static void fill_tile(int i, int j) {
-    numbers[place(i, j)] = new_tile();
-    for (int c = 0; c < tile; c++)
-        for (int r = 0; r < tile; r++) at(i, j)[c * tile + r] = element(i * tile + r, j * tile + c);
-}
 
 /* ---- the graph of this process */
 enum kind { FACTOR, SOLVE, SQUARE, PRODUCT, ARRIVAL };
@@ -209,32 +167,6 @@ static void communicate(void) {
     MPI_Waitall(sent, requests, MPI_STATUSES_IGNORE);
 }
 
-/* ---- the check */
-
-/* Process 0 gets all tiles of the lower triangle, and returns the largest difference from a factorization of the whole. */
-static double distance(void) {
-    double *whole = allocate(me ? 0 : (size_t)order * (size_t)order, sizeof *whole), most = 0;
-    for (int c = 0; me == 0 && c < order; c++)
-        for (int r = 0; r < order; r++) whole[(size_t)c * (size_t)order + (size_t)r] = element(r, c);
-    if (me == 0 && factor(order, whole)) MPI_Abort(MPI_COMM_WORLD, 5);
-    for (int i = 0; i < tiles; i++)
-        for (int j = 0; j <= i; j++) {
-            int from = owner(i, j), tag = place(i, j);
-            if (me && from == me) MPI_Send(at(i, j), tile * tile, MPI_DOUBLE, 0, tag, MPI_COMM_WORLD);
-            if (me) continue;
-            if (!numbers[tag]) numbers[tag] = new_tile();
-            if (from) MPI_Recv(at(i, j), tile * tile, MPI_DOUBLE, from, tag, MPI_COMM_WORLD, MPI_STATUS_IGNORE);
-            for (int c = 0; c < tile; c++)
-                for (int r = i == j ? c : 0; r < tile; r++) {
-                    size_t column = (size_t)(j * tile + c) * (size_t)order;
-                    double d = fabs(at(i, j)[c * tile + r] - whole[column + (size_t)(i * tile + r)]);
-                    if (!(d <= most)) most = d;
-                }
-        }
-    free(whole);
-    return most;
-}
-
 /* Prints one line for all processes; returns whether the result is right. */
 static int report(uint32_t threads, double seconds) {
     unsigned long mine[3] = {tasks - arrivals, arrivals, (unsigned long)sent}, all[3];
@@ -254,7 +186,6 @@ static int report(uint32_t threads, double seconds) {
 
 static void allocate_all(void) {
     size_t count = (size_t)tiles * (size_t)tiles, most = count * (size_t)(tiles + 2);
-    numbers = allocate(count, sizeof *numbers);
     writer = allocate(count, sizeof *writer);
     memset(writer, 255, count * sizeof *writer);
     goes_to = allocate(count * (size_t)processes, sizeof *goes_to);
@@ -269,20 +200,10 @@ static void free_all(void) {
 }
 
 int main(int argc, char **argv) {
-    int provided;
     pthread_t thread;
-    MPI_Init_thread(&argc, &argv, MPI_THREAD_FUNNELED, &provided);
-    MPI_Comm_rank(MPI_COMM_WORLD, &me);
-    MPI_Comm_size(MPI_COMM_WORLD, &processes);
-    MPI_Dims_create(processes, 2, grid);
-    if (argc < 4 || provided < MPI_THREAD_FUNNELED) MPI_Abort(MPI_COMM_WORLD, 2);
-    order = atoi(argv[1]), tile = atoi(argv[2]), tiles = tile > 0 ? order / tile : 0;
-    if (tiles < 1 || tiles * tile != order || tiles > 181) MPI_Abort(MPI_COMM_WORLD, 2); /* a tag may be 32767 at least */
+    begin(argc, argv, 181); /* a tag may be 32767 at least */
     uint32_t threads = (uint32_t)atoi(argv[3]);
     is_early = argc > 4 && !strcmp(argv[4], "early");
-#ifdef HAVE_BLAS
-    openblas_set_num_threads(1);
-#endif
     allocate_all();
     need(gerfmuod_team_open(&team), "open");
     describe();

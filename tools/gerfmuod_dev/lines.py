@@ -54,7 +54,7 @@ def run(_):
     for name, count, limit in (
         ("crates", crates, 31),
         ("lines of crates/", lines, 100_000),
-        ("lines of Python", lines_in("tools/dev", "tools/**/*.py"), 7_300),
+        ("lines of Python", lines_in("tools/dev", "tools/**/*.py"), 7_500),
         ("lines of documents", lines_in("*.md", "bench/README.md", "docs/**/*.md"), 4_000),
     ):
         print(f"{count:9,} of at most {limit:7,} {name}{'' if count <= limit else f': {count - limit:,} too many'}")

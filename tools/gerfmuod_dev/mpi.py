@@ -3,7 +3,8 @@
 uts_mpi.c searches two trees whose numbers of nodes and leaves are known, T1 and T3, with 1, 2, 4, 8 and 16 processes here. Then it searches
 a small tree with each hand-written detector, and with each of three faults: with a fault it has to miss nodes or not to end, which shows
 that the check can fail. The events of a small search, with their times, are checked. mpi_cholesky.c factors a matrix, each process with a
-task graph of its own, and compares the factors with those of the whole matrix, over OpenBLAS if it is installed; it has a fault, too. With
+task graph of its own, and compares the factors with those of the whole matrix, over OpenBLAS if it is installed; it has a fault, too.
+Then come the programs of `mpi_graphs`. With
 --quick trees and matrix are small, the processes at most 4, and what is missing is skipped: Open MPI, of `tools/mpi-packages`.
 """
 import collections
@@ -12,7 +13,7 @@ import os
 import shutil
 import sys
 
-from . import library, profiles, repository, running
+from . import library, mpi_graphs, profiles, repository, running
 from .c_programs import WARNINGS, Run, judge, output_of, start
 from .repository import TOP
 from .shared_object import INCLUDE, environment_options
@@ -29,10 +30,10 @@ CHOLESKY_FAULT = "early"
 PEERS = ["hand", "safra", "reductions"]
 SEEDS = 5
 COMMANDS = ("mpicc", "mpirun")
-# what to run: the trees, the order of the matrix and of its tiles, and the numbers of processes
-Size = collections.namedtuple("Size", "trees matrix counts")
-QUICK = Size(["T0"], ["256", "32"], [1, 2, 4])
-FULL = Size(["T1", "T3"], ["1024", "64"], [1, 2, 4, 8, 16])
+# what to run: the trees, the order of the matrix and of its tiles, the numbers of processes, and the number of random graphs
+Size = collections.namedtuple("Size", "trees matrix counts seeds")
+QUICK = Size(["T0"], ["256", "32"], [1, 2, 4], "60")
+FULL = Size(["T1", "T3"], ["1024", "64"], [1, 2, 4, 8, 16], "1000")
 
 
 def missing():
@@ -88,6 +89,7 @@ def run_programs(tally, folder, size):
     for processes in size.counts:
         judge_processes(tally, program, processes, [*size.matrix, "2"])
     judge_fault(tally, program, [[*QUICK.matrix, "2", CHOLESKY_FAULT]] * SEEDS, 10)
+    mpi_graphs.run_programs(tally, folder, size.counts, size.seeds, size.matrix)
 
 
 def run_quick(tally, folder):

@@ -31,7 +31,7 @@
 extern "C" {
 #endif
 
-/* The refusals, with their names and sentences as gerfmuod_refusal_text returns them. 27, 30 to 63 and 69 to 100 are none. */
+/* The refusals, with their names and sentences as gerfmuod_refusal_text returns them. 27, 30 to 63 and 70 to 100 are none. */
 enum gerfmuod_refusal {
     GERFMUOD_OK = 0,                      /* Ok: the call was not refused */
     GERFMUOD_REFUSED_NO_NODE = 1,         /* NoNode: there is no node of this number */
@@ -61,6 +61,7 @@ enum gerfmuod_refusal {
     GERFMUOD_REFUSED_STOPPED = 66,        /* Stopped: the graph was stopped, or a body failed */
     GERFMUOD_REFUSED_RUNNING = 67,        /* Running: a turn has not returned, or a task runs */
     GERFMUOD_REFUSED_NOT_WRITTEN = 68,    /* NotWritten: the stream did not take the whole text */
+    GERFMUOD_REFUSED_DIFFERENT = 69,      /* Different: the processes described different graphs */
     GERFMUOD_REFUSED_NO_WORK = 101,       /* NoWork: no piece of work is open at the process */
     GERFMUOD_REFUSED_COUNT_FULL = 102,    /* CountFull: a count or the epoch of the process is at its limit */
     GERFMUOD_REFUSED_NOT_DUE = 103,       /* NotDue: the control message is for another process, of another wave, or was taken before */

@@ -56,8 +56,10 @@ pub use denote.Slice.{shr_slice_vals, shr_slice_Tells, mut_slice_vals, mut_slice
 pub use types.Part.{whole, sub, agg}
 pub use Rattle.gerfmuod.specs.Graph.{GraphState, opened_graph}
 pub use Rattle.gerfmuod.specs.GraphCalls.{IsDescribeCall, IsGraphCall, IsSpawnCall, IsTaskCall}
+pub use Rattle.gerfmuod.specs.Part.{IsPartCall, IsSharedTaskCall, IsTaskOfCall, PartView, opened_part}
 pub use Rattle.gerfmuod.specs.contracts.slot.CoreSlot.{the_row as core_row}
 pub use Rattle.gerfmuod.specs.contracts.graph.slot.GraphSlot.{the_row as graph_row}
+pub use Rattle.gerfmuod.specs.contracts.part.slot.PartSlot.{the_row as part_row}
 pub use Rattle.gerfmuod.specs.contracts.answer.StepResult.{the_row as result_row}
 pub use Rattle.gerfmuod.proofs.answer.StepResult.TheLaws.{the_row_laws as result_laws}
 pub use Rattle.gerfmuod.specs.contracts.answer.Counters.{the_row as counters_row}

@@ -1,13 +1,15 @@
 -- A task whose inputs are inferred: what the flow found, and what the team and the flow made of it.
 use Rattle.gerfmuod.proofs.Words.{ℕ, ◌≡◌, ◌++◌, List, [], ◌∷◌, length, Option, Some, None, Ok, Err, Result, true, refl, sym, ap, subst, ◌∙◌}
-use Rattle.gerfmuod.proofs.Words.{inl, IsTrue, IfSome, ◌&&◌}
+use Rattle.gerfmuod.proofs.Words.{inl, IsTrue, IfSome, Refusal, ◌&&◌}
 use Rattle.std.specs.List.{list_all}
+use Rattle.std.specs.Option.{option_map}
 use Rattle.std.specs.Prelude.{map, nat_le, nat_lt}
 use Rattle.std.proofs.lemmas.Bool.{and_parts}
 use Rattle.tp_flow.specs.declared.access.Access.{Access}
 use Rattle.tp_flow.specs.Description.{Description, AreInputs, all_below, with_task}
 use Rattle.tp_flow.specs.State.{FlowState, Follows}
 use Rattle.tp_team.specs.declared.TeamRefusal.{TeamRefusal}
+use Rattle.tp_team.specs.declared.TeamRefusal.TheVariants.{Pool}
 use Rattle.gerfmuod.specs.Data.{access_of, is_access, FollowsOn}
 use Rattle.gerfmuod.specs.Graph.{IsJudged}
 use Rattle.gerfmuod.specs.declared.graph.access.RawAccess.{RawAccess}
@@ -32,6 +34,12 @@ pub judged_ok : {S T : Type 0} (o : Option TeamRefusal) (A : Type 0) (old : S) (
     → r ≡ Ok x → IfSome o (λ e. r ≡ Err e) → A → IsJudged o true A old u new
 judged_ok (Some e) A old u new r x is checks a = let bad : Ok x ≡ Err e = sym is ∙ checks in cc
 judged_ok None A old u new r x is checks a = inl a
+
+-- the same of a call on a part
+pub judged_part : {S T : Type 0} (o : Option Refusal) (A : Type 0) (old : S) (u : GraphResult) (new : S) (r : Result T Refusal) (x : T)
+    → r ≡ Ok x → IfSome o (λ e. r ≡ Err e) → A → IsJudged (option_map Pool o) true A old u new
+judged_part (Some e) A old u new r x is checks a = let bad : Ok x ≡ Err e = sym is ∙ checks in cc
+judged_part None A old u new r x is checks a = inl a
 
 -- the inputs that were found, in a vector that was empty
 pub found : (accesses : List Access) (old new slice : List ℕ) (a : FlowState) → old ≡ [] → slice ≡ new

@@ -2,6 +2,5 @@
 pub mod Borrowing
 pub mod Growing
 pub mod Inferring
-pub mod Refused
 pub mod Steps
 pub mod Words

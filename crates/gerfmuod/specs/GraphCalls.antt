@@ -17,8 +17,8 @@ pub record OfOpen (Call : State → GraphResult → State → Type 0) (old : Gra
   pub stays : new.is_open ≡ true
   pub flow : new.flow ≡ old.flow
 
--- A graph that is not open refuses every call; one that is open takes it.
-abbrev pub IfOpen : Bool → (Taken : Type 0) → GraphState → GraphResult → GraphState → Type 0
+-- What is not open refuses every call; what is open takes it.
+abbrev pub IfOpen : {S : Type 0} → Bool → (Taken : Type 0) → S → GraphResult → S → Type 0
 IfOpen false Taken old answer new = IsRefused (Pool NoPool) old answer new
 IfOpen true Taken old answer new = Taken
 

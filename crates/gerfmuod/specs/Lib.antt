@@ -6,6 +6,8 @@ pub mod Graph
 pub mod GraphCalls
 pub mod GraphSlot
 pub mod Meanings
+pub mod Part
+pub mod PartSlot
 pub mod Pool
 pub mod RawSteps
 pub mod Slot

@@ -63,6 +63,7 @@ texts_of n =
     (row n (numbers.number_of team.Stopped) (codes "Stopped") (codes "the graph was stopped, or a body failed")
     (row n (numbers.number_of team.Running) (codes "Running") (codes "a turn has not returned, or a task runs")
     (row n 68 (codes "NotWritten") (codes "the stream did not take the whole text")
+    (row n 69 (codes "Different") (codes "the processes described different graphs")
     (of_process n process.Inactive (codes "NoWork") (codes "no piece of work is open at the process")
     (of_process n process.Full (codes "CountFull") (codes "a count or the epoch of the process is at its limit")
     (of_process n process.NotDue (codes "NotDue")
@@ -77,4 +78,4 @@ texts_of n =
     (of_process n process.Miscounted (codes "Miscounted")
     (codes "a message was sent uncounted, or its receipt was counted twice")
     (row n 111 (codes "Mismatched")
-    (codes "the control message is from a process opened with another number of processes") None))))))))))))))))))))))))))))))))))))))))))))
+    (codes "the control message is from a process opened with another number of processes") None)))))))))))))))))))))))))))))))))))))))))))))

@@ -12,8 +12,8 @@ use crate::graph::calls::{call, describe, spawn, task};
 use crate::graph::slot::GraphSlot;
 use std::alloc::Global;
 
-mod access;
-mod answer;
+pub(crate) mod access;
+pub(crate) mod answer;
 mod call;
 mod calls;
 mod data;

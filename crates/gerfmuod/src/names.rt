@@ -7,7 +7,7 @@ use crate::answer::Written;
 use crate::text::{NO_TEXT, WRITTEN, put, unwritten};
 
 /// Returns the name and the meaning of the refusal of this number, if there is one: 0, that the call was not refused; 1 to 26 of
-/// a core or a task graph; 28 and 29 of a core; 64 to 68 of a task graph or a team; 101 to 111 of a process.
+/// a core or a task graph; 28 and 29 of a core; 64 to 69 of a task graph or a team; 101 to 111 of a process.
 fn texts_of(number: u32) -> Option<(&'static str, &'static str)>
     ensures { option_map (λ t. (t.0.now, t.1.now)) result ≡ texts_of number }
 {
@@ -76,6 +76,7 @@ fn texts_of(number: u32) -> Option<(&'static str, &'static str)>
         66 => ("Stopped", "the graph was stopped, or a body failed"),
         67 => ("Running", "a turn has not returned, or a task runs"),
         68 => ("NotWritten", "the stream did not take the whole text"),
+        69 => ("Different", "the processes described different graphs"),
         101 => ("NoWork", "no piece of work is open at the process"),
         102 => (
             "CountFull",

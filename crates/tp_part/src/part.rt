@@ -106,6 +106,13 @@ impl Part {
         }
     }
 
+    /// Returns how many tasks were described, of all parts.
+    pub fn described(&self) -> u32
+        ensures { result ≡ self.now.described }
+    {
+        self.described
+    }
+
     /// Describes one more task of the whole graph: the part that owns it, its class, 0 (which runs first) to 3, and the tasks that it
     /// reads. Returns its number, which is how many tasks were described before it. Every part describes all tasks, in the same order; a
     /// task of another part that concerns no own task costs no memory.

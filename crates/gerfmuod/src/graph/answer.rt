@@ -16,11 +16,12 @@ pub(crate) const NO_NUMBER: u32 = 4_294_967_295;
 pub struct GraphResult {
     /// 0, or the number of the refusal.
     pub refused: u32,
-    /// Of a turn: 1, run the task `number`; 2, spin; 3, sleep; 4, leave. Else 0, or as the call says.
+    /// Of a turn: 1, run the task `number`; 2, spin; 3, sleep; 4, leave. Of a part: 1, run it; 2, send its value; 3, wait; 4, stop.
+    /// Else 0, or as the call says.
     pub next: u32,
     /// A task or a count, as the call says; if the refusal is `HistoryFull`, the limit that was met. Else 0.
     pub number: u32,
-    /// The number of sleeping threads to signal.
+    /// The number of sleeping threads to signal; of a part that has a message to send, the part that gets it.
     pub signals: u32,
 }
 

@@ -1,0 +1,625 @@
+/* gerfmuod/mpi.c: a task graph over the processes of a communicator. What runs next and what is sent where is decided by the proved
+ * calls of gerfmuod/part.h. This file has the data, the threads and the messages. It is tested, not proved.
+ *
+ * A datum is the caller's memory where it lives, and a copy for each version elsewhere: from the message that brings it until the last
+ * task here that reads it. The graph has a task for each datum, its initial value. A message has the versions that one task wrote
+ * and another process reads, in the order in which the graph's tasks name them. Its tag is the number of the task, from 1.
+ *
+ * A version may be sent from the caller's memory: the next task that writes it waits for the tasks that read it, also elsewhere, so
+ * for the message. */
+#define _POSIX_C_SOURCE 200809L
+#include <gerfmuod/mpi.h>
+#include <gerfmuod/part.h>
+
+#include <limits.h>
+#include <pthread.h>
+#include <sched.h>
+#include <stdbool.h>
+#include <stdlib.h>
+#include <string.h>
+#include <time.h>
+
+/* The tags of messages: that the graph was stopped, and the first with a value. */
+enum { STOP = 0, FIRST_VALUE = 1 };
+/* After so many polls without a message the main thread sleeps between them, each time longer, at most 1 << NAPS microseconds. */
+enum { POLLS = 200, NAPS = 6 };
+
+/* A version of a datum that comes from another process. */
+typedef struct copy {
+    void *at;
+    size_t size;
+    uint32_t task;    /* the task that writes it */
+    uint32_t readers; /* how many accesses of tasks here have not read it */
+    uint32_t place;   /* among all copies, in the order of the description */
+} copy;
+
+typedef struct {
+    int owner;
+    void *at; /* in the process of the owner */
+    size_t size;
+    uint32_t first;  /* the task of its initial value */
+    uint32_t writer; /* the newest task that writes it */
+    copy *newest;    /* elsewhere: the copy of this version, if a task here reads it */
+} datum;
+
+/* A message with versions that a task wrote. */
+typedef struct message {
+    int to;
+    uint32_t count, *data;
+    struct message *next;
+} message;
+
+/* One value that a body gets: of a datum, or of a copy. */
+typedef struct {
+    void **at;
+    copy *from;
+} value;
+
+/* A task of this process. */
+typedef struct {
+    uint32_t number;
+    uint32_t count;
+    gerfmuod_mpi_body body; /* NULL: the initial value of a datum */
+    void *arguments;
+    value *values;
+    message *messages;
+} task;
+
+typedef struct {
+    uint32_t task;
+    int to;
+} letter;
+
+struct gerfmuod_mpi {
+    MPI_Comm communicator;
+    int me, processes;
+    uint32_t refused; /* the first refusal of a description */
+    uint64_t hash;    /* of the description */
+    bool has_run;
+    datum **data;
+    uint32_t data_count;
+    task *tasks; /* their numbers ascend */
+    uint32_t tasks_count, described;
+    copy **copies;
+    uint32_t copies_count;
+    /* one lock protects the part, and all below; `work` is signalled when a task may be ready */
+    pthread_mutex_t lock;
+    pthread_cond_t work;
+    gerfmuod_part part;
+    uint32_t sleeping;
+    bool is_over, is_stopped;
+    int64_t failure;  /* the process and the task whose body failed, or NO_FAILURE */
+    letter *due;      /* messages for the main thread */
+    uint32_t due_count;
+    /* of the main thread alone */
+    MPI_Request *requests;
+    uint32_t requests_count;
+    uint64_t *sent_to, *received_from;
+    int64_t told; /* the failure of which the others were told, or NO_FAILURE */
+};
+
+/* Signed, as MPICH compares MPI_UINT64_T too. */
+#define NO_FAILURE INT64_MAX
+
+static void *refuse(gerfmuod_mpi *graph, uint32_t refused) {
+    if (!graph->refused) graph->refused = refused;
+    return NULL;
+}
+
+/* A block with room for one more element: it grows at powers of two. NULL if memory ran out, and the old block stays. */
+static void *grown(void *block, uint32_t count, size_t size) {
+    return count & (count - 1) ? block : realloc(block, (count ? 2 * (size_t)count : 1) * size);
+}
+
+/* ---- the description */
+uint32_t gerfmuod_mpi_open(gerfmuod_mpi **opened, MPI_Comm communicator) {
+    gerfmuod_mpi *graph = calloc(1, sizeof *graph);
+    int lacks = !graph, lack;
+    MPI_Allreduce(&lacks, &lack, 1, MPI_INT, MPI_MAX, communicator);
+    *opened = lack ? NULL : graph;
+    if (lack) return free(graph), (uint32_t)GERFMUOD_REFUSED_NO_MEMORY;
+    MPI_Comm_dup(communicator, &graph->communicator);
+    MPI_Comm_rank(graph->communicator, &graph->me);
+    MPI_Comm_size(graph->communicator, &graph->processes);
+    gerfmuod_part_open(&graph->part, (uint32_t)graph->me, (uint32_t)graph->processes);
+    pthread_mutex_init(&graph->lock, NULL);
+    pthread_cond_init(&graph->work, NULL);
+    graph->failure = graph->told = NO_FAILURE;
+    graph->hash = 0xcbf29ce484222325u;
+    return GERFMUOD_OK;
+}
+
+/* The hash of Fowler, Noll and Vo (FNV-1a), over words. */
+static void mix(gerfmuod_mpi *graph, uint64_t word) { graph->hash = (graph->hash ^ word) * 0x100000001b3u; }
+
+/* Describes a task to the part. Returns its number, or none if the description was refused. */
+static uint32_t described(gerfmuod_mpi *graph, uint32_t class_, const gerfmuod_access *accesses, size_t count, int owner) {
+    mix(graph, (uint64_t)owner << 32 | class_);
+    for (size_t k = 0; k < count; k++) mix(graph, (uint64_t)accesses[k].handle << 32 | accesses[k].mode);
+    gerfmuod_part_result result = gerfmuod_part_shared_task(&graph->part, class_, accesses, count, (uint32_t)owner);
+    if (result.refused) refuse(graph, result.refused);
+    else graph->described = result.number + 1;
+    return result.refused ? GERFMUOD_GRAPH_NONE : result.number;
+}
+
+/* One more task of this process, which the part has. NULL if memory ran out. */
+static task *own_task(gerfmuod_mpi *graph, uint32_t number, gerfmuod_mpi_body body, const void *arguments, size_t size, size_t count) {
+    task *tasks = grown(graph->tasks, graph->tasks_count, sizeof *tasks);
+    if (!tasks) return refuse(graph, GERFMUOD_REFUSED_NO_MEMORY);
+    graph->tasks = tasks;
+    task *added = &tasks[graph->tasks_count++];
+    *added = (task){.number = number, .count = (uint32_t)count, .body = body};
+    added->arguments = malloc(size ? size : 1);
+    added->values = calloc(count ? count : 1, sizeof *added->values);
+    if (!added->arguments || !added->values) return refuse(graph, GERFMUOD_REFUSED_NO_MEMORY);
+    if (size) memcpy(added->arguments, arguments, size);
+    return added;
+}
+
+uint32_t gerfmuod_mpi_data(gerfmuod_mpi *graph, int owner, void *at, size_t size) {
+    uint32_t handle = graph->data_count;
+    if (graph->refused) return handle;
+    if (owner < 0 || owner >= graph->processes) return refuse(graph, GERFMUOD_REFUSED_NO_NODE), handle;
+    if (size > INT_MAX) return refuse(graph, GERFMUOD_REFUSED_BAD_SPEC), handle;
+    datum *added = calloc(1, sizeof *added), **data = grown(graph->data, handle, sizeof *data);
+    if (data) graph->data = data;
+    if (!added || !data) return free(added), refuse(graph, GERFMUOD_REFUSED_NO_MEMORY), handle;
+    data[graph->data_count++] = added;
+    mix(graph, size);
+    gerfmuod_part_result result = gerfmuod_part_call(&graph->part, GERFMUOD_PART_HANDLE, 0);
+    if (result.refused) return refuse(graph, result.refused), handle;
+    gerfmuod_access writes = GERFMUOD_WRITES(handle);
+    *added = (datum){.owner = owner, .at = owner == graph->me ? at : NULL, .size = size};
+    added->first = added->writer = described(graph, 0, &writes, 1, owner);
+    if (owner == graph->me && !graph->refused) own_task(graph, added->writer, NULL, NULL, 0, 0);
+    return handle;
+}
+
+/* The task of this process with a number. */
+static task *find_task(const gerfmuod_mpi *graph, uint32_t number) {
+    uint32_t low = 0, high = graph->tasks_count;
+    while (high - low > 1) {
+        uint32_t middle = low + (high - low) / 2;
+        if (graph->tasks[middle].number <= number) low = middle;
+        else high = middle;
+    }
+    return &graph->tasks[low];
+}
+
+/* The present version of an own datum goes to a process, once. */
+static void goes(gerfmuod_mpi *graph, uint32_t handle, int to) {
+    task *writer = find_task(graph, graph->data[handle]->writer);
+    message *m = writer->messages;
+    while (m && m->to != to) m = m->next;
+    if (!m && (m = calloc(1, sizeof *m))) *m = (message){.to = to, .next = writer->messages}, writer->messages = m;
+    for (uint32_t k = 0; m && k < m->count; k++)
+        if (m->data[k] == handle) return;
+    uint32_t *data = m ? grown(m->data, m->count, sizeof *data) : NULL;
+    if (data) m->data = data, data[m->count++] = handle;
+    else refuse(graph, GERFMUOD_REFUSED_NO_MEMORY);
+}
+
+/* The copy of the present version of another process's datum. NULL if memory ran out. */
+static copy *comes(gerfmuod_mpi *graph, datum *d) {
+    if (d->newest) return d->newest;
+    copy *added = calloc(1, sizeof *added), **copies = grown(graph->copies, graph->copies_count, sizeof *copies);
+    if (copies) graph->copies = copies;
+    if (!added || !copies) return free(added), refuse(graph, GERFMUOD_REFUSED_NO_MEMORY);
+    *added = (copy){.size = d->size, .task = d->writer, .place = graph->copies_count};
+    graph->copies[graph->copies_count++] = added;
+    return d->newest = added;
+}
+
+/* The process where a task runs, or -1, with the reason in the graph. */
+static int process_of(gerfmuod_mpi *graph, const gerfmuod_access *accesses, size_t count) {
+    int owner = -1;
+    for (size_t k = 0; k < count; k++) {
+        if (accesses[k].handle >= graph->data_count) return refuse(graph, GERFMUOD_REFUSED_BAD_SPEC), -1;
+        int lives = graph->data[accesses[k].handle]->owner;
+        if (accesses[k].mode == GERFMUOD_READ) continue;
+        if (owner >= 0 && lives != owner) return refuse(graph, GERFMUOD_REFUSED_NO_NODE), -1;
+        owner = lives;
+    }
+    if (!count) return refuse(graph, GERFMUOD_REFUSED_BAD_SPEC), -1;
+    return owner < 0 ? graph->data[accesses[0].handle]->owner : owner;
+}
+
+void gerfmuod_mpi_task_on(gerfmuod_mpi *graph, uint32_t class_, gerfmuod_mpi_body body, const void *arguments, size_t size,
+                          const gerfmuod_access *accesses, size_t count) {
+    int owner = graph->refused ? -1 : process_of(graph, accesses, count);
+    uint32_t number = owner < 0 ? GERFMUOD_GRAPH_NONE : described(graph, class_, accesses, count, owner);
+    if (graph->refused) return;
+    task *added = owner == graph->me ? own_task(graph, number, body, arguments, size, count) : NULL;
+    for (size_t k = 0; k < count && !graph->refused; k++) {
+        datum *d = graph->data[accesses[k].handle];
+        bool reads = accesses[k].mode != GERFMUOD_WRITE;
+        if (added && d->owner == graph->me) added->values[k].at = &d->at;
+        else if (added && comes(graph, d)) added->values[k] = (value){&d->newest->at, d->newest}, d->newest->readers++;
+        else if (d->owner == graph->me && reads) goes(graph, accesses[k].handle, owner);
+    }
+    for (size_t k = 0; k < count; k++)
+        if (accesses[k].mode != GERFMUOD_READ) {
+            datum *d = graph->data[accesses[k].handle];
+            d->writer = number, d->newest = NULL;
+        }
+}
+
+/* ---- the threads */
+
+/* The failure of a task of this process. */
+static int64_t failure_of(const gerfmuod_mpi *graph, uint32_t number) { return (int64_t)graph->me << 32 | number; }
+
+/* Ends the run here because of a process and a task, the lowest of them. The lock is held. */
+static void stop(gerfmuod_mpi *graph, int64_t failure) {
+    if (failure < graph->failure) graph->failure = failure;
+    graph->is_stopped = true;
+    pthread_cond_broadcast(&graph->work);
+}
+
+/* Runs the body of a task; returns whether it succeeded. */
+static bool run_body(const task *t) {
+    void *few[8], **values = t->count <= 8 ? few : malloc(t->count * sizeof *values);
+    if (!values) return false;
+    for (uint32_t k = 0; k < t->count; k++) values[k] = *t->values[k].at;
+    bool is_well = !t->body || t->body(t->arguments, values) == 0;
+    if (values != few) free(values);
+    return is_well;
+}
+
+/* Frees the copies that the task was the last to read. The lock is held. */
+static void leave_copies(const task *t) {
+    for (uint32_t k = 0; k < t->count; k++) {
+        copy *c = t->values[k].from;
+        if (c && --c->readers == 0) free(c->at), c->at = NULL;
+    }
+}
+
+/* Runs a task that the part returned, and reports it. The lock is held, but not while the body runs. */
+static void run_task(gerfmuod_mpi *graph, uint32_t number) {
+    task *t = find_task(graph, number);
+    if (graph->sleeping) pthread_cond_signal(&graph->work); /* another may be ready */
+    pthread_mutex_unlock(&graph->lock);
+    bool is_well = run_body(t);
+    pthread_mutex_lock(&graph->lock);
+    leave_copies(t);
+    if (!is_well) stop(graph, failure_of(graph, number));
+    else if (gerfmuod_part_call(&graph->part, GERFMUOD_PART_DONE, number).refused) stop(graph, failure_of(graph, number));
+}
+
+/* Leaves a message to the main thread. The lock is held. */
+static void leave_letter(gerfmuod_mpi *graph, letter l) {
+    letter *due = grown(graph->due, graph->due_count, sizeof *due);
+    if (due) graph->due = due, due[graph->due_count++] = l;
+    else stop(graph, failure_of(graph, l.task));
+}
+
+/* A thread: runs tasks, and leaves messages to the main thread, until the part is over or the run was stopped. */
+static void *work(void *context) {
+    gerfmuod_mpi *graph = context;
+    pthread_mutex_lock(&graph->lock);
+    while (!graph->is_over && !graph->is_stopped) {
+        gerfmuod_part_result next = gerfmuod_part_call(&graph->part, GERFMUOD_PART_NEXT, 0);
+        if (next.next == GERFMUOD_PART_RUN) run_task(graph, next.number);
+        else if (next.next == GERFMUOD_PART_SEND) leave_letter(graph, (letter){next.number, (int)next.to});
+        else if (next.next == GERFMUOD_PART_OVER) graph->is_over = true, pthread_cond_broadcast(&graph->work);
+        else graph->sleeping++, pthread_cond_wait(&graph->work, &graph->lock), graph->sleeping--;
+    }
+    pthread_mutex_unlock(&graph->lock);
+    return NULL;
+}
+
+/* ---- the messages; all that follows is of the main thread */
+
+/* Room for one more request. */
+static MPI_Request *new_request(gerfmuod_mpi *graph) {
+    MPI_Request *requests = grown(graph->requests, graph->requests_count, sizeof *requests);
+    if (!requests) MPI_Abort(graph->communicator, GERFMUOD_REFUSED_NO_MEMORY);
+    return &(graph->requests = requests)[graph->requests_count++];
+}
+
+/* Where the values of a message are. */
+typedef struct {
+    uint32_t count;
+    MPI_Aint *at;
+    int *sizes;
+} places;
+
+static places new_places(gerfmuod_mpi *graph, uint32_t count) {
+    places p = {count, malloc((count + 1) * sizeof *p.at), malloc((count + 1) * sizeof *p.sizes)};
+    if (!p.at || !p.sizes) MPI_Abort(graph->communicator, GERFMUOD_REFUSED_NO_MEMORY);
+    return p;
+}
+
+/* The type of a message with these values, relative to MPI_BOTTOM. It is freed once it is not used. */
+static MPI_Datatype type_of(places p) {
+    MPI_Datatype type;
+    MPI_Type_create_hindexed((int)p.count, p.sizes, p.at, MPI_BYTE, &type);
+    MPI_Type_commit(&type);
+    free(p.at), free(p.sizes);
+    return type;
+}
+
+static void send_letter(gerfmuod_mpi *graph, letter l) {
+    message *m = find_task(graph, l.task)->messages;
+    while (m && m->to != l.to) m = m->next;
+    places p = new_places(graph, m ? m->count : 0); /* without a value, if a task there only waits until this one has read */
+    for (uint32_t k = 0; k < p.count; k++) {
+        datum *d = graph->data[m->data[k]];
+        MPI_Get_address(d->at, &p.at[k]), p.sizes[k] = (int)d->size;
+    }
+    MPI_Datatype type = type_of(p);
+    MPI_Isend(MPI_BOTTOM, 1, type, l.to, FIRST_VALUE + (int)l.task, graph->communicator, new_request(graph));
+    MPI_Type_free(&type);
+    graph->sent_to[l.to]++;
+}
+
+/* Tells the others that the run was stopped. */
+static void tell(gerfmuod_mpi *graph) {
+    for (int p = 0; p < graph->processes; p++)
+        if (p != graph->me) {
+            MPI_Isend(&graph->told, 1, MPI_INT64_T, p, STOP, graph->communicator, new_request(graph));
+            graph->sent_to[p]++;
+        }
+}
+
+/* Sends what the threads left for it; returns whether there was something. */
+static bool send_due(gerfmuod_mpi *graph) {
+    pthread_mutex_lock(&graph->lock);
+    letter *due = graph->due;
+    uint32_t count = graph->due_count;
+    graph->due = NULL, graph->due_count = 0;
+    bool tells = graph->told == NO_FAILURE && graph->is_stopped && graph->failure >> 32 == graph->me;
+    if (tells) graph->told = graph->failure;
+    pthread_mutex_unlock(&graph->lock);
+    for (uint32_t k = 0; k < count; k++) send_letter(graph, due[k]);
+    free(due);
+    if (tells) tell(graph);
+    return count || tells;
+}
+
+static int by_task(const void *one, const void *other) {
+    const copy *a = *(copy *const *)one, *b = *(copy *const *)other;
+    if (a->task != b->task) return a->task < b->task ? -1 : 1;
+    return a->place < b->place ? -1 : a->place > b->place;
+}
+
+/* The first copy that a message with the value of a task brings; the others follow. */
+static uint32_t first_copy(const gerfmuod_mpi *graph, uint32_t number) {
+    uint32_t low = 0, high = graph->copies_count;
+    while (low < high) {
+        uint32_t middle = low + (high - low) / 2;
+        if (graph->copies[middle]->task < number) low = middle + 1;
+        else high = middle;
+    }
+    return low;
+}
+
+static void receive_value(gerfmuod_mpi *graph, int from, uint32_t number) {
+    uint32_t first = first_copy(graph, number), count = 0;
+    while (first + count < graph->copies_count && graph->copies[first + count]->task == number) count++;
+    places p = new_places(graph, count);
+    for (uint32_t k = 0; k < count; k++) {
+        copy *c = graph->copies[first + k];
+        if (!(c->at = malloc(c->size ? c->size : 1))) MPI_Abort(graph->communicator, GERFMUOD_REFUSED_NO_MEMORY);
+        MPI_Get_address(c->at, &p.at[k]), p.sizes[k] = (int)c->size;
+    }
+    MPI_Datatype type = type_of(p);
+    MPI_Recv(MPI_BOTTOM, 1, type, from, FIRST_VALUE + (int)number, graph->communicator, MPI_STATUS_IGNORE);
+    MPI_Type_free(&type);
+    pthread_mutex_lock(&graph->lock);
+    uint32_t refused = gerfmuod_part_call(&graph->part, GERFMUOD_PART_ARRIVED, number).refused;
+    if (graph->sleeping) pthread_cond_signal(&graph->work);
+    pthread_mutex_unlock(&graph->lock);
+    if (refused) MPI_Abort(graph->communicator, (int)refused); /* the processes described the same graph, so nothing else comes */
+}
+
+/* Receives one message, if one came; returns whether it did. */
+static bool receive(gerfmuod_mpi *graph) {
+    int is_there;
+    MPI_Status status;
+    MPI_Iprobe(MPI_ANY_SOURCE, MPI_ANY_TAG, graph->communicator, &is_there, &status);
+    if (!is_there) return false;
+    graph->received_from[status.MPI_SOURCE]++;
+    if (status.MPI_TAG != STOP) {
+        receive_value(graph, status.MPI_SOURCE, (uint32_t)(status.MPI_TAG - FIRST_VALUE));
+        return true;
+    }
+    int64_t failure;
+    MPI_Recv(&failure, 1, MPI_INT64_T, status.MPI_SOURCE, STOP, graph->communicator, MPI_STATUS_IGNORE);
+    pthread_mutex_lock(&graph->lock);
+    stop(graph, failure);
+    pthread_mutex_unlock(&graph->lock);
+    return true;
+}
+
+/* Drops the requests that are complete. */
+static void forget_sent(gerfmuod_mpi *graph) {
+    uint32_t left = 0;
+    for (uint32_t k = 0; k < graph->requests_count; k++) {
+        int is_complete;
+        MPI_Test(&graph->requests[k], &is_complete, MPI_STATUS_IGNORE);
+        if (!is_complete) graph->requests[left++] = graph->requests[k];
+    }
+    graph->requests_count = left;
+}
+
+/* Pauses after some polls without a message. */
+static void pause_after(uint32_t *polls) {
+    uint32_t naps = ++*polls > POLLS ? *polls - POLLS : 0;
+    if (naps) nanosleep(&(struct timespec){.tv_nsec = 1000L << (naps < NAPS ? naps : NAPS)}, NULL);
+    else sched_yield();
+}
+
+/* Sends and receives until this process is over or stopped, and then until all are. Leaves in `failure` what all agree on. */
+static void communicate(gerfmuod_mpi *graph, int64_t *failure) {
+    MPI_Request agreed = MPI_REQUEST_NULL;
+    bool has_ended = false;
+    int agree = 0;
+    int64_t mine = NO_FAILURE;
+    for (uint32_t polls = 0; !agree || graph->requests_count;) {
+        if (!has_ended) {
+            pthread_mutex_lock(&graph->lock);
+            has_ended = graph->is_over || graph->is_stopped;
+            mine = graph->is_stopped ? graph->failure : NO_FAILURE;
+            pthread_mutex_unlock(&graph->lock);
+            bool is_more = send_due(graph); /* after this look: nothing is due any more once the part is over */
+            if (has_ended) MPI_Iallreduce(&mine, failure, 1, MPI_INT64_T, MPI_MIN, graph->communicator, &agreed);
+            if (is_more) polls = 0;
+        } else if (!agree) MPI_Test(&agreed, &agree, MPI_STATUS_IGNORE);
+        forget_sent(graph);
+        if (receive(graph)) polls = 0;
+        else if (!agree || graph->requests_count) pause_after(&polls);
+    }
+}
+
+/* After a stop: receives what is still in flight, so that nothing of this run is left in the communicator. */
+static void drain(gerfmuod_mpi *graph) {
+    uint64_t *sent = calloc((size_t)graph->processes, sizeof *sent);
+    if (!sent) MPI_Abort(graph->communicator, GERFMUOD_REFUSED_NO_MEMORY);
+    MPI_Alltoall(graph->sent_to, 1, MPI_UINT64_T, sent, 1, MPI_UINT64_T, graph->communicator);
+    for (int p = 0; p < graph->processes; p++)
+        while (graph->received_from[p] < sent[p]) receive(graph);
+    free(sent);
+}
+
+/* ---- a run */
+
+/* What all processes return, if one of them may not run. */
+static uint32_t agree_to_run(gerfmuod_mpi *graph, uint32_t refused) {
+    uint64_t mine[3] = {refused ? (uint64_t)(graph->processes - graph->me) << 32 | refused : 0, graph->hash, ~graph->hash}, all[3];
+    MPI_Allreduce(mine, all, 3, MPI_UINT64_T, MPI_MAX, graph->communicator);
+    if (all[0]) return (uint32_t)all[0];
+    return all[1] == ~all[2] ? GERFMUOD_OK : GERFMUOD_REFUSED_DIFFERENT;
+}
+
+/* Allocates what a run needs; returns the refusal. */
+static uint32_t prepare(gerfmuod_mpi *graph, uint32_t threads) {
+    int *most, is_set;
+    MPI_Comm_get_attr(graph->communicator, MPI_TAG_UB, &most, &is_set);
+    if (graph->has_run) return GERFMUOD_REFUSED_WRONG_LIFE;
+    if (graph->refused) return graph->refused;
+    if (!threads) return GERFMUOD_REFUSED_NO_THREAD;
+    if (is_set && graph->described > (uint32_t)*most) return GERFMUOD_REFUSED_HISTORY_FULL;
+    size_t processes = (size_t)graph->processes;
+    graph->sent_to = calloc(processes, sizeof *graph->sent_to);
+    graph->received_from = calloc(processes, sizeof *graph->received_from);
+    if (!graph->sent_to || !graph->received_from) return GERFMUOD_REFUSED_NO_MEMORY;
+    if (graph->copies_count) qsort(graph->copies, graph->copies_count, sizeof(copy *), by_task);
+    return gerfmuod_part_call(&graph->part, GERFMUOD_PART_START, 0).refused;
+}
+
+uint32_t gerfmuod_mpi_run(gerfmuod_mpi *graph, uint32_t threads) {
+    uint32_t refused = prepare(graph, threads), begun = 0;
+    pthread_t *started = refused ? NULL : malloc(threads * sizeof *started);
+    if (!refused && !started) refused = GERFMUOD_REFUSED_NO_MEMORY;
+    pthread_mutex_lock(&graph->lock); /* the threads begin when all processes may run */
+    while (!refused && begun < threads && !pthread_create(&started[begun], NULL, work, graph)) begun++;
+    if (!refused && begun < threads) refused = GERFMUOD_REFUSED_NOT_STARTED;
+    refused = agree_to_run(graph, refused);
+    graph->has_run = true;
+    graph->is_stopped = refused != 0;
+    pthread_mutex_unlock(&graph->lock);
+    int64_t failure = NO_FAILURE;
+    if (!refused) communicate(graph, &failure);
+    for (uint32_t k = 0; k < begun; k++) pthread_join(started[k], NULL);
+    free(started);
+    if (failure != NO_FAILURE) drain(graph), graph->failure = failure, refused = GERFMUOD_REFUSED_STOPPED;
+    return refused;
+}
+
+void gerfmuod_mpi_failed(const gerfmuod_mpi *graph, int *process, uint32_t *number) {
+    uint32_t initial = 0;
+    while (initial < graph->data_count && graph->data[initial]->first < (uint32_t)graph->failure) initial++;
+    *process = (int)(graph->failure >> 32), *number = (uint32_t)graph->failure - initial;
+}
+
+uint64_t gerfmuod_mpi_messages(const gerfmuod_mpi *graph) {
+    uint64_t sum = 0;
+    for (int p = 0; graph->sent_to && p < graph->processes; p++) sum += graph->sent_to[p];
+    return sum;
+}
+
+static void free_task(task *t) {
+    for (message *m = t->messages, *next; m; m = next) next = m->next, free(m->data), free(m);
+    free(t->arguments), free(t->values);
+}
+
+void gerfmuod_mpi_close(gerfmuod_mpi *graph) {
+    if (!graph) return;
+    (void)!gerfmuod_part_call(&graph->part, GERFMUOD_PART_CLOSE, 0).refused;
+    for (uint32_t k = 0; k < graph->tasks_count; k++) free_task(&graph->tasks[k]);
+    for (uint32_t k = 0; k < graph->data_count; k++) free(graph->data[k]);
+    for (uint32_t k = 0; k < graph->copies_count; k++) free(graph->copies[k]->at), free(graph->copies[k]);
+    free(graph->tasks), free(graph->data), free(graph->copies), free(graph->due), free(graph->requests);
+    free(graph->sent_to), free(graph->received_from);
+    pthread_cond_destroy(&graph->work);
+    pthread_mutex_destroy(&graph->lock);
+    MPI_Comm_free(&graph->communicator);
+    free(graph);
+}
+
+/* ---- the detector */
+uint32_t gerfmuod_mpi_detector_open(gerfmuod_mpi_detector *detector, MPI_Comm communicator) {
+    int me, processes;
+    for (int k = 0; k < 2; k++) MPI_Comm_dup(communicator, &detector->communicators[k]);
+    for (int k = 0; k < 4; k++) detector->requests[k] = MPI_REQUEST_NULL;
+    MPI_Comm_rank(communicator, &me);
+    MPI_Comm_size(communicator, &processes);
+    return gerfmuod_process_init(&detector->process, (uint32_t)me, (uint32_t)processes);
+}
+
+MPI_Comm gerfmuod_mpi_detector_communicator(const gerfmuod_mpi_detector *detector) {
+    return detector->communicators[detector->process.epoch & 1];
+}
+
+/* Sends a control message from a place that is free, or becomes free: a process has few in flight. */
+static void send_control(gerfmuod_mpi_detector *detector, const gerfmuod_control_message *message) {
+    int k, is_free = 0;
+    for (k = 0; k < 4 && !is_free; k++) MPI_Test(&detector->requests[k], &is_free, MPI_STATUS_IGNORE);
+    if (is_free) k--;
+    else MPI_Waitany(4, detector->requests, &k, MPI_STATUS_IGNORE);
+    detector->control[k] = *message;
+    MPI_Isend(&detector->control[k], sizeof *message, MPI_BYTE, (int)message->to, GERFMUOD_MPI_FIRST_TAG,
+              gerfmuod_mpi_detector_communicator(detector), &detector->requests[k]);
+}
+
+/* Sends what is due; returns what gerfmuod_process_next returned last. */
+static uint32_t send_all_due(gerfmuod_mpi_detector *detector) {
+    gerfmuod_control_message message;
+    uint32_t next;
+    while ((next = gerfmuod_process_next(&detector->process, &message)) == GERFMUOD_PROCESS_SEND) send_control(detector, &message);
+    return next;
+}
+
+/* Looks for a message, and takes control messages; *has_ended says whether the epoch has ended. */
+static uint32_t look(gerfmuod_mpi_detector *detector, int *has_message, MPI_Status *status, bool *has_ended) {
+    MPI_Comm communicator = gerfmuod_mpi_detector_communicator(detector);
+    gerfmuod_control_message message;
+    for (uint32_t next, refused;;) {
+        *has_message = 0;
+        if ((next = send_all_due(detector)) > 100) return next;
+        if ((*has_ended = next == GERFMUOD_PROCESS_ENDED)) return GERFMUOD_OK;
+        MPI_Iprobe(MPI_ANY_SOURCE, MPI_ANY_TAG, communicator, has_message, status);
+        if (!*has_message || status->MPI_TAG != GERFMUOD_MPI_FIRST_TAG) return GERFMUOD_OK;
+        MPI_Recv(&message, sizeof message, MPI_BYTE, status->MPI_SOURCE, GERFMUOD_MPI_FIRST_TAG, communicator, MPI_STATUS_IGNORE);
+        if ((refused = gerfmuod_process_take(&detector->process, &message))) return refused;
+    }
+}
+
+uint32_t gerfmuod_mpi_detector_test(gerfmuod_mpi_detector *detector, int *has_message, MPI_Status *status) {
+    bool has_ended;
+    return look(detector, has_message, status, &has_ended);
+}
+
+uint32_t gerfmuod_mpi_detector_wait(gerfmuod_mpi_detector *detector, int *has_message, MPI_Status *status) {
+    uint32_t polls = 0, refused;
+    for (bool has_ended = false;; pause_after(&polls))
+        if ((refused = look(detector, has_message, status, &has_ended)) || *has_message || has_ended) return refused;
+}
+
+uint32_t gerfmuod_mpi_detector_reopen(gerfmuod_mpi_detector *detector) { return gerfmuod_process_reopen(&detector->process); }
+
+void gerfmuod_mpi_detector_close(gerfmuod_mpi_detector *detector) {
+    for (int k = 0; k < 4; k++) MPI_Wait(&detector->requests[k], MPI_STATUS_IGNORE);
+    for (int k = 0; k < 2; k++) MPI_Comm_free(&detector->communicators[k]);
+}

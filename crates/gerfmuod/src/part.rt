@@ -1,0 +1,79 @@
+//! One part of a task graph that several processes run together, for programs in C: a part in the caller's memory. The
+//! header `gerfmuod/part.h` states what a caller must ensure.
+ghost use Rattle.std.specs.Borrow.{full_share, sem};
+ghost use Rattle.std.specs.Ptr.{lies_at, room_at};
+ghost use Rattle.gerfmuod.specs.contracts.part.slot.PartSlot.{the_row as slot_row};
+ghost use Rattle.gerfmuod.specs.Part.{IsPartCall, IsSharedTaskCall, IsTaskOfCall, opened_part, PartView};
+
+use crate::graph::access::RawAccess;
+use crate::graph::answer::GraphResult;
+use crate::part::calls::{call, shared_task, task};
+use crate::part::slot::PartSlot;
+use std::alloc::Global;
+
+mod call;
+mod calls;
+mod slot;
+mod tasks;
+
+/// Opens part `number` of `parts`, without a task, in the memory at `part`. It allocates nothing.
+#[unsafe(no_mangle)]
+pub unsafe extern "C" fn gerfmuod_part_open(alloc: Global, part: *mut u8, number: u32, parts: u32)
+    requires* { sem 𝓛 (room_at slot_row part) }
+    ensures* { sem 𝓛 (lies_at slot_row full_share part (opened_part number parts)) }
+{
+    let made = PartSlot::open(alloc, number, parts);
+    (part as *mut PartSlot).write(made)
+}
+
+/// Makes the call of a number, 0 to 5, as the header says.
+///
+/// Refused, and nothing changes: `NoPool` if the part is not open; `BadSpec` if there is no such call; then as the call of
+/// `Part` is, or `Flow::handle`.
+#[unsafe(no_mangle)]
+pub unsafe extern "C" fn gerfmuod_part_call(part: *mut u8, number: u32, task: u32) -> GraphResult
+    ghost old: { PartView }
+    requires* { sem 𝓛 (lies_at slot_row full_share part old) }
+    ensures* { ∃ₛ (λ (new : PartView). sem 𝓛 (lies_at slot_row full_share part new)
+        ∗ ⌜ IsPartCall old number task result new ⌝) }
+{
+    call(&mut *(part as *mut PartSlot), number, task)
+}
+
+/// Describes one more task of the whole graph: its class, the tasks that it reads, and the part that owns it. `number` in the
+/// result is its number.
+///
+/// Refused, and nothing changes: `NoPool` if the part is not open; then as `Part::task` is.
+#[unsafe(no_mangle)]
+pub unsafe extern "C" fn gerfmuod_part_task(
+    part: *mut u8,
+    class: u32,
+    inputs: &[u32],
+    owner: u32,
+) -> GraphResult
+    ghost old: { PartView }
+    requires* { sem 𝓛 (lies_at slot_row full_share part old) }
+    ensures* { ∃ₛ (λ (new : PartView). sem 𝓛 (lies_at slot_row full_share part new)
+        ∗ ⌜ IsTaskOfCall old class inputs.now owner result new ⌝) }
+{
+    task(&mut *(part as *mut PartSlot), class, inputs, owner)
+}
+
+/// Describes one more task of the whole graph, which accesses data handles. It reads the tasks that `Flow::find` finds.
+///
+/// Refused, and nothing changes: `NoPool` if the part is not open; `BadSpec` if a mode is not 1 to 3 or a handle is not there;
+/// then as `Part::task` is with these inputs. `NoMemory`, unless one of the first two applies.
+#[unsafe(no_mangle)]
+pub unsafe extern "C" fn gerfmuod_part_shared_task(
+    part: *mut u8,
+    class: u32,
+    accesses: &[RawAccess],
+    owner: u32,
+) -> GraphResult
+    ghost old: { PartView }
+    requires* { sem 𝓛 (lies_at slot_row full_share part old) }
+    ensures* { ∃ₛ (λ (new : PartView). sem 𝓛 (lies_at slot_row full_share part new)
+        ∗ ⌜ IsSharedTaskCall old class accesses.now owner result new ⌝) }
+{
+    shared_task(&mut *(part as *mut PartSlot), class, accesses, owner)
+}

@@ -1,0 +1,103 @@
+//! The calls on a part, as C gets their results.
+ghost use Rattle.std.specs.Prelude.{◌≡◌};
+ghost use Rattle.gerfmuod.specs.Part.{IsArrived, IsDone, IsNext, IsPartCall, IsSharedTaskCall, IsStarted, IsTaskOfCall};
+ghost use Rattle.gerfmuod.specs.Part.{outcome_answer};
+
+use crate::graph::access::RawAccess;
+use crate::graph::answer::{GraphResult, plain, refused};
+use crate::part::call::{PartCall, part_call_of};
+use crate::part::slot::PartSlot;
+use crate::part::tasks::{handle_added, shared_task_added, task_added};
+use tp_base::Refusal;
+use tp_part::{Next, Part};
+use tp_team::TeamRefusal;
+
+/// Makes the call of a number.
+pub(crate) fn call(slot: &mut PartSlot, number: u32, task: u32) -> GraphResult
+    ensures { IsPartCall slot.old number task result slot.new }
+{
+    if !slot.is_open() {
+        return refused(TeamRefusal::Pool(Refusal::NoPool));
+    }
+    match part_call_of(number) {
+        None => refused(TeamRefusal::Pool(Refusal::BadSpec)),
+        Some(PartCall::Close) => {
+            slot.close();
+            plain(0, 0, 0)
+        }
+        Some(PartCall::AddHandle) => handle_added(&mut slot.flow),
+        Some(PartCall::Start) => started(&mut slot.part),
+        Some(PartCall::Next) => next(&mut slot.part),
+        Some(PartCall::Done) => done(&mut slot.part, task),
+        Some(PartCall::Arrived) => arrived(&mut slot.part, task),
+    }
+}
+
+/// Describes a task.
+pub(crate) fn task(slot: &mut PartSlot, class: u32, inputs: &[u32], owner: u32) -> GraphResult
+    ensures { IsTaskOfCall slot.old class inputs.now owner result slot.new }
+{
+    if !slot.is_open() {
+        return refused(TeamRefusal::Pool(Refusal::NoPool));
+    }
+    task_added(&mut slot.part, class, inputs, owner)
+}
+
+/// Describes a task that accesses data.
+pub(crate) fn shared_task(
+    slot: &mut PartSlot,
+    class: u32,
+    accesses: &[RawAccess],
+    owner: u32,
+) -> GraphResult
+    ensures { IsSharedTaskCall slot.old class accesses.now owner result slot.new }
+{
+    if !slot.is_open() {
+        return refused(TeamRefusal::Pool(Refusal::NoPool));
+    }
+    shared_task_added(slot, class, accesses, owner)
+}
+
+/// Returns the result of a call without a value.
+fn of(outcome: Result<(), Refusal>) -> GraphResult
+    ensures { result ≡ outcome_answer outcome }
+{
+    match outcome {
+        Ok(()) => plain(0, 0, 0),
+        Err(refusal) => refused(TeamRefusal::Pool(refusal)),
+    }
+}
+
+fn started(part: &mut Part) -> GraphResult
+    ensures does { IsStarted part.old result part.new }
+    ensures kept { part.new.described ≡ part.old.described }
+{
+    of(part.start())
+}
+
+fn next(part: &mut Part) -> GraphResult
+    ensures does { IsNext part.old result part.new }
+    ensures kept { part.new.described ≡ part.old.described }
+{
+    match part.next() {
+        Ok(Next::Run(task)) => plain(1, task, 0),
+        Ok(Next::Send(task, part)) => plain(2, task, part),
+        Ok(Next::Wait) => plain(3, 0, 0),
+        Ok(Next::Over) => plain(4, 0, 0),
+        Err(refusal) => refused(TeamRefusal::Pool(refusal)),
+    }
+}
+
+fn done(part: &mut Part, task: u32) -> GraphResult
+    ensures does { IsDone task part.old result part.new }
+    ensures kept { part.new.described ≡ part.old.described }
+{
+    of(part.done(task))
+}
+
+fn arrived(part: &mut Part, task: u32) -> GraphResult
+    ensures does { IsArrived task part.old result part.new }
+    ensures kept { part.new.described ≡ part.old.described }
+{
+    of(part.arrived(task))
+}

@@ -1,0 +1,96 @@
+//! What a program in C describes of a graph over parts: data handles, and tasks by their inputs or by their accesses.
+ghost use Rattle.std.specs.Prelude.{◌≡◌, ◌⊎◌, length, false, true, IsTrue};
+ghost use Rattle.tp_base.specs.declared.Refusal.TheVariants.{NoMemory};
+ghost use Rattle.tp_flow.specs.Description.{all_below};
+ghost use Rattle.tp_flow.specs.State.{is_not_above};
+ghost use Rattle.tp_team.specs.declared.TeamRefusal.TheVariants.{Pool};
+ghost use Rattle.gerfmuod.specs.Graph.{IsRefused};
+ghost use Rattle.gerfmuod.specs.Part.{opened_as, AddsShared, IsFlowHandle, IsSharedTask, IsTaskOf};
+
+use crate::graph::access::{RawAccess, are_accesses, decode};
+use crate::graph::answer::{GraphResult, plain, refused};
+use crate::part::slot::PartSlot;
+use tp_base::Refusal;
+use tp_flow::{Access, Flow};
+use tp_part::Part;
+use tp_team::TeamRefusal;
+
+const NO_MEMORY: TeamRefusal = TeamRefusal::Pool(Refusal::NoMemory);
+
+/// Adds a handle.
+pub(crate) fn handle_added(flow: &mut Flow) -> GraphResult
+    ensures does { IsFlowHandle flow.old.state result flow.new.state }
+    ensures kept { flow.new.state.newest ≡ flow.old.state.newest }
+{
+    flow.known();
+    match flow.handle() {
+        Ok(handle) => plain(0, handle.0, 0),
+        Err(refusal) => refused(TeamRefusal::Pool(refusal)),
+    }
+}
+
+/// Describes a task by its inputs.
+pub(crate) fn task_added(part: &mut Part, class: u32, inputs: &[u32], owner: u32) -> GraphResult
+    ensures { IsTaskOf class inputs.now owner part.old result part.new }
+{
+    match part.task(owner, class, inputs) {
+        Ok(task) => plain(0, task, 0),
+        Err(refusal) => refused(TeamRefusal::Pool(refusal)),
+    }
+}
+
+/// Describes a task by its accesses, at an open part.
+pub(crate) fn shared_task_added(
+    slot: &mut PartSlot,
+    class: u32,
+    accesses: &[RawAccess],
+    owner: u32,
+) -> GraphResult
+    requires { slot.old.is_open ≡ true }
+    ensures { IsSharedTask class accesses.now owner slot.old result slot.new }
+{
+    if !are_accesses(slot.flow.handles(), accesses) {
+        return refused(TeamRefusal::Pool(Refusal::BadSpec));
+    }
+    let Ok(()) = decode(accesses, &mut slot.accesses) else {
+        return refused(NO_MEMORY);
+    };
+    inferred(
+        &mut slot.part,
+        &mut slot.flow,
+        class,
+        &slot.accesses,
+        &mut slot.inputs,
+        owner,
+    )
+}
+
+/// Describes a task with the inputs that its accesses have. `inputs` is room for them.
+fn inferred(
+    part: &mut Part,
+    flow: &mut Flow,
+    class: u32,
+    accesses: &[Access],
+    inputs: &mut Vec<u32>,
+    owner: u32,
+) -> GraphResult
+    requires next { is_not_above flow.old.state.newest part.old.described ≡ false }
+    requires below { IsTrue (all_below (length flow.old.state.handles) accesses.now) }
+    ensures next { is_not_above flow.new.state.newest part.new.described ≡ false }
+    ensures adds { AddsShared class accesses.now owner (opened_as part.old flow.old.state) result (opened_as part.new flow.new.state)
+        ⊎ IsRefused (Pool NoMemory) (opened_as part.old flow.old.state) result (opened_as part.new flow.new.state) }
+{
+    flow.known();
+    let number = part.described();
+    inputs.clear();
+    let Ok(()) = flow.find(number, accesses, inputs) else {
+        return refused(NO_MEMORY);
+    };
+    match part.task(owner, class, inputs) {
+        Ok(task) => {
+            flow.record(number, accesses);
+            plain(0, task, 0)
+        }
+        Err(refusal) => refused(TeamRefusal::Pool(refusal)),
+    }
+}

@@ -1,0 +1,65 @@
+"""Runs the programs over gerfmuod/mpi.h, one task graph over all processes, with Open MPI and with MPICH, whichever is installed.
+
+graph_fuzz.c compares random graphs with the sequential program, and with --fails stops each by a body that fails. mpi_jacobi.c and
+graph_cholesky.c compute something whose result is known. Then graph_fuzz.c is compiled with each damage of tools/data/mpi-damages.json in
+gerfmuod/mpi.c, and has to find it. `tools/dev mpi` calls this.
+"""
+import collections
+import json
+import os
+import shutil
+
+from . import running
+from .c_programs import WARNINGS, judge, Run, output_of, start
+from .repository import TOP, text_of
+from .shared_object import INCLUDE, environment_options
+
+FOLDER, SOURCE = f"{TOP}/capi/mpi", f"{INCLUDE}/gerfmuod/mpi.c"
+DAMAGES = f"{TOP}/tools/data/mpi-damages.json"
+Mpi = collections.namedtuple("Mpi", "name compiler runner")
+MPIS = [
+    Mpi("Open MPI", "mpicc.openmpi", "mpirun.openmpi --oversubscribe --mca mpi_yield_when_idle 1".split()),
+    Mpi("MPICH", "mpicc.mpich", ["mpirun.mpich"]),
+]
+ROOT = {"OMPI_ALLOW_RUN_AS_ROOT": "1", "OMPI_ALLOW_RUN_AS_ROOT_CONFIRM": "1", "OPENBLAS_NUM_THREADS": "1"}
+JACOBI = "100 steps of 32000 cells, sum 1000.000000"
+# the damages are sought in so many graphs, at three processes. With some the program hangs, and is ended after so many seconds
+GRAPHS, SECONDS = "60", 10
+
+
+def compiled(mpi, folder, name, source=SOURCE, options=()):
+    path = f"{folder}/{name}"
+    output_of([mpi.compiler, "-std=c11", *WARNINGS, "-Wno-unused-function", "-O2", f"-I{INCLUDE}", *environment_options("CFLAGS"),
+               f"{FOLDER}/{name}.c", source, "-o", path, f"-L{TOP}/lib", "-lgerfmuod", "-pthread", "-lm", *options])
+    return path
+
+
+def command_of(mpi, processes, program, arguments, seconds=running.SECONDS):
+    return ["timeout", "-k", "5", str(seconds), *mpi.runner, "-n", str(processes), program, *arguments]
+
+
+def judge_damages(tally, mpi, folder):
+    text = text_of(SOURCE)
+    for name, old, new, *arguments in json.loads(text_of(DAMAGES)):
+        tally.judge(text.count(old) == 1, f"{SOURCE} has the text of the damage {text.count(old)} times: {name}")
+        source = running.write(f"{folder}/mpi.c", text.replace(old, new))
+        command = command_of(mpi, 3, compiled(mpi, folder, "graph_fuzz", source), ["1", GRAPHS, "2", *arguments], SECONDS)
+        result = start(command, env={**os.environ, **ROOT}, timeout=SECONDS + running.SECONDS)
+        tally.judge(result.status, f"{mpi.name}: {SOURCE} with a damage passed: {name}")
+
+
+def run_programs(tally, folder, counts, seeds, matrix):
+    """Runs each program with these numbers of processes, the fuzz over this number of seeds; the damages with one MPI."""
+    found = [mpi for mpi in MPIS if tally.has(mpi.compiler, f"task graphs over {mpi.name}")]
+    for mpi in found:
+        blas = ["-DHAVE_BLAS", "-lopenblas"] if os.path.exists("/usr/include/x86_64-linux-gnu/cblas-openblas.h") else []
+        fuzz, jacobi = (compiled(mpi, folder, name) for name in ("graph_fuzz", "mpi_jacobi"))
+        cholesky = compiled(mpi, folder, "graph_cholesky", options=blas)
+        runs = [(fuzz, ["1", seeds, "2"], ""), (fuzz, ["1", seeds, "2", "fails"], ""), (jacobi, [], JACOBI), (cholesky, [*matrix, "2"], "")]
+        for processes in counts:
+            for program, arguments, expected in runs:
+                command = command_of(mpi, processes, program, arguments)
+                options = {"env": {**os.environ, **ROOT}, "timeout": 2 * running.SECONDS}
+                print(mpi.name, judge(tally, command, Run([], 0, expected), **options).strip(), sep=": ", flush=True)
+    for mpi in found[:1]:
+        judge_damages(tally, mpi, folder)
