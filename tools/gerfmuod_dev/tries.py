@@ -154,10 +154,10 @@ def agrees(text, expected):
 
 
 def is_rejected(name, text):
-    """Whether a case printed another version than the library's, or a graph that graphviz, if it is installed, refuses."""
+    """Whether a case printed another version than the library's, or a small graph that Graphviz, if it is installed, refuses."""
     if name.endswith("-the-version"):
         return text.split()[-1:] != [repository.version()]
-    if not text.startswith("digraph") or not shutil.which("dot"):
+    if not text.startswith("digraph") or len(text) > MOST_STORED or not shutil.which("dot"):
         return False
     result = running.run(["dot", "-Tsvg"], text.encode())
     return result.status != 0 or result.err != b""

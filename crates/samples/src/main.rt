@@ -1,5 +1,5 @@
-//! The program `samples`: pools of threads over data that it reads, grids of tasks by pattern, sample pools, and
-//! pictures of runs and graphs.
+//! The program `samples`: pools of threads over data that it reads, grids of tasks by pattern, sample pools,
+//! pictures of runs, and graphs as text.
 #![tactic(auto)]
 
 mod command;
@@ -20,7 +20,7 @@ use crate::fault::{Fault, status_of};
 use crate::shell::answer;
 use std::alloc::{AllocError, Global};
 use std::cell::Cell;
-use std::io::{ErrorKind, Read, Write};
+use std::io::{ErrorKind, IsTerminal, Read, Write};
 use std::process::ExitCode;
 use tp_draw::draw_with;
 use tp_shell::{Messages, Output, arguments, asks_version, explain_failure, is_quiet, words_of};
@@ -47,11 +47,7 @@ fn main(rt: HostRuntime) -> ExitCode {
         Ok(words) => words,
         Err(error) => return ExitCode::from(status_of(Err(Fault::Memory(error)), &mut err)),
     };
-    let mut screen = if explains {
-        Screen::of(&rt.stdin(), rt.stderr())
-    } else {
-        None
-    };
+    let mut screen = screen_of(&rt.stdin(), rt.stderr(), explains);
     let mut input = rt.stdin();
     if asks_version(&words) {
         let version = ["samples", "--version"];
@@ -71,6 +67,19 @@ fn main(rt: HostRuntime) -> ExitCode {
         explain_failure("samples", &failure, &mut err);
     }
     ExitCode::from(status)
+}
+
+/// Returns the terminal on which a run shows how far it is, unless the environment asks for silence.
+fn screen_of<I: IsTerminal, W: Write + IsTerminal + Drop>(
+    input: &I,
+    writer: W,
+    explains: bool,
+) -> Option<Screen<W>> {
+    if explains {
+        Screen::of(input, writer)
+    } else {
+        None
+    }
 }
 
 /// Returns whether the help of `samples draw` is asked for by `help draw`, and the arguments after `draw`, if the

@@ -7,9 +7,8 @@ ghost use Rattle.tp_shell.specs.Statuses.{code_of};
 ghost use Rattle.tp_shell.specs.Streams.{MayExplain};
 
 use crate::fault::Fault;
-use crate::graph_picture::graph_page;
 use crate::graphviz::dot;
-use crate::request::{GraphForm, Request, requested};
+use crate::request::{Request, requested};
 use crate::run::{draw_run, write_picture};
 use pool_samples::checked;
 use std::alloc::Global;
@@ -18,12 +17,12 @@ use tp_base::MAX_NODES;
 use tp_graph::Graph;
 use tp_shell::{Diagnostics, Status, complain, show};
 
-/// A graph that is drawn has at most this many tasks.
+/// A graph that is written has at most this many tasks.
 pub(crate) const MAX_TASKS: u32 = 2_000;
 
 /// Runs the program with its arguments, beginning with its own name, and returns the exit status. It reads from
-/// `reader`, writes its picture to `out` and an error line to `err`, and then why, if `explains` is set. The status is 0
-/// if the picture was written, or help; 1 if the arguments, the reading or the writing are at fault; 2 if the trace is
+/// `reader`, writes its text to `out` and an error line to `err`, and then why, if `explains` is set. The status is 0
+/// if the text was written, or help; 1 if the arguments, the reading or the writing are at fault; 2 if the trace is
 /// not sound; 3 if an allocation failed.
 pub fn draw_with<I: Read, O: Write, E: Diagnostics>(
     alloc: Global,
@@ -73,7 +72,7 @@ fn answer<I: Read, O: Write>(
 {
     match requested(alloc, words) {
         Ok(Request::Run(view)) => draw_run(alloc, view, reader, out),
-        Ok(Request::Graph(spec, nodes, form)) => draw_graph(alloc, spec, nodes, form, out),
+        Ok(Request::Graph(spec, nodes)) => draw_graph(alloc, spec, nodes, out),
         Err(error) => match show(alloc, &error, out) {
             Ok(()) => Ok(()),
             Err(fault) => Err(Fault::Words(fault)),
@@ -81,24 +80,14 @@ fn answer<I: Read, O: Write>(
     }
 }
 
-/// Draws the graph of a pool specification. Nothing is written before the whole picture is complete.
-fn draw_graph<O: Write>(
-    alloc: Global,
-    spec: &str,
-    nodes: u32,
-    form: GraphForm,
-    out: &mut O,
-) -> Result<(), Fault> {
+/// Writes the graph of a pool specification. Nothing is written before the whole text is complete.
+fn draw_graph<O: Write>(alloc: Global, spec: &str, nodes: u32, out: &mut O) -> Result<(), Fault> {
     let Ok(graph) = checked(spec) else {
         return Err(Fault::NoPool);
     };
     if graph.tasks() > MAX_TASKS {
         return Err(Fault::TooLarge);
     }
-    let nodes = nodes.clamp(1, MAX_NODES);
-    let text = match form {
-        GraphForm::Picture(pixels) => graph_page(alloc, spec, graph, nodes)?.shown(alloc, pixels)?,
-        GraphForm::Dot => dot(alloc, graph, nodes)?,
-    };
+    let text = dot(alloc, graph, nodes.clamp(1, MAX_NODES))?;
     write_picture(out, &text)
 }

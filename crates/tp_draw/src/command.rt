@@ -29,12 +29,10 @@ fn run_command<'a>(alloc: Global) -> Result<Command<'a>, AllocError> {
 fn graph_command<'a>(alloc: Global) -> Result<Command<'a>, AllocError> {
     let nodes = count_option(alloc, "nodes", "1-8", MAX_NODES).help("N, how many nodes there are");
     Command::new(alloc, "graph")
-        .about("Draws the task graph of a pool, each task in its node's colour")
+        .about("Writes the task graph of a pool as text for Graphviz")
         .after_help(GRAPH_HELP)
         .arg(spec_argument(alloc))?
-        .arg(nodes)?
-        .arg(width_option(alloc))?
-        .arg(dot_flag(alloc))
+        .arg(nodes)
 }
 
 fn spec_argument<'a>(alloc: Global) -> Arg<'a> {
@@ -64,16 +62,10 @@ fn width_option<'a>(alloc: Global) -> Arg<'a> {
 }
 
 fn until_flag<'a>(alloc: Global) -> Arg<'a> {
-    flag(alloc, "until-fault").help("Draws an unsound trace up to its first fault")
-}
-
-fn dot_flag<'a>(alloc: Global) -> Arg<'a> {
-    flag(alloc, "dot").help("Writes text for Graphviz instead of a picture")
-}
-
-/// An option without a value.
-fn flag<'a>(alloc: Global, name: &'a str) -> Arg<'a> {
-    Arg::new(alloc, name).long(name).action(ArgAction::SetTrue)
+    Arg::new(alloc, "until-fault")
+        .long("until-fault")
+        .action(ArgAction::SetTrue)
+        .help("Draws an unsound trace up to its first fault")
 }
 
 static FORMATS: [&str; 3] = ["svg", "html", "events"];
@@ -83,7 +75,7 @@ static DRAW_HELP: &str = "Draw a run:
   tp run reduce:16:0 --nodes 2 --trace | samples draw run --format html > a.html
 
 Draw a graph:
-  samples draw graph wavefront:4:4:0 --nodes 2 > graph.svg
+  samples draw graph wavefront:4:4:0 --nodes 2 | dot -Tsvg > graph.svg
 
 Each subcommand has its own --help.";
 
@@ -118,20 +110,16 @@ The exit status is
   3  if an allocation fails.";
 
 static GRAPH_HELP: &str =
-    "SPEC names a pool as in `tp run --help`. The picture has a circle for each task,
-in the colour of the task's node, and a curve for each value that one task feeds
-to another: pale within a node, and strong in the sender's colour if the value
-goes to another node as a message. A task without inputs is in the first layer,
-any other in the layer below the lowest of the tasks that feed it.
-
-With --dot the graph is written as text for Graphviz, and --width has no effect.
+    "SPEC names a pool as in `tp run --help`. The text is for Graphviz, whose program
+`dot` draws it: a frame for each node, in it a circle for each of its tasks, in
+the node's colour, and an arrow for each value that one task feeds to another.
 
 Examples:
-  samples draw graph reduce:16:0 --nodes 4 > graph.svg
-  samples draw graph wavefront:4:4:0 --nodes 2 --dot | dot -Tsvg > graph.svg
+  samples draw graph reduce:16:0 --nodes 4 | dot -Tpng > graph.png
+  samples draw graph wavefront:4:4:0 --nodes 2 | dot -Tsvg > graph.svg
 
 The exit status is
-  0  if the picture or the text was written;
+  0  if the text was written;
   1  if the arguments are wrong or the output cannot be written. A SPEC that
      names no pool is `refused 26 BadSpec`, and a pool of more than 2,000 tasks
      is `fault too large`;

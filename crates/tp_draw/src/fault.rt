@@ -18,11 +18,11 @@ pub enum Fault {
     Unsound(String),
     /// The specification names no graph.
     NoPool,
-    /// The graph has more tasks than are drawn.
+    /// The graph has more tasks than are written.
     TooLarge,
-    /// An allocation failed for the picture.
+    /// An allocation failed for the text.
     Memory,
-    /// The picture could not be written; an unknown part of it was.
+    /// The text could not be written; an unknown part of it was.
     Write,
 }
 

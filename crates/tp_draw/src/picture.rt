@@ -11,10 +11,10 @@ pub(crate) const MAX_PIXELS: u32 = 20_000;
 
 /// An SVG, and its size in tenths of a pixel.
 #[derive(Drop)]
-pub struct Picture {
-    pub width: u64,
-    pub height: u64,
-    pub text: String,
+pub(crate) struct Picture {
+    pub(crate) width: u64,
+    pub(crate) height: u64,
+    pub(crate) text: String,
 }
 
 impl Picture {

@@ -8,22 +8,13 @@ use std::alloc::Global;
 use tp_base::MAX_NODES;
 use tp_shell::count_of;
 
-/// What is written of a graph.
-#[derive(Clone, Copy, Debug, PartialEq, Eq)]
-pub(crate) enum GraphForm {
-    /// Its picture, this many pixels wide, or in its own size.
-    Picture(Option<u32>),
-    /// Its text for graphviz.
-    Dot,
-}
-
 /// What the arguments ask for.
 #[derive(Drop)]
 pub(crate) enum Request<'a> {
     /// The run that a trace records.
     Run(View),
     /// The graph of a pool specification, on a number of nodes.
-    Graph(&'a str, u32, GraphForm),
+    Graph(&'a str, u32),
 }
 
 pub(crate) fn requested<'a>(alloc: Global, words: &'a [&'a str]) -> Result<Request<'a>, Error> {
@@ -37,24 +28,18 @@ pub(crate) fn requested<'a>(alloc: Global, words: &'a [&'a str]) -> Result<Reque
 
 fn request_of<'a>(matches: &ArgMatches<'a>) -> Option<Request<'a>> {
     let (name, arguments) = matches.subcommand()?;
-    let pixels = arguments.get_one::<u32>("width");
     match name {
         "run" => Some(Request::Run(View {
             form: match arguments.get_str("format")? {
                 "html" => Form::Timeline,
                 "events" => Form::Events,
-                _ => Form::Picture(pixels),
+                _ => Form::Picture(arguments.get_one::<u32>("width")),
             },
             until_fault: arguments.get_flag("until-fault"),
         })),
         "graph" => {
             let spec = arguments.get_str("SPEC")?;
-            let form = if arguments.get_flag("dot") {
-                GraphForm::Dot
-            } else {
-                GraphForm::Picture(pixels)
-            };
-            Some(Request::Graph(spec, count_of(arguments, "nodes", MAX_NODES), form))
+            Some(Request::Graph(spec, count_of(arguments, "nodes", MAX_NODES)))
         }
         _ => None,
     }

@@ -112,7 +112,7 @@ fn picture_of(
     Ok(picture.shown(alloc, pixels)?)
 }
 
-/// Writes a picture.
+/// Writes a picture or another text.
 pub(crate) fn write_picture<O: Write>(out: &mut O, text: &str) -> Result<(), Fault>
     ensures { IfErr result (λ fault. fault ≡ Fault.Write) }
 {
