@@ -27,8 +27,8 @@ JACOBI = "100 steps of 32000 cells, sum 1000.000000"
 GRAPHS, SECONDS = "60", 10
 
 
-def compiled(mpi, folder, name, source=SOURCE, options=()):
-    path = f"{folder}/{name}"
+def compiled(mpi, folder, name, source=SOURCE, options=(), path=None):
+    path = path or f"{folder}/{name}"
     output_of([mpi.compiler, "-std=c11", *WARNINGS, "-Wno-unused-function", "-O2", f"-I{INCLUDE}", *environment_options("CFLAGS"),
                f"{FOLDER}/{name}.c", source, "-o", path, f"-L{TOP}/lib", "-lgerfmuod", "-pthread", "-lm", *options])
     return path

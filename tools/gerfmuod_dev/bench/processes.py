@@ -1,13 +1,17 @@
-"""Measures the detectors for distributed programs: over Open MPI on this machine, call by call, and in simulations.
+"""Measures programs over Open MPI on this machine: the detectors for distributed programs, also call by call and in simulations, and
+the factorization of a matrix.
 
 The proved detector is that of lib/libgerfmuod.a. The others are hand-written, in capi/mpi/detectors.h: the same four
-counters over the same tree, Safra's ring (EWD 998), and repeated reductions of the counters (MPI_Iallreduce).
+counters over the same tree, Safra's ring (EWD 998), and repeated reductions of the counters (MPI_Iallreduce). The matrix is factored
+by graph_cholesky.c, mpi_cholesky.c and, if it is installed, ScaLAPACK.
 """
+import contextlib
+import functools
 import re
 import sys
 from statistics import median
 
-from .. import mpi, running
+from .. import mpi, mpi_graphs, running
 from ..c_programs import output_of
 from .measuring import quantiles
 from .rows import ProcessRow
@@ -30,6 +34,7 @@ IDLE = (
 IDLE_FIELDS = ("microseconds", "lower_quartile", "upper_quartile", "slowest_tenth", "control_messages", "waves")
 SEARCH = rf"{NUMBER} ms to detect the end, {NUMBER} waves, {NUMBER} control messages"
 STEPS = rf": {NUMBER} steps, {NUMBER} control messages, {NUMBER} waves"
+FACTORED = rf", {NUMBER} s, .*: right"
 STORM = rf"{NUMBER} waves, {NUMBER} control messages, at most {NUMBER} waves after the end"
 
 
@@ -79,6 +84,26 @@ def search_tree(program, tree, rounds):
             yield row(f"tree {tree}", argument, processes=processes, rounds=rounds, **dict(zip(IDLE_FIELDS, numbers)))
 
 
+def factor(folder, order, blocks, rounds):
+    """Measures the factorization of a matrix by four threads in all; the programs take turns. ScaLAPACK has one thread a process."""
+    compiled = functools.partial(mpi_graphs.compiled, mpi_graphs.MPIS[0], folder)
+    graph, graphs = (compiled(name, options=mpi.BLAS) for name in ("graph_cholesky", "mpi_cholesky"))
+    own = {"one graph over all processes": (graph, blocks[0]), "a graph in each process": (graphs, blocks[0])}
+    with contextlib.suppress(SystemExit):
+        peer = compiled("../../bench/peers/pdpotrf", path=f"{folder}/pdpotrf", options=["-lscalapack-openmpi", *mpi.BLAS])
+        own.update({f"ScaLAPACK, blocks of {block}": (peer, block) for block in blocks})
+    for processes in (4, 2):
+        print_case(f"Cholesky, {processes} processes")
+        programs = {name: case for name, case in own.items() if processes == 4 or case[0] in (graph, graphs)}
+        times = {name: [] for name in programs}
+        for name in rounds * list(programs):
+            arguments = [str(order), str(programs[name][1]), str(4 // processes)]
+            times[name].append(1e6 * over_mpi(programs[name][0], processes, arguments, FACTORED)[0])
+        for name, all_times in times.items():
+            values = dict(zip(IDLE_FIELDS, quantiles(all_times)))
+            yield NO_ROW._replace(case=f"Cholesky of order {order:,}", detector=name, processes=processes, rounds=rounds, **values)
+
+
 def calls(bench, program, rounds, turns):
     for kind, calls_of_turn in CALLS.items():
         for argument in WITHOUT_MPI:
@@ -114,6 +139,7 @@ def measure(bench):
     else:
         yield from idle(mpi.compile_program("latency", bench.folder), 200 if quick else 2_000)
         yield from search_tree(mpi.compile_program("uts_mpi", bench.folder), "T0" if quick else "T1", 3 if quick else 5)
+        yield from factor(bench.folder, 512 if quick else 4096, [128, 64, 256], 3 if quick else 9)
     yield from calls(bench, program, bench.rounds, 1_000_000 if quick else 10_000_000)
     sizes = SIMULATED[:6] if quick else SIMULATED
     yield from simulated(program, sizes)

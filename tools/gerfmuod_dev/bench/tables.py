@@ -337,9 +337,16 @@ def times_and_messages(row):
     return f"{row.microseconds:,.1f} {quartiles}; {messages}; {row.waves:,.0f}"
 
 
+def milliseconds_of(row):
+    return f"{row.microseconds / 1000:,.0f} ({row.lower_quartile / 1000:,.0f}–{row.upper_quartile / 1000:,.0f})"
+
+
 def detectors(rows):
     what = "microseconds to the last process that knows the end (quartiles); control messages; waves, rounds of the token, reductions"
-    shown = [(case, what, times_and_messages) for case in distinct([row for row in rows if row.microseconds is not None], "case")]
+    timed = [row for row in rows if row.microseconds is not None]
+    shown = [(case, what, times_and_messages) for case in distinct([row for row in timed if row.waves is not None], "case")]
+    factored = distinct([row for row in timed if row.waves is None], "case")
+    shown += [(case, "milliseconds (quartiles), with four threads in all", milliseconds_of) for case in factored]
     for case, *fields in (("simulated", "steps", "control_messages", "waves"), ("random programs", "control_messages", "waves")):
         text_of = functools.partial(lambda fields, row: ", ".join(f"{getattr(row, field):,.0f}" for field in fields), fields)
         shown.append((case, ", ".join(fields).replace("_", " "), text_of))
