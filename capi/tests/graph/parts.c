@@ -1,6 +1,7 @@
 /* parts.c: the parts of a graph in one process: the refusals of each call, random graphs over simulated networks, and allocations that
  * fail. A network brings messages in any order, some twice. Each value is the result of a body, so that a task that runs too early reads
  * another one than the sequential program. */
+#define _POSIX_C_SOURCE 200809L
 #include "../random.h"
 #include "../wrap.h"
 #include "check.h"
