@@ -120,7 +120,7 @@ CASE(static_texts) {
         for (uint32_t other = 0; own.outcome == GERFMUOD_WRITTEN && other < named; other++) assert_string_not_equal(seen[other], text);
         if (own.outcome == GERFMUOD_WRITTEN) strcpy(seen[named++], text);
     }
-    assert_int_equal(named, 1 + 26 + 2 + 5 + 11);
+    assert_int_equal(named, 1 + 26 + 2 + 6 + 11);
 }
 
 CASE(names_of_refusals) {
