@@ -37,6 +37,7 @@ static uint64_t pass_wave(detector *d, uint64_t k) {
     control down = {0}, up;
     down.to = 2;
     down.wave = k + 1;
+    down.processes = 3;
     unsigned refused = detector_take(d, &down), next = detector_next(d, &up);
     return 3 + refused + (next != GERFMUOD_PROCESS_SEND) + (detector_next(d, &up) != GERFMUOD_PROCESS_NOTHING);
 }
