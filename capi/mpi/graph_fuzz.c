@@ -15,7 +15,7 @@
 #include <string.h>
 #include <time.h>
 
-enum { MOST_DATA = 12, MOST_TASKS = 120, MOST_ACCESSES = 5, MOST_WORDS = 4, NONE = -1 };
+enum { MOST_DATA = 12, MOST_TASKS = 120, MOST_ACCESSES = 5, MOST_WORDS = 20000, FEW_WORDS = 4, NONE = -1 };
 
 typedef struct {
     uint32_t number, count, words[MOST_ACCESSES], modes[MOST_ACCESSES], pause;
@@ -55,7 +55,8 @@ static struct {
 
 static void draw_data(gerfmuod_mpi *graph, uint32_t count) {
     for (uint32_t d = 0; d < count; d++) {
-        data[d].words = 1 + below(MOST_WORDS), data[d].owner = (int)below((uint32_t)processes);
+        data[d].words = below(6) ? 1 + below(FEW_WORDS) : MOST_WORDS; /* MPI may send many only once they are received */
+        data[d].owner = (int)below((uint32_t)processes);
         for (uint32_t w = 0; w < data[d].words; w++) data[d].own[w] = data[d].expected[w] = mixed(d, w);
         data[d].handle = gerfmuod_mpi_data(graph, data[d].owner, data[d].owner == me ? data[d].own : NULL, data[d].words * 8);
     }
@@ -132,6 +133,28 @@ static bool is_refused(enum wrong wrong) {
     return !has_two || (refused == reasons[wrong] && !ran);
 }
 
+/* A body fails in the last process while process 0 sends it several large values, which nothing there reads any more. */
+static bool is_stopped_between(uint64_t seed) {
+    enum { VALUES = 8 };
+    static uint64_t large[VALUES][MOST_WORDS];
+    gerfmuod_mpi *graph;
+    uint64_t word = 0;
+    state = seed * 2 + 1;
+    if (gerfmuod_mpi_open(&graph, MPI_COMM_WORLD)) return false;
+    uint32_t last = gerfmuod_mpi_data(graph, processes - 1, &word, sizeof word);
+    arguments a = {.count = 1, .words = {1}, .modes = {GERFMUOD_UPDATE}, .pause = below(600), .fails = true};
+    gerfmuod_mpi_task(graph, 0, body, &a, sizeof a, GERFMUOD_UPDATES(last));
+    for (uint32_t k = 0; k < VALUES; k++) {
+        uint32_t value = gerfmuod_mpi_data(graph, 0, large[k], sizeof large[k]);
+        a = (arguments){.number = k, .count = 1, .words = {MOST_WORDS}, .modes = {GERFMUOD_UPDATE}, .pause = below(200)};
+        gerfmuod_mpi_task(graph, 0, body, &a, sizeof a, GERFMUOD_UPDATES(value));
+        gerfmuod_mpi_task(graph, 0, body, &a, sizeof a, GERFMUOD_UPDATES(last), GERFMUOD_READS(value));
+    }
+    uint32_t refused = gerfmuod_mpi_run(graph, 2);
+    gerfmuod_mpi_close(graph);
+    return refused == GERFMUOD_REFUSED_STOPPED;
+}
+
 int main(int argc, char **argv) {
     int provided;
     MPI_Init_thread(&argc, &argv, MPI_THREAD_FUNNELED, &provided);
@@ -142,7 +165,7 @@ int main(int argc, char **argv) {
     for (enum wrong wrong = 0; wrong < WRONGS; wrong++)
         if (!is_refused(wrong) && !mine[1]++) fprintf(stderr, "process %d: description %d is not refused\n", me, (int)wrong);
     for (uint64_t seed = first; seed <= last; seed++) {
-        bool is_right = try_seed(seed, (uint32_t)atoi(argv[3]), argc > 4, &mine[0]);
+        bool is_right = try_seed(seed, (uint32_t)atoi(argv[3]), argc > 4, &mine[0]) && (argc < 5 || is_stopped_between(seed));
         if (!is_right && !mine[1]++) fprintf(stderr, "process %d: seed %llu is wrong\n", me, (unsigned long long)seed);
     }
     MPI_Allreduce(mine, all, 2, MPI_UINT64_T, MPI_SUM, MPI_COMM_WORLD);

@@ -23,7 +23,7 @@ MPIS = [
 ]
 ROOT = {"OMPI_ALLOW_RUN_AS_ROOT": "1", "OMPI_ALLOW_RUN_AS_ROOT_CONFIRM": "1", "OPENBLAS_NUM_THREADS": "1"}
 JACOBI = "100 steps of 32000 cells, sum 1000.000000"
-# the damages are sought in so many graphs, at three processes. With some the program hangs, and is ended after so many seconds
+# the number of graphs in which a damage is sought, at three processes. With some the program hangs, and is ended after these seconds
 GRAPHS, SECONDS = "60", 10
 
 

@@ -21,7 +21,7 @@
 
 /* The tags of messages: that the graph was stopped, and the first with a value. */
 enum { STOP = 0, FIRST_VALUE = 1 };
-/* After so many polls without a message the main thread sleeps between them, each time longer, at most 1 << NAPS microseconds. */
+/* After that number of polls without a message the main thread sleeps between them, each time longer, at most 1 << NAPS microseconds. */
 enum { POLLS = 200, NAPS = 6 };
 
 /* A version of a datum that comes from another process. */
@@ -450,13 +450,14 @@ static void pause_after(uint32_t *polls) {
     else sched_yield();
 }
 
-/* Sends and receives until this process is over or stopped, and then until all are. Leaves in `failure` what all agree on. */
+/* Sends and receives until this process is over or stopped, and then until all are. Leaves in `failure` what all agree on. It does not
+ * wait for its sends: after a stop, their receivers may take them only in `drain`. */
 static void communicate(gerfmuod_mpi *graph, int64_t *failure) {
     MPI_Request agreed = MPI_REQUEST_NULL;
     bool has_ended = false;
     int agree = 0;
     int64_t mine = NO_FAILURE;
-    for (uint32_t polls = 0; !agree || graph->requests_count;) {
+    for (uint32_t polls = 0; !agree;) {
         if (!has_ended) {
             pthread_mutex_lock(&graph->lock);
             has_ended = graph->is_over || graph->is_stopped;
@@ -465,10 +466,10 @@ static void communicate(gerfmuod_mpi *graph, int64_t *failure) {
             bool is_more = send_due(graph); /* after this look: nothing is due any more once the part is over */
             if (has_ended) MPI_Iallreduce(&mine, failure, 1, MPI_INT64_T, MPI_MIN, graph->communicator, &agreed);
             if (is_more) polls = 0;
-        } else if (!agree) MPI_Test(&agreed, &agree, MPI_STATUS_IGNORE);
+        } else MPI_Test(&agreed, &agree, MPI_STATUS_IGNORE);
         forget_sent(graph);
         if (receive(graph)) polls = 0;
-        else if (!agree || graph->requests_count) pause_after(&polls);
+        else if (!agree) pause_after(&polls);
     }
 }
 
@@ -524,6 +525,7 @@ uint32_t gerfmuod_mpi_run(gerfmuod_mpi *graph, uint32_t threads) {
     for (uint32_t k = 0; k < begun; k++) pthread_join(started[k], NULL);
     free(started);
     if (failure != NO_FAILURE) drain(graph), graph->failure = failure, refused = GERFMUOD_REFUSED_STOPPED;
+    while (graph->requests_count) forget_sent(graph); /* all of them were received, or are being received */
     return refused;
 }
 
