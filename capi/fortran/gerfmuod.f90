@@ -1,4 +1,5 @@
-! gerfmuod.f90: task graphs from Fortran, over gerfmuod/team.h, which describes each call and its refusals.
+! gerfmuod.f90: task graphs from Fortran, over gerfmuod/team.h, and one process's part of the detector for distributed programs, over
+! gerfmuod/process.h. These headers describe each call and its refusals.
 !
 ! Tasks and classes are counted from 0, as in C. Compile this file with your program and link with -lgerfmuod -pthread.
 module gerfmuod
@@ -19,12 +20,35 @@ module gerfmuod
   integer(c_int32_t), parameter :: gerfmuod_refused_stopped = 66, gerfmuod_refused_running = 67
   integer(c_int32_t), parameter :: gerfmuod_refused_not_written = 68
   integer(c_int32_t), parameter :: gerfmuod_refused_different = 69
+  integer(c_int32_t), parameter :: gerfmuod_refused_no_work = 101, gerfmuod_refused_count_full = 102
+  integer(c_int32_t), parameter :: gerfmuod_refused_not_due = 103, gerfmuod_refused_not_yet = 104, gerfmuod_refused_late = 105
+  integer(c_int32_t), parameter :: gerfmuod_refused_not_ended = 106, gerfmuod_refused_not_open = 107
+  integer(c_int32_t), parameter :: gerfmuod_refused_no_process = 108, gerfmuod_refused_malformed = 109
+  integer(c_int32_t), parameter :: gerfmuod_refused_miscounted = 110, gerfmuod_refused_mismatched = 111
+  ! what gerfmuod_process_next returns, if it is not refused
+  integer(c_int32_t), parameter :: gerfmuod_process_nothing = 0, gerfmuod_process_send = 1
+  integer(c_int32_t), parameter :: gerfmuod_process_again = 2, gerfmuod_process_ended = 3
 
   ! what a task does with a piece of data
   integer(c_int32_t), parameter :: gerfmuod_read = 1, gerfmuod_write = 2, gerfmuod_update = 3
 
   type, bind(c) :: gerfmuod_access
     integer(c_int32_t) :: handle, mode
+  end type
+
+  ! One process of a distributed program; the library alone writes it. Its transport carries control messages as bytes.
+  type, bind(c) :: gerfmuod_process
+    integer(c_int64_t) :: mark = 0, epoch = 0
+    integer(c_int32_t) :: number = 0, processes = 0
+    integer(c_int64_t) :: pending = 0, sent = 0, received = 0, wave = 0
+    integer(c_int64_t) :: taken_sent = 0, taken_received = 0, last_received = 0
+    integer(c_int8_t) :: flags(16) = 0
+  end type
+
+  type, bind(c) :: gerfmuod_control_message
+    integer(c_int64_t) :: epoch, from, to, wave
+    integer(c_int32_t) :: token, processes
+    integer(c_int64_t) :: sent, received
   end type
 
   type, bind(c) :: gerfmuod_graph_result
@@ -223,6 +247,74 @@ module gerfmuod
       character(kind=c_char), intent(out) :: buffer(*)
       integer(c_size_t), value :: length
       integer(c_size_t) :: written
+    end function
+  end interface
+
+  interface
+    ! Processes are numbered from 0, as in C.
+    function gerfmuod_process_init(process, number, processes) bind(c) result(refused)
+      import :: c_int32_t, gerfmuod_process
+      type(gerfmuod_process), intent(out) :: process
+      integer(c_int32_t), value :: number, processes
+      integer(c_int32_t) :: refused
+    end function
+
+    function gerfmuod_process_add_work(process) bind(c) result(refused)
+      import :: c_int32_t, gerfmuod_process
+      type(gerfmuod_process), intent(inout) :: process
+      integer(c_int32_t) :: refused
+    end function
+
+    function gerfmuod_process_finish_work(process) bind(c) result(refused)
+      import :: c_int32_t, gerfmuod_process
+      type(gerfmuod_process), intent(inout) :: process
+      integer(c_int32_t) :: refused
+    end function
+
+    function gerfmuod_process_count_sent(process) bind(c) result(refused)
+      import :: c_int32_t, gerfmuod_process
+      type(gerfmuod_process), intent(inout) :: process
+      integer(c_int32_t) :: refused
+    end function
+
+    function gerfmuod_process_count_received(process, epoch) bind(c) result(refused)
+      import :: c_int32_t, c_int64_t, gerfmuod_process
+      type(gerfmuod_process), intent(inout) :: process
+      integer(c_int64_t), value :: epoch
+      integer(c_int32_t) :: refused
+    end function
+
+    function gerfmuod_process_take(process, message) bind(c) result(refused)
+      import :: c_int32_t, gerfmuod_process, gerfmuod_control_message
+      type(gerfmuod_process), intent(inout) :: process
+      type(gerfmuod_control_message), intent(in) :: message
+      integer(c_int32_t) :: refused
+    end function
+
+    ! Writes the message only if it returns gerfmuod_process_send.
+    function gerfmuod_process_next(process, message) bind(c) result(next)
+      import :: c_int32_t, gerfmuod_process, gerfmuod_control_message
+      type(gerfmuod_process), intent(inout) :: process
+      type(gerfmuod_control_message), intent(inout) :: message
+      integer(c_int32_t) :: next
+    end function
+
+    function gerfmuod_process_reopen(process) bind(c) result(refused)
+      import :: c_int32_t, gerfmuod_process
+      type(gerfmuod_process), intent(inout) :: process
+      integer(c_int32_t) :: refused
+    end function
+
+    function gerfmuod_process_is_open(process) bind(c) result(holds)
+      import :: c_bool, gerfmuod_process
+      type(gerfmuod_process), intent(in) :: process
+      logical(c_bool) :: holds
+    end function
+
+    function gerfmuod_process_knows_end(process) bind(c) result(holds)
+      import :: c_bool, gerfmuod_process
+      type(gerfmuod_process), intent(in) :: process
+      logical(c_bool) :: holds
     end function
   end interface
 

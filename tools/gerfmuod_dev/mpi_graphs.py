@@ -55,9 +55,10 @@ def run_programs(tally, folder, counts, seeds, matrix):
         blas = ["-DHAVE_BLAS", "-lopenblas"] if os.path.exists("/usr/include/x86_64-linux-gnu/cblas-openblas.h") else []
         fuzz, jacobi = (compiled(mpi, folder, name) for name in ("graph_fuzz", "mpi_jacobi"))
         cholesky = compiled(mpi, folder, "graph_cholesky", options=blas)
-        runs = [(fuzz, ["1", seeds, "2"], ""), (fuzz, ["1", seeds, "2", "fails"], ""), (jacobi, [], JACOBI), (cholesky, [*matrix, "2"], "")]
+        costs = compiled(mpi, folder, "graph_costs")
+        runs = [(fuzz, ["1", seeds, "1"], ""), (fuzz, ["1", seeds, "2"], ""), (fuzz, ["1", seeds, "2", "fails"], ""), (jacobi, [], JACOBI), (cholesky, [*matrix, "2"], "")]
         for processes in counts:
-            for program, arguments, expected in runs:
+            for program, arguments, expected in [*runs, *[(costs, ["100"], "a message of 8 bytes")] * (processes == 2)]:
                 command = command_of(mpi, processes, program, arguments)
                 options = {"env": {**os.environ, **ROOT}, "timeout": 2 * running.SECONDS}
                 print(mpi.name, judge(tally, command, Run([], 0, expected), **options).strip(), sep=": ", flush=True)

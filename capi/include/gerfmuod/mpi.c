@@ -293,17 +293,22 @@ static void leave_letter(gerfmuod_mpi *graph, letter l) {
     else stop(graph, failure_of(graph, l.task));
 }
 
-/* A thread: runs tasks, and leaves messages to the main thread, until the part is over or the run was stopped. */
+/* Does what the part returned: runs a task, or leaves a message to the main thread. Returns whether there was something. The lock is
+ * held, but not while a body runs. */
+static bool turn(gerfmuod_mpi *graph) {
+    gerfmuod_part_result next = gerfmuod_part_call(&graph->part, GERFMUOD_PART_NEXT, 0);
+    if (next.next == GERFMUOD_PART_RUN) run_task(graph, next.number);
+    else if (next.next == GERFMUOD_PART_SEND) leave_letter(graph, (letter){next.number, (int)next.to});
+    else if (next.next == GERFMUOD_PART_OVER) graph->is_over = true, pthread_cond_broadcast(&graph->work);
+    return next.next != GERFMUOD_PART_WAIT;
+}
+
+/* A thread beside the main thread, until the part is over or the run was stopped. */
 static void *work(void *context) {
     gerfmuod_mpi *graph = context;
     pthread_mutex_lock(&graph->lock);
-    while (!graph->is_over && !graph->is_stopped) {
-        gerfmuod_part_result next = gerfmuod_part_call(&graph->part, GERFMUOD_PART_NEXT, 0);
-        if (next.next == GERFMUOD_PART_RUN) run_task(graph, next.number);
-        else if (next.next == GERFMUOD_PART_SEND) leave_letter(graph, (letter){next.number, (int)next.to});
-        else if (next.next == GERFMUOD_PART_OVER) graph->is_over = true, pthread_cond_broadcast(&graph->work);
-        else graph->sleeping++, pthread_cond_wait(&graph->work, &graph->lock), graph->sleeping--;
-    }
+    while (!graph->is_over && !graph->is_stopped)
+        if (!turn(graph)) graph->sleeping++, pthread_cond_wait(&graph->work, &graph->lock), graph->sleeping--;
     pthread_mutex_unlock(&graph->lock);
     return NULL;
 }
@@ -317,26 +322,49 @@ static MPI_Request *new_request(gerfmuod_mpi *graph) {
     return &(graph->requests = requests)[graph->requests_count++];
 }
 
+/* Memory of the main thread, without which a run cannot go on. */
+static void *must_have(const gerfmuod_mpi *graph, size_t count, size_t size) {
+    void *block = calloc(count ? count : 1, size);
+    if (!block) MPI_Abort(graph->communicator, GERFMUOD_REFUSED_NO_MEMORY);
+    return block;
+}
+
 /* Where the values of a message are. */
 typedef struct {
     uint32_t count;
-    MPI_Aint *at;
+    void **at;
     int *sizes;
 } places;
 
-static places new_places(gerfmuod_mpi *graph, uint32_t count) {
-    places p = {count, malloc((count + 1) * sizeof *p.at), malloc((count + 1) * sizeof *p.sizes)};
-    if (!p.at || !p.sizes) MPI_Abort(graph->communicator, GERFMUOD_REFUSED_NO_MEMORY);
-    return p;
+static places new_places(const gerfmuod_mpi *graph, uint32_t count) {
+    return (places){count, must_have(graph, count, sizeof(void *)), must_have(graph, count, sizeof(int))};
 }
 
-/* The type of a message with these values, relative to MPI_BOTTOM. It is freed once it is not used. */
-static MPI_Datatype type_of(places p) {
+/* A message as MPI takes it. */
+typedef struct {
+    void *at;
+    int count;
     MPI_Datatype type;
-    MPI_Type_create_hindexed((int)p.count, p.sizes, p.at, MPI_BYTE, &type);
-    MPI_Type_commit(&type);
+} buffer;
+
+/* The message with the values at these places: one as it is, several by a type relative to MPI_BOTTOM. Frees the places. */
+static buffer buffer_of(const gerfmuod_mpi *graph, places p) {
+    buffer b = {p.at[0], p.sizes[0], MPI_BYTE};
+    if (p.count > 1) {
+        MPI_Aint *from = must_have(graph, p.count, sizeof *from);
+        for (uint32_t k = 0; k < p.count; k++) MPI_Get_address(p.at[k], &from[k]);
+        b = (buffer){MPI_BOTTOM, 1, MPI_DATATYPE_NULL};
+        MPI_Type_create_hindexed((int)p.count, p.sizes, from, MPI_BYTE, &b.type);
+        MPI_Type_commit(&b.type);
+        free(from);
+    }
     free(p.at), free(p.sizes);
-    return type;
+    return b;
+}
+
+/* The type is freed once no message uses it. */
+static void free_type(buffer *b) {
+    if (b->type != MPI_BYTE) MPI_Type_free(&b->type);
 }
 
 static void send_letter(gerfmuod_mpi *graph, letter l) {
@@ -345,11 +373,11 @@ static void send_letter(gerfmuod_mpi *graph, letter l) {
     places p = new_places(graph, m ? m->count : 0); /* without a value, if a task there only waits until this one has read */
     for (uint32_t k = 0; k < p.count; k++) {
         datum *d = graph->data[m->data[k]];
-        MPI_Get_address(d->at, &p.at[k]), p.sizes[k] = (int)d->size;
+        p.at[k] = d->at, p.sizes[k] = (int)d->size;
     }
-    MPI_Datatype type = type_of(p);
-    MPI_Isend(MPI_BOTTOM, 1, type, l.to, FIRST_VALUE + (int)l.task, graph->communicator, new_request(graph));
-    MPI_Type_free(&type);
+    buffer b = buffer_of(graph, p);
+    MPI_Isend(b.at, b.count, b.type, l.to, FIRST_VALUE + (int)l.task, graph->communicator, new_request(graph));
+    free_type(&b);
     graph->sent_to[l.to]++;
 }
 
@@ -401,11 +429,11 @@ static void receive_value(gerfmuod_mpi *graph, int from, uint32_t number) {
     for (uint32_t k = 0; k < count; k++) {
         copy *c = graph->copies[first + k];
         if (!(c->at = malloc(c->size ? c->size : 1))) MPI_Abort(graph->communicator, GERFMUOD_REFUSED_NO_MEMORY);
-        MPI_Get_address(c->at, &p.at[k]), p.sizes[k] = (int)c->size;
+        p.at[k] = c->at, p.sizes[k] = (int)c->size;
     }
-    MPI_Datatype type = type_of(p);
-    MPI_Recv(MPI_BOTTOM, 1, type, from, FIRST_VALUE + (int)number, graph->communicator, MPI_STATUS_IGNORE);
-    MPI_Type_free(&type);
+    buffer b = buffer_of(graph, p);
+    MPI_Recv(b.at, b.count, b.type, from, FIRST_VALUE + (int)number, graph->communicator, MPI_STATUS_IGNORE);
+    free_type(&b);
     pthread_mutex_lock(&graph->lock);
     uint32_t refused = gerfmuod_part_call(&graph->part, GERFMUOD_PART_ARRIVED, number).refused;
     if (graph->sleeping) pthread_cond_signal(&graph->work);
@@ -450,33 +478,39 @@ static void pause_after(uint32_t *polls) {
     else sched_yield();
 }
 
-/* Sends and receives until this process is over or stopped, and then until all are. Leaves in `failure` what all agree on. It does not
- * wait for its sends: after a stop, their receivers may take them only in `drain`. */
-static void communicate(gerfmuod_mpi *graph, int64_t *failure) {
+/* Runs a task, if the main thread does and one is ready, and sends what is due. Returns whether there was something. */
+static bool advance(gerfmuod_mpi *graph, bool runs, bool *has_ended, int64_t *failure) {
+    pthread_mutex_lock(&graph->lock);
+    bool is_more = runs && !graph->is_over && !graph->is_stopped && turn(graph);
+    *has_ended = graph->is_over || graph->is_stopped;
+    *failure = graph->is_stopped ? graph->failure : NO_FAILURE;
+    pthread_mutex_unlock(&graph->lock);
+    return send_due(graph) || is_more; /* after this look: nothing is due any more once the part is over */
+}
+
+/* Runs tasks, sends and receives until this process is over or stopped, and then until all are. Leaves in `failure` what all agree on.
+ * It does not wait for its sends: after a stop, their receivers may take them only in `drain`. */
+static void communicate(gerfmuod_mpi *graph, bool runs, int64_t *failure) {
     MPI_Request agreed = MPI_REQUEST_NULL;
     bool has_ended = false;
     int agree = 0;
     int64_t mine = NO_FAILURE;
     for (uint32_t polls = 0; !agree;) {
+        bool is_more = false;
         if (!has_ended) {
-            pthread_mutex_lock(&graph->lock);
-            has_ended = graph->is_over || graph->is_stopped;
-            mine = graph->is_stopped ? graph->failure : NO_FAILURE;
-            pthread_mutex_unlock(&graph->lock);
-            bool is_more = send_due(graph); /* after this look: nothing is due any more once the part is over */
+            is_more = advance(graph, runs, &has_ended, &mine);
             if (has_ended) MPI_Iallreduce(&mine, failure, 1, MPI_INT64_T, MPI_MIN, graph->communicator, &agreed);
-            if (is_more) polls = 0;
         } else MPI_Test(&agreed, &agree, MPI_STATUS_IGNORE);
         forget_sent(graph);
-        if (receive(graph)) polls = 0;
+        while (receive(graph)) is_more = true;
+        if (is_more) polls = 0;
         else if (!agree) pause_after(&polls);
     }
 }
 
 /* After a stop: receives what is still in flight, so that nothing of this run is left in the communicator. */
 static void drain(gerfmuod_mpi *graph) {
-    uint64_t *sent = calloc((size_t)graph->processes, sizeof *sent);
-    if (!sent) MPI_Abort(graph->communicator, GERFMUOD_REFUSED_NO_MEMORY);
+    uint64_t *sent = must_have(graph, (size_t)graph->processes, sizeof *sent);
     MPI_Alltoall(graph->sent_to, 1, MPI_UINT64_T, sent, 1, MPI_UINT64_T, graph->communicator);
     for (int p = 0; p < graph->processes; p++)
         while (graph->received_from[p] < sent[p]) receive(graph);
@@ -510,18 +544,18 @@ static uint32_t prepare(gerfmuod_mpi *graph, uint32_t threads) {
 }
 
 uint32_t gerfmuod_mpi_run(gerfmuod_mpi *graph, uint32_t threads) {
-    uint32_t refused = prepare(graph, threads), begun = 0;
-    pthread_t *started = refused ? NULL : malloc(threads * sizeof *started);
+    uint32_t refused = prepare(graph, threads), begun = 0, others = threads - 1;
+    pthread_t *started = refused ? NULL : malloc((others + 1) * sizeof *started);
     if (!refused && !started) refused = GERFMUOD_REFUSED_NO_MEMORY;
     pthread_mutex_lock(&graph->lock); /* the threads begin when all processes may run */
-    while (!refused && begun < threads && !pthread_create(&started[begun], NULL, work, graph)) begun++;
-    if (!refused && begun < threads) refused = GERFMUOD_REFUSED_NOT_STARTED;
+    while (!refused && begun < others && !pthread_create(&started[begun], NULL, work, graph)) begun++;
+    if (!refused && begun < others) refused = GERFMUOD_REFUSED_NOT_STARTED;
     refused = agree_to_run(graph, refused);
     graph->has_run = true;
     graph->is_stopped = refused != 0;
     pthread_mutex_unlock(&graph->lock);
     int64_t failure = NO_FAILURE;
-    if (!refused) communicate(graph, &failure);
+    if (!refused) communicate(graph, true, &failure);
     for (uint32_t k = 0; k < begun; k++) pthread_join(started[k], NULL);
     free(started);
     if (failure != NO_FAILURE) drain(graph), graph->failure = failure, refused = GERFMUOD_REFUSED_STOPPED;

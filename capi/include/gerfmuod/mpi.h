@@ -12,7 +12,8 @@
  * A task runs once, in the process where the data live that it writes, on one of `threads` threads there, after the tasks that the
  * order of the description makes it wait for, with the values that they left: the result is that of the sequential program, if each
  * body touches only what its task names. The order is that of gerfmuod/part.h, which is proved; the copies and the messages are
- * tested. The main thread alone calls MPI, so MPI_THREAD_FUNNELED is enough.
+ * tested. The calling thread is one of the threads, and alone calls MPI, so MPI_THREAD_FUNNELED is enough. It sends and receives between
+ * two bodies: a body that runs long there delays the messages of its process.
  *
  * The functions are in gerfmuod/mpi.c, next to this header. It is compiled with the program, by the mpicc of its MPI:
  *     mpicc program.c INCLUDE/gerfmuod/mpi.c -lgerfmuod -pthread
