@@ -1,5 +1,4 @@
-"""Opens a page in headless Chromium, and drives it as a reader does, by the DevTools protocol over a pipe; has it read trace events."""
-import base64
+"""Has the DevTools of headless Chromium read trace events, by the DevTools protocol over a pipe."""
 import collections
 import json
 import os
@@ -13,13 +12,11 @@ from .repository import TOP, text_of
 NAMES = ("chromium", "chromium-browser", "google-chrome")
 # a shell gives Chromium the descriptors 3 and 4, on which it reads and writes
 SHELL = 'reads=$1 writes=$2; shift 2; exec "$@" 3<&"$reads" 4>&"$writes"'
-OPTIONS = ["--headless=new", "--remote-debugging-pipe", "--disable-gpu", "--no-first-run", "--hide-scrollbars"]
+OPTIONS = ["--headless=new", "--remote-debugging-pipe", "--disable-gpu", "--no-first-run"]
 OPTIONS += ["--no-sandbox"] * (os.geteuid() == 0)
 SECONDS = 600
 # reads the events, and returns the slices that the panel would show, or null without such modules
 READ = text_of(f"{TOP}/tools/data/devtools.js")
-# the levels of what a page reports as an error
-ERRORS = ("error", "warning", "assert")
 
 
 def program():
@@ -27,31 +24,29 @@ def program():
 
 
 def is_here(tally, what):
-    """Whether Chromium is installed. If it is not, counts what is not tried; `tools/page-packages` prints the packages."""
+    """Whether Chromium is installed. If it is not, counts what is not tried; `tools/page-packages` prints its package."""
     if not program():
         tally.skips(what, NAMES[0])
     return bool(program())
 
 
 class Browser:
-    """A page in Chromium, of this size in pixels; `errors` has what the page reported as an error."""
+    """A page in Chromium."""
 
-    def __init__(self, width=1200, height=640):
+    def __init__(self):
         self.folder = tempfile.mkdtemp()
         reads, to_browser = os.pipe()
         from_browser, writes = os.pipe()
-        options = [*OPTIONS, f"--user-data-dir={self.folder}", f"--window-size={width},{height}"]
+        options = [*OPTIONS, f"--user-data-dir={self.folder}"]
         command = ["sh", "-c", SHELL, "sh", str(reads), str(writes), "timeout", str(SECONDS), program(), *options]
         self.process = subprocess.Popen(command, pass_fds=(reads, writes), stdin=subprocess.DEVNULL, stderr=subprocess.DEVNULL)
         os.close(reads)
         os.close(writes)
         self.out, self.source = os.fdopen(to_browser, "wb"), os.fdopen(from_browser, "rb")
-        self.session, self.number, self.rest, self.errors = {}, 0, b"", []
+        self.session, self.number, self.rest = {}, 0, b""
         target = self.call("Target.createTarget", url="about:blank")["targetId"]
         self.session = {"sessionId": self.call("Target.attachToTarget", targetId=target, flatten=True)["sessionId"]}
-        for domain in ("Page", "Runtime", "Log"):
-            self.call(f"{domain}.enable")
-        self.call("Emulation.setDeviceMetricsOverride", width=width, height=height, deviceScaleFactor=1, mobile=False)
+        self.call("Page.enable")
 
     def __enter__(self):
         return self
@@ -64,19 +59,14 @@ class Browser:
         shutil.rmtree(self.folder, ignore_errors=True)
 
     def receive(self):
-        """Returns the next message of the browser, and keeps it if it is an error of the page."""
+        """Returns the next message of the browser."""
         while b"\0" not in self.rest:
             read = self.source.read1(1 << 16)
             if not read:
                 raise EOFError("Chromium has ended")
             self.rest += read
         text, _, self.rest = self.rest.partition(b"\0")
-        message = json.loads(text)
-        event, details = message.get("method"), message.get("params", {})
-        is_error = event == "Runtime.consoleAPICalled" and details["type"] in ERRORS
-        if is_error or event == "Runtime.exceptionThrown" or event == "Log.entryAdded" and details["entry"]["level"] == "error":
-            self.errors.append(json.dumps(details)[:500])
-        return message
+        return json.loads(text)
 
     def call(self, method, **parameters):
         self.number += 1
@@ -97,28 +87,9 @@ class Browser:
             pass
         return True
 
-    def open(self, path):
-        self.navigate(f"file://{os.path.abspath(path)}")
-        self.settle()
-
     def value(self, expression):
         result = self.call("Runtime.evaluate", expression=expression, returnByValue=True, awaitPromise=True)
         return result["result"].get("value")
-
-    def settle(self):
-        self.value("new Promise(end => requestAnimationFrame(() => requestAnimationFrame(end)))")
-
-    def mouse(self, kind, x, y, **more):
-        self.call("Input.dispatchMouseEvent", type=kind, x=x, y=y, **more)
-        self.settle()
-
-    def key(self, key, text=""):
-        self.call("Input.dispatchKeyEvent", type="keyDown", key=key, text=text)
-        self.call("Input.dispatchKeyEvent", type="keyUp", key=key)
-        self.settle()
-
-    def screenshot(self):
-        return base64.b64decode(self.call("Page.captureScreenshot", format="png")["data"])
 
 
 def slices_in(text):

@@ -1,24 +1,19 @@
-"""Draws the pictures of runs in docs/figures: of stored traces, with bin/samples, of a page, and of a run of Cholesky.
+"""Draws the pictures of runs in docs/figures: of stored traces, with bin/samples, and of a run of Cholesky.
 
-`tools/dev try samples` compares the pictures of traces with what the program draws unproved. The page is a screenshot of
-Chromium (`tools/page-packages` prints the packages). Cholesky (capi/examples/cholesky.c) runs with lib/libgerfmuod.a, over OpenBLAS
-if that is installed; the times of the fastest of a few runs are stored and drawn. Prints a line for each picture. The status is 1
-if one could not be drawn; without Chromium, or without a library that was built from these sources, its picture is left as it is.
+`tools/dev try samples` compares the pictures of traces with what the program draws unproved. Cholesky (capi/examples/cholesky.c)
+runs with lib/libgerfmuod.a, over OpenBLAS if that is installed; the times of the fastest of a few runs are stored and drawn. Prints
+a line for each picture. The status is 1 if one could not be drawn; without a library that was built from these sources, the picture
+of Cholesky is left as it is.
 """
 import os
-import tempfile
 
 from . import dag_programs, library, plots, running
-from .browser import Browser, program
 from .event_format import Profile
 from .repository import figure, text_of
 from .tries import PICTURES
 
 # the picture of Cholesky, the order of its matrix and of its tiles, and the numbers of threads and of runs
 CHOLESKY, ORDER, TILE, THREADS, RUNS = "cholesky", 2048, 256, 4, 9
-# the page, its trace, its size, and where the pointer is on it
-PAGE, SIZE, PLACE = "docs/figures/a-page.png", (1000, 500), (420, 310)
-TRACE = "tools/data/statuses/samples/0-draw-a-run-of-some-hundred-events"
 
 
 def draw_trace(samples, name):
@@ -27,18 +22,6 @@ def draw_trace(samples, name):
     if result.status == status:
         running.write(figure(name), result.out)
     return result.status == status
-
-
-def draw_page(samples):
-    result = running.run([samples, "draw", "run", "--format", "html"], TRACE)
-    if result.status:
-        return False
-    with tempfile.NamedTemporaryFile(suffix=".html") as file, Browser(*SIZE) as browser:
-        running.write(file.name, result.out)
-        browser.open(file.name)
-        browser.mouse("mouseMoved", *PLACE)
-        running.write(PAGE, browser.screenshot())
-    return not browser.errors
 
 
 def draw_cholesky(library_folder, folder):
@@ -70,9 +53,7 @@ def arguments(parser):
 
 def run(options):
     running.require(options.samples)
-    no_browser = "" if program() else "Chromium is missing (tools/page-packages prints the packages)"
     no_library = "" if options.library else library.reason_not_built()
     are_drawn = [draw(figure(name), draw_trace, options.samples, name) for name in PICTURES]
-    are_drawn.append(draw(PAGE, draw_page, options.samples, missing=no_browser))
     are_drawn.append(draw(figure(CHOLESKY), draw_cholesky, options.library or "lib", options.temporary, missing=no_library))
     return 0 if all(are_drawn) else 1

@@ -41,10 +41,8 @@ pub use denote.Triple.Spec.{triple_of, Meets}
 pub use denote.Triple.Table.{framed, Enters, enters}
 pub use borrow.Table.OneValue.{part_in}
 pub use Rattle.gerfmuod.specs.Calls.{IsByCall, IsClosed, IsCountersCall, IsRestartCall, IsSettleCall, IsStepCall, IsStepsCall, IsTraceCall}
-pub use Rattle.gerfmuod.specs.Calls.{IsReserveCall, IsStatusCall}
-pub use Rattle.gerfmuod.specs.RawSteps.{raw_step}
-pub use Rattle.gerfmuod.specs.Slot.{CoreState, opened, opening}
-pub use denote.Triple.End.{Kepts, Fins, Outs, outs, lasts_of}
+pub use Rattle.gerfmuod.specs.Calls.{IsReserveCall, IsStatusCall, raw_step, CoreState, opened, opening}
+pub use denote.Triple.End.{Kepts, Fins, Outs, all, outs, lasts_of}
 pub use contract.Lifetimes.{Lfts, Shares, toks}
 pub use denote.Param.Shared.{copy_shared}
 pub use denote.Struct.Field.{u32-field, usize-field}
@@ -54,9 +52,8 @@ pub use prog.Model.{Model}
 pub use sound.WpLaws.{FmC}
 pub use denote.Slice.{shr_slice_vals, shr_slice_Tells, mut_slice_vals, mut_slice_Tells}
 pub use types.Part.{whole, sub, agg}
-pub use Rattle.gerfmuod.specs.Graph.{GraphState, opened_graph}
-pub use Rattle.gerfmuod.specs.GraphCalls.{IsDescribeCall, IsGraphCall, IsSpawnCall, IsTaskCall}
-pub use Rattle.gerfmuod.specs.Part.{IsPartCall, IsSharedTaskCall, IsTaskOfCall, PartView, opened_part}
+pub use Rattle.gerfmuod.specs.Part.{GraphState, opened_graph, IsDescribeCall, IsGraphCall, IsSpawnCall, IsTaskCall, IsPartCall}
+pub use Rattle.gerfmuod.specs.Part.{IsSharedTaskCall, IsTaskOfCall, PartView, opened_part}
 pub use Rattle.gerfmuod.specs.contracts.slot.CoreSlot.{the_row as core_row}
 pub use Rattle.gerfmuod.specs.contracts.graph.slot.GraphSlot.{the_row as graph_row}
 pub use Rattle.gerfmuod.specs.contracts.part.slot.PartSlot.{the_row as part_row}
@@ -208,6 +205,16 @@ module _ (R A : RattleType) {M : Type 1} {𝓤 : Ura M} (𝓛 : Logic 𝓤) (b o
         suffices ! (C (G.args (z α γ)) Post) (subst (λ (us : List Val). ent 𝓤 (C (G.args (z α γ)) Post) (C us Post)) (args α γ) (id⊢ 𝓤 _)) $
         by ! (fm (G.args (z α γ)) (G.post (z α γ)) Post (mean 𝓛 (Claim α γ)) (λ v. given_back α γ v (G.post (z α γ) v) (post α γ v)))))
 
+-- ---- a number, a slice and a number
+abbrev pub listed : RattleType → List (Slot 1)
+listed E = plain (λ _. u32) ∷ shr_slice_of (0 ∷ []) tt (plain (λ _. E)) ∷ plain (λ _. u32) ∷ []
+
+abbrev pub listed_vals : (E : RattleType) (κs : Lfts 1) → Denots (types_at (listed E) κs) → Valss (types_at (listed E) κs)
+listed_vals E κs a = (vint w32 a.0 ∷ [], (shr_slice_vals a.1.0, (vint w32 a.1.1.0 ∷ [], tt)))
+
+abbrev pub listed_arguments : (E : RattleType) (κs : Lfts 1) → Denots (types_at (listed E) κs) → ℕ → ℕ → List Val
+listed_arguments E κs a b o = vptr b o ∷ flat (types_at (listed E) κs) (listed_vals E κs a)
+
 -- ---- the exported function
 -- a parameter of which nothing is had, and a buffer
 abbrev pub with_buffer : {l : ℕ} → Slot l → (j : ℕ) → AllWithin l (j ∷ []) → RattleType → List (Slot l)
@@ -232,75 +239,96 @@ module _ {M : Type 1} {𝓤 : Ura M} (𝓛 : Logic 𝓤) (l : ℕ) where
       qed 𝓛 (‵ (lasts_of κs (with_buffer s j ok E) (k, (yes, tt)) a ws) ∷ []) ∵ fsplit ! $ drop ! $ fsplit ! $ fsplit ! $ fsplit ! $
       move ! (1 ∷ []) $ feq_l ! (λ same. says ! (tt, (same, tt)) $ fjoin ! $ fjoin ! $ nothing ! $ fjoin ! $ done !)
 
-module _ {M : Type 1} {𝓤 : Ura M} (𝓛 : Logic 𝓤) (𝓜 : Model 𝓤 𝓛.H) (𝓡 : Running 𝓤 𝓛.H 𝓜) (R A : RattleType) (laws : Laws A)
-    (l : ℕ) (ss : List (Slot l)) (ks : Kepts ss) where
+module _ {M : Type 1} {𝓤 : Ura M} (𝓛 : Logic 𝓤) (𝓜 : Model 𝓤 𝓛.H) (𝓡 : Running 𝓤 𝓛.H 𝓜) where
   abbrev 𝓣 : MachineTables 𝓤 𝓛.H 𝓜
   𝓣 = tables 𝓤 𝓛.H 𝓜 𝓡 𝓡.env
 
-  abbrev ended : Ended
-  ended = record {
-    signature = record { lifetimes = l; outlives = []; params = plain (λ _. RawPtr) ∷ ss; result = plain (λ _. A) };
-    kept = (yes, ks);
-  }
+  abbrev pub frames : FmC 𝓤 𝓛.H 𝓛.laws 𝓣.C
+  frames = framed 𝓤 𝓛.H 𝓜 𝓣
 
-  -- what the parameters, the value before, the result, the parameters' last values and the value after the call are to each other
-  abbrev Effect : Type 1
-  Effect = (κs : Lfts l) → Denots (types_at ss κs) → R.Denot → A.Denot → Outs κs ss ks → R.Denot → Type 0
+  module _ (R A : RattleType) (laws : Laws A) (l : ℕ) (ss : List (Slot l)) (ks : Kepts ss) where
+    abbrev ended : Ended
+    ended = record {
+      signature = record { lifetimes = l; outlives = []; params = plain (λ _. RawPtr) ∷ ss; result = plain (λ _. A) };
+      kept = (yes, ks);
+    }
 
-  abbrev clauses : Effect → Clauses 𝓤 ended
-  clauses P κs a = record {
-    ghost = R.Denot;
-    requires = λ n. sem 𝓛 (lies_at R full_share a.0 n);
-    ensures = λ n u out. ex 𝓤 (λ (new : R.Denot). sep 𝓤 (sem 𝓛 (lies_at R full_share a.0 new)) (fact 𝓤 (P κs a.1 n u out.1 new)));
-  }
+    -- what the parameters, the value before, the result, the parameters' last values and the value after the call are to each other
+    abbrev Effect : Type 1
+    Effect = (κs : Lfts l) → Denots (types_at ss κs) → R.Denot → A.Denot → Outs κs ss ks → R.Denot → Type 0
 
-  -- What the callee gives, at these arguments: the values to which its contract is applied, and how it is called.
-  pub data Given (P : Effect) (k : Callee) (G : Contract 𝓤) (e : Fn) (κs : Lfts l) (qs : Shares l) (a : Denots (types_at ss κs))
-      (vs : Valss (types_at ss κs)) (n : R.Denot) (b o : ℕ) : Type 2 where
-    gives : (z : ℕ → GName → G.Ghost)
-        → ((α : ℕ) (γ : GName) → G.args (z α γ) ≡ vptr b o ∷ flat (types_at ss κs) vs)
-        → ((α : ℕ) (γ : GName) → ent 𝓤 (mean 𝓛 (((‵ (flft (α ∷ []) full_share) ⊛ raw (toks 𝓛 l κs qs))
-        ⊛ (Lent R A 𝓛 b o α n γ ⊛ ‵ (owns (types_at ss κs) a vs))) ⊛ ‵ ftrue)) (G.pre (z α γ)))
-        → ((α : ℕ) (γ : GName) (v : Val) → ent 𝓤 (G.post (z α γ) v) (mean 𝓛 (Returns R A 𝓛 b o {Ws = R.Denot × Fins κs ss ks a} α γ
-        (toks 𝓛 l κs qs) (λ ws. ws.0) (λ ws. lasts_of κs ss ks a ws.1) (λ u ws. P κs a n u (outs κs ss ks a ws.1)) v)))
-        → ((Q : Val → SProp 𝓤) → Sq 𝓛 (raw (𝓣.C k (vptr b o ∷ flat (types_at ss κs) vs) (Typed 𝓛 (layout A) Q)) ∷ [])
-        (prop (WpFn 𝓤 𝓛.H 𝓣.C 𝓣.Λ e (vptr b o ∷ flat (types_at ss κs) vs) Q)))
-        → Given P k G e κs qs a vs n b o
+    abbrev clauses : Effect → Clauses 𝓤 ended
+    clauses P κs a = record {
+      ghost = R.Denot;
+      requires = λ n. sem 𝓛 (lies_at R full_share a.0 n);
+      ensures = λ n u out. ex 𝓤 (λ (new : R.Denot). sep 𝓤 (sem 𝓛 (lies_at R full_share a.0 new)) (fact 𝓤 (P κs a.1 n u out.1 new)));
+    }
 
-  pub exported : (P : Effect) (hs : Stays ss ks) → AllGo 𝓛 l ss ks hs → Left 𝓛 l ss ks hs → (f : Callee) (e : Fn)
-      → Closed 𝓤 𝓛.H 𝓣.C 𝓣.Λ f e → (sp : (κs : Lfts l) → Spells (types_at ss κs))
-      → ((κs : Lfts l) → Tellss (types_at ss κs) (Ises (types_at ss κs)) (sp κs)) → (k : Callee) (G : Contract 𝓤) → Triple 𝓤 (𝓣.C k) G
-      → ((κs : Lfts l) (qs : Shares l) (a : Denots (types_at ss κs)) (n : R.Denot) (b o : ℕ)
-      → Are (types_at ss κs) (Ises (types_at ss κs)) a (valss (types_at ss κs) (sp κs) a)
-      → Given P k G e κs qs a (valss (types_at ss κs) (sp κs) a) n b o)
-      → Meets 𝓛 ended.signature (𝓣.C f) (closing 𝓛 ended (clauses P))
-  exported P hs go leaves f e closed sp tl k G met given =
-      let c = clauses P in
-      let stays : Stays ended.signature.params ended.kept = (stay_dropped (plain (λ _. RawPtr)) yes, hs) in
-      let W = walk_of 𝓛 ended stays c in
-      proved 𝓛 ended stays c 𝓜 𝓡 (Goes-dropped 𝓛 l (plain (λ _. RawPtr)) yes (λ κs x w. refl), go) f e closed
-      (λ κs. (rawptr_vals, sp κs)) (λ κs. (rawptr_Tells, tl κs)) (λ κs qs bounds a n are.
-      let Ts = types_at ss κs in let vs = valss Ts (sp κs) a.1 in let tokens = toks 𝓛 l κs qs in
-      let y : Ptr → W.Ghost = λ p. ((κs, qs, bounds, (p, a.1), (rawptr_vals p, vs)), n) in
-      qed 𝓛 ((raw tokens ⊛ ‵ (owns (RawPtr ∷ Ts) a (rawptr_vals a.0, vs))) ∷ ‵ (lies_at R full_share a.0 n) ∷ []) ∵
-      split ! $ move ! (1 ∷ []) $ fsplit ! $ drop ! $ move ! (2 ∷ []) $
-      -- [the value; the other parameters; the tokens]
-      in_a_block ! a.0 (λ p. lies_at R full_share p n) (id⊢ 𝓤 _) (λ b o is_ptr.
-      elim (given κs qs a.1 n b o are.1) [
-        | gives z args pre post run ↦
-            regoal ! (λ p. prop (WpFn 𝓤 𝓛.H 𝓣.C 𝓣.Λ e (rawptr_vals p ++ flat Ts vs) (W.post (y p)))) is_ptr refl $
-            let us : List Val = vptr b o ∷ flat Ts vs in
-            let Q : Val → SProp 𝓤 = W.post (y (block_ptr b o)) in
-            let Told : A.Denot → R.Denot × Fins κs ss ks a.1 → R.Denot → Type 0 = λ u ws. P κs a.1 n u (outs κs ss ks a.1 ws.1) in
-            suffices ! (𝓣.C k us (Typed 𝓛 (layout A) Q)) (qed 𝓛 (raw (𝓣.C k us (Typed 𝓛 (layout A) Q)) ∷ []) ∵ run Q) $
-            by ! (borrows R A 𝓛 b o laws n tokens (sem 𝓛 (owns Ts a.1 vs)) us (λ ws. ws.0) (λ ws. lasts_of κs ss ks a.1 ws.1) Told Q
-            (λ u ws v.
-            qed 𝓛 (‵ (A.own_val u (v ∷ [])) ∷ raw tokens ∷ Lies R A 𝓛 b o (Told u ws) ∷ ‵ (lasts_of κs ss ks a.1 ws.1) ∷ []) ∵
-            move ! (3 ∷ []) $
-            use1 𝓛 (‵ (has_of κs ss ks hs a.1 ws.1 vs) ⊛ raw (fact 𝓤 (fits_of κs ss ks hs a.1 ws.1))) (leaves κs a.1 ws.1 vs) $
-            split ! $ move ! (1 ∷ []) $ heard ! _ (λ fit.
-            suffices ! _ (ends_at 𝓛 ended stays c (y (block_ptr b o)) v u (tt, ws.1) (tt, fit)) $
-            -- [the other parameters; the result; the tokens; the value]
-            nothing ! $ fjoin ! $ move ! (2 ∷ 0 ∷ 1 ∷ []) $ group ! 3 $ done !))
-            (𝓣.C k) (framed 𝓤 𝓛.H 𝓜 𝓣 k) (enters 𝓤 𝓛.H 𝓜 𝓣 k) G met z args pre post)
-      ]))
+    -- What the callee gives, at these arguments: the values to which its contract is applied, and how it is called.
+    pub data Given (P : Effect) (k : Callee) (G : Contract 𝓤) (e : Fn) (κs : Lfts l) (qs : Shares l) (a : Denots (types_at ss κs))
+        (vs : Valss (types_at ss κs)) (n : R.Denot) (b o : ℕ) : Type 2 where
+      gives : (z : ℕ → GName → G.Ghost)
+          → ((α : ℕ) (γ : GName) → G.args (z α γ) ≡ vptr b o ∷ flat (types_at ss κs) vs)
+          → ((α : ℕ) (γ : GName) → ent 𝓤 (mean 𝓛 (((‵ (flft (α ∷ []) full_share) ⊛ raw (toks 𝓛 l κs qs))
+          ⊛ (Lent R A 𝓛 b o α n γ ⊛ ‵ (owns (types_at ss κs) a vs))) ⊛ ‵ ftrue)) (G.pre (z α γ)))
+          → ((α : ℕ) (γ : GName) (v : Val) → ent 𝓤 (G.post (z α γ) v) (mean 𝓛 (Returns R A 𝓛 b o {Ws = R.Denot × Fins κs ss ks a} α γ
+          (toks 𝓛 l κs qs) (λ ws. ws.0) (λ ws. lasts_of κs ss ks a ws.1) (λ u ws. P κs a n u (outs κs ss ks a ws.1)) v)))
+          → ((Q : Val → SProp 𝓤) → Sq 𝓛 (raw (𝓣.C k (vptr b o ∷ flat (types_at ss κs) vs) (Typed 𝓛 (layout A) Q)) ∷ [])
+          (prop (WpFn 𝓤 𝓛.H 𝓣.C 𝓣.Λ e (vptr b o ∷ flat (types_at ss κs) vs) Q)))
+          → Given P k G e κs qs a vs n b o
+
+    pub exported : (P : Effect) (hs : Stays ss ks) → AllGo 𝓛 l ss ks hs → Left 𝓛 l ss ks hs → (f : Callee) (e : Fn)
+        → Closed 𝓤 𝓛.H 𝓣.C 𝓣.Λ f e → (sp : (κs : Lfts l) → Spells (types_at ss κs))
+        → ((κs : Lfts l) → Tellss (types_at ss κs) (Ises (types_at ss κs)) (sp κs)) → (k : Callee) (G : Contract 𝓤) → Triple 𝓤 (𝓣.C k) G
+        → ((κs : Lfts l) (qs : Shares l) (a : Denots (types_at ss κs)) (n : R.Denot) (b o : ℕ)
+        → Are (types_at ss κs) (Ises (types_at ss κs)) a (valss (types_at ss κs) (sp κs) a)
+        → Given P k G e κs qs a (valss (types_at ss κs) (sp κs) a) n b o)
+        → Meets 𝓛 ended.signature (𝓣.C f) (closing 𝓛 ended (clauses P))
+    exported P hs go leaves f e closed sp tl k G met given =
+        let c = clauses P in
+        let stays : Stays ended.signature.params ended.kept = (stay_dropped (plain (λ _. RawPtr)) yes, hs) in
+        let W = walk_of 𝓛 ended stays c in
+        proved 𝓛 ended stays c 𝓜 𝓡 (Goes-dropped 𝓛 l (plain (λ _. RawPtr)) yes (λ κs x w. refl), go) f e closed
+        (λ κs. (rawptr_vals, sp κs)) (λ κs. (rawptr_Tells, tl κs)) (λ κs qs bounds a n are.
+        let Ts = types_at ss κs in let vs = valss Ts (sp κs) a.1 in let tokens = toks 𝓛 l κs qs in
+        let y : Ptr → W.Ghost = λ p. ((κs, qs, bounds, (p, a.1), (rawptr_vals p, vs)), n) in
+        qed 𝓛 ((raw tokens ⊛ ‵ (owns (RawPtr ∷ Ts) a (rawptr_vals a.0, vs))) ∷ ‵ (lies_at R full_share a.0 n) ∷ []) ∵
+        split ! $ move ! (1 ∷ []) $ fsplit ! $ drop ! $ move ! (2 ∷ []) $
+        -- [the value; the other parameters; the tokens]
+        in_a_block ! a.0 (λ p. lies_at R full_share p n) (id⊢ 𝓤 _) (λ b o is_ptr.
+        elim (given κs qs a.1 n b o are.1) [
+          | gives z args pre post run ↦
+              regoal ! (λ p. prop (WpFn 𝓤 𝓛.H 𝓣.C 𝓣.Λ e (rawptr_vals p ++ flat Ts vs) (W.post (y p)))) is_ptr refl $
+              let us : List Val = vptr b o ∷ flat Ts vs in
+              let Q : Val → SProp 𝓤 = W.post (y (block_ptr b o)) in
+              let Told : A.Denot → R.Denot × Fins κs ss ks a.1 → R.Denot → Type 0 = λ u ws. P κs a.1 n u (outs κs ss ks a.1 ws.1) in
+              suffices ! (𝓣.C k us (Typed 𝓛 (layout A) Q)) (qed 𝓛 (raw (𝓣.C k us (Typed 𝓛 (layout A) Q)) ∷ []) ∵ run Q) $
+              by ! (borrows R A 𝓛 b o laws n tokens (sem 𝓛 (owns Ts a.1 vs)) us (λ ws. ws.0) (λ ws. lasts_of κs ss ks a.1 ws.1) Told Q
+              (λ u ws v.
+              qed 𝓛 (‵ (A.own_val u (v ∷ [])) ∷ raw tokens ∷ Lies R A 𝓛 b o (Told u ws) ∷ ‵ (lasts_of κs ss ks a.1 ws.1) ∷ []) ∵
+              move ! (3 ∷ []) $
+              use1 𝓛 (‵ (has_of κs ss ks hs a.1 ws.1 vs) ⊛ raw (fact 𝓤 (fits_of κs ss ks hs a.1 ws.1))) (leaves κs a.1 ws.1 vs) $
+              split ! $ move ! (1 ∷ []) $ heard ! _ (λ fit.
+              suffices ! _ (ends_at 𝓛 ended stays c (y (block_ptr b o)) v u (tt, ws.1) (tt, fit)) $
+              -- [the other parameters; the result; the tokens; the value]
+              nothing ! $ fjoin ! $ move ! (2 ∷ 0 ∷ 1 ∷ []) $ group ! 3 $ done !))
+              (𝓣.C k) (framed 𝓤 𝓛.H 𝓜 𝓣 k) (enters 𝓤 𝓛.H 𝓜 𝓣 k) G met z args pre post)
+        ]))
+
+  -- ---- an exported function of a number, a slice and a number
+  module _ (R A : RattleType) (laws : Laws A) (E : RattleType) where
+    abbrev all_kept : Kepts (listed E)
+    all_kept = all yes (listed E)
+
+    pub lists : (P : Effect R A laws 1 (listed E) all_kept) (f : Callee) (e : Fn) → Closed 𝓤 𝓛.H 𝓣.C 𝓣.Λ f e → (g : Callee) (G : Contract 𝓤)
+        → Triple 𝓤 (𝓣.C g) G → ((κs : Lfts 1) (qs : Shares 1) (a : Denots (types_at (listed E) κs)) (n : R.Denot) (b o : ℕ)
+        → Are (types_at (listed E) κs) (Ises (types_at (listed E) κs)) a (listed_vals E κs a)
+        → Given R A laws 1 (listed E) all_kept P g G e κs qs a (listed_vals E κs a) n b o)
+        → Meets 𝓛 (ended R A laws 1 (listed E) all_kept).signature (𝓣.C f)
+        (closing 𝓛 (ended R A laws 1 (listed E) all_kept) (clauses R A laws 1 (listed E) all_kept P))
+    lists P f e closed =
+        let num = Goes-dropped 𝓛 1 (plain (λ _. u32)) yes (λ κs x w. refl) in
+        exported R A laws 1 (listed E) all_kept P (dropped (listed E) all_kept)
+        (num, (Goes-dropped 𝓛 1 (shr_slice_of (0 ∷ []) tt (plain (λ _. E))) yes (λ κs x w. refl), (num, tt)))
+        (drops 𝓛 1 (listed E) all_kept) f e closed (λ κs. (uint_vals w32, (shr_slice_vals, (uint_vals w32, tt))))
+        (λ κs. (uint_Tells w32, (shr_slice_Tells (named 0) κs.0 E, (uint_Tells w32, tt))))

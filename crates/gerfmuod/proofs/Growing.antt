@@ -1,25 +1,6 @@
 -- No call on a team takes a task away, so the number of the next task stays above those that a flow recorded.
-use Rattle.gerfmuod.proofs.Words.{ℕ, zero, suc, ◌≡◌, ◌+◌, ◌-◌, ◌≤◌, Bool, true, false, List, [], ◌∷◌, length, Option, Some, None, refl, ap, subst, ◌∙◌}
-use Rattle.gerfmuod.proofs.Words.{inl, inr, arith, nat_tests, length-set, length-append, length-map, Refusal, IfSome, IfNone, IsSome}
-use Rattle.tp_dag.specs.Calls as pool
-use Rattle.tp_dag.specs.Calls.{Becomes, GoesTo, IsReported, with_input, with_spawned, with_task}
-use Rattle.tp_dag.specs.Describing.{Graph, class_of, described, inputs_of, with_inputs}
-use Rattle.tp_dag.specs.State.{PoolState, Entry}
-use Rattle.tp_dag.specs.declared.entry.Event.{Event}
-use Rattle.tp_dag.specs.declared.entry.Stage.{Stage}
-use Rattle.tp_team.specs.Calls.{came, repeated, with_pool, Changes, Decides, Reports, Stops, TakesTurn, stopped_by}
-use Rattle.tp_team.specs.State.{Settles}
-use Rattle.tp_team.specs.declared.Fault.{Fault}
-use Rattle.tp_team.specs.declared.State.{State}
-use Rattle.tp_team.specs.declared.TeamRefusal.{TeamRefusal}
-use Rattle.tp_team.specs.declared.Turn.{Turn}
-use Rattle.tp_team.specs.declared.Turn.TheVariants.{Run, Spin, Sleep, Over, Refused}
-use Rattle.tp_flow.specs.State.{FlowState, is_not_above}
-use Rattle.gerfmuod.specs.Graph.{GraphState, task_named, IsDescribe, IsGraphJudged, IsJudged, IsSpawn, IsTeamCall}
-use Rattle.gerfmuod.specs.GraphCalls.{IsSpawnCall}
-use Rattle.gerfmuod.specs.declared.graph.answer.GraphResult.{GraphResult}
-use Rattle.gerfmuod.specs.declared.graph.call.TeamCall.{TeamCall}
-use Rattle.gerfmuod.specs.declared.graph.call.TeamCall.TheVariants as call
+pub mod Inferring
+pub use Inferring.*
 
 abbrev tasks : State → ℕ
 tasks a = length a.pool.tasks
@@ -108,9 +89,6 @@ spawned : (class : ℕ) (inputs : List ℕ) (outside : ℕ) (old new : State) (u
     → tasks old ≤ tasks new
 spawned class inputs outside old new u h =
     judged _ _ _ old u new (λ s. omega (arith, one_task_more class inputs outside old new s.0 s.2)) h
-
-one_task : (class : ℕ) (a : PoolState) → count (with_task class a) ≡ count a + 1
-one_task class a = length-append a.tasks _
 
 -- ---- the next number
 later : (newest : Option ℕ) (n m : ℕ) → n ≤ m → is_not_above newest n ≡ false → is_not_above newest m ≡ false

@@ -1,24 +1,11 @@
 -- The steps that a core takes: its room, the safety of what it returns, and several steps in one call.
-use Rattle.gerfmuod.proofs.Words.{ℕ, ◌≡◌, ◌≢◌, ◌+◌, ◌*◌, ◌≤◌, ◌++◌, Bool, true, false, List, ◌∷◌, [], length, Result, Some, refl, sym, ap}
-use Rattle.gerfmuod.proofs.Words.{subst, ◌∙◌, arith, Ok, Err, IsFalse, IsTrue, nat_lt, not, length-append, both_ways, nat_tests}
-use Rattle.gerfmuod.proofs.Words.{first_refusal, Check, number_of, MAX_STEPS, Refusal, Ended, NotIdle, HistoryFull, NoMemory, Step, Judge}
-use Rattle.gerfmuod.proofs.Words.{present, is_ended, judgement, Reply, Accepted, Answers, IsRefusedFor, world_of, ends_before, rooms_check}
-use Rattle.gerfmuod.proofs.Words.{Settles, is_quiet, InEach, IsNeverEarly, never_early_in_each, present-control, IsKept, is_full, Inside}
-use Rattle.gerfmuod.proofs.Words.{None, inl, inr, Option, ◌&&◌, if◌then◌else◌, cases_Bool, lt-leb, Give, until, visit, waves, visited_at}
-use Rattle.gerfmuod.proofs.Words.{Plain, WaveSums, Not, Over, Opened, judged, reply_to, with_step, IsOverFrom, judged_wave, settled}
-use Rattle.gerfmuod.proofs.Words.{unsettled, IsOver, TellsNoEarlyEnd, is_ending_if, leaves_nothing, plain, told, reply_told, refusal_told}
-use Rattle.gerfmuod.proofs.Words.{AnswersInRoom, AnswersTo, IsTold, StepResult, ◌<◌, take, drop, set, get_or, take_more, take_more_set}
-use Rattle.gerfmuod.proofs.Words.{take-set, drop-set, drop-set-lt, drop-drop, drop_more, drop_all, length-set, AreTaken, IsBatch, IsStep}
-use Rattle.gerfmuod.proofs.Words.{IsStepsCall, step_asked, CoreState, Open}
-use Rattle.gerfmuod.specs.declared.raw_step.RawStep.{RawStep}
+pub mod Words
+pub use Words.*
 
 -- ---- a core keeps room for settling, so settling is never refused for lack of it
 -- Until termination is detected, there is room for 9 steps for each node.
 abbrev pub HasRoom : Accepted → Type 0
 HasRoom a = IsFalse (is_ended a.nodes (present a.steps)) → length a.steps + 9 * a.nodes ≤ MAX_STEPS
-
-room_left : (a : Accepted) → a.nodes ≤ 8 → IsFalse (is_full a) → length a.steps + 1 + 9 * a.nodes ≤ MAX_STEPS
-room_left a few left = grind (arith, nat_tests)
 
 ended_here : (n w : ℕ) (past : List Step) → judgement n past ≡ Some w → IsTrue (is_ended n (Judge ∷ past))
 ended_here n w past e = rw e refl
@@ -80,11 +67,8 @@ over_at_judge n w past never e =
 
 -- ---- a step whose result is `Over` was a judgement
 reply_over : (reply : Reply) → (reply_told reply).event ≡ 3 → reply ≡ Over (reply_told reply).number
-reply_over Plain e = cc
-reply_over (WaveSums s) e = cc
-reply_over Not e = cc
 reply_over (Over w) e = refl
-reply_over (Opened g) e = cc
+reply_over _ e = cc
 
 refusal_tells : (r : Refusal) → (refusal_told r).event ≡ 0
 refusal_tells (HistoryFull n) = refl
@@ -132,9 +116,8 @@ told_over old new (Some s) (Ok reply) a never =
           (sym there.1 ∙ told_three (leaves_nothing (Some s) new) reply e) there.2 never;
       never_early = never;
     }
-told_over old new (Some s) (Err r) a never = record { ended = λ e. let none = refusal_tells r in cc; never_early = never }
 told_over old new None (Ok reply) a never = record { ended = λ e. let none = a.0 in cc; never_early = never }
-told_over old new None (Err r) a never = record { ended = λ e. let none = refusal_tells r in cc; never_early = never }
+told_over old new o (Err r) a never = record { ended = λ e. let none = refusal_tells r in cc; never_early = never }
 
 -- The result of a step that was taken, if whether it left nothing was seen before.
 pub told_left : (old new : Accepted) (o : Option Step) (reply : Reply) (u : StepResult) (ends left : Bool) → AnswersTo old o (Ok reply) new
@@ -174,21 +157,15 @@ settled_over old new (Err r) s never = record { ended = λ e. absurd (unsettled_
 -- ---- a refused step changes nothing
 reply_taken : (reply : Reply) → (reply_told reply).refused ≡ 0
 reply_taken Plain = refl
-reply_taken (WaveSums s) = refl
-reply_taken Not = refl
-reply_taken (Over w) = refl
-reply_taken (Opened g) = refl
+reply_taken _ = refl
 
 told_taken : (left : Bool) (reply : Reply) → (if left then plain 0 5 0 else reply_told reply).refused ≡ 0
 told_taken true reply = refl
 told_taken false reply = reply_taken reply
 
-in_room : (old : Accepted) (s : Step) (r : Refusal) (new : Accepted) → AnswersInRoom old s (Err r) new → new ≡ old
-in_room old s r new a = elim (cases_Bool (is_full old)) [ inl e ↦ (a.full e).1 | inr e ↦ (a.taken e).1 ]
-
 err_changes_nothing : (old : Accepted) (o : Option Step) (r : Refusal) (new : Accepted) → AnswersTo old o (Err r) new → new ≡ old
 err_changes_nothing old None r new a = a.1
-err_changes_nothing old (Some s) r new a = in_room old s r new a
+err_changes_nothing old (Some s) r new a = elim (cases_Bool (is_full old)) [ inl e ↦ (a.full e).1 | inr e ↦ (a.taken e).1 ]
 
 result_changes_nothing : (old : Accepted) (o : Option Step) (r : Result Reply Refusal) (new : Accepted) → AnswersTo old o r new
     → (told o r new).refused ≢ 0 → new ≡ old
@@ -254,16 +231,6 @@ stops_at events room old k answers mid d u new below few a s refused =
             refused,
             drop-set answers k u there ∙ ap (λ (xs : List StepResult). u ∷ xs) (rest_after answers room k a.rest),
           );
-    }
-
-pub after_all : (events : List RawStep) (room : List StepResult) (old : Accepted) (k : ℕ) (answers : List StepResult) (new : Accepted)
-    → k ≡ length events → AfterSteps events room old k answers new → IsBatch events room old k answers new
-after_all events room old k answers new e a =
-    record {
-      within = omega (arith, e);
-      taken = a.taken;
-      all = λ same. a.rest;
-      refused = λ x later left. let none : drop k events ≡ [] = drop_all k events (omega (arith, e)) in cc;
     }
 
 -- A call on an open core takes the events that have a place for their result.

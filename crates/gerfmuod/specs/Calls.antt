@@ -1,34 +1,7 @@
 -- What each exported call on a core returns and does. On a core that is not open it is refused as 24, `NoPool`, and on a core on which
 -- another call runs as 28, `Busy`.
-use Rattle.std.specs.Prelude.{ℕ, ◌-◌, ◌*◌, ◌==◌, Bool, length, ◌≡◌, ◌&&◌, true, false, IsTrue, IsFalse, if◌then◌else◌, Result, Ok, Err}
-use Rattle.std.specs.Prelude.{Option, Some, None, ◌||◌, nat_le, ◌↔◌, nat_lt, ◌≢◌, ◌≤◌, ◌+◌, List, [], ◌∷◌, take, drop, ◌⊎◌}
-use Rattle.tp_base.specs.Refusals.{number_of}
-use Rattle.tp_base.specs.declared.Refusal.{Refusal}
-use Rattle.tp_base.specs.declared.Refusal.TheVariants.{HistoryFull, BadSpec, NoNode, NoMemory, NoPool, WrongLife}
-use Rattle.tp_base.specs.declared.Step.{Step}
-use Rattle.tp_base.specs.declared.Step.TheVariants.{Done, ActionClose, Ready, MessageEnd, Give, Judge, Reopen}
-use Rattle.tp_base.specs.declared.limits.TheConstants.{MAX_STEPS}
-use Rattle.tp_wave.specs.Generations.{present}
-use Rattle.tp_wave.specs.Sums.{is_ended}
-use Rattle.tp_core.specs.Accepted.{Accepted, Answers, world_of, numbers_at, no_numbers}
-use Rattle.tp_core.specs.Makers.{is_maker}
-use Rattle.tp_core.specs.Settled.{Settles}
-use Rattle.tp_core.specs.World.{is_quiet, IsQuiet}
-use Rattle.tp_core.specs.declared.Maker.{Maker}
-use Rattle.tp_core.specs.declared.Maker.TheVariants.{Task, Action, Message, Opening, Thread}
-use Rattle.tp_core.specs.declared.Reply.{Reply}
-use Rattle.tp_core.specs.declared.Reply.TheVariants.{Plain, WaveSums, Not, Over, Opened}
-use Rattle.tp_core.specs.declared.numbers.NodeNumbers.{NodeNumbers}
-use Rattle.gerfmuod.specs.RawSteps.{node, task, action, message, step_asked}
-use Rattle.gerfmuod.specs.Pool.{TellsNoEarlyEnd}
-use Rattle.gerfmuod.specs.Slot.{CoreState, IsCall, Closed, Open, Busy, closed, new_core}
-use Rattle.gerfmuod.specs.Written.{IsTraced}
-use Rattle.gerfmuod.specs.declared.answer.StepResult.{StepResult}
-use Rattle.gerfmuod.specs.declared.answer.Counters.{Counters}
-use Rattle.gerfmuod.specs.declared.answer.Settled.{Settled}
-use Rattle.gerfmuod.specs.declared.answer.Status.{Status}
-use Rattle.gerfmuod.specs.declared.answer.Written.{Written}
-use Rattle.gerfmuod.specs.declared.raw_step.RawStep.{RawStep}
+pub mod Writing
+pub use Writing.*
 
 -- ---- the room of a core. It keeps 9 steps for each node, which are enough for `settle`
 -- the number of steps that can still be reported

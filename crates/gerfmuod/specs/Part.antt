@@ -1,30 +1,20 @@
 -- A part of a task graph as a program in C sees it, and the calls on it: for which reason each is refused, what its result is, and what it
 -- does. What a call does to the part is in the contracts of `tp_part`.
-use Rattle.std.specs.Prelude.{ℕ, ◌≡◌, ◌==◌, List, [], Bool, true, false, length, map, if◌then◌else◌, Option, Some, None}
+pub mod GraphCalls
+pub use GraphCalls.*
 use Rattle.std.specs.Prelude.{Result, Ok, Err}
 use Rattle.std.specs.Option.{option_map}
 use Rattle.tp_base.specs.Checks.{first_refusal, Check}
-use Rattle.tp_base.specs.declared.Refusal.{Refusal}
-use Rattle.tp_base.specs.declared.Refusal.TheVariants.{BadSpec}
-use Rattle.tp_flow.specs.declared.access.Access.{Access}
-use Rattle.tp_flow.specs.Description.{Description, AreInputs, with_handle}
 use Rattle.tp_flow.specs.Description as flow
-use Rattle.tp_flow.specs.State.{FlowState, Follows, handle_checks}
 use Rattle.tp_part.specs.declared.part.Next.{Next}
 use Rattle.tp_part.specs.declared.part.Next.TheVariants.{Run, Send, Wait, Over}
 use Rattle.tp_part.specs.State.{PartState}
-use Rattle.tp_part.specs.Calls.{new_part, with_task, with_arrival, Runs, Sends, Ends, IsOver, IsWaiting}
-use Rattle.tp_part.specs.Calls.{arrived_checks, done_checks, next_checks, start_checks, task_checks}
-use Rattle.tp_team.specs.declared.TeamRefusal.{TeamRefusal}
-use Rattle.tp_team.specs.declared.TeamRefusal.TheVariants.{Pool}
-use Rattle.tp_team.specs.Calls.{first}
-use Rattle.gerfmuod.specs.declared.graph.access.RawAccess.{RawAccess}
-use Rattle.gerfmuod.specs.declared.graph.answer.GraphResult.{GraphResult}
+use Rattle.tp_part.specs.Calls.{new_part, with_task, with_arrival, Runs, Sends, Ends, IsOver, IsWaiting, arrived_checks, done_checks}
+use Rattle.tp_part.specs.Calls.{next_checks, start_checks, task_checks}
 use Rattle.gerfmuod.specs.declared.part.call.PartCall.{PartCall}
 use Rattle.gerfmuod.specs.declared.part.call.PartCall.TheVariants as call
-use Rattle.gerfmuod.specs.Data.{access_checks, access_of, FollowsOn}
-use Rattle.gerfmuod.specs.Graph.{no_flow, plain, refusal_answer, IsJudged, IsRefused}
-use Rattle.gerfmuod.specs.GraphCalls.{IfOpen}
+use Rattle.gerfmuod.specs.declared.part.slot.PartSlot.TheInside.{Inside}
+use Rattle.gerfmuod.specs.declared.part.slot.TheConstants.{MARK}
 
 -- A part in the caller's memory: whether it is open, and which tasks accessed its data handles.
 pub record PartView : Type 0 where
@@ -165,3 +155,11 @@ IsTaskOfCall old class inputs owner answer new =
 abbrev pub IsSharedTaskCall : PartView → ℕ → List RawAccess → ℕ → GraphResult → PartView → Type 0
 IsSharedTaskCall old class accesses owner answer new =
     IfOpen old.is_open (IsSharedTask class accesses owner old answer new) old answer new
+
+-- ---- the view of a `PartSlot` in contracts, and what holds of each
+abbrev pub state_of : Inside → PartView
+state_of p = record { is_open = p.mark == MARK; part = p.part; flow = p.flow.state }
+
+-- The number of the next task is above those of the tasks that the flow recorded.
+abbrev pub HasNextNumber : PartView → Type 0
+HasNextNumber g = is_not_above g.flow.newest g.part.described ≡ false

@@ -70,12 +70,8 @@ pub struct Written {
     pub length: usize,
 }
 
-const _: () = prove!(size_of::<StepResult>() == 16);
+const _: () = prove!(size_of::<StepResult>() == 16 && size_of::<Counters>() == 16);
 
-const _: () = prove!(size_of::<Counters>() == 16);
-
-const _: () = prove!(size_of::<Status>() == 16);
+const _: () = prove!(size_of::<Status>() == 16 && size_of::<Written>() == 16);
 
 const _: () = prove!(size_of::<Settled>() == 12);
-
-const _: () = prove!(size_of::<Written>() == 16);

@@ -1,17 +1,10 @@
 //! The calls on a core, as C gets their results.
 ghost use Rattle.std.specs.Prelude.{◌≡◌, ◌≢◌, ◌&&◌, IsTrue, None, OnSome, option_map};
-ghost use Rattle.tp_base.specs.Refusals.{number_of};
-ghost use Rattle.tp_core.specs.Accepted.{no_numbers, world_of};
-ghost use Rattle.tp_core.specs.Generations.{InEach};
-ghost use Rattle.tp_core.specs.Makers.{is_maker};
-ghost use Rattle.tp_core.specs.NeverEarly.{IsNeverEarly};
-ghost use Rattle.tp_core.specs.World.{is_quiet};
-ghost use Rattle.gerfmuod.specs.Calls.{counters, unsettled, IsSettled, IsStep, IsByCall, IsCountersCall, IsRestartCall};
-ghost use Rattle.gerfmuod.specs.Calls.{IsSettleCall, IsStepCall, IsStatusCall, refused_step, IsReserveCall, made_step};
-ghost use Rattle.gerfmuod.specs.Calls.{maker_asked, IsMade, has_plain_reply, is_ending_if, refusal_told, reply_told, IsTold};
-ghost use Rattle.gerfmuod.specs.RawSteps.{raw_step};
-ghost use Rattle.gerfmuod.specs.Pool.{TellsNoEarlyEnd};
-ghost use Rattle.gerfmuod.specs.Slot.{opening, refusal_of};
+ghost use Rattle.gerfmuod.specs.Calls.{number_of, no_numbers, world_of, InEach, is_maker};
+ghost use Rattle.gerfmuod.specs.Calls.{IsNeverEarly, is_quiet, counters, unsettled, IsSettled, IsStep, IsByCall, IsCountersCall};
+ghost use Rattle.gerfmuod.specs.Calls.{IsRestartCall, IsSettleCall, IsStepCall, IsStatusCall, refused_step, IsReserveCall, made_step};
+ghost use Rattle.gerfmuod.specs.Calls.{maker_asked, IsMade, has_plain_reply, is_ending_if, refusal_told, reply_told, IsTold, raw_step};
+ghost use Rattle.gerfmuod.specs.Calls.{TellsNoEarlyEnd, opening, refusal_of};
 
 use crate::answer::{Counters, Settled, Status, StepResult};
 use crate::pool::CoreRoom;
@@ -229,14 +222,8 @@ fn no_step(room: &mut CoreRoom) -> StepResult
 fn taken(room: &mut CoreRoom, raw: RawStep) -> StepResult
     ensures { IsStep raw room.old result room.new }
 {
-    let RawStep {
-        kind,
-        first,
-        second,
-        third,
-        generation,
-    } = raw;
-    match kind {
+    let (first, second, third, generation) = (raw.first, raw.second, raw.third, raw.generation);
+    match raw.kind {
         0 => told_plainly(room, insert_step(first, second, third)),
         1 => told_plainly(room, Some(Step::Supply(TaskId(first)))),
         2 => told_plainly(room, Some(Step::Begin(TaskId(first)))),
@@ -318,15 +305,9 @@ fn taken_by(room: &mut CoreRoom, maker_kind: u32, maker: u32, raw: RawStep) -> S
     ensures { IsMade room.old (maker_asked maker_kind maker) (made_step raw) result room.new
         × TellsNoEarlyEnd (result.event ≡ 3) result.number room.new }
 {
-    let RawStep {
-        kind,
-        first,
-        second,
-        third,
-        generation,
-    } = raw;
+    let (first, second, third, generation) = (raw.first, raw.second, raw.third, raw.generation);
     let by = maker_kind;
-    match kind {
+    match raw.kind {
         0 => told_by(room, by, maker, insert_step(first, second, third)),
         1 => told_by(room, by, maker, Some(Step::Supply(TaskId(first)))),
         2 => told_by(room, by, maker, Some(Step::Begin(TaskId(first)))),

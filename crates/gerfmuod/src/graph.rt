@@ -3,8 +3,7 @@
 ghost use Rattle.std.specs.Borrow.{full_share, sem};
 ghost use Rattle.std.specs.Ptr.{lies_at, room_at};
 ghost use Rattle.gerfmuod.specs.contracts.graph.slot.GraphSlot.{the_row as slot_row};
-ghost use Rattle.gerfmuod.specs.Graph.{opened_graph, GraphState};
-ghost use Rattle.gerfmuod.specs.GraphCalls.{IsDescribeCall, IsGraphCall, IsSpawnCall, IsTaskCall};
+ghost use Rattle.gerfmuod.specs.Part.{opened_graph, GraphState, IsDescribeCall, IsGraphCall, IsSpawnCall, IsTaskCall};
 
 use crate::graph::access::RawAccess;
 use crate::graph::answer::GraphResult;

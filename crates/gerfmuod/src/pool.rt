@@ -1,7 +1,4 @@
 //! A core that keeps room for settling, with the number of its nodes.
-ghost use Rattle.std.specs.Prelude.{◌≡◌, ◌≢◌, ◌≤◌, ◌<◌, [], ℕ, IfErr, reverse, length};
-ghost use Rattle.tp_base.specs.Refusals.{number_of};
-ghost use Rattle.tp_base.specs.declared.limits.TheConstants.{MAX_NODES, MAX_STEPS};
 
 use std::alloc::Global;
 use std::marker::Model;
@@ -19,24 +16,19 @@ pub(crate) struct CoreRoom {
 }
 
 impl Model for CoreRoom {
-    ghost use Rattle.tp_core.specs.Accepted.{Accepted};
+    ghost use Rattle.gerfmuod.specs.Calls.{Accepted, IsKept};
 
     ghost Value = { Accepted };
 
     ghost view = { λ p. p.core };
 
-    ghost use Rattle.gerfmuod.specs.Pool.{IsKept};
-
     ghost invariant = { IsKept };
 }
 
 impl CoreRoom {
-    ghost use Rattle.tp_core.specs.Accepted.{world_of};
-    ghost use Rattle.tp_core.specs.Generations.{AreRuns, InEach};
-    ghost use Rattle.tp_core.specs.Makers.{is_maker};
-    ghost use Rattle.tp_core.specs.NeverEarly.{IsNeverEarly};
-    ghost use Rattle.tp_core.specs.Settled.{Settles};
-    ghost use Rattle.gerfmuod.specs.Calls.{room_of, AnswersTo};
+    ghost use Rattle.std.specs.Prelude.{◌≡◌, ◌≢◌, ◌≤◌, [], IfErr, reverse, length};
+    ghost use Rattle.gerfmuod.specs.Calls.{number_of, MAX_NODES, MAX_STEPS, world_of, AreRuns};
+    ghost use Rattle.gerfmuod.specs.Calls.{InEach, is_maker, IsNeverEarly, Settles, room_of, AnswersTo};
 
     /// Returns a pool of the nodes 0 to `nodes` - 1, 1 to 8 of them. It allocates nothing.
     pub(crate) fn new(alloc: Global, nodes: u32) -> CoreRoom

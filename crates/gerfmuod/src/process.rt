@@ -3,12 +3,10 @@
 
 ghost use Rattle.std.specs.Prelude.{◌≡◌, ◌≤◌, ◌⊎◌, ◌&&◌, true, Some};
 ghost use Rattle.std.specs.Result.{result_err};
-ghost use Rattle.gerfmuod.specs.Wire.{after_event, after_init, after_taking, message_of, message_with, next_as};
-ghost use Rattle.gerfmuod.specs.Wire.{IsKept, receipt_refused, refused_as, refused_by, taken_as, wire_after};
-ghost use Rattle.tp_process.specs.Calls.{close_refusal, closed, moved, open_refusal, opened, send_refusal, sent};
-ghost use Rattle.tp_process.specs.Epochs.{received_in, reopen_refusal, reopened};
-ghost use Rattle.tp_process.specs.Opening.{checked, if_open, is_open, new_process, next_of};
-ghost use Rattle.tp_process.specs.State.{read};
+ghost use Rattle.gerfmuod.specs.Wire.{after_event, after_init, after_taking, message_of};
+ghost use Rattle.gerfmuod.specs.Wire.{message_with, next_as, IsKept, receipt_refused, refused_as, refused_by, taken_as, wire_after};
+ghost use Rattle.gerfmuod.specs.Wire.{close_refusal, closed, moved, open_refusal, opened, send_refusal, sent, received_in, reopen_refusal};
+ghost use Rattle.gerfmuod.specs.Wire.{reopened, checked, if_open, is_open, new_process, next_of, read};
 
 use crate::wire::{WireMessage, wire_of};
 use tp_process::{ControlMessage, Next, Process, Refusal, Token};

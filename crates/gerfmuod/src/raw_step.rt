@@ -1,9 +1,7 @@
 //! The steps as C passes them: the number of a kind and the numbers of what it names.
 ghost use Rattle.std.specs.Prelude.{◌≡◌, IsTrue, Some};
-ghost use Rattle.tp_base.specs.declared.Step.TheVariants.{ActionOpen, Send, Recv, MessageEnd};
-ghost use Rattle.gerfmuod.specs.RawSteps.{insert_asked, other_step, step_asked, task_step, action as as_action, age, message as as_message};
-ghost use Rattle.gerfmuod.specs.RawSteps.{node as as_node};
-ghost use Rattle.gerfmuod.specs.Calls.{has_plain_reply};
+ghost use Rattle.gerfmuod.specs.Calls.{ActionOpen, Send, Recv, MessageEnd, insert_asked, other_step, step_asked};
+ghost use Rattle.gerfmuod.specs.Calls.{task_step, action as as_action, age, message as as_message, node as as_node, has_plain_reply};
 
 use tp_base::{ActionId, Generation, Inputs, MAX_INPUTS, MessageId, NodeId, Step, TaskId};
 

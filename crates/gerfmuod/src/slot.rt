@@ -1,7 +1,6 @@
 //! The content of a `gerfmuod_core`: a core, and a mark that says whether it is open and whether a call runs on it.
 ghost use Rattle.std.specs.Prelude.{◌≡◌, ◌≢◌, ◌↔◌, IsTrue, IsFalse};
-ghost use Rattle.gerfmuod.specs.Calls.{IsClosed, IsRestarted};
-ghost use Rattle.gerfmuod.specs.Slot.{can_be, opened, refusal_of, Busy, Open};
+ghost use Rattle.gerfmuod.specs.Calls.{IsClosed, IsRestarted, can_be, opened, refusal_of, Busy, Open};
 
 use crate::pool::CoreRoom;
 use std::alloc::Global;
@@ -18,15 +17,12 @@ const BUSY: u32 = 0x6275_7379;
 /// call, can see it.
 const BUSY_REFUSAL: u16 = 28;
 
-/// The size in bytes of a `gerfmuod_core` in the header.
-const ROOM: usize = 512;
+// The size in bytes of a `gerfmuod_core` in the header is 512.
+const _: () = prove!(size_of::<CoreSlot>() <= 512 && align_of::<CoreSlot>() <= 8);
 
-const _: () = prove!(size_of::<CoreSlot>() <= ROOM);
-
-const _: () = prove!(align_of::<CoreSlot>() <= 8);
-
-/// Compiles only for a type that can be sent to another thread: a program in C may use its core from any thread.
-fn can_be_sent<T: Send>() {}
+/// Compiles only for a type that can be sent to another thread: a program in C may use its core, graph or part from
+/// any thread.
+pub(crate) fn can_be_sent<T: Send>() {}
 
 /// Returns whether a pool can have this number of nodes.
 pub(crate) fn can_be(nodes: u32) -> bool
@@ -45,11 +41,9 @@ pub(crate) struct CoreSlot {
 }
 
 impl Model for CoreSlot {
-    ghost use Rattle.gerfmuod.specs.Slot.{CoreState};
+    ghost use Rattle.gerfmuod.specs.CoreSlot.{CoreState, state_of};
 
     ghost Value = { CoreState };
-
-    ghost use Rattle.gerfmuod.specs.CoreSlot.{state_of};
 
     ghost view = { state_of };
 }

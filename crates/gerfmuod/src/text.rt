@@ -1,9 +1,7 @@
 //! Writing a text to a buffer of the caller: the audit of a trace, and the trace of a core.
 ghost use Rattle.std.specs.Prelude.{◌≡◌, IfOk};
-ghost use Rattle.tp_text.specs.AuditText.{IsAuditText};
+ghost use Rattle.gerfmuod.specs.Calls.{IsAuditText, IsTraceCall, outcome_of, IsAudited, IsPut};
 ghost use Rattle.tp_text.specs.TracedEnd.{EndedIsOver, NotEndedClaimsNoEnd, ReopenedIsOver};
-ghost use Rattle.gerfmuod.specs.Calls.{IsTraceCall};
-ghost use Rattle.gerfmuod.specs.Written.{outcome_of, IsAudited, IsPut};
 
 use crate::answer::Written;
 use crate::slot::CoreSlot;
@@ -79,6 +77,7 @@ fn audited(alloc: Global, text: &[u8], buffer: &mut [u8]) -> Written
 
 /// Judges a trace as `tp audit` does, and writes the verdict to the start of `buffer`.
 #[unsafe(no_mangle)]
+#[tactic(auto, using(crate::proofs::Steps::ended_over, crate::proofs::Steps::not_ended_claims, crate::proofs::Steps::reopened_over))]
 pub extern "C" fn gerfmuod_audit(alloc: Global, text: &[u8], buffer: &mut [u8]) -> Written
     ensures answer { IsAudited text.now buffer.old result buffer.new }
     // If the verdict on a sound trace is `ended W`, the pool was quiet from the end of wave W on, and each task of the

@@ -23,7 +23,7 @@ impl<'a> Product<'a> {
     /// Returns the product of two matrices of `order` rows and columns, which are borrowed row by row, in tiles of
     /// `side` rows and columns. `None` if the tiles do not fill the matrices, `order` is 0 or 32,768 or more, a list
     /// has another length than `order * order`, or the number of tasks would be 1,048,576 or more.
-    #[tactic(auto, using(crate::proofs::Running::too_many))]
+    #[tactic(auto, using(crate::proofs::Refused::too_many))]
     pub fn new(left: &'a [i64], right: &'a [i64], order: u32, side: u32) -> Option<Self>
         ensures made { IfSome result
             (λ p. (p.left.now ≡ left.now) × (p.right.now ≡ right.now) × (p.tiles * p.side ≡ order) × (p.side ≡ side)) }
@@ -62,7 +62,7 @@ impl<'a> Product<'a> {
     }
 
     /// Returns the tile, along a side, that has a row or a column.
-    #[tactic(auto, using(crate::proofs::Tiles::tile_below))]
+    #[tactic(auto, using(crate::proofs::Refused::tile_below))]
     fn tile_of(&self, x: u32) -> u32
         requires { x < self.now.tiles * self.now.side }
         ensures same { result ≡ x / self.now.side }

@@ -1,26 +1,19 @@
--- The sample pools keep all values.
-use Rattle.std.proofs.Common.{ℕ, refl}
-use Rattle.tp_graph.specs.Graphs.{KeepsAll}
-use Rattle.pool_samples.specs.Any.{any_graph}
+-- Each task of a sample pool has a value, and the pools keep all values.
+pub mod Spelling
+pub use Spelling.*
 use Rattle.pool_samples.specs.Products.{product_graph}
 use Rattle.pool_samples.specs.Trees.{reduce_graph}
 use Rattle.pool_samples.specs.Waves.{wavefront_graph}
-use Rattle.pool_samples.specs.declared.any.AnyGraph.{AnyGraph}
 use Rattle.pool_samples.specs.declared.any.AnyGraph.TheVariants as pool
 
-product_keeps : (tiles side seed : ℕ) → KeepsAll (product_graph tiles side seed)
-unfolding product_graph
-product_keeps tiles side seed t = refl
-
-wavefront_keeps : (rows columns seed : ℕ) → KeepsAll (wavefront_graph rows columns seed)
-unfolding wavefront_graph
-wavefront_keeps rows columns seed t = refl
-
-reduce_keeps : (leaves seed : ℕ) → KeepsAll (reduce_graph leaves seed)
-unfolding reduce_graph
-reduce_keeps leaves seed t = refl
+pub each_valued : (graph : AnyGraph) (t : ℕ) → t < (any_graph graph).tasks → IsSome (value_of (any_graph graph) t)
+unfolding product_graph wavefront_graph reduce_graph
+each_valued (pool.Product p) t h = product_valued p.tiles p.side p.seed p.in_rules t h
+each_valued (pool.Wavefront w) t h = wave_valued w.rows w.columns w.seed w.in_rules t h
+each_valued (pool.Reduce r) t h = let few = leaves-few r.leaves r.seed r.in_rules in tree_valued r.leaves r.seed r.in_rules few.0 few.1 t h
 
 pub any_keeps : (graph : AnyGraph) → KeepsAll (any_graph graph)
-any_keeps (pool.Product p) = product_keeps p.tiles p.side p.seed
-any_keeps (pool.Wavefront w) = wavefront_keeps w.rows w.columns w.seed
-any_keeps (pool.Reduce r) = reduce_keeps r.leaves r.seed
+unfolding product_graph wavefront_graph reduce_graph
+any_keeps (pool.Product p) t = refl
+any_keeps (pool.Wavefront w) t = refl
+any_keeps (pool.Reduce r) t = refl

@@ -1,12 +1,1 @@
-pub mod EntryTables
-pub mod Found
-pub mod Marked
-pub mod PlainCells
-pub mod Printed
-pub mod ProductSums
-pub mod Spelling
-pub mod Sums
-pub mod TreeSums
-pub mod Valued
-pub mod WaveCells
 pub mod Keeping

@@ -1,5 +1,4 @@
 pub mod Any
-pub mod Columns
 pub mod Needed
 pub mod ProductLaws
 pub mod Products

@@ -3,7 +3,7 @@ use Rattle.std.proofs.Common.{◌≡◌, ◌<◌, ◌≤◌, ◌+◌, ◌-◌, �
 use Rattle.std.proofs.lemmas.Bool.Decides.{nat_tests}
 use Rattle.tp_graph.specs.Graphs.{IsLawful, FillsSlot, IsFilled}
 use Rattle.pool_samples.specs.Products.{IsProduct, product_graph}
-use Rattle.pool_samples.specs.Columns.{mod_right, mod_left, right_within}
+use Rattle.tp_graph.proofs.Rows.{mod_right, mod_left, right_within}
 
 module _ (tiles side seed : ℕ) (some : 0 < tiles) where
   fills : (p k : ℕ) → p < tiles * tiles * tiles → k < (product_graph tiles side seed).feeds p

@@ -1,7 +1,6 @@
 -- The product of two matrices in tiles: its entries, and its graph.
 use Rattle.std.specs.Prelude.{◌≤◌, ◌+◌, ◌-◌, ◌*◌, ◌/◌, ◌%◌, ℕ, zero, suc, ℤ, pos, ◌+ℤ◌, ◌-ℤ◌, ◌*ℤ◌, List, [], ◌∷◌, length, slice_index_or}
-use Rattle.std.specs.Prelude.{true}
-use Rattle.std.specs.Prelude.{Option, Some, None, if◌then◌else◌, nat_lt, nat_eq}
+use Rattle.std.specs.Prelude.{true, Option, Some, None, if◌then◌else◌, nat_lt, nat_eq}
 use Rattle.std.proofs.Props.{props}
 use Rattle.tp_graph.specs.Values.{then_some, fitting}
 use Rattle.tp_graph.specs.Graphs.{TaskGraph}

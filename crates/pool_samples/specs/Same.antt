@@ -1,8 +1,13 @@
--- When two sample pools are the same: lemmas on two and three numbers.
+-- When two sample pools are the same: if their numbers are.
 use Rattle.std.proofs.Common.{◌≡◌, ℕ, true, ◌&&◌, eqb, arith}
 use Rattle.std.proofs.lemmas.Bool.Decides.{nat_tests}
-use mathlib.Core.Path.{PathP}
 use mathlib.Core.HLevel.{is_prop→PathP}
+use Rattle.pool_samples.specs.Products.{IsProduct, IsProduct-prop}
+use Rattle.pool_samples.specs.Waves.{IsWavefront, IsWavefront-prop}
+use Rattle.pool_samples.specs.Trees.{IsReduce, IsReduce-prop}
+use Rattle.pool_samples.specs.declared.product.Product.{Product}
+use Rattle.pool_samples.specs.declared.wavefront.Wavefront.{Wavefront}
+use Rattle.pool_samples.specs.declared.reduce.Reduce.{Reduce}
 
 -- two or three pairs of numbers that a test finds equal are equal
 pub both_same : (a b c d : ℕ) → (eqb a b && eqb c d) ≡ true → (a ≡ b) × (c ≡ d)
@@ -11,12 +16,27 @@ both_same a b c d h = (grind (arith, nat_tests), grind (arith, nat_tests))
 pub three_same : (a b c d e f : ℕ) → (eqb a b && (eqb c d && eqb e f)) ≡ true → (a ≡ b) × (c ≡ d) × (e ≡ f)
 three_same a b c d e f h = (grind (arith, nat_tests), grind (arith, nat_tests), grind (arith, nat_tests))
 
--- two proofs of a rule on two or three numbers are equal if the numbers are
-pub rule_of_two : (P : ℕ → ℕ → Type 0) → ((x y : ℕ) → IsProp (P x y)) → {a b c d : ℕ} (e : (a ≡ b) × (c ≡ d)) (p : P a c) (q : P b d) →
-    PathP (λ i. P (e.0 i) (e.1 i)) p q
-rule_of_two P prop e p q = is_prop→PathP (λ i. P (e.0 i) (e.1 i)) (λ i. prop (e.0 i) (e.1 i)) p q
+-- pools with the same numbers are the same
+pub product_same : (a b : Product) → (a.tiles ≡ b.tiles) × (a.side ≡ b.side) × (a.seed ≡ b.seed) → a ≡ b
+product_same a b e = λ i. record {
+  tiles = e.0 i;
+  side = e.1 i;
+  seed = e.2 i;
+  in_rules = is_prop→PathP (λ i. IsProduct (e.0 i) (e.1 i) (e.2 i)) (λ i. IsProduct-prop (e.0 i) (e.1 i) (e.2 i)) a.in_rules b.in_rules i;
+}
 
-pub rule_of_three : (P : ℕ → ℕ → ℕ → Type 0) → ((x y z : ℕ) → IsProp (P x y z))
-    → {a b c d e f : ℕ} (s : (a ≡ b) × (c ≡ d) × (e ≡ f)) (p : P a c e) (q : P b d f) →
-    PathP (λ i. P (s.0 i) (s.1 i) (s.2 i)) p q
-rule_of_three P prop s p q = is_prop→PathP (λ i. P (s.0 i) (s.1 i) (s.2 i)) (λ i. prop (s.0 i) (s.1 i) (s.2 i)) p q
+pub wavefront_same : (a b : Wavefront) → (a.rows ≡ b.rows) × (a.columns ≡ b.columns) × (a.seed ≡ b.seed) → a ≡ b
+wavefront_same a b e = λ i. record {
+  rows = e.0 i;
+  columns = e.1 i;
+  seed = e.2 i;
+  in_rules =
+      is_prop→PathP (λ i. IsWavefront (e.0 i) (e.1 i) (e.2 i)) (λ i. IsWavefront-prop (e.0 i) (e.1 i) (e.2 i)) a.in_rules b.in_rules i;
+}
+
+pub reduce_same : (a b : Reduce) → (a.leaves ≡ b.leaves) × (a.seed ≡ b.seed) → a ≡ b
+reduce_same a b e = λ i. record {
+  leaves = e.0 i;
+  seed = e.1 i;
+  in_rules = is_prop→PathP (λ i. IsReduce (e.0 i) (e.1 i)) (λ i. IsReduce-prop (e.0 i) (e.1 i)) a.in_rules b.in_rules i;
+}

@@ -3,7 +3,7 @@ use Rattle.std.proofs.Common.{◌≡◌, ◌<◌, ◌≤◌, ◌+◌, ◌-◌, �
 use Rattle.std.proofs.lemmas.Bool.Decides.{nat_tests}
 use Rattle.tp_graph.specs.Graphs.{IsLawful, FillsSlot, IsFilled}
 use Rattle.pool_samples.specs.Waves.{IsWavefront, wavefront_graph}
-use Rattle.pool_samples.specs.Columns.{mod_right, mod_left, mod_down, mod_up, right_within}
+use Rattle.tp_graph.proofs.Rows.{mod_right, mod_left, mod_down, mod_up, right_within}
 
 module _ (rows columns seed : ℕ) (some : 0 < columns) where
   fills : (p k : ℕ) → p < rows * columns → k < (wavefront_graph rows columns seed).feeds p

@@ -17,11 +17,21 @@ pub enum AnyGraph {
     Reduce(Reduce),
 }
 
+/// Returns what a method of the graph's pool returns.
+macro_rules! of_pool {
+    ($graph:expr, $method:ident($($argument:expr),*)) => {
+        match $graph {
+            AnyGraph::Product(product) => product.$method($($argument),*),
+            AnyGraph::Wavefront(wavefront) => wavefront.$method($($argument),*),
+            AnyGraph::Reduce(reduce) => reduce.$method($($argument),*),
+        }
+    };
+}
+
 impl Comparable for AnyGraph {
     ghost use Rattle.std.proofs.Common.{ap};
     ghost use Rattle.pool_samples.specs.declared.any.AnyGraph.TheVariants as pool;
-    ghost use Rattle.pool_samples.specs.Any.{product_same, wavefront_same, reduce_same};
-    ghost use Rattle.pool_samples.specs.Same.{both_same, three_same};
+    ghost use Rattle.pool_samples.specs.Same.{product_same, wavefront_same, reduce_same, both_same, three_same};
 
     ghost same = { elim [
       | pool.Product p ↦ elim [
@@ -50,66 +60,34 @@ impl Graph for AnyGraph {
     ghost lawful = { any_lawful };
 
     fn tasks(&self) -> u32 {
-        match self {
-            AnyGraph::Product(product) => product.tasks(),
-            AnyGraph::Wavefront(wavefront) => wavefront.tasks(),
-            AnyGraph::Reduce(reduce) => reduce.tasks(),
-        }
+        of_pool!(self, tasks())
     }
 
     fn arity(&self, task: TaskId) -> u8 {
-        match self {
-            AnyGraph::Product(product) => product.arity(task),
-            AnyGraph::Wavefront(wavefront) => wavefront.arity(task),
-            AnyGraph::Reduce(reduce) => reduce.arity(task),
-        }
+        of_pool!(self, arity(task))
     }
 
     fn class(&self, task: TaskId) -> u8 {
-        match self {
-            AnyGraph::Product(product) => product.class(task),
-            AnyGraph::Wavefront(wavefront) => wavefront.class(task),
-            AnyGraph::Reduce(reduce) => reduce.class(task),
-        }
+        of_pool!(self, class(task))
     }
 
     fn feeds(&self, task: TaskId) -> u32 {
-        match self {
-            AnyGraph::Product(product) => product.feeds(task),
-            AnyGraph::Wavefront(wavefront) => wavefront.feeds(task),
-            AnyGraph::Reduce(reduce) => reduce.feeds(task),
-        }
+        of_pool!(self, feeds(task))
     }
 
     fn feed(&self, task: TaskId, turn: u32) -> (TaskId, u8) {
-        match self {
-            AnyGraph::Product(product) => product.feed(task, turn),
-            AnyGraph::Wavefront(wavefront) => wavefront.feed(task, turn),
-            AnyGraph::Reduce(reduce) => reduce.feed(task, turn),
-        }
+        of_pool!(self, feed(task, turn))
     }
 
     fn home(&self, task: TaskId, nodes: u32) -> NodeId {
-        match self {
-            AnyGraph::Product(product) => product.home(task, nodes),
-            AnyGraph::Wavefront(wavefront) => wavefront.home(task, nodes),
-            AnyGraph::Reduce(reduce) => reduce.home(task, nodes),
-        }
+        of_pool!(self, home(task, nodes))
     }
 
     fn keeps(&self, task: TaskId) -> bool {
-        match self {
-            AnyGraph::Product(product) => product.keeps(task),
-            AnyGraph::Wavefront(wavefront) => wavefront.keeps(task),
-            AnyGraph::Reduce(reduce) => reduce.keeps(task),
-        }
+        of_pool!(self, keeps(task))
     }
 
     fn body(&self, alloc: Global, task: TaskId, inputs: &[Value]) -> Result<Value, Refusal> {
-        match self {
-            AnyGraph::Product(product) => product.body(alloc, task, inputs),
-            AnyGraph::Wavefront(wavefront) => wavefront.body(alloc, task, inputs),
-            AnyGraph::Reduce(reduce) => reduce.body(alloc, task, inputs),
-        }
+        of_pool!(self, body(alloc, task, inputs))
     }
 }

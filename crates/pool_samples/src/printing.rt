@@ -33,7 +33,7 @@ pub fn print_table(
 }
 
 /// Appends a row of a table.
-#[tactic(auto, using(crate::proofs::Printed::texts_more))]
+#[tactic(auto, using(crate::proofs::Keeping::texts_more))]
 fn print_row(
     alloc: Global,
     text: &mut Vec<u8>,

@@ -1,10 +1,8 @@
 //! The product of two matrices in tiles, as a graph.
 ghost use Rattle.std.specs.Prelude.{◌≡◌, ◌<◌, ◌≤◌, ◌+◌, ◌-◌, ◌*◌, ◌/◌, ◌%◌, ℕ, pos, ◌+ℤ◌, ◌-ℤ◌, ◌∷◌, ◌++◌, [], ◌*ℤ◌, unsigned_abs, true};
 ghost use Rattle.std.specs.Prelude.{false, length, slice_index_or, vec_len, vec_capacity, IfOk, MatchResult, Some, None};
-ghost use Rattle.pool_samples.specs.Products.{IsProduct, IsProduct-prop, product_graph, term, sum_from, list_of, tile, tile_and_input};
-ghost use Rattle.pool_samples.specs.Products.{added, place_sum};
+ghost use Rattle.pool_samples.specs.Products.{IsProduct, product_graph, term, sum_from, list_of, tile, tile_and_input, added, place_sum};
 ghost use Rattle.pool_samples.specs.ProductLaws.{product_lawful};
-ghost use Rattle.pool_samples.specs.Same.{three_same, rule_of_three};
 ghost use Rattle.tp_graph.specs.Values.{fits, all_fit, fitting, then_some};
 ghost use Rattle.tp_base.specs.declared.Refusal.TheVariants.{BodyFailed};
 
@@ -61,13 +59,9 @@ fn sum_at(left: &[i32], right: &[i32]) -> i64
 }
 
 impl Comparable for Product {
-    ghost same = { λ a b h. let e = three_same a.tiles b.tiles a.side b.side a.seed b.seed h in
-        λ i. record {
-          tiles = e.0 i;
-          side = e.1 i;
-          seed = e.2 i;
-          in_rules = rule_of_three IsProduct IsProduct-prop e a.in_rules b.in_rules i;
-        } };
+    ghost use Rattle.pool_samples.specs.Same.{product_same, three_same};
+
+    ghost same = { λ a b h. product_same a b (three_same a.tiles b.tiles a.side b.side a.seed b.seed h) };
 }
 
 #[tactic(auto, unfolding(crate::specs::Products::product_graph))]
@@ -195,7 +189,7 @@ fn push_row(made: &mut Vec<i64>, side: u32, seed: u32, x: u32, y: u32, start: u3
 /// Adds the numbers of a list to those of another of the same length, in place. Refused with `BodyFailed` exactly if
 /// the lengths differ or a sum does not fit `i64`; some sums may be changed by then. Overflows are counted, since only
 /// a loop without an early exit is vectorized.
-#[tactic(auto, using(crate::proofs::Sums::add_unlike))]
+#[tactic(auto, using(crate::proofs::Keeping::add_unlike))]
 fn add_to(sums: &mut [i64], input: &[i64]) -> Result<(), Refusal>
     ensures { MatchResult result (λ _. added input.now sums.old ≡ Some sums.new) (λ refusal. (refusal ≡ BodyFailed)
         × (added input.now sums.old ≡ None)) }

@@ -1,8 +1,7 @@
 //! A tree of sums, as a graph.
 ghost use Rattle.std.specs.Prelude.{◌≡◌, ◌<◌, ◌≤◌, ◌-◌, ◌*◌};
-ghost use Rattle.pool_samples.specs.Trees.{IsReduce, IsReduce-prop, reduce_graph};
+ghost use Rattle.pool_samples.specs.Trees.{IsReduce, reduce_graph};
 ghost use Rattle.pool_samples.specs.TreeLaws.{reduce_lawful};
-ghost use Rattle.pool_samples.specs.Same.{both_same, rule_of_two};
 
 use std::alloc::Global;
 use tp_base::{NodeId, Refusal, TaskId};
@@ -19,8 +18,9 @@ pub struct Reduce {
 }
 
 impl Comparable for Reduce {
-    ghost same = { λ a b h. let e = both_same a.leaves b.leaves a.seed b.seed h in
-        λ i. record { leaves = e.0 i; seed = e.1 i; in_rules = rule_of_two IsReduce IsReduce-prop e a.in_rules b.in_rules i } };
+    ghost use Rattle.pool_samples.specs.Same.{reduce_same, both_same};
+
+    ghost same = { λ a b h. reduce_same a b (both_same a.leaves b.leaves a.seed b.seed h) };
 }
 
 #[tactic(auto, unfolding(crate::specs::Trees::reduce_graph))]

@@ -72,7 +72,7 @@ impl AnyGraph {
 }
 
 impl Product {
-    #[tactic(auto, using(crate::proofs::PlainCells::last_of))]
+    #[tactic(auto, using(crate::proofs::Keeping::last_of))]
     fn rank(&self, task: TaskId) -> Option<u32>
         ensures each { (rank : ℕ) → rank < needed (AnyGraph.Product self.now) → needed_task (AnyGraph.Product self.now) rank ≡ task.0
             → result ≡ Some rank }
@@ -112,7 +112,7 @@ impl Wavefront {
         }
     }
 
-    #[tactic(auto, using(crate::proofs::PlainCells::wavefront_cell))]
+    #[tactic(auto, using(crate::proofs::Keeping::wavefront_cell))]
     fn cell(&self, i: u32, j: u32) -> (u32, usize)
         requires row { i < self.now.rows }
         requires column { j < self.now.columns }
@@ -136,7 +136,7 @@ impl Reduce {
         }
     }
 
-    #[tactic(auto, using(crate::proofs::PlainCells::reduce_cell))]
+    #[tactic(auto, using(crate::proofs::Keeping::reduce_cell))]
     fn cell(&self, i: u32, j: u32) -> (u32, usize)
         ensures { HasCell (AnyGraph.Reduce self.now) i j result.0 result.1 }
     {

@@ -1,8 +1,7 @@
 //! A wavefront over a table of cells, as a graph.
 ghost use Rattle.std.specs.Prelude.{◌≡◌, ◌<◌, ◌≤◌, ◌+◌, ◌*◌, ◌/◌, ◌%◌};
-ghost use Rattle.pool_samples.specs.Waves.{IsWavefront, IsWavefront-prop, cost, wavefront_graph};
+ghost use Rattle.pool_samples.specs.Waves.{IsWavefront, cost, wavefront_graph};
 ghost use Rattle.pool_samples.specs.WaveLaws.{wavefront_lawful};
-ghost use Rattle.pool_samples.specs.Same.{three_same, rule_of_three};
 
 use std::alloc::Global;
 use tp_base::{NodeId, Refusal, TaskId};
@@ -33,13 +32,9 @@ impl Wavefront {
 }
 
 impl Comparable for Wavefront {
-    ghost same = { λ a b h. let e = three_same a.rows b.rows a.columns b.columns a.seed b.seed h in
-        λ i. record {
-          rows = e.0 i;
-          columns = e.1 i;
-          seed = e.2 i;
-          in_rules = rule_of_three IsWavefront IsWavefront-prop e a.in_rules b.in_rules i;
-        } };
+    ghost use Rattle.pool_samples.specs.Same.{wavefront_same, three_same};
+
+    ghost same = { λ a b h. wavefront_same a b (three_same a.rows b.rows a.columns b.columns a.seed b.seed h) };
 }
 
 #[tactic(auto, unfolding(crate::specs::Waves::wavefront_graph))]

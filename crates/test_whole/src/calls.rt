@@ -9,27 +9,29 @@ use tp_base::{ActionId, Refusal};
 use tp_board::{Board, Ended, Ledgers};
 use tp_graph::{Comparable, Graph, Parcel, is_same};
 use tp_node::{Finished, Node, PoolLink, Turn, Work};
+use tp_store::Counts;
 
-/// The content of a node and the board, hashed into one number.
-fn held<G: Graph, K: Ledgers>(node: &Node<G, K>, board: &Board<K>) -> u64 {
-    let counts = node.counts();
-    let folded = fold(1, u64::from(node.pending()));
-    let folded = fold(folded, u64::from(node.sent()));
-    let folded = fold(folded, u64::from(node.received()));
-    let folded = fold(folded, u64::from(counts.waiting));
-    let folded = fold(folded, u64::from(counts.ready));
-    let folded = fold(folded, u64::from(counts.running));
-    let folded = fold(folded, node.results().len() as u64);
-    let folded = fold(folded, board.len() as u64);
-    fold(folded, u64::from(board.next_message().0))
-}
+/// The content of a node and the board: what is pending, sent and received, the counts of tasks, and the numbers of results,
+/// of events and of the next message.
+type Held = (u32, u32, u32, Counts, usize, usize, u32);
 
-fn fold(folded: u64, number: u64) -> u64 {
-    (folded ^ number).wrapping_mul(1_099_511_628_211)
+fn held<G: Graph, K: Ledgers>(node: &Node<G, K>, board: &Board<K>) -> Held {
+    (
+        node.pending(),
+        node.sent(),
+        node.received(),
+        node.counts(),
+        node.results().len(),
+        board.len(),
+        board.next_message().0,
+    )
 }
 
 /// Makes a call of a node, and makes it again if an allocation failed and nothing was changed.
 macro_rules! again {
+    ($rt:ident, $node:ident.$method:ident($board:ident $(, $argument:expr)?)) => {
+        again!($rt, concat!("Node::", stringify!($method)), $node, $board, $node.$method($board $(, $argument)?))
+    };
     ($rt:expr, $name:expr, $node:expr, $board:expr, $call:expr) => {{
         let before = held($node, $board);
         match $call {
@@ -56,8 +58,8 @@ pub(crate) fn seed_all<K: Ledgers, R: Eprint>(
     board: &mut Board<K>,
 ) -> Result<(), Refusal> {
     for _ in 0..16 {
-        if !again!(rt, "Node::seed", node, board, node.seed(board)) {
-            again!(rt, "Node::ready", node, board, node.ready(board));
+        if !again!(rt, node.seed(board)) {
+            again!(rt, node.ready(board));
             return Ok(());
         }
     }
@@ -70,20 +72,8 @@ pub(crate) fn act<K: Ledgers, R: Eprint>(
     node: &mut Node<Reduce, K>,
     board: &mut Board<K>,
 ) -> Result<(), Refusal> {
-    again!(
-        rt,
-        "Node::action_open",
-        node,
-        board,
-        node.action_open(board, ActionId(4))
-    );
-    again!(
-        rt,
-        "Node::action_close",
-        node,
-        board,
-        node.action_close(board, ActionId(4))
-    );
+    again!(rt, node.action_open(board, ActionId(4)));
+    again!(rt, node.action_close(board, ActionId(4)));
     Ok(())
 }
 
@@ -100,14 +90,7 @@ pub(crate) fn turn_of<K: Ledgers, R: Eprint>(
     if receive_one(rt, node, into, board)? || run_one(rt, alloc, node, out, board)? {
         return Ok(None);
     }
-    let turn = again!(
-        rt,
-        "Node::control_turn",
-        node,
-        board,
-        node.control_turn(board)
-    );
-    match turn {
+    match again!(rt, node.control_turn(board)) {
         Turn::Over(ended) => Ok(Some(ended)),
         Turn::Idle | Turn::Moved => Ok(None),
     }
@@ -173,14 +156,13 @@ pub(crate) fn run_one<K: Ledgers, R: Eprint>(
     pool_link: &mut PoolLink<Reduce, K>,
     board: &mut Board<K>,
 ) -> Result<bool, Refusal> {
-    let Some(work) = again!(rt, "Node::begin", node, board, node.begin(board)) else {
+    let Some(work) = again!(rt, node.begin(board)) else {
         return Ok(false);
     };
     let mut finished = perform(rt, alloc, work)?;
-    let way = way_of(node, &finished);
     again!(
         rt,
-        way,
+        "Node::feed or Node::send",
         node,
         board,
         pass_on(node, pool_link, board, &mut finished)
@@ -202,21 +184,6 @@ fn perform<R: Eprint>(
     match work.perform(alloc) {
         Ok(finished) => Ok(finished),
         Err((refusal, _)) => Err(refusal),
-    }
-}
-
-/// The name of the call that passes on the next feed of a task.
-fn way_of<K: Ledgers>(node: &Node<Reduce, K>, finished: &Finished<Reduce>) -> &'static str {
-    if finished.all_fed() {
-        return "no feed";
-    }
-    let home = finished
-        .graph()
-        .home(finished.next_feed().target, node.nodes());
-    if home == node.number() {
-        "Node::feed"
-    } else {
-        "Node::send"
     }
 }
 

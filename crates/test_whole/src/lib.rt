@@ -5,51 +5,27 @@
 #![tactic(auto)]
 
 #[cfg(test)]
-mod bodies;
-#[cfg(test)]
 mod books;
 #[cfg(test)]
 mod calls;
 #[cfg(test)]
-mod cores;
-#[cfg(test)]
-mod counted;
-#[cfg(test)]
 mod cuts;
 #[cfg(test)]
-mod failing;
+mod ends;
 #[cfg(test)]
 mod gates;
-#[cfg(test)]
-mod grids;
-#[cfg(test)]
-mod hindered;
-#[cfg(test)]
-mod idle;
-#[cfg(test)]
-mod kernels;
 #[cfg(test)]
 mod lent;
 #[cfg(test)]
 mod memory;
 #[cfg(test)]
-mod own;
-#[cfg(test)]
 mod own_values;
 #[cfg(test)]
 mod patterns;
 #[cfg(test)]
-mod pools;
-#[cfg(test)]
-mod program;
-#[cfg(test)]
 mod readers;
 #[cfg(test)]
 mod refused_runs;
-#[cfg(test)]
-mod series_faults;
-#[cfg(test)]
-mod several;
 #[cfg(test)]
 mod slots;
 #[cfg(test)]

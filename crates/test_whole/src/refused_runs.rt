@@ -1,4 +1,4 @@
-//! Runs, texts and the program whose allocations fail, and that succeed when they are repeated.
+//! Runs and texts whose allocations fail, and that succeed when they are repeated.
 
 ghost use Rattle.std.specs.Prelude.{◌≡◌, ◌≤◌};
 ghost use Rattle.tp_wave.specs.Generations.{InEach};
@@ -6,16 +6,16 @@ ghost use Rattle.tp_wave.specs.Machine.{IsRun};
 ghost use Rattle.tp_work.specs.Outcomes.{IsWithinLimits};
 
 use crate::calls::say;
-use crate::two_nodes::TREE;
+use crate::ends::TREE;
+use crate::readers::Kind;
 use std::alloc::Global;
 use std::io::{self, Write};
-use std::rt::{Clock, Files};
 use std::sync::Wait;
 use std::test::Fail;
 use std::thread::Threads;
 use tp_base::{History, Refusal};
-use tp_cli::{Registry, Standing, main_with, run_pools};
-use tp_text::{TextFault, Verdict, audit, print_trace, sim};
+use tp_cli::{Registry, Standing, run_pools};
+use tp_text::{TextFault, Verdict, print_trace};
 use tp_work::{Config, OpenGate, run_generations, run_pool};
 
 /// Whether the trace of a run was printed, or why there is no outcome.
@@ -152,54 +152,25 @@ const TRACE: &[u8] =
     b"trace 1\nnodes 2\ninsert 0 1 1\nsupply 1\nbegin 1\ndone 1\nopen 0 4\nsend 0 1 3\nrecv 1 3\nend 1 3\n";
 
 /// The verdict on a text, and the number of bytes written.
-type Written = (Result<Verdict, TextFault>, usize);
-
-fn answer_to_script(alloc: Global) -> Written {
-    let mut reader = SCRIPT;
-    let mut writer = Counting { bytes: 0 };
-    (sim(alloc, &mut reader, &mut writer), writer.bytes)
+fn answer(alloc: Global, kind: Kind, text: &'static [u8]) -> (Result<Verdict, TextFault>, usize) {
+    let (mut reader, mut writer) = (text, Counting { bytes: 0 });
+    let verdict = kind.answer(alloc, &mut reader, &mut writer);
+    (verdict, writer.bytes)
 }
 
-fn answer_to_trace(alloc: Global) -> Written {
-    let mut reader = TRACE;
-    let mut writer = Counting { bytes: 0 };
-    (audit(alloc, &mut reader, &mut writer), writer.bytes)
-}
-
-/// The status of the program on a script, and the numbers of bytes of its output and its error lines.
-fn status<R: Threads + Wait + Sync + Clock + Files>(rt: &R, alloc: Global) -> (u8, usize, usize) {
-    let mut reader = SCRIPT;
-    let mut out = Counting { bytes: 0 };
-    let mut err = Counting { bytes: 0 };
-    let status = main_with(rt, alloc, &["tp", "sim"], &mut reader, &mut out, &mut err);
-    (status, out.bytes, err.bytes)
-}
-
-// Eight times `ok`, a line of 35 bytes for each node, the total of 42 and 9 for `quiet no`.
+// Eight times `ok`, a line of 35 bytes for each node, the total of 42 and 9 for `quiet no`. Of the trace: steps 8, tasks 1
+// done 1, messages 1 received 1, not ended.
 #[test]
 fn texts_are_refused_memory_and_answered_again(rt: HostRuntime) {
-    let mut written = answer_to_script(rt.alloc());
-    if written == (Err(TextFault::Memory), 0) {
-        say(&rt, "sim");
-        written = answer_to_script(rt.alloc());
+    for (name, kind, text, bytes) in [
+        ("sim", Kind::Script, SCRIPT, 145),
+        ("audit", Kind::Trace, TRACE, 55),
+    ] {
+        let mut written = answer(rt.alloc(), kind, text);
+        if written == (Err(TextFault::Memory), 0) {
+            say(&rt, name);
+            written = answer(rt.alloc(), kind, text);
+        }
+        assert_eq!(rt; written, (Ok(Verdict::Sound), bytes), "{name}");
     }
-    assert_eq!(rt; written, (Ok(Verdict::Sound), 145));
-    let mut written = answer_to_trace(rt.alloc());
-    if written == (Err(TextFault::Memory), 0) {
-        say(&rt, "audit");
-        written = answer_to_trace(rt.alloc());
-    }
-    // steps 8, tasks 1 done 1, messages 1 received 1, not ended
-    assert_eq!(rt; written, (Ok(Verdict::Sound), 55));
-}
-
-#[test]
-fn the_program_is_refused_memory_and_answers_again(rt: HostRuntime) {
-    let mut made = status(&rt, rt.alloc());
-    // refused 17 NoMemory
-    if made == (3, 0, 20) {
-        say(&rt, "main_with");
-        made = status(&rt, rt.alloc());
-    }
-    assert_eq!(rt; made, (0, 145, 0));
 }

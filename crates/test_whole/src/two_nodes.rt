@@ -4,7 +4,8 @@
 
 ghost use Rattle.std.specs.Prelude.{◌≡◌, vec_len, IsTrue};
 
-use crate::calls::{act, receive_one, run_one, say, seed_all, turn_of};
+use crate::calls::{act, receive, receive_one, run_one, say, seed_all, turn_of};
+use crate::ends::TREE;
 use pool_samples::Reduce;
 use std::alloc::Global;
 use std::test::Fail;
@@ -13,9 +14,6 @@ use tp_board::{Blanks, Board, Brand, Ended, Ledgers};
 use tp_graph::{Graph, Message, Value};
 use tp_node::{Node, Pool, PoolLink, Reopened, open_pool};
 use tp_work::{Report, finish};
-
-/// A tree of four leaves: 0, 11, 22 and 33.
-pub(crate) const TREE: Reduce = Reduce { leaves: 4, seed: 0 };
 
 /// A copy of the oldest message of a link with another number, in another generation.
 fn forged<K: Ledgers>(
@@ -60,44 +58,26 @@ fn put_in_front<K: Ledgers>(
     }
 }
 
-/// A node's pending number, the number of messages it has sent and received, the number on the link to it, and the
-/// number of events.
-type Stand = (u32, u32, u32, usize, usize);
-
-/// What a node does with a forged message that is first on the link to it.
-#[derive(Clone, Copy, Debug, PartialEq, Eq)]
-struct Met {
-    result: Result<(), Refusal>,
-    stand: Stand,
-    /// Whether the forged message was still the first one afterwards.
-    stays: bool,
-}
-
-fn receive_alone<K: Ledgers>(
-    node: &mut Node<Reduce, K>,
-    pool_link: &mut PoolLink<Reduce, K>,
-    board: &mut Board<K>,
-) -> Result<(), Refusal> {
-    if pool_link.to() != node.number() {
-        return Err(Refusal::NoNode);
-    }
-    match node.receive(pool_link, board)? {
-        Some(_) => Ok(()),
-        None => Err(Refusal::NoMessage),
-    }
-}
+/// What a node does with a forged message that is first on the link to it: whether it is received; then the node's pending
+/// number, the number of messages it has sent and received, the number on the link to it, and the number of events; and
+/// whether the forged message was still the first one afterwards.
+type Met = (Result<bool, Refusal>, (u32, u32, u32, usize, usize), bool);
 
 /// Makes a node receive a forged message, which the true one replaces again afterwards.
 fn meet<K: Ledgers>(
     node: &mut Node<Reduce, K>,
     pool_link: &mut PoolLink<Reduce, K>,
     board: &mut Board<K>,
-    number: MessageId,
-    generation: Generation,
+    number: u32,
+    generation: u32,
 ) -> Result<Met, Refusal> {
+    let (number, generation) = (MessageId(number), Generation(generation));
     let stranger = forged(pool_link, number, generation)?;
     let own = put_in_front(pool_link, board, stranger)?;
-    let result = receive_alone(node, pool_link, board);
+    let result = match receive(node, pool_link, board) {
+        Ok(parcel) => Ok(parcel.is_some()),
+        Err(refusal) => Err(refusal),
+    };
     let stand = (
         node.pending(),
         node.sent(),
@@ -106,35 +86,25 @@ fn meet<K: Ledgers>(
         board.len(),
     );
     let stranger = put_in_front(pool_link, board, own)?;
-    Ok(Met {
-        result,
-        stand,
-        stays: stranger.number() == number && stranger.generation() == generation,
-    })
+    let stays = stranger.number() == number && stranger.generation() == generation;
+    Ok((result, stand, stays))
 }
 
 /// What can be read of a pool: for each node what is pending, sent and received, and the number of its results; the
 /// number of messages on each link; the numbers of events, of the next message and of the generation.
-#[derive(Clone, Copy, Debug, PartialEq, Eq)]
-struct Look {
-    nodes: [(u32, u32, u32, usize); 2],
-    links: [usize; 2],
-    events: usize,
-    next_message: u32,
-    generation: u32,
-}
+type Look = ([(u32, u32, u32, usize); 2], [usize; 2], usize, u32, u32);
 
 fn look_at<K: Ledgers>(pool: &Pool<Reduce, K>) -> Option<Look> {
     let ([zero, one], [there, back]) = (pool.nodes.as_slice(), pool.links.as_slice()) else {
         return None;
     };
-    Some(Look {
-        nodes: [numbers_of(zero), numbers_of(one)],
-        links: [there.len(), back.len()],
-        events: pool.board.len(),
-        next_message: pool.board.next_message().0,
-        generation: pool.board.generation().0,
-    })
+    Some((
+        [numbers_of(zero), numbers_of(one)],
+        [there.len(), back.len()],
+        pool.board.len(),
+        pool.board.next_message().0,
+        pool.board.generation().0,
+    ))
 }
 
 fn numbers_of<K: Ledgers>(node: &Node<Reduce, K>) -> (u32, u32, u32, usize) {
@@ -149,9 +119,8 @@ fn numbers_of<K: Ledgers>(node: &Node<Reduce, K>) -> (u32, u32, u32, usize) {
 /// The findings of a run.
 #[derive(Clone, Copy)]
 struct Findings {
-    /// What happened to each forged message, and whether the true one was received then.
-    met: [Option<Met>; 2],
-    received: bool,
+    /// What happened to each forged message, before the true one was received.
+    met: Option<[Met; 2]>,
     before: Option<Look>,
     /// Why the reopening was refused at first, and the state of the pool then.
     refused: Option<(Refusal, Option<Look>)>,
@@ -161,8 +130,7 @@ struct Findings {
 }
 
 const NOTHING: Findings = Findings {
-    met: [None; 2],
-    received: false,
+    met: None,
     before: None,
     refused: None,
     results: None,
@@ -183,7 +151,22 @@ fn is_whole<K: Ledgers>(pool: &Pool<Reduce, K>) -> bool
     pool.nodes.len() == pool.board.nodes() as usize
 }
 
-/// Reopens a pool with its termination token.
+/// Reopens a pool with its termination token, if it has all its nodes.
+fn reopen_once<K: Ledgers>(
+    alloc: Global,
+    pool: Pool<Reduce, K>,
+    ended: Ended<K>,
+    findings: &mut Findings,
+) -> Result<Pool<Reduce, K>, (Refusal, Pool<Reduce, K>, Ended<K>)> {
+    if !is_whole(&pool) {
+        return Err((Refusal::NoNode, pool, ended));
+    }
+    let Reopened { pool, results } = pool.reopen(alloc, ended)?;
+    findings.results = Some((results.len(), last_of(&results)));
+    Ok(pool)
+}
+
+/// Reopens a pool, at the second try if an allocation failed.
 fn reopen<K: Ledgers, R: Eprint>(
     rt: &R,
     alloc: Global,
@@ -192,37 +175,16 @@ fn reopen<K: Ledgers, R: Eprint>(
     findings: &mut Findings,
 ) -> Pool<Reduce, K> {
     findings.before = look_at(&pool);
-    if !is_whole(&pool) {
-        return pool;
-    }
-    match pool.reopen(alloc, ended) {
-        Ok(Reopened { pool, results }) => {
-            findings.results = Some((results.len(), last_of(&results)));
-            pool
-        }
+    match reopen_once(alloc, pool, ended, findings) {
+        Ok(pool) => pool,
         Err((refusal, pool, ended)) => {
             findings.refused = Some((refusal, look_at(&pool)));
             say(rt, "Pool::reopen");
-            reopen_again(alloc, pool, ended, findings)
+            match reopen_once(alloc, pool, ended, findings) {
+                Ok(pool) => pool,
+                Err((_, pool, _)) => pool,
+            }
         }
-    }
-}
-
-fn reopen_again<K: Ledgers>(
-    alloc: Global,
-    pool: Pool<Reduce, K>,
-    ended: Ended<K>,
-    findings: &mut Findings,
-) -> Pool<Reduce, K> {
-    if !is_whole(&pool) {
-        return pool;
-    }
-    match pool.reopen(alloc, ended) {
-        Ok(Reopened { pool, results }) => {
-            findings.results = Some((results.len(), last_of(&results)));
-            pool
-        }
-        Err((_, pool, _)) => pool,
     }
 }
 
@@ -293,6 +255,10 @@ impl<'a, K: Ledgers> Pair<'a, K> {
         seed_all(rt, self.one, self.board)
     }
 
+    fn act<R: Eprint>(&mut self, rt: &R) -> Result<(), Refusal> {
+        act(rt, self.zero, self.board)
+    }
+
     /// Node 1 sends a message; before it arrives, node 0 meets one whose number the board has not given, and one of
     /// another generation.
     fn meet_strangers<R: Eprint>(
@@ -302,42 +268,22 @@ impl<'a, K: Ledgers> Pair<'a, K> {
         findings: &mut Findings,
     ) -> Result<(), Refusal> {
         run_one(rt, alloc, self.one, self.back, self.board)?;
-        let unknown = meet(
-            self.zero,
-            self.back,
-            self.board,
-            MessageId(1),
-            Generation(1),
-        )?;
-        let later = meet(
-            self.zero,
-            self.back,
-            self.board,
-            MessageId(0),
-            Generation(2),
-        )?;
-        findings.met = [Some(unknown), Some(later)];
-        findings.received = receive_one(rt, self.zero, self.back, self.board)?;
+        let unknown = meet(self.zero, self.back, self.board, 1, 1)?;
+        let later = meet(self.zero, self.back, self.board, 0, 2)?;
+        findings.met = Some([unknown, later]);
+        if !receive_one(rt, self.zero, self.back, self.board)? {
+            return Err(Refusal::NoMessage);
+        }
         Ok(())
     }
 
-    fn act<R: Eprint>(&mut self, rt: &R) -> Result<(), Refusal> {
-        act(rt, self.zero, self.board)
-    }
-
-    /// A turn of each node. If termination was detected, its token is returned.
-    fn turn<R: Eprint>(&mut self, rt: &R, alloc: Global) -> Result<Option<Ended<K>>, Refusal> {
-        let ended = turn_of(rt, alloc, self.zero, self.back, self.there, self.board)?;
-        if ended.is_some() {
-            return Ok(ended);
-        }
-        turn_of(rt, alloc, self.one, self.there, self.back, self.board)
-    }
-
-    /// Both nodes take turns until termination is detected.
+    /// Both nodes take turns until termination is detected, and its token returned.
     fn end<R: Eprint>(&mut self, rt: &R, alloc: Global) -> Result<Ended<K>, Refusal> {
         for _ in 0..100 {
-            if let Some(ended) = self.turn(rt, alloc)? {
+            if let Some(ended) = turn_of(rt, alloc, self.zero, self.back, self.there, self.board)? {
+                return Ok(ended);
+            }
+            if let Some(ended) = turn_of(rt, alloc, self.one, self.there, self.back, self.board)? {
                 return Ok(ended);
             }
         }
@@ -419,27 +365,20 @@ fn replayed_again<R: Eprint>(rt: &R, alloc: Global) -> Result<(Findings, Summary
 const EVENTS: usize = 49;
 
 /// The pool at its end: node 0 has done four tasks, and node 1 three; node 1 sent two messages, and node 0 one.
-const AT_THE_END: Look = Look {
-    nodes: [(0, 1, 2, 4), (0, 2, 1, 3)],
-    links: [0, 0],
-    events: EVENTS,
-    next_message: 3,
-    generation: 1,
-};
+const AT_THE_END: Look = ([(0, 1, 2, 4), (0, 2, 1, 3)], [0, 0], EVENTS, 3, 1);
 
 /// The pool after it was reopened.
-const ANEW: Look = Look {
-    nodes: [(1, 0, 0, 0), (1, 0, 0, 0)],
-    links: [0, 0],
-    events: EVENTS + 1,
-    next_message: 0,
-    generation: 2,
-};
+const ANEW: Look = ([(1, 0, 0, 0), (1, 0, 0, 0)], [0, 0], EVENTS + 1, 0, 2);
+
+/// What node 0 does with a stranger, which stays on the link: after six events of the beginning, and begin, send and done
+/// of task 1. Tasks 0 and 2 are pending at node 0.
+const STAYS: Met = (Err(Refusal::Stranger), (2, 0, 0, 1, 9), true);
 
 // If an allocation failed, the node was unchanged, and the same call then succeeded.
 #[test]
 fn a_node_refused_memory_is_as_before(rt: HostRuntime) -> Result<(), Fail> {
     let (findings, made) = replayed_again(&rt, rt.alloc())?;
+    assert_eq!(rt; findings.met, Some([STAYS; 2]));
     assert_eq!(rt; findings.before, Some(AT_THE_END));
     assert_eq!(rt; made, ((0, 3, 3, 0), 7, true, 0));
     Ok(())
@@ -454,20 +393,5 @@ fn a_pool_is_reopened_and_runs_again(rt: HostRuntime) -> Result<(), Fail> {
     }
     assert_eq!(rt; findings.results, Some((7, Some(66))));
     assert_eq!(rt; findings.after, Some(ANEW));
-    Ok(())
-}
-
-// Six events of the beginning, and begin, send and done of task 1. Tasks 0 and 2 are pending at node 0.
-#[test]
-fn a_stranger_stays_where_it_is(rt: HostRuntime) -> Result<(), Fail> {
-    let (findings, _) = replayed_again(&rt, rt.alloc())?;
-    let wanted = Some(Met {
-        result: Err(Refusal::Stranger),
-        stand: (2, 0, 0, 1, 9),
-        stays: true,
-    });
-    let met = findings.met;
-    assert_eq!(rt; met, [wanted; 2]);
-    assert_eq!(rt; findings.received, true);
     Ok(())
 }

@@ -15,7 +15,7 @@ impl NodeSet {
     ghost use Rattle.tp_core.specs.NodeSet.{has};
 
     /// Returns the empty set.
-    #[tactic(auto, using(crate::proofs::Written::eight_same), unfolding(crate::specs::NodeSet::has))]
+    #[tactic(auto, using(crate::proofs::Lemmas::eight_same), unfolding(crate::specs::NodeSet::has))]
     pub fn new() -> Self
         ensures { (i : ℕ) → has result i ≡ false }
     {
@@ -41,7 +41,7 @@ impl NodeSet {
     }
 
     /// Returns the set with the node added.
-    #[tactic(auto, using(crate::proofs::Written::written), unfolding(crate::specs::NodeSet::has))]
+    #[tactic(auto, using(crate::proofs::Lemmas::written), unfolding(crate::specs::NodeSet::has))]
     pub fn with(mut self, node: NodeId) -> Self
         requires { node.0 < 8 }
         ensures { (i : ℕ) → has result i ≡ (if node.0 == i then true else has self i) }
@@ -51,7 +51,7 @@ impl NodeSet {
     }
 
     /// Returns the set without the node.
-    #[tactic(auto, using(crate::proofs::Written::written), unfolding(crate::specs::NodeSet::has))]
+    #[tactic(auto, using(crate::proofs::Lemmas::written), unfolding(crate::specs::NodeSet::has))]
     pub fn without(mut self, node: NodeId) -> Self
         requires { node.0 < 8 }
         ensures { (i : ℕ) → has result i ≡ (if node.0 == i then false else has self i) }

@@ -6,9 +6,9 @@ ghost use Rattle.tp_draw.specs.Faults.{line_of, status_of};
 ghost use Rattle.tp_shell.specs.Statuses.{code_of};
 ghost use Rattle.tp_shell.specs.Streams.{MayExplain};
 
+use crate::command::{Request, requested};
 use crate::fault::Fault;
 use crate::graphviz::dot;
-use crate::request::{Request, requested};
 use crate::run::{draw_run, write_picture};
 use pool_samples::checked;
 use std::alloc::Global;

@@ -1,31 +1,15 @@
 //! The waves of a run and its ends, with the labels of these and of the reopenings.
 
 use crate::layout::TOP;
-use crate::lengths::{Area, Point, Tenths};
-use crate::scene::{Cut, End, Scene, Seam};
+use crate::lengths::{Tenths, area_of, at, push_circle, push_text};
+use crate::scene::Scene;
+use crate::waves::{Cut, End, Seam};
 use std::alloc::AllocError;
-use std::fmt;
-use tp_base::Sums;
-
-/// The sums of a wave, as the picture shows them.
-#[derive(Clone, Copy)]
-struct Shown(Sums);
-
-impl fmt::Display for Shown {
-    fn fmt<W: fmt::Write>(&self, f: &mut fmt::Formatter<W>) -> fmt::Result {
-        let Sums {
-            wave,
-            sent,
-            received,
-        } = self.0;
-        write!(f, "wave {wave}: {sent} sent, {received} received")
-    }
-}
 
 /// The style of a wave: the two whose equal sums detected termination are green.
 fn class_of(scene: &Scene, cut: &Cut) -> &'static str {
     let ended = cut.gives[0];
-    for end in &scene.ends {
+    for end in &scene.waves.ends {
         if end.since <= ended && ended <= end.judged {
             return "wave tells";
         }
@@ -41,57 +25,47 @@ fn crossing(scene: &Scene, cut: &Cut, node: u32) -> u64 {
 /// The line of a wave, with rings where the nodes gave if there is room for them.
 pub(crate) fn push_cut(out: &mut String, scene: &Scene, cut: &Cut) -> Result<(), AllocError> {
     let class = class_of(scene, cut);
-    write!(out, "<polyline class=\"{class}\" points=\"")?;
+    write!(out, r#"<polyline class="{class}" points=""#)?;
     for node in 0..scene.nodes {
         let x = crossing(scene, cut, node);
-        let top = Point {
-            x,
-            y: scene.top(node).saturating_sub(80),
-        };
-        let foot = Point {
-            x,
-            y: scene.foot(node).saturating_add(80),
-        };
+        let top = at(x, scene.top(node).saturating_sub(80));
+        let foot = at(x, scene.foot(node).saturating_add(80));
         write!(out, " {top} {foot}")?;
     }
-    let sums = Shown(cut.sums);
-    write!(out, "\"><title>{sums}</title></polyline>\n")?;
-    if !scene.is_detailed() {
-        return Ok(());
-    }
-    for node in 0..scene.nodes {
-        let y = scene.top(node).saturating_add(scene.height(node) / 2);
-        write!(
-            out,
-            "<circle class=\"{class} ring\" cx=\"{}\" cy=\"{}\" r=\"3\"/>\n",
-            Tenths(crossing(scene, cut, node)),
-            Tenths(y),
-        )?;
+    writeln!(out, r#""><title>{cut}</title></polyline>"#)?;
+    if scene.is_detailed() {
+        for node in 0..scene.nodes {
+            let middle = at(crossing(scene, cut, node), scene.lane(node).middle().y);
+            push_circle(out, format_args!("{class} ring"), middle, "3")?;
+        }
     }
     Ok(())
 }
 
+/// A line through all lanes from this height on.
+pub(crate) fn push_upright(
+    out: &mut String,
+    scene: &Scene,
+    class: &str,
+    x: u64,
+    top: u64,
+) -> Result<(), AllocError> {
+    let (top, foot) = (at(x, top), Tenths(scene.below(220)));
+    writeln!(out, r#"<path class="{class}" d="M{top}V{foot}"/>"#)
+}
+
 /// The line at which termination was detected, and the ground since the wave before the last.
 pub(crate) fn push_end(out: &mut String, scene: &Scene, end: &End) -> Result<(), AllocError> {
-    let from = scene.middle(end.since);
-    let to = scene.middle(end.judged);
-    let ground = Area {
-        corner: Point {
-            x: from,
-            y: TOP - 140,
-        },
-        width: to.saturating_sub(from),
-        height: scene.below(280).saturating_sub(TOP),
-    };
-    let top = Point {
-        x: to,
-        y: TOP - 140,
-    };
-    let foot = Tenths(scene.below(220));
-    write!(
-        out,
-        "<rect class=\"over\"{ground}/>\n<path class=\"end\" d=\"M{top}V{foot}\"/>\n",
-    )
+    let (from, to) = (scene.middle(end.since), scene.middle(end.judged));
+    let height = scene.below(280).saturating_sub(TOP);
+    let ground = area_of(at(from, TOP - 140), to.saturating_sub(from), height);
+    writeln!(out, r#"<rect class="over"{ground}/>"#)?;
+    push_upright(out, scene, "end", to, TOP - 140)
+}
+
+/// Whether there is this much room for a label before the next of its row.
+fn has_room(room: u64, x: u64, next: Option<u64>) -> bool {
+    next.map_or(true, |next| room <= next.saturating_sub(x))
 }
 
 /// The labels of waves over their lines at node 0, in two rows: to the left of the line, or to the right if there is no
@@ -109,19 +83,11 @@ pub(crate) fn push_cut_labels(
         } else {
             ("left", room)
         };
-        let next = cuts.get(k.saturating_add(2)).copied();
-        if next.map_or(
-            true,
-            |next| needed <= crossing(scene, &next, 0).saturating_sub(x),
-        ) {
-            write!(
-                out,
-                "<text class=\"{} {side}\" x=\"{}\" y=\"{}\">{}</text>\n",
-                class_of(scene, cut),
-                Tenths(x),
-                Tenths(if k % 2 == 0 { TOP - 200 } else { TOP - 350 }),
-                Shown(cut.sums),
-            )?;
+        let next = cuts.get(k.saturating_add(2));
+        if has_room(needed, x, next.map(|next| crossing(scene, next, 0))) {
+            let class = class_of(scene, cut);
+            let y = if k % 2 == 0 { TOP - 200 } else { TOP - 350 };
+            push_text(out, format_args!("{class} {side}"), at(x, y), *cut)?;
         }
     }
     Ok(())
@@ -133,20 +99,12 @@ pub(crate) fn push_end_labels(
     scene: &Scene,
     ends: &[End],
 ) -> Result<(), AllocError> {
-    let y = Tenths(scene.below(340));
     for (k, end) in ends.iter().enumerate() {
         let x = scene.middle(end.judged);
-        let next = ends.get(k.saturating_add(1)).copied();
-        if next.map_or(
-            true,
-            |next| 600 <= scene.middle(next.judged).saturating_sub(x),
-        ) {
-            let x = Tenths(x);
-            let wave = end.wave;
-            write!(
-                out,
-                "<text class=\"told\" x=\"{x}\" y=\"{y}\">ended {wave}</text>\n",
-            )?;
+        let next = ends.get(k.saturating_add(1));
+        if has_room(600, x, next.map(|next| scene.middle(next.judged))) {
+            let (wave, place) = (end.wave, at(x, scene.below(340)));
+            push_text(out, "told", place, format_args!("ended {wave}"))?;
         }
     }
     Ok(())
@@ -160,13 +118,12 @@ pub(crate) fn push_seam_labels(
 ) -> Result<(), AllocError> {
     for (k, seam) in seams.iter().enumerate() {
         let x = scene.edge(seam.at);
-        let next = seams.get(k.saturating_add(1)).copied();
-        if next.map_or(true, |next| 900 <= scene.edge(next.at).saturating_sub(x)) {
-            let x = Tenths(x.saturating_add(40));
-            let generation = seam.generation.0;
-            write!(
+        let next = seams.get(k.saturating_add(1));
+        if has_room(900, x, next.map(|next| scene.edge(next.at))) {
+            let (x, generation) = (Tenths(x.saturating_add(40)), seam.generation.0);
+            writeln!(
                 out,
-                "<text class=\"seam\" x=\"{x}\" y=\"98\">generation {generation}</text>\n",
+                r#"<text class="seam" x="{x}" y="98">generation {generation}</text>"#
             )?;
         }
     }

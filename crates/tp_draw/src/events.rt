@@ -3,63 +3,30 @@
 
 ghost use Rattle.std.specs.Prelude.{◌≤◌};
 
-use crate::marks::number_of;
-use crate::scene::{Bar, Running};
-use crate::tracks::Tracks;
+use crate::lengths::number_of;
+use crate::tracks::{Bar, Tracks};
 use std::alloc::{AllocError, Global};
 use std::fmt;
 use tp_base::{Generation, MessageId, NodeId, Refusal, Step};
 use tp_core::{Core, Reply};
 
-/// The first fields of an event: its kind, its place, and its name, which is the category with a number.
-#[derive(Clone, Copy)]
-struct Head {
-    kind: &'static str,
-    node: NodeId,
-    // 0 has everything except tasks
-    track: u32,
+/// Appends the first fields of an event: its kind, its node and track, its time, and its name, which is the category
+/// with a number. Track 0 has everything except tasks.
+fn push_head(
+    out: &mut String,
+    kind: &str,
+    (node, track): (NodeId, u32),
     event: u32,
-    category: &'static str,
+    category: &str,
     number: u32,
-}
-
-impl fmt::Display for Head {
-    fn fmt<W: fmt::Write>(&self, f: &mut fmt::Formatter<W>) -> fmt::Result {
-        let Head {
-            kind,
-            node,
-            track,
-            event,
-            category,
-            number,
-        } = *self;
-        // (both are numbered from 1)
-        let (process, thread) = (u64::from(node.0) + 1, u64::from(track) + 1);
-        let at = number_of(event);
-        f.write_str(",\n")?;
-        write!(
-            f,
-            r#"{{"ph":"{kind}","pid":{process},"tid":{thread},"ts":{at},"cat":"{category}","name":"{category} {number}""#,
-        )
-    }
-}
-
-/// The head of an event that is no task.
-fn step_head(
-    kind: &'static str,
-    node: NodeId,
-    event: u32,
-    category: &'static str,
-    number: u32,
-) -> Head {
-    Head {
-        kind,
-        node,
-        track: 0,
-        event,
-        category,
-        number,
-    }
+) -> Result<(), AllocError> {
+    // (all three are numbered from 1)
+    let (process, thread, at) = (number_of(node.0), number_of(track), number_of(event));
+    out.push_str(",\n")?;
+    write!(
+        out,
+        r#"{{"ph":"{kind}","pid":{process},"tid":{thread},"ts":{at},"cat":"{category}","name":"{category} {number}""#,
+    )
 }
 
 /// Follows steps in turn, with a core of its own, and writes their events.
@@ -88,27 +55,29 @@ impl Events {
         let out = &mut self.out;
         match step {
             Step::Insert(node, task, inputs) => {
-                let head = step_head("i", node, event, "insert", task.0);
-                let inputs = inputs.get();
-                write!(out, r#"{head},"s":"t","args":{{"inputs":{inputs}}}}}"#)
+                push_head(out, "i", (node, 0), event, "insert", task.0)?;
+                write!(out, r#","s":"t","args":{{"inputs":{}}}}}"#, inputs.get())
             }
             Step::Supply(task) => {
-                let head = step_head("i", self.tracks.home(task), event, "supply", task.0);
-                write!(out, r#"{head},"s":"t"}}"#)
+                let node = self.tracks.home(task);
+                push_head(out, "i", (node, 0), event, "supply", task.0)?;
+                out.push_str(r#","s":"t"}"#)
             }
             Step::Done(_) => match self.tracks.bars.pop() {
-                Some(Bar { run, to }) => push_task(out, &run, to, "done"),
+                Some(bar) => push_task(out, &bar, event, "done"),
                 None => Ok(()),
             },
             Step::Send(from, to, message, generation) => {
-                push_flow(out, from, event, message, generation, Some(to))
+                push_flow(out, ("send", "s"), from, event, message, generation)?;
+                write!(out, r#","args":{{"to":{}}}}}"#, to.0)
             }
             Step::Recv(node, message, generation) => {
-                push_flow(out, node, event, message, generation, None)
+                push_flow(out, ("recv", "f"), node, event, message, generation)?;
+                out.push_str(r#","bp":"e"}"#)
             }
             Step::Give(node) => {
-                let head = step_head("i", node, event, "give", node.0);
-                write!(out, r#"{head},"s":"p"}}"#)
+                push_head(out, "i", (node, 0), event, "give", node.0)?;
+                out.push_str(r#","s":"p"}"#)
             }
             _ => Ok(()),
         }
@@ -117,31 +86,27 @@ impl Events {
     /// The wave that ended, its judgement or the new generation, if the core's reply has one.
     fn push_reply(&mut self, reply: Reply, event: u32) -> Result<(), AllocError> {
         let out = &mut self.out;
-        let node = NodeId(0);
-        match reply {
-            Reply::Plain => Ok(()),
+        let (category, number) = match reply {
+            Reply::Plain => return Ok(()),
             Reply::WaveSums(sums) => {
                 self.wave = sums.wave;
-                let head = step_head("i", node, event, "wave", sums.wave);
+                ("wave", sums.wave)
+            }
+            Reply::Not | Reply::Over(_) => ("judge", self.wave),
+            Reply::Opened(generation) => ("generation", generation.0),
+        };
+        push_head(out, "i", (NodeId(0), 0), event, category, number)?;
+        out.push_str(r#","s":"g""#)?;
+        match reply {
+            Reply::WaveSums(sums) => {
                 let (sent, received) = (sums.sent, sums.received);
-                write!(
-                    out,
-                    r#"{head},"s":"g","args":{{"sent":{sent},"received":{received}}}}}"#
-                )
+                write!(out, r#","args":{{"sent":{sent},"received":{received}}}"#)?
             }
-            Reply::Not => {
-                let head = step_head("i", node, event, "judge", self.wave);
-                write!(out, r#"{head},"s":"g","args":{{"ended":null}}}}"#)
-            }
-            Reply::Over(wave) => {
-                let head = step_head("i", node, event, "judge", self.wave);
-                write!(out, r#"{head},"s":"g","args":{{"ended":{wave}}}}}"#)
-            }
-            Reply::Opened(generation) => {
-                let head = step_head("i", node, event, "generation", generation.0);
-                write!(out, r#"{head},"s":"g"}}"#)
-            }
+            Reply::Not => out.push_str(r#","args":{"ended":null}"#)?,
+            Reply::Over(wave) => write!(out, r#","args":{{"ended":{wave}}}"#)?,
+            _ => {}
         }
+        out.push_str("}")
     }
 
     /// What is pending at the nodes, if it has changed.
@@ -164,77 +129,64 @@ impl Events {
 }
 
 /// A task, from its begin to this event.
-fn push_task(
-    out: &mut String,
-    run: &Running,
-    to: u32,
-    life: &'static str,
-) -> Result<(), AllocError> {
-    let head = Head {
-        kind: "X",
-        node: run.node,
-        track: run.track.saturating_add(1),
-        event: run.from,
-        category: "task",
-        number: run.task.0,
-    };
-    let events = to.saturating_sub(run.from);
-    write!(out, r#"{head},"dur":{events},"args":{{"life":"{life}"}}}}"#)
+fn push_task(out: &mut String, bar: &Bar, to: u32, life: &str) -> Result<(), AllocError> {
+    let place = (bar.node, bar.track.saturating_add(1));
+    push_head(out, "X", place, bar.from, "task", bar.task.0)?;
+    let events = to.saturating_sub(bar.from);
+    write!(out, r#","dur":{events},"args":{{"life":"{life}"}}}}"#)
 }
 
-/// One end of a message: its beginning if it has a receiver. Viewers draw a flow between slices, so each end has one.
+/// One end of a message, up to its number. Viewers draw a flow between slices, so each end has one.
 fn push_flow(
     out: &mut String,
+    (step, kind): (&str, &str),
     node: NodeId,
     event: u32,
     message: MessageId,
     generation: Generation,
-    to: Option<NodeId>,
 ) -> Result<(), AllocError> {
-    let (step, kind) = if to.is_some() {
-        ("send", "s")
-    } else {
-        ("recv", "f")
-    };
-    let slice = step_head("X", node, event, step, message.0);
-    let flow = step_head(kind, node, event, "message", message.0);
+    push_head(out, "X", (node, 0), event, step, message.0)?;
+    out.push_str(r#","dur":1}"#)?;
+    push_head(out, kind, (node, 0), event, "message", message.0)?;
     // (importers take numbers; a message of a trace has at most six digits)
     let id = u64::from(generation.0) * 1_000_000 + u64::from(message.0);
-    write!(out, r#"{slice},"dur":1}}{flow},"id":{id}"#)?;
-    match to {
-        Some(to) => write!(out, r#","args":{{"to":{}}}}}"#, to.0),
-        None => out.push_str(r#","bp":"e"}"#),
-    }
+    write!(out, r#","id":{id}"#)
 }
 
 /// The name of a node's process or of one of its threads.
-fn push_name(
+fn push_name<T: fmt::Display + Drop>(
     out: &mut String,
-    kind: &'static str,
-    node: u32,
-    track: u32,
-    name: &'static str,
-    number: u32,
+    kind: &str,
+    (node, track): (u32, u32),
+    name: T,
 ) -> Result<(), AllocError> {
-    let (process, thread) = (u64::from(node) + 1, u64::from(track) + 1);
+    let (process, thread) = (number_of(node), number_of(track));
     out.push_str(",\n")?;
     write!(
         out,
-        r#"{{"ph":"M","pid":{process},"tid":{thread},"name":"{kind}","args":{{"name":"{name} {number}"}}}}"#,
+        r#"{{"ph":"M","pid":{process},"tid":{thread},"name":"{kind}","args":{{"name":"{name}"}}}}"#,
     )
 }
 
-/// Appends the place of a node among the others in a viewer.
-fn push_place(out: &mut String, node: u32) -> Result<(), AllocError> {
-    let process = u64::from(node) + 1;
+/// The names of a node and of its tracks, and its place among the others in a viewer.
+fn push_names(out: &mut String, node: u32, tracks: u32) -> Result<(), AllocError> {
+    push_name(out, "process_name", (node, 0), format_args!("node {node}"))?;
+    let process = number_of(node);
     write!(
         out,
         ",\n{{\"ph\":\"M\",\"pid\":{process},\"name\":\"process_sort_index\",\"args\":{{\"sort_index\":{process}}}}}",
-    )
+    )?;
+    let steps = format_args!("steps of node {node}");
+    push_name(out, "thread_name", (node, 0), steps)?;
+    for track in 1..=tracks {
+        let tasks = format_args!("tasks {track}");
+        push_name(out, "thread_name", (node, track), tasks)?;
+    }
+    Ok(())
 }
 
-/// Appends the events of these steps of a run on `nodes` nodes, as one JSON object. If there is a fault after them, its
-/// label is the line of an audit: printable ASCII characters without a meaning in JSON or HTML.
+/// Returns the events of these steps of a run on `nodes` nodes, as one JSON object. If there is a fault after them, its
+/// label is the line of an audit: printable ASCII characters without a meaning in JSON.
 ///
 /// A step is refused as a core refuses it; `NoMemory` if an allocation fails.
 pub(crate) fn events_of(
@@ -242,10 +194,10 @@ pub(crate) fn events_of(
     nodes: u32,
     steps: &[Step],
     fault: Option<&str>,
-    mut out: String,
 ) -> Result<String, Refusal>
     requires { (1 ≤ nodes) × (nodes ≤ 8) }
 {
+    let mut out = String::new(alloc);
     let all = steps.len();
     write!(
         out,
@@ -268,23 +220,12 @@ pub(crate) fn events_of(
         events.take(*step, event)?;
         event = event.saturating_add(1);
     }
-    let Events {
-        core: _,
-        tracks,
-        pending: _,
-        wave: _,
-        mut out,
-    } = events;
-    for run in &tracks.running {
-        push_task(&mut out, run, event, "running")?;
+    let (tracks, mut out) = (events.tracks, events.out);
+    for bar in &tracks.running {
+        push_task(&mut out, bar, event, "running")?;
     }
     for node in 0..nodes {
-        push_name(&mut out, "process_name", node, 0, "node", node)?;
-        push_place(&mut out, node)?;
-        push_name(&mut out, "thread_name", node, 0, "steps of node", node)?;
-        for track in 1..=tracks.rows[node as usize] {
-            push_name(&mut out, "thread_name", node, track, "tasks", track)?;
-        }
+        push_names(&mut out, node, tracks.rows[node as usize])?;
     }
     if let Some(line) = fault {
         let (at, line) = (number_of(event), line.trim_end());

@@ -1,6 +1,6 @@
 //! Where things are on the page of a run, in tenths of a pixel.
 
-use crate::lengths::{Area, Point};
+use crate::lengths::{Area, area_of, at};
 use crate::scene::Scene;
 
 /// Where the lanes begin on the left.
@@ -50,27 +50,18 @@ impl Scene {
         (11_000 / u64::from(self.events.max(1))).max(least).min(260)
     }
 
-    /// How high a bar is.
+    /// How high a bar is, the gap between two tracks of a lane, and the gap between two lanes.
+    fn sizes(&self) -> (u64, u64, u64) {
+        match self.detail() {
+            Detail::Fine => (160, 30, 460),
+            Detail::Medium => (120, 30, 340),
+            Detail::Coarse => (70, 20, 260),
+            Detail::Summed => (70, 20, 460),
+        }
+    }
+
     pub(crate) fn bar(&self) -> u64 {
-        match self.detail() {
-            Detail::Fine => 160,
-            Detail::Medium => 120,
-            _ => 70,
-        }
-    }
-
-    /// The gap between two tracks of a lane.
-    fn gap(&self) -> u64 {
-        if self.is_detailed() { 30 } else { 20 }
-    }
-
-    /// The gap between two lanes.
-    fn between(&self) -> u64 {
-        match self.detail() {
-            Detail::Fine | Detail::Summed => 460,
-            Detail::Medium => 340,
-            Detail::Coarse => 260,
-        }
+        self.sizes().0
     }
 
     /// How wide the lanes are: above 2,500 events the width no longer grows.
@@ -110,7 +101,15 @@ impl Scene {
 
     /// The number of tracks of a node's lane.
     pub(crate) fn rows_of(&self, node: u32) -> u32 {
-        self.rows.get(node as usize).copied().unwrap_or(0)
+        let rows = &self.tracks.rows;
+        rows.get(node as usize).copied().unwrap_or(0)
+    }
+
+    /// How high this many tracks of a lane are, with the gap above each, and the gap below them.
+    fn tracks_height(&self, tracks: u32) -> u64 {
+        let (bar, gap, _) = self.sizes();
+        let bars = u64::from(tracks).saturating_mul(bar.saturating_add(gap));
+        bars.saturating_add(gap)
     }
 
     /// How high the lane of a node is.
@@ -118,22 +117,16 @@ impl Scene {
         if self.is_summed() {
             return 460;
         }
-        let bars = u64::from(self.rows_of(node)).saturating_mul(self.track_height());
-        bars.saturating_add(self.gap()).saturating_add(80).max(300)
-    }
-
-    /// How high a track is, with the gap above it.
-    fn track_height(&self) -> u64 {
-        self.bar().saturating_add(self.gap())
+        let tracks = self.tracks_height(self.rows_of(node));
+        tracks.saturating_add(80).max(300)
     }
 
     /// Where the lane of a node begins.
     pub(crate) fn top(&self, node: u32) -> u64 {
+        let (_, _, between) = self.sizes();
         let mut top = TOP;
         for above in 0..node.min(8) {
-            top = top
-                .saturating_add(self.height(above))
-                .saturating_add(self.between());
+            top = top.saturating_add(self.height(above).saturating_add(between));
         }
         top
     }
@@ -145,30 +138,20 @@ impl Scene {
 
     /// The lane of a node.
     pub(crate) fn lane(&self, node: u32) -> Area {
-        Area {
-            corner: Point {
-                x: LEFT,
-                y: self.top(node),
-            },
-            width: self.span(),
-            height: self.height(node),
-        }
+        area_of(at(LEFT, self.top(node)), self.span(), self.height(node))
     }
 
     /// Where a track of a node's lane begins.
     pub(crate) fn track(&self, node: u32, track: u32) -> u64 {
-        let above = u64::from(track).saturating_mul(self.track_height());
-        self.top(node)
-            .saturating_add(self.gap())
-            .saturating_add(40)
-            .saturating_add(above)
+        let above = self.tracks_height(track).saturating_add(40);
+        self.top(node).saturating_add(above)
     }
 
     /// A place this far below the last lane.
     pub(crate) fn below(&self, distance: u64) -> u64 {
-        self.top(self.nodes)
-            .saturating_sub(self.between())
-            .saturating_add(distance)
+        let (_, _, between) = self.sizes();
+        let foot = self.top(self.nodes).saturating_sub(between);
+        foot.saturating_add(distance)
     }
 
     /// Returns the width of the page, in tenths of a pixel; its headline takes 640 pixels.

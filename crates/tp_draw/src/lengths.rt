@@ -1,6 +1,12 @@
-//! Lengths, places and areas on a page, all in tenths of a pixel, as an SVG spells them.
+//! Lengths, places and areas on a page, all in tenths of a pixel, as an SVG spells them; and what is written in several places.
 
+use std::alloc::AllocError;
 use std::fmt;
+
+/// The number of an event for a reader, who counts them from 1.
+pub(crate) fn number_of(event: u32) -> u64 {
+    u64::from(event) + 1
+}
 
 /// A length, in pixels with one digit after the point.
 #[derive(Clone, Copy)]
@@ -21,6 +27,10 @@ pub(crate) struct Point {
     pub(crate) y: u64,
 }
 
+pub(crate) fn at(x: u64, y: u64) -> Point {
+    Point { x, y }
+}
+
 impl fmt::Display for Point {
     fn fmt<W: fmt::Write>(&self, f: &mut fmt::Formatter<W>) -> fmt::Result {
         write!(f, "{},{}", Tenths(self.x), Tenths(self.y))
@@ -35,32 +45,29 @@ pub(crate) struct Area {
     pub(crate) height: u64,
 }
 
-impl fmt::Display for Area {
-    fn fmt<W: fmt::Write>(&self, f: &mut fmt::Formatter<W>) -> fmt::Result {
-        write!(
-            f,
-            " x=\"{}\" y=\"{}\" width=\"{}\" height=\"{}\"",
-            Tenths(self.corner.x),
-            Tenths(self.corner.y),
-            Tenths(self.width),
-            Tenths(self.height),
+pub(crate) fn area_of(corner: Point, width: u64, height: u64) -> Area {
+    Area {
+        corner,
+        width,
+        height,
+    }
+}
+
+impl Area {
+    pub(crate) fn middle(&self) -> Point {
+        let Point { x, y } = self.corner;
+        at(
+            x.saturating_add(self.width / 2),
+            y.saturating_add(self.height / 2),
         )
     }
 }
 
-/// A curve from one place to another, vertical at both, as the data of a path.
-#[derive(Clone, Copy)]
-pub(crate) struct Curve {
-    pub(crate) from: Point,
-    pub(crate) to: Point,
-}
-
-impl fmt::Display for Curve {
+impl fmt::Display for Area {
     fn fmt<W: fmt::Write>(&self, f: &mut fmt::Formatter<W>) -> fmt::Result {
-        let Curve { from, to } = *self;
-        let first = handle(from, to);
-        let second = handle(to, from);
-        write!(f, "M{from}C{first} {second} {to}")
+        let (x, y) = (Tenths(self.corner.x), Tenths(self.corner.y));
+        let (width, height) = (Tenths(self.width), Tenths(self.height));
+        write!(f, r#" x="{x}" y="{y}" width="{width}" height="{height}""#)
     }
 }
 
@@ -68,20 +75,46 @@ impl fmt::Display for Curve {
 fn handle(from: Point, to: Point) -> Point {
     let down = to.y.saturating_sub(from.y).saturating_mul(9) / 20;
     let up = from.y.saturating_sub(to.y).saturating_mul(9) / 20;
-    Point {
-        x: from.x,
-        y: from.y.saturating_add(down).saturating_sub(up),
-    }
+    at(from.x, from.y.saturating_add(down).saturating_sub(up))
 }
 
-/// A noun that counts things, with an `s` unless there is one.
-#[derive(Clone, Copy)]
-pub(crate) struct Counted<'a>(pub(crate) u64, pub(crate) &'a str);
+/// A curve from one place to another, vertical at both, with the attributes that show how it looks, and a title.
+pub(crate) fn push_curve<L: fmt::Display + Drop, T: fmt::Display + Drop>(
+    out: &mut String,
+    look: L,
+    from: Point,
+    to: Point,
+    title: T,
+) -> Result<(), AllocError> {
+    let (first, second) = (handle(from, to), handle(to, from));
+    writeln!(
+        out,
+        r#"<path {look} d="M{from}C{first} {second} {to}"><title>{title}</title></path>"#
+    )
+}
 
-impl fmt::Display for Counted<'_> {
-    fn fmt<W: fmt::Write>(&self, f: &mut fmt::Formatter<W>) -> fmt::Result {
-        let Counted(count, noun) = *self;
-        let ending = if count == 1 { "" } else { "s" };
-        write!(f, "{count} {noun}{ending}")
-    }
+pub(crate) fn push_circle<C: fmt::Display + Drop>(
+    out: &mut String,
+    class: C,
+    middle: Point,
+    radius: &str,
+) -> Result<(), AllocError> {
+    let (x, y) = (Tenths(middle.x), Tenths(middle.y));
+    writeln!(
+        out,
+        r#"<circle class="{class}" cx="{x}" cy="{y}" r="{radius}"/>"#
+    )
+}
+
+pub(crate) fn push_text<C: fmt::Display + Drop, T: fmt::Display + Drop>(
+    out: &mut String,
+    class: C,
+    place: Point,
+    text: T,
+) -> Result<(), AllocError> {
+    let (x, y) = (Tenths(place.x), Tenths(place.y));
+    writeln!(
+        out,
+        r#"<text class="{class}" x="{x}" y="{y}">{text}</text>"#
+    )
 }

@@ -1,5 +1,5 @@
-//! Runs as a picture, as a page or as trace events, graphs as text for Graphviz, and the program `draw` as a call over
-//! its arguments, its input and its output.
+//! Runs as a picture or as trace events, graphs as text for Graphviz, and the program `draw` as a call over its
+//! arguments, its input and its output.
 //!
 //! What is drawn is tested: it is compared with stored texts. Contracts say that every call is safe and ends, and the
 //! clauses of [`draw_with`] and [`draw_run`] say which exit status is returned, and that no picture is drawn from a
@@ -19,16 +19,12 @@ mod lengths;
 mod marks;
 mod messages;
 mod pauses;
-mod picture;
-mod request;
 mod ribbons;
 mod run;
 mod run_page;
 mod run_style;
 mod scene;
-mod sketch;
 mod sums;
-mod timeline;
 mod tracks;
 mod waves;
 
@@ -38,5 +34,4 @@ pub use graphviz::dot;
 pub use laws::limits_are_these;
 pub use run::{Form, View, draw_run};
 pub use run_page::svg;
-pub use scene::Scene;
-pub use sketch::scene_of;
+pub use scene::{Scene, scene_of};

@@ -1,17 +1,25 @@
 //! Where nothing is pending at a node.
 
-use crate::scene::Pause;
 use std::alloc::{AllocError, Global};
 use tp_base::NodeId;
 use tp_core::NodeNumbers;
 
+/// Nothing was pending at the node from one event to another.
+#[derive(Clone, Copy, Debug, PartialEq, Eq)]
+pub struct Pause {
+    pub node: NodeId,
+    pub from: u32,
+    pub to: u32,
+}
+
 /// The pauses of the steps so far.
 #[derive(Drop)]
-pub(crate) struct Pauses {
+pub struct Pauses {
     nodes: u32,
     // since when nothing is pending at a node
     since: [Option<u32>; 8],
-    ended: Vec<Pause>,
+    /// The pauses that have ended.
+    pub ended: Vec<Pause>,
 }
 
 impl Pauses {
@@ -24,41 +32,29 @@ impl Pauses {
         }
     }
 
-    /// Takes the counters of the nodes after an event.
+    /// Takes the counters of the nodes after an event; or none at the end of the trace, which ends all pauses.
     pub(crate) fn take(
         &mut self,
-        numbers: &[NodeNumbers; 8],
+        numbers: Option<&[NodeNumbers; 8]>,
         event: u32,
     ) -> Result<(), AllocError> {
         for node in 0..self.nodes.min(8) {
             let at = node as usize;
-            if numbers[at].pending != 0 {
-                self.end(node, event)?;
+            let pending = match numbers {
+                Some(numbers) => numbers[at].pending,
+                None => 1,
+            };
+            if pending == 0 {
+                self.since[at] = self.since[at].or(Some(event));
+            } else if let Some(from) = self.since[at] {
                 self.since[at] = None;
-            } else if self.since[at].is_none() {
-                self.since[at] = Some(event);
+                self.ended.push(Pause {
+                    node: NodeId(node),
+                    from,
+                    to: event,
+                })?;
             }
         }
         Ok(())
-    }
-
-    /// Ends the pause of a node, if it has one.
-    fn end(&mut self, node: u32, event: u32) -> Result<(), AllocError> {
-        if let Some(Some(from)) = self.since.get(node as usize).copied() {
-            self.ended.push(Pause {
-                node: NodeId(node),
-                from,
-                to: event,
-            })?;
-        }
-        Ok(())
-    }
-
-    /// All pauses: those that have not ended last up to this event.
-    pub(crate) fn finish(mut self, event: u32) -> Result<Vec<Pause>, AllocError> {
-        for node in 0..self.nodes {
-            self.end(node, event)?;
-        }
-        Ok(self.ended)
     }
 }

@@ -1,8 +1,9 @@
 //! The messages of a long trace, counted by their ways: a ribbon for each way.
 
 use crate::columns::column;
-use crate::scene::{Arrow, Ribbon, Way};
+use crate::messages::Message;
 use std::alloc::{AllocError, Global};
+use tp_base::NodeId;
 
 /// Bands are widened until there are at most this many ribbons.
 const MOST: usize = 600;
@@ -10,31 +11,57 @@ const MOST: usize = 600;
 /// The ways between eight nodes and 64 bands.
 const WAYS: usize = 262_144;
 
-/// Ribbons, and the number of columns of their bands.
-#[derive(Drop)]
-pub(crate) struct Bands {
-    pub(crate) wide: u32,
-    pub(crate) ribbons: Vec<Ribbon>,
+/// The way of a message: the node and the band of columns in which it was sent, and those in which it was received.
+#[derive(Clone, Copy, Debug, PartialEq, Eq)]
+pub struct Way {
+    pub from: NodeId,
+    pub sent: u32,
+    pub to: NodeId,
+    pub received: u32,
 }
 
-/// The messages that were received in a trace of `all` events, counted by their ways.
-pub(crate) fn ribbons_of(alloc: Global, all: u32, arrows: &[Arrow]) -> Result<Bands, AllocError> {
-    let mut places = vec![in alloc; 0; WAYS]?;
-    for wide in &[24, 48, 96, 192, 384, 768] {
-        let ribbons = counted(alloc, &mut places, *wide, all, arrows)?;
-        if ribbons.len() <= MOST {
-            return Ok(Bands {
-                wide: *wide,
-                ribbons,
-            });
+/// The number of messages that went one way.
+#[derive(Clone, Copy, Debug, PartialEq, Eq)]
+pub struct Ribbon {
+    pub way: Way,
+    pub count: u32,
+}
+
+/// The messages that were received, counted by their ways.
+#[derive(Drop)]
+pub struct Bands {
+    /// How many of the 1,500 columns a band has: 24, 48 and so on up to 1,536, the least that gives at most 600 ribbons.
+    pub wide: u32,
+    /// The newest comes first.
+    pub ribbons: Vec<Ribbon>,
+}
+
+impl Bands {
+    pub(crate) fn new(alloc: Global) -> Bands {
+        Bands {
+            wide: 0,
+            ribbons: Vec::new(alloc),
         }
     }
-    // one band: there are at most 64 ways
-    let ribbons = counted(alloc, &mut places, 1_536, all, arrows)?;
-    Ok(Bands {
-        wide: 1_536,
-        ribbons,
-    })
+
+    /// Counts the messages that were received in a trace of `all` events.
+    pub(crate) fn count(
+        &mut self,
+        alloc: Global,
+        all: u32,
+        arrows: &[Message],
+    ) -> Result<(), AllocError> {
+        let mut places = vec![in alloc; 0; WAYS]?;
+        // (with one band there are at most 64 ways)
+        for wide in &[24, 48, 96, 192, 384, 768, 1_536] {
+            self.wide = *wide;
+            self.ribbons = counted(alloc, &mut places, *wide, all, arrows)?;
+            if self.ribbons.len() <= MOST {
+                return Ok(());
+            }
+        }
+        Ok(())
+    }
 }
 
 /// Counts messages by their ways, from the newest on; stops when there is a ribbon too many.
@@ -43,7 +70,7 @@ fn counted(
     places: &mut [u16],
     wide: u32,
     all: u32,
-    arrows: &[Arrow],
+    arrows: &[Message],
 ) -> Result<Vec<Ribbon>, AllocError> {
     let mut ribbons = Vec::new(alloc);
     for arrow in arrows.iter().rev() {
@@ -73,12 +100,12 @@ fn count(ribbons: &mut Vec<Ribbon>, places: &mut [u16], way: Way) -> Result<(), 
     Ok(())
 }
 
-fn way_of(wide: u32, all: u32, arrow: &Arrow) -> Way {
+fn way_of(wide: u32, all: u32, arrow: &Message) -> Way {
     Way {
-        from: arrow.sending.from,
-        sent: column(all, arrow.sending.sent) / wide.max(1),
-        to: arrow.sending.to,
-        received: column(all, arrow.received) / wide.max(1),
+        from: arrow.from,
+        sent: column(all, arrow.sent) / wide.max(1),
+        to: arrow.to,
+        received: column(all, arrow.received.unwrap_or(all)) / wide.max(1),
     }
 }
 

@@ -1,17 +1,15 @@
-//! The run that a trace records, as a picture, as a page or as events.
+//! The run that a trace records, as a picture or as events.
 
 ghost use Rattle.std.specs.Prelude.{◌≡◌, ◌≢◌, ◌≤◌, IfErr, OnOk, false};
 ghost use Rattle.tp_draw.specs.Ends.{HasReadTrace};
 
 use crate::events::events_of;
 use crate::fault::Fault;
-use crate::picture::Picture;
-use crate::run_page::{svg, svg_until};
-use crate::sketch::scene_of;
-use crate::timeline::timeline_of;
+use crate::run_page::picture_of;
+use crate::scene::scene_of;
 use std::alloc::Global;
 use std::io::{Read, Write};
-use tp_base::{MAX_NODES, Step};
+use tp_base::MAX_NODES;
 use tp_shell::write_text;
 use tp_text::{Reading, Trace, read_trace};
 
@@ -20,8 +18,6 @@ use tp_text::{Reading, Trace, read_trace};
 pub enum Form {
     /// A picture as SVG: this many pixels wide, or in its own size.
     Picture(Option<u32>),
-    /// A page with a timeline.
-    Timeline,
     /// Chrome's trace events.
     Events,
 }
@@ -80,36 +76,13 @@ fn text_of_run(
 {
     let (nodes, steps) = (trace.nodes.clamp(1, MAX_NODES), trace.steps.as_slice());
     let text = match form {
-        Form::Picture(pixels) => return picture_of(alloc, nodes, steps, fault, pixels),
-        Form::Timeline => timeline_of(alloc, nodes, steps, fault),
-        Form::Events => events_of(alloc, nodes, steps, fault, String::new(alloc)),
+        Form::Picture(pixels) => match scene_of(alloc, nodes, steps) {
+            Ok(scene) => return Ok(picture_of(alloc, &scene, fault, pixels)?),
+            Err(refusal) => Err(refusal),
+        },
+        Form::Events => events_of(alloc, nodes, steps, fault),
     };
     text.map_err(|_| Fault::Memory)
-}
-
-fn picture_of(
-    alloc: Global,
-    nodes: u32,
-    steps: &[Step],
-    fault: Option<&str>,
-    pixels: Option<u32>,
-) -> Result<String, Fault>
-    requires { (1 ≤ nodes) × (nodes ≤ 8) }
-    ensures { IfErr result (λ fault. fault ≡ Fault.Memory) }
-{
-    let Ok(scene) = scene_of(alloc, nodes, steps) else {
-        return Err(Fault::Memory);
-    };
-    let text = match fault {
-        Some(line) => svg_until(alloc, &scene, line)?,
-        None => svg(alloc, &scene)?,
-    };
-    let picture = Picture {
-        width: scene.width(),
-        height: scene.page_height(),
-        text,
-    };
-    Ok(picture.shown(alloc, pixels)?)
 }
 
 /// Writes a picture or another text.

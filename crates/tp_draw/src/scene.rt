@@ -1,85 +1,16 @@
-//! What is drawn of a run: plain data, without a place on a page.
+//! From the steps of a run to what is drawn of them: plain data, without a place on a page.
 
-use tp_base::{Generation, MessageId, NodeId, Sums, TaskId};
+ghost use Rattle.std.specs.Prelude.{◌≤◌};
 
-/// A task that runs: in its node's lane, on one of the lane's tracks, since an event. Events are numbered from 0.
-#[derive(Clone, Copy, Debug, PartialEq, Eq)]
-pub struct Running {
-    pub task: TaskId,
-    pub node: NodeId,
-    pub track: u32,
-    pub from: u32,
-}
-
-/// A task that was done: it ran up to this event.
-#[derive(Clone, Copy, Debug, PartialEq, Eq)]
-pub struct Bar {
-    pub run: Running,
-    pub to: u32,
-}
-
-/// A message in flight: it was sent at this event.
-#[derive(Clone, Copy, Debug, PartialEq, Eq)]
-pub struct Sending {
-    pub message: MessageId,
-    pub from: NodeId,
-    pub to: NodeId,
-    pub sent: u32,
-}
-
-/// A message that was received, at this event.
-#[derive(Clone, Copy, Debug, PartialEq, Eq)]
-pub struct Arrow {
-    pub sending: Sending,
-    pub received: u32,
-}
-
-/// A wave that ended: its sums, and the event at which each node gave its own.
-#[derive(Clone, Copy, Debug, PartialEq, Eq)]
-pub struct Cut {
-    pub sums: Sums,
-    pub gives: [u32; 8],
-}
-
-/// Nothing was pending at the node from one event to another.
-#[derive(Clone, Copy, Debug, PartialEq, Eq)]
-pub struct Pause {
-    pub node: NodeId,
-    pub from: u32,
-    pub to: u32,
-}
-
-/// Termination was detected: at an event, with the number of the wave before the last, which ended at the event
-/// `since`.
-#[derive(Clone, Copy, Debug, PartialEq, Eq)]
-pub struct End {
-    pub wave: u32,
-    pub since: u32,
-    pub judged: u32,
-}
-
-/// At this event the pool was reopened, for this generation.
-#[derive(Clone, Copy, Debug, PartialEq, Eq)]
-pub struct Seam {
-    pub generation: Generation,
-    pub at: u32,
-}
-
-/// The way of a message: the node and the band of columns in which it was sent, and those in which it was received.
-#[derive(Clone, Copy, Debug, PartialEq, Eq)]
-pub struct Way {
-    pub from: NodeId,
-    pub sent: u32,
-    pub to: NodeId,
-    pub received: u32,
-}
-
-/// The number of messages that went one way.
-#[derive(Clone, Copy, Debug, PartialEq, Eq)]
-pub struct Ribbon {
-    pub way: Way,
-    pub count: u32,
-}
+use crate::columns::{add_loads, column};
+use crate::messages::Messages;
+use crate::pauses::Pauses;
+use crate::ribbons::Bands;
+use crate::tracks::Tracks;
+use crate::waves::Waves;
+use std::alloc::{AllocError, Global};
+use tp_base::{MAX_STEPS, Refusal, Step};
+use tp_core::{Core, NodeNumbers, Reply};
 
 /// What is drawn of a run. Each list is in order of time, except the ribbons, the newest of which comes first.
 #[derive(Drop)]
@@ -87,31 +18,61 @@ pub struct Scene {
     /// The number of nodes, 1 to 8.
     pub nodes: u32,
     pub events: u32,
-    /// The number of tracks of each node's lane.
-    pub rows: [u32; 8],
-    /// The tasks that were done.
-    pub bars: Vec<Bar>,
-    /// The tasks that were begun and not done.
-    pub running: Vec<Running>,
-    /// The messages that were received.
-    pub arrows: Vec<Arrow>,
-    /// The messages that were sent and not received.
-    pub under_way: Vec<Sending>,
+    pub tracks: Tracks,
+    pub messages: Messages,
+    pub waves: Waves,
+    pub pauses: Pauses,
     /// The number of tasks that run at a node, added up over the events of each of 1,500 columns: that of node i and column c
     /// is at 1,500 i + c.
     pub loads: Vec<u64>,
-    /// How many of the 1,500 columns a band has: 24, 48 and so on up to 1,536, the least that gives at most 600 ribbons.
-    pub band: u32,
-    /// The messages that were received, counted by their ways.
-    pub ribbons: Vec<Ribbon>,
-    /// The waves that ended.
-    pub cuts: Vec<Cut>,
-    /// Where nothing was pending.
-    pub pauses: Vec<Pause>,
-    /// Where the pool was reopened.
-    pub seams: Vec<Seam>,
-    /// Where termination was detected: at most once a generation.
-    pub ends: Vec<End>,
-    /// The number of the wave with which termination of the present generation was detected.
-    pub ended: Option<u32>,
+    pub bands: Bands,
+}
+
+impl Scene {
+    /// Takes the next step of `all`, with the core's reply to it, and the counters of the nodes after it.
+    fn take(
+        &mut self,
+        step: Step,
+        reply: Reply,
+        numbers: &[NodeNumbers; 8],
+        all: u32,
+    ) -> Result<(), AllocError> {
+        let event = self.events;
+        self.tracks.take(step, event)?;
+        self.messages.take(step, event)?;
+        self.waves.take(step, reply, event)?;
+        self.pauses.take(Some(numbers), event)?;
+        add_loads(&mut self.loads, &self.tracks.counts, column(all, event));
+        self.events = event.saturating_add(1);
+        Ok(())
+    }
+}
+
+/// Returns what is drawn of these steps of a run on `nodes` nodes. It allocates a core of the steps, and the scene.
+///
+/// A step is refused as a core refuses it; `NoMemory` if an allocation fails.
+pub fn scene_of(alloc: Global, nodes: u32, steps: &[Step]) -> Result<Scene, Refusal>
+    requires { (1 ≤ nodes) × (nodes ≤ 8) }
+{
+    let all = steps.len().min(MAX_STEPS as usize) as u32;
+    let mut core = Core::new(alloc, nodes);
+    let mut scene = Scene {
+        nodes,
+        events: 0,
+        tracks: Tracks::new(alloc),
+        messages: Messages::new(alloc),
+        waves: Waves::new(alloc),
+        pauses: Pauses::new(alloc, nodes),
+        loads: vec![in alloc; 0; 12_000]?,
+        bands: Bands::new(alloc),
+    };
+    for step in steps {
+        let reply = core.step(*step)?;
+        scene.take(*step, reply, &core.numbers().nodes, all)?;
+    }
+    scene.pauses.take(None, scene.events)?;
+    scene
+        .bands
+        .count(alloc, scene.events, &scene.messages.arrows)?;
+    Ok(scene)
 }

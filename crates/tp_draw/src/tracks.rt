@@ -1,19 +1,32 @@
 //! The tasks of a run: where they run, and the bars of those that are done.
 
-use crate::scene::{Bar, Running};
 use std::alloc::{AllocError, Global};
 use tp_base::{NodeId, Step, Table, TaskId};
 
+/// A task that began: in its node's lane, on one of the lane's tracks, at an event. Events are numbered from 0.
+#[derive(Clone, Copy, Debug, PartialEq, Eq)]
+pub struct Bar {
+    pub task: TaskId,
+    pub node: NodeId,
+    pub track: u32,
+    pub from: u32,
+    /// The event at which it was done.
+    pub to: Option<u32>,
+}
+
 /// The tasks of the steps so far.
 #[derive(Drop)]
-pub(crate) struct Tracks {
+pub struct Tracks {
     // the node of each task of the present generation
     homes: Table<NodeId>,
-    pub(crate) rows: [u32; 8],
-    // how many tasks run at each node
-    pub(crate) counts: [u32; 8],
-    pub(crate) running: Vec<Running>,
-    pub(crate) bars: Vec<Bar>,
+    /// The number of tracks of each node's lane.
+    pub rows: [u32; 8],
+    /// How many tasks run at each node.
+    pub counts: [u32; 8],
+    /// The tasks that were begun and not done.
+    pub running: Vec<Bar>,
+    /// The tasks that were done.
+    pub bars: Vec<Bar>,
 }
 
 impl Tracks {
@@ -46,40 +59,42 @@ impl Tracks {
     }
 
     /// A task begins, on the first track of its lane that is free.
-    fn begin(&mut self, task: TaskId, event: u32) -> Result<(), AllocError> {
+    fn begin(&mut self, task: TaskId, from: u32) -> Result<(), AllocError> {
         let node = self.home(task);
         // (before this event at most as many tasks began)
-        let track = free_track(&self.running, node, event);
+        let track = free_track(&self.running, node, from);
         if let Some(rows) = self.rows.get_mut(node.0 as usize) {
             *rows = (*rows).max(track.saturating_add(1));
         }
         if let Some(count) = self.counts.get_mut(node.0 as usize) {
             *count = count.saturating_add(1);
         }
-        self.running.push(Running {
+        self.running.push(Bar {
             task,
             node,
             track,
-            from: event,
+            from,
+            to: None,
         })?;
         Ok(())
     }
 
     fn done(&mut self, task: TaskId, event: u32) -> Result<(), AllocError> {
-        let Some(place) = self.running.iter().position(|run| run.task.0 == task.0) else {
+        let Some(place) = self.running.iter().position(|bar| bar.task.0 == task.0) else {
             return Ok(());
         };
-        let run = self.running.remove(place);
-        if let Some(count) = self.counts.get_mut(run.node.0 as usize) {
+        let mut bar = self.running.remove(place);
+        bar.to = Some(event);
+        if let Some(count) = self.counts.get_mut(bar.node.0 as usize) {
             *count = count.saturating_sub(1);
         }
-        self.bars.push(Bar { run, to: event })?;
+        self.bars.push(bar)?;
         Ok(())
     }
 }
 
 /// The first of a lane's tracks on which no task runs, or `most`.
-fn free_track(running: &[Running], node: NodeId, most: u32) -> u32 {
+fn free_track(running: &[Bar], node: NodeId, most: u32) -> u32 {
     for track in 0..most {
         if !is_taken(running, node, track) {
             return track;
@@ -88,8 +103,8 @@ fn free_track(running: &[Running], node: NodeId, most: u32) -> u32 {
     most
 }
 
-fn is_taken(running: &[Running], node: NodeId, track: u32) -> bool {
+fn is_taken(running: &[Bar], node: NodeId, track: u32) -> bool {
     running
         .iter()
-        .any(|run| run.node.0 == node.0 && run.track == track)
+        .any(|bar| bar.node.0 == node.0 && bar.track == track)
 }

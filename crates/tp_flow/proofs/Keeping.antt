@@ -1,45 +1,18 @@
 -- What a flow keeps of each handle follows its description, access by access.
-use Rattle.std.proofs.Math.ListN.{length-set}
-use Rattle.std.specs.List.{All}
-use Rattle.std.specs.Prelude.{◌-◌, nat_lt}
-use Rattle.std.proofs.lemmas.List.{take_more, flat_map_more, length_push, get_or-set_same, get_or-set_other, get_or_append_left, get_or_push}
-use Rattle.std.proofs.lemmas.List.{get_or-map, length-map, map-set, set-get_or}
-use Rattle.std.proofs.lemmas.List.Elements.{All-more}
-use Rattle.std.proofs.lemmas.Option.{slice_get-get_or, same_Some}
-use Rattle.tp_flow.proofs.Words.{◌≡◌, ◌<◌, ◌+◌, ℕ, zero, suc, List, [], ◌∷◌, ◌++◌, ◌⊎◌, inl, inr, Bool, true, false, Option, Some, None, refl, subst}
-use Rattle.tp_flow.proofs.Words.{sym, ◌∙◌, ap, arith, length, map, take, ◌==◌, ◌&&◌, ◌||◌, if◌then◌else◌, IsTrue, slice_get, slice_set}
-use Rattle.tp_flow.proofs.Words.{slice_index_or, and_parts, cases_eq, cases_order, eq-eqb, ne_eqb, nat_tests, Access}
-use Rattle.tp_flow.proofs.Words.{Mode, Uses, Task, Description, Has, writes, has_access, is_accessed, is_written, last_writer, readers_since}
-use Rattle.tp_flow.proofs.Words.{awaited_by, awaited, newest_of, all_below, IsAbove, AreOrdered, AreTasksBelow, with_handle, with_task}
-use Rattle.tp_flow.specs.declared.access.Mode.TheVariants as mode
-use Rattle.tp_flow.specs.State.{HandleState, FlowState, RoomyFlow, HasDescription, IsReady, Follows, handle_of, is_not_above, state_of_uses, has_room, AreKept}
-use Rattle.tp_flow.specs.State.{is_number, is_recorded, with_access, Pass}
-use Rattle.tp_flow.proofs.Lists.{or_true}
-use Rattle.tp_flow.proofs.Results.{past_below}
+pub mod Results
+pub use Results.*
 
 -- ---- one access more
 abbrev pub task : ℕ → List Access → Task
 task n accesses = record { number = n; accesses = accesses }
 
-or_false : (p : Bool) → (p || false) ≡ p
-or_false true = refl
-or_false false = refl
-
-or_assoc : (p q r : Bool) → (p || (q || r)) ≡ ((p || q) || r)
-or_assoc true q r = refl
-or_assoc false q r = refl
-
 access_more : (test : Mode → Bool) (h : ℕ) (more : List Access) (a : Access)
     → has_access test h (more ++ a ∷ []) ≡ (has_access test h more || ((a.handle.0 == h) && test a.mode))
-access_more test h [] a = or_false ((a.handle.0 == h) && test a.mode)
-access_more test h (b ∷ more) a =
-    ap (λ q. ((b.handle.0 == h) && test b.mode) || q) (access_more test h more a)
-    ∙ or_assoc ((b.handle.0 == h) && test b.mode) (has_access test h more) ((a.handle.0 == h) && test a.mode)
+access_more test h more a = or_push (has_access test h) (λ (b : Access). (b.handle.0 == h) && test b.mode) refl (λ x xs. refl) more a
 
 last_is : (ts : List ℕ) (t : ℕ) → slice_get (ts ++ t ∷ []) (length (ts ++ t ∷ []) - 1) ≡ Some t
 last_is ts t =
-    let n = length_push ts t in
-    let l : length (ts ++ t ∷ []) - 1 < length (ts ++ t ∷ []) = omega (arith, n) in
+    let n = length_push ts t in let l : length (ts ++ t ∷ []) - 1 < length (ts ++ t ∷ []) = omega (arith, n) in
     let e : length ts ≡ length (ts ++ t ∷ []) - 1 = omega (arith, n) in
     slice_get-get_or (ts ++ t ∷ []) (length (ts ++ t ∷ []) - 1) t l ∙ ap Some (get_or_push ts t t (length (ts ++ t ∷ []) - 1) e)
 
@@ -52,8 +25,8 @@ after n u p q = record {
 
 after_more : (n : ℕ) (u : HandleState) → is_recorded n u ≡ false → (p q e : Bool) (m : Mode) (w : Bool) → writes m ≡ w
     → after n u (p || (e && w)) (q || (e && true)) ≡ (if e then with_access n m (after n u p q) else after n u p q)
-after_more n u f p false false m w t = rw (or_false p) refl
-after_more n u f p true false m w t = rw (or_false p) refl
+after_more n u f p false false m w t = rw (or-false p) refl
+after_more n u f p true false m w t = rw (or-false p) refl
 after_more n u f true q true m true t = rw t refl
 after_more n u f true q true m false t = rw (t, eq-eqb n n refl) refl
 after_more n u f false q true m true t = rw t refl
@@ -75,10 +48,6 @@ above_of : (o : Option ℕ) (n : ℕ) → is_not_above o n ≡ false → IsAbove
 above_of None n e = tt
 above_of (Some m) n e = grind (arith, nat_tests)
 
-or_left : (p q : Bool) → (p || q) ≡ false → p ≡ false
-or_left true q e = e
-or_left false q e = refl
-
 unrecorded : (n h : ℕ) (past : List Task) → ((y : Task) → Has past y → y.number < n) → is_recorded n (handle_of h past) ≡ false
 unrecorded n h [] b = refl
 unrecorded n h (y ∷ past) b =
@@ -89,8 +58,8 @@ unrecorded n h (y ∷ past) b =
         → is_recorded n (after y.number (handle_of h past) p q) ≡ false
     by_test true q e f = rw e refl
     by_test false true e f =
-        let w = or_left (is_number (last_writer h past) n)
-        (is_number (slice_get (readers_since h past) (length (readers_since h past) - 1)) n) f in
+        let w = (or_parts (is_number (last_writer h past) n)
+        (is_number (slice_get (readers_since h past) (length (readers_since h past) - 1)) n) f).0 in
         rw (w, last_is (readers_since h past) y.number, e) refl
     by_test false false e f = f
 
@@ -210,8 +179,7 @@ same_step us n u v e s =
 pub kept_of : (us : List Uses) (d : Description) (a : FlowState) → a.handles ≡ map state_of_uses us → Follows d a → AreKept us d.tasks
 kept_of us d a e f h u l =
     let m = length-map us state_of_uses in
-    let n : length a.handles ≡ length (map state_of_uses us) = ap (λ (hs : List HandleState). length hs) e in
-    let c = f.count in
+    let n : length a.handles ≡ length (map state_of_uses us) = ap (λ (hs : List HandleState). length hs) e in let c = f.count in
     same_Some _ _ (sym (slice_get-get_or (map state_of_uses us) h (state_of_uses u) (omega (arith, l, m))
     ∙ ap Some (get_or-map state_of_uses us h u (state_of_uses u) l))
     ∙ subst (λ (hs : List HandleState). slice_get hs h ≡ Some (handle_of h d.tasks)) e (f.each h (omega (arith, l, m, n, c))))
@@ -240,8 +208,7 @@ pub record_follows : (us vs : List Uses) (d : Description) (a : FlowState) (n : 
 record_follows us vs d a n accesses f above below e c k =
     let above' : is_not_above (newest_of d.tasks) n ≡ false = subst (λ o. is_not_above o n ≡ false) f.newest above in
     let m = length-map us state_of_uses in
-    let l : length a.handles ≡ length (map state_of_uses us) = ap (λ (hs : List HandleState). length hs) e in
-    let g = f.count in
+    let l : length a.handles ≡ length (map state_of_uses us) = ap (λ (hs : List HandleState). length hs) e in let g = f.count in
     follows_of vs (with_task n accesses d) (above_of (newest_of d.tasks) n above', f.ordered)
     (subst (λ h. all_below h accesses ≡ true) f.count below, f.below) (omega (arith, c, m, l, g)) (k f.ordered above' (kept_of us d a e f))
 
@@ -266,8 +233,7 @@ ready p q n accesses a b e r = record {
 not_accessed : (test : Mode → Bool) (n : ℕ) (accesses : List Access) → all_below n accesses ≡ true → has_access test n accesses ≡ false
 not_accessed test n [] b = refl
 not_accessed test n (a ∷ rest) b =
-    let p = and_parts (nat_lt a.handle.0 n) (all_below n rest) b in
-    let b = p.0 in
+    let p = and_parts (nat_lt a.handle.0 n) (all_below n rest) b in let b = p.0 in
     let e : (a.handle.0 == n) ≡ false = grind (arith, nat_tests) in rw (e, not_accessed test n rest p.1) refl
 
 new_handle : (n : ℕ) (tasks : List Task) → AreTasksBelow n tasks → handle_of n tasks ≡ record { writer = None; readers = [] }
@@ -278,8 +244,7 @@ new_handle n (x ∷ past) b =
 more_below : (n : ℕ) (accesses : List Access) → all_below n accesses ≡ true → all_below (n + 1) accesses ≡ true
 more_below n [] b = refl
 more_below n (a ∷ rest) b =
-    let p = and_parts (nat_lt a.handle.0 n) (all_below n rest) b in
-    let b = p.0 in
+    let p = and_parts (nat_lt a.handle.0 n) (all_below n rest) b in let b = p.0 in
     let e : nat_lt a.handle.0 (n + 1) ≡ true = grind (arith, nat_tests) in rw (e, more_below n rest p.1) refl
 
 more_tasks_below : (n : ℕ) (tasks : List Task) → AreTasksBelow n tasks → AreTasksBelow (n + 1) tasks

@@ -1,5 +1,1 @@
-pub mod Words
-pub mod Lists
-pub mod Conflicts
-pub mod Results
 pub mod Keeping

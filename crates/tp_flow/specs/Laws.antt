@@ -41,7 +41,7 @@ pub record AreInOrder (tasks : List Task) (later earlier : ℕ) : Type 0 where
   pub chain : Reaches tasks later earlier
   pub run : (events : List Event) → IsRun tasks (Begun later ∷ events) → Has events (Done earlier)
 
-abbrev pub OrdersConflicts : Type 0
+unfoldable pub OrdersConflicts : Type 0
 OrdersConflicts = (after past : List Task) (x y : Task) → Has past y → Conflict x y → AreInOrder (after ++ x ∷ past) x.number y.number
 
 -- ---- results
@@ -83,13 +83,13 @@ abbrev pub AreBodies : {V : Type 0} → List Task → (ℕ → Values V → Valu
 AreBodies tasks bodies = (x : Task) → Has tasks x → IsBody x.accesses (bodies x.number)
 
 -- Any order in which each task comes after its inputs leaves in each handle what the order of the description leaves.
-abbrev pub GivesTheSequentialResult : Type 0 → Type 0
+unfoldable pub GivesTheSequentialResult : Type 0 → Type 0
 GivesTheSequentialResult V = (tasks : List Task) (order : List ℕ) (bodies : ℕ → Values V → Values V) (values : Values V) (h : ℕ)
     → AreOrdered tasks → AreBodies tasks bodies → IsOrder tasks order
     → values_after bodies order values h ≡ values_after bodies (numbers tasks) values h
 
 -- In such an order each task finds, in each handle that it reads, the value that it finds there in the order of the description.
-abbrev pub ReadsTheSequentialValues : Type 0 → Type 0
+unfoldable pub ReadsTheSequentialValues : Type 0 → Type 0
 ReadsTheSequentialValues V = (later past : List Task) (x : Task) (after before : List ℕ) (bodies : ℕ → Values V → Values V)
     (values : Values V) (h : ℕ) → AreOrdered (later ++ x ∷ past) → AreBodies (later ++ x ∷ past) bodies
     → IsOrder (later ++ x ∷ past) (after ++ x.number ∷ before) → IsTrue (is_read h x.accesses)

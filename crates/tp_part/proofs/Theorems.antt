@@ -1,6 +1,7 @@
 -- How many calls parts make, and the theorems about all parts of a graph together.
 pub mod Calls
 pub use Calls.*
+use Rattle.tp_part.specs.Laws.{EachOnce, AfterItsInputs, MayLeave}
 
 -- ---- one part
 abbrev pub GoesBy : List Call → PartState → Type 0
@@ -26,36 +27,29 @@ first_none false r o h = (refl, h)
 arrived_none : (u : ℕ) (a : PartState) → first_refusal (arrived_checks a u) ≡ None
     → (a.started ≡ true) × (is_read u a.incoming ≡ true) × (has_arrived u a.incoming ≡ false)
 arrived_none u a h = (let b = first_none _ _ _ h in let c = first_none _ _ _ b.1 in
-    (not_false a.started b.0, not_false (is_read u a.incoming) c.0, (first_none _ _ _ c.1).0))
+    (not-false a.started b.0, not-false (is_read u a.incoming) c.0, (first_none _ _ _ c.1).0))
 
 task_none : (a : PartState) (owner class : ℕ) (us : List ℕ) → first_refusal (task_checks a owner class us) ≡ None
     → (a.started ≡ false) × (nat_le a.parts owner ≡ false) × (list_all (λ u. nat_lt u a.described) us ≡ true)
 task_none a owner class us h = (let b = first_none _ _ _ h in let c = first_none _ _ _ b.1 in let d = first_none _ _ _ c.1 in
-    (b.0, c.0, not_false (list_all (λ u. nat_lt u a.described) us) (first_none _ _ _ d.1).0))
+    (b.0, c.0, not-false (list_all (λ u. nat_lt u a.described) us) (first_none _ _ _ d.1).0))
 
 module _ (g : Graph) (n p : ℕ) where
   described : (calls : List Call) (a : PartState) (x : Task) → Knows g n p calls a → slice_get g a.described ≡ Some x
       → first_refusal (task_checks a x.owner x.class x.inputs) ≡ None → Knows g n p (Described ∷ calls)
       (with_task x.owner x.class x.inputs a)
   described calls a x k is none_holds = elim (cases_eq x.owner a.number) [
-    | inl e ↦ subst (λ (b : Bool). Knows g n p (Described ∷ calls) (cond b (with_own x.class x.inputs a) (with_foreign x.owner x.inputs a)))
-        (sym (eq-eqb x.owner a.number e)) (record {
-          head = head;
-          plan = subst (λ (es : List Pair). Plan g n p (a.described + 1) (a.numbers ++ a.described ∷ [])
-              (a.links ++ map (λ s. record { source = s; target = length a.tasks }) (own_places a.numbers x.inputs)) es
-              (map ends a.outgoing))
-              (sym (map-append ends a.incoming (edges_to (length a.tasks) a.numbers x.inputs)))
-              (plan_own g n p a.described a.numbers a.links (map ends a.incoming) (map ends a.outgoing) x k.plan is few c0.2
-              (length a.tasks) k.goes.tasks.long (e ∙ k.head.is_number));
-          goes = goes_own x.class x.inputs k.goes c0.0;
-        })
-    | inr e ↦ subst (λ (b : Bool). Knows g n p (Described ∷ calls) (cond b (with_own x.class x.inputs a) (with_foreign x.owner x.inputs a)))
-        (sym (ne_eqb x.owner a.number e)) (record {
-          head = head;
-          plan = plan_foreign g n p a.described a.numbers a.links (map ends a.incoming) (map ends a.outgoing) x k.plan is few c0.2
-              a.outgoing refl (λ s. e (s ∙ sym k.head.is_number));
-          goes = goes_foreign x.owner x.inputs k.goes c0.0;
-        })
+    | inl e ↦ rw (eq-eqb x.owner a.number e) (record {
+      head = head;
+      plan = rw (map-append ends a.incoming (edges_to (length a.tasks) a.numbers x.inputs))
+          (plan_own a.outgoing x k.plan is few c0.2 (length a.tasks) k.goes.tasks.long (e ∙ k.head.is_number));
+      goes = goes_own k.goes x.class x.inputs c0.0;
+    })
+    | inr e ↦ rw (ne_eqb x.owner a.number e) (record {
+      head = head;
+      plan = plan_foreign a.outgoing x k.plan is few c0.2 (λ s. e (s ∙ sym k.head.is_number));
+      goes = goes_foreign k.goes x.owner x.inputs c0.0;
+    })
   ]
     where
       c0 : (a.started ≡ false) × (nat_le a.parts x.owner ≡ false) × (list_all (λ u. nat_lt u a.described) x.inputs ≡ true)
@@ -72,7 +66,7 @@ module _ (g : Graph) (n p : ℕ) where
       }
 
   started : (a : PartState) → first_refusal (next_checks a) ≡ None → a.started ≡ true
-  started a h = not_false a.started (first_none _ _ _ h).0
+  started a h = not-false a.started (first_none _ _ _ h).0
 
   -- a call
   next_knows : (c : Call) (calls : List Call) (a b : PartState) → Knows g n p calls a → Does g c a b → Knows g n p (c ∷ calls) b
@@ -85,25 +79,21 @@ module _ (g : Graph) (n p : ℕ) where
   next_knows (Ran t) calls a b k d = (let r = d.1 in subst (Knows g n p (Ran t ∷ calls)) (sym r.becomes) (record {
     head = k.head;
     plan = k.plan;
-    goes = goes_run _ _ _ _ a k.goes k.plan.up t r.place r.ready.task r.own r.ready.is r.ready.fresh (started a d.0) r.ready.arrived;
+    goes = goes_run k.goes k.plan.up t r.place r.ready.task r.own r.ready.is r.ready.fresh (started a d.0) r.ready.arrived;
   }))
   next_knows (Sent u q) calls a b k d = (let r = d.1 in subst (Knows g n p (Sent u q ∷ calls)) (sym r.becomes)
-      (record { head = k.head; plan = k.plan; goes = goes_send u q r.place r.edge k.goes r.due r.is r.value r.target }))
-  next_knows Waited calls a b k d = subst (Knows g n p (Waited ∷ calls)) (sym d.2)
-      (record { head = k.head; plan = k.plan; goes = k.goes })
-  next_knows Stopped calls a b k d = subst (Knows g n p (Stopped ∷ calls)) (sym d.2)
-      (record { head = k.head; plan = k.plan; goes = k.goes })
+      (record { head = k.head; plan = k.plan; goes = goes_send k.goes u q r.place r.edge r.due r.is r.value r.target }))
+  next_knows Waited calls a b k d = rw d.2 (record { head = k.head; plan = k.plan; goes = k.goes })
+  next_knows Stopped calls a b k d = rw d.2 (record { head = k.head; plan = k.plan; goes = k.goes })
   next_knows (Ended t) calls a b k d = subst (Knows g n p (Ended t ∷ calls)) (sym d.becomes) (record {
     head = k.head;
-    plan = subst (λ (es : List Pair). Plan g n p a.described a.numbers a.links (map ends a.incoming) es) (sym
-        (pass_ends t a.outgoing)) k.plan;
-    goes = goes_end _ _ _ _ a k.goes k.plan.up t d.place d.task d.own d.is d.runs;
+    plan = rw (pass_ends t a.outgoing) k.plan;
+    goes = goes_end k.goes k.plan.up t d.place d.task d.own d.is d.runs;
   })
   next_knows (Came u) calls a b k d = (let c0 = arrived_none u a d.0 in subst (Knows g n p (Came u ∷ calls)) (sym d.1) (record {
     head = k.head;
-    plan = subst (λ (es : List Pair). Plan g n p a.described a.numbers a.links es (map ends a.outgoing)) (sym
-        (pass_ends u a.incoming)) k.plan;
-    goes = goes_come u k.goes c0.0 c0.1;
+    plan = rw (pass_ends u a.incoming) k.plan;
+    goes = goes_come k.goes u c0.0 c0.1;
   }))
 
   pub knows : (calls : List Call) (a : PartState) → Reaches g n p calls a → Knows g n p calls a
@@ -117,31 +107,25 @@ module _ (g : Graph) (n p : ℕ) where
   -- ---- a call was not made before
   new_run : (t : ℕ) (calls : List Call) (a b : PartState) → Knows g n p calls a → Does g (Ran t) a b → list_any (is_run t) calls ≡ false
   new_run t calls a b k d = (let r = d.1 in
-      not_true (list_any (is_run t) calls) (sym (k.goes.tasks.at r.place t r.ready.task r.own r.ready.is).0 ∙ ap is_fresh r.ready.fresh))
+      not-true (list_any (is_run t) calls) (sym (k.goes.tasks.at r.place t r.ready.task r.own r.ready.is).0 ∙ ap is_fresh r.ready.fresh))
 
   new_end : (t : ℕ) (calls : List Call) (a b : PartState) → Knows g n p calls a → Does g (Ended t) a b → list_any (is_end t) calls ≡ false
   new_end t calls a b k d = sym (k.goes.tasks.at d.place t d.task d.own d.is).1 ∙ ap is_done d.runs
 
   new_send : (u q : ℕ) (calls : List Call) (a b : PartState) → Knows g n p calls a → Does g (Sent u q) a b
       → list_any (is_send u q) calls ≡ false
-  new_send u q calls a b k d = elim (cases_Bool (list_any (is_send u q) calls)) [
-    | inr f ↦ f
-    | inl h ↦ (let r = d.1 in let w = k.goes.messages.sent_is u q h in
-        let at = k.plan.out_once w.place r.place (u, q) w.edge (map_get ends a.outgoing r.place r.edge r.is
-        ∙ ap Some (same_ends r.value r.target)) in
-        let j = k.goes.messages.box_once w.message a.sent r.place (subst (λ (i : ℕ). slice_get a.outbox w.message ≡ Some i) at w.at) r.due in
-        let l = w.before in absurd (omega (arith, j, l)))
-  ]
+  new_send u q calls a b k d = never (list_any (is_send u q) calls) (λ h. let r = d.1 in let w = k.goes.messages.sent_is u q h in
+      let at = k.plan.out_once w.place r.place (u, q) w.edge (map_get ends a.outgoing r.place r.edge r.is
+      ∙ ap Some (same_ends r.value r.target)) in
+      let j = k.goes.messages.box_once w.message a.sent r.place (subst (λ (i : ℕ). slice_get a.outbox w.message ≡ Some i) at w.at) r.due in
+      let l = w.before in omega (arith, j, l))
 
   new_arrival : (u : ℕ) (calls : List Call) (a b : PartState) → Knows g n p calls a → Does g (Came u) a b
       → list_any (is_arrival u) calls ≡ false
-  new_arrival u calls a b k d = elim (cases_Bool (list_any (is_arrival u) calls)) [
-    | inr f ↦ f
-    | inl h ↦ (let w = k.goes.values.came_in u h in
-        true_or_false (has_arrived u a.incoming) (any_from (λ (e : Edge). (e.value == u) && e.passed) a.incoming w.0 w.1 w.2
-        (and_from (w.1.value == u) w.1.passed (eq-eqb w.1.value u w.3) (k.goes.values.came w.0 w.1 w.2 ∙ (ap (λ (v : ℕ). list_any
-        (is_arrival v) calls) w.3 ∙ h)))) (arrived_none u a d.0).2)
-  ]
+  new_arrival u calls a b k d = never (list_any (is_arrival u) calls) (λ h. let w = k.goes.values.came_in u h in
+      true_or_false (has_arrived u a.incoming) (any_from (λ (e : Edge). (e.value == u) && e.passed) a.incoming w.0 w.1 w.2
+      (and_from (w.1.value == u) w.1.passed (eq-eqb w.1.value u w.3) (k.goes.values.came w.0 w.1 w.2 ∙ (ap (λ (v : ℕ). list_any
+      (is_arrival v) calls) w.3 ∙ h)))) (arrived_none u a d.0).2)
 
 -- ---- all parts
 at_here : (c : CallAt) (past : List CallAt) (p : ℕ) → c.part ≡ p → calls_at p (c ∷ past) ≡ c.call ∷ calls_at p past
@@ -176,10 +160,10 @@ at_part test q [] = refl
 at_part test q (c ∷ past) = (let r = at_part test q past in let n = count_next (λ (d : CallAt). test d.call && (d.part == q)) c past in
     elim (cases_eq c.part q) [
       | inl e ↦ (let m = count_next test c.call (calls_at q past) in let s = ap (count_where test) (at_here c past q e) in
-          let o = ap (λ (b : Bool). one (test c.call && b)) (eq-eqb c.part q e) in let b = ap one (and_true (test c.call)) in
+          let o = ap (λ (b : Bool). one (test c.call && b)) (eq-eqb c.part q e) in let b = ap one (and-true (test c.call)) in
           omega (arith, r, n, m, s, o, b))
       | inr e ↦ (let s = ap (count_where test) (at_other c past q e) in
-          let o = ap (λ (b : Bool). one (test c.call && b)) (ne_eqb c.part q e) in let b = ap one (and_false (test c.call)) in
+          let o = ap (λ (b : Bool). one (test c.call && b)) (ne_eqb c.part q e) in let b = ap one (and-false (test c.call)) in
           omega (arith, r, n, s, o, b))
     ])
 
@@ -220,10 +204,8 @@ once_at test g n p fresh [] a h = omega arith
 once_at test g n p fresh (c ∷ calls) b h = (let m = count_next test c calls in elim (cases_Bool (test c)) [
   | inr f ↦ (let o = ap one f in let r = once_at test g n p fresh calls h.0 h.1.0 in omega (arith, m, o, r))
   | inl t ↦ (let o = ap one t in let f = fresh c calls h.0 b t (knows g n p calls h.0 h.1.0) h.1.1 in
-      let z = count_zero test calls (λ k e i. elim (cases_Bool (test e)) [
-        | inr v ↦ ap one v
-        | inl v ↦ true_or_false (list_any test calls) (any_from test calls k e i v) f
-      ]) in omega (arith, m, o, z))
+      let z = count_zero test calls (λ k e i. ap one (never (test e) (λ v. true_or_false (list_any test calls)
+      (any_from test calls k e i v) f))) in omega (arith, m, o, z))
 ])
 
 -- If it is made at one part alone, it is made once in all.
@@ -234,11 +216,7 @@ once test g n calls h fresh one_part = elim (same_or (times test calls) 0) [
   | inl z ↦ omega (arith, z)
   | inr o ↦ (let f = find_one (λ (c : CallAt). test c.call) calls o in let m = made test calls f.0 f.1 f.2 f.3 in
       let s = count_same (λ (c : CallAt). test c.call) (λ (c : CallAt). test c.call && (c.part == f.1.part)) calls (λ k c i.
-      elim (cases_Bool (test c.call)) [
-        | inl t ↦ t ∙ sym (and_from (test c.call) (c.part == f.1.part) t (eq-eqb c.part f.1.part (one_part c.part f.1.part
-            (made test calls k c i t) m)))
-        | inr v ↦ v ∙ sym (ap (λ (b : Bool). b && (c.part == f.1.part)) v)
-      ]) in
+      and_same (test c.call) (c.part == f.1.part) (λ t. eq-eqb c.part f.1.part (one_part c.part f.1.part (made test calls k c i t) m))) in
       let a = at_part test f.1.part calls in
       let l = once_at test g n f.1.part (fresh f.1.part) (calls_at f.1.part calls) (h.parts f.1.part).0 (h.parts f.1.part).1 in
       omega (arith, s, a, l))
@@ -286,6 +264,7 @@ module _ (g : Graph) (n : ℕ) (calls : List CallAt) (h : IsRun g n calls) where
       ))
 
 pub each_once : EachOnce
+unfolding EachOnce
 each_once g n calls h = (
   record {
     run = λ t. once (is_run t) g n calls h (λ p c cs a b i k d. new_run g n p t cs a b k (subst (λ (e : Call). Does g e a b)
@@ -310,6 +289,7 @@ carried_at u p (c ∷ past) carried h = (let s : WasSent u p past = elim (has_ca
 ] in (s.0, has_more (is_send u p) c past s.0 s.1))
 
 pub after_its_inputs : AfterItsInputs
+unfolding AfterItsInputs
 after_its_inputs g n past p t u h input = (let c : CallAt = record { part = p; call = Ran t } in let r = tail_of g n c past h in
     let x = head_of g n c past h in
     let k = knows g n p (calls_at p past) x.0 x.2 in go x.0 x.1 r k x.3)
@@ -343,6 +323,7 @@ newest_leads g n p c [] b h l = cc
 newest_leads g n p c (d ∷ calls) b h l = (l.0, subst (λ (e : Call). Does g e l.0 b) (some_same d c h) l.1.1)
 
 pub may_leave : MayLeave
+unfolding MayLeave
 may_leave g n calls p u h stop sent = (let k = knows_at g n calls p h in let r = h.parts p in
     let d = newest_leads g n p Stopped (calls_at p calls) r.0 stop r.1 in let b = d.1.2 in
     let s = sent_at g n calls h sent.0 u p sent.1 in
@@ -409,7 +390,7 @@ module _ (g : Graph) (n : ℕ) (calls : List CallAt) (some : 1 ≤ n) (h : IsRun
       → ((o u : ℕ) → u < t → Owns g o u → Has o (is_end u) calls) → (s : Stage) → x.stage ≡ s → Has p (is_end t) calls
   is_ended p t k x own is l before stage.Done e = sym ((at p).goes.tasks.at k t x own is).1 ∙ ap is_done e
   is_ended p t k x own is l before stage.Running e = settled.ended p t
-      (not_false (list_any (is_run t) (calls_at p calls)) (sym ((at p).goes.tasks.at k t x own is).0 ∙ ap is_fresh e))
+      (not-false (list_any (is_run t) (calls_at p calls)) (sym ((at p).goes.tasks.at k t x own is).0 ∙ ap is_fresh e))
   is_ended p t k x own is l before stage.Fresh e = elim (rests p l).idle [
     | inr done ↦ (let c : stage.Fresh ≡ stage.Done = sym e ∙ done k x is in cc)
     | inl none_ready ↦ absurd (none_ready k (record {
@@ -459,9 +440,9 @@ pub never_silent : NeverSilent
 never_silent g n calls some h settled last = ended_all g n calls some h settled last
 
 -- ---- sums
-sum_ones : (m : ℕ) → sum_below (λ k. 1) m ≡ m
-sum_ones zero = refl
-sum_ones (suc m) = (let r = sum_ones m in omega (arith, r))
+sum_twice : (f : ℕ → ℕ) (m : ℕ) → sum_below (λ u. 2 + 2 * f u) m ≡ 2 * (m + sum_below f m)
+sum_twice f zero = refl
+sum_twice f (suc m) = (let r = sum_twice f m in omega (arith, r))
 
 sum_tests : (test : ℕ → Bool) (m : ℕ) → sum_below (λ k. one (test k)) m ≤ count_below test m
 sum_tests test zero = omega arith
@@ -492,27 +473,14 @@ module _ (kind : CallAt → Bool) (key : CallAt → ℕ) (f : ℕ → ℕ) (xs :
       let r = below_few m in let l = few m in omega (arith, s, r, l))
 
   keyed : (m : ℕ) → ((i : ℕ) (x : CallAt) → slice_get xs i ≡ Some x → kind x ≡ true → key x < m) → count_where kind xs ≤ sum_below f m
-  keyed m low = (let r = below_few m in let s = count_same kind (λ x. kind x && nat_lt (key x) m) xs (λ i x e. elim (cases_Bool (kind x)) [
-    | inl t ↦ (let l = low i x e t in t ∙ sym (and_from (kind x) (nat_lt (key x) m) t (grind (arith, nat_tests, l))))
-    | inr n ↦ n ∙ sym (ap (λ (b : Bool). b && nat_lt (key x) m) n)
-  ]) in omega (arith, r, s))
+  keyed m low = (let r = below_few m in let s = count_same kind (λ x. kind x && nat_lt (key x) m) xs (λ i x e.
+      and_same (kind x) (nat_lt (key x) m) (λ t. let l = low i x e t in grind (arith, nat_tests, l))) in omega (arith, r, s))
 
 -- ---- kinds of calls
-abbrev runs_any : Call → Bool
-runs_any (Ran t) = true
-runs_any _ = false
-
-abbrev ends_any : Call → Bool
-ends_any (Ended t) = true
-ends_any _ = false
-
-abbrev sends_any : Call → Bool
-sends_any (Sent u q) = true
-sends_any _ = false
-
-abbrev comes_any : Call → Bool
-comes_any (Came u) = true
-comes_any _ = false
+-- a message with the value of task u is sent
+abbrev sends : ℕ → Call → Bool
+sends u (Sent v q) = v == u
+sends u _ = false
 
 abbrev task_of : Call → ℕ
 task_of (Ran t) = t
@@ -525,34 +493,28 @@ abbrev target_of : ℕ → Call → ℕ
 target_of p (Sent u q) = q
 target_of p _ = p
 
-split_all : (calls : List CallAt) → times is_progress calls ≤ times runs_any calls + times ends_any calls + times sends_any calls + times
-    comes_any calls
-split_all [] = omega arith
-split_all (c ∷ past) = (let s = split c.call in let r = split_all past in
-    let a = count_next (λ (d : CallAt). is_progress d.call) c past in let b = count_next (λ (d : CallAt). runs_any d.call) c past in
-    let e = count_next (λ (d : CallAt). ends_any d.call) c past in let f = count_next (λ (d : CallAt). sends_any d.call) c past in
-    let h = count_next (λ (d : CallAt). comes_any d.call) c past in omega (arith, s, r, a, b, e, f, h))
+split_all : (u : ℕ) (calls : List CallAt) → count_where (λ (c : CallAt). is_progress c.call && (task_of c.call == u)) calls
+    ≡ times (is_run u) calls + times (is_end u) calls + times (sends u) calls + times (is_arrival u) calls
+split_all u [] = omega arith
+split_all u (c ∷ past) = (let s = split c.call in let r = split_all u past in
+    let a = count_next (λ (d : CallAt). is_progress d.call && (task_of d.call == u)) c past in
+    let b = count_next (λ (d : CallAt). is_run u d.call) c past in let e = count_next (λ (d : CallAt). is_end u d.call) c past in
+    let f = count_next (λ (d : CallAt). sends u d.call) c past in let h = count_next (λ (d : CallAt). is_arrival u d.call) c past in
+    omega (arith, s, r, a, b, e, f, h))
   where
-    split : (c : Call) → one (is_progress c) ≤ one (runs_any c) + one (ends_any c) + one (sends_any c) + one (comes_any c)
+    split : (c : Call) → one (is_progress c && (task_of c == u))
+        ≡ one (is_run u c) + one (is_end u c) + one (sends u c) + one (is_arrival u c)
     split (Ran t) = omega arith
     split (Ended t) = omega arith
-    split (Sent u q) = omega arith
-    split (Came u) = omega arith
+    split (Sent v q) = omega arith
+    split (Came v) = omega arith
     split _ = omega arith
 
-run_test : (t : ℕ) (c : Call) → is_run t c ≡ (runs_any c && (task_of c == t))
-run_test t (Ran u) = refl
-run_test t _ = refl
-
-end_test : (t : ℕ) (c : Call) → is_end t c ≡ (ends_any c && (task_of c == t))
-end_test t (Ended u) = refl
-end_test t _ = refl
-
-send_test : (u q p : ℕ) (c : Call) → is_send u q c ≡ ((sends_any c && (task_of c == u)) && (target_of p c == q))
+send_test : (u q p : ℕ) (c : Call) → is_send u q c ≡ (sends u c && (target_of p c == q))
 send_test u q p (Sent v r) = refl
 send_test u q p _ = refl
 
-come_test : (u q p : ℕ) (c : Call) → (is_arrival u c && (p == q)) ≡ ((comes_any c && (task_of c == u)) && (target_of p c == q))
+come_test : (u q p : ℕ) (c : Call) → (is_arrival u c && (p == q)) ≡ (is_arrival u c && (target_of p c == q))
 come_test u q p (Came v) = refl
 come_test u q p _ = refl
 
@@ -567,59 +529,52 @@ is_message g p q u t own apart reader input = and_from (reads g q u) (not (owned
 
 module _ (g : Graph) (n : ℕ) (calls : List CallAt) (h : IsRun g n calls) where
   few : AreOnce calls
+  unfolding EachOnce
   few = (each_once g n calls h).0
 
-  -- what happens once for each task
-  tasks_few : (kind : Call → Bool) (test : ℕ → Call → Bool) → ((t : ℕ) (c : Call) → test t c ≡ (kind c && (task_of c == t)))
-      → ((p t : ℕ) → Has p (test t) calls → Owns g p t) → ((t : ℕ) → times (test t) calls ≤ 1) → times kind calls ≤ length g
-  tasks_few kind test same owns once = (let k = keyed (λ c. kind c.call) (λ c. task_of c.call) (λ t. 1) calls
-      (λ t. let s = count_same (λ (c : CallAt). test t c.call) (λ c. kind c.call && (task_of c.call == t)) calls
-      (λ i c e. same t c.call) in let o = once t in omega (arith, s, o)) (length g)
-      (λ i c e t. owned_within g c.part (task_of c.call) (owns c.part (task_of c.call) (made (test (task_of c.call)) calls i c e
-      (same (task_of c.call) c.call ∙ and_from (kind c.call) (task_of c.call == task_of c.call) t
-      (eq-eqb (task_of c.call) (task_of c.call) refl))))) in
-      let s = sum_ones (length g) in omega (arith, k, s))
+  -- a message that was sent is one of the graph, and so is one that arrived
+  is_one : (p u q : ℕ) → Has p (is_send u q) calls → (u < length g) × ((q < n) × (goes g u q ≡ true))
+  is_one p u q m = (let s = sent_at g n calls h p u q m in (owned_within g p u s.0, (s.4, is_message g p q u s.2.0 s.0 s.1 s.2.1 s.2.2)))
 
-  -- a message that was sent is one of the graph
-  is_one : (p u q : ℕ) → Has p (is_send u q) calls → (u < length g) × (q < n) × (goes g u q ≡ true)
-  is_one p u q m = (let s = sent_at g n calls h p u q m in (owned_within g p u s.0, s.4, is_message g p q u s.2.0 s.0 s.1 s.2.1 s.2.2))
+  came_one : (p u : ℕ) → Has p (is_arrival u) calls → (u < length g) × ((p < n) × (goes g u p ≡ true))
+  came_one p u i = (let m = carried_at u p calls h.carried i in is_one m.0 u p m.1)
 
-  -- what happens once for each message
-  messages_few : (kind : Call → Bool) (test : ℕ → ℕ → CallAt → Bool)
-      → ((u q : ℕ) (c : CallAt) → test u q c ≡ ((kind c.call && (task_of c.call == u)) && (target_of c.part c.call == q)))
-      → ((i u q : ℕ) (c : CallAt) → slice_get calls i ≡ Some c → test u q c ≡ true → (u < length g) × (q < n) × (goes g u q ≡ true))
-      → ((u q : ℕ) → count_where (test u q) calls ≤ 1) → times kind calls ≤ messages g n
-  messages_few kind test same are once = keyed (λ c. kind c.call) (λ c. task_of c.call) (λ u. count_below (goes g u) n) calls
-      (λ u. let k = keyed (λ c. kind c.call && (task_of c.call == u)) (λ c. target_of c.part c.call) (λ q. one (goes g u q)) calls (each u) n
-      (λ i c e t. (are i u (target_of c.part c.call) c e (passes u c t)).1) in
-      let s = sum_tests (goes g u) n in omega (arith, k, s)) (length g)
-      (λ i c e t. (are i (task_of c.call) (target_of c.part c.call) c e (passes (task_of c.call) c (and_from (kind c.call)
-      (task_of c.call == task_of c.call) t (eq-eqb (task_of c.call) (task_of c.call) refl)))).0)
+  low : (p : ℕ) (c : Call) → ((test : Call → Bool) → test c ≡ true → Has p test calls) → is_progress c ≡ true → task_of c < length g
+  low p (Ran t) m i = owned_within g p t (owns_run g n calls h p t (m (is_run t) (eq-eqb t t refl)))
+  low p (Ended t) m i = owned_within g p t (owns_end g n calls h p t (m (is_end t) (eq-eqb t t refl)))
+  low p (Sent u q) m i = (is_one p u q (m (is_send u q) (and_from (u == u) (q == q) (eq-eqb u u refl) (eq-eqb q q refl)))).0
+  low p (Came u) m i = (came_one p u (m (is_arrival u) (eq-eqb u u refl))).0
+  low p _ m i = absurd (false≢true i)
+
+  -- what happens once for each message with the value of task u
+  messages_few : (u : ℕ) (kind : Call → Bool) (test : ℕ → CallAt → Bool)
+      → ((q : ℕ) (c : CallAt) → test q c ≡ (kind c.call && (target_of c.part c.call == q)))
+      → ((i q : ℕ) (c : CallAt) → slice_get calls i ≡ Some c → test q c ≡ true → (q < n) × (goes g u q ≡ true))
+      → ((q : ℕ) → count_where (test q) calls ≤ 1) → times kind calls ≤ count_below (goes g u) n
+  messages_few u kind test same are once = (let k = keyed (λ c. kind c.call) (λ c. target_of c.part c.call) (λ q. one (goes g u q)) calls
+      each n (λ i c e t. (are i (target_of c.part c.call) c e (same (target_of c.part c.call) c ∙ and_from (kind c.call)
+      (target_of c.part c.call == target_of c.part c.call) t (eq-eqb (target_of c.part c.call) (target_of c.part c.call) refl))).0) in
+      let s = sum_tests (goes g u) n in omega (arith, k, s))
     where
-      passes : (u : ℕ) (c : CallAt) → (kind c.call && (task_of c.call == u)) ≡ true → test u (target_of c.part c.call) c ≡ true
-      passes u c t = same u (target_of c.part c.call) c ∙ and_from (kind c.call && (task_of c.call == u))
-          (target_of c.part c.call == target_of c.part c.call) t (eq-eqb (target_of c.part c.call) (target_of c.part c.call) refl)
-
-      each : (u q : ℕ) → count_where (λ (c : CallAt). (kind c.call && (task_of c.call == u)) && (target_of c.part c.call == q)) calls
-          ≤ one (goes g u q)
-      each u q = (let s = count_same (test u q) (λ c. (kind c.call && (task_of c.call == u)) && (target_of c.part c.call == q)) calls
-          (λ i c e. same u q c) in elim (cases_Bool (goes g u q)) [
-            | inl t ↦ (let o = ap one t in let l = once u q in omega (arith, s, l, o))
-            | inr f ↦ (let z = count_zero (test u q) calls (λ i c e. elim (cases_Bool (test u q c)) [
-              | inr y ↦ ap one y
-              | inl y ↦ true_or_false (goes g u q) (are i u q c e y).2 f
-            ]) in omega (arith, s, z))
+      each : (q : ℕ) → count_where (λ (c : CallAt). kind c.call && (target_of c.part c.call == q)) calls ≤ one (goes g u q)
+      each q = (let s = count_same (test q) (λ c. kind c.call && (target_of c.part c.call == q)) calls (λ i c e. same q c) in
+          elim (cases_Bool (goes g u q)) [
+            | inl t ↦ (let o = ap one t in let l = once q in omega (arith, s, l, o))
+            | inr f ↦ (let z = count_zero (test q) calls (λ i c e. ap one (never (test q c) (λ y. true_or_false (goes g u q)
+                (are i q c e y).1 f))) in omega (arith, s, z))
           ])
 
+  -- the calls of progress about task u
+  of_task : (u : ℕ) → count_where (λ (c : CallAt). is_progress c.call && (task_of c.call == u)) calls ≤ 2 + 2 * count_below (goes g u) n
+  of_task u = (let s = split_all u calls in let a = few.run u in let b = few.ended u in
+      let c = messages_few u (sends u) (λ q c. is_send u q c.call) (λ q c. send_test u q c.part c.call)
+      (λ i q c e t. (is_one c.part u q (made (is_send u q) calls i c e t)).1) (few.sent u) in
+      let d = messages_few u (is_arrival u) (λ q c. is_arrival u c.call && (c.part == q)) (λ q c. come_test u q c.part c.call)
+      (λ i q c e t. let y = and_parts (is_arrival u c.call) (c.part == q) t in subst (λ (r : ℕ). (r < n) × (goes g u r ≡ true))
+      (eqb-true c.part q y.1) (came_one c.part u (made (is_arrival u) calls i c e y.0)).1)
+      (λ q. let a = few.arrived u q in let b = at_part (is_arrival u) q calls in omega (arith, a, b)) in omega (arith, s, a, b, c, d))
+
 pub all_end : AllEnd
-all_end g n calls h = (let s = split_all calls in let one_few = few g n calls h in
-    let a = tasks_few g n calls h runs_any is_run run_test (owns_run g n calls h) one_few.run in
-    let b = tasks_few g n calls h ends_any is_end end_test (owns_end g n calls h) one_few.ended in
-    let c = messages_few g n calls h sends_any (λ u q c. is_send u q c.call) (λ u q c. send_test u q c.part c.call)
-    (λ i u q c e t. is_one g n calls h c.part u q (made (is_send u q) calls i c e t)) one_few.sent in
-    let d = messages_few g n calls h comes_any (λ u q c. is_arrival u c.call && (c.part == q)) (λ u q c. come_test u q c.part c.call)
-    (λ i u q c e t. let y = and_parts (is_arrival u c.call) (c.part == q) t in let m = carried_at u c.part calls h.carried
-    (made (is_arrival u) calls i c e y.0) in is_one g n calls h m.0 u q (ap (λ (r : ℕ). list_any (is_send u r) (calls_at m.0 calls))
-    (sym (eqb-true c.part q y.1)) ∙ m.1)) (λ u q. let a = one_few.arrived u q in let b = at_part (is_arrival u) q calls in
-    omega (arith, a, b)) in
-    omega (arith, s, a, b, c, d))
+all_end g n calls h = (let k = keyed (λ c. is_progress c.call) (λ c. task_of c.call) (λ u. 2 + 2 * count_below (goes g u) n) calls
+    (of_task g n calls h) (length g) (λ i c e t. low g n calls h c.part c.call (λ test r. made test calls i c e r) t) in
+    let s = sum_twice (λ u. count_below (goes g u) n) (length g) in omega (arith, k, s))

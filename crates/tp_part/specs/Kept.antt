@@ -20,9 +20,6 @@ pub record AreAwaited (es : List Edge) (tasks : List Entry) : Type 0 where
   pub within : (n : ℕ) (e : Edge) → slice_get es n ≡ Some e → e.target < length tasks
   pub counted : (k : ℕ) (x : Entry) → slice_get tasks k ≡ Some x → x.outside ≡ count_where (is_awaited_at k) es
 
-abbrev pub NonePassed : ℕ → List Edge → Type 0
-NonePassed u es = (n : ℕ) (e : Edge) → slice_get es n ≡ Some e → e.value ≡ u → IsFalse e.passed
-
 abbrev pub progress_of : Entry → Progress
 progress_of x = record { class = x.class; stage = x.stage }
 
@@ -68,11 +65,14 @@ pub record AreNumbers (numbers : List ℕ) (described : ℕ) : Type 0 where
   pub few_tasks : described ≤ MAX_TASKS
   pub few_own : length numbers ≤ described
 
+-- The edges of a value were passed all or none.
+abbrev pub AreAlike : List Edge → Type 0
+AreAlike es = (n m : ℕ) (d e : Edge) → slice_get es n ≡ Some d → slice_get es m ≡ Some e → d.value ≡ e.value → d.passed ≡ e.passed
+
 -- Incoming values: the edges of one arrived all or none.
 pub record AreIncoming (started : Bool) (tasks : List Entry) (incoming : List Edge) : Type 0 where
   pub awaited : AreAwaited incoming tasks
-  pub alike : (n m : ℕ) (d e : Edge) → slice_get incoming n ≡ Some d → slice_get incoming m ≡ Some e → d.value ≡ e.value
-      → d.passed ≡ e.passed
+  pub alike : AreAlike incoming
   pub none_arrived : IsFalse started → (n : ℕ) (e : Edge) → slice_get incoming n ≡ Some e → IsFalse e.passed
 
 -- Outgoing values: the messages of done tasks were posted.

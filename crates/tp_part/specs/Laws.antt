@@ -121,7 +121,7 @@ pub record AreOnce (calls : List CallAt) : Type 0 where
   pub sent : (u q : ℕ) → times (is_send u q) calls ≤ 1
   pub arrived : (u q : ℕ) → count_where (is_arrival u) (calls_at q calls) ≤ 1
 
-abbrev pub EachOnce : Type 0
+unfoldable pub EachOnce : Type 0
 EachOnce = (g : Graph) (n : ℕ) (calls : List CallAt) → IsRun g n calls
     → AreOnce calls × ((p t : ℕ) → Has p (is_run t) calls → Owns g p t)
 
@@ -134,7 +134,7 @@ pub record IsHere (g : Graph) (calls : List CallAt) (p u : ℕ) : Type 0 where
   pub here : (owner ≡ p) ⊎ Has p (is_arrival u) calls
 
 -- A task is run only after each task that it reads is done, and its value is at the part.
-abbrev pub AfterItsInputs : Type 0
+unfoldable pub AfterItsInputs : Type 0
 AfterItsInputs = (g : Graph) (n : ℕ) (past : List CallAt) (p t u : ℕ) → IsRun g n (record { part = p; call = Ran t } ∷ past)
     → HasInput g t u
     → IsHere g past p u
@@ -146,7 +146,7 @@ newest_of (c ∷ past) = Some c
 
 -- If the newest call at a part returned `Over`, each message that any part was told to send to it, before or after, arrived: none is in
 -- flight to it.
-abbrev pub MayLeave : Type 0
+unfoldable pub MayLeave : Type 0
 MayLeave = (g : Graph) (n : ℕ) (calls : List CallAt) (p u : ℕ) → IsRun g n calls → newest_of (calls_at p calls) ≡ Some Stopped
     → WasSent u p calls → Has p (is_arrival u) calls
 

@@ -1,9 +1,11 @@
 //! Edges of the graph that cross parts: which value goes where. The edges of a value are a chain, from the newest to the oldest.
 ghost use Rattle.std.specs.Prelude.{◌≡◌, ◌==◌, ◌≤◌, ◌<◌, ◌+◌, ◌++◌, ◌∷◌, [], ℕ, length, take, OnOk, OnErr, slice_get, slice_set, Some};
-ghost use Rattle.std.specs.Prelude.{if◌then◌else◌};
+ghost use Rattle.std.specs.Prelude.{if◌then◌else◌, IfSome, IfNone, true, false};
 ghost use Rattle.tp_dag.specs.declared.limits.TheConstants.{MAX_INPUTS};
 ghost use Rattle.tp_part.specs.Edges.{newest, has_edge, new_edge, pass_one};
 ghost use Rattle.tp_part.specs.Chains.{head};
+ghost use Rattle.tp_part.specs.Calls.{is_read, has_arrived};
+ghost use Rattle.tp_part.specs.Kept.{AreAlike};
 
 use std::alloc::{AllocError, Global};
 use std::collections::BTreeMap;
@@ -115,6 +117,19 @@ impl Edges {
         self.older[place as usize]
     }
 
+    /// Returns whether the value of another part arrived, if it has an edge.
+    pub(crate) fn has_arrived(&self, value: u32) -> Option<bool>
+        requires { AreAlike self.now }
+        ensures none { IfNone result (is_read value self.now ≡ false) }
+        ensures some { IfSome result (λ b. (is_read value self.now ≡ true) × (has_arrived value self.now ≡ b)) }
+    {
+        let newest = self.newest(value);
+        if newest == 0 {
+            return None;
+        }
+        Some(self.at(newest - 1).passed)
+    }
+
     /// Passes the value on along an edge.
     #[inline]
     pub(crate) fn pass(&mut self, place: u32)
@@ -177,10 +192,12 @@ impl Edges {
         requires { 1 ≤ length self.old }
         ensures { (e : Edge) × (self.old ≡ self.new ++ e ∷ []) }
     {
-        let place = self.items.len() - 1;
-        let edge = self.items[place];
-        set_head(&mut self.newest, edge.value, self.older[place]);
-        self.older.truncate(place);
-        self.items.truncate(place);
+        let Some(edge) = self.items.pop() else {
+            unreachable!()
+        };
+        let Some(older) = self.older.pop() else {
+            unreachable!()
+        };
+        set_head(&mut self.newest, edge.value, older);
     }
 }

@@ -2,16 +2,19 @@
 ghost use Rattle.tp_part.specs.Laws.{AfterItsInputs, AllEnd, EachOnce, MayLeave, NeverSilent};
 
 /// Over all parts, each task is run at most once, at the part that owns it; each message is sent at most once, and arrives at most once.
+#[tactic(auto, using(crate::proofs::Theorems::each_once))]
 pub fn each_once()
     ensures { EachOnce }
 {}
 
 /// A task is run only after each task that it reads is done at its owner, and its value arrived if that is another part.
+#[tactic(auto, using(crate::proofs::Theorems::after_its_inputs))]
 pub fn after_its_inputs()
     ensures { AfterItsInputs }
 {}
 
 /// If the newest call at a part returned `Over`, no message is in flight to it, and none will be sent: it may leave.
+#[tactic(auto, using(crate::proofs::Theorems::may_leave))]
 pub fn may_leave()
     ensures { MayLeave }
 {}

@@ -3,9 +3,8 @@
 ghost use Rattle.std.specs.Prelude.{◌≡◌, ◌⊎◌, ℕ, true, IfOk, IfErr, IfSome, IfNone, OnOk, OnErr, Ok, Err, Some, None, IsTrue, IsFalse};
 ghost use Rattle.tp_base.specs.Checks.{first_refusal};
 ghost use Rattle.tp_part.specs.Calls.{new_part, task_checks, start_checks, next_checks, done_checks, arrived_checks, MayDescribe};
-ghost use Rattle.tp_part.specs.Calls.{with_task, with_own, with_foreign, with_arrival, Runs, Sends, IsWaiting, Ends};
+ghost use Rattle.tp_part.specs.Calls.{with_task, with_own, with_foreign, with_arrival, has_arrived, Runs, Sends, IsWaiting, Ends};
 ghost use Rattle.tp_part.specs.Calls.{IsOver as IsAtEnd};
-ghost use Rattle.tp_part.specs.Kept.{NonePassed};
 ghost use Rattle.tp_dag.specs.Calls.{IsDispatched};
 ghost use Rattle.tp_dag.specs.State.{IsReady, IsOver};
 ghost use Rattle.tp_dag.specs.declared.pool.Next.TheVariants as PoolNext;
@@ -295,16 +294,15 @@ impl Part {
     // the first check of `arrived` that holds
     fn arrival_refusal(&self, task: u32) -> Option<Refusal>
         ensures refusal { result ≡ first_refusal (arrived_checks self.now task) }
-        ensures may { IfNone result (IsTrue self.now.started × NonePassed task self.now.incoming) }
+        ensures may { IfNone result (IsTrue self.now.started × IsFalse (has_arrived task self.now.incoming)) }
     {
         if !self.pool.is_started() {
             return Some(Refusal::WrongLife);
         }
-        let newest = self.incoming.newest(task);
-        if newest == 0 {
+        let Some(arrived) = self.incoming.has_arrived(task) else {
             return Some(Refusal::NoTask);
-        }
-        if self.incoming.at(newest - 1).passed {
+        };
+        if arrived {
             return Some(Refusal::WrongLife);
         }
         None

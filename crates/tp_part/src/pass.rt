@@ -1,9 +1,10 @@
 //! A value is passed on along its edges: to own tasks that wait for it, or to the messages that are due.
-ghost use Rattle.std.specs.Prelude.{◌≡◌, ◌≤◌, ◌+◌, ◌++◌, length};
+ghost use Rattle.std.specs.Prelude.{◌≡◌, ◌≤◌, ◌+◌, ◌++◌, length, false};
 ghost use Rattle.std.specs.Vec.{vec_capacity};
 ghost use Rattle.tp_dag.specs.Calls.{Awaits, Becomes, one_less};
 ghost use Rattle.tp_part.specs.Edges.{pass, places};
-ghost use Rattle.tp_part.specs.Kept.{AreAwaited, NonePassed, SameBut};
+ghost use Rattle.tp_part.specs.Calls.{has_arrived};
+ghost use Rattle.tp_part.specs.Kept.{AreAwaited, SameBut};
 
 use crate::edges::Edges;
 use tp_dag::Pool;
@@ -19,7 +20,7 @@ fn release(pool: &mut Pool, task: u32)
 /// A value of another part arrived: each own task that reads it waits for one input less.
 pub(crate) fn release_readers(incoming: &mut Edges, pool: &mut Pool, value: u32)
     requires awaited { AreAwaited incoming.old pool.old.tasks }
-    requires fresh { NonePassed value incoming.old }
+    requires fresh { has_arrived value incoming.old ≡ false }
     ensures passed { incoming.new ≡ pass value incoming.old }
     ensures awaited { AreAwaited incoming.new pool.new.tasks }
     ensures same { SameBut pool.old pool.new }

@@ -48,9 +48,6 @@ carried_less e k (suc j) (d ∷ cs) c at =
 abbrev Balance : ℕ → ℕ → List Carried → World → Type 0
 Balance e k cs x = carried_to e k cs + reach (x.at k) ≤ sent_to k x.controls + gap (x.at k)
 
-same_takes : (p r : EpochState) → Recounts p r → Takes p r 0
-same_takes p r e = subst (λ z. Takes p z 0) (sym e) (omega arith)
-
 module _ (n : ℕ) (e k : ℕ) (cs : List Carried) (x : World) (b : Balance e k cs x) where
   moved_balance : (i : ℕ) → Balance e k (with_sent e (moved (x.at i)).next cs) (does n x i Moves)
   moved_balance i =
@@ -68,7 +65,7 @@ module _ (n : ℕ) (e k : ℕ) (cs : List Carried) (x : World) (b : Balance e k 
   count_balance i z c =
       let same : reach (put i c.new x.at k) + gap (x.at k) ≤ reach (x.at k) + gap (put i c.new x.at k)
       = put_holds (λ j z. reach z + gap (x.at j) ≤ reach (x.at j) + gap z) i k c.new x.at
-      (λ d. rw d (omega (arith, same_takes (x.at i) c.new c.same))) (λ off. omega arith) in
+      (λ d. rw d (omega (arith, subst (λ (p : EpochState). Takes (x.at i) p 0) (sym c.same) (omega arith)))) (λ off. omega arith) in
       let now : carried_to e k cs + reach (put i c.new x.at k) ≤ sent_to k x.controls + gap (put i c.new x.at k) = omega (arith, b, same) in
       subst (λ f. carried_to e k cs + reach (f k) ≤ sent_to k z.controls + gap (f k)) (sym c.at)
       (subst (λ ls. carried_to e k cs + reach (put i c.new x.at k) ≤ sent_to k ls + gap (put i c.new x.at k)) (sym c.controls) now)
@@ -78,23 +75,18 @@ module _ (n : ℕ) (e k : ℕ) (cs : List Carried) (x : World) (b : Balance e k 
       let l : ControlMessage = c.message in
       let p : EpochState = x.at l.to in
       let less = carried_less e k j cs c at in
+      let due : bit (eqb c.epoch e && eqb l.to k) ≡ bit (eqb l.to k) = ap (λ z. bit (z && eqb l.to k)) (eq-eqb c.epoch e here) in
       cond_both (ltb l.to n) (record x { at = put l.to (took l p) x.at }) x (Balance e k (without j cs)) (λ t.
       let one : Takes p (took l p) 1 = cond_both (is_for l p) (takes l.from l.wave l.token p) p (λ z. Takes p z 1)
       (λ m. takes_takes l.from l.wave l.token p) (λ m. omega arith) in
-      elim (cases_eq k l.to) [
-        | inl d ↦
-            let due : bit (eqb c.epoch e && eqb c.message.to k) ≡ 1 = rw (eq-eqb c.epoch e here, eq-eqb c.message.to k (sym d)) refl in
-            put_holds (λ i z. i ≡ l.to → carried_to e k (without j cs) + reach z ≤ sent_to k x.controls + gap z) l.to k (took l p) x.at
-            (λ m h.
-            omega (arith, one, less, due, subst (λ i. carried_to e k cs + reach (x.at i) ≤ sent_to k x.controls + gap (x.at i)) d b))
-            (λ off h. absurd (off h)) d
-        | inr off ↦
-            put_holds (λ i z. i ≡ k → carried_to e k (without j cs) + reach z ≤ sent_to k x.controls + gap z) l.to k (took l p) x.at
-            (λ m h. absurd (off m)) (λ m h. omega (arith, less, b)) refl
-      ]) (λ t. omega (arith, less, b))
-
-  gone_balance : (j : ℕ) (c : Carried) → carried_at cs j ≡ Some c → Balance e k (without j cs) x
-  gone_balance j c at = omega (arith, carried_less e k j cs c at, b)
+      omega (
+        arith,
+        b,
+        less,
+        due,
+        put_holds (λ i z. reach z + gap (x.at i) ≤ reach (x.at i) + gap z + bit (eqb l.to i)) l.to k (took l p) x.at
+            (λ d. rw d (omega (arith, one, ap bit (eq-eqb l.to l.to refl)))) (λ off. omega arith),
+      )) (λ t. omega (arith, less, b))
 
 -- ==== A network and the events of its epochs.
 -- A control message is on its way, or is never taken again.
@@ -127,27 +119,21 @@ agree_on n controls cs o all g =
 abbrev Kind : ℕ → Network → World → ℕ → Act → Type 0
 Kind n s x i a = ((ltb i n ≡ true) × (a ≡ Moves)) ⊎ ((carried_after n s i a ≡ s.carried) × IsCount i x (happens n x (Does i a)))
 
-silent : (n : ℕ) (s : Network) (x : World) (i : ℕ) (a : Act) → (a ≡ Moves → ⊥) → carried_after n s i a ≡ s.carried → Kind n s x i a
-silent n s x i a off none =
-    elim (does_counts n x i a) [
-      | inl e ↦ absurd (off e)
-      | inr c ↦
-          inr (
-            none,
-            cond_both (ltb i n) (does n x i a) x (IsCount i x) (λ t. c)
-                (λ t. record { new = x.at i; same = refl; at = sym (put_id i x.at); controls = refl }),
-          )
-    ]
-
 kind : (n : ℕ) (s : Network) (x : World) (i : ℕ) (a : Act) → Kind n s x i a
-kind n s x i Opens = silent n s x i Opens (λ e. absurd (cc e)) refl
-kind n s x i Closes = silent n s x i Closes (λ e. absurd (cc e)) refl
-kind n s x i (Sends j) = silent n s x i (Sends j) (λ e. absurd (cc e)) refl
-kind n s x i Receives = silent n s x i Receives (λ e. absurd (cc e)) refl
 kind n s x i Moves =
     elim (cases_Bool (ltb i n)) [
       | inl t ↦ inl (t, refl)
       | inr t ↦ inr (rw t refl, rw t (record { new = x.at i; same = refl; at = sym (put_id i x.at); controls = refl }))
+    ]
+kind n s x i a =
+    elim (does_counts n x i a) [
+      | inl e ↦ absurd (cc e)
+      | inr c ↦
+          inr (
+            refl,
+            cond_both (ltb i n) (does n x i a) x (IsCount i x) (λ t. c)
+                (λ t. record { new = x.at i; same = refl; at = sym (put_id i x.at); controls = refl }),
+          )
     ]
 
 -- One more control message was sent, in epoch e.
@@ -336,7 +322,7 @@ module _ (n : ℕ) (s : Network) (f : Follows n s) where
             = ap (λ (z : Epochs). z.controls e) f.same ∙ ap (λ u. (epochs_after n f.all).controls u) d ∙ (epochs n f.all g).controls in
             subst (λ m2. Balance g m (without k s.carried) (came n x m2)) (sym (subst (λ ls. control_at ls h.which ≡ Some l) lists h.there))
             (came_balance n g m s.carried x (f.balance g m less) k c at d))
-            (λ b. gone_balance n g m s.carried x (f.balance g m less) k c at);
+            (λ b. omega (arith, carried_less g m k s.carried c at, f.balance g m less));
       })
 
 flat : (b : Bool) (z : ℕ) → cond b z z ≡ z
@@ -355,37 +341,16 @@ follows n few (Acts i a ∷ past) = acts_follow n (network n past) (follows n fe
 follows n few (Restarts i ∷ past) = restarts_follow n (network n past) (follows n few past) i
 follows n few (Arrives k ∷ past) = arrived_follow n (network n past) (follows n few past) few k (carried_at (network n past).carried k) refl
 
--- a process at which a number is least
-least : (n : ℕ) (f : ℕ → ℕ) → 0 < n → (i : ℕ) × (i < n) × ((j : ℕ) → j < n → f i ≤ f j)
-least zero f l = absurd (omega (arith, l))
-least (suc zero) f l = (0, l, λ j k. let e : j ≡ 0 = omega (arith, k) in rw e (omega arith))
-least (suc (suc n)) f l =
-    let z = least (suc n) f (omega arith) in
-    let last : ℕ = suc n in
-    elim (cases_lt (f last) (f z.0)) [
-      | inl less ↦ (
-        last,
-        omega arith,
-        λ j k. elim (cases_eq j last) [ inl e ↦ rw e (omega arith) | inr off ↦ omega (arith, less, z.2 j (omega (arith, k, off))) ],
-      )
-      | inr more ↦ (
-        z.0,
-        omega (arith, z.1),
-        λ j k. elim (cases_eq j last) [ inl e ↦ rw e (omega (arith, more)) | inr off ↦ z.2 j (omega (arith, k, off)) ],
-      )
-    ]
-
-all_or_one : (n e : ℕ) (f : ℕ → ℕ) → ((j : ℕ) → j < n → e ≤ f j) → ((j : ℕ) → j < n → f j ≡ e) ⊎ ((j : ℕ) × (j < n) × (e < f j))
-all_or_one zero e f h = inl (λ j l. absurd (omega (arith, l)))
-all_or_one (suc n) e f h =
-    elim (cases_lt e (f n)) [
-      | inl more ↦ inr (n, omega arith, more)
-      | inr less ↦
-          elim (all_or_one n e f (λ j l. h j (omega (arith, l)))) [
-            | inl all ↦
-                inl (λ j l.
-                elim (cases_eq j n) [ inl d ↦ rw d (omega (arith, less, h n (omega arith))) | inr off ↦ all j (omega (arith, l, off)) ])
-            | inr z ↦ inr (z.0, omega (arith, z.1), z.2)
+-- One of the numbers below n passes the test, or none does.
+any_of : (n : ℕ) (f : ℕ → Bool) → ((j : ℕ) × (j < n) × (f j ≡ true)) ⊎ ((j : ℕ) → j < n → f j ≡ false)
+any_of zero f = inr (λ j l. absurd (omega (arith, l)))
+any_of (suc n) f =
+    elim (cases_Bool (f n)) [
+      | inl t ↦ inl (n, omega arith, t)
+      | inr t ↦
+          elim (any_of n f) [
+            | inl z ↦ inl (z.0, omega (arith, z.1), z.2)
+            | inr none ↦ inr (λ j l. elim (cases_eq j n) [ inl d ↦ rw d t | inr off ↦ none j (omega (arith, l, off)) ])
           ]
     ]
 
@@ -419,16 +384,21 @@ module _ (n last : ℕ) (few : n ≤ 2 ^ 20) (all : List EpochEvent) (cs : List 
       → (((epochs_after n all).at i).epoch ≡ last) × (has_notified ((epochs_after n all).at i).state ≡ true)
   ends room i l =
       let w : Epochs = epochs_after n all in
-      let m = least n (λ j. (w.at j).epoch) (omega (arith, l)) in
+      let m : (j : ℕ) × (j < n) × ((k : ℕ) → k < n → (w.at j).epoch ≤ (w.at k).epoch)
+      = elim (any_of n (λ j. ltb (w.at j).epoch (w.at i).epoch)) [
+        | inl z ↦ (z.0, z.1, λ k r. omega (arith, ltb-true (w.at z.0).epoch (w.at i).epoch z.2, near n i k all l r))
+        | inr none ↦ (i, l, λ k r. ltb-false (w.at k).epoch (w.at i).epoch (none k r))
+      ] in
       let e : ℕ = (w.at m.0).epoch in
-      let over : IsOver n e w = elim (all_or_one n e (λ j. (w.at j).epoch) m.2) [
-        | inl same ↦
+      let over : IsOver n e w = elim (any_of n (λ j. ltb e (w.at j).epoch)) [
+        | inl z ↦ left_epoch n z.0 e all z.1 (ltb-true e (w.at z.0).epoch z.2)
+        | inr none ↦
+            let same : (j : ℕ) → j < n → (w.at j).epoch ≡ e = λ j k. omega (arith, m.2 j k, ltb-false e (w.at j).epoch (none j k)) in
             record {
               come = m.2;
               idle = λ j k d. still.idle j k;
               none_under_way = λ j k. subst (λ d. w.under_way d j ≡ 0) (same j k) (still.received j k);
             }
-        | inr z ↦ left_epoch n z.0 e all z.1 z.2
       ] in
       elim (goes_on_epoch n e all (omega (arith, l)) few (λ d. room) over) [
         | inl done ↦

@@ -4,10 +4,8 @@
 ghost use Rattle.std.specs.Prelude.{◌≡◌, ◌+◌, ◌&&◌, nat_lt, not, OnErr};
 ghost use Rattle.tp_process.specs.declared.epoch_state.TheConstants.{LIMIT};
 ghost use Rattle.std.specs.Result.{result_err};
-ghost use Rattle.tp_process.specs.Calls.{acts, control, due, ends, gives, is_down_due, is_due, is_miscounted, judges};
-ghost use Rattle.tp_process.specs.Calls.{left_of, moved, next_result, notifies, opens, ready, right_of, takes};
-ghost use Rattle.tp_process.specs.Calls.{took, visits};
-ghost use Rattle.tp_process.specs.Calls.{take_refusal};
+ghost use Rattle.tp_process.specs.Calls.{acts, control, due, ends, gives, is_down_due, is_due, is_miscounted, judges, left_of, moved};
+ghost use Rattle.tp_process.specs.Calls.{next_result, notifies, opens, ready, right_of, takes, took, visits, take_refusal};
 ghost use Rattle.tp_process.specs.Epochs.{has_notified};
 ghost use Rattle.tp_process.specs.State.{is_set, new_state, read_state};
 

@@ -56,6 +56,7 @@ pub fn each_epoch()
 {}
 
 /// Every process that `new` returned stays open, so no call on it is refused as `NotOpen`; nor is `next` refused.
+#[tactic(auto, using(crate::proofs::Network::stays_open, crate::proofs::Network::open_calls))]
 pub fn stays_open()
     ensures marked { OpenLaw }
     ensures calls { OpenCallsLaw }

@@ -1,5 +1,1 @@
-pub mod Refusing
-pub mod Tasks
-pub mod Waking
-pub mod Threads
-pub mod Once
+pub mod Lemmas

@@ -7,25 +7,25 @@ ghost use Rattle.tp_text.specs.Trace.{TracesAreDetermined};
 ghost use Rattle.tp_text.specs.TraceOf.{RunsOfOneGeneration, TracesAreReadBack};
 
 /// States that bytes are the script of at most one version, number of nodes and list of steps.
-#[tactic(auto, using(crate::proofs::Unique::scripts_determined))]
+#[tactic(auto, using(crate::proofs::Readings::scripts_determined))]
 pub fn scripts_are_determined()
     ensures { ScriptsAreDetermined }
 {}
 
 /// States that for given bytes at most one verdict and one text satisfy the contract of `sim`.
-#[tactic(auto, using(crate::proofs::Unique::texts_determined))]
+#[tactic(auto, using(crate::proofs::Readings::texts_determined))]
 pub fn texts_are_determined()
     ensures { TextsAreDetermined }
 {}
 
 /// States that bytes are the trace of at most one version, number of nodes and list of lines.
-#[tactic(auto, using(crate::proofs::UniqueTraces::traces_determined))]
+#[tactic(auto, using(crate::proofs::Readings::traces_determined))]
 pub fn traces_are_determined()
     ensures { TracesAreDetermined }
 {}
 
 /// States that for given bytes at most one verdict and one text satisfy the contract of `audit`.
-#[tactic(auto, using(crate::proofs::UniqueAudits::audits_determined))]
+#[tactic(auto, using(crate::proofs::Readings::audits_determined))]
 pub fn audits_are_determined()
     ensures { AuditsAreDetermined }
 {}
@@ -43,7 +43,7 @@ pub fn traces_are_read_back()
 {}
 
 /// States that each run of one generation satisfies the precondition `run` of `print_trace`.
-#[tactic(auto, using(crate::proofs::Present::run_in_each))]
+#[tactic(auto, using(crate::proofs::Readings::run_in_each))]
 pub fn runs_of_one_generation()
     ensures { RunsOfOneGeneration }
 {}

@@ -1,7 +1,7 @@
 //! The result that each call on a task graph returns to C.
 ghost use Rattle.std.specs.Prelude.{◌≡◌};
-ghost use Rattle.gerfmuod.specs.Graph.{event_answer, fault_answer, found_fault_answer, limit_of, plain, refusal_answer, reply_answer};
-ghost use Rattle.gerfmuod.specs.Graph.{number_or_none, refused_with, task_named};
+ghost use Rattle.gerfmuod.specs.Part.{event_answer, fault_answer, found_fault_answer, limit_of, plain, refusal_answer, reply_answer};
+ghost use Rattle.gerfmuod.specs.Part.{number_or_none, refused_with, task_named};
 
 use tp_base::Refusal;
 use tp_dag::Event;
@@ -9,6 +9,8 @@ use tp_team::{Fault, Reply, TeamRefusal, Turn};
 
 /// The number that no task has.
 pub(crate) const NO_NUMBER: u32 = 4_294_967_295;
+
+pub(crate) const NO_MEMORY: TeamRefusal = TeamRefusal::Pool(Refusal::NoMemory);
 
 /// The result of a call on a task graph.
 #[repr(C)]

@@ -1,6 +1,6 @@
 //! The calls on a task graph that have a number.
 ghost use Rattle.std.specs.Prelude.{◌≡◌};
-ghost use Rattle.gerfmuod.specs.Graph.{call_of};
+ghost use Rattle.gerfmuod.specs.Part.{call_of};
 
 use tp_team::Arrival;
 

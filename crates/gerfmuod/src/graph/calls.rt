@@ -1,5 +1,5 @@
 //! The calls on a task graph, as C gets their results.
-ghost use Rattle.gerfmuod.specs.GraphCalls.{IsDescribeCall, IsGraphCall, IsSpawnCall, IsTaskCall};
+ghost use Rattle.gerfmuod.specs.Part.{IsDescribeCall, IsGraphCall, IsSpawnCall, IsTaskCall};
 
 use crate::graph::access::RawAccess;
 use crate::graph::answer::{GraphResult, plain, refused};

@@ -1,20 +1,14 @@
 //! Data handles, and tasks whose inputs are inferred from their accesses.
 ghost use Rattle.std.specs.Prelude.{◌≡◌, ◌⊎◌, length, true, false, IsTrue};
-ghost use Rattle.tp_base.specs.declared.Refusal.TheVariants.{NoMemory};
-ghost use Rattle.tp_team.specs.declared.TeamRefusal.TheVariants.{Pool};
-ghost use Rattle.tp_flow.specs.Description.{all_below};
-ghost use Rattle.tp_flow.specs.State.{is_not_above};
-ghost use Rattle.gerfmuod.specs.Data.{opened_with, IsHandle, IsTask, SpawnsTask};
-ghost use Rattle.gerfmuod.specs.Graph.{IsRefused};
+ghost use Rattle.gerfmuod.specs.Part.{NoMemory, Pool, all_below, is_not_above, opened_with};
+ghost use Rattle.gerfmuod.specs.Part.{IsHandle, IsTask, SpawnsTask, IsRefused};
 
 use crate::graph::access::{RawAccess, are_accesses, decode};
-use crate::graph::answer::{GraphResult, plain, refused};
+use crate::graph::answer::{GraphResult, NO_MEMORY, plain, refused};
 use crate::graph::slot::GraphSlot;
 use tp_base::Refusal;
 use tp_flow::{Access, Flow};
 use tp_team::{Team, TeamRefusal};
-
-const NO_MEMORY: TeamRefusal = TeamRefusal::Pool(Refusal::NoMemory);
 
 /// Adds a handle to an open graph.
 pub(crate) fn handle_added(slot: &mut GraphSlot) -> GraphResult

@@ -1,7 +1,6 @@
 //! The content of a `gerfmuod_graph`: a team, the flow of its data handles, and a mark that says whether it is open.
-ghost use Rattle.std.specs.Prelude.{◌≡◌};
-ghost use Rattle.gerfmuod.specs.Graph.{closed, opened_graph};
 
+use crate::slot::can_be_sent;
 use std::alloc::Global;
 use std::marker::Model;
 use tp_flow::{Access, Flow};
@@ -10,15 +9,8 @@ use tp_team::Team;
 /// The value of `mark` in an open graph: `gerfgrph` in ASCII.
 const MARK: u64 = 0x6765_7266_6772_7068;
 
-/// The size in bytes of a `gerfmuod_graph` in the header.
-const ROOM: usize = 512;
-
-const _: () = prove!(size_of::<GraphSlot>() <= ROOM);
-
-const _: () = prove!(align_of::<GraphSlot>() <= 8);
-
-/// Compiles only for a type that can be sent to another thread: a program in C may use its graph from any thread.
-fn can_be_sent<T: Send>() {}
+// The size in bytes of a `gerfmuod_graph` in the header is 512.
+const _: () = prove!(size_of::<GraphSlot>() <= 512 && align_of::<GraphSlot>() <= 8);
 
 /// A graph that is open or not.
 #[derive(Drop)]
@@ -33,11 +25,9 @@ pub(crate) struct GraphSlot {
 }
 
 impl Model for GraphSlot {
-    ghost use Rattle.gerfmuod.specs.Graph.{GraphState};
+    ghost use Rattle.gerfmuod.specs.Part.GraphCalls.{GraphState, state_of, HasNextNumber};
 
     ghost Value = { GraphState };
-
-    ghost use Rattle.gerfmuod.specs.GraphSlot.{state_of, HasNextNumber};
 
     ghost view = { state_of };
 
@@ -45,6 +35,9 @@ impl Model for GraphSlot {
 }
 
 impl GraphSlot {
+    ghost use Rattle.std.specs.Prelude.{◌≡◌};
+    ghost use Rattle.gerfmuod.specs.Part.GraphCalls.{closed, opened_graph};
+
     /// Returns an open graph without a task. It allocates nothing.
     pub(crate) fn open(alloc: Global, is_traced: u32, processors: u32) -> GraphSlot
         ensures { result ≡ opened_graph is_traced processors }

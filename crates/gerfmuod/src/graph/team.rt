@@ -1,6 +1,6 @@
 //! The calls on the team of an open graph, as C gets their results.
 ghost use Rattle.std.specs.Prelude.{◌≡◌};
-ghost use Rattle.gerfmuod.specs.Graph.{IsDescribe, IsSpawn, IsTeamCall};
+ghost use Rattle.gerfmuod.specs.Part.{IsDescribe, IsSpawn, IsTeamCall};
 
 use crate::graph::answer::{
     GraphResult, of_event, of_found_fault, of_reply, plain, refused, refused_with, task_named,

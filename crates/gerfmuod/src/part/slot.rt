@@ -1,7 +1,6 @@
 //! The content of a `gerfmuod_part`: a part, the flow of its data handles, and a mark that says whether it is open.
-ghost use Rattle.std.specs.Prelude.{◌≡◌};
-ghost use Rattle.gerfmuod.specs.Part.{closed_part, opened_part};
 
+use crate::slot::can_be_sent;
 use std::alloc::Global;
 use std::marker::Model;
 use tp_flow::{Access, Flow};
@@ -10,15 +9,8 @@ use tp_part::Part;
 /// The value of `mark` in an open part: `gerfpart` in ASCII.
 const MARK: u64 = 0x6765_7266_7061_7274;
 
-/// The size in bytes of a `gerfmuod_part` in the header.
-const ROOM: usize = 512;
-
-const _: () = prove!(size_of::<PartSlot>() <= ROOM);
-
-const _: () = prove!(align_of::<PartSlot>() <= 8);
-
-/// Compiles only for a type that can be sent to another thread: a program in C may use its part from any thread.
-fn can_be_sent<T: Send>() {}
+// The size in bytes of a `gerfmuod_part` in the header is 512.
+const _: () = prove!(size_of::<PartSlot>() <= 512 && align_of::<PartSlot>() <= 8);
 
 /// A part that is open or not.
 #[derive(Drop)]
@@ -33,11 +25,9 @@ pub(crate) struct PartSlot {
 }
 
 impl Model for PartSlot {
-    ghost use Rattle.gerfmuod.specs.Part.{PartView};
+    ghost use Rattle.gerfmuod.specs.Part.{PartView, state_of, HasNextNumber};
 
     ghost Value = { PartView };
-
-    ghost use Rattle.gerfmuod.specs.PartSlot.{state_of, HasNextNumber};
 
     ghost view = { state_of };
 
@@ -45,6 +35,9 @@ impl Model for PartSlot {
 }
 
 impl PartSlot {
+    ghost use Rattle.std.specs.Prelude.{◌≡◌};
+    ghost use Rattle.gerfmuod.specs.Part.{closed_part, opened_part};
+
     /// Returns an open part without a task. It allocates nothing.
     pub(crate) fn open(alloc: Global, number: u32, parts: u32) -> PartSlot
         ensures { result ≡ opened_part number parts }

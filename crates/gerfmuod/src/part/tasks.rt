@@ -1,21 +1,15 @@
 //! What a program in C describes of a graph over parts: data handles, and tasks by their inputs or by their accesses.
 ghost use Rattle.std.specs.Prelude.{◌≡◌, ◌⊎◌, length, false, true, IsTrue};
-ghost use Rattle.tp_base.specs.declared.Refusal.TheVariants.{NoMemory};
-ghost use Rattle.tp_flow.specs.Description.{all_below};
-ghost use Rattle.tp_flow.specs.State.{is_not_above};
-ghost use Rattle.tp_team.specs.declared.TeamRefusal.TheVariants.{Pool};
-ghost use Rattle.gerfmuod.specs.Graph.{IsRefused};
-ghost use Rattle.gerfmuod.specs.Part.{opened_as, AddsShared, IsFlowHandle, IsSharedTask, IsTaskOf};
+ghost use Rattle.gerfmuod.specs.Part.{NoMemory, all_below, is_not_above, Pool, IsRefused, opened_as};
+ghost use Rattle.gerfmuod.specs.Part.{AddsShared, IsFlowHandle, IsSharedTask, IsTaskOf};
 
 use crate::graph::access::{RawAccess, are_accesses, decode};
-use crate::graph::answer::{GraphResult, plain, refused};
+use crate::graph::answer::{GraphResult, NO_MEMORY, plain, refused};
 use crate::part::slot::PartSlot;
 use tp_base::Refusal;
 use tp_flow::{Access, Flow};
 use tp_part::Part;
 use tp_team::TeamRefusal;
-
-const NO_MEMORY: TeamRefusal = TeamRefusal::Pool(Refusal::NoMemory);
 
 /// Adds a handle.
 pub(crate) fn handle_added(flow: &mut Flow) -> GraphResult

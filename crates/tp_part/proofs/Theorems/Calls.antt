@@ -5,47 +5,7 @@ use Rattle.tp_dag.specs.State as dag
 use Rattle.tp_dag.specs.Calls as dag_calls
 use Rattle.tp_dag.specs.declared.pool.Next.TheVariants as next
 
--- ---- a task goes to another stage, and was not done
-pub holds_stage : {ns box : List ℕ} {d i room count : ℕ} {pool new : PoolState} {ins outs : List Edge} {from to : Stage} {e : Event} {t : ℕ}
-    → from ≢ stage.Done → Holds ns d i pool ins outs box room count → GoesTo t from to e pool new → Holds ns d i new ins outs box room count
-holds_stage {ns} {box} {d} {i} {room} {count} {pool} {new} {ins} {outs} {from} {to} {e} {t} off h g =
-    (let y : Entry = record g.was { stage = to } in let m = length-set pool.tasks t y in let l = h.long in
-    subst (λ (a : PoolState). Holds ns d i a ins outs box room count) (sym g.becomes) (record {
-      long = omega (arith, m, l);
-      untraced = ap (with_event e) h.untraced;
-      own = h.own;
-      few_inputs = h.few_inputs;
-      few_links = h.few_links;
-      few_outgoing = h.few_outgoing;
-      arriving = record {
-        awaited = record {
-          within = λ n x j. (let w = h.arriving.awaited.within n x j in omega (arith, w, m));
-          counted = λ k x j. elim (set_apart pool.tasks t k x y j) [
-            | inl o ↦ h.arriving.awaited.counted k x o.0
-            | inr o ↦ ap (λ (v : Entry). v.outside) o.1 ∙ h.arriving.awaited.counted k g.was
-                (subst (λ (n : ℕ). slice_get pool.tasks n ≡ Some g.was) (sym o.0) g.is)
-          ];
-        };
-        alike = h.arriving.alike;
-        none_arrived = h.arriving.none_arrived;
-      };
-      messages = record {
-        posted = h.messages.posted;
-        within = h.messages.within;
-        done = λ n x j p. (let v = h.messages.done n x j p in elim (same_or v.0 t) [
-          | inl q ↦ absurd (off (sym g.stage ∙ (ap (λ (w : Entry). w.stage)
-              (there pool.tasks t g.was v.1 g.is (subst (λ (k : ℕ). slice_get pool.tasks k ≡ Some v.1) q v.3)) ∙ v.4)))
-          | inr q ↦ (v.0, v.1, v.2, set_there pool.tasks t v.0 y q ∙ v.3, v.4)
-        ]);
-      };
-      room = h.room;
-      sent = h.sent;
-    }))
-
 -- ---- a value arrives
-abbrev pub AreAlike : List Edge → Type 0
-AreAlike es = (n m : ℕ) (d e : Edge) → slice_get es n ≡ Some d → slice_get es m ≡ Some e → d.value ≡ e.value → d.passed ≡ e.passed
-
 pub alike_pass : (u : ℕ) (es : List Edge) → AreAlike es → AreAlike (pass u es)
 alike_pass u es h = λ n m d e i j v. (let x = map_got (passed_on u) es n d i in let y = map_got (passed_on u) es m e j in
     let w : x.0.value ≡ y.0.value = sym (pass_value u x.0) ∙ (ap (λ (z : Edge). z.value) x.2 ∙ (v ∙ (sym (ap (λ (z : Edge). z.value) y.2)
@@ -56,51 +16,17 @@ alike_pass u es h = λ n m d e i j v. (let x = map_got (passed_on u) es n d i in
           ∙ sym (ap (λ (z : Edge). z.passed) (pass_other u y.0 (λ q. s (w ∙ q)))))
     ] ∙ ap (λ (z : Edge). z.passed) y.2))
 
+-- The tasks of passed edges are done.
+abbrev pub AreMarked : List ℕ → List Entry → List Edge → Type 0
+AreMarked ns tasks es = (n : ℕ) (e : Edge) → slice_get es n ≡ Some e → IsTrue e.passed → IsDone e.value ns tasks
+
 -- tasks that the pools have in common
-same_done : (ns : List ℕ) {old new : PoolState} (t : ℕ) → SameBut old new → IsDone t ns old.tasks → IsDone t ns new.tasks
+pub same_done : (ns : List ℕ) {old new : PoolState} (t : ℕ) → SameBut old new → IsDone t ns old.tasks → IsDone t ns new.tasks
 same_done ns {old} {new} t s d = (let m = map_got progress_of new.tasks d.0 (progress_of d.1)
     (ap (λ (xs : List Progress). slice_get xs d.0) s.tasks ∙ map_get progress_of old.tasks d.0 d.1 d.3) in
     (d.0, m.0, d.2, m.1, ap (λ (z : Progress). z.stage) m.2 ∙ d.4))
 
-pub holds_arrival : {ns box : List ℕ} {d i room count : ℕ} {pool new : PoolState} {ins more outs : List Edge} (u : ℕ)
-    → Holds ns d i pool ins outs box room count → more ≡ pass u ins → AreAwaited more new.tasks → SameBut pool new → IsTrue pool.started
-    → Holds ns d i new more outs box room count
-holds_arrival {ns} {pool = pool} {new = new} {ins = ins} {more = more} u h e a s on = (let t = ap length s.tasks in
-    let lo = length-map pool.tasks progress_of in let ln = length-map new.tasks progress_of in
-    let li : length more ≡ length ins = ap length e ∙ length-map ins (passed_on u) in record {
-      long = (let l = h.long in omega (arith, l, t, lo, ln));
-      untraced = s.kept ∙ h.untraced;
-      own = h.own;
-      few_inputs = h.few_inputs;
-      few_links = (let f = h.few_links in let q = ap length s.inputs in omega (arith, f, q, li));
-      few_outgoing = h.few_outgoing;
-      arriving = record {
-        awaited = a;
-        alike = subst AreAlike (sym e) (alike_pass u ins h.arriving.alike);
-        none_arrived = λ f. true_or_false new.started (s.started ∙ on) f;
-      };
-      messages = record {
-        posted = h.messages.posted;
-        within = h.messages.within;
-        done = λ n x j p. same_done ns x.value s (h.messages.done n x j p);
-      };
-      room = h.room;
-      sent = h.sent;
-    })
-
--- ---- an own task is done, and its messages are posted
--- none of them was posted
-pub none_posted : {ns box : List ℕ} {d i room count : ℕ} {pool : PoolState} {ins outs : List Edge} (t k : ℕ) (x : Entry)
-    → Holds ns d i pool ins outs box room count → slice_get ns k ≡ Some t → slice_get pool.tasks k ≡ Some x → x.stage ≡ stage.Running
-    → NonePassed t outs
-none_posted {ns} {pool = pool} t k x h own is runs = λ n e j v. elim (cases_Bool e.passed) [
-  | inr f ↦ f
-  | inl f ↦ (let w = h.messages.done n e j f in let same = same_place ns w.0 k t h.own.ascends (w.2 ∙ ap Some v) own in
-      let y = there pool.tasks k w.1 x (subst (λ (m : ℕ). slice_get pool.tasks m ≡ Some w.1) same w.3) is in
-      let c : stage.Running ≡ stage.Done = sym runs ∙ (ap (λ (z : Entry). z.stage) (sym y) ∙ w.4) in cc)
-]
-
--- how many are passed then
+-- ---- how many edges are passed, and have a value
 pub count_pass : (u : ℕ) (es : List Edge) → NonePassed u es
     → count_where is_passed (pass u es) ≡ count_where is_passed es + count_where (λ e. e.value == u) es
 count_pass u [] h = refl
@@ -129,53 +55,6 @@ first_places u es (suc n) l = (let r = first_places u es n (omega (arith, l)) in
 pub all_places : (u : ℕ) (es : List Edge) → length (places u es (length es)) ≡ count_where (λ e. e.value == u) es
 all_places u es = first_places u es (length es) (omega arith) ∙ ap (count_where (λ (e : Edge). e.value == u)) (take-length es)
 
--- so there is room for them
-pub room_for : {ns box : List ℕ} {d i room count : ℕ} {pool : PoolState} {ins outs : List Edge} (t : ℕ)
-    → Holds ns d i pool ins outs box room count → NonePassed t outs → length box + length (places t outs (length outs)) ≤ room
-room_for {outs = outs} t h none = (let p = all_places t outs in let c = count_pass t outs none in let f = count_few is_passed
-    (pass t outs) in
-    let l = length-map outs (passed_on t) in let q = h.messages.posted in let r = h.room in omega (arith, p, c, f, l, q, r))
-
-pub holds_done : {ns box more : List ℕ} {d i room now count : ℕ} {pool new : PoolState} {ins outs then_outs : List Edge} (t k : ℕ)
-    → Holds ns d i pool ins outs box room count → IsReported k pool new → slice_get ns k ≡ Some t → then_outs ≡ pass t outs
-    → more ≡ box ++ places t outs (length outs) → now ≡ room → Holds ns d i new ins then_outs more now count
-holds_done {ns} {box} {more} {pool = pool} {new = new} {outs = outs} {then_outs = then_outs} t k h g own e m cap =
-    (let b = holds_stage (λ c. cc) h g in let none = none_posted t k g.was h own g.is g.stage in
-    let lp : length then_outs ≡ length outs = ap length e ∙ length-map outs (passed_on t) in
-    let lb : length more ≡ length box + length (places t outs (length outs)) = ap length m ∙ length-append box (places t outs
-    (length outs)) in record {
-      long = b.long;
-      untraced = b.untraced;
-      own = b.own;
-      few_inputs = b.few_inputs;
-      few_links = b.few_links;
-      few_outgoing = (let f = b.few_outgoing in omega (arith, f, lp));
-      arriving = b.arriving;
-      messages = record {
-        posted = (let q = h.messages.posted in let c = count_pass t outs none in let p = all_places t outs in
-            let s = ap (count_where is_passed) e in omega (arith, q, c, p, s, lb));
-        within = λ n j a. elim (push_cases box (places t outs (length outs)) n j (sym (ap (λ (xs : List ℕ). slice_get xs n) m) ∙ a)) [
-          | inl x ↦ (let w = h.messages.within n j x in omega (arith, w, lp))
-          | inr x ↦ (let w = ((places_of t outs (length outs)).is x.0 j x.2).0 in omega (arith, w, lp))
-        ];
-        done = λ n x a p. (let y = map_got (passed_on t) outs n x (sym (ap (λ (xs : List Edge). slice_get xs n) e) ∙ a) in elim
-            (cases_eq y.0.value t) [
-              | inl v ↦ subst (λ (w : ℕ). IsDone w ns new.tasks) (sym (ap (λ (z : Edge). z.value) (sym y.2) ∙ (pass_value t y.0 ∙ v))) (
-                k,
-                record g.was { stage = stage.Done },
-                own,
-                ap (λ (z : PoolState). slice_get z.tasks k) g.becomes
-                    ∙ set_here pool.tasks k g.was (record g.was { stage = stage.Done }) g.is,
-                refl,
-              )
-              | inr v ↦ (let same = sym (pass_other t y.0 v) ∙ y.2 in subst (λ (w : ℕ). IsDone w ns new.tasks) (ap (λ (z : Edge). z.value) same)
-                  (b.messages.done n y.0 y.1 (ap (λ (z : Edge). z.passed) same ∙ p)))
-            ]);
-      };
-      room = (let r = h.room in omega (arith, r, lp, cap));
-      sent = (let s = h.sent in omega (arith, s, lb));
-    })
-
 -- ---- an own task is described
 count_both : {A : Type 0} (test : A → Bool) (xs ys : List A) → count_where test (xs ++ ys) ≡ count_where test xs + count_where test ys
 count_both test [] ys = omega arith
@@ -184,121 +63,170 @@ count_both test (x ∷ xs) ys = (let n = count_next test x (xs ++ ys) in let m =
 
 holds_awaited : (es : List Edge) (tasks : List Entry) (c class : ℕ) (ns us : List ℕ) → AreAwaited es tasks → c ≡ length tasks
     → AreAwaited (es ++ edges_to c ns us) (tasks ++ record { class = class; stage = stage.Fresh; outside = length (edges_to c ns us) } ∷ [])
-holds_awaited es tasks c class ns us a at = record {
+holds_awaited es tasks c class ns us a at = (let more = length_push tasks fresh in record {
   within = λ n e i. elim (push_cases es (edges_to c ns us) n e i) [
     | inl o ↦ (let w = a.within n e o in omega (arith, w, more))
     | inr o ↦ (let t : e.target ≡ c = ap (λ (z : Edge). z.target) ((split c ns us).edges_is o.0 e o.2).2 in omega (arith, t, at, more))
   ];
   counted = λ k x i. (let f = count_both (is_awaited_at k) es (edges_to c ns us) in elim (last_cases tasks k x fresh i) [
-    | inl o ↦ (let w = slice_get_within tasks k x o in let z = to_others c k ns us (λ q. omega (arith, q, at, w)) in
+    | inl o ↦ (let w = slice_get_within tasks k x o in let z = to_others k (λ q. omega (arith, q, at, w)) in
         let h = a.counted k x o in omega (arith, f, z, h))
-    | inr o ↦ (let y = to_it c ns us in let h = ap (λ (z : Entry). z.outside) o.1 in let e : k ≡ c = omega (arith, o.0, at) in
+    | inr o ↦ (let y = all_pass (edges_to c ns us) (λ n d j. let e = ((split c ns us).edges_is n d j).2 in
+        and_from (d.target == c) (not d.passed) (eq-eqb d.target c (ap (λ (z : Edge). z.target) e)) (ap (λ (z : Edge). not z.passed) e)) in
+        let h = ap (λ (z : Entry). z.outside) o.1 in let e : k ≡ c = omega (arith, o.0, at) in
         let s = ap (λ (j : ℕ). count_where (is_awaited_at j) (edges_to c ns us)) e in
-        let b = count_zero (is_awaited_at k) es (λ n d j. before k n d j (omega (arith, o.0))) in omega (arith, f, y, h, s, b))
+        let b = count_zero (is_awaited_at k) es (λ n d j. let w = a.within n d j in
+        ap (λ (b : Bool). one (b && not d.passed)) (ne_eqb d.target k (λ q. omega (arith, q, w, o.0)))) in omega (arith, f, y, h, s, b))
   ]);
-}
+})
   where
     fresh : Entry
     fresh = record { class = class; stage = stage.Fresh; outside = length (edges_to c ns us) }
 
-    more : length (tasks ++ fresh ∷ []) ≡ length tasks + 1
-    more = length_push tasks fresh
-
-    before : (k n : ℕ) (d : Edge) → slice_get es n ≡ Some d → length tasks ≤ k → one (is_awaited_at k d) ≡ 0
-    before k n d j l = (let w = a.within n d j in
-        ap (λ (b : Bool). one (b && not d.passed)) (ne_eqb d.target k (λ q. omega (arith, q, w, l))))
-
-    to_others : (c k : ℕ) (ns us : List ℕ) → k ≢ c → count_where (is_awaited_at k) (edges_to c ns us) ≡ 0
-    to_others c k ns us off = count_zero (is_awaited_at k) (edges_to c ns us) (λ n d j. let e = ((split c ns us).edges_is n d j).2 in
+    to_others : (k : ℕ) → k ≢ c → count_where (is_awaited_at k) (edges_to c ns us) ≡ 0
+    to_others k off = count_zero (is_awaited_at k) (edges_to c ns us) (λ n d j. let e = ((split c ns us).edges_is n d j).2 in
         ap (λ (b : Bool). one (b && not d.passed)) (ne_eqb d.target k (λ q. off (sym (sym (ap (λ (z : Edge). z.target) e) ∙ q)))))
 
-    all_pass : (c : ℕ) (xs : List Edge) → ((n : ℕ) (d : Edge) → slice_get xs n ≡ Some d → is_awaited_at c d ≡ true)
+    all_pass : (xs : List Edge) → ((n : ℕ) (d : Edge) → slice_get xs n ≡ Some d → is_awaited_at c d ≡ true)
         → count_where (is_awaited_at c) xs ≡ length xs
-    all_pass c [] h = refl
-    all_pass c (x ∷ xs) h = (let n = count_next (is_awaited_at c) x xs in let o = ap one (h 0 x refl) in
-        let r = all_pass c xs (λ m d j. h (suc m) d j) in omega (arith, n, o, r))
+    all_pass [] h = refl
+    all_pass (x ∷ xs) h = (let n = count_next (is_awaited_at c) x xs in let o = ap one (h 0 x refl) in
+        let r = all_pass xs (λ m d j. h (suc m) d j) in omega (arith, n, o, r))
 
-    to_it : (c : ℕ) (ns us : List ℕ) → count_where (is_awaited_at c) (edges_to c ns us) ≡ length (edges_to c ns us)
-    to_it c ns us = all_pass c (edges_to c ns us) (λ n d j. let e = ((split c ns us).edges_is n d j).2 in
-        and_from (d.target == c) (not d.passed) (eq-eqb d.target c (ap (λ (z : Edge). z.target) e)) (ap (λ (z : Edge). not z.passed) e))
+done_more : (t : ℕ) (ns ms : List ℕ) (xs ys : List Entry) → IsDone t ns xs → IsDone t (ns ++ ms) (xs ++ ys)
+done_more t ns ms xs ys d = (d.0, d.1, push_old ns ms d.0 t d.2, push_old xs ys d.0 d.1 d.3, d.4)
 
-pub holds_own : {ns then_ns box : List ℕ} {d i room count : ℕ} {pool new : PoolState} {ins more outs : List Edge}
-    (class c then_d then_i : ℕ) (us : List ℕ)
-    → Holds ns d i pool ins outs box room count → IsFalse pool.started → d < MAX_TASKS → i + length us ≤ MAX_INPUTS
-    → new ≡ with_spawned class (own_places ns us) (length (edges_to c ns us)) pool
-    → c ≡ length ns → more ≡ ins ++ edges_to c ns us → then_ns ≡ ns ++ d ∷ [] → then_d ≡ d + 1 → then_i ≡ i + length us
-    → Holds then_ns then_d then_i new more outs box room count
-holds_own {ns} {then_ns} {box} {d} {i} {room} {count} {pool} {new} {ins} {more} {outs} class c then_d then_i us h fresh few_d few_i e at m
-    n td ti =
-    (let pf = (split c ns us).few in let long = h.long in let f = h.few_links in let o = h.few_outgoing in let w = h.own.few_own in
-    let lp = length_push pool.tasks (record { class = class; stage = stage.Fresh; outside = length (edges_to c ns us) }) in
-    let link : ℕ → Input = λ s. record { source = s; target = length pool.tasks } in
-    let la = length-append pool.inputs (map link (own_places ns us)) in let lm = length-map (own_places ns us) link in
-    let li : length more ≡ length ins + length (edges_to c ns us) = ap length m ∙ length-append ins (edges_to c ns us) in
-    let ln : length then_ns ≡ length ns + 1 = ap length n ∙ length_push ns d in
-    subst (λ (a : PoolState). Holds then_ns then_d then_i a more outs box room count) (sym e) (record {
-      long = omega (arith, lp, ln, long);
-      untraced = h.untraced;
-      own = record {
-        ascends = subst Ascends (sym n) (ascends_push ns d h.own.ascends h.own.below);
-        below = λ k t j. elim (last_cases ns k t d (sym (ap (λ (xs : List ℕ). slice_get xs k) n) ∙ j)) [
-          | inl o ↦ (let b = h.own.below k t o in omega (arith, b, td))
-          | inr o ↦ (let q = o.1 in omega (arith, q, td))
+-- ---- what each call keeps
+module _ {ns box : List ℕ} {d i room count : ℕ} {pool : PoolState} {ins outs : List Edge}
+    (h : Holds ns d i pool ins outs box room count) where
+  -- a task goes to another stage, and was not done
+  pub holds_stage : {new : PoolState} {from to : Stage} {e : Event} {t : ℕ} → from ≢ stage.Done → GoesTo t from to e pool new
+      → Holds ns d i new ins outs box room count
+  holds_stage {to = to} {e = e} {t = t} off g = (let y : Entry = record g.was { stage = to } in let m = length-set pool.tasks t y in
+      let l = h.long in let long : length ns ≡ length (set pool.tasks t y) = omega (arith, m, l) in
+      let untraced = ap (with_event e) h.untraced in let awaited : AreAwaited ins (set pool.tasks t y) = record {
+        within = λ n x j. (let w = h.arriving.awaited.within n x j in omega (arith, w, m));
+        counted = λ k x j. elim (set_apart pool.tasks t k x y j) [
+          | inl o ↦ h.arriving.awaited.counted k x o.0
+          | inr o ↦ ap (λ (v : Entry). v.outside) o.1 ∙ h.arriving.awaited.counted k g.was
+              (subst (λ (n : ℕ). slice_get pool.tasks n ≡ Some g.was) (sym o.0) g.is)
         ];
-        few_tasks = omega (arith, td, few_d);
-        few_own = omega (arith, w, ln, td);
-      };
-      few_inputs = omega (arith, ti, few_i);
-      few_links = omega (arith, f, la, lm, li, pf, ti);
-      few_outgoing = omega (arith, o, ti);
-      arriving = record {
-        awaited = subst (λ (es : List Edge). AreAwaited es (with_spawned class (own_places ns us) (length (edges_to c ns us)) pool).tasks)
-            (sym m) (holds_awaited ins pool.tasks c class ns us h.arriving.awaited (at ∙ long));
-        alike = λ k j x y a b v. fresh_edge k x a ∙ sym (fresh_edge j y b);
-        none_arrived = λ f k x a. fresh_edge k x a;
-      };
-      messages = record {
-        posted = h.messages.posted;
-        within = h.messages.within;
-        done = λ k x a p. (let w = h.messages.done k x a p in (
-          w.0,
-          w.1,
-          ap (λ (xs : List ℕ). slice_get xs w.0) n ∙ push_old ns (d ∷ []) w.0 x.value w.2,
-          push_old pool.tasks _ w.0 w.1 w.3,
-          w.4,
-        ));
-      };
-      room = h.room;
-      sent = h.sent;
-    }))
-  where
-    fresh_edge : (k : ℕ) (x : Edge) → slice_get more k ≡ Some x → x.passed ≡ false
-    fresh_edge k x a = elim (push_cases ins (edges_to c ns us) k x (sym (ap (λ (xs : List Edge). slice_get xs k) m) ∙ a)) [
-      | inl o ↦ h.arriving.none_arrived fresh k x o
-      | inr o ↦ ap (λ (z : Edge). z.passed) ((split c ns us).edges_is o.0 x o.2).2
-    ]
+      } in let done : AreMarked ns (set pool.tasks t y) outs = λ n x j p. (let v = h.messages.done n x j p in elim (same_or v.0 t) [
+        | inl q ↦ absurd (off (sym g.stage ∙ (ap (λ (w : Entry). w.stage)
+            (there pool.tasks t g.was v.1 g.is (subst (λ (k : ℕ). slice_get pool.tasks k ≡ Some v.1) q v.3)) ∙ v.4)))
+        | inr q ↦ (v.0, v.1, v.2, set_there pool.tasks t v.0 y q ∙ v.3, v.4)
+      ]) in subst (λ (a : PoolState). Holds ns d i a ins outs box room count) (sym g.becomes) (assumption))
 
--- ---- a task of another part is described
-pub holds_foreign : {ns box : List ℕ} {d i room now count : ℕ} {pool : PoolState} {ins outs more : List Edge} (q then_d then_i : ℕ)
-    (us : List ℕ)
-    → Holds ns d i pool ins outs box room count → d < MAX_TASKS → i + length us ≤ MAX_INPUTS → more ≡ with_messages q ns us outs
-    → length more ≤ now → then_d ≡ d + 1 → then_i ≡ i + length us → Holds ns then_d then_i pool ins more box now count
-holds_foreign {ns} {outs = outs} {more = more} q then_d then_i us h few_d few_i m cap td ti = (let a = added q ns us outs in
-    let l = ap length (m ∙ a.is) in let s = length-append outs a.more in let few = a.few in let w = h.own.few_own in let f = h.few_links in
-    let o = h.few_outgoing in record {
-      long = h.long;
-      untraced = h.untraced;
-      own = record {
+  -- a value arrives
+  pub holds_arrival : {new : PoolState} {more : List Edge} (u : ℕ) → more ≡ pass u ins → AreAwaited more new.tasks → SameBut pool new
+      → IsTrue pool.started → Holds ns d i new more outs box room count
+  holds_arrival {new} {more} u e a s on = (let t = ap length s.tasks in let lo = length-map pool.tasks progress_of in
+      let ln = length-map new.tasks progress_of in let li : length more ≡ length ins = ap length e ∙ length-map ins (passed_on u) in
+      let l = h.long in let long : length ns ≡ length new.tasks = omega (arith, l, t, lo, ln) in let untraced = s.kept ∙ h.untraced in
+      let f = h.few_links in let q = ap length s.inputs in let few : length new.inputs + length more ≤ i = omega (arith, f, q, li) in
+      let arriving : AreIncoming new.started new.tasks more = record {
+        awaited = a;
+        alike = subst AreAlike (sym e) (alike_pass u ins h.arriving.alike);
+        none_arrived = λ f. true_or_false new.started (s.started ∙ on) f;
+      } in let done : AreMarked ns new.tasks outs = λ n x j p. same_done ns x.value s (h.messages.done n x j p) in assumption)
+
+  -- None of the messages of a task that runs was posted,
+  pub none_posted : (t k : ℕ) (x : Entry) → slice_get ns k ≡ Some t → slice_get pool.tasks k ≡ Some x → x.stage ≡ stage.Running
+      → NonePassed t outs
+  none_posted t k x own is runs = λ n e j v. never e.passed (λ f. let w = h.messages.done n e j f in
+      let same = same_place ns w.0 k t h.own.ascends (w.2 ∙ ap Some v) own in
+      let y = there pool.tasks k w.1 x (subst (λ (m : ℕ). slice_get pool.tasks m ≡ Some w.1) same w.3) is in
+      let c : stage.Running ≡ stage.Done = sym runs ∙ (ap (λ (z : Entry). z.stage) (sym y) ∙ w.4) in cc)
+
+  -- so there is room for them
+  pub room_for : (t : ℕ) → NonePassed t outs → length box + length (places t outs (length outs)) ≤ room
+  room_for t none = (let p = all_places t outs in let c = count_pass t outs none in let f = count_few is_passed (pass t outs) in
+      let l = length-map outs (passed_on t) in let q = h.messages.posted in let r = h.room in omega (arith, p, c, f, l, q, r))
+
+  -- an own task is done, and its messages are posted
+  pub holds_done : {more : List ℕ} {now : ℕ} {new : PoolState} {then_outs : List Edge} (t k : ℕ) → IsReported k pool new
+      → slice_get ns k ≡ Some t → then_outs ≡ pass t outs → more ≡ box ++ places t outs (length outs) → now ≡ room
+      → Holds ns d i new ins then_outs more now count
+  holds_done {now = now} {new = new} t k g own e m cap = (let b = holds_stage (λ c. cc) g in
+      let lp = length-map outs (passed_on t) in let lb = length-append box (places t outs (length outs)) in
+      let f = b.few_outgoing in let few : length (pass t outs) ≤ i = omega (arith, f, lp) in
+      let r = h.room in let fits : length (pass t outs) ≤ now = omega (arith, r, lp, cap) in
+      let s = h.sent in let sent : count ≤ length (box ++ places t outs (length outs)) = omega (arith, s, lb) in
+      let messages : ArePosted ns new.tasks (pass t outs) (box ++ places t outs (length outs)) = record {
+        posted = (let q = h.messages.posted in let c = count_pass t outs (none_posted t k g.was own g.is g.stage) in
+            let p = all_places t outs in omega (arith, q, c, p, lb));
+        within = λ n j a. elim (push_cases box (places t outs (length outs)) n j a) [
+          | inl x ↦ (let w = h.messages.within n j x in omega (arith, w, lp))
+          | inr x ↦ (let w = ((places_of t outs (length outs)).is x.0 j x.2).0 in omega (arith, w, lp))
+        ];
+        done = λ n x a p. (let y = map_got (passed_on t) outs n x a in elim (cases_eq y.0.value t) [
+          | inl v ↦ subst (λ (w : ℕ). IsDone w ns new.tasks) (sym (ap (λ (z : Edge). z.value) (sym y.2) ∙ (pass_value t y.0 ∙ v))) is_done
+          | inr v ↦ (let same = sym (pass_other t y.0 v) ∙ y.2 in subst (λ (w : ℕ). IsDone w ns new.tasks) (ap (λ (z : Edge). z.value) same)
+              (b.messages.done n y.0 y.1 (ap (λ (z : Edge). z.passed) same ∙ p)))
+        ]);
+      } in rw (e, m) (assumption))
+    where
+      is_done : IsDone t ns new.tasks
+      is_done = (let y : Entry = record g.was { stage = stage.Done } in let x = ap (λ (z : PoolState). slice_get z.tasks k) g.becomes
+          ∙ set_here pool.tasks k g.was y g.is in (k, y, own, x, refl))
+
+  -- an own task is described
+  pub holds_own : {then_ns : List ℕ} {new : PoolState} {more : List Edge} (class c : ℕ) (us : List ℕ) → IsFalse pool.started
+      → d < MAX_TASKS → i + length us ≤ MAX_INPUTS → new ≡ with_spawned class (own_places ns us) (length (edges_to c ns us)) pool
+      → c ≡ length ns → more ≡ ins ++ edges_to c ns us → then_ns ≡ ns ++ d ∷ []
+      → Holds then_ns (d + 1) (i + length us) new more outs box room count
+  holds_own class c us fresh few_d few_i e at m n = (let pf = (split c ns us).few in let l = h.long in let f = h.few_links in
+      let o = h.few_outgoing in let w = h.own.few_own in let ln = length_push ns d in
+      let link : ℕ → Input = λ s. record { source = s; target = length pool.tasks } in
+      let la = length-append pool.inputs (map link (own_places ns us)) in let lm = length-map (own_places ns us) link in
+      let li = length-append ins (edges_to c ns us) in rw (n, m, e) (record {
+        long = (let lp = length_push pool.tasks (record { class = class; stage = stage.Fresh; outside = length (edges_to c ns us) }) in
+            omega (arith, lp, ln, l));
+        untraced = h.untraced;
+        own = record {
+          ascends = ascends_push ns d h.own.ascends h.own.below;
+          below = λ k t j. elim (last_cases ns k t d j) [
+            | inl o ↦ (let b = h.own.below k t o in omega (arith, b))
+            | inr o ↦ (let q = o.1 in omega (arith, q))
+          ];
+          few_tasks = omega (arith, few_d);
+          few_own = omega (arith, w, ln);
+        };
+        few_inputs = few_i;
+        few_links = omega (arith, f, la, lm, li, pf);
+        few_outgoing = omega (arith, o);
+        arriving = record {
+          awaited = holds_awaited ins pool.tasks c class ns us h.arriving.awaited (at ∙ l);
+          alike = λ k j x y a b v. none_passed k x a ∙ sym (none_passed j y b);
+          none_arrived = λ f k x a. none_passed k x a;
+        };
+        messages = record {
+          posted = h.messages.posted;
+          within = h.messages.within;
+          done = λ k x a p. done_more x.value ns (d ∷ []) pool.tasks _ (h.messages.done k x a p);
+        };
+        room = h.room;
+        sent = h.sent;
+      }))
+    where
+      none_passed : (k : ℕ) (x : Edge) → slice_get (ins ++ edges_to c ns us) k ≡ Some x → x.passed ≡ false
+      none_passed k x a = elim (push_cases ins (edges_to c ns us) k x a) [
+        | inl o ↦ h.arriving.none_arrived fresh k x o
+        | inr o ↦ ap (λ (z : Edge). z.passed) ((split c ns us).edges_is o.0 x o.2).2
+      ]
+
+  -- a task of another part is described
+  pub holds_foreign : {more : List Edge} {now : ℕ} (q : ℕ) (us : List ℕ) → d < MAX_TASKS → i + length us ≤ MAX_INPUTS
+      → more ≡ with_messages q ns us outs → length more ≤ now → Holds ns (d + 1) (i + length us) pool ins more box now count
+  holds_foreign {more} {now} q us few_d few_i m cap = (let a = added q ns us outs in let l = ap length (m ∙ a.is) in
+      let s = length-append outs a.more in let few = a.few in let w = h.own.few_own in let f = h.few_links in let o = h.few_outgoing in
+      let own : AreNumbers ns (d + 1) = record {
         ascends = h.own.ascends;
-        below = λ k t j. (let b = h.own.below k t j in omega (arith, b, td));
-        few_tasks = omega (arith, td, few_d);
-        few_own = omega (arith, w, td);
-      };
-      few_inputs = omega (arith, ti, few_i);
-      few_links = omega (arith, f, ti);
-      few_outgoing = omega (arith, o, l, s, few, ti);
-      arriving = h.arriving;
-      messages = record {
+        below = λ k t j. (let b = h.own.below k t j in omega (arith, b));
+        few_tasks = omega (arith, few_d);
+        few_own = omega (arith, w);
+      } in let links : length pool.inputs + length ins ≤ i + length us = omega (arith, f) in
+      let outgoing : length more ≤ i + length us = omega (arith, o, l, s, few) in let messages : ArePosted ns pool.tasks more box = record {
         posted = (let p = h.messages.posted in let c = ap (count_where is_passed) (m ∙ a.is) in let b = count_both is_passed outs a.more in
             let z = count_zero is_passed a.more (λ k x j. ap (λ (e : Edge). one e.passed) (a.new k x j).2) in omega (arith, p, c, b, z));
         within = λ n k j. (let w = h.messages.within n k j in omega (arith, w, l, s));
@@ -306,12 +234,25 @@ holds_foreign {ns} {outs = outs} {more = more} q then_d then_i us h few_d few_i 
           | inl o ↦ h.messages.done k x o p
           | inr o ↦ true_or_false x.passed p (ap (λ (z : Edge). z.passed) o.2)
         ];
-      };
-      room = cap;
-      sent = h.sent;
-    })
+      } in assumption)
 
--- the edges that were added are taken away
+  pub box_few : length box ≤ length outs
+  box_few = (let p = h.messages.posted in let f = count_few is_passed outs in omega (arith, p, f))
+
+  -- there is more room for messages
+  pub holds_back : {now_box : List ℕ} {now_room : ℕ} {now : List Edge} → now ≡ outs → now_box ≡ box → room ≤ now_room
+      → Holds ns d i pool ins now now_box now_room count
+  holds_back {now_room = now_room} o b r = (let l = h.room in let fits : length outs ≤ now_room = omega (arith, l, r) in
+      rw (o, b) (assumption))
+
+  -- `next`
+  pub holds_next : {new : PoolState} (n : PoolNext) → ((t : ℕ) → n ≡ next.Run t → IsDispatched t pool new) → (n ≡ next.Wait → new ≡ pool)
+      → (n ≡ next.Finished → new ≡ pool) → Holds ns d i new ins outs box room count
+  holds_next (next.Run t) run wait over = holds_stage (λ c. cc) (run t refl).becomes
+  holds_next next.Wait run wait over = rw (wait refl) h
+  holds_next next.Finished run wait over = rw (over refl) h
+
+-- ---- edges that were added
 pub messages_back : {now more : List Edge} (q n : ℕ) (ns us : List ℕ) (es : List Edge) → now ≡ take n more → more ≡ with_messages q ns us es
     → n ≡ length es → now ≡ es
 messages_back {now} {more} q n ns us es t m l = (let a = added q ns us es in
@@ -320,43 +261,13 @@ messages_back {now} {more} q n ns us es t m l = (let a = added q ns us es in
 pub messages_more : (q : ℕ) (ns us : List ℕ) (es : List Edge) → length es ≤ length (with_messages q ns us es)
 messages_more q ns us es = (let a = added q ns us es in let l = ap length a.is in let s = length-append es a.more in omega (arith, l, s))
 
-pub box_few : {ns box : List ℕ} {d i room count : ℕ} {pool : PoolState} {ins outs : List Edge} → Holds ns d i pool ins outs box room count
-    → length box ≤ length outs
-box_few {outs = outs} h = (let p = h.messages.posted in let f = count_few is_passed outs in omega (arith, p, f))
+-- ---- what a call changes
+abbrev pub with_pool : Inside → PoolState → PartState
+with_pool p pool = record (state_of p) { started = pool.started; tasks = map progress_of pool.tasks; links = pool.inputs }
 
-pub holds_back : {ns box now_box : List ℕ} {d i room now_room count : ℕ} {pool : PoolState} {ins outs now : List Edge}
-    → Holds ns d i pool ins outs box room count → now ≡ outs → now_box ≡ box → room ≤ now_room
-    → Holds ns d i pool ins now now_box now_room count
-holds_back {ns} {box} {now_box} {d} {i} {room} {now_room} {count} {pool} {ins} {outs} {now} h o b r =
-    subst (λ (es : List Edge). Holds ns d i pool ins es now_box now_room count) (sym o)
-    (subst (λ (ks : List ℕ). Holds ns d i pool ins outs ks now_room count) (sym b) (record {
-      long = h.long;
-      untraced = h.untraced;
-      own = h.own;
-      few_inputs = h.few_inputs;
-      few_links = h.few_links;
-      few_outgoing = h.few_outgoing;
-      arriving = h.arriving;
-      messages = h.messages;
-      room = (let l = h.room in omega (arith, l, r));
-      sent = h.sent;
-    }))
-
--- ---- `next`
-pub holds_next : {ns box : List ℕ} {d i room count : ℕ} {pool new : PoolState} {ins outs : List Edge} (n : PoolNext)
-    → Holds ns d i pool ins outs box room count → ((t : ℕ) → n ≡ next.Run t → IsDispatched t pool new) → (n ≡ next.Wait → new ≡ pool)
-    → (n ≡ next.Finished → new ≡ pool) → Holds ns d i new ins outs box room count
-holds_next (next.Run t) h run wait over = holds_stage (λ c. cc) h (run t refl).becomes
-holds_next {ns} {box} {d} {i} {room} {count} {ins = ins} {outs = outs} next.Wait h run wait over =
-    subst (λ (a : PoolState). Holds ns d i a ins outs box room count) (sym (wait refl)) h
-holds_next {ns} {box} {d} {i} {room} {count} {ins = ins} {outs = outs} next.Finished h run wait over =
-    subst (λ (a : PoolState). Holds ns d i a ins outs box room count) (sym (over refl)) h
-
--- what a call changes
-same_state : (a : PartState) {s r : Bool} {ts us : List Progress} {ls ms : List Input} {es fs : List Edge} {xs ys : List ℕ} → s ≡ r → ts ≡ us
-    → ls ≡ ms → es ≡ fs → xs ≡ ys → record a { started = s; tasks = ts; links = ls; outgoing = es; outbox = xs }
-    ≡ record a { started = r; tasks = us; links = ms; outgoing = fs; outbox = ys }
-same_state a h i j k l = cc
+same_state : (a : PartState) {ts us : List Progress} {es fs : List Edge} {xs ys : List ℕ} → ts ≡ us → es ≡ fs → xs ≡ ys
+    → record a { tasks = ts; outgoing = es; outbox = xs } ≡ record a { tasks = us; outgoing = fs; outbox = ys }
+same_state a h i j = cc
 
 -- ---- a ready task
 awaited_zero : (b d : Bool) → one (b && not d) ≡ 0 → b ≡ true → d ≡ true
@@ -369,12 +280,8 @@ ready_shown p k a r = record {
   task = progress_of r.task;
   is = map_get progress_of p.pool.tasks k r.task r.is;
   fresh = r.fresh;
-  inputs = λ s i. (let d = r.inputs s i in record {
-    task = progress_of d.task;
-    is = map_get progress_of p.pool.tasks s d.task d.is;
-    stage =
-        d.stage;
-  });
+  inputs = λ s i. (let d = r.inputs s i in
+      record { task = progress_of d.task; is = map_get progress_of p.pool.tasks s d.task d.is; stage = d.stage });
   arrived = λ n e j t. awaited_zero (e.target == k) e.passed
       (count_none (is_awaited_at k) p.incoming n e (sym (a.counted k r.task r.is) ∙ r.outside) j) (eq-eqb e.target k t);
 }
@@ -400,21 +307,19 @@ ready_here p k a r = (let m = map_got progress_of p.pool.tasks k r.task r.is in 
 
 -- ---- `next`
 pub runs_shown : (p : Inside) {now new : PartState} {pool : PoolState} (t k : ℕ) → state_of p ≡ now → AreAwaited p.incoming p.pool.tasks
-    → slice_get p.numbers.items k ≡ Some t → p.sent ≡ length p.outbox.items → (d : IsDispatched k p.pool pool)
-    → new ≡ record (state_of p) { started = pool.started; tasks = map progress_of pool.tasks; links = pool.inputs } → Runs t now new
+    → slice_get p.numbers.items k ≡ Some t → p.sent ≡ length p.outbox.items → (d : IsDispatched k p.pool pool) → new ≡ with_pool p pool
+    → Runs t now new
 unfolding ready_shown
-runs_shown p {now} {new} {pool} t k same a own sent d e = subst (λ (s : PartState). Runs t s new) same (record {
+runs_shown p {new = new} t k same a own sent d e = subst (λ (s : PartState). Runs t s new) same (record {
   place = k;
   own = own;
   ready = ready_shown p k a d.lowest.ready;
   lowest = λ j r. (let q = ready_here p j a r in let l = d.lowest.lowest j q.0 in let c = q.1 in omega (arith, l, c));
   none_due = sent;
-  becomes = e ∙ same_state (state_of p) (ap (λ (z : PoolState). z.started) d.becomes.becomes)
-      (ap (λ (z : PoolState). map progress_of z.tasks) d.becomes.becomes ∙ (map-set progress_of p.pool.tasks k
-      (record d.becomes.was { stage = stage.Running })
+  becomes = e ∙ (ap (with_pool p) d.becomes.becomes ∙ ap (λ (xs : List Progress). record (state_of p) { tasks = xs })
+      (map-set progress_of p.pool.tasks k (record d.becomes.was { stage = stage.Running })
       ∙ ap (λ (x : Entry). set (map progress_of p.pool.tasks) k (record (progress_of x) { stage = stage.Running }))
-      (there p.pool.tasks k d.becomes.was d.lowest.ready.task d.becomes.is d.lowest.ready.is)))
-      (ap (λ (z : PoolState). z.inputs) d.becomes.becomes) refl refl;
+      (there p.pool.tasks k d.becomes.was d.lowest.ready.task d.becomes.is d.lowest.ready.is)));
 })
 
 -- ---- `start`, which the pool does not refuse
@@ -432,40 +337,31 @@ was_started a b (Err e) ok err none fresh = absurd (elim err [
 -- ---- `done`
 pub ends_shown : (p : Inside) {now new : PartState} {pool : PoolState} {outs : List Edge} {box : List ℕ} (t k : ℕ) → state_of p ≡ now
     → slice_get p.numbers.items k ≡ Some t → (d : IsReported k p.pool pool) → outs ≡ pass t p.outgoing
-    → box ≡ p.outbox.items ++ places t p.outgoing (length p.outgoing)
-    → new ≡ record (state_of p) {
-      started = pool.started;
-      tasks = map progress_of pool.tasks;
-      links = pool.inputs;
-      outgoing = outs;
-      outbox
-          = box;
-    }
+    → box ≡ p.outbox.items ++ places t p.outgoing (length p.outgoing) → new ≡ record (with_pool p pool) { outgoing = outs; outbox = box }
     → Ends t now new
-ends_shown p {now} {new} {pool} {outs} {box} t k same own d o b e = subst (λ (s : PartState). Ends t s new) same (record {
+ends_shown p {new = new} {outs = outs} {box = box} t k same own d o b e = subst (λ (s : PartState). Ends t s new) same (record {
   place = k;
   own = own;
   task = progress_of d.was;
   is = map_get progress_of p.pool.tasks k d.was d.is;
   runs = d.stage;
-  becomes = e ∙ same_state (state_of p) (ap (λ (z : PoolState). z.started) d.becomes)
-      (ap (λ (z : PoolState). map progress_of z.tasks) d.becomes ∙ map-set progress_of p.pool.tasks k (record d.was { stage = stage.Done }))
-      (ap (λ (z : PoolState). z.inputs) d.becomes) o b;
+  becomes = e ∙ (ap (λ (z : PoolState). record (with_pool p z) { outgoing = outs; outbox = box }) d.becomes
+      ∙ same_state (state_of p) (map-set progress_of p.pool.tasks k (record d.was { stage = stage.Done })) o b);
 })
 
 pub place_at_now : {ns now : List ℕ} {k : ℕ} (t : ℕ) → Some k ≡ place_in now t → now ≡ ns → place_in ns t ≡ Some k
 place_at_now t h e = sym (h ∙ ap (λ (xs : List ℕ). place_in xs t) e)
 
 -- the refusals of the pool are those of the part
-pub done_refused : (ns : List ℕ) (pool : PoolState) (t k : ℕ) → length ns ≡ length pool.tasks → place_in ns t ≡ Some k
-    → first_refusal (dag_calls.done_checks pool k) ≡ first_refusal ((not (is_some (place_in ns t)), refusal.NoTask)
-    ∷ (not (is_running_at (task_at (place_in ns t) (map progress_of pool.tasks))), refusal.WrongLife) ∷ [])
-done_refused ns pool t k long h = (let w = slice_get_within ns k t (place_is ns t k h) in
-    let inside : nat_le (length pool.tasks) k ≡ false = grind (arith, nat_tests, w, long) in
-    free _ _ _ inside ∙ (ap (λ (b : Bool). cond (not b) (Some refusal.WrongLife) None) (same_running (slice_get pool.tasks k) ∙ ap is_running_at (sym
-    (slice_get-map progress_of pool.tasks k)))
-    ∙ sym (ap (λ (o : Option ℕ). first_refusal ((not (is_some o), refusal.NoTask)
-    ∷ (not (is_running_at (task_at o (map progress_of pool.tasks))), refusal.WrongLife) ∷ [])) h)))
+pub done_refused : (p : Inside) {now : PartState} (t k : ℕ) → state_of p ≡ now → length p.numbers.items ≡ length p.pool.tasks
+    → place_in p.numbers.items t ≡ Some k → first_refusal (dag_calls.done_checks p.pool k) ≡ first_refusal (done_checks now t)
+done_refused p t k same long h = (let w = slice_get_within p.numbers.items k t (place_is p.numbers.items t k h) in
+    let inside : nat_le (length p.pool.tasks) k ≡ false = grind (arith, nat_tests, w, long) in
+    free _ _ _ inside ∙ (ap (λ (b : Bool). cond (not b) (Some refusal.WrongLife) None) (same_running (slice_get p.pool.tasks k)
+    ∙ ap is_running_at (sym (slice_get-map progress_of p.pool.tasks k)))
+    ∙ (sym (ap (λ (o : Option ℕ). first_refusal ((not (is_some o), refusal.NoTask)
+    ∷ (not (is_running_at (task_at o (map progress_of p.pool.tasks))), refusal.WrongLife) ∷ [])) h)
+    ∙ ap (λ (s : PartState). first_refusal (done_checks s t)) same)))
   where
     same_running : (o : Option Entry) → dag_calls.is_running_at o ≡ is_running_at (option_map progress_of o)
     same_running None = refl
@@ -477,13 +373,10 @@ pub arrived_like : (u n : ℕ) (es : List Edge) (e : Edge) → AreAlike es → s
 arrived_like u n es e alike i v = elim (cases_Bool e.passed) [
   | inl t ↦ any_from (λ x. (x.value == u) && x.passed) es n e i (and_from (e.value == u) e.passed (eq-eqb e.value u v) t) ∙ sym t
   | inr f ↦ any_not (λ x. (x.value == u) && x.passed) es (λ k x j. elim (cases_eq x.value u) [
-    | inl w ↦ ap (λ (b : Bool). (x.value == u) && b) (alike k n x e j i (w ∙ sym v) ∙ f) ∙ and_false (x.value == u)
+    | inl w ↦ ap (λ (b : Bool). (x.value == u) && b) (alike k n x e j i (w ∙ sym v) ∙ f) ∙ and-false (x.value == u)
     | inr w ↦ ap (λ (b : Bool). b && x.passed) (ne_eqb x.value u w)
   ]) ∙ sym f
 ]
-
-pub none_arrived_yet : (u n : ℕ) (es : List Edge) (e : Edge) → AreAlike es → slice_get es n ≡ Some e → e.value ≡ u → IsFalse e.passed → NonePassed u es
-none_arrived_yet u n es e alike i v f = λ k x j w. alike k n x e j i (w ∙ sym v) ∙ f
 
 -- ---- `task`
 below_places : (ns us : List ℕ) (n : ℕ) → length ns ≤ n → list_all (λ s. nat_lt s n) (own_places ns us) ≡ true
@@ -507,17 +400,15 @@ spawn_free a class outside ns us few long so st si fresh = free (nat_lt 3 class)
 
 -- what was added is taken away
 pub back_shown : (p : Inside) {now : PartState} {outs : List Edge} {box : List ℕ} → state_of p ≡ now → outs ≡ p.outgoing
-    → box ≡ p.outbox.items
-    → record (state_of p) { outgoing = outs; outbox = box } ≡ now
-back_shown p same o b = same_state (state_of p) refl refl refl o b ∙ same
+    → box ≡ p.outbox.items → record (state_of p) { outgoing = outs; outbox = box } ≡ now
+back_shown p same o b = same_state (state_of p) refl o b ∙ same
 
 pub ok_when : {T E P : Type 0} (r : Result T E) (b : Bool) → b ≡ is_err r → b ≡ false → OnOk r P → P
 ok_when (Ok u) b h f p = p
 ok_when (Err e) b h f p = true_or_false b h f
 
 -- the pool refuses an own task only for memory
-pub only_memory : (o : Option Refusal) (r : Refusal) → o ≡ None → (o ≡ Some r) ⊎ (r ≡ refusal.NoMemory)
-    → r ≡ refusal.NoMemory
+pub only_memory : (o : Option Refusal) (r : Refusal) → o ≡ None → (o ≡ Some r) ⊎ (r ≡ refusal.NoMemory) → r ≡ refusal.NoMemory
 only_memory o r none h = elim h [ inr m ↦ m | inl f ↦ (let z = sym none ∙ f in cc) ]
 
 pub spawn_none : {ns box : List ℕ} {d i room count : ℕ} {pool : PoolState} {ins outs : List Edge} (class out c : ℕ) (us sources : List ℕ)
@@ -530,45 +421,28 @@ spawn_none {ns} {d = d} {i = i} {pool = pool} {ins = ins} class out c us sources
     ∙ spawn_free pool class out ns us few (omega (arith, long)) (omega (arith, o, l, p, few_us)) (omega (arith, long, own, few_d))
     (omega (arith, f, p, few_i)) fresh)
 
-pub waits_shown : (p : Inside) {now : PartState} → state_of p ≡ now → AreAwaited p.incoming p.pool.tasks → p.sent ≡ length p.outbox.items
-    → ((k : ℕ) → dag.IsReady k p.pool → ⊥) → (dag.IsOver p.pool → ⊥) → IsWaiting now
-waits_shown p same a sent idle left = subst IsWaiting same (record {
+-- `Wait` and `Over`: the pool is as it was
+pub waits_shown : (p : Inside) {now : PartState} {pool : PoolState} → state_of p ≡ now → AreAwaited p.incoming p.pool.tasks
+    → p.sent ≡ length p.outbox.items → ((k : ℕ) → dag.IsReady k p.pool → ⊥) → (dag.IsOver p.pool → ⊥) → pool ≡ p.pool
+    → IsWaiting now × (with_pool p pool ≡ now)
+waits_shown p same a sent idle left e = (let w : IsWaiting (state_of p) = record {
   none_due = sent;
   none_ready = λ k r. idle k (ready_here p k a r).0;
   not_done = λ d. left (λ k x i. d k (progress_of x) (map_get progress_of p.pool.tasks k x i));
-})
+} in (subst IsWaiting same w, ap (with_pool p) e ∙ same))
 
-pub end_shown : (p : Inside) {now : PartState} → state_of p ≡ now → p.sent ≡ length p.outbox.items → dag.IsOver p.pool → IsOver now
-end_shown p same sent over = subst IsOver same (record {
+pub end_shown : (p : Inside) {now : PartState} {pool : PoolState} → state_of p ≡ now → p.sent ≡ length p.outbox.items → dag.IsOver p.pool
+    → pool ≡ p.pool → IsOver now × (with_pool p pool ≡ now)
+end_shown p same sent over e = (let w : IsOver (state_of p) = record {
   done = λ k x i. (let m = map_got progress_of p.pool.tasks k x i in ap (λ (y : Progress). y.stage) (sym m.2) ∙ over k m.0 m.1);
   none_due = sent;
-})
-
--- the pool is as it was
-pub pool_shown : (p : Inside) {now : PartState} {pool : PoolState} → state_of p ≡ now → pool ≡ p.pool
-    → record (state_of p) { started = pool.started; tasks = map progress_of pool.tasks; links = pool.inputs } ≡ now
-pool_shown p same e = ap (λ (z : PoolState). record
-    (state_of p) { started = z.started; tasks = map progress_of z.tasks; links = z.inputs }) e ∙ same
-
--- ---- the refusals of `arrived`
-pub unread_shown : (p : Inside) {now : PartState} (u : ℕ) → state_of p ≡ now → p.pool.started ≡ true
-    → newest u p.incoming (length p.incoming) ≡ 0 → first_refusal (arrived_checks now u) ≡ Some refusal.NoTask
-unread_shown p u same on h = subst (λ (s : PartState). first_refusal (arrived_checks s u) ≡ Some refusal.NoTask) same
-    (free _ _ _ (ap not on) ∙ hit _ _ _ (ap not (read_newest u p.incoming h)))
-
-pub read_shown : (p : Inside) {now : PartState} (u n : ℕ) (e : Edge) → state_of p ≡ now → p.pool.started ≡ true
-    → newest u p.incoming (length p.incoming) ≡ n → 1 ≤ n → slice_get p.incoming (n - 1) ≡ Some e → AreAlike p.incoming
-    → first_refusal (arrived_checks now u) ≡ cond e.passed (Some refusal.WrongLife) None
-read_shown p u n e same on h l i alike = (let r = newest_read u p.incoming n e h l i in
-    subst (λ (s : PartState). first_refusal (arrived_checks s u) ≡ cond e.passed (Some refusal.WrongLife) None) same
-    (free _ _ _ (ap not on) ∙ (free _ _ _ (ap not r.1)
-    ∙ ap (λ (b : Bool). cond b (Some refusal.WrongLife) None) (arrived_like u (n - 1) p.incoming e alike i r.0))))
+} in (subst IsOver same w, ap (with_pool p) e ∙ same))
 
 pub refused_by : (P : Refusal → Type 0) (o : Option Refusal) (r : Refusal) → o ≡ Some r → P r → IfSome o P
-refused_by P o r e h = subst (λ (w : Option Refusal). IfSome w P) (sym e) h
+refused_by P o r e h = rw e h
 
 pub not_refused_by : (P : Refusal → Type 0) (o : Option Refusal) → o ≡ None → IfSome o P
-not_refused_by P o e = subst (λ (w : Option Refusal). IfSome w P) (sym e) tt
+not_refused_by P o e = rw e tt
 
 -- a task that was reported done was not refused
 pub accepted_shown : (p : Inside) {now : PartState} {pool : PoolState} (t k : ℕ) → state_of p ≡ now → place_in p.numbers.items t ≡ Some k

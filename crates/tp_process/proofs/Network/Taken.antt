@@ -93,23 +93,8 @@ gap p = bit (p.here && p.up_left) + bit (p.here && p.up_right)
 abbrev pub Takes : EpochState → EpochState → ℕ → Type 0
 Takes p r d = reach r + gap p ≤ reach p + gap r + d
 
-one_more : (b : Bool) (w : ℕ) → cond b (w + 1) 0 ≡ cond b w 0 + bit b
-one_more true w = refl
-one_more false w = refl
-
-else_more : (b : Bool) (w v : ℕ) → cond b 0 (w + 1 + v) ≡ cond b 0 (w + v) + cond b 0 1
-else_more true w v = refl
-else_more false w v = omega arith
-
 opens_takes : (p : EpochState) → p.here ≡ false → Takes p (opens (p.wave + 1) p) (cond (eqb p.number 0) 0 1)
-opens_takes p h =
-    rw h
-    (omega (
-      arith,
-      one_more (has p (left_of p)) p.wave,
-      one_more (has p (right_of p)) p.wave,
-      else_more (eqb p.number 0) p.wave (bit p.over),
-    ))
+opens_takes p h = grind (arith, nat_tests)
 
 acts_takes : (p : EpochState) → Takes p (acts p).state 0
 acts_takes p =
@@ -153,8 +138,7 @@ sums_after n k events m =
     kept_after n (Sums n k)
     (record {
       count = λ q i a s r x l v h.
-          let new : EpochState = record (x.at i) { pending = a; sent = s; received = r } in
-          sums_put n k i 0 x.at new x.controls x.controls l (omega arith) (omega arith) h;
+          sums_put n k i 0 x.at (recount a s r (x.at i)) x.controls x.controls l (omega arith) (omega arith) h;
       start = λ q x l v o away h.
           sums_put n k 0 0 x.at (opens ((x.at 0).wave + 1) (x.at 0)) x.controls x.controls l (omega arith)
           (opens_pays n k (x.at 0) m (v.inv.each 0 l).processes away) h;
@@ -169,21 +153,6 @@ sums_after n k events m =
     (omega (arith, same))
 
 -- ==== A process that knows the end of an epoch has taken every control message that was sent to it.
--- Wave w came to the process, and its children have reported.
-pub record IsThrough (w : ℕ) (p : EpochState) : Type 0 where
-  pub wave : p.wave ≡ w
-  pub left : (p.here && p.up_left) ≡ false
-  pub right : (p.here && p.up_right) ≡ false
-
-through : (n q : ℕ) (x : World) (v : Good n q x) → Finished n v.wave x → (k : ℕ) → k < n → IsThrough (x.at 0).wave (x.at k)
-through n q x v f k l =
-    elim (cases_eq k 0) [
-      | inl e ↦ rw e (record { wave = refl; left = and_right _ _ f.root.left; right = and_right _ _ f.root.right })
-      | inr off ↦
-          let z = f.given k (omega (arith, off)) l in
-          record { wave = z.wave ∙ sym v.inv.root.wave; left = and_left _ _ z.gone; right = and_left _ _ z.gone }
-    ]
-
 -- A sum with one part that is not 0.
 one-le : (n a v : ℕ) → total n (λ j. cond (eqb j a) v 0) ≤ cond (ltb a n) v 0
 one-le zero a v = grind (arith, nat_tests)
@@ -193,39 +162,16 @@ one-le (suc n) a v = grind (arith, nat_tests, one-le n a v)
 abbrev share : ℕ → ℕ → ℕ → ℕ
 share w k j = cond (eqb j (parent k)) (cond (eqb k 0) 0 (w + 1)) 0 + (cond (eqb j (2 * k + 1)) w 0 + cond (eqb j (2 * k + 2)) w 0)
 
+down-le : (k j v w : ℕ) → v ≤ w
+    → cond (eqb (2 * j + 1) k) (v + 1) 0 + cond (eqb (2 * j + 2) k) (v + 1) 0 ≤ cond (eqb j (parent k)) (cond (eqb k 0) 0 (w + 1)) 0
+down-le k j v w near = grind (arith, nat_tests)
+
+up-le : (k j v w : ℕ) → v ≤ w
+    → cond (not (eqb j 0) && eqb (parent j) k) v 0 ≤ cond (eqb j (2 * k + 1)) w 0 + cond (eqb j (2 * k + 2)) w 0
+up-le k j v w near = grind (arith, nat_tests)
+
 costs-le : (w k j : ℕ) (p : EpochState) → p.number ≡ j → p.wave ≤ w → costs_to k p ≤ share w k j
-costs-le w k j p number near =
-    elim (cases_Bool (eqb (left_of p) k)) [
-      | inl a ↦
-          let at : 2 * j + 1 ≡ k = omega (arith, number, eqb-true (left_of p) k a) in
-          let other : eqb (right_of p) k ≡ false = ne_eqb (right_of p) k (λ e. absurd (omega (arith, e, number, at))) in
-          let no : is_child k p ≡ false = and_right (not (eqb p.number 0)) (eqb (parent p.number) k)
-          (ne_eqb (parent p.number) k (λ e. absurd (omega (arith, e, number, at)))) in
-          rw (a, other, no, eq-eqb j (parent k) (omega (arith, at)), ne_eqb k 0 (λ e. absurd (omega (arith, e, at)))) (omega (arith, near))
-      | inr a ↦
-          elim (cases_Bool (eqb (right_of p) k)) [
-            | inl b ↦
-                let at : 2 * j + 2 ≡ k = omega (arith, number, eqb-true (right_of p) k b) in
-                let no : is_child k p ≡ false = and_right (not (eqb p.number 0)) (eqb (parent p.number) k)
-                (ne_eqb (parent p.number) k (λ e. absurd (omega (arith, e, number, at)))) in
-                rw (a, b, no, eq-eqb j (parent k) (omega (arith, at)), ne_eqb k 0 (λ e. absurd (omega (arith, e, at))))
-                (omega (arith, near))
-            | inr b ↦
-                elim (cases_Bool (is_child k p)) [
-                  | inr c ↦ rw (a, b, c) (omega arith)
-                  | inl c ↦
-                      let d = and_parts (not (eqb p.number 0)) (eqb (parent p.number) k) c in
-                      let away : p.number ≡ 0 → ⊥ = eqb-false p.number 0 (not-true (eqb p.number 0) d.0) in
-                      let up : parent p.number ≡ k = eqb-true (parent p.number) k d.1 in
-                      elim (cases_eq j (2 * k + 1)) [
-                        | inl e ↦ rw (a, b, c, eq-eqb j (2 * k + 1) e) (omega (arith, near))
-                        | inr off ↦
-                            let e : j ≡ 2 * k + 2 = omega (arith, off, up, number, λ (z : p.number ≡ 0). away z) in
-                            rw (a, b, c, eq-eqb j (2 * k + 2) e) (omega (arith, near))
-                      ]
-                ]
-          ]
-    ]
+costs-le w k j p number near = rw number (omega (arith, down-le k j p.wave w near, up-le k j p.wave w near))
 
 -- what can have been sent to process k in w waves and for the end
 abbrev pub at_most_sent : ℕ → ℕ → ℕ → ℕ

@@ -1,5 +1,4 @@
-use Rattle.gerfmuod.proofs.Words.{◌≡◌, ◌∙◌, ap, length, refl, take, take_min, CoreState}
-use Rattle.gerfmuod.proofs.Steps.{taken_by_call}
+use Rattle.gerfmuod.proofs.Steps.{◌≡◌, ◌∙◌, ap, length, refl, take, take_min, CoreState, taken_by_call}
 use Rattle.gerfmuod.proofs.batch.steps.Goals as goal
 
 pub returns : goal.returns

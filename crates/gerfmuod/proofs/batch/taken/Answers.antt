@@ -1,5 +1,4 @@
-use Rattle.gerfmuod.proofs.Words.{◌≡◌, get_or, subst, arith, Option, Step, IsStep, raw_step, TellsNoEarlyEnd, IsTold}
-use Rattle.gerfmuod.proofs.Steps.{after_one, stops_at}
+use Rattle.gerfmuod.proofs.Steps.{◌≡◌, get_or, subst, arith, Option, Step, IsStep, raw_step, TellsNoEarlyEnd, IsTold, after_one, stops_at}
 use Rattle.gerfmuod.proofs.batch.taken.Goals as goal
 
 pub returns-then-answer-ne0 : goal.returns-then-answer-ne0

@@ -1,5 +1,4 @@
-use Rattle.gerfmuod.proofs.Words.{◌∙◌, arith, nat_tests, refl, IsTrue, IsFalse}
-use Rattle.gerfmuod.proofs.Steps.{told_left}
+use Rattle.gerfmuod.proofs.Steps.{◌∙◌, arith, nat_tests, refl, IsTrue, IsFalse, told_left}
 use Rattle.gerfmuod.proofs.calls.told.Goals as goal
 
 pub returns-then-leaves_nothing : goal.returns-then-leaves_nothing

@@ -1,36 +1,21 @@
 -- The proof of `gerfmuod_graph_spawn`: it passes its arguments on with a borrow of the graph.
-use Rattle.gerfmuod.proofs.Borrowing.{List, [], ◌∷◌, refl, full_share, id⊢, named, vint, vptr, w32, flat, ◌$◌, !, done, enter, of_opd, addr}
-use Rattle.gerfmuod.proofs.Borrowing.{stop, no_more, and_then, returns, alloc_all, pass_all, free_all, look_at, get, through, sets, lands_as}
-use Rattle.gerfmuod.proofs.Borrowing.{framed, layout, tables, triple_of, u32, yes, plain, uint_vals, uint_Tells, shr_slice_of, shr_slice_vals}
-use Rattle.gerfmuod.proofs.Borrowing.{shr_slice_Tells, types_at, Goes-dropped, Slot, graph_row, graph_result_row, graph_result_laws, exported}
-use Rattle.gerfmuod.proofs.Borrowing.{passes_on, gives, lent, dropped, drops, IsSpawnCall, Val}
-use Rattle.gerfmuod.specs.contracts.graph.gerfmuod_graph_spawn as f
+use Rattle.gerfmuod.proofs.Borrowing.{[], ◌∷◌, refl, full_share, id⊢, vptr, ◌$◌, !, done, enter, of_opd, addr, stop, no_more, and_then}
+use Rattle.gerfmuod.proofs.Borrowing.{returns, alloc_all, pass_all, free_all, look_at, get, through, sets, lands_as, layout, u32, graph_row}
+use Rattle.gerfmuod.proofs.Borrowing.{graph_result_row, graph_result_laws, passes_on, gives, lent, IsSpawnCall, lists, listed_vals}
+use Rattle.gerfmuod.proofs.Borrowing.{listed_arguments, frames}
 use Rattle.gerfmuod.proofs.graph.gerfmuod_graph_spawn.Statement.{statement}
 use Rattle.gerfmuod.proofs.graph.gerfmuod_graph_spawn.Code as code
-use Rattle.gerfmuod.specs.contracts.graph.calls.spawn as g
 use Rattle.gerfmuod.proofs.graph.calls.spawn.Met.{met}
-
-abbrev slots : List (Slot 1)
-slots = plain (λ _. u32) ∷ shr_slice_of (0 ∷ []) tt (plain (λ _. u32)) ∷ plain (λ _. u32) ∷ []
 
 pub gerfmuod_graph_spawn_spec : {M : Type 1} → statement M
 gerfmuod_graph_spawn_spec 𝓤 𝓛 𝓜 𝓡 wired =
-    let num = Goes-dropped 𝓛 1 (plain (λ _. u32)) yes (λ κs x w. refl) in
-    exported 𝓛 𝓜 𝓡 graph_row graph_result_row graph_result_laws 1 slots f.ended.kept.1
-    (λ κs a n u out new. IsSpawnCall n a.0 a.1.0.now a.1.1.0 u new) (dropped slots f.ended.kept.1)
-    (num, (Goes-dropped 𝓛 1 (shr_slice_of (0 ∷ []) tt (plain (λ _. u32))) yes (λ κs x w. refl), (num, tt)))
-    (drops 𝓛 1 slots f.ended.kept.1)
-    f.Key.name code.function (code.unfolded 𝓤 𝓛.H 𝓜 𝓡 wired) (λ κs. (uint_vals w32, (shr_slice_vals, (uint_vals w32, tt))))
-    (λ κs. (uint_Tells w32, (shr_slice_Tells (named 0) κs.0 u32, (uint_Tells w32, tt))))
-    g.Key.name (triple_of 𝓛 g.signature (g.spec 𝓛 𝓜.mem 𝓡.returns))
-    (met 𝓤 𝓛 𝓜 𝓡 (code.calls-gerfmuod::graph::calls::spawn 𝓡.env wired)) (λ κs qs a n b o are.
-    let i = are.0.1 in let few = are.1.0.0.1.0 in let j = are.1.1.0.1 in
-    let vs : List Val × (List Val × (List Val × Unit {0})) = (vint w32 a.0 ∷ [], (shr_slice_vals a.1.0, (vint w32 a.1.1.0 ∷ [], tt))) in
-    gives (λ α γ. (((α ∷ [], κs), (full_share, qs), tt, (lent b o γ n, a), (vptr b o ∷ [], vs)), tt)) (λ α γ. refl)
-    (λ α γ. id⊢ 𝓤 _) (λ α γ v. id⊢ 𝓤 _) (λ Q.
-    enter ! _ _ _ _ _ $ alloc_all ! (λ l.
+    lists 𝓛 𝓜 𝓡 graph_row graph_result_row graph_result_laws u32 (λ κs a n u out new. IsSpawnCall n a.0 a.1.0.now a.1.1.0 u new) _
+    code.function (code.unfolded 𝓤 𝓛.H 𝓜 𝓡 wired) _ _ (met 𝓤 𝓛 𝓜 𝓡 (code.calls-gerfmuod::graph::calls::spawn 𝓡.env wired))
+    (λ κs qs a n b o are. let i = are.0.1 in let few = are.1.0.0.1.0 in let j = are.1.1.0.1 in
+    gives (λ α γ. (((α ∷ [], κs), (full_share, qs), tt, (lent b o γ n, a), (vptr b o ∷ [], listed_vals u32 κs a)), tt)) (λ α γ. refl)
+    (λ α γ. id⊢ 𝓤 _) (λ α γ v. id⊢ 𝓤 _) (λ Q. enter ! _ _ _ _ _ $ alloc_all ! (λ l.
     pass_all ! refl ((tt, tt), ((tt, record { fits = i }), ((tt, (tt, (record { fits = few }, tt))), ((tt, record { fits = j }), tt)))) $
     sets ! (of_opd ! (get ! refl)) refl (tt, tt) $ sets ! (addr ! (through ! refl (stop !))) refl (tt, tt) $
-    passes_on ! (framed 𝓤 𝓛.H 𝓜 (tables 𝓤 𝓛.H 𝓜 𝓡 𝓡.env)) (layout graph_result_row) (vptr b o ∷ flat (types_at slots κs) vs) Q
+    passes_on ! (frames 𝓛 𝓜 𝓡) (layout graph_result_row) (listed_arguments u32 κs a b o) Q
     (and_then ! (get ! refl) (and_then ! (get ! refl) (and_then ! (get ! refl) (and_then ! (get ! refl) (no_more !)))))
     (λ v good. lands_as ! refl refl good $ returns ! (look_at ! 0 refl) $ free_all ! refl $ done !))))

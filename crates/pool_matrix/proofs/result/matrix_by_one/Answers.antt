@@ -1,8 +1,4 @@
-use Rattle.std.proofs.Common.{inl}
-use Rattle.std.proofs.lemmas.Result.{IfErr-weaker}
-use Rattle.tp_graph.proofs.Left.{right_kept}
-use Rattle.pool_matrix.specs.Matrices.{matrix_graph}
-use Rattle.pool_matrix.proofs.Lacking.{all_there, only_memory}
+use Rattle.pool_matrix.proofs.Refused.{inl, IfErr-weaker, right_kept, matrix_graph, all_there, only_memory}
 use Rattle.pool_matrix.proofs.result.matrix_by_one.Goals as goal
 
 pub matrix_of-requires : goal.matrix_of-requires

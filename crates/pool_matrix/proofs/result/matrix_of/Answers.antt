@@ -1,9 +1,5 @@
-use Rattle.std.proofs.Common.{◌+◌, ◌*◌, ◌/◌, ◌%◌, pos, get_or, ap, refl, sym, ◌∙◌, inr, arith, w64}
-use Rattle.std.proofs.lemmas.Int.{to_z-of_z}
-use Rattle.tp_graph.specs.Values.{value_of}
-use Rattle.pool_matrix.specs.Matrices.{matrix_graph}
-use Rattle.pool_matrix.proofs.Lacking.{one_more_there, lacking, none_lacks}
-use Rattle.pool_matrix.proofs.Tiles.{last_kept, number_more, row_below}
+use Rattle.pool_matrix.proofs.Refused.{◌+◌, ◌*◌, ◌/◌, ◌%◌, pos, get_or, ap, refl, sym, ◌∙◌, inr, arith, w64, to_z-of_z, value_of}
+use Rattle.pool_matrix.proofs.Refused.{matrix_graph, one_more_there, lacking, none_lacks, last_kept, number_more, row_below}
 use Rattle.pool_matrix.proofs.result.matrix_of.Goals as goal
 
 pub task_at-requires : goal.task_at-requires

@@ -1,6 +1,4 @@
-use Rattle.std.proofs.Common.{◌≡◌, ◌<◌, ◌*◌, ◌/◌, ◌%◌, ℕ}
-use Rattle.pool_matrix.specs.Matrices.{list_of, sum_to, term}
-use Rattle.pool_matrix.proofs.Lacking.{HasOne, last_task}
+use Rattle.pool_matrix.proofs.Refused.{◌≡◌, ◌<◌, ◌*◌, ◌/◌, ◌%◌, ℕ, list_of, sum_to, term, HasOne, last_task}
 use Rattle.pool_matrix.proofs.result.matrix_of.Given as goal
 
 abbrev pub invariant-loop-q : goal.invariant-loop-q

@@ -1,9 +1,5 @@
-use Rattle.std.proofs.Common.{◌≡◌, ◌+◌, pos, length, refl, ◌∙◌, subst, Some, arith, rules, w64}
-use Rattle.std.proofs.lemmas.Int.{to_z-of_z}
-use Rattle.tp_graph.specs.Values.{gather}
-use Rattle.tp_graph.proofs.Made.{gathered}
-use Rattle.pool_matrix.specs.Rows.{one_more, row_entry}
-use Rattle.pool_matrix.proofs.RowSums.{row_of_none, row_of_one, rows_joined, row_stays}
+use Rattle.pool_matrix.proofs.Refused.{◌≡◌, ◌+◌, pos, length, refl, ◌∙◌, subst, Some, arith, rules, w64, to_z-of_z, gather, gathered}
+use Rattle.pool_matrix.proofs.Refused.{one_more, row_entry, row_of_none, row_of_one, rows_joined, row_stays}
 use Rattle.pool_matrix.proofs.row.add_each.Goals as goal
 
 pub loop-z-init : goal.loop-z-init

@@ -1,6 +1,4 @@
-use Rattle.std.proofs.Common.{◌≡◌, length, Some}
-use Rattle.tp_graph.specs.Values.{gather}
-use Rattle.pool_matrix.specs.Rows.{row_entry}
+use Rattle.pool_matrix.proofs.Refused.{◌≡◌, length, Some, gather, row_entry}
 use Rattle.pool_matrix.proofs.row.add_each.Given as goal
 
 abbrev pub invariant-loop-z : goal.invariant-loop-z

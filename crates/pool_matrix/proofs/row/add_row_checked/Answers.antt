@@ -1,10 +1,5 @@
-use Rattle.std.proofs.Common.{◌≡◌, ◌*ℤ◌, ℕ, ℤ, pos, length, get_or, Option, Some, None, refl, ap, sym, ◌∙◌, subst, arith, rules, w64}
-use Rattle.std.proofs.Common.{FitsSigned}
-use Rattle.std.proofs.lemmas.Int.{to_z-of_z}
-use Rattle.pool_matrix.specs.Matrices.{more}
-use Rattle.pool_matrix.specs.Rows.{one_more}
-use Rattle.pool_matrix.proofs.Running.{gather_fails}
-use Rattle.pool_matrix.proofs.Added.{IsPartly, one_partly, all_partly}
+use Rattle.pool_matrix.proofs.Refused.{◌≡◌, ◌*ℤ◌, ℕ, ℤ, pos, length, get_or, Option, Some, None, refl, ap, sym, ◌∙◌, subst, arith, rules}
+use Rattle.pool_matrix.proofs.Refused.{w64, FitsSigned, to_z-of_z, more, one_more, gather_fails, IsPartly, one_partly, all_partly}
 use Rattle.pool_matrix.proofs.row.add_row_checked.Goals as goal
 
 pub returns-in_default : goal.returns-in_default

@@ -1,5 +1,4 @@
-use Rattle.pool_matrix.specs.Rows.{one_more}
-use Rattle.pool_matrix.proofs.Added.{IsPartly}
+use Rattle.pool_matrix.proofs.Refused.{one_more, IsPartly}
 use Rattle.pool_matrix.proofs.row.add_row_checked.Given as goal
 
 abbrev pub invariant-loop-n : goal.invariant-loop-n

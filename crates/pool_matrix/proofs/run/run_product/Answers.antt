@@ -1,7 +1,5 @@
-use Rattle.std.proofs.Common.{rules, subst}
-use Rattle.pool_matrix.proofs.Refused.{product-graph, product_kept, product_refused}
+use Rattle.pool_matrix.proofs.Refused.{rules, subst, product-graph, product_kept, product_refused, IsFault, IsOutcome}
 use Rattle.pool_matrix.proofs.run.run_product.Goals as goal
-use Rattle.tp_work.specs.Outcomes.{IsFault, IsOutcome}
 
 pub matrix_of-requires : goal.matrix_of-requires
 matrix_of-requires g c =

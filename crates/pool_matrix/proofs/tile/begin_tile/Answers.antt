@@ -1,7 +1,4 @@
-use Rattle.std.proofs.Common.{ℕ, ℤ, pos, get_or, Option, Some, sym, ap, ◌∙◌, add-one, arith, w64}
-use Rattle.std.proofs.lemmas.Int.{to_z-of_z}
-use Rattle.tp_graph.specs.Values.{gather}
-use Rattle.pool_matrix.proofs.Running.{gather_more}
+use Rattle.pool_matrix.proofs.Refused.{ℕ, ℤ, pos, get_or, Option, Some, sym, ap, ◌∙◌, add-one, arith, w64, to_z-of_z, gather, gather_more}
 use Rattle.pool_matrix.proofs.tile.begin_tile.Goals as goal
 
 pub loop-e-preserved : goal.loop-e-preserved

@@ -1,5 +1,4 @@
-use Rattle.std.proofs.Common.{◌≡◌, pos, get_or, vec_len, vec_capacity, Some}
-use Rattle.tp_graph.specs.Values.{gather}
+use Rattle.pool_matrix.proofs.Refused.{◌≡◌, pos, get_or, vec_len, vec_capacity, Some, gather}
 use Rattle.pool_matrix.proofs.tile.begin_tile.Given as goal
 
 abbrev pub invariant-loop-e : goal.invariant-loop-e

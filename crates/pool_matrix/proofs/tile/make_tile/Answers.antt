@@ -1,6 +1,5 @@
-use Rattle.std.proofs.Common.{◌≡◌, ◌≤◌, ◌+◌, ◌-◌, ◌*◌, ◌++◌, length, take, drop, ap, ◌∙◌, arith, rules}
-use Rattle.std.proofs.lemmas.List.{take_at}
-use Rattle.pool_matrix.proofs.TileRows.{row_inside, begun_long, tile_step, tile_fails, tile_done}
+use Rattle.pool_matrix.proofs.Refused.{◌≡◌, ◌≤◌, ◌+◌, ◌-◌, ◌*◌, ◌++◌, length, take, drop, ap, ◌∙◌, arith, rules, take_at, row_inside}
+use Rattle.pool_matrix.proofs.Refused.{begun_long, tile_step, tile_fails, tile_done}
 use Rattle.pool_matrix.proofs.tile.make_tile.Goals as goal
 
 pub slice_bounds-sums-end : goal.slice_bounds-sums-end

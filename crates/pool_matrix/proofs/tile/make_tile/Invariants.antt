@@ -1,6 +1,4 @@
-use Rattle.std.proofs.Common.{◌*◌}
-use Rattle.pool_matrix.specs.Matrices.{tile_entry}
-use Rattle.pool_matrix.proofs.Added.{IsPartly}
+use Rattle.pool_matrix.proofs.Refused.{◌*◌, tile_entry, IsPartly}
 use Rattle.pool_matrix.proofs.tile.make_tile.Given as goal
 
 abbrev pub invariant-loop-row : goal.invariant-loop-row

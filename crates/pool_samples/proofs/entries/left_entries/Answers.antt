@@ -1,5 +1,4 @@
-use Rattle.std.proofs.Common.{◌+◌, ◌*◌, ◌∙◌, arith}
-use Rattle.pool_samples.proofs.EntryTables.{left_at, small_entry}
+use Rattle.pool_samples.proofs.Keeping.{◌+◌, ◌*◌, ◌∙◌, arith, left_at, small_entry}
 use Rattle.pool_samples.proofs.entries.left_entries.Goals as goal
 
 pub returns-clause-same : goal.returns-clause-same

@@ -1,5 +1,4 @@
-use Rattle.std.proofs.Common.{◌+◌, ◌*◌, ◌∙◌, arith}
-use Rattle.pool_samples.proofs.EntryTables.{right_at, small_entry}
+use Rattle.pool_samples.proofs.Keeping.{◌+◌, ◌*◌, ◌∙◌, arith, right_at, small_entry}
 use Rattle.pool_samples.proofs.entries.right_entries.Goals as goal
 
 pub returns-clause-same : goal.returns-clause-same

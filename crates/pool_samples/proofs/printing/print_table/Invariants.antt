@@ -1,5 +1,4 @@
-use Rattle.std.proofs.Common.{◌≡◌}
-use Rattle.pool_samples.specs.Tables.{table_of, texts, cell_text}
+use Rattle.pool_samples.proofs.Keeping.{◌≡◌, table_of, texts, cell_text}
 use Rattle.pool_samples.proofs.printing.print_table.Given as goal
 
 abbrev pub invariant-loop-i : goal.invariant-loop-i

@@ -1,8 +1,5 @@
-use Rattle.std.proofs.Common.{◌≡◌, ◌≢◌, inl, inr, rules, arith, w64, get_or-set_other}
-use Rattle.std.specs.Int.RustNames.{FitsSigned}
-use Rattle.std.proofs.lemmas.Bool.{cases_eq}
-use Rattle.std.proofs.lemmas.Int.{to_z-of_z}
-use Rattle.pool_samples.proofs.Sums.{add_written, add_fails, add_ends}
+use Rattle.pool_samples.proofs.Keeping.{◌≡◌, ◌≢◌, inl, inr, rules, arith, w64, get_or-set_other, FitsSigned, cases_eq, to_z-of_z}
+use Rattle.pool_samples.proofs.Keeping.{add_written, add_fails, add_ends}
 use Rattle.pool_samples.proofs.product.add_to.Goals as goal
 
 pub loop-e-preserved : goal.loop-e-preserved

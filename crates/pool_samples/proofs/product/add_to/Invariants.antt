@@ -1,6 +1,4 @@
-use Rattle.std.proofs.Common.{◌≡◌, ◌<◌, ◌≤◌, ℕ, pos, take, get_or, true, None}
-use Rattle.tp_graph.specs.Values.{all_fit}
-use Rattle.pool_samples.specs.Products.{add_lists, added}
+use Rattle.pool_samples.proofs.Keeping.{◌≡◌, ◌<◌, ◌≤◌, ℕ, pos, take, get_or, true, None, all_fit, add_lists, added}
 use Rattle.pool_samples.proofs.product.add_to.Given as goal
 
 abbrev pub invariant-loop-e : goal.invariant-loop-e

@@ -1,5 +1,4 @@
-use Rattle.std.proofs.Common.{arith}
-use Rattle.pool_samples.proofs.Sums.{row_joined}
+use Rattle.pool_samples.proofs.Keeping.{arith, row_joined}
 use Rattle.pool_samples.proofs.product.make_tile.Goals as goal
 
 pub loop-r-preserved : goal.loop-r-preserved

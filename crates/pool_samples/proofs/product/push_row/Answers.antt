@@ -1,8 +1,4 @@
-use Rattle.std.proofs.Common.{◌+◌, ◌∙◌, ℕ, ℤ, arith, w64}
-use Rattle.std.proofs.lemmas.Int.{to_z-of_z}
-use Rattle.pool_samples.specs.Products.{sum_from, term}
-use Rattle.pool_samples.proofs.Sums.{pushed, fit_push}
-use Rattle.pool_samples.proofs.EntryTables.{slices_sum}
+use Rattle.pool_samples.proofs.Keeping.{◌+◌, ◌∙◌, ℕ, ℤ, arith, w64, to_z-of_z, sum_from, term, pushed, fit-push, slices_sum}
 use Rattle.pool_samples.proofs.product.push_row.Goals as goal
 
 pub loop-preserved : goal.loop-preserved
@@ -20,7 +16,7 @@ loop-preserved c =
       place = omega (arith, c.next_place-place.ensures.same, before.place);
       same = pushed a.made.now.items c.loop.made.items c.push_reserved.new.self.items c.loop.counter sums c.sum_at.result before.same
           (rw kept at (c.push_reserved.ensures.items)) sum;
-      fit = rw (c.push_reserved.ensures.items, kept) (fit_push c.loop.made.items c.sum_at.result before.fit c.sum_at.ensures.fit);
+      fit = rw (c.push_reserved.ensures.items, kept) (fit-push c.loop.made.items c.sum_at.result before.fit c.sum_at.ensures.fit);
       long = omega (arith, c.push_reserved.ensures.len, before.long);
       room = omega (arith, c.push_reserved.ensures.capacity, before.room);
     }

@@ -1,6 +1,4 @@
-use Rattle.std.proofs.Common.{◌≡◌, ◌<◌, ◌+◌, ◌*◌, ◌%◌, ◌++◌, true, vec_len, vec_capacity}
-use Rattle.tp_graph.specs.Values.{all_fit}
-use Rattle.pool_samples.specs.Products.{sum_from, term, list_of}
+use Rattle.pool_samples.proofs.Keeping.{◌≡◌, ◌<◌, ◌+◌, ◌*◌, ◌%◌, ◌++◌, true, vec_len, vec_capacity, all_fit, sum_from, term, list_of}
 use Rattle.pool_samples.proofs.product.push_row.Given as goal
 
 abbrev pub invariant-loop : goal.invariant-loop

@@ -1,6 +1,5 @@
-use Rattle.std.proofs.Common.{◌≡◌, ◌+ℤ◌, ◌*ℤ◌, ℕ, ℤ, pos, get_or, sym, ◌∙◌, arith, rules, w32, w64, FitsSigned}
-use Rattle.std.proofs.lemmas.Int.{to_z-of_z}
-use Rattle.pool_samples.proofs.Sums.{next_sum}
+use Rattle.pool_samples.proofs.Keeping.{◌≡◌, ◌+ℤ◌, ◌*ℤ◌, ℕ, ℤ, pos, get_or, sym, ◌∙◌, arith, rules, w32, w64, FitsSigned, to_z-of_z}
+use Rattle.pool_samples.proofs.Keeping.{next_sum}
 use Rattle.pool_samples.proofs.product.sum_at.Goals as goal
 
 pub loop-n-preserved : goal.loop-n-preserved

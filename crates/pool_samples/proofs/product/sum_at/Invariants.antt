@@ -1,5 +1,4 @@
-use Rattle.std.proofs.Common.{◌≡◌, ◌≤◌, ◌*◌, ◌*ℤ◌, pos, get_or, unsigned_abs}
-use Rattle.pool_samples.specs.Products.{sum_from}
+use Rattle.pool_samples.proofs.Keeping.{◌≡◌, ◌≤◌, ◌*◌, ◌*ℤ◌, pos, get_or, unsigned_abs, sum_from}
 use Rattle.pool_samples.proofs.product.sum_at.Given as goal
 
 abbrev pub invariant-loop-n : goal.invariant-loop-n

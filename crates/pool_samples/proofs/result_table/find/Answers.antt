@@ -1,9 +1,5 @@
-use Rattle.std.proofs.Common.{◌≡◌, ◌<◌, ℤ, List, Some, refl, length, arith, sym, ◌∙◌, subst, length-set}
-use Rattle.tp_base.specs.declared.TaskId.{TaskId}
-use Rattle.tp_graph.specs.Values.{value_of}
-use Rattle.pool_samples.specs.Any.{any_graph}
-use Rattle.pool_samples.proofs.Found.{index_more, index_set}
-use Rattle.pool_samples.proofs.Spelling.{the_one}
+use Rattle.pool_samples.proofs.Keeping.{◌≡◌, ◌<◌, ℤ, List, Some, refl, length, arith, sym, ◌∙◌, subst, length-set, TaskId, value_of}
+use Rattle.pool_samples.proofs.Keeping.{any_graph, index_more, index_set, some_same}
 use Rattle.pool_samples.proofs.result_table.find.Goals as goal
 
 pub loop-task-preserved-in_default : goal.loop-task-preserved-in_default
@@ -27,6 +23,6 @@ loop-task-preserved c =
           index_set c.args.graph c.args.results.now c.loop-task.task-index c.loop-task-item.result (omega arith) c.loop-task-item.is
           c.loop-task.values c.in-Some.rank _ within c.in-Some.ensures.only.1 refl
           (subst P (sym c.loop-task-item.is) (c.requires.right c.loop-task.task-index c.loop-task-item.result (omega arith)))
-          (λ other h same. the_one other c.in-Some.rank (sym (c.in-Some.ensures.each other h same)))
+          (λ other h same. some_same (sym (c.in-Some.ensures.each other h same)))
           c.loop-task.invariant.found;
     }

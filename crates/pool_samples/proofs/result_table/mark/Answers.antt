@@ -1,7 +1,4 @@
-use Rattle.std.proofs.Common.{◌<◌, length, arith, sym, true, ◌∙◌, length-set}
-use Rattle.pool_samples.proofs.Found.{needed_few}
-use Rattle.pool_samples.proofs.Marked.{mark_more, mark_set}
-use Rattle.pool_samples.proofs.Spelling.{the_one}
+use Rattle.pool_samples.proofs.Keeping.{◌<◌, length, arith, sym, true, ◌∙◌, length-set, needed_few, mark_more, mark_set, some_same}
 use Rattle.pool_samples.proofs.result_table.mark.Goals as goal
 
 pub loop-task-preserved-in_default : goal.loop-task-preserved-in_default
@@ -23,6 +20,6 @@ loop-task-preserved c =
       marked =
           mark_set c.args.graph c.args.results.now c.loop-task.task-index c.loop-task-item.result (omega arith) c.loop-task-item.is
           c.loop-task.known c.in-Some.rank within c.in-Some.ensures.only.1
-          (λ other h same. the_one other c.in-Some.rank (sym (c.in-Some.ensures.each other h same)))
+          (λ other h same. some_same (sym (c.in-Some.ensures.each other h same)))
           c.loop-task.invariant.marked;
     }

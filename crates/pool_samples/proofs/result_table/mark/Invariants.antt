@@ -1,5 +1,4 @@
-use Rattle.std.proofs.Common.{◌≡◌, length, take}
-use Rattle.pool_samples.specs.Needed.{IsMarked}
+use Rattle.pool_samples.proofs.Keeping.{◌≡◌, length, take, IsMarked}
 use Rattle.pool_samples.proofs.result_table.mark.Given as goal
 
 abbrev pub invariant-loop-task : goal.invariant-loop-task

@@ -1,4 +1,4 @@
-use Rattle.std.proofs.Common.{◌<◌, ℕ, IsSome, get_or, None}
+use Rattle.pool_samples.proofs.Keeping.{◌<◌, ℕ, IsSome, get_or, None}
 use Rattle.pool_samples.proofs.result_table.missing.Given as goal
 
 abbrev pub invariant-loop-rank : goal.invariant-loop-rank

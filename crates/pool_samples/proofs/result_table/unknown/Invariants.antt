@@ -1,4 +1,4 @@
-use Rattle.std.proofs.Common.{◌<◌, ℕ, IsTrue, get_or, false}
+use Rattle.pool_samples.proofs.Keeping.{◌<◌, ℕ, IsTrue, get_or, false}
 use Rattle.pool_samples.proofs.result_table.unknown.Given as goal
 
 abbrev pub invariant-loop-rank : goal.invariant-loop-rank

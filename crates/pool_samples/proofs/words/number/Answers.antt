@@ -1,6 +1,5 @@
-use Rattle.std.proofs.Common.{◌≡◌, ◌∙◌, ◌<◌, ◌^◌, sym, subst, arith, rules, Option, ℕ, IfSome, decimal}
-use Rattle.pool_samples.specs.Words.{IsPlain}
-use Rattle.pool_samples.proofs.Spelling.{decimal_plain, read_plain, read_decimal}
+use Rattle.pool_samples.proofs.Keeping.{◌≡◌, ◌∙◌, ◌<◌, ◌^◌, sym, subst, arith, rules, Option, ℕ, IfSome, decimal, IsPlain, decimal_plain}
+use Rattle.pool_samples.proofs.Keeping.{read_plain, read_decimal}
 use Rattle.pool_samples.proofs.words.number.Goals as goal
 
 pub returns-then-not-is_plain-clause-spelt : goal.returns-then-not-is_plain-clause-spelt

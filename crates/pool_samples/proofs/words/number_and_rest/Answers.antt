@@ -1,6 +1,4 @@
-use Rattle.std.proofs.Common.{arith, Some, None}
-use Rattle.std.proofs.lemmas.Str.Pattern.{split_parts}
-use Rattle.pool_samples.proofs.Spelling.{has_colon, split_number}
+use Rattle.pool_samples.proofs.Keeping.{arith, Some, None, split_parts, has_colon, split_number}
 use Rattle.pool_samples.proofs.words.number_and_rest.Goals as goal
 
 pub returns-in_err-first-clause-spelt : goal.returns-in_err-first-clause-spelt

@@ -1,6 +1,4 @@
-use Rattle.std.proofs.Common.{◌≡◌, ◌*◌, ◌/◌, ◌%◌, Some, ap, ◌∙◌, arith}
-use Rattle.pool_samples.specs.Any.{product_same}
-use Rattle.pool_samples.proofs.Spelling.{order_is, each_of_three}
+use Rattle.pool_samples.proofs.Keeping.{◌≡◌, ◌*◌, ◌/◌, ◌%◌, Some, ap, ◌∙◌, arith, product_same, order_is, each_of_three}
 use Rattle.pool_samples.proofs.words.product_named.Goals as goal
 
 pub returns-then-order-side-ne0-clause-named : goal.returns-then-order-side-ne0-clause-named

@@ -1,6 +1,4 @@
-use Rattle.std.proofs.Common.{Some, ap, arith}
-use Rattle.pool_samples.specs.Any.{wavefront_same}
-use Rattle.pool_samples.proofs.Spelling.{each_of_three}
+use Rattle.pool_samples.proofs.Keeping.{Some, ap, arith, wavefront_same, each_of_three}
 use Rattle.pool_samples.proofs.words.wavefront_named.Goals as goal
 
 pub returns-clause-named : goal.returns-clause-named

@@ -1,7 +1,4 @@
-use Rattle.std.proofs.Common.{◌∙◌, ap, refl}
-use Rattle.std.proofs.lemmas.List.{take_all}
-use Rattle.tp_flow.specs.Description.{awaited}
-use Rattle.tp_flow.proofs.Keeping.{is_at, found_step}
+use Rattle.tp_flow.proofs.Keeping.{◌∙◌, ap, refl, take_all, awaited, is_at, found_step}
 use Rattle.tp_flow.proofs.uses.find_awaited.Goals as goal
 
 pub loop-access-preserved : goal.loop-access-preserved

@@ -1,6 +1,4 @@
-use Rattle.std.proofs.Common.{◌≡◌, List, take}
-use Rattle.tp_flow.specs.Description.{Task, awaited}
-use Rattle.tp_flow.specs.State.{AreKept}
+use Rattle.tp_flow.proofs.Keeping.{◌≡◌, List, take, Task, awaited, AreKept}
 use Rattle.tp_flow.proofs.uses.find_awaited.Given as goal
 
 -- what was found

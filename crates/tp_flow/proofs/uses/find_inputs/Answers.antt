@@ -1,8 +1,4 @@
-use Rattle.std.proofs.Common.{◌↔◌, ℕ, List, subst, eqb}
-use Rattle.std.proofs.lemmas.List.Filters.{dedup_is}
-use Rattle.std.proofs.lemmas.Map.Keys.{IsStrictlyIncreasing-dedup}
-use Rattle.tp_flow.specs.Description.{Has}
-use Rattle.tp_flow.proofs.Lists.{same_elements}
+use Rattle.tp_flow.proofs.Keeping.{◌↔◌, ℕ, List, subst, eqb, dedup_is, IsStrictlyIncreasing-dedup, Has, same_elements}
 use Rattle.tp_flow.proofs.uses.find_inputs.Goals as goal
 
 pub returns : goal.returns

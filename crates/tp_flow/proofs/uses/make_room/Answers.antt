@@ -1,7 +1,4 @@
-use Rattle.std.proofs.Common.{◌∙◌}
-use Rattle.std.proofs.Math.ListN.{length-set}
-use Rattle.std.proofs.lemmas.List.{take_all}
-use Rattle.tp_flow.proofs.Keeping.{access_at, is_at, same_step, room_step}
+use Rattle.tp_flow.proofs.Keeping.{◌∙◌, length-set, take_all, access_at, is_at, same_step, room_step}
 use Rattle.tp_flow.proofs.uses.make_room.Goals as goal
 
 pub returns-in_err-make_room-clause-same : goal.returns-in_err-make_room-clause-same
@@ -11,8 +8,7 @@ returns-in_err-make_room-clause-same c =
 
 pub loop-access-preserved : goal.loop-access-preserved
 loop-access-preserved c =
-    let us = c.loop-access.handles.items in
-    let k = c.loop-access.access-index in
+    let us = c.loop-access.handles.items in let k = c.loop-access.access-index in
     let i = is_at us c.args.accesses.now _ k c.index_mut.result.now c.requires c.loop-access.invariant.count c.loop-access-test.true
     c.index_mut.ensures.value in
     record {

@@ -1,5 +1,4 @@
-use Rattle.std.proofs.Common.{◌≡◌, length, map, take}
-use Rattle.tp_flow.specs.State.{state_of_uses, has_room, Pass}
+use Rattle.tp_flow.proofs.Keeping.{◌≡◌, length, map, take, state_of_uses, has_room, Pass}
 use Rattle.tp_flow.proofs.uses.make_room.Given as goal
 
 abbrev pub invariant-loop-access : goal.invariant-loop-access

@@ -1,11 +1,6 @@
-use Rattle.std.proofs.Common.{◌∙◌, ◌∷◌, refl, sym, ap, subst, List}
-use Rattle.std.specs.Prelude.{◌||◌}
-use Rattle.std.proofs.Math.ListN.{length-set}
-use Rattle.std.proofs.lemmas.List.{take_all}
-use Rattle.tp_flow.specs.declared.access.Access.{Access}
-use Rattle.tp_flow.specs.State.{state_of_uses, has_room, is_recorded, can_record, AreKept}
-use Rattle.tp_flow.proofs.Lists.{or_true}
-use Rattle.tp_flow.proofs.Keeping.{task, access_at, is_at, pass_at, pass_weaker, pass_set, kept_step}
+use Rattle.tp_flow.proofs.Keeping.{◌∙◌, ◌∷◌, refl, sym, ap, subst, List, ◌||◌, length-set, take_all, Access, state_of_uses, has_room}
+use Rattle.tp_flow.proofs.Keeping.{is_recorded, can_record, AreKept, or_true, task, access_at, is_at, pass_at, pass_weaker, pass_set}
+use Rattle.tp_flow.proofs.Keeping.{kept_step}
 use Rattle.tp_flow.proofs.uses.record.Goals as goal
 
 pub loop-access-init : goal.loop-access-init
@@ -18,8 +13,7 @@ loop-access-init c = record {
 
 pub record-requires : goal.record-requires
 record-requires c = λ w.
-    let us = c.loop-access.handles.items in
-    let k = c.loop-access.access-index in
+    let us = c.loop-access.handles.items in let k = c.loop-access.access-index in
     let i = is_at us c.args.accesses.now _ k c.index_mut.result.now c.requires.below c.loop-access.invariant.count c.loop-access-test.true
     c.index_mut.ensures.value in
     sym (pass_at (can_record c.args.task) us (access_at c.args.accesses.now k).handle.0 c.index_mut.result.now i.below i.uses)
@@ -27,9 +21,7 @@ record-requires c = λ w.
 
 pub loop-access-preserved : goal.loop-access-preserved
 loop-access-preserved c =
-    let us = c.loop-access.handles.items in
-    let k = c.loop-access.access-index in
-    let n = (access_at c.args.accesses.now k).handle.0 in
+    let us = c.loop-access.handles.items in let k = c.loop-access.access-index in let n = (access_at c.args.accesses.now k).handle.0 in
     let i = is_at us c.args.accesses.now _ k c.index_mut.result.now c.requires.below c.loop-access.invariant.count c.loop-access-test.true
     c.index_mut.ensures.value in
     record {

@@ -1,6 +1,5 @@
-use Rattle.std.proofs.Common.{◌≡◌, ◌∷◌, List, false, length, take}
-use Rattle.tp_flow.specs.Description.{Task, newest_of, AreOrdered}
-use Rattle.tp_flow.specs.State.{is_not_above, can_record, AreKept, Pass}
+use Rattle.tp_flow.proofs.Keeping.{◌≡◌, ◌∷◌, List, false, length, take, Task, newest_of, AreOrdered, is_not_above, can_record, AreKept}
+use Rattle.tp_flow.proofs.Keeping.{Pass}
 use Rattle.tp_flow.proofs.uses.record.Given as goal
 
 -- the accesses so far are recorded, as those of the newest task

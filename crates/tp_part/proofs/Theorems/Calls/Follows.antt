@@ -227,176 +227,148 @@ module _ (E : ℕ → Bool) (S : ℕ → ℕ → Bool) (outs : List Edge) (box :
     few = (let l = length-append box posted in let f = g.few in omega (arith, l, f));
   }
 
-module _ (R E C : ℕ → Bool) (S : ℕ → ℕ → Bool) (a : PartState) (g : Goes R E C S a) (up : Ascends a.numbers) (t k : ℕ) (x : Progress)
-    (own : slice_get a.numbers k ≡ Some t) (is : slice_get a.tasks k ≡ Some x) where
-  -- ---- a task runs
-  pub goes_run : x.stage ≡ stage.Fresh → IsTrue a.started
-      → ((i : ℕ) (e : Edge) → slice_get a.incoming i ≡ Some e → e.target ≡ k → IsTrue e.passed)
-      → Goes (λ v. (t == v) || R v) E C S (record a { tasks = set a.tasks k (record x { stage = stage.Running }) })
-  goes_run fresh started arrived = record {
-    tasks = tasks_set R E a.numbers a.tasks g.tasks up t k own (record x { stage = stage.Running }) (λ v. (t == v) || R v) E
-        (sym (ap not (here_too R t)), sym (ap is_done fresh) ∙ (g.tasks.at k t x own is).1) (λ v o. (also R t v o, refl));
-    values = g.values;
+module _ {R E C : ℕ → Bool} {S : ℕ → ℕ → Bool} {a : PartState} (g : Goes R E C S a) where
+  module _ (up : Ascends a.numbers) (t k : ℕ) (x : Progress) (own : slice_get a.numbers k ≡ Some t)
+      (is : slice_get a.tasks k ≡ Some x) where
+    -- a task runs
+    pub goes_run : x.stage ≡ stage.Fresh → IsTrue a.started
+        → ((i : ℕ) (e : Edge) → slice_get a.incoming i ≡ Some e → e.target ≡ k → IsTrue e.passed)
+        → Goes (λ v. (t == v) || R v) E C S (record a { tasks = set a.tasks k (record x { stage = stage.Running }) })
+    goes_run fresh started arrived = record {
+      tasks = tasks_set R E a.numbers a.tasks g.tasks up t k own (record x { stage = stage.Running }) (λ v. (t == v) || R v) E
+          (sym (ap not (here_too R t)), sym (ap is_done fresh) ∙ (g.tasks.at k t x own is).1) (λ v o. (also R t v o, refl));
+      values = g.values;
+      messages = g.messages;
+      fed = fed_set a.tasks a.incoming k (record x { stage = stage.Running }) g.fed arrived;
+      early = λ h. true_or_false a.started started h;
+    }
+
+    -- a task is done
+    pub goes_end : x.stage ≡ stage.Running
+        → Goes R (λ v. (t == v) || E v) C S
+        (record a {
+          tasks = set a.tasks k (record x { stage = stage.Done });
+          outgoing = pass t a.outgoing;
+          outbox = a.outbox ++ places t a.outgoing (length a.outgoing);
+        })
+    goes_end runs = (let was = g.tasks.at k t x own is in let ran = not-false (R t) (sym was.0 ∙ ap is_fresh runs) in record {
+      tasks = tasks_set R E a.numbers a.tasks g.tasks up t k own (record x { stage = stage.Done }) R (λ v. (t == v) || E v)
+          (sym (ap not ran), sym (here_too E t)) (λ v o. (refl, also E t v o));
+      values = g.values;
+      messages = messages_end E S a.outgoing a.outbox a.sent g.messages t (sym was.1 ∙ ap is_done runs);
+      fed = fed_set a.tasks a.incoming k (record x { stage = stage.Done }) g.fed (λ i e h to. g.fed k i x e is (ap is_fresh runs) h to);
+      early = λ h. true_or_false (R t) ran ((g.early h).0 t);
+    })
+
+  -- a message is sent
+  pub goes_send : (u q i : ℕ) (e : Edge) → slice_get a.outbox a.sent ≡ Some i → slice_get a.outgoing i ≡ Some e → e.value ≡ u
+      → e.target ≡ q → Goes R E C (λ v r. ((u == v) && (q == r)) || S v r) (record a { sent = a.sent + 1 })
+  goes_send u q i e due is value target = (
+      let sent_is : (v r : ℕ) → (((u == v) && (q == r)) || S v r) ≡ true → WasPosted v r a.outgoing a.outbox (a.sent + 1) =
+      λ v r h. elim (or_cases ((u == v) && (q == r)) (S v r) h) [
+        | inl b ↦ (let p = and_parts (u == v) (q == r) b in record {
+          message = a.sent;
+          before = omega arith;
+          place = i;
+          at = due;
+          edge = map_get ends a.outgoing i e is ∙ ap Some (same_ends (value ∙ eqb-true u v p.0) (target ∙ eqb-true q r p.1));
+        })
+        | inr b ↦ (let w = g.messages.sent_is v r b in let l = w.before in
+            record { message = w.message; before = omega (arith, l); place = w.place; at = w.at; edge = w.edge })
+      ] in
+      let sent_some : (j k : ℕ) (d : Edge) → j < a.sent + 1 → slice_get a.outbox j ≡ Some k → slice_get a.outgoing k ≡ Some d
+      → (((u == d.value) && (q == d.target)) || S d.value d.target) ≡ true = λ j k d l b h. elim (same_or j a.sent) [
+        | inl s ↦ (let k_is = there a.outbox a.sent k i (subst (λ (m : ℕ). slice_get a.outbox m ≡ Some k) s b) due in
+            let d_is = there a.outgoing i d e (subst (λ (m : ℕ). slice_get a.outgoing m ≡ Some d) k_is h) is in
+            or_left ((u == d.value) && (q == d.target)) (S d.value d.target) (and_from (u == d.value) (q == d.target)
+            (eq-eqb u d.value (sym (ap (λ (z : Edge). z.value) d_is ∙ value))) (eq-eqb q d.target (sym (ap (λ (z : Edge). z.target) d_is
+            ∙ target)))))
+        | inr o ↦ or_right ((u == d.value) && (q == d.target)) (S d.value d.target) (g.messages.sent_some j k d (omega (arith, l, o)) b h)
+      ] in let w = slice_get_within a.outbox a.sent i due in let few : a.sent + 1 ≤ length a.outbox = omega (arith, w) in assumption)
+
+  -- a value arrives
+  pub goes_come : (u : ℕ) → IsTrue a.started → is_read u a.incoming ≡ true → Goes R E (λ v. (u == v) || C v) S (with_arrival u a)
+  goes_come u started read = record {
+    tasks = g.tasks;
+    values = record {
+      came = λ i e h. (let m = map_got (passed_on u) a.incoming i e h in
+          subst (λ (z : Edge). z.passed ≡ ((u == z.value) || C z.value)) m.2 (passed_is u m.0 C (g.values.came i m.0 m.1)));
+      came_in = λ v h. elim (or_cases (u == v) (C v) h) [
+        | inl b ↦ (let r = any_at (λ (e : Edge). e.value == u) a.incoming read in
+            let v_is = pass_value u r.item ∙ (eqb-true r.item.value u r.test_is ∙ eqb-true u v b) in
+            (r.place, passed_on u r.item, map_get (passed_on u) a.incoming r.place r.item r.is, v_is))
+        | inr b ↦ (let w = g.values.came_in v b in
+            (w.0, passed_on u w.1, map_get (passed_on u) a.incoming w.0 w.1 w.2, pass_value u w.1 ∙ w.3))
+      ];
+    };
     messages = g.messages;
-    fed = fed_set a.tasks a.incoming k (record x { stage = stage.Running }) g.fed arrived;
+    fed = λ k i x e d f h to. (let m = map_got (passed_on u) a.incoming i e h in
+        ap (λ (z : Edge). z.passed) (sym m.2) ∙ pass_stays u m.0
+        (g.fed k i x m.0 d f m.1 (sym (pass_target u m.0) ∙ (ap (λ (z : Edge). z.target) m.2 ∙ to))));
     early = λ h. true_or_false a.started started h;
   }
 
-  -- ---- a task is done
-  pub goes_end : x.stage ≡ stage.Running
-      → Goes R (λ v. (t == v) || E v) C S
-      (record a {
-        tasks = set a.tasks k (record x { stage = stage.Done });
-        outgoing = pass t a.outgoing;
-        outbox = a.outbox ++ places t a.outgoing (length a.outgoing);
-      })
-  goes_end runs = (let was = g.tasks.at k t x own is in let ran = not_false (R t) (sym was.0 ∙ ap is_fresh runs) in record {
-    tasks = tasks_set R E a.numbers a.tasks g.tasks up t k own (record x { stage = stage.Done }) R (λ v. (t == v) || E v)
-        (sym (ap not ran), sym (here_too E t)) (λ v o. (refl, also E t v o));
-    values = g.values;
-    messages = messages_end E S a.outgoing a.outbox a.sent g.messages t (sym was.1 ∙ ap is_done runs);
-    fed = fed_set a.tasks a.incoming k (record x { stage = stage.Done }) g.fed (λ i e h to. g.fed k i x e is (ap is_fresh runs) h to);
-    early = λ h. true_or_false (R t) ran ((g.early h).0 t);
+  -- the start
+  pub goes_start : Goes R E C S (record a { started = true })
+  goes_start = record { tasks = g.tasks; values = g.values; messages = g.messages; fed = g.fed; early = λ h. cc }
+
+  -- an own task is described
+  pub goes_own : (class : ℕ) (us : List ℕ) → IsFalse a.started → Goes R E C S (with_own class us a)
+  goes_own class us before = (let none_yet = g.early before in let c = length a.tasks in let even = g.tasks.long in record {
+    tasks = record {
+      long = length_push a.tasks fresh ∙ (ap (λ (n : ℕ). n + 1) even ∙ sym (length_push a.numbers a.described));
+      at = λ k t x b d. elim (last_cases a.tasks k x fresh d) [
+        | inr o ↦ subst (λ (z : Progress). Agrees R E t z) (sym o.1) (sym (ap not (none_yet.0 t)), sym (none_yet.1 t))
+        | inl o ↦ elim (last_cases a.numbers k t a.described b) [
+          | inl q ↦ g.tasks.at k t x q o
+          | inr q ↦ (let w = slice_get_within a.tasks k x o in let e = q.0 in absurd (omega (arith, w, even, e)))
+        ]
+      ];
+      own = λ t h. true_or_false (R t || E t) h (ap (λ (b : Bool). b || E t) (none_yet.0 t) ∙ none_yet.1 t);
+    };
+    values = record {
+      came = λ i e h. elim (push_cases a.incoming (edges_to c a.numbers us) i e h) [
+        | inl o ↦ g.values.came i e o
+        | inr o ↦ ap (λ (z : Edge). z.passed) ((split c a.numbers us).edges_is o.0 e o.2).2 ∙ sym (none_yet.2 e.value)
+      ];
+      came_in = λ u h. true_or_false (C u) h (none_yet.2 u);
+    };
+    messages = g.messages;
+    fed = λ k i x e b f h to. elim (last_cases a.tasks k x fresh b) [
+      | inr o ↦ true_or_false (is_fresh x.stage) (ap (λ (z : Progress). is_fresh z.stage) o.1) f
+      | inl o ↦ (let w = slice_get_within a.tasks k x o in let t = at_below a.numbers k (omega (arith, w, even)) in
+          true_or_false (is_fresh x.stage) ((g.tasks.at k t.0 x t.1 o).0 ∙ ap not (none_yet.0 t.0)) f)
+    ];
+    early = g.early;
   })
+    where
+      fresh : Progress
+      fresh = record { class = class; stage = stage.Fresh }
 
--- ---- a message is sent
-pub goes_send : {R E C : ℕ → Bool} {S : ℕ → ℕ → Bool} {a : PartState} (u q i : ℕ) (e : Edge) → Goes R E C S a
-    → slice_get a.outbox a.sent ≡ Some i
-    → slice_get a.outgoing i ≡ Some e → e.value ≡ u → e.target ≡ q
-    → Goes R E C (λ v r. ((u == v) && (q == r)) || S v r) (record a { sent = a.sent + 1 })
-goes_send {S = S} {a = a} u q i e goes due is value target = (let g = goes.messages in record {
-  tasks = goes.tasks;
-  values = goes.values;
-  messages = record {
-    due = g.due;
-    box_is = g.box_is;
-    box_some = g.box_some;
-    box_once = g.box_once;
-    sent_is = λ v r h. elim (or_cases ((u == v) && (q == r)) (S v r) h) [
-      | inl b ↦ (let p = and_parts (u == v) (q == r) b in record {
-        message = a.sent;
-        before = omega arith;
-        place = i;
-        at = due;
-        edge = map_get ends a.outgoing i e is ∙ ap Some (same_ends (value ∙ eqb-true u v p.0) (target ∙ eqb-true q r p.1));
-      })
-      | inr b ↦ (let w = g.sent_is v r b in let l = w.before in
-          record { message = w.message; before = omega (arith, l); place = w.place; at = w.at; edge = w.edge })
-    ];
-    sent_some = λ j k d l b h. elim (same_or j a.sent) [
-      | inl s ↦ (let k_is = there a.outbox a.sent k i (subst (λ (m : ℕ). slice_get a.outbox m ≡ Some k) s b) due in
-          let d_is = there a.outgoing i d e (subst (λ (m : ℕ). slice_get a.outgoing m ≡ Some d) k_is h) is in
-          or_left ((u == d.value) && (q == d.target)) (S d.value d.target) (and_from (u == d.value) (q == d.target)
-          (eq-eqb u d.value (sym (ap (λ (z : Edge). z.value) d_is ∙ value))) (eq-eqb q d.target (sym (ap (λ (z : Edge). z.target) d_is
-          ∙ target)))))
-      | inr o ↦ or_right ((u == d.value) && (q == d.target)) (S d.value d.target) (g.sent_some j k d (omega (arith, l, o)) b h)
-    ];
-    few = (let w = slice_get_within a.outbox a.sent i due in omega (arith, w));
-  };
-  fed = goes.fed;
-  early = goes.early;
-})
-
--- ---- a value arrives
-pub goes_come : {R E C : ℕ → Bool} {S : ℕ → ℕ → Bool} {a : PartState} (u : ℕ) → Goes R E C S a → IsTrue a.started
-    → is_read u a.incoming ≡ true
-    → Goes R E (λ v. (u == v) || C v) S (with_arrival u a)
-goes_come {C = C} {a = a} u g started read = record {
-  tasks = g.tasks;
-  values = record {
-    came = λ i e h. (let m = map_got (passed_on u) a.incoming i e h in
-        subst (λ (z : Edge). z.passed ≡ ((u == z.value) || C z.value)) m.2 (passed_is u m.0 C (g.values.came i m.0 m.1)));
-    came_in = λ v h. elim (or_cases (u == v) (C v) h) [
-      | inl b ↦ (let r = any_at (λ (e : Edge). e.value == u) a.incoming read in (
-        r.place,
-        passed_on u r.item,
-        map_get (passed_on u) a.incoming r.place r.item r.is,
-        pass_value u r.item ∙ (eqb-true r.item.value u r.test_is ∙ eqb-true u v b),
-      ))
-      | inr b ↦ (let w = g.values.came_in v b in
-          (w.0, passed_on u w.1, map_get (passed_on u) a.incoming w.0 w.1 w.2, pass_value u w.1 ∙ w.3))
-    ];
-  };
-  messages = g.messages;
-  fed = λ k i x e d f h to. (let m = map_got (passed_on u) a.incoming i e h in
-      ap (λ (z : Edge). z.passed) (sym m.2) ∙ pass_stays u m.0
-      (g.fed k i x m.0 d f m.1 (sym (pass_target u m.0) ∙ (ap (λ (z : Edge). z.target) m.2 ∙ to))));
-  early = λ h. true_or_false a.started started h;
-}
-
--- ---- the start
-pub goes_start : {R E C : ℕ → Bool} {S : ℕ → ℕ → Bool} {a : PartState} → Goes R E C S a → Goes R E C S (record a { started = true })
-goes_start g = record { tasks = g.tasks; values = g.values; messages = g.messages; fed = g.fed; early = λ h. cc }
-
--- ---- an own task is described
-pub goes_own : {R E C : ℕ → Bool} {S : ℕ → ℕ → Bool} {a : PartState} (class : ℕ) (us : List ℕ) → Goes R E C S a → IsFalse a.started
-    → Goes R E C S (with_own class us a)
-goes_own {R} {E} {C} {S} {a} class us g before = (let none_yet = g.early before in let c = length a.tasks in let even = g.tasks.long in record {
-  tasks = record {
-    long = length_push a.tasks fresh ∙ (ap (λ (n : ℕ). n + 1) even ∙ sym (length_push a.numbers a.described));
-    at = λ k t x b d. elim (last_cases a.tasks k x fresh d) [
-      | inr o ↦ subst (λ (z : Progress). Agrees R E t z) (sym o.1) (sym (ap not (none_yet.0 t)), sym (none_yet.1 t))
-      | inl o ↦ elim (last_cases a.numbers k t a.described b) [
-        | inl q ↦ g.tasks.at k t x q o
-        | inr q ↦ (let w = slice_get_within a.tasks k x o in let e = q.0 in absurd (omega (arith, w, even, e)))
+  -- a task of another part is described: nothing was posted yet
+  pub goes_foreign : (q : ℕ) (us : List ℕ) → IsFalse a.started → Goes R E C S (with_foreign q us a)
+  goes_foreign q us before = record {
+    tasks = g.tasks;
+    values = g.values;
+    messages = record {
+      due = due;
+      box_is = λ j i h. absurd (no_box j i h);
+      box_some = λ i e h p. true_or_false (E e.value) (sym (due i e h) ∙ p) ((g.early before).1 e.value);
+      box_once = g.messages.box_once;
+      sent_is = λ u r h. (let w = g.messages.sent_is u r h in absurd (no_box w.message w.place w.at));
+      sent_some = λ j i e l b h. absurd (no_box j i b);
+      few = g.messages.few;
+    };
+    fed = g.fed;
+    early = g.early;
+  }
+    where
+      due : (i : ℕ) (e : Edge) → slice_get (with_messages q a.numbers us a.outgoing) i ≡ Some e → e.passed ≡ E e.value
+      due i e h = elim (messages_is q i a.numbers us a.outgoing e h) [
+        | inl o ↦ g.messages.due i e o
+        | inr o ↦ ap (λ (z : Edge). z.passed) o.2 ∙ sym ((g.early before).1 e.value)
       ]
-    ];
-    own = λ t h. true_or_false (R t || E t) h (ap (λ (b : Bool). b || E t) (none_yet.0 t) ∙ none_yet.1 t);
-  };
-  values = record {
-    came = λ i e h. elim (push_cases a.incoming (edges_to c a.numbers us) i e h) [
-      | inl o ↦ g.values.came i e o
-      | inr o ↦ ap (λ (z : Edge). z.passed) ((split c a.numbers us).edges_is o.0 e o.2).2 ∙ sym (none_yet.2 e.value)
-    ];
-    came_in = λ u h. true_or_false (C u) h (none_yet.2 u);
-  };
-  messages = g.messages;
-  fed = λ k i x e b f h to. elim (last_cases a.tasks k x fresh b) [
-    | inr o ↦ true_or_false (is_fresh x.stage) (ap (λ (z : Progress). is_fresh z.stage) o.1) f
-    | inl o ↦ elim (push_cases a.incoming (edges_to c a.numbers us) i e h) [
-      | inl q ↦ g.fed k i x e o f q to
-      | inr q ↦ (let m : e.target ≡ c = ap (λ (z : Edge). z.target) ((split c a.numbers us).edges_is q.0 e q.2).2 in
-          let w = slice_get_within a.tasks k x o in absurd (omega (arith, m, to, w)))
-    ]
-  ];
-  early = g.early;
-})
-  where
-    fresh : Progress
-    fresh = record { class = class; stage = stage.Fresh }
 
--- ---- a task of another part is described
-pub goes_foreign : {R E C : ℕ → Bool} {S : ℕ → ℕ → Bool} {a : PartState} (q : ℕ) (us : List ℕ) → Goes R E C S a → IsFalse a.started
-    → Goes R E C S (with_foreign q us a)
-goes_foreign {S = S} {a = a} q us goes before = (let none_yet = goes.early before in let g = goes.messages in record {
-  tasks = goes.tasks;
-  values = goes.values;
-  messages = record {
-    due = λ i e h. elim (messages_is q i a.numbers us a.outgoing e h) [
-      | inl o ↦ g.due i e o
-      | inr o ↦ ap (λ (z : Edge). z.passed) o.2 ∙ sym (none_yet.1 e.value)
-    ];
-    box_is = λ j i h. (let w = g.box_is j i h in (w.0, messages_old q i a.numbers us a.outgoing w.0 w.1, w.2));
-    box_some = λ i e h p. elim (messages_is q i a.numbers us a.outgoing e h) [
-      | inl o ↦ g.box_some i e o p
-      | inr o ↦ true_or_false e.passed p (ap (λ (z : Edge). z.passed) o.2)
-    ];
-    box_once = g.box_once;
-    sent_is = λ u r h. (let w = g.sent_is u r h in let m = map_got ends a.outgoing w.place (u, r) w.edge in record {
-      message = w.message;
-      before = w.before;
-      place = w.place;
-      at = w.at;
-      edge = map_get ends more w.place m.0 (messages_old q w.place a.numbers us a.outgoing m.0 m.1) ∙ ap Some m.2;
-    });
-    sent_some = λ j i e l b h. (let w = g.box_is j i b in
-        let s = there more i w.0 e (messages_old q i a.numbers us a.outgoing w.0 w.1) h in
-        subst (λ (z : Edge). S z.value z.target ≡ true) s (g.sent_some j i w.0 l b w.1));
-    few = g.few;
-  };
-  fed = goes.fed;
-  early = goes.early;
-})
-  where
-    more : List Edge
-    more = with_messages q a.numbers us a.outgoing
+      no_box : (j i : ℕ) → slice_get a.outbox j ≡ Some i → ⊥
+      no_box j i h = (let w = g.messages.box_is j i h in
+          true_or_false (E w.0.value) (sym (g.messages.due i w.0 w.1) ∙ w.2) ((g.early before).1 w.0.value))

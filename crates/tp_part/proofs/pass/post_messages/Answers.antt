@@ -1,4 +1,4 @@
-use Rattle.tp_part.proofs.Theorems.{◌-◌, vec_capacity, arith, pass_end, posted_start, posted_room, posted_next, posted_end}
+use Rattle.tp_part.proofs.Theorems.{vec_capacity, arith, pass_end, posted_start, posted_room, posted_next, posted_end}
 use Rattle.tp_part.proofs.pass.post_messages.Goals as goal
 
 pub loop-left-init : goal.loop-left-init
@@ -22,6 +22,3 @@ returns-clause-passed c = pass_end c.args.value c.args.outgoing.now c.loop-left.
 
 pub returns-clause-posted : goal.returns-clause-posted
 returns-clause-posted c = posted_end c.loop-left.invariant (omega (arith, c.loop-left-test.false))
-
-pub returns-clause-same : goal.returns-clause-same
-returns-clause-same c = c.loop-left.invariant.same

@@ -1,11 +1,11 @@
-use Rattle.tp_part.proofs.Theorems.{◌-◌, arith, pass_start, pass_end, same_pool, awaits, released_next, is_fresh_edge}
+use Rattle.tp_part.proofs.Theorems.{◌-◌, arith, pass_start, pass_end, same_pool, awaits, released_next, is_fresh_edge, none_passed}
 use Rattle.tp_part.proofs.pass.release_readers.Goals as goal
 
 pub loop-left-init : goal.loop-left-init
 loop-left-init c = record {
   passing = pass_start c.args.value c.args.incoming.now c.newest-left.result c.newest-left.ensures;
   awaited = c.requires.awaited;
-  fresh = c.requires.fresh;
+  fresh = none_passed c.args.value c.args.incoming.now c.requires.fresh;
   same = same_pool c.args.pool.now;
 }
 
@@ -20,9 +20,3 @@ loop-left-preserved c = released_next c.at-edge.result c.loop-left.invariant c.l
 pub returns-clause-passed : goal.returns-clause-passed
 returns-clause-passed c = pass_end c.args.value c.args.incoming.now c.loop-left.incoming c.loop-left.left c.loop-left.invariant.passing
     (omega (arith, c.loop-left-test.false))
-
-pub returns-clause-awaited : goal.returns-clause-awaited
-returns-clause-awaited c = c.loop-left.invariant.awaited
-
-pub returns-clause-same : goal.returns-clause-same
-returns-clause-same c = c.loop-left.invariant.same

@@ -175,15 +175,51 @@ epochs n (Reopens i ∷ past) e =
 pub epoch_law : EpochLaw
 epoch_law n e all = epochs n all e
 
--- Later events add to the events of an epoch.
-pub adds : (n e : ℕ) (later all : List EpochEvent) → (more : List Event) × (events_of n e (later ++ all) ≡ more ++ events_of n e all)
-adds n e [] all = ([], refl)
-adds n e (Reopens i ∷ later) all = adds n e later all
-adds n e (In f event ∷ later) all =
-    let m = adds n e later all in
-    cond_both (eqb f e && is_current f (epochs_after n (later ++ all)) event) (event ∷ events_of n e (later ++ all))
-    (events_of n e (later ++ all)) (λ l. (more : List Event) × (l ≡ more ++ events_of n e all))
-    (λ t. (event ∷ m.0, ap (λ l. event ∷ l) m.1)) (λ t. m)
+-- The events of an epoch are useful in it if they are useful in its world.
+module _ (n e : ℕ) (w : Epochs) (x : World) (h : IsEpoch n e w x) where
+  taken_same : (o : Option ControlMessage) → is_receiver_in_epoch e w o ≡ true → is_taken n (world_of e w) o ≡ is_taken n x o
+  taken_same None t = refl
+  taken_same (Some l) t =
+      ap (λ p. ltb l.to n && (is_for l p && is_due l.from l.wave l.token p)) (h.now l.to (eqb-true (w.at l.to).epoch e t))
+
+  useful_same : (event : Event) → is_current e w event ≡ true → is_useful n (world_of e w) event ≡ is_useful n x event
+  useful_same (Does i Moves) t = ap (λ p. ltb i n && is_step (moved p).next) (h.now i (eqb-true (w.at i).epoch e t))
+  useful_same (Does i _) t = refl
+  useful_same (Comes k) t =
+      subst (λ ls. is_taken n (world_of e w) (control_at (w.controls e) k) ≡ is_taken n x (control_at ls k)) h.controls
+      (taken_same (control_at (w.controls e) k) t)
+
+-- the later events of an epoch, and how many of them are useful
+record Added (n e : ℕ) (later all : List EpochEvent) : Type 0 where
+  pub more : List Event
+  pub same : events_of n e (later ++ all) ≡ more ++ events_of n e all
+  pub count : progress_count n e later all ≡ useful n more (events_of n e all)
+
+added : (n e : ℕ) (later all : List EpochEvent) → Added n e later all
+added n e [] all = record { more = []; same = refl; count = refl }
+added n e (Reopens i ∷ later) all = let m = added n e later all in record { more = m.more; same = m.same; count = m.count }
+added n e (In f event ∷ later) all =
+    let m = added n e later all in
+    let w : Epochs = epochs_after n (later ++ all) in
+    let x : World = after n (events_of n e (later ++ all)) in
+    let old : List Event = events_of n e all in
+    elim (cases_eq f e) [
+      | inr d ↦ record { more = m.more; same = rw (ne_eqb f e d) m.same; count = rw (ne_eqb f e d) m.count }
+      | inl d ↦
+          elim (cases_Bool (is_current f w event)) [
+            | inr t ↦ record { more = m.more; same = rw (eq-eqb f e d, t) m.same; count = rw (eq-eqb f e d, t) m.count }
+            | inl t ↦
+                let t2 : is_current e w event ≡ true = subst (λ g. is_current g w event ≡ true) d t in
+                let one : is_useful n (world_of f w) event ≡ is_useful n (after n (m.more ++ old)) event
+                = subst (λ g. is_useful n (world_of g w) event ≡ is_useful n (after n (m.more ++ old)) event) (sym d)
+                (useful_same n e w x (epochs n (later ++ all) e) event t2 ∙ ap (λ l. is_useful n (after n l) event) m.same) in
+                record {
+                  more = event ∷ m.more;
+                  same = rw (eq-eqb f e d, t) (ap (λ l. event ∷ l) m.same);
+                  count = rw (eq-eqb f e d, t, one, m.count) refl;
+                }
+          ]
+    ]
 
 -- If the world of an epoch is quiet, the epoch has terminated.
 over_where_quiet : (n e : ℕ) (w : Epochs) (x : World) → IsEpoch n e w x → IsQuiet n x → IsOver n e w
@@ -198,10 +234,10 @@ pub never_early_epoch : NeverEarlyEpochLaw
 never_early_epoch n i later all l over =
     let w : Epochs = epochs_after n all in
     let e : ℕ = (w.at i).epoch in
-    let m = adds n e later all in
+    let m = added n e later all in
     let knows : ((after n (events_of n e all)).at i).over ≡ true = subst (λ p. p.over ≡ true) ((epochs n all e).now i refl) over in
     over_where_quiet n e (epochs_after n (later ++ all)) (after n (events_of n e (later ++ all))) (epochs n (later ++ all) e)
-    (subst (λ events. IsQuiet n (after n events)) (sym m.1) (never_early n i m.0 (events_of n e all) l knows))
+    (subst (λ events. IsQuiet n (after n events)) (sym m.same) (never_early n i m.more (events_of n e all) l knows))
 
 pub left_epoch : LeftEpochLaw
 left_epoch n i e all l m =
@@ -232,18 +268,26 @@ advance_each P same state again n w (Reopens i) j =
 pub epoch_grows : (n : ℕ) (w : Epochs) (o : EpochEvent) (j : ℕ) → (w.at j).epoch ≤ ((advance n w o).at j).epoch
 epoch_grows = advance_each (λ r s. r.epoch ≤ s.epoch) (λ r. omega arith) (λ r p. omega arith) (λ r. omega arith)
 
+-- A process that is none of the n does nothing.
+beyond_after : (n : ℕ) (events : List Event) (j : ℕ) → n ≤ j → (after n events).at j ≡ blank j n
+beyond_after n events j m =
+    let off : (i : ℕ) → i < n → j ≡ i → ⊥ = λ i l e. absurd (omega (arith, l, e, m)) in
+    kept_after n (λ at ls. at j ≡ blank j n)
+    (record {
+      count = λ q i a s r x l v h. put_other i j _ x.at (off i l) ∙ h;
+      start = λ q x l v o away h. put_other 0 j _ x.at (off 0 l) ∙ h;
+      act = λ q i x l v h. put_other i j _ x.at (off i l) ∙ h;
+      take = λ q k x v a l e t h. put_other a.to j _ x.at (off a.to l) ∙ h;
+    }) events
+    refl
+
 -- Processes beyond the last stay in the first epoch.
 pub beyond : (n : ℕ) (all : List EpochEvent) (j : ℕ) → n ≤ j → ((epochs_after n all).at j).epoch ≡ 0
-beyond n [] j m = refl
-beyond n (In f event ∷ past) j m =
-    let w : Epochs = epochs_after n past in
-    cond_both (is_current f w event) (with_world f w (happens n (world_of f w) event)) w (λ z. (z.at j).epoch ≡ 0)
-    (λ t. with_world_epoch f w (happens n (world_of f w) event) j ∙ beyond n past j m) (λ t. beyond n past j m)
-beyond n (Reopens i ∷ past) j m =
-    let w : Epochs = epochs_after n past in
-    cond_both (ltb i n) (record w { at = put i (reopened (w.at i)) w.at }) w (λ z. (z.at j).epoch ≡ 0)
-    (λ t. subst (λ r. r.epoch ≡ 0) (sym (put_other i j (reopened (w.at i)) w.at (λ d. absurd (omega (arith, d, m, ltb-true i n t)))))
-    (beyond n past j m)) (λ t. beyond n past j m)
+beyond n all j m =
+    let none : 0 < ((epochs_after n all).at j).epoch → ⊥ = λ l.
+    let t : false ≡ true = subst (λ p. has_notified p ≡ true) (beyond_after n (events_of n 0 all) j m) ((epochs n all 0).left j l) in
+    absurd (cc t) in
+    omega (arith, at_most ((epochs_after n all).at j).epoch 0 none)
 
 -- If an event of an epoch is not refused, some process is in that epoch.
 in_someone : (e : ℕ) (w : Epochs) (event : Event) → is_current e w event ≡ true → (j : ℕ) × ((w.at j).epoch ≡ e)
@@ -292,12 +336,7 @@ ahead n i e all l m = (epochs n all e).controls ∙ ap (λ events. (after n even
 -- Process i becomes p if it is in the epoch.
 in_epoch_as : (e i : ℕ) (w : Epochs) (y : World) (p : EpochState) → y.at i ≡ p
     → (cond (is_in_epoch e w i) (with_world e w y) w).at i ≡ cond (eqb e (w.at i).epoch) (with_state (w.at i) p) (w.at i)
-in_epoch_as e i w y p is =
-    elim (cases_eq (w.at i).epoch e) [
-      | inl d ↦
-          rw (eq-eqb (w.at i).epoch e d, eq-eqb e (w.at i).epoch (sym d)) (rw (eq-eqb (w.at i).epoch e d) (ap (with_state (w.at i)) is))
-      | inr off ↦ rw (ne_eqb (w.at i).epoch e off, ne_eqb e (w.at i).epoch (λ d. off (sym d))) refl
-    ]
+in_epoch_as e i w y p is = grind (arith, nat_tests)
 
 happens_at : (n i : ℕ) (x : World) (a : Act) (p : EpochState) → i < n → (does n x i a).at i ≡ p → (happens n x (Does i a)).at i ≡ p
 happens_at n i x a p l is = subst (λ b. (cond b (does n x i a) x).at i ≡ p) (sym (lt-ltb i n l)) is
@@ -316,11 +355,6 @@ receives_at n i x some =
 sends_at : (n i j : ℕ) (x : World) → j < n → (does n x i (Sends j)).at i ≡ sent (x.at i)
 sends_at n i j x l = elim (cases_Bool (can_send (x.at i))) [ inl t ↦ rw (t, lt-ltb j n l) (put_here i _ x.at) | inr f ↦ rw f refl ]
 
-receives_as : (n e i : ℕ) (w : Epochs) → i < n → 0 < w.under_way e i → (advance n w (In e (Does i Receives))).at i ≡ received_in e (w.at i)
-receives_as n e i w l some =
-    in_epoch_as e i w (happens n (world_of e w) (Does i Receives)) (received (w.at i).state)
-    (happens_at n i (world_of e w) Receives (received (w.at i).state) l (receives_at n i (world_of e w) some))
-
 pub handed_law : HandedLaw
 handed_law n w c m =
     let l : ControlMessage = c.message in
@@ -329,30 +363,23 @@ handed_law n w c m =
     (subst (λ b. (cond b (record x { at = put l.to (took l (x.at l.to)) x.at }) x).at l.to ≡ took l (x.at l.to)) (sym (lt-ltb l.to n m))
     (put_here l.to (took l (x.at l.to)) x.at))
 
-takes_as : (n e k : ℕ) (w : Epochs) (l : ControlMessage) → l.to < n → control_at (w.controls e) k ≡ Some l
-    → (advance n w (In e (Comes k))).at l.to ≡ took_in e l (w.at l.to)
-takes_as n e k w l m there = rw there (handed_law n w (record { epoch = e; message = l }) m)
-
-posts_as : (n i : ℕ) (w : Epochs) → i < n
-    → (advance n w (In (w.at i).epoch (Does i Moves))).controls (w.at i).epoch ≡ posted (moved (w.at i).state).next
-    (w.controls (w.at i).epoch)
-posts_as n i w l =
-    let e : ℕ = (w.at i).epoch in
-    let y : World = happens n (world_of e w) (Does i Moves) in
-    subst (λ b. (cond b (with_world e w y) w).controls e ≡ posted (moved (w.at i).state).next (w.controls e)) (sym (eq-eqb e e refl))
-    (put_here e y.controls w.controls
-    ∙ ap (λ b. (cond b (does n (world_of e w) i Moves) (world_of e w)).controls) (lt-ltb i n l))
-
 pub calls : CallsLaw
 calls n w =
     record {
       opens = λ i l. own n i w Opens (opened (w.at i).state) l (put_here i (opened (w.at i).state) (λ j. (w.at j).state));
       closes = λ i l. own n i w Closes (closed (w.at i).state) l (put_here i (closed (w.at i).state) (λ j. (w.at j).state));
       sends = λ i j l m. own n i w (Sends j) (sent (w.at i).state) l (sends_at n i j (world_of (w.at i).epoch w) m);
-      receives = λ e i l some. receives_as n e i w l some;
+      receives = λ e i l some.
+          in_epoch_as e i w (happens n (world_of e w) (Does i Receives)) (received (w.at i).state)
+          (happens_at n i (world_of e w) Receives (received (w.at i).state) l (receives_at n i (world_of e w) some));
       moves = λ i l. own n i w Moves (moved (w.at i).state).state l (put_here i (moved (w.at i).state).state (λ j. (w.at j).state));
-      posts = λ i l. posts_as n i w l;
-      takes = λ e k l m there. takes_as n e k w l m there;
+      posts = λ i l.
+          let e : ℕ = (w.at i).epoch in
+          let y : World = happens n (world_of e w) (Does i Moves) in
+          subst (λ b. (cond b (with_world e w y) w).controls e ≡ posted (moved (w.at i).state).next (w.controls e)) (sym (eq-eqb e e refl))
+          (put_here e y.controls w.controls
+          ∙ ap (λ b. (cond b (does n (world_of e w) i Moves) (world_of e w)).controls) (lt-ltb i n l));
+      takes = λ e k l m there. rw there (handed_law n w (record { epoch = e; message = l }) m);
       reopens = λ i l.
           subst (λ b. (cond b (record w { at = put i (reopened (w.at i)) w.at }) w).at i ≡ reopened (w.at i)) (sym (lt-ltb i n l))
           (put_here i (reopened (w.at i)) w.at);
@@ -366,19 +393,6 @@ marked n (o ∷ past) i =
 
 pub stays_open : OpenLaw
 stays_open n i all = eq-eqb _ _ (marked n all i)
-
--- A process that is none of the n does nothing.
-beyond_after : (n : ℕ) (events : List Event) (j : ℕ) → n ≤ j → (after n events).at j ≡ blank j n
-beyond_after n events j m =
-    let off : (i : ℕ) → i < n → j ≡ i → ⊥ = λ i l e. absurd (omega (arith, l, e, m)) in
-    kept_after n (λ at ls. at j ≡ blank j n)
-    (record {
-      count = λ q i a s r x l v h. put_other i j _ x.at (off i l) ∙ h;
-      start = λ q x l v o away h. put_other 0 j _ x.at (off 0 l) ∙ h;
-      act = λ q i x l v h. put_other i j _ x.at (off i l) ∙ h;
-      take = λ q k x v a l e t h. put_other a.to j _ x.at (off a.to l) ∙ h;
-    }) events
-    refl
 
 pub never_miscounted : CountedLaw
 never_miscounted n i all =
@@ -403,30 +417,35 @@ module _ (n e : ℕ) (w : Epochs) (x : World) (h : IsEpoch n e w x) (v : IsOver 
   in_or_notified : (i : ℕ) → i < n → ((w.at i).epoch ≡ e) ⊎ (has_notified (x.at i) ≡ true)
   in_or_notified i l = elim (cases_eq (w.at i).epoch e) [ inl d ↦ inl d | inr off ↦ inr (h.left i (omega (arith, v.come i l, off))) ]
 
-  useful_there : (event : Event) → IsToOpen x event → is_useful n x event ≡ true → is_progress n w (In e event) ≡ true
-  useful_there (Does i Moves) o t =
-      let a = and_parts (ltb i n) (is_step (moved (x.at i)).next) t in
-      elim (in_or_notified i (ltb-true i n a.0)) [
-        | inl d ↦
-            and_from _ _ (eq-eqb (w.at i).epoch e d)
-            (and_from (ltb i n) _ a.0 (subst (λ p. is_step (moved p).next ≡ true) (sym (h.now i d)) a.1))
-        | inr d ↦ absurd (cc (rw (notified_ended (x.at i) d) at a.1))
-      ]
-  useful_there (Does i _) o t = absurd (cc t)
-  useful_there (Comes k) o t =
-      subst (λ ls. (is_receiver_in_epoch e w (control_at ls k) && is_taken n (world_of e w) (control_at ls k)) ≡ true) (sym h.controls)
-      (taken_there (control_at x.controls k) o t) where
-        taken_there : (l : Option ControlMessage) → IsOpenTo x l → is_taken n x l ≡ true
-            → (is_receiver_in_epoch e w l && is_taken n (world_of e w) l) ≡ true
-        taken_there None o t = absurd (cc t)
-        taken_there (Some l) o t =
-            let a = and_parts (ltb l.to n) (is_for l (x.at l.to) && is_due l.from l.wave l.token (x.at l.to)) t in
-            elim (in_or_notified l.to (ltb-true l.to n a.0)) [
-              | inl d ↦
-                  and_from _ _ (eq-eqb (w.at l.to).epoch e d)
-                  (subst (λ p. (ltb l.to n && (is_for l p && is_due l.from l.wave l.token p)) ≡ true) (sym (h.now l.to d)) t)
-              | inr d ↦ absurd (cc (notified_over (x.at l.to) d, o))
-            ]
+  -- The process of a useful event is in the epoch.
+  module _ (q : ℕ) (g : Good n q x) where
+    receiver_there : (o : Option ControlMessage) → IsKnown n g.wave g.gifts x o → is_taken n x o ≡ true → is_receiver_in_epoch e w o ≡ true
+    receiver_there None k t = absurd (cc t)
+    receiver_there (Some l) k t =
+        let a = and_parts (ltb l.to n) (is_for l (x.at l.to) && is_due l.from l.wave l.token (x.at l.to)) t in
+        let b = and_parts (is_for l (x.at l.to)) (is_due l.from l.wave l.token (x.at l.to)) a.1 in
+        let m : l.to < n = ltb-true l.to n a.0 in
+        elim (in_or_notified l.to m) [
+          | inl d ↦ eq-eqb (w.at l.to).epoch e d
+          | inr d ↦ absurd (cc (b.1, none_due n q x g l.to m (notified_over (x.at l.to) d) l.from l.wave l.token k.0))
+        ]
+
+    current_there : (event : Event) → is_useful n x event ≡ true → is_current e w event ≡ true
+    current_there (Does i Moves) t =
+        let a = and_parts (ltb i n) (is_step (moved (x.at i)).next) t in
+        elim (in_or_notified i (ltb-true i n a.0)) [
+          | inl d ↦ eq-eqb (w.at i).epoch e d
+          | inr d ↦ absurd (cc (rw (notified_ended (x.at i) d) at a.1))
+        ]
+    current_there (Does i _) t = absurd (cc t)
+    current_there (Comes k) t =
+        subst (λ ls. is_receiver_in_epoch e w (control_at ls k) ≡ true) (sym h.controls)
+        (receiver_there (control_at x.controls k) (known_at n g.wave g.gifts x x.controls k g.inv.controls) t)
+
+    useful_there : (event : Event) → is_useful n x event ≡ true → is_progress n w (In e event) ≡ true
+    useful_there event t =
+        let c = current_there event t in
+        and_from (is_current e w event) (is_useful n (world_of e w) event) c (useful_same n e w x h event c ∙ t)
 
 -- If an epoch has terminated, its world is quiet.
 pub quiet_of : (n e : ℕ) (w : Epochs) (all : List EpochEvent) → w ≡ epochs_after n all → IsOver n e w
@@ -458,7 +477,7 @@ goes_on_epoch n e all l few room v =
     ] in
     elim (goes_on_to n events l few room_there quiet) [
       | inl done ↦ inl (λ i m d. subst (λ p. has_notified p ≡ true) (sym (h.now i d)) (done i m))
-      | inr u ↦ inr (u.0.0, useful_there n e w x h v u.0.0 u.1 u.0.1)
+      | inr u ↦ let g = good_after n events in inr (u.0, useful_there n e w x h v g.0 g.1 u.0 u.1)
     ]
 
 pub lags : LagsLaw
@@ -473,51 +492,6 @@ lags n i j all few l m behind =
     (left_epoch n j e all m behind)) [ inl all ↦ inl (all i l refl) | inr u ↦ inr u ]
 
 -- ==== The bounds of one epoch among others: its waves, its control messages, and its useful events.
-module _ (n e : ℕ) (w : Epochs) (x : World) (h : IsEpoch n e w x) where
-  taken_same : (o : Option ControlMessage) → is_receiver_in_epoch e w o ≡ true → is_taken n (world_of e w) o ≡ is_taken n x o
-  taken_same None t = refl
-  taken_same (Some l) t =
-      ap (λ p. ltb l.to n && (is_for l p && is_due l.from l.wave l.token p)) (h.now l.to (eqb-true (w.at l.to).epoch e t))
-
-  useful_same : (event : Event) → is_current e w event ≡ true → is_useful n (world_of e w) event ≡ is_useful n x event
-  useful_same (Does i Moves) t = ap (λ p. ltb i n && is_step (moved p).next) (h.now i (eqb-true (w.at i).epoch e t))
-  useful_same (Does i _) t = refl
-  useful_same (Comes k) t =
-      subst (λ ls. is_taken n (world_of e w) (control_at (w.controls e) k) ≡ is_taken n x (control_at ls k)) h.controls
-      (taken_same (control_at (w.controls e) k) t)
-
--- the later events of an epoch, and how many of them are useful
-record Added (n e : ℕ) (later all : List EpochEvent) : Type 0 where
-  pub more : List Event
-  pub same : events_of n e (later ++ all) ≡ more ++ events_of n e all
-  pub count : progress_count n e later all ≡ useful n more (events_of n e all)
-
-added : (n e : ℕ) (later all : List EpochEvent) → Added n e later all
-added n e [] all = record { more = []; same = refl; count = refl }
-added n e (Reopens i ∷ later) all = let m = added n e later all in record { more = m.more; same = m.same; count = m.count }
-added n e (In f event ∷ later) all =
-    let m = added n e later all in
-    let w : Epochs = epochs_after n (later ++ all) in
-    let x : World = after n (events_of n e (later ++ all)) in
-    let old : List Event = events_of n e all in
-    elim (cases_eq f e) [
-      | inr d ↦ record { more = m.more; same = rw (ne_eqb f e d) m.same; count = rw (ne_eqb f e d) m.count }
-      | inl d ↦
-          elim (cases_Bool (is_current f w event)) [
-            | inr t ↦ record { more = m.more; same = rw (eq-eqb f e d, t) m.same; count = rw (eq-eqb f e d, t) m.count }
-            | inl t ↦
-                let t2 : is_current e w event ≡ true = subst (λ g. is_current g w event ≡ true) d t in
-                let one : is_useful n (world_of f w) event ≡ is_useful n (after n (m.more ++ old)) event
-                = subst (λ g. is_useful n (world_of g w) event ≡ is_useful n (after n (m.more ++ old)) event) (sym d)
-                (useful_same n e w x (epochs n (later ++ all) e) event t2 ∙ ap (λ l. is_useful n (after n l) event) m.same) in
-                record {
-                  more = event ∷ m.more;
-                  same = rw (eq-eqb f e d, t) (ap (λ l. event ∷ l) m.same);
-                  count = rw (eq-eqb f e d, t, one, m.count) refl;
-                }
-          ]
-    ]
-
 pub soon_epoch : SoonEpochLaw
 soon_epoch n e later all l v =
     let m = added n e later all in
@@ -525,21 +499,21 @@ soon_epoch n e later all l v =
 
 pub few_waves_epoch : FewWavesEpochLaw
 few_waves_epoch n e later all l v here still =
-    let m = adds n e later all in
-    let z : ((after n (m.0 ++ events_of n e all)).at 0).wave ≤ ((after n (events_of n e all)).at 0).wave + 2
-    = few_waves n m.0 (events_of n e all) l (quiet_of n e (epochs_after n all) all refl v) in
+    let m = added n e later all in
+    let z : ((after n (m.more ++ events_of n e all)).at 0).wave ≤ ((after n (events_of n e all)).at 0).wave + 2
+    = few_waves n m.more (events_of n e all) l (quiet_of n e (epochs_after n all) all refl v) in
     omega (
       arith,
       ap (λ p. p.wave) ((epochs n all e).now 0 here),
       ap (λ p. p.wave) ((epochs n (later ++ all) e).now 0 still),
-      ap (λ l. ((after n l).at 0).wave) m.1,
+      ap (λ l. ((after n l).at 0).wave) m.same,
       z,
     )
 
 pub once_epoch : OnceEpochLaw
 once_epoch n e k later all l few there here =
     let o : EpochEvent = In e (Comes k) in
-    let m = adds n e later (o ∷ all) in
+    let m = added n e later (o ∷ all) in
     let old : List Event = events_of n e all in
     let w : Epochs = epochs_after n (later ++ o ∷ all) in
     let events : List Event = events_of n e (later ++ o ∷ all) in
@@ -547,9 +521,9 @@ once_epoch n e k later all l few there here =
     let first : IsEpoch n e (epochs_after n all) (after n old) = epochs n all e in
     let came : events_of n e (o ∷ all) ≡ Comes k ∷ old = rw (eq-eqb e e refl, there, here) refl in
     let there_too : control_at (after n old).controls k ≡ Some l = subst (λ ls. control_at ls k ≡ Some l) first.controls there in
-    let never : is_taken n (after n (m.0 ++ Comes k ∷ old)) (Some l) ≡ false = once n k m.0 old l few there_too in
+    let never : is_taken n (after n (m.more ++ Comes k ∷ old)) (Some l) ≡ false = once n k m.more old l few there_too in
     let now : is_taken n (after n events) (Some l) ≡ false
-    = subst (λ l2. is_taken n (after n l2) (Some l) ≡ false) (sym (m.1 ∙ ap (λ l2. m.0 ++ l2) came)) never in
+    = subst (λ l2. is_taken n (after n l2) (Some l) ≡ false) (sym (m.same ∙ ap (λ l2. m.more ++ l2) came)) never in
     elim (cases_Bool (is_in_epoch e w l.to)) [
       | inl t ↦ and_right _ _ (taken_same n e w (after n events) h (Some l) t ∙ now)
       | inr f ↦ and_left _ _ f

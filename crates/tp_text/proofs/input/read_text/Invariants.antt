@@ -1,4 +1,4 @@
-use Rattle.tp_text.proofs.Names.{◌≤◌, length, Consumes, MAX_TEXT}
+use Rattle.tp_text.proofs.Readings.{◌≤◌, length, Consumes, MAX_TEXT}
 use Rattle.tp_text.proofs.input.read_text.Given as goal
 
 abbrev pub invariant-loop : goal.invariant-loop

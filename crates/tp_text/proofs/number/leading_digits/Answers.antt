@@ -1,6 +1,5 @@
-use Rattle.tp_text.proofs.Names.{◌+◌, ◌*◌, ◌<◌, length, slice_index, arith, ap, ◌∙◌, below_more, IsDigit}
+use Rattle.tp_text.proofs.Readings.{◌+◌, ◌*◌, ◌<◌, length, slice_index, arith, ap, ◌∙◌, below_more, IsDigit, value_more, value_small}
 use Rattle.tp_text.proofs.number.leading_digits.Goals as goal
-use Rattle.tp_text.proofs.Numbers.{value_more, value_small}
 
 pub overflow_mul-value : goal.overflow_mul-value
 overflow_mul-value c =

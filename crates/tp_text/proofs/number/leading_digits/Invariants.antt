@@ -1,4 +1,4 @@
-use Rattle.tp_text.proofs.Names.{◌-◌, ◌≡◌, ◌<◌, ◌≤◌, ℕ, length, slice_index, take, digits_value, IsDigit}
+use Rattle.tp_text.proofs.Readings.{◌-◌, ◌≡◌, ◌<◌, ◌≤◌, ℕ, length, slice_index, take, digits_value, IsDigit}
 use Rattle.tp_text.proofs.number.leading_digits.Given as goal
 
 abbrev pub invariant-loop-len : goal.invariant-loop-len

@@ -1,4 +1,4 @@
-use Rattle.tp_text.proofs.NoLine.{alike, unlike, no_nodes, no_count, no_counted, nodes_found}
+use Rattle.tp_text.proofs.Readings.{alike, unlike, no_nodes, no_count, no_counted, nodes_found}
 use Rattle.tp_text.proofs.parse.first_line.Goals as goal
 
 pub returns-then-ne : goal.returns-then-ne

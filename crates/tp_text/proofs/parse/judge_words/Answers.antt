@@ -1,4 +1,4 @@
-use Rattle.tp_text.proofs.TraceLines.{not_plain, no_words, no_operands_words, no_wave_words, ended_is}
+use Rattle.tp_text.proofs.Readings.{not_plain, no_words, no_operands_words, no_wave_words, ended_is}
 use Rattle.tp_text.proofs.parse.judge_words.Goals as goal
 
 pub returns-in_err-operands : goal.returns-in_err-operands

@@ -1,4 +1,4 @@
-use Rattle.tp_text.proofs.TraceLines.{no_line_keyword}
+use Rattle.tp_text.proofs.Readings.{no_line_keyword}
 use Rattle.tp_text.proofs.parse.next_line.Goals as goal
 
 pub returns-in_err-keyword : goal.returns-in_err-keyword

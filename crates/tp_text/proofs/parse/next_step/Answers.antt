@@ -1,4 +1,4 @@
-use Rattle.tp_text.proofs.NoLine.{no_keyword}
+use Rattle.tp_text.proofs.Readings.{no_keyword}
 use Rattle.tp_text.proofs.parse.next_step.Goals as goal
 
 pub returns-in_err-keyword_of : goal.returns-in_err-keyword_of

@@ -1,4 +1,4 @@
-use Rattle.tp_text.proofs.TraceLines.{no_step_behind}
+use Rattle.tp_text.proofs.Readings.{no_step_behind}
 use Rattle.tp_text.proofs.parse.step_behind.Goals as goal
 
 pub returns-in_err-step_named : goal.returns-in_err-step_named

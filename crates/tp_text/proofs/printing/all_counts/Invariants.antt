@@ -1,4 +1,4 @@
-use Rattle.tp_text.proofs.Names.{◌≡◌, ◌≤◌, ◌*◌, ◌^◌, total, listed}
+use Rattle.tp_text.proofs.Readings.{◌≡◌, ◌≤◌, ◌*◌, ◌^◌, total, listed}
 use Rattle.tp_text.proofs.printing.all_counts.Given as goal
 
 abbrev pub invariant-loop-numbers : goal.invariant-loop-numbers

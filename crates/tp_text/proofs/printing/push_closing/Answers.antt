@@ -1,5 +1,4 @@
-use Rattle.tp_text.proofs.Names.{take, ◌∙◌, rules}
-use Rattle.tp_text.proofs.Printed.{closing_written, Lists, AddsUp, lists_first}
+use Rattle.tp_text.proofs.Readings.{take, ◌∙◌, rules, closing_written, Lists, AddsUp, lists_first}
 use Rattle.tp_text.proofs.printing.push_closing.Goals as goal
 
 pub returns : goal.returns

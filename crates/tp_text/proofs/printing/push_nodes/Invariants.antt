@@ -1,4 +1,4 @@
-use Rattle.tp_text.proofs.Names.{◌≡◌, ◌++◌, listed, node_lines}
+use Rattle.tp_text.proofs.Readings.{◌≡◌, ◌++◌, listed, node_lines}
 use Rattle.tp_text.proofs.printing.push_nodes.Given as goal
 
 abbrev pub invariant-loop-i : goal.invariant-loop-i

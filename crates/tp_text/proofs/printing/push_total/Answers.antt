@@ -1,5 +1,4 @@
-use Rattle.tp_text.proofs.Names.{codes, decimal, ◌∷◌, [], counts}
-use Rattle.tp_text.proofs.Printed.{four_pieces}
+use Rattle.tp_text.proofs.Readings.{codes, decimal, ◌∷◌, [], counts, four_pieces}
 use Rattle.tp_text.proofs.printing.push_total.Goals as goal
 
 pub returns : goal.returns

@@ -1,4 +1,4 @@
-use Rattle.tp_text.proofs.TracedEnds.{reopened_over}
+use Rattle.tp_text.proofs.Readings.{reopened_over}
 use Rattle.tp_text.proofs.reading.read_trace.Goals as goal
 
 pub returns-clause-reopened : goal.returns-clause-reopened

@@ -1,7 +1,6 @@
-use Rattle.tp_text.proofs.Names.{subst, Refused, IsRecounted, IsAuditText, AreStepsBeforeFault}
 use Rattle.tp_text.specs.declared.recount.Recounted.TheVariants as recounts
-use Rattle.tp_text.proofs.Readings.{broken_read, broken_told, handed_runs}
-use Rattle.tp_text.proofs.Recounting.{broken_answered}
+use Rattle.tp_text.proofs.Readings.{subst, Refused, IsRecounted, IsAuditText, AreStepsBeforeFault, broken_read, broken_told, handed_runs}
+use Rattle.tp_text.proofs.Readings.{broken_answered}
 use Rattle.tp_text.proofs.reading.reading_of.Goals as goal
 
 pub returns-in_ok-steps-in-Broken-clause-ok : goal.returns-in_ok-steps-in-Broken-clause-ok

@@ -1,4 +1,4 @@
-use Rattle.tp_text.proofs.TracedEnds.{ended_over, not_ended_claims, reopened_over}
+use Rattle.tp_text.proofs.Readings.{ended_over, not_ended_claims, reopened_over}
 use Rattle.tp_text.proofs.recount.audit.Goals as goal
 
 pub returns-clause-ended : goal.returns-clause-ended

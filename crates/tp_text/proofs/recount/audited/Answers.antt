@@ -1,6 +1,5 @@
-use Rattle.tp_text.proofs.Names.{subst, IsRecounted}
 use Rattle.tp_text.specs.declared.recount.Recounted.TheVariants as recounts
-use Rattle.tp_text.proofs.Recounting.{answer_as, answer_found, broken_answered}
+use Rattle.tp_text.proofs.Readings.{subst, IsRecounted, answer_as, answer_found, broken_answered}
 use Rattle.tp_text.proofs.recount.audited.Goals as goal
 
 pub returns-in-Broken-clause-ok : goal.returns-in-Broken-clause-ok

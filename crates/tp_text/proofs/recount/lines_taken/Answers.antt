@@ -1,5 +1,4 @@
-use Rattle.tp_text.proofs.Names.{[], ◌∷◌}
-use Rattle.tp_text.proofs.Recounting.{fault_format, fault_nodes, reads_none, reads_one}
+use Rattle.tp_text.proofs.Readings.{[], ◌∷◌, fault_format, fault_nodes, reads_none, reads_one}
 use Rattle.tp_text.proofs.recount.lines_taken.Goals as goal
 
 pub returns-in_default-clause-ok : goal.returns-in_default-clause-ok

@@ -1,5 +1,4 @@
-use Rattle.tp_text.proofs.Names.{List, length, TraceLine, Knows}
-use Rattle.tp_text.proofs.Recounting.{Reads}
+use Rattle.tp_text.proofs.Readings.{List, length, TraceLine, Knows, Reads}
 use Rattle.tp_text.proofs.recount.lines_taken.Given as goal
 
 abbrev pub invariant-loop-rest : goal.invariant-loop-rest

@@ -1,11 +1,10 @@
-use Rattle.tp_text.proofs.Names.{[], ◌∷◌, ◌++◌, ◌+◌, codes, decimal, sym, ap, ◌∙◌, arith, common_steps, Accepted, fresh, line}
-use Rattle.tp_text.proofs.Taking.{fault_nodes, takes_none, takes_one, takes_all, takes_fault, nodes_kept}
-use Rattle.tp_text.proofs.Left.{some_left, none_left}
+use Rattle.tp_text.proofs.Readings.{[], ◌∷◌, ◌++◌, ◌+◌, codes, decimal, sym, ap, ◌∙◌, arith, common_steps, Accepted, fresh, line}
+use Rattle.tp_text.proofs.Readings.{script_fault, takes_none, takes_one, takes_all, takes_fault, nodes_kept, some_left, none_left}
 use Rattle.tp_text.proofs.simulation.answered.Goals as goal
 
 pub returns-in_default-clause-ok : goal.returns-in_default-clause-ok
 returns-in_default-clause-ok c =
-    fault_nodes c.script_head-version.result.0 c.args.text.now c.script_head-version.result.1.now _ c.script_head-version.ensures.text
+    script_fault c.script_head-version.result.0 c.args.text.now c.script_head-version.result.1.now _ c.script_head-version.ensures.text
     c.script_head-version.ensures.two c.in_default.ensures
     (c.in_ok-syntax_line.ensures ∙ ap (λ k. line (codes "syntax line " ++ decimal k)) c.nodes_at.ensures)
 

@@ -1,5 +1,4 @@
-use Rattle.tp_text.proofs.Names.{List, length, Step}
-use Rattle.tp_text.proofs.Taking.{Takes}
+use Rattle.tp_text.proofs.Readings.{List, length, Step, Takes}
 use Rattle.tp_text.proofs.simulation.answered.Given as goal
 
 abbrev pub invariant-loop-rest : goal.invariant-loop-rest

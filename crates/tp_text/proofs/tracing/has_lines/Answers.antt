@@ -1,5 +1,4 @@
-use Rattle.tp_text.proofs.Names.{refl, sym, subst, rules, All, IsSpelled, All-cons}
-use Rattle.tp_text.proofs.Following.{oldest, oldest_next, spelled_there}
+use Rattle.tp_text.proofs.Readings.{refl, sym, subst, rules, All, IsSpelled, All-cons, oldest, oldest_next, spelled_there}
 use Rattle.tp_text.proofs.tracing.has_lines.Goals as goal
 
 pub loop-place-preserved : goal.loop-place-preserved

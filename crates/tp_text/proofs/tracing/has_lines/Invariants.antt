@@ -1,5 +1,4 @@
-use Rattle.tp_text.proofs.Names.{All, IsSpelled}
-use Rattle.tp_text.proofs.Following.{oldest}
+use Rattle.tp_text.proofs.Readings.{All, IsSpelled, oldest}
 use Rattle.tp_text.proofs.tracing.has_lines.Given as goal
 
 abbrev pub invariant-loop-place : goal.invariant-loop-place

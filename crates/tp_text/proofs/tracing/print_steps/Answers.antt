@@ -1,5 +1,4 @@
-use Rattle.tp_text.proofs.Names.{reverse}
-use Rattle.tp_text.proofs.Following.{core_runs}
+use Rattle.tp_text.proofs.Readings.{reverse, core_runs}
 use Rattle.tp_text.proofs.tracing.print_steps.Goals as goal
 
 pub printed-requires-clause-runs : goal.printed-requires-clause-runs

@@ -1,4 +1,4 @@
-use Rattle.tp_text.proofs.Names.{sym, reverse-reverse, steps_of}
+use Rattle.tp_text.proofs.Readings.{sym, reverse-reverse, steps_of}
 use Rattle.tp_text.proofs.tracing.print_trace.Goals as goal
 
 pub printed-requires-clause-runs : goal.printed-requires-clause-runs

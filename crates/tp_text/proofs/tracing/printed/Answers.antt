@@ -1,5 +1,4 @@
-use Rattle.tp_text.proofs.Names.{arith, length, refl, reverse, subst, ◌≤◌, length-reverse, All, MAX_STEPS, IsSpelled}
-use Rattle.tp_text.proofs.Following.{is_trace_of}
+use Rattle.tp_text.proofs.Readings.{arith, length, refl, reverse, subst, ◌≤◌, length-reverse, All, MAX_STEPS, IsSpelled, is_trace_of}
 use Rattle.tp_text.proofs.tracing.printed.Goals as goal
 
 pub returns-clause-ok : goal.returns-clause-ok

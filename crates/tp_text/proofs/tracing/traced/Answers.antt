@@ -1,5 +1,5 @@
-use Rattle.tp_text.proofs.Names.{◌∙◌, ap, sym, subst, List, Step, present, HasFollowed, trace, lines_of}
-use Rattle.tp_text.proofs.Following.{may_follow_next, oldest, oldest_next, traced_next}
+use Rattle.tp_text.proofs.Readings.{◌∙◌, ap, sym, subst, List, Step, present, HasFollowed, trace, lines_of, may_follow_next, oldest}
+use Rattle.tp_text.proofs.Readings.{oldest_next, traced_next}
 use Rattle.tp_text.proofs.tracing.traced.Goals as goal
 
 pub line-requires : goal.line-requires

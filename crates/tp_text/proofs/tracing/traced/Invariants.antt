@@ -1,5 +1,4 @@
-use Rattle.tp_text.proofs.Names.{◌≡◌, present, trace, lines_of, HasFollowed}
-use Rattle.tp_text.proofs.Following.{oldest}
+use Rattle.tp_text.proofs.Readings.{◌≡◌, present, trace, lines_of, HasFollowed, oldest}
 use Rattle.tp_text.proofs.tracing.traced.Given as goal
 
 abbrev pub invariant-loop-place : goal.invariant-loop-place

@@ -1,10 +1,9 @@
-use Rattle.tp_text.proofs.Names.{ap, ◌∙◌, Some}
-use Rattle.tp_text.proofs.Following.{none_next, second_version}
+use Rattle.tp_text.proofs.Readings.{ap, ◌∙◌, Some, next_none, second_version}
 use Rattle.tp_text.proofs.tracing.traced_version.Goals as goal
 
 pub loop-place-preserved : goal.loop-place-preserved
 loop-place-preserved g c =
-    none_next c.loop-place.place (g.S.Steps.listed c.args.steps.now) c.at_place.result c.at_place.ensures
+    next_none c.loop-place.place (g.S.Steps.listed c.args.steps.now) c.at_place.result c.at_place.ensures
     c.in_default.not-Reopen c.loop-place.invariant
 
 pub returns-in-Reopen : goal.returns-in-Reopen

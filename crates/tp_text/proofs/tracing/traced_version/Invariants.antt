@@ -1,5 +1,4 @@
-use Rattle.tp_text.proofs.Names.{IsFalse, any, is_reopen}
-use Rattle.tp_text.proofs.Following.{oldest}
+use Rattle.tp_text.proofs.Readings.{IsFalse, any, is_reopen, oldest}
 use Rattle.tp_text.proofs.tracing.traced_version.Given as goal
 
 abbrev pub invariant-loop-place : goal.invariant-loop-place

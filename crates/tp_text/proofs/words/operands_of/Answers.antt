@@ -1,4 +1,4 @@
-use Rattle.tp_text.proofs.Lines.{none_at_all, none_next, none_behind}
+use Rattle.tp_text.proofs.Readings.{none_at_all, none_next, none_behind}
 use Rattle.tp_text.proofs.words.operands_of.Goals as goal
 
 pub returns-in_err-second : goal.returns-in_err-second

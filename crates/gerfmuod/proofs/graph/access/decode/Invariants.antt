@@ -1,5 +1,4 @@
-use Rattle.std.specs.Prelude.{◌≡◌, map, take}
-use Rattle.gerfmuod.specs.Data.{access_of}
+use Rattle.gerfmuod.proofs.Growing.{◌≡◌, map, take, access_of}
 use Rattle.gerfmuod.proofs.graph.access.decode.Given as goal
 
 abbrev pub invariant-loop-access : goal.invariant-loop-access

@@ -1,5 +1,4 @@
-use Rattle.gerfmuod.proofs.Words.{sym}
-use Rattle.gerfmuod.proofs.Growing.{next_spawned, spawn_call}
+use Rattle.gerfmuod.proofs.Growing.{sym, next_spawned, spawn_call}
 use Rattle.gerfmuod.proofs.graph.calls.spawn.Goals as goal
 
 pub invariant_of-slot : goal.invariant_of-slot

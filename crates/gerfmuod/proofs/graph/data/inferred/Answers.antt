@@ -1,7 +1,4 @@
-use Rattle.gerfmuod.proofs.Words.{refl, ap, inl, ◌∙◌, length}
-use Rattle.gerfmuod.specs.Data.{AddsTask, opened_with}
-use Rattle.gerfmuod.specs.Graph.{plain}
-use Rattle.gerfmuod.proofs.Inferring.{follows_on, found, judged_ok}
+use Rattle.gerfmuod.proofs.Growing.{refl, ap, inl, ◌∙◌, length, AddsTask, opened_with, plain, follows_on, found, judged_ok}
 use Rattle.gerfmuod.proofs.graph.data.inferred.Goals as goal
 
 pub returns-in-Ok-spawn-clause-spawns : goal.returns-in-Ok-spawn-clause-spawns

@@ -1,5 +1,4 @@
-use Rattle.gerfmuod.proofs.Words.{length}
-use Rattle.gerfmuod.proofs.Inferring.{decoded_there}
+use Rattle.gerfmuod.proofs.Growing.{length, decoded_there}
 use Rattle.gerfmuod.proofs.graph.data.task_added.Goals as goal
 
 pub inferred-requires-clause-below : goal.inferred-requires-clause-below

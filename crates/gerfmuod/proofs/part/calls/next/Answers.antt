@@ -1,5 +1,4 @@
-use Rattle.gerfmuod.proofs.Words.{ap}
-use Rattle.tp_part.specs.State.{PartState}
+use Rattle.gerfmuod.proofs.Growing.{ap, PartState}
 use Rattle.gerfmuod.proofs.part.calls.next.Goals as goal
 
 pub returns-in-Ok-Run-clause-kept : goal.returns-in-Ok-Run-clause-kept

@@ -1,7 +1,4 @@
-use Rattle.gerfmuod.proofs.Words.{refl, ap, inl, ◌∙◌}
-use Rattle.gerfmuod.specs.Part.{AddsWith, opened_as}
-use Rattle.gerfmuod.specs.Graph.{plain}
-use Rattle.gerfmuod.proofs.Inferring.{follows_on, found, judged_part}
+use Rattle.gerfmuod.proofs.Growing.{refl, ap, inl, ◌∙◌, AddsWith, opened_as, plain, follows_on, found, judged_part}
 use Rattle.gerfmuod.proofs.part.tasks.inferred.Goals as goal
 
 pub returns-in-Ok-task-clause-adds : goal.returns-in-Ok-task-clause-adds

@@ -1,5 +1,4 @@
-use Rattle.gerfmuod.proofs.Words.{subst, Accepted, InEach, IsNeverEarly}
-use Rattle.gerfmuod.proofs.Steps.{kept_never_early}
+use Rattle.gerfmuod.proofs.Steps.{subst, Accepted, InEach, IsNeverEarly, kept_never_early}
 use Rattle.gerfmuod.proofs.pool.CoreRoom.is_maker.Goals as goal
 
 pub returns-clause-never_early : goal.returns-clause-never_early

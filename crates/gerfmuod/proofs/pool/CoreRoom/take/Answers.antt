@@ -1,5 +1,4 @@
-use Rattle.gerfmuod.proofs.Words.{subst, Accepted, InEach, IsNeverEarly}
-use Rattle.gerfmuod.proofs.Steps.{kept_never_early}
+use Rattle.gerfmuod.proofs.Steps.{subst, Accepted, InEach, IsNeverEarly, kept_never_early}
 use Rattle.gerfmuod.proofs.pool.CoreRoom.take.Goals as goal
 
 pub returns-in_default-clause-never_early : goal.returns-in_default-clause-never_early

@@ -1,5 +1,4 @@
-use Rattle.pool_matrix.specs.Matrices.{matrix_graph}
-use Rattle.pool_matrix.proofs.Running.{places_within}
+use Rattle.pool_matrix.proofs.Refused.{matrix_graph, places_within}
 use Rattle.pool_matrix.proofs.product.ProductGraph.body.Goals as goal
 
 pub make_tile-requires-clause-places : goal.make_tile-requires-clause-places

@@ -1,4 +1,4 @@
-use Rattle.pool_samples.proofs.PlainCells.{product_cell}
+use Rattle.pool_samples.proofs.Keeping.{product_cell}
 use Rattle.pool_samples.proofs.product.Product.cell.Goals as goal
 
 pub returns : goal.returns

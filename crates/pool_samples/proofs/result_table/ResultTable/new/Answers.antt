@@ -1,22 +1,17 @@
-use Rattle.std.proofs.Common.{ℤ, List, Option, refl, subst, sym}
-use Rattle.std.specs.Borrow.{Bor}
-use Rattle.pool_samples.specs.Needed.{IsIndex}
-use Rattle.pool_samples.proofs.Found.{lacks, lacks_none}
+use Rattle.pool_samples.proofs.Keeping.{refl, subst, sym, IsFound, IsIndex, cell_of, is_there, lacks_none}
 use Rattle.pool_samples.proofs.result_table.ResultTable.new.Goals as goal
 
 pub returns-in-Some-clause-missing : goal.returns-in-Some-clause-missing
 returns-in-Some-clause-missing c =
-    let P : List (Option (Bor (List ℤ))) → Type 0 = IsIndex c.args.graph c.args.results.now in (
-      λ _. lacks c.args.graph c.args.results.now c.deref.result.now c.in-Some.field-0
-          (subst P (sym c.deref.ensures.value) c.in-Ok.ensures.found) c.in-Some.ensures.0 c.in-Some.ensures.1,
-      λ _. refl,
-    )
+    let found = subst (IsIndex c.args.graph c.args.results.now) (sym c.deref.ensures.value) c.in-Ok.ensures.found in
+    let rank = c.in-Some.field-0 in
+    let none = subst (IsFound c.args.graph c.args.results.now rank) c.in-Some.ensures.1 (found rank c.in-Some.ensures.0) in
+    (λ _. cell_of c.args.graph c.args.results.now rank c.in-Some.ensures.0 none, λ _. refl)
 
 pub returns-clause-missing : goal.returns-clause-missing
 returns-clause-missing c =
-    let P : List (Option (Bor (List ℤ))) → Type 0 = IsIndex c.args.graph c.args.results.now in (
+    let found = subst (IsIndex c.args.graph c.args.results.now) (sym c.deref.ensures.value) c.in-Ok.ensures.found in (
       λ e. absurd cc,
-      λ lack. absurd
-          (lacks_none c.args.graph c.args.results.now c.deref.result.now (subst P (sym c.deref.ensures.value) c.in-Ok.ensures.found)
-          c.in-None.ensures lack),
+      λ lack. absurd (lacks_none c.args.graph c.args.results.now
+          (λ rank h. is_there c.args.graph c.args.results.now rank _ (found rank h) (c.in-None.ensures rank h)) lack),
     )

@@ -1,13 +1,6 @@
-use Rattle.std.proofs.Common.{◌≡◌, ◌<◌, ◌∙◌, ℤ, List, Option, Some, None, IsSomeAnd, length, pos, get_or, w64, ap, arith, subst, sym, rules}
-use Rattle.std.specs.Borrow.{Bor}
-use Rattle.std.specs.Int.RustNames.{FitsSigned}
-use Rattle.std.proofs.lemmas.Int.{to_z-of_z}
-use Rattle.std.proofs.lemmas.List.{get_or_default}
-use Rattle.tp_graph.specs.Values.{value_of}
-use Rattle.pool_samples.specs.Any.{any_graph}
-use Rattle.pool_samples.specs.Needed.{needed_task}
-use Rattle.pool_samples.specs.Tables.{table_of}
-use Rattle.pool_samples.proofs.Found.{number_is}
+use Rattle.pool_samples.proofs.Keeping.{◌≡◌, ◌<◌, ◌∙◌, ℤ, List, Option, Some, None, IsSomeAnd, length, pos, get_or, w64, ap, arith, subst}
+use Rattle.pool_samples.proofs.Keeping.{sym, rules, Bor, FitsSigned, to_z-of_z, get_or_default, value_of, any_graph, needed_task, table_of}
+use Rattle.pool_samples.proofs.Keeping.{number_is}
 use Rattle.pool_samples.proofs.result_table.ResultTable.number.Goals as goal
 
 pub returns : goal.returns

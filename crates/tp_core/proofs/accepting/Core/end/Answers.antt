@@ -1,10 +1,9 @@
-use Rattle.tp_core.proofs.Words.{◌≡◌, Some, arith, refl, common_steps, err_from_is_err_and, MessageEnd, lookup, OfMessage, present}
-use Rattle.tp_core.proofs.Words.{generation, MayCome, IsLawful, accepted}
-use Rattle.tp_core.proofs.Lemmas.{places_next, agree_next, numbers_written, MayClose, may_end_message, message_closed, message_ended, taken}
-use Rattle.tp_core.proofs.Lemmas.{no_room}
 use Rattle.tp_core.specs.declared.posted.Stage.TheVariants as stage
-use Rattle.tp_core.proofs.accepting.Core.end.Goals as goal
 use Rattle.tp_core.proofs.accepting.Core.end.Goals.{After-make_room}
+use Rattle.tp_core.proofs.Lemmas.{◌≡◌, Some, arith, refl, common_steps, err_from_is_err_and, MessageEnd, lookup, OfMessage, present}
+use Rattle.tp_core.proofs.Lemmas.{generation, MayCome, IsLawful, accepted, places_next, agree_next, numbers_written, MayClose}
+use Rattle.tp_core.proofs.Lemmas.{may_end_message, message_closed, message_ended, taken, no_room}
+use Rattle.tp_core.proofs.accepting.Core.end.Goals as goal
 
 was : (c : After-make_room) → lookup c.self.inside.messages c.args.message.0 ≡ Some (record { to = c.args.node; stage = stage.Received })
 was c = grind (arith, common_steps, c.get.ensures, c.new-received.ensures, c.ne.ensures, c.if-ne.false)

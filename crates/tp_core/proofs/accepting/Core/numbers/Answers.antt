@@ -1,5 +1,4 @@
-use Rattle.tp_core.proofs.Words.{◌≤◌, ◌∙◌, subst, sym, Accepted, present, accepted}
-use Rattle.tp_core.proofs.Lemmas.{outside}
+use Rattle.tp_core.proofs.Lemmas.{◌≤◌, ◌∙◌, subst, sym, Accepted, present, accepted, outside}
 use Rattle.tp_core.proofs.accepting.Core.numbers.Goals as goal
 
 pub returns-clause-others : goal.returns-clause-others

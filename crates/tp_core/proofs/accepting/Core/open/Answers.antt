@@ -1,8 +1,8 @@
-use Rattle.tp_core.proofs.Words.{◌<◌, arith, refl, ◌∙◌, nat_tests, err_from_is_err_and, ActionOpen, MAX_NODES, Named, any, is_action_beside}
-use Rattle.tp_core.proofs.Words.{present, MayCome, IsLawful, accepted}
-use Rattle.tp_core.proofs.Lemmas.{asks, places_next, agree_next, numbers_written, zeros, small, named_opened, no_memory, no_room, taken}
-use Rattle.tp_core.proofs.accepting.Core.open.Goals as goal
 use Rattle.tp_core.proofs.accepting.Core.open.Goals.{After-make_room}
+use Rattle.tp_core.proofs.Lemmas.{◌<◌, arith, refl, ◌∙◌, nat_tests, err_from_is_err_and, ActionOpen, MAX_NODES, Named, any, is_action_beside}
+use Rattle.tp_core.proofs.Lemmas.{present, MayCome, IsLawful, accepted, asks, places_next, agree_next, numbers_written, zeros, small}
+use Rattle.tp_core.proofs.Lemmas.{named_opened, no_memory, no_room, taken}
+use Rattle.tp_core.proofs.accepting.Core.open.Goals as goal
 
 low : (c : After-make_room) → c.args.node.0 < MAX_NODES
 low c = let few = c.self.invariant.few_nodes in omega arith

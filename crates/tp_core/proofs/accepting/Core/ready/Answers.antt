@@ -1,7 +1,7 @@
-use Rattle.tp_core.proofs.Words.{arith, refl, err_from_is_err_and, Ready, Opening, present, MayCome, IsLawful, accepted}
-use Rattle.tp_core.proofs.Lemmas.{places_next, agree_next, numbers_written, MayClose, may_close, opening_closed, no_room}
-use Rattle.tp_core.proofs.accepting.Core.ready.Goals as goal
 use Rattle.tp_core.proofs.accepting.Core.ready.Goals.{After-make_room}
+use Rattle.tp_core.proofs.Lemmas.{arith, refl, err_from_is_err_and, Ready, Opening, present, MayCome, IsLawful, accepted, places_next}
+use Rattle.tp_core.proofs.Lemmas.{agree_next, numbers_written, MayClose, may_close, opening_closed, no_room}
+use Rattle.tp_core.proofs.accepting.Core.ready.Goals as goal
 
 may : (c : After-make_room) → MayClose c.self.inside c.args.node.0 Opening
 may c = may_close c.self.invariant c.args.node.0 (omega arith) Opening (grind (arith, c.has.ensures, c.if-not-has.false))

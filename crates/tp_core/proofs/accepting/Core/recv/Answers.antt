@@ -1,10 +1,9 @@
-use Rattle.tp_core.proofs.Words.{◌≡◌, Some, arith, refl, common_steps, err_from_is_err_and, Recv, lookup, present, generation, MayCome}
-use Rattle.tp_core.proofs.Words.{IsLawful, accepted}
-use Rattle.tp_core.proofs.Lemmas.{lists_are_sets, places_next, agree_next, numbers_written, MayReceive, may_receive, small, received}
-use Rattle.tp_core.proofs.Lemmas.{message_received, taken, no_room}
 use Rattle.tp_core.specs.declared.posted.Stage.TheVariants as stage
-use Rattle.tp_core.proofs.accepting.Core.recv.Goals as goal
 use Rattle.tp_core.proofs.accepting.Core.recv.Goals.{After-make_room}
+use Rattle.tp_core.proofs.Lemmas.{◌≡◌, Some, arith, refl, common_steps, err_from_is_err_and, Recv, lookup, present, generation, MayCome}
+use Rattle.tp_core.proofs.Lemmas.{IsLawful, accepted, lists_are_sets, places_next, agree_next, numbers_written, MayReceive, may_receive}
+use Rattle.tp_core.proofs.Lemmas.{small, received, message_received, taken, no_room}
+use Rattle.tp_core.proofs.accepting.Core.recv.Goals as goal
 
 was : (c : After-make_room) → lookup c.self.inside.messages c.args.message.0 ≡ Some (record { to = c.args.node; stage = stage.UnderWay })
 was c = grind (arith, common_steps, c.get.ensures, c.new-under_way.ensures, c.ne.ensures, c.if-ne.false)

@@ -1,8 +1,7 @@
-use Rattle.tp_core.proofs.Words.{◌≡◌, true, refl, ap, sym, ◌+◌, ◌∙◌, arith, IsTrue, nat_tests, Reopen, is_reopen}
-use Rattle.tp_core.proofs.Words.{is_ended, present, MayCome, accepted, Opened}
-use Rattle.tp_core.proofs.Lemmas.{count_bound, reopened_kept, taken}
-use Rattle.tp_core.proofs.accepting.Core.reopen.Goals as goal
 use Rattle.tp_core.proofs.accepting.Core.reopen.Goals.{After-make_room}
+use Rattle.tp_core.proofs.Lemmas.{◌≡◌, true, refl, ap, sym, ◌+◌, ◌∙◌, arith, IsTrue, nat_tests, Reopen, is_reopen, is_ended, present}
+use Rattle.tp_core.proofs.Lemmas.{MayCome, accepted, Opened, count_bound, reopened_kept, taken}
+use Rattle.tp_core.proofs.accepting.Core.reopen.Goals as goal
 
 ended : (c : After-make_room) → IsTrue (is_ended c.self.inside.nodes (present (accepted c.self.inside).steps))
 ended c =

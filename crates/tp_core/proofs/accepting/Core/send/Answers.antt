@@ -1,9 +1,8 @@
-use Rattle.tp_core.proofs.Words.{Bool, false, Option, Some, sym, ◌≡◌, ◌<◌, None, arith, refl, nat_tests, err_from_is_err_and, is_some, Send}
-use Rattle.tp_core.proofs.Words.{MAX_NODES, lookup, any, is_message_beside, present, generation, MayCome, IsLawful, accepted}
-use Rattle.tp_core.proofs.Lemmas.{asks, places_next, agree_next, numbers_written, zeros, small, posted, message_sent, no_memory, no_room}
-use Rattle.tp_core.proofs.Lemmas.{taken}
-use Rattle.tp_core.proofs.accepting.Core.send.Goals as goal
 use Rattle.tp_core.proofs.accepting.Core.send.Goals.{After-make_room}
+use Rattle.tp_core.proofs.Lemmas.{Bool, false, Option, Some, sym, ◌≡◌, ◌<◌, None, arith, refl, nat_tests, err_from_is_err_and, is_some, Send}
+use Rattle.tp_core.proofs.Lemmas.{MAX_NODES, lookup, any, is_message_beside, present, generation, MayCome, IsLawful, accepted, asks}
+use Rattle.tp_core.proofs.Lemmas.{places_next, agree_next, numbers_written, zeros, small, posted, message_sent, no_memory, no_room, taken}
+use Rattle.tp_core.proofs.accepting.Core.send.Goals as goal
 
 none_of : {A : Type 0} (o p : Option A) (b : Bool) → o ≡ p → b ≡ is_some o → b ≡ false → p ≡ None
 none_of None p b e f g = sym e

@@ -1,5 +1,4 @@
-use Rattle.tp_core.proofs.Words.{subst, Accepted, IsNeverEarly, accepted, InEach}
-use Rattle.tp_core.proofs.Lemmas.{never_early_in_each}
+use Rattle.tp_core.proofs.Lemmas.{subst, Accepted, IsNeverEarly, accepted, InEach, never_early_in_each}
 use Rattle.tp_core.proofs.accepting.Core.settle.Goals as goal
 
 pub returns-clause-never_early : goal.returns-clause-never_early

@@ -1,9 +1,8 @@
-use Rattle.tp_core.proofs.Words.{◌≡◌, true, false, None, reverse, refl, sym, subst, ◌∙◌, arith, IsTrue, IsFalse, nat_tests, length-reverse}
-use Rattle.tp_core.proofs.Words.{err_from_is_err_and, is_ended, is_quiet, Accepted, world_of, present, accepted, first_refusal, IsSettled}
-use Rattle.tp_core.proofs.Words.{settle_checks, AreTaken}
-use Rattle.tp_core.proofs.Lemmas.{same_quiet, by_quiet, by_none, no_rooms, ready_there, agree_settled, settled}
-use Rattle.tp_core.proofs.accepting.Core.take_steps.Goals as goal
 use Rattle.tp_core.proofs.accepting.Core.take_steps.Goals.{After-make_rooms, After-take_to_end}
+use Rattle.tp_core.proofs.Lemmas.{◌≡◌, true, false, None, reverse, refl, sym, subst, ◌∙◌, arith, IsTrue, IsFalse, nat_tests, length-reverse}
+use Rattle.tp_core.proofs.Lemmas.{err_from_is_err_and, is_ended, is_quiet, Accepted, world_of, present, accepted, first_refusal, IsSettled}
+use Rattle.tp_core.proofs.Lemmas.{settle_checks, AreTaken, same_quiet, by_quiet, by_none, no_rooms, ready_there, agree_settled, settled}
+use Rattle.tp_core.proofs.accepting.Core.take_steps.Goals as goal
 
 not_ended : (c : After-make_rooms) → IsFalse (is_ended c.self.inside.nodes (present (accepted c.self.inside).steps))
 not_ended c =

@@ -1,5 +1,4 @@
-use Rattle.tp_core.proofs.Words.{arith, ap, sym, ◌∙◌, judged, present, started_law}
-use Rattle.tp_core.proofs.Lemmas.{length-present, two_told}
+use Rattle.tp_core.proofs.Lemmas.{arith, ap, sym, ◌∙◌, judged, present, started_law, length-present, two_told}
 use Rattle.tp_core.proofs.accepting.control.advance.Goals as goal
 
 pub start-requires : goal.start-requires

@@ -1,5 +1,4 @@
-use Rattle.tp_core.proofs.Words.{sym, arith, common_steps, present}
-use Rattle.tp_core.proofs.Lemmas.{few_received, few_sent, give_refused}
+use Rattle.tp_core.proofs.Lemmas.{sym, arith, common_steps, present, few_received, few_sent, give_refused}
 use Rattle.tp_core.proofs.accepting.control.give.Goals as goal
 
 pub give-requires-clause-sent : goal.give-requires-clause-sent

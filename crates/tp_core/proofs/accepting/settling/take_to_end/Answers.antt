@@ -1,6 +1,5 @@
-use Rattle.tp_core.proofs.Words.{◌≡◌, None, ◌∙◌, arith, rules, length-reverse, common_steps}
-use Rattle.tp_core.proofs.Lemmas.{goes_further, few_so_far, room_left}
-use Rattle.tp_core.proofs.Advancing.{ends}
+use Rattle.tp_core.proofs.Lemmas.{◌≡◌, None, ◌∙◌, arith, rules, length-reverse, common_steps, goes_further, few_so_far, room_left}
+use Rattle.tp_core.proofs.Lemmas.{ends_there}
 use Rattle.tp_core.proofs.accepting.settling.take_to_end.Goals as goal
 
 pub take_due-requires-clause-room : goal.take_due-requires-clause-room
@@ -12,7 +11,7 @@ take_due-requires-clause-room c =
 pub returns-in-Some-clause-taken : goal.returns-in-Some-clause-taken
 returns-in-Some-clause-taken c =
     let g = c.loop-ended.invariant.goes_on in
-    ends c.requires.settling g (rw (g.settling.waves.follows.stands.nodes, c.in-Some.is) at c.take_due.ensures.taken)
+    ends_there c.requires.settling g (rw (g.settling.waves.follows.stands.nodes, c.in-Some.is) at c.take_due.ensures.taken)
 
 pub loop-ended-smaller : goal.loop-ended-smaller
 loop-ended-smaller c =

@@ -1,4 +1,4 @@
-use Rattle.tp_core.proofs.Words.{◌≡◌, ◌-◌, ◌*◌, reverse, vec_capacity, nodes_of, GoesOn}
+use Rattle.tp_core.proofs.Lemmas.{◌≡◌, ◌-◌, ◌*◌, reverse, vec_capacity, nodes_of, GoesOn}
 use Rattle.tp_core.proofs.accepting.settling.take_to_end.Given as goal
 
 -- the steps taken so far, and the capacity, which stays the same

@@ -1,8 +1,5 @@
-use Rattle.std.proofs.Common.{◌≡◌, ◌++◌, ◌∙◌, ℕ, List, true, arith, sym, ap, length, map}
-use Rattle.std.proofs.lemmas.Grind.{common_steps}
-use Rattle.tp_flow.specs.Description.{all_below}
-use Rattle.tp_flow.specs.State.{RoomyFlow, state_of_uses}
-use Rattle.tp_flow.proofs.Keeping.{kept_of, ready, same_state}
+use Rattle.tp_flow.proofs.Keeping.{◌≡◌, ◌++◌, ◌∙◌, ℕ, List, true, arith, sym, ap, length, map, common_steps, all_below, RoomyFlow}
+use Rattle.tp_flow.proofs.Keeping.{state_of_uses, kept_of, ready, same_state}
 use Rattle.tp_flow.proofs.flow.Flow.find.Goals as goal
 
 pub returns-clause-inputs : goal.returns-clause-inputs

@@ -1,7 +1,4 @@
-use Rattle.std.proofs.Common.{refl, subst, sym}
-use Rattle.tp_flow.specs.Description.{with_handle}
-use Rattle.tp_flow.specs.State.{RoomyFlow, Follows, view_of}
-use Rattle.tp_flow.proofs.Keeping.{handle_follows}
+use Rattle.tp_flow.proofs.Keeping.{refl, subst, sym, with_handle, RoomyFlow, Follows, view_of, handle_follows}
 use Rattle.tp_flow.proofs.flow.Flow.handle.Goals as goal
 
 pub invariant_of-self-2 : goal.invariant_of-self-2

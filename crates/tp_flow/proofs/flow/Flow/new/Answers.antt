@@ -1,7 +1,4 @@
-use Rattle.std.proofs.Common.{None, List, map, subst, sym}
-use Rattle.tp_flow.specs.declared.uses.Uses.{Uses}
-use Rattle.tp_flow.specs.State.{HasDescription, state_of_uses}
-use Rattle.tp_flow.proofs.Keeping.{starts}
+use Rattle.tp_flow.proofs.Keeping.{None, List, map, subst, sym, Uses, HasDescription, state_of_uses, starts}
 use Rattle.tp_flow.proofs.flow.Flow.new.Goals as goal
 
 pub invariant_of-result : goal.invariant_of-result

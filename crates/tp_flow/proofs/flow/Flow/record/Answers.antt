@@ -1,7 +1,4 @@
-use Rattle.std.proofs.Common.{refl, subst, sym}
-use Rattle.tp_flow.specs.Description.{with_task}
-use Rattle.tp_flow.specs.State.{RoomyFlow, Follows, IsReady, view_of}
-use Rattle.tp_flow.proofs.Keeping.{below_of, record_follows}
+use Rattle.tp_flow.proofs.Keeping.{refl, subst, sym, with_task, RoomyFlow, Follows, IsReady, view_of, below_of, record_follows}
 use Rattle.tp_flow.proofs.flow.Flow.record.Goals as goal
 
 pub record-requires : goal.record-requires

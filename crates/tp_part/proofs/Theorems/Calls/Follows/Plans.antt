@@ -314,20 +314,13 @@ owner_of g q d x i o = ap (λ (z : Task). z.owner) (there g d x o.0 i o.1) ∙ o
 next_or : (t d : ℕ) → t < d + 1 → (t ≡ d) ⊎ (t < d)
 next_or t d l = elim (same_or t d) [ inl e ↦ inl e | inr o ↦ inr (omega (arith, l, o)) ]
 
-pub not_own : {g : Graph} {n p d : ℕ} {ns : List ℕ} {ls : List Input} {ins outs : List Pair} (u : ℕ) → Plan g n p d ns ls ins outs → u < d
+not_own : {g : Graph} {n p d : ℕ} {ns : List ℕ} {ls : List Input} {ins outs : List Pair} (u : ℕ) → Plan g n p d ns ls ins outs → u < d
     → place_in ns u ≡ None → Owns g p u → ⊥
 not_own {ns = ns} u h l none own = (let k = h.own_some u own l in let z = sym none ∙ place_some ns u k.0 h.up k.1 in cc)
 
-pub is_own : {g : Graph} {n p d : ℕ} {ns : List ℕ} {ls : List Input} {ins outs : List Pair} (u s : ℕ) → Plan g n p d ns ls ins outs
-    → place_in ns u ≡ Some s → Owns g p u
-is_own {ns = ns} u s h some = (h.own_is s u (place_is ns u s some)).0
-
-pub place_own : {g : Graph} {n p d : ℕ} {ns : List ℕ} {ls : List Input} {ins outs : List Pair} (u : ℕ) → Plan g n p d ns ls ins outs → u < d
-    → Owns g p u → (s : ℕ) × (place_in ns u ≡ Some s) × (slice_get ns s ≡ Some u)
-place_own {ns = ns} u h l own = (let k = h.own_some u own l in (k.0, place_some ns u k.0 h.up k.1, k.1))
-
-module _ (g : Graph) (n p d : ℕ) (ns : List ℕ) (ls : List Input) (ins outs : List Pair) (x : Task) (h : Plan g n p d ns ls ins outs)
-    (is : slice_get g d ≡ Some x) (few : x.owner < n) (below : list_all (λ v. nat_lt v d) x.inputs ≡ true) where
+module _ {g : Graph} {n p d : ℕ} {ns : List ℕ} {ls : List Input} {ins : List Pair} (es : List Edge) (x : Task)
+    (h : Plan g n p d ns ls ins (map ends es)) (is : slice_get g d ≡ Some x) (few : x.owner < n)
+    (below : list_all (λ v. nat_lt v d) x.inputs ≡ true) where
   lower_next : (t u : ℕ) → t < d + 1 → HasInput g t u → u < t
   lower_next t u l i = elim (next_or t d l) [
     | inr m ↦ h.lower t u m i
@@ -344,51 +337,39 @@ module _ (g : Graph) (n p d : ℕ) (ns : List ℕ) (ls : List Input) (ins outs :
   -- an own task
   pub plan_own : (c : ℕ) → c ≡ length ns → x.owner ≡ p
       → Plan g n p (d + 1) (ns ++ d ∷ []) (ls ++ map (λ s. record { source = s; target = c }) (own_places ns x.inputs))
-      (ins ++ map ends (edges_to c ns x.inputs)) outs
+      (ins ++ map ends (edges_to c ns x.inputs)) (map ends es)
   plan_own c at own = record {
     up = ascends_push ns d h.up (λ k t i. (h.own_is k t i).1);
     own_is = λ k t i. elim (last_cases ns k t d i) [
       | inl o ↦ (let r = h.own_is k t o in let l = r.1 in (r.0, omega (arith, l)))
-      | inr o ↦ (let e = o.1 in (subst (λ (v : ℕ). Owns g p v) (sym e) mine, omega (arith, e)))
+      | inr o ↦ (let e = o.1 in (subst (λ (v : ℕ). Owns g p v) (sym e) (x, is, own), omega (arith, e)))
     ];
     own_some = λ t o l. elim (next_or t d l) [
       | inl e ↦ (c, here ∙ ap Some (sym e))
       | inr m ↦ (let r = h.own_some t o m in (r.0, push_old ns (d ∷ []) r.0 t r.1))
     ];
-    link_is = λ i k s e. elim (push_cases ls (map link (own_places ns x.inputs)) i (record { source = s; target = k }) e) [
+    link_is = λ i k s e. elim (push_cases ls (map (link c) (own_places ns x.inputs)) i (link k s) e) [
       | inl o ↦ (let r = h.link_is i k s o in (r.0, r.1, push_old ns (d ∷ []) k r.0 r.2, push_old ns (d ∷ []) s r.1 r.3, r.4))
-      | inr o ↦ (let m = map_got link (own_places ns x.inputs) o.0 (record { source = s; target = k }) o.2 in
+      | inr o ↦ (let m = map_got (link c) (own_places ns x.inputs) o.0 (link k s) o.2 in
           let s_is : m.0 ≡ s = ap (λ (v : Input). v.source) m.2 in let k_is : c ≡ k = ap (λ (v : Input). v.target) m.2 in
-          let u = (split c ns x.inputs).own_is o.0 m.0 m.1 in (
-            d,
-            u.0,
-            subst (λ (v : ℕ). slice_get (ns ++ d ∷ []) v ≡ Some d) k_is here,
-            push_old ns (d ∷ []) s u.0 (subst (λ (v : ℕ). slice_get ns v ≡ Some u.0) s_is u.2),
-            (x, is, (u.1.0, u.1.1)),
-          ))
+          let u = (split c ns x.inputs).own_is o.0 m.0 m.1 in let a = subst (λ (v : ℕ). slice_get (ns ++ d ∷ []) v ≡ Some d) k_is here in
+          let b = push_old ns (d ∷ []) s u.0 (subst (λ (v : ℕ). slice_get ns v ≡ Some u.0) s_is u.2) in (d, u.0, a, b, (x, is, u.1)))
     ];
     read_some = λ k t u a i. elim (last_cases ns k t d a) [
       | inl o ↦ elim (h.read_some k t u o i) [
         | inl r ↦ inl (r.0, push_old ns (d ∷ []) r.0 u r.1, (r.2.0, push_old ls _ r.2.0 _ r.2.1))
         | inr r ↦ inr (r.0, (r.1.0, push_old ins _ r.1.0 _ r.1.1))
       ]
-      | inr o ↦ (let j = inputs_of g d u x is (subst (λ (v : ℕ). HasInput g v u) o.1 i) in let e : k ≡ c = omega (arith, at, o.0) in
+      | inr o ↦ (let j = inputs_of g d u x is (subst (λ (v : ℕ). HasInput g v u) o.1 i) in let e : c ≡ k = omega (arith, at, o.0) in
           elim (place_cases ns u) [
             | inl q ↦ (let r = (split c ns x.inputs).own_some u q.0 j q.1 in
-                let m = map_get link (own_places ns x.inputs) r.0 q.0 r.1 in inl (
-                  q.0,
-                  push_old ns (d ∷ []) q.0 u q.2,
-                  (
-                    length ls + r.0,
-                    push_new ls (map link (own_places ns x.inputs)) r.0 (link q.0) m
-                        ∙ ap (λ (w : ℕ). Some (record { source = q.0; target = w })) (sym e),
-                  ),
-                ))
+                let m = push_new ls (map (link c) (own_places ns x.inputs)) r.0 (link c q.0)
+                (map_get (link c) (own_places ns x.inputs) r.0 q.0 r.1) ∙ ap (λ (w : ℕ). Some (link w q.0)) e in
+                inl (q.0, push_old ns (d ∷ []) q.0 u q.2, (length ls + r.0, m)))
             | inr q ↦ (let r = (split c ns x.inputs).edges_some u j q.0 in
-                let m = map_get ends (edges_to c ns x.inputs) r.0 (new_edge u c) r.1 in inr (
-                  not_own u h (below_all x.inputs d j.0 u below j.1) q.0,
-                  (length ins + r.0, push_new ins (map ends (edges_to c ns x.inputs)) r.0 (u, c) m ∙ ap (λ (w : ℕ). Some (u, w)) (sym e)),
-                ))
+                let m = push_new ins (map ends (edges_to c ns x.inputs)) r.0 (u, c)
+                (map_get ends (edges_to c ns x.inputs) r.0 (new_edge u c) r.1) ∙ ap (λ (w : ℕ). Some (pair u w)) e in
+                inr (not_own u h (below_all x.inputs d j.0 u below j.1) q.0, (length ins + r.0, m)))
           ])
     ];
     in_is = λ i u k e. elim (push_cases ins (map ends (edges_to c ns x.inputs)) i (u, k) e) [
@@ -396,12 +377,9 @@ module _ (g : Graph) (n p d : ℕ) (ns : List ℕ) (ls : List Input) (ins outs :
       | inr o ↦ (let m = map_got ends (edges_to c ns x.inputs) o.0 (u, k) o.2 in let r = (split c ns x.inputs).edges_is o.0 m.0 m.1 in
           let v : m.0.value ≡ u = ap (λ (w : Pair). w.0) m.2 in
           let k_is : c ≡ k = ap (λ (w : Edge). w.target) (sym r.2) ∙ ap (λ (w : Pair). w.1) m.2 in
-          let b = below_all x.inputs d r.0.0 m.0.value below r.0.1 in (
-            d,
-            subst (λ (w : ℕ). slice_get (ns ++ d ∷ []) w ≡ Some d) k_is here,
-            (x, is, (r.0.0, r.0.1 ∙ ap Some v)),
-            λ y. not_own m.0.value h b r.1 (subst (λ (w : ℕ). Owns g p w) (sym v) y),
-          ))
+          let a = subst (λ (w : ℕ). slice_get (ns ++ d ∷ []) w ≡ Some d) k_is here in
+          let off = not_own m.0.value h (below_all x.inputs d r.0.0 m.0.value below r.0.1) r.1 in
+          (d, a, (x, is, (r.0.0, r.0.1 ∙ ap Some v)), λ y. off (subst (λ (w : ℕ). Owns g p w) (sym v) y)))
     ];
     out_is = λ i u q e. (let r = h.out_is i u q e in let l = r.2.3 in (r.0, r.1, (r.2.0, r.2.1, r.2.2, omega (arith, l))));
     out_some = λ u q t a b i off l. elim (next_or t d l) [
@@ -413,19 +391,18 @@ module _ (g : Graph) (n p d : ℕ) (ns : List ℕ) (ls : List Input) (ins outs :
     owners = owners_next;
   }
     where
-      link : ℕ → Input
-      link s = record { source = s; target = c }
+      link : ℕ → ℕ → Input
+      link k s = record { source = s; target = k }
 
-      mine : Owns g p d
-      mine = (x, is, own)
+      pair : ℕ → ℕ → Pair
+      pair u k = (u, k)
 
       here : slice_get (ns ++ d ∷ []) c ≡ Some d
       here = elim (get_push ns c d) [ inl o ↦ absurd (o.0 at) | inr o ↦ o.1 ]
 
   -- a task of another part
-  pub plan_foreign : (es : List Edge) → outs ≡ map ends es → (x.owner ≡ p → ⊥)
-      → Plan g n p (d + 1) ns ls ins (map ends (with_messages x.owner ns x.inputs es))
-  plan_foreign es same off = record {
+  pub plan_foreign : (x.owner ≡ p → ⊥) → Plan g n p (d + 1) ns ls ins (map ends (with_messages x.owner ns x.inputs es))
+  plan_foreign off = record {
     up = h.up;
     own_is = λ k t i. (let r = h.own_is k t i in let l = r.1 in (r.0, omega (arith, l)));
     own_some = λ t o l. elim (next_or t d l) [
@@ -438,27 +415,23 @@ module _ (g : Graph) (n p d : ℕ) (ns : List ℕ) (ls : List Input) (ins outs :
     out_is = λ i u q e. (let m = map_got ends more i (u, q) e in
         let v : m.0.value ≡ u = ap (λ (w : Pair). w.0) m.2 in let t : m.0.target ≡ q = ap (λ (w : Pair). w.1) m.2 in
         elim (messages_is x.owner i ns x.inputs es m.0 m.1) [
-          | inl o ↦ (let r = h.out_is i u q (subst (λ (os : List Pair). slice_get os i ≡ Some (u, q)) (sym same)
-              (map_get ends es i m.0 o ∙ ap Some m.2)) in let l = r.2.3 in (r.0, r.1, (r.2.0, r.2.1, r.2.2, omega (arith, l))))
-          | inr o ↦ (let q_is : q ≡ x.owner = sym t ∙ ap (λ (w : Edge). w.target) o.2 in (
-            subst (λ (w : ℕ). Owns g p w) v (is_own m.0.value o.1.0 h o.1.1),
-            λ y. off (sym q_is ∙ y),
-            (d, subst (λ (w : ℕ). Owns g w d) (sym q_is) (x, is, refl), (x, is, (o.0.0, o.0.1 ∙ ap Some v)), omega arith),
-          ))
+          | inl o ↦ (let r = h.out_is i u q (map_get ends es i m.0 o ∙ ap Some m.2) in let l = r.2.3 in
+              (r.0, r.1, (r.2.0, r.2.1, r.2.2, omega (arith, l))))
+          | inr o ↦ (let q_is : q ≡ x.owner = sym t ∙ ap (λ (w : Edge). w.target) o.2 in
+              let mine = subst (λ (w : ℕ). Owns g p w) v (h.own_is o.1.0 m.0.value (place_is ns m.0.value o.1.0 o.1.1)).0 in
+              let its = subst (λ (w : ℕ). Owns g w d) (sym q_is) (x, is, refl) in
+              (mine, λ y. off (sym q_is ∙ y), (d, its, (x, is, (o.0.0, o.0.1 ∙ ap Some v)), omega arith)))
         ]);
     out_some = λ u q t a b i apart l. elim (next_or t d l) [
-      | inr m ↦ (let r = h.out_some u q t a b i apart m in
-          let o = map_got ends es r.0 (u, q) (subst (λ (os : List Pair). slice_get os r.0 ≡ Some (u, q)) same r.1) in
+      | inr m ↦ (let r = h.out_some u q t a b i apart m in let o = map_got ends es r.0 (u, q) r.1 in
           (r.0, map_get ends more r.0 o.0 (messages_old x.owner r.0 ns x.inputs es o.0 o.1) ∙ ap Some o.2))
       | inl e ↦ (let j = inputs_of g d u x is (subst (λ (v : ℕ). HasInput g v u) e i) in
-          let s = place_own u h (below_all x.inputs d j.0 u below j.1) a in
-          let r = messages_some x.owner j.0 u s.0 ns x.inputs es j.1 s.1 in
+          let s = h.own_some u a (below_all x.inputs d j.0 u below j.1) in
+          let r = messages_some x.owner j.0 u s.0 ns x.inputs es j.1 (place_some ns u s.0 h.up s.1) in
           let t = and_parts (r.item.value == u) (r.item.target == x.owner) r.test_is in
-          let q_is = owner_of g q d x is (subst (λ (v : ℕ). Owns g q v) e b) in (
-            r.place,
-            map_get ends more r.place r.item r.is ∙ ap Some (pair_is r.item u q (eqb-true r.item.value u t.0)
-                (eqb-true r.item.target x.owner t.1 ∙ q_is)),
-          ))
+          let q_is = owner_of g q d x is (subst (λ (v : ℕ). Owns g q v) e b) in
+          let p_is = pair_is r.item u q (eqb-true r.item.value u t.0) (eqb-true r.item.target x.owner t.1 ∙ q_is) in
+          (r.place, map_get ends more r.place r.item r.is ∙ ap Some p_is))
     ];
     out_once = λ i j e a b. (let o = map_got ends more i e a in let q = map_got ends more j e b in
         messages_once x.owner ns x.inputs es once i j o.0 q.0 o.1 q.1 (o.2 ∙ sym q.2));
@@ -473,6 +446,4 @@ module _ (g : Graph) (n p d : ℕ) (ns : List ℕ) (ls : List Input) (ins outs :
       pair_is e u q a b = cc
 
       once : AreOnceIn es
-      once i j a b f k s = h.out_once i j (ends a) (subst (λ (os : List Pair). slice_get os i ≡ Some (ends a)) (sym same)
-          (map_get ends es i a f))
-          (subst (λ (os : List Pair). slice_get os j ≡ Some (ends a)) (sym same) (map_get ends es j b k ∙ ap Some (sym s)))
+      once i j a b f k s = h.out_once i j (ends a) (map_get ends es i a f) (map_get ends es j b k ∙ ap Some (sym s))

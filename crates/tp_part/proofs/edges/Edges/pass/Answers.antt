@@ -1,4 +1,4 @@
-use Rattle.tp_part.proofs.Theorems.{◌∙◌, List, ap, arith, length, refl, set, slice_get, Edge, pass_one, index_is, there, chain_pass}
+use Rattle.tp_part.proofs.Theorems.{◌∙◌, List, ap, arith, length, set, slice_get, Edge, pass_one, index_is, there, chain_pass}
 use Rattle.tp_part.proofs.edges.Edges.pass.Goals as goal
 
 pub invariant_of-self : goal.invariant_of-self

@@ -1,5 +1,5 @@
-use Rattle.tp_part.proofs.Theorems.{◌+◌, ◌∙◌, List, ℕ, ap, arith, length, refl, with_messages, PartState, MayDescribe, subst, sym}
-use Rattle.tp_part.proofs.Theorems.{messages_more, messages_back, box_few, holds_back, holds_foreign, back_shown, ok_when}
+use Rattle.tp_part.proofs.Theorems.{◌∙◌, List, ℕ, ap, arith, length, refl, with_messages, PartState, MayDescribe, subst, sym, messages_more}
+use Rattle.tp_part.proofs.Theorems.{messages_back, box_few, holds_back, holds_foreign, back_shown, ok_when}
 use Rattle.tp_part.proofs.part.Part.add_foreign.Goals as goal
 
 pub overflow_sub-room : goal.overflow_sub-room
@@ -26,8 +26,8 @@ invariant_of-self-2 c = let may = subst (λ (s : PartState). MayDescribe c.args.
     let b = box_few c.self.invariant in
     let m = messages_more c.args.owner c.deref.result.now c.args.inputs.now c.self.inside.outgoing in
     let e = ap length c.in_ok-add_outgoing.ensures.ok in
-    holds_foreign c.args.owner (c.self.inside.described + 1) (c.self.inside.inputs + length c.args.inputs.now) c.args.inputs.now
-    (holds_back c.self.invariant refl c.reserve.ensures.items c.reserve.ensures.capacity) may.few_tasks may.few_inputs
+    holds_foreign (holds_back c.self.invariant refl c.reserve.ensures.items c.reserve.ensures.capacity) c.args.owner c.args.inputs.now
+    may.few_tasks may.few_inputs
     (c.in_ok-add_outgoing.ensures.ok ∙ ap (λ (ns : List ℕ). with_messages c.args.owner ns c.args.inputs.now c.self.inside.outgoing)
     c.deref.ensures.value)
-    (let o = c.reserve.new.self.ok.0 in let q = c.self.inside.outbox.ok.0 in omega (arith, fits, n, k, s, b, m, e, o, q)) refl refl
+    (let o = c.reserve.new.self.ok.0 in let q = c.self.inside.outbox.ok.0 in omega (arith, fits, n, k, s, b, m, e, o, q))

@@ -1,4 +1,4 @@
-use Rattle.tp_part.proofs.Theorems.{◌≡◌, ◌+◌, ◌-◌, ◌∙◌, ◌++◌, ◌∷◌, [], List, ℕ, ap, arith, length, length-append, refl, own_places, edges_to}
+use Rattle.tp_part.proofs.Theorems.{◌≡◌, ◌-◌, ◌∙◌, ◌++◌, ◌∷◌, [], List, ℕ, ap, arith, length, length-append, own_places, edges_to}
 use Rattle.tp_part.proofs.Theorems.{with_spawned, PartState, MayDescribe, subst, sym, spawn_checks, first_refusal, holds_own, only_memory}
 use Rattle.tp_part.proofs.Theorems.{spawn_none}
 use Rattle.tp_part.proofs.part.Part.add_own.Goals as goal
@@ -27,11 +27,10 @@ invariant_of-self-2 c = let us = c.args.inputs.now in
     let long = ap length added ∙ length-append c.self.inside.incoming (edges_to c.len-place.result c.self.inside.numbers.items us) in
     let out : c.len.result - c.len-before.result ≡ length (edges_to c.len-place.result c.self.inside.numbers.items us) =
     omega (arith, n, k, long) in
-    holds_own c.args.class c.len-place.result (c.self.inside.described + 1) (c.self.inside.inputs + length us) us c.self.invariant
-    may.not_started may.few_tasks may.few_inputs
+    holds_own c.self.invariant c.args.class c.len-place.result us may.not_started may.few_tasks may.few_inputs
     (c.in_default.ensures.ok.1
     ∙ (ap (λ (xs : List ℕ). with_spawned c.args.class xs (c.len.result - c.len-before.result) c.self.inside.pool)
     (c.deref-3.ensures.value ∙ (c.in_ok-sources.ensures ∙ ap (λ (xs : List ℕ). own_places xs us) c.deref.ensures.value))
     ∙ ap (λ (m : ℕ). with_spawned c.args.class (own_places c.self.inside.numbers.items us) m c.self.inside.pool) out))
     (let e = c.len-place.ensures in let o = c.self.inside.numbers.ok.0 in omega (arith, e, o)) added
-    (c.push_reserved.ensures.items ∙ ap (λ (xs : List ℕ). xs ++ c.self.inside.described ∷ []) c.reserve.ensures.items) refl refl
+    (c.push_reserved.ensures.items ∙ ap (λ (xs : List ℕ). xs ++ c.self.inside.described ∷ []) c.reserve.ensures.items)

@@ -1,5 +1,5 @@
 use Rattle.tp_part.proofs.Theorems.{◌≡◌, ◌∙◌, Some, ap, arith, refl, sym, slice_get_within, index_is, holds_next, runs_shown, waits_shown}
-use Rattle.tp_part.proofs.Theorems.{end_shown, pool_shown}
+use Rattle.tp_part.proofs.Theorems.{end_shown}
 use Rattle.tp_part.proofs.part.Part.next.Goals as goal
 use Rattle.tp_part.proofs.part.Part.next.Goals.{in-Run, in-Wait, in-Finished}
 
@@ -9,18 +9,17 @@ index-requires-in-Run c = let d = c.next_of.ensures.run c.in-Run.place c.in-Run.
     let o = c.self.inside.numbers.ok.0 in omega (arith, w, l, o)
 
 pub invariant_of-self-2 : goal.invariant_of-self-2
-invariant_of-self-2 c = holds_next c.next_of.result c.self.invariant c.next_of.ensures.run c.next_of.ensures.wait c.next_of.ensures.over
+invariant_of-self-2 c = holds_next c.self.invariant c.next_of.result c.next_of.ensures.run c.next_of.ensures.wait c.next_of.ensures.over
 
 pub returns-clause-run : goal.returns-clause-run
 returns-clause-run c = elim c.match-next_of.branch [
   | in-Run w ↦ rw w.result-is (λ t h. let e : w.index-in-Run.result.now ≡ t = cc in
       let d = c.next_of.ensures.run w.in-Run.place w.in-Run.is in
       let m = slice_get_within c.self.inside.pool.tasks w.in-Run.place d.becomes.was d.becomes.is in let l = c.self.invariant.long in
-      let s = c.self.invariant.sent in let h = c.if-self-len.false in let n = c.len.ensures in let o = c.self.inside.outbox.ok.0 in
       runs_shown c.self.inside t w.in-Run.place c.self.view_is c.self.invariant.arriving.awaited
       (index_is c.self.inside.numbers.items w.in-Run.place w.index-in-Run.result.now (omega (arith, m, l)) w.index-in-Run.ensures
       ∙ ap Some e)
-      (omega (arith, s, h, n, o)) d refl)
+      (omega (arith, c.self.invariant.sent, c.if-self-len.false, c.len.ensures, c.self.inside.outbox.ok.0)) d refl)
   | in-Wait w ↦ rw w.result-is (λ t h. cc)
   | in-Finished w ↦ rw w.result-is (λ t h. cc)
 ]
@@ -29,21 +28,16 @@ pub returns-clause-wait : goal.returns-clause-wait
 returns-clause-wait c = elim c.match-next_of.branch [
   | in-Run w ↦ (λ h. let e = sym w.result-is ∙ h in cc)
   | in-Finished w ↦ (λ h. let e = sym w.result-is ∙ h in cc)
-  | in-Wait w ↦ (λ h. let s = c.self.invariant.sent in let f = c.if-self-len.false in let n = c.len.ensures in
-      let o = c.self.inside.outbox.ok.0 in (
-        waits_shown c.self.inside c.self.view_is c.self.invariant.arriving.awaited (omega (arith, s, f, n, o)) (c.next_of.ensures.idle w.in-Wait.is)
-            (c.next_of.ensures.some_left w.in-Wait.is),
-        pool_shown c.self.inside c.self.view_is (c.next_of.ensures.wait w.in-Wait.is),
-      ))
+  | in-Wait w ↦ (λ h. waits_shown c.self.inside c.self.view_is c.self.invariant.arriving.awaited
+      (omega (arith, c.self.invariant.sent, c.if-self-len.false, c.len.ensures, c.self.inside.outbox.ok.0))
+      (c.next_of.ensures.idle w.in-Wait.is) (c.next_of.ensures.some_left w.in-Wait.is) (c.next_of.ensures.wait w.in-Wait.is))
 ]
 
 pub returns-clause-over : goal.returns-clause-over
 returns-clause-over c = elim c.match-next_of.branch [
   | in-Run w ↦ (λ h. let e = sym w.result-is ∙ h in cc)
   | in-Wait w ↦ (λ h. let e = sym w.result-is ∙ h in cc)
-  | in-Finished w ↦ (λ h. let s = c.self.invariant.sent in let f = c.if-self-len.false in let n = c.len.ensures in
-      let o = c.self.inside.outbox.ok.0 in (
-        end_shown c.self.inside c.self.view_is (omega (arith, s, f, n, o)) (c.next_of.ensures.finished w.in-Finished.is),
-        pool_shown c.self.inside c.self.view_is (c.next_of.ensures.over w.in-Finished.is),
-      ))
+  | in-Finished w ↦ (λ h. end_shown c.self.inside c.self.view_is
+      (omega (arith, c.self.invariant.sent, c.if-self-len.false, c.len.ensures, c.self.inside.outbox.ok.0))
+      (c.next_of.ensures.finished w.in-Finished.is) (c.next_of.ensures.over w.in-Finished.is))
 ]

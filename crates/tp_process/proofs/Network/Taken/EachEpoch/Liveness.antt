@@ -87,20 +87,26 @@ fits a b l = lt-ltb (a + b) (2 ^ 64) l
 -- The own number of a process, or that of a child that has not reported, can be added to the sum so far.
 pub record HasRoom (n i sum : ℕ) (left right : Bool) : Type 0 where
   pub own : left ≡ false → right ≡ false → sum + LIMIT < 2 ^ 64
-  pub left_child : left ≡ true → sum + LIMIT * size n (2 * i + 1) < 2 ^ 64
-  pub right_child : right ≡ true → sum + LIMIT * size n (2 * i + 2) < 2 ^ 64
+  pub child : (c : ℕ) → ((left && eqb c (2 * i + 1)) || (right && eqb c (2 * i + 2))) ≡ true → sum + LIMIT * size n c < 2 ^ 64
 
 has_room : (n i sum a b : ℕ) (left right : Bool) → n ≤ 2 ^ 20 → i < n → sum ≡ taken left a + taken right b
     → (left ≡ false → a ≤ LIMIT * size n (2 * i + 1)) → (right ≡ false → b ≤ LIMIT * size n (2 * i + 2)) → HasRoom n i sum left right
 has_room n i sum a b left right few m e small_a small_b =
     let at_left : taken left a ≤ LIMIT * size n (2 * i + 1) = taken-le left a _ small_a in
     let at_right : taken right b ≤ LIMIT * size n (2 * i + 2) = taken-le right b _ small_b in
-    let whole : size n i ≤ n = size-le n i m in
+    let whole : size n i ≤ n = size_below n (suc i) i (omega arith) m in
     let parts : size n i ≡ 1 + (size n (2 * i + 1) + size n (2 * i + 2)) = size_at n i m in
     record {
       own = λ f g. omega (arith, e, at_left, at_right, whole, parts, few);
-      left_child = λ f. omega (arith, rw f at e, at_right, whole, parts, few);
-      right_child = λ f. omega (arith, rw f at e, at_left, whole, parts, few);
+      child = λ c d.
+          elim (or_cases (left && eqb c (2 * i + 1)) (right && eqb c (2 * i + 2)) d) [
+            | inl y ↦
+                let b = and_parts left (eqb c (2 * i + 1)) y in
+                rw (eqb-true c (2 * i + 1) b.1) (omega (arith, rw b.0 at e, at_right, whole, parts, few))
+            | inr y ↦
+                let b = and_parts right (eqb c (2 * i + 2)) y in
+                rw (eqb-true c (2 * i + 2) b.1) (omega (arith, rw b.0 at e, at_left, whole, parts, few))
+          ];
     }
 
 -- A control message that comes is taken, or was no longer due.
@@ -111,35 +117,28 @@ module _ (n q : ℕ) (x : World) (few : n ≤ 2 ^ 20) (v : Good n q x) (i : ℕ)
       let p : EpochState = x.at i in
       let z : Here n v.wave v.gifts x.at i p = (v.inv.each i l).here here in
       let left : p.up_left ≡ false → IsSmallGift n (2 * i + 1) v.gifts
-      = λ f. gift_small n q v.wave v.floor v.gifts x v.inv (2 * i + 1) (z.left f) in
+      = λ f. gift_small n q v.wave v.floor v.gifts x v.inv (2 * i + 1) (z.gave.0 f) in
       let right : p.up_right ≡ false → IsSmallGift n (2 * i + 2) v.gifts
-      = λ f. gift_small n q v.wave v.floor v.gifts x v.inv (2 * i + 2) (z.right f) in (
+      = λ f. gift_small n q v.wave v.floor v.gifts x v.inv (2 * i + 2) (z.gave.1 f) in (
         has_room n i p.taken_sent _ _ p.up_left p.up_right few l z.sent (λ f. (left f).sent) (λ f. (right f).sent),
         has_room n i p.taken_received _ _ p.up_left p.up_right few l z.received (λ f. (left f).received) (λ f. (right f).received),
       )
 
-  -- The sums of a child can be added without overflow.
-  room : (c s : ℕ) (r : ℕ) → (x.at i).here ≡ true → Reported v.wave v.gifts x.at c s r
-      → ((is_left c (x.at i) || is_right c (x.at i)) ≡ true) → do_fit (x.at i).taken_sent s && do_fit (x.at i).taken_received r ≡ true
-  room c s r here t d =
+  -- The sums of a child that has not reported can be added without overflow, so they are due.
+  due_here : (c u s r : ℕ) → (x.at i).here ≡ true → u ≡ (x.at i).wave → Reported v.wave v.gifts x.at c s r
+      → (is_left c (x.at i) || is_right c (x.at i)) ≡ true → is_due c u (Up s r) (x.at i) ≡ true
+  due_here c u s r here same t d =
       let p : EpochState = x.at i in
-      let hold : Holds n v.wave v.floor v.gifts x.at i p = v.inv.each i l in
       let a = rooms here in
       let small : IsSmallGift n c v.gifts = gift_small n q v.wave v.floor v.gifts x v.inv c (λ z. t.given) in
-      elim (or_cases (is_left c p) (is_right c p) d) [
-        | inl y ↦
-            let b = and_parts p.up_left (eqb c (left_of p)) y in
-            let e : c ≡ 2 * i + 1 = omega (arith, eqb-true c (left_of p) b.1, hold.number) in
-            let own : IsSmallGift n (2 * i + 1) v.gifts = rw e at small in
-            and_from _ _ (fits p.taken_sent s (omega (arith, a.0.left_child b.0, rw e at t.sent, own.sent)))
-            (fits p.taken_received r (omega (arith, a.1.left_child b.0, rw e at t.received, own.received)))
-        | inr y ↦
-            let b = and_parts p.up_right (eqb c (right_of p)) y in
-            let e : c ≡ 2 * i + 2 = omega (arith, eqb-true c (right_of p) b.1, hold.number) in
-            let own : IsSmallGift n (2 * i + 2) v.gifts = rw e at small in
-            and_from _ _ (fits p.taken_sent s (omega (arith, a.0.right_child b.0, rw e at t.sent, own.sent)))
-            (fits p.taken_received r (omega (arith, a.1.right_child b.0, rw e at t.received, own.received)))
-      ]
+      let waits : ((p.up_left && eqb c (2 * i + 1)) || (p.up_right && eqb c (2 * i + 2))) ≡ true
+      = subst (λ m. ((p.up_left && eqb c (2 * m + 1)) || (p.up_right && eqb c (2 * m + 2))) ≡ true) (v.inv.each i l).number d in
+      and_from _ _
+      (and_from _ _
+      (and_from _ _ (and_from p.here (eqb u p.wave) here (eq-eqb u p.wave same))
+      (fits p.taken_sent s (omega (arith, a.0.child c waits, t.sent, small.sent))))
+      (fits p.taken_received r (omega (arith, a.1.child c waits, t.received, small.received))))
+      d
 
   -- One that is not due was taken before.
   undue : (from u : ℕ) (c : Token) → Known n v.wave v.gifts x from u c → Path v.wave x.at from i u c
@@ -164,10 +163,7 @@ module _ (n q : ℕ) (x : World) (few : n ≤ 2 ^ 20) (v : Good n q x) (i : ℕ)
               | inr away ↦ inr (same, inl away)
               | inl here ↦
                   let none : (is_left from p || is_right from p) ≡ false = false_from_ne_true _ (λ e.
-                  let fits = and_parts _ _ (room from s r here (t.1 (same ∙ (hold.here here).wave)) e) in
-                  let due : is_due from u (Up s r) p ≡ true =
-                  and_from _ _ (and_from _ _ (and_from _ _ (and_from p.here (eqb u p.wave) here (eq-eqb u p.wave same)) fits.0) fits.1) e in
-                  absurd (cc (due, d))) in
+                  absurd (cc (due_here from u s r here same (t.1 (same ∙ (hold.here here).wave)) e, d))) in
                   inr (same, inr (or_parts (is_left from p) (is_right from p) none))
             ]
       ]
@@ -210,8 +206,7 @@ pub once : OnceLaw
 once n k later events l few there =
     let x : World = after n events in
     let v = good_after n events in
-    let known_of : Known n v.1.wave v.1.gifts x l.from l.wave l.token × Path v.1.wave x.at l.from l.to l.wave l.token
-    = rw there at (known_at n v.1.wave v.1.gifts x x.controls k v.1.inv.controls) in
+    let known_of = known_one n v.0 x v.1 k l there in
     let same : l.processes ≡ n = of_at n x.controls k l (slim_after n events).1 there in
     let y : World = after n (later ++ Comes k ∷ events) in
     elim (cases_lt l.to n) [
@@ -261,10 +256,7 @@ acts_gives p o h dl dr g =
 
 can_give_from : (p : EpochState) → p.up_left ≡ false → p.up_right ≡ false → p.pending ≡ 0 → p.taken_sent + p.sent < 2 ^ 64
     → p.taken_received + p.received < 2 ^ 64 → can_give p ≡ true
-can_give_from p l r i s t =
-    and_from _ _
-    (and_from _ _ (and_from _ _ (and_from _ _ (not_from_false p.up_left l) (not_from_false p.up_right r)) (eq-eqb p.pending 0 i))
-    (fits p.taken_sent p.sent s)) (fits p.taken_received p.received t)
+can_give_from p l r i s t = grind (arith, nat_tests)
 
 -- An idle process that a wave has just come to has something to do.
 acts_opened : (p : EpochState) (w : ℕ) → p.over ≡ false → p.pending ≡ 0 → p.sent ≤ LIMIT → p.received ≤ LIMIT → DoesStep (acts (opens w p))
@@ -278,22 +270,40 @@ acts_opened p w o i s r =
           ]
     ]
 
--- The control message is to a process that does not know the end.
-abbrev pub IsOpenTo : World → Option ControlMessage → Type 0
-IsOpenTo x None = Unit {0}
-IsOpenTo x (Some l) = (x.at l.to).over ≡ false
+-- Wave w came to the process, and its children have reported.
+pub record IsThrough (w : ℕ) (p : EpochState) : Type 0 where
+  pub wave : p.wave ≡ w
+  pub left : (p.here && p.up_left) ≡ false
+  pub right : (p.here && p.up_right) ≡ false
 
-abbrev pub IsToOpen : World → Event → Type 0
-IsToOpen x (Does i a) = Unit {0}
-IsToOpen x (Comes k) = IsOpenTo x (control_at x.controls k)
+pub through : (n q : ℕ) (x : World) (v : Good n q x) → Finished n v.wave x → (k : ℕ) → k < n → IsThrough (x.at 0).wave (x.at k)
+through n q x v f k l =
+    elim (cases_eq k 0) [
+      | inl e ↦ rw e (record { wave = refl; left = and_right _ _ f.root.left; right = and_right _ _ f.root.right })
+      | inr off ↦
+          let z = f.given k (omega (arith, off)) l in
+          record { wave = z.wave ∙ sym v.inv.root.wave; left = and_left _ _ z.gone; right = and_left _ _ z.gone }
+    ]
+
+-- No control message is due at a process that knows the end.
+pub none_due : (n q : ℕ) (x : World) (v : Good n q x) (i : ℕ) → i < n → (x.at i).over ≡ true → (from u : ℕ) (c : Token)
+    → Known n v.wave v.gifts x from u c → is_due from u c (x.at i) ≡ false
+none_due n q x v i l o from u Down t =
+    let p : EpochState = x.at i in
+    let z : IsThrough (x.at 0).wave p = through n q x v (v.inv.over i l o) i l in
+    and_right (not p.here) (eqb u (p.wave + 1)) (ne_eqb u (p.wave + 1) (λ d. absurd (omega (arith, d, t, z.wave, v.inv.root.wave))))
+none_due n q x v i l o from u (Up s r) t =
+    let p : EpochState = x.at i in
+    let z : IsThrough (x.at 0).wave p = through n q x v (v.inv.over i l o) i l in
+    elim (cases_Bool p.here) [
+      | inl h ↦ and_right _ _ (or_from _ _ (and_left _ _ (rw h at z.left)) (and_left _ _ (rw h at z.right)))
+      | inr h ↦ and_left _ _ (and_left _ _ (and_left _ _ (and_left _ _ h)))
+    ]
+none_due n q x v i l o from u Over t = not_from_true (x.at i).over o
 
 module _ (n q : ℕ) (x : World) (few : n ≤ 2 ^ 20) (quiet : IsQuiet n x) (v : Good n q x) where
   abbrev Useful : Type 0
   Useful = (e : Event) × (is_useful n x e ≡ true)
-
-  -- A useful event; if it is a control message, its receiver does not know the end.
-  abbrev Telling : Type 0
-  Telling = (u : Useful) × IsToOpen x u.0
 
   moves_on : (i : ℕ) → i < n → DoesStep (moved (x.at i)) → Useful
   moves_on i l d = (Does i Moves, and_from (ltb i n) (is_step (moved (x.at i)).next) (lt-ltb i n l) d)
@@ -321,40 +331,28 @@ module _ (n q : ℕ) (x : World) (few : n ≤ 2 ^ 20) (quiet : IsQuiet n x) (v :
       (eq-eqb _ _ (omega (arith, hold.near, hold.close, other))))
 
   -- The sums of child c are on their way to its parent.
-  up_comes : (i c s r : ℕ) → i < n → (x.at i).here ≡ true → c < n → parent c ≡ i
-      → (x.at i).taken_sent + LIMIT * size n c < 2 ^ 64 → (x.at i).taken_received + LIMIT * size n c < 2 ^ 64
-      → HasGiven v.wave (x.at c) → (is_left c (x.at i) || is_right c (x.at i)) ≡ true
+  up_comes : (i c s r : ℕ) → i < n → (x.at i).here ≡ true → c < n → parent c ≡ i → (is_left c (x.at i) || is_right c (x.at i)) ≡ true
       → Has x.controls (control_of n c (parent c) v.wave (Up s r)) → Useful
-  up_comes i c s r l here m e room_sent room_received k d h =
-      let known_of : IsKnown n v.wave v.gifts x (control_at x.controls h.which) =
-      known_at n v.wave v.gifts x x.controls h.which v.inv.controls in
-      let report : Reported v.wave v.gifts x.at c s r = (rw h.there at known_of).0.1 refl in
-      let small : IsSmallGift n c v.gifts = gift_small n q v.wave v.floor v.gifts x v.inv c (λ z. k) in
-      let wave : (x.at i).wave ≡ v.wave = ((v.inv.each i l).here here).wave in
+  up_comes i c s r l here m e d h =
+      let report : Reported v.wave v.gifts x.at c s r
+      = (known_one n q x v h.which (control_of n c (parent c) v.wave (Up s r)) h.there).0.1 refl in
       comes_on (control_of n c i v.wave (Up s r)) (rw e at h) refl l
-      (and_from _ _
-      (and_from _ _
-      (and_from _ _ (and_from (x.at i).here (eqb v.wave (x.at i).wave) here (eq-eqb _ _ (sym wave)))
-      (fits (x.at i).taken_sent s (omega (arith, report.sent, small.sent, room_sent))))
-      (fits (x.at i).taken_received r (omega (arith, report.received, small.received, room_received))))
-      d)
+      (due_here n q x few v i l c v.wave s r here (sym ((v.inv.each i l).here here).wave) report d)
 
   -- If no process knows the end and a wave is at process i, a useful event is possible at i or below it.
   module _ (open_yet : (i : ℕ) → i < n → (x.at i).over ≡ false) where
     -- a child that has not reported
     below : (i c : ℕ) → i < n → (x.at i).here ≡ true → c < n → parent c ≡ i → 0 < c
-        → (x.at i).taken_sent + LIMIT * size n c < 2 ^ 64 → (x.at i).taken_received + LIMIT * size n c < 2 ^ 64
         → (is_left c (x.at i) || is_right c (x.at i)) ≡ true
         → Has x.controls (control_of n i c v.wave Down) → ((x.at c).here ≡ true → Useful) → Useful
-    below i c l here m e positive room_sent room_received d down deeper =
+    below i c l here m e positive d down deeper =
         elim (cases_Bool (x.at c).here) [
           | inl t ↦ deeper t
           | inr away ↦
               elim (cases_eq (x.at c).wave v.wave) [
                 | inl same ↦
-                    let k : HasGiven v.wave (x.at c) = record { wave = same; gone = away } in
                     let z = (v.inv.posts c m).up positive ((v.inv.each i l).here here).begun same away in
-                    up_comes i c z.0 z.1 l here m e room_sent room_received k d z.2
+                    up_comes i c z.0 z.1 l here m e d z.2
                 | inr other ↦ down_comes i c m away other down
               ]
         ]
@@ -373,20 +371,20 @@ module _ (n q : ℕ) (x : World) (few : n ≤ 2 ^ 20) (quiet : IsQuiet n x) (v :
           | inr dl ↦
               elim (cases_Bool p.up_left) [
                 | inl t ↦
-                    let m : 2 * i + 1 < n = z.left_there t in
-                    below i (2 * i + 1) l here m (omega arith) (omega arith) (room.0.left_child t) (room.1.left_child t)
+                    let m : 2 * i + 1 < n = z.there.0 t in
+                    below i (2 * i + 1) l here m (omega arith) (omega arith)
                     (or_left _ _ (and_from p.up_left (eqb (2 * i + 1) (left_of p)) t (eq-eqb _ _ (omega (arith, hold.number)))))
-                    (posts.down_left here dl m) (λ h. wave_on b (2 * i + 1) (omega (arith, near)) m h)
+                    ((posts.down here).0 dl m) (λ h. wave_on b (2 * i + 1) (omega (arith, near)) m h)
                 | inr ul ↦
                     elim (cases_Bool p.down_right) [
                       | inl t ↦ here_moves i l here (acts_down_right p o here dl t)
                       | inr dr ↦
                           elim (cases_Bool p.up_right) [
                             | inl t ↦
-                                let m : 2 * i + 2 < n = z.right_there t in
-                                below i (2 * i + 2) l here m (omega arith) (omega arith) (room.0.right_child t) (room.1.right_child t)
+                                let m : 2 * i + 2 < n = z.there.1 t in
+                                below i (2 * i + 2) l here m (omega arith) (omega arith)
                                 (or_right _ _ (and_from p.up_right (eqb (2 * i + 2) (right_of p)) t
-                                (eq-eqb _ _ (omega (arith, hold.number))))) (posts.down_right here dr m)
+                                (eq-eqb _ _ (omega (arith, hold.number))))) ((posts.down here).1 dr m)
                                 (λ h. wave_on b (2 * i + 2) (omega (arith, near)) m h)
                             | inr ur ↦
                                 here_moves i l here
@@ -420,31 +418,26 @@ module _ (n q : ℕ) (x : World) (few : n ≤ 2 ^ 20) (quiet : IsQuiet n x) (v :
       ]
 
   -- If process i knows the end, it has notified its children or can notify one.
-  tells_on : (i : ℕ) → i < n → (x.at i).over ≡ true → (has_notified (x.at i) ≡ true) ⊎ Telling
-  unfolding moves_on
+  tells_on : (i : ℕ) → i < n → (x.at i).over ≡ true → (has_notified (x.at i) ≡ true) ⊎ Useful
   tells_on i l o =
       let p : EpochState = x.at i in
-      let tells_so : DoesStep (acts p) → Telling = λ d. (moves_on i l (subst DoesStep (sym (moved_over p o)) d), tt) in
+      let tells_so : DoesStep (acts p) → Useful = λ d. moves_on i l (subst DoesStep (sym (moved_over p o)) d) in
       elim (cases_Bool p.over_left) [
         | inl t ↦ inr (tells_so (rw (o, t)))
         | inr f ↦ elim (cases_Bool p.over_right) [ inl t ↦ inr (tells_so (rw (o, f, t))) | inr e ↦ inl (rw (o, f, e) refl) ]
       ]
 
-  over_comes : (i c u : ℕ) → c < n → (x.at c).over ≡ false → Has x.controls (control_of n i c u Over) → Telling
-  unfolding comes_on
-  over_comes i c u l f h = (
-    comes_on (control_of n i c u Over) h refl l (not_from_false (x.at c).over f),
-    subst (λ o. IsOpenTo x o) (sym h.there) f,
-  )
+  over_comes : (i c u : ℕ) → c < n → (x.at c).over ≡ false → Has x.controls (control_of n i c u Over) → Useful
+  over_comes i c u l f h = comes_on (control_of n i c u Over) h refl l (not_from_false (x.at c).over f)
 
   -- The first b processes have notified their children, or a useful event is possible.
-  end_on : (x.at 0).over ≡ true → (b : ℕ) → b ≤ n → ((i : ℕ) → i < b → has_notified (x.at i) ≡ true) ⊎ Telling
+  end_on : (x.at 0).over ≡ true → (b : ℕ) → b ≤ n → ((i : ℕ) → i < b → has_notified (x.at i) ≡ true) ⊎ Useful
   end_on o zero l = inl (λ i m. absurd (omega arith))
   end_on o (suc b) l =
       elim (end_on o b (omega arith)) [
         | inr e ↦ inr e
         | inl all ↦
-            let more : (x.at b).over ≡ true → ((i : ℕ) → i < suc b → has_notified (x.at i) ≡ true) ⊎ Telling = λ t.
+            let more : (x.at b).over ≡ true → ((i : ℕ) → i < suc b → has_notified (x.at i) ≡ true) ⊎ Useful = λ t.
             elim (tells_on b (omega arith) t) [
               | inr e ↦ inr e
               | inl d ↦ inl (λ i m. elim (cases_eq i b) [ inl e ↦ rw e d | inr off ↦ all i (omega (arith, off, m)) ])
@@ -461,26 +454,18 @@ module _ (n q : ℕ) (x : World) (few : n ≤ 2 ^ 20) (quiet : IsQuiet n x) (v :
                         let posts : Posts n v.wave x.controls above (x.at above) = v.inv.posts above (omega (arith, less, l)) in
                         elim (cases_eq b (2 * above + 1)) [
                           | inl e ↦
-                              let z = posts.over_left d.0 d.1 (omega (arith, e, l)) in
+                              let z = (posts.over d.0).0 d.1 (omega (arith, e, l)) in
                               inr (over_comes above b z.0 (omega (arith, l)) f (subst
                               (λ c. Has x.controls (control_of n above c z.0 Over)) (sym e) z.1))
                           | inr other ↦
                               let e : b ≡ 2 * above + 2 = omega (arith, other, off) in
-                              let z = posts.over_right d.0 d.2 (omega (arith, e, l)) in
+                              let z = (posts.over d.0).1 d.2 (omega (arith, e, l)) in
                               inr (over_comes above b z.0 (omega (arith, l)) f (subst
                               (λ c. Has x.controls (control_of n above c z.0 Over)) (sym e) z.1))
                         ]
                   ]
             ]
       ]
-
-to_open : (n : ℕ) (x : World) (e : Event) → ((i : ℕ) → i < n → (x.at i).over ≡ false) → is_useful n x e ≡ true → IsToOpen x e
-to_open n x (Does i a) unknown t = tt
-to_open n x (Comes k) unknown t = at_receiver (control_at x.controls k) t where
-  at_receiver : (o : Option ControlMessage) → is_taken n x o ≡ true → IsOpenTo x o
-  at_receiver None t = tt
-  at_receiver (Some l) t =
-      unknown l.to (ltb-true l.to n (and_parts (ltb l.to n) (is_for l (x.at l.to) && is_due l.from l.wave l.token (x.at l.to)) t).0)
 
 -- `next` returns `Ended` at a process that has notified its children.
 pub notified_ended : (p : EpochState) → has_notified p ≡ true → (moved p).next ≡ Ended
@@ -490,22 +475,18 @@ notified_ended p t = let a = notified_parts p t in ap (λ (m : Move). m.next) (m
 pub goes_on_to : (n : ℕ) (events : List Event) → 0 < n → n ≤ 2 ^ 20
     → (((after n events).at 0).over ≡ false → ((after n events).at 0).wave + 1 < 2 ^ 64) → IsQuiet n (after n events)
     → ((i : ℕ) → i < n → has_notified ((after n events).at i) ≡ true)
-    ⊎ ((u : (e : Event) × (is_useful n (after n events) e ≡ true)) × IsToOpen (after n events) u.0)
+    ⊎ ((e : Event) × (is_useful n (after n events) e ≡ true))
 goes_on_to n events l few room quiet =
     let v = good_after n events in
     let x : World = after n events in
     elim (cases_Bool (x.at 0).over) [
       | inl t ↦ end_on n v.0 x few quiet v.1 t n (omega arith)
-      | inr f ↦
-          let u : (e : Event) × (is_useful n x e ≡ true) = root_on n v.0 x few quiet v.1 l (room f) f in
-          let none : (i : ℕ) → i < n → (x.at i).over ≡ false = λ i m.
-          elim (cases_Bool (x.at i).over) [ inl t ↦ absurd (cc ((v.1.inv.over i m t).root.over, f)) | inr d ↦ d ] in
-          inr (u, to_open n x u.0 none u.1)
+      | inr f ↦ inr (root_on n v.0 x few quiet v.1 l (room f) f)
     ]
 
 pub goes_on : GoesOnLaw
 goes_on n events l few room quiet =
     elim (goes_on_to n events l few (λ f. room) quiet) [
       | inl all ↦ inl (λ i m. notified_ended ((after n events).at i) (all i m))
-      | inr u ↦ inr u.0
+      | inr u ↦ inr u
     ]

@@ -1,6 +1,5 @@
-use Rattle.std.proofs.Common.{◌≡◌, None, Ok, ap, arith}
 use Rattle.std.proofs.lemmas.Grind.{common_steps}
-use Rattle.tp_team.proofs.Waking.{has_to_wait}
+use Rattle.tp_team.proofs.Lemmas.{◌≡◌, None, Ok, ap, arith, has_to_wait}
 use Rattle.tp_team.proofs.state.State.decide.Goals as goal
 
 pub wait-requires-in-Ok-Wait-clause-waits : goal.wait-requires-in-Ok-Wait-clause-waits

@@ -1,4 +1,4 @@
-use Rattle.tp_team.proofs.Tasks.{finished_test}
+use Rattle.tp_team.proofs.Lemmas.{finished_test}
 use Rattle.tp_team.proofs.state.State.has_finished.Goals as goal
 
 pub returns-clause-finished : goal.returns-clause-finished

@@ -1,5 +1,4 @@
-use Rattle.std.proofs.Common.{sym, ◌∙◌}
-use Rattle.tp_team.proofs.Tasks.{ready_test}
+use Rattle.tp_team.proofs.Lemmas.{sym, ◌∙◌, ready_test}
 use Rattle.tp_team.proofs.state.State.has_ready.Goals as goal
 
 pub returns-then-is_started : goal.returns-then-is_started

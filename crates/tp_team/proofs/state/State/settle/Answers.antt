@@ -1,6 +1,4 @@
-use Rattle.std.proofs.Common.{ap}
-use Rattle.tp_team.specs.declared.waiting.Waiting.{Waiting}
-use Rattle.tp_team.proofs.Waking.{settled}
+use Rattle.tp_team.proofs.Lemmas.{ap, Waiting, settled}
 use Rattle.tp_team.proofs.state.State.settle.Goals as goal
 
 pub returns-clause-awake : goal.returns-clause-awake

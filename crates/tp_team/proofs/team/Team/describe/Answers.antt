@@ -1,14 +1,9 @@
-use Rattle.std.proofs.Common.{◌≡◌, ◌-◌, ℕ, List, Result, Err, IfSome, length, ap, subst, ◌∙◌}
-use Rattle.tp_base.specs.declared.refusal.Refusal.{Refusal}
-use Rattle.tp_dag.specs.State.{PoolState}
 use Rattle.tp_dag.specs.Describing as graph
-use Rattle.tp_dag.specs.Describing.{Graph}
-use Rattle.tp_team.specs.declared.refusal.TeamRefusal.{TeamRefusal}
 use Rattle.tp_team.specs.declared.refusal.TeamRefusal.TheVariants as team
-use Rattle.tp_team.specs.declared.state.State.{State}
-use Rattle.tp_team.specs.Calls.{first, of_pool, describe_checks, IsGraphRefusal}
-use Rattle.tp_team.proofs.Refusing.{by_pool, err_same_at, no_fault, graph_accepted, graph_exact}
-use Rattle.tp_team.proofs.Waking.{unstarted, accepted_unstarted, described_started}
+use Rattle.tp_team.specs.Calls.{describe_checks}
+use Rattle.tp_team.proofs.Lemmas.{◌≡◌, ◌-◌, ℕ, List, Result, Err, IfSome, length, ap, subst, ◌∙◌, Refusal, PoolState, Graph}
+use Rattle.tp_team.proofs.Lemmas.{TeamRefusal, State, first, of_pool, IsGraphRefusal, by_pool, err_same_at, no_fault, graph_accepted}
+use Rattle.tp_team.proofs.Lemmas.{graph_exact, unstarted, accepted_unstarted, described_started}
 use Rattle.tp_team.proofs.team.Team.describe.Goals as goal
 
 abbrev graph_of : List ℕ → List ℕ → List ℕ → Graph

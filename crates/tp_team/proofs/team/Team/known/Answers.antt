@@ -1,7 +1,4 @@
-use Rattle.std.proofs.Common.{subst}
-use Rattle.tp_team.specs.declared.state.State.{State}
-use Rattle.tp_team.specs.Laws.{NeverStuck}
-use Rattle.tp_team.proofs.Waking.{never_stuck}
+use Rattle.tp_team.proofs.Lemmas.{subst, State, NeverStuck, never_stuck}
 use Rattle.tp_team.proofs.team.Team.known.Goals as goal
 
 pub returns-clause-never_stuck : goal.returns-clause-never_stuck

@@ -1,11 +1,7 @@
-use Rattle.std.proofs.Common.{◌≡◌, ℕ, List, Some, Result, Err, IfSome, subst, ◌∙◌}
-use Rattle.tp_base.specs.declared.refusal.Refusal.{Refusal}
-use Rattle.tp_dag.specs.Calls.{outside_checks}
-use Rattle.tp_team.specs.declared.refusal.TeamRefusal.{TeamRefusal}
 use Rattle.tp_team.specs.declared.refusal.TeamRefusal.TheVariants as team
-use Rattle.tp_team.specs.declared.state.State.{State}
-use Rattle.tp_team.specs.Calls.{Check, first, fault_check, of_pool}
-use Rattle.tp_team.proofs.Refusing.{by_pool, err_same, no_fault, passes}
+use Rattle.tp_dag.specs.Calls.{outside_checks}
+use Rattle.tp_team.proofs.Lemmas.{◌≡◌, ℕ, List, Some, Result, Err, IfSome, subst, ◌∙◌, Refusal, TeamRefusal, State, Check, first}
+use Rattle.tp_team.proofs.Lemmas.{fault_check, of_pool, by_pool, err_same, no_fault, passes}
 use Rattle.tp_team.proofs.team.Team.outside.Goals as goal
 
 abbrev checks_of : ℕ → State → List Check

@@ -1,5 +1,5 @@
-use Rattle.tp_text.proofs.Names.{arith, ap, count-le, Account, is_insert, is_recv, is_reopen, is_send}
 use Rattle.tp_wave.specs.Steps.{is_done}
+use Rattle.tp_text.proofs.Readings.{arith, ap, count-le, Account, is_insert, is_recv, is_reopen, is_send}
 use Rattle.tp_text.proofs.account.Account.with_step.Goals as goal
 
 pub overflow_add-result : goal.overflow_add-result

@@ -1,4 +1,4 @@
-use Rattle.tp_text.proofs.Recounting.{nothing_is_sound}
+use Rattle.tp_text.proofs.Readings.{nothing_is_sound}
 use Rattle.tp_text.proofs.auditor.Auditor.new.Goals as goal
 
 pub returns : goal.returns

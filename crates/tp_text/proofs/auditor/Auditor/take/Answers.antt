@@ -1,5 +1,5 @@
-use Rattle.tp_text.proofs.Names.{arith, refl, rules, common_steps}
-use Rattle.tp_text.proofs.Recounting.{found_more, found_none, none_found, refused_at, said_as, taken_more, unjustified_at}
+use Rattle.tp_text.proofs.Readings.{arith, refl, rules, common_steps, found_more, found_none, none_found, refused_at, said_as, taken_more}
+use Rattle.tp_text.proofs.Readings.{unjustified_at}
 use Rattle.tp_text.proofs.auditor.Auditor.take.Goals as goal
 
 pub returns-then-is_some-clause-ok : goal.returns-then-is_some-clause-ok

@@ -1,5 +1,4 @@
-use Rattle.tp_text.proofs.Names.{◌<◌, arith, refl, Give}
-use Rattle.tp_text.proofs.Following.{few_sent, few_received, not_refused}
+use Rattle.tp_text.proofs.Readings.{◌<◌, arith, refl, Give, few_sent, few_received, not_refused}
 use Rattle.tp_text.proofs.tracer.Tracer.give.Goals as goal
 
 pub give-given-requires-clause-sent : goal.give-given-requires-clause-sent

@@ -1,5 +1,4 @@
-use Rattle.tp_text.proofs.Names.{refl, Judge}
-use Rattle.tp_text.proofs.Following.{not_refused}
+use Rattle.tp_text.proofs.Readings.{refl, Judge, not_refused}
 use Rattle.tp_text.proofs.tracer.Tracer.judge.Goals as goal
 
 pub returns-clause-followed : goal.returns-clause-followed

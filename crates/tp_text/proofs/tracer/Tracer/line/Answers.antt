@@ -1,5 +1,5 @@
-use Rattle.tp_text.proofs.Names.{arith, refl, subst, rules, common_steps, present, MayFollow}
-use Rattle.tp_text.proofs.Following.{few_sent, few_received, sender, receiver, sent_one, received_one, judged_line, other_line, other_step}
+use Rattle.tp_text.proofs.Readings.{arith, refl, subst, rules, common_steps, present, MayFollow, few_sent, few_received, sender, receiver}
+use Rattle.tp_text.proofs.Readings.{sent_one, received_one, judged_line, other_line, other_step}
 use Rattle.tp_text.proofs.tracer.Tracer.line.Goals as goal
 
 pub overflow_add-self : goal.overflow_add-self

@@ -1,4 +1,4 @@
-use Rattle.tp_text.proofs.Names.{arith, started_law}
+use Rattle.tp_text.proofs.Readings.{arith, started_law}
 use Rattle.tp_text.proofs.tracer.Tracer.start.Goals as goal
 
 pub start-started-requires : goal.start-started-requires

@@ -1,5 +1,4 @@
-use Rattle.tp_text.proofs.Names.{◌∙◌, sym}
-use Rattle.tp_text.proofs.Following.{some_event, step_at}
+use Rattle.tp_text.proofs.Readings.{◌∙◌, sym, some_event, step_at}
 use Rattle.tp_text.proofs.tracing.HistorySteps.at_place.Goals as goal
 
 pub unreachable-requires : goal.unreachable-requires

@@ -1,4 +1,4 @@
-use Rattle.tp_text.proofs.Names.{◌∙◌, sym, length-reverse, steps_of, length-steps_of}
+use Rattle.tp_text.proofs.Readings.{◌∙◌, sym, length-reverse, steps_of, length-steps_of}
 use Rattle.tp_text.proofs.tracing.HistorySteps.count.Goals as goal
 
 pub returns : goal.returns

@@ -78,11 +78,7 @@ split_at (x ∷ es) (suc k) e h = (let r = split_at es k e h in (ap (λ ys. x �
 any_next : (test : Edge → Bool) (es : List Edge) (k : ℕ) (e : Edge) → slice_get es k ≡ Some e → test e ≡ false
     → list_any test (take (suc k) es) ≡ list_any test (take k es)
 any_next test es k e i f = ap (list_any test) (split_at es k e i).0 ∙ (list_any-append test (take k es) (e ∷ [])
-    ∙ (ap (λ (b : Bool). list_any test (take k es) || (b || false)) f ∙ or_none (list_any test (take k es))))
-  where
-    or_none : (b : Bool) → (b || false) ≡ b
-    or_none true = refl
-    or_none false = refl
+    ∙ (ap (λ (b : Bool). list_any test (take k es) || (b || false)) f ∙ or-false (list_any test (take k es))))
 
 -- An edge that passes is one of the value: it is before the newest one, or that.
 pub any_left : (test : Edge → Bool) (u : ℕ) (es : List Edge) (n : ℕ) → ((e : Edge) → (e.value == u) ≡ false → test e ≡ false)
@@ -110,7 +106,7 @@ search_next u q es left older e s l i o h = (let w = s.at.within in let m : left
     let same : older ≡ newest u es (left - 1) = h ∙ ap (λ (v : ℕ). newest v es (left - 1)) (value_left u es left e s.at l i) in record {
       at = newest_left u es (left - 1) older (omega (arith, w)) same;
       rest = s.rest ∙ (ap (λ (k : ℕ). has_edge u q (take k es)) m
-          ∙ (any_next (is_edge u q) es (left - 1) e i (ap (λ (b : Bool). (e.value == u) && b) (ne_eqb e.target q o) ∙ and_false (e.value == u))
+          ∙ (any_next (is_edge u q) es (left - 1) e i (ap (λ (b : Bool). (e.value == u) && b) (ne_eqb e.target q o) ∙ and-false (e.value == u))
           ∙ (any_left (is_edge u q) u es (left - 1) (not_edge u q) (omega (arith, w)) ∙ ap (λ (k : ℕ). has_edge u q (take k es)) (sym same))));
     })
 
@@ -221,6 +217,13 @@ pub newest_read : (u : ℕ) (es : List Edge) (n : ℕ) (e : Edge) → newest u e
 newest_read u es n e h l i = (let v = value_left u es n e (newest_left u es (length es) n (omega arith) (sym h)) l i in
     (v, any_from (λ x. x.value == u) es (n - 1) e i (eq-eqb e.value u v)))
 
+abbrev pub NonePassed : ℕ → List Edge → Type 0
+NonePassed u es = (n : ℕ) (e : Edge) → slice_get es n ≡ Some e → e.value ≡ u → IsFalse e.passed
+
+pub none_passed : (u : ℕ) (es : List Edge) → has_arrived u es ≡ false → NonePassed u es
+none_passed u es h = λ n e i v. never e.passed (λ t. true_or_false (has_arrived u es)
+    (any_from (λ (x : Edge). (x.value == u) && x.passed) es n e i (and_from (e.value == u) e.passed (eq-eqb e.value u v) t)) h)
+
 -- ---- own tasks are released
 -- A value is passed along its edges before `left`.
 pub record Released (u : ℕ) (first now : List Edge) (left : ℕ) (old pool : PoolState) : Type 0 where
@@ -268,7 +271,7 @@ awaited_next {es} {new} {a} {b} n e w i f become step = (let long = length-set a
         | inr o ↦ (let l = w.within n e i in let t = ap (λ (x : Edge). x.target) o.1 in omega (arith, l, long, t))
       ];
       counted = λ k x j. (let c = count_set (is_awaited_at k) es n e (pass_one e) i in
-          let z : one (is_awaited_at k (pass_one e)) ≡ 0 = ap one (and_false (e.target == k)) in
+          let z : one (is_awaited_at k (pass_one e)) ≡ 0 = ap one (and-false (e.target == k)) in
           elim (set_apart a.tasks e.target k x (one_less become.was) j) [
             | inl o ↦ (let h = w.counted k x o.0 in
                 let y : one (is_awaited_at k e) ≡ 0 = ap (λ (d : Bool). one (d && not e.passed)) (ne_eqb e.target k (λ q. o.1 (sym q))) in
@@ -393,24 +396,16 @@ chain_add {es} {more} {ks} {kes} {first} {now} value target older number c few i
     })))
 
 -- the newest edge is taken away
-pub split_last : {A : Type 0} (xs : List A) (n : ℕ) (x : A) → length xs ≡ n + 1 → slice_get xs n ≡ Some x → xs ≡ take n xs ++ x ∷ []
-split_last xs n x l h = (let m : length xs ≡ suc n = omega (arith, l) in
-    sym (take-length xs) ∙ (ap (λ (k : ℕ). take k xs) m ∙ (split_at xs n x h).0))
+pub chain_some : {es : List Edge} {ks : List ℕ} {first : ℕ → ℕ} (less : List Edge) (e : Edge) → IsChain es ks first
+    → es ≡ less ++ e ∷ [] → 1 ≤ first e.value
+chain_some less e c is = (let h = c.heads e.value ∙ (ap (λ (xs : List Edge). newest e.value xs (length xs)) is
+    ∙ (newest_end e.value less e ∙ ap (λ (b : Bool). cond b (length less + 1) (newest e.value less (length less)))
+    (eq-eqb e.value e.value refl))) in omega (arith, h))
 
-pub chain_some : {es : List Edge} {ks : List ℕ} {first : ℕ → ℕ} (n : ℕ) (e : Edge) → IsChain es ks first → length es ≡ n + 1
-    → slice_get es n ≡ Some e → 1 ≤ first e.value
-chain_some {es} {first = first} n e c l i = (let s : length es ≡ suc n = omega (arith, l) in
-    let h : first e.value ≡ suc n = c.heads e.value ∙ (ap (newest e.value es) s
-    ∙ ap (λ (b : Bool). cond b (suc n) (newest e.value es n)) (of_value e.value es n e i refl)) in omega (arith, h))
-
-pub chain_remove : {es less : List Edge} {ks les : List ℕ} {first now : ℕ → ℕ} (n m : ℕ) (e : Edge) → IsChain es ks first
-    → length es ≡ n + 1 → slice_get es n ≡ Some e → slice_get ks n ≡ Some m → less ≡ take n es → les ≡ take n ks
-    → ((u : ℕ) → now u ≡ (if e.value == u then m else first u)) → IsChain less les now
-chain_remove {es} {less} {ks} {les} {first} {now} n m e c l i j items olders heads = (let even = c.long in
-    let is : es ≡ less ++ e ∷ [] = split_last es n e l i ∙ ap (λ (xs : List Edge). xs ++ e ∷ []) (sym items) in
-    let os : ks ≡ les ++ m ∷ [] = split_last ks n m (omega (arith, even, l)) j ∙ ap (λ (ns : List ℕ). ns ++ m ∷ []) (sym olders) in
-    let d : IsChain (less ++ e ∷ []) (les ++ m ∷ []) first =
-    subst (λ (ns : List ℕ). IsChain (less ++ e ∷ []) ns first) os (subst (λ (xs : List Edge). IsChain xs ks first) is c) in
+pub chain_remove : {es less : List Edge} {ks les : List ℕ} {first now : ℕ → ℕ} (m : ℕ) (e : Edge) → IsChain es ks first
+    → es ≡ less ++ e ∷ [] → ks ≡ les ++ m ∷ [] → ((u : ℕ) → now u ≡ (if e.value == u then m else first u)) → IsChain less les now
+chain_remove {less = less} {les = les} {first = first} m e c is os heads = (
+    let d : IsChain (less ++ e ∷ []) (les ++ m ∷ []) first = rw (← is, ← os) c in
     let a = length_push less e in let b = length_push les m in let long = d.long in let few = d.few in
     let same : length less ≡ length les = omega (arith, a, b, long) in
     let m_is : m ≡ newest e.value less (length less) = d.chain (length less) m e (at_end less e)

@@ -35,11 +35,7 @@ abbrev pub kids_of : ℕ → ℕ → ℕ
 kids_of n j = bit (ltb (2 * j + 1) n) + bit (ltb (2 * j + 2) n)
 
 below_one : (n c : ℕ) → size n c ≡ bit (ltb c n) + (size n c - 1)
-below_one n c =
-    elim (cases_lt c n) [
-      | inl m ↦ rw (lt-ltb c n m) (omega (arith, size_at n c m))
-      | inr past ↦ rw (le-ltb c n past) (omega (arith, size_past n c past))
-    ]
+below_one n c = grind (arith, nat_tests, size_at n c, size_past n c)
 
 pub kids_all : (n : ℕ) → total n (kids_of n) ≡ n - 1
 kids_all n =
@@ -84,7 +80,7 @@ cost w p =
     + tell p
 
 -- the useful events of r more waves
-budget : ℕ → ℕ → ℕ
+abbrev budget : ℕ → ℕ → ℕ
 budget n zero = 0
 budget n (suc r) = budget n r + total n (wave_cost n)
 
@@ -172,7 +168,8 @@ module _ (n q : ℕ) (x : World) (v : Good n q x) where
   acted_cost : (i : ℕ) → i < n → costs n q (put i (acts (x.at i)).state x.at) + bit (is_step (acts (x.at i)).next) ≤ costs n q x.at
   acted_cost i l =
       cost_put n q i x.at (acts (x.at i)).state (bit (is_step (acts (x.at i)).next)) l
-      (root_stays i (acts (x.at i)).state (λ e. acts_wave (x.at i) ∙ rw e)) (acts_cost (x.at 0).wave (x.at i) (newest i l))
+      (root_stays i (acts (x.at i)).state (λ e. acts_wave (x.at i) ∙ rw e))
+      (acts_cost (x.at 0).wave (x.at i) (newest i l))
 
   came_cost : (o : Option ControlMessage) → IsKnown n v.wave v.gifts x o → costs n q (came n x o).at + bit (is_taken n x o) ≤ costs n q x.at
   came_cost None t = omega arith
@@ -197,10 +194,6 @@ module _ (n q : ℕ) (x : World) (v : Good n q x) where
         | inr other ↦ rw (m, other) (subst (λ f. costs n q f + 0 ≤ costs n q x.at) (sym (put_id a.to x.at)) (omega arith))
       ])
       (λ f. rw f (omega arith))
-
-budget_more : (n r : ℕ) → budget n (suc r) ≡ budget n r + total n (wave_cost n)
-unfolding budget
-budget_more n r = refl
 
 opened-le : (w : ℕ) (p : EpochState) → cost (w + 1) (opens (w + 1) p) ≤ tell p + (1 + (kids p + kids p))
 opened-le w p = rw (eq-eqb (w + 1) (w + 1) refl) (omega (arith, bit-le (not p.over)))
@@ -227,16 +220,11 @@ module _ (n q : ℕ) (x : World) (quiet : IsQuiet n x) (v : Good n q x) where
       let few : w ≤ q + 1 = omega (arith, v.inv.pace.fewer (nothing_under_way n x quiet) away, v.inv.root.wave) in
       let step : q + 2 - w ≡ suc (q + 2 - (w + 1)) = omega (arith, few) in
       let paid : budget n (q + 2 - w) ≡ budget n (q + 2 - (w + 1)) + total n (wave_cost n)
-      = ap (budget n) step ∙ budget_more n (q + 2 - (w + 1)) in
+      = ap (budget n) step in
       let less : costs n q (put 0 new x.at) ≤ costs n q x.at =
       omega (arith, all, rest, total_add n (λ j. tell (x.at j)) (wave_cost n), paid) in
       subst (λ z. costs n q (put z (opens ((x.at z).wave + 1) (x.at z)) x.at) ≤ costs n q x.at) (sym e) less)
       (subst (λ f. costs n q f ≤ costs n q x.at) (sym (put_id i x.at)) (omega arith))
-
-  same_cost : (i : ℕ) (new : EpochState) → i < n → new.wave ≡ (x.at i).wave → cost (x.at 0).wave new ≤ cost (x.at 0).wave (x.at i)
-      → costs n q (put i new x.at) ≤ costs n q x.at
-  same_cost i new l same less =
-      omega (arith, cost_put n q i x.at new 0 l (root_stays n q x v i new (λ e. same ∙ rw e)) (omega (arith, less)))
 
   moved_cost : (i : ℕ) → i < n → costs n q (put i (moved (x.at i)).state x.at) + bit (is_step (moved (x.at i)).next) ≤ costs n q x.at
   moved_cost i l =
@@ -248,19 +236,12 @@ module _ (n q : ℕ) (x : World) (quiet : IsQuiet n x) (v : Good n q x) where
       (omega (arith, acted, started_cost i l))
 
   does_cost : (i : ℕ) (a : Act) → i < n → costs n q (does n x i a).at + bit (is_useful n x (Does i a)) ≤ costs n q x.at
-  does_cost i Opens l =
-      omega (
-        arith,
-        same_cost i (opened (x.at i)) l
-            (cond_both (not (eqb (x.at i).pending 0) && ltb (x.at i).pending LIMIT) _ (x.at i) (λ z. z.wave ≡ (x.at i).wave)
-            (λ t. refl) (λ t. refl))
-            (cond_both (not (eqb (x.at i).pending 0) && ltb (x.at i).pending LIMIT) _ (x.at i)
-            (λ z. cost (x.at 0).wave z ≤ cost (x.at 0).wave (x.at i)) (λ t. omega arith) (λ t. omega arith)),
-      )
-  does_cost i Closes l = omega (arith, same_cost i (closed (x.at i)) l refl (omega arith))
-  does_cost i (Sends j) l = subst (λ (z : World). costs n q z.at + 0 ≤ costs n q x.at) (sym (none_sent n i j x l quiet)) (omega arith)
-  does_cost i Receives l = subst (λ (z : World). costs n q z.at + 0 ≤ costs n q x.at) (sym (none_received n i x l quiet)) (omega arith)
   does_cost i Moves l = rw (lt-ltb i n l) (moved_cost i l)
+  does_cost i a l =
+      elim (does_nothing n i x a l quiet) [
+        | inl e ↦ absurd (cc e)
+        | inr e ↦ subst (λ (z : World). costs n q z.at + 0 ≤ costs n q x.at) (sym e) (omega arith)
+      ]
 
   useless : (i : ℕ) (a : Act) → ltb i n ≡ false → is_useful n x (Does i a) ≡ false
   useless i Moves e = rw e
@@ -278,8 +259,8 @@ soon_from n q [] events z v = omega arith
 soon_from n q (e ∷ later) events z v =
     let x : World = after n (later ++ events) in
     let rest : useful n later events + costs n q x.at ≤ costs n q (after n events).at = soon_from n q later events z v in
-    let step : costs n q (happens n x e).at + bit (is_useful n x e) ≤ costs n q x.at
-    = happens_cost n q x (quiet_stays n later events z) (calm_after n q later events z v) e in
+    let calm = calm_after n q later events z v in
+    let step : costs n q (happens n x e).at + bit (is_useful n x e) ≤ costs n q x.at = happens_cost n q x calm.0 calm.1 e in
     elim (cases_Bool (is_useful n x e)) [
       | inl t ↦ rw t (omega (arith, rest, step, ap bit t))
       | inr f ↦ rw f (omega (arith, rest, step, ap bit f))
@@ -352,7 +333,6 @@ cost-le n w j p number processes slim =
     omega (arith, a, b)
 
 budget-le : (n r : ℕ) → r ≤ 2 → budget n r ≤ 2 * total n (wave_cost n)
-unfolding budget
 budget-le n zero l = omega arith
 budget-le n (suc zero) l = omega arith
 budget-le n (suc (suc zero)) l = omega arith

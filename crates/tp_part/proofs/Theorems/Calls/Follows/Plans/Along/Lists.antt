@@ -8,21 +8,9 @@ there xs k x y a b = some_same x y (sym a ∙ b)
 pub true_or_false : {P : Type 0} (b : Bool) → b ≡ true → b ≡ false → P
 true_or_false b t f = absurd (false≢true (sym f ∙ t))
 
-pub not_false : (b : Bool) → not b ≡ false → b ≡ true
-not_false true h = refl
-not_false false h = cc
-
-pub not_true : (b : Bool) → not b ≡ true → b ≡ false
-not_true true h = cc
-not_true false h = refl
-
-pub and_true : (b : Bool) → (b && true) ≡ b
-and_true true = refl
-and_true false = refl
-
-pub and_false : (b : Bool) → (b && false) ≡ false
-and_false true = refl
-and_false false = refl
+pub and_same : (b c : Bool) → (b ≡ true → c ≡ true) → b ≡ (b && c)
+and_same true c h = sym (h refl)
+and_same false c h = refl
 
 -- an element of a list is the first one, or one of the others
 pub front : {A : Type 0} (x : A) (xs : List A) (j : ℕ) (y : A) → slice_get (x ∷ xs) j ≡ Some y
@@ -45,17 +33,10 @@ any_at test (x ∷ xs) h = elim (or_cases (test x) (list_any test xs) h) [
   | inr b ↦ (let r = any_at test xs b in record { place = suc r.place; item = r.item; is = r.is; test_is = r.test_is })
 ]
 
-pub any_from : {A : Type 0} (test : A → Bool) (xs : List A) (k : ℕ) (x : A) → slice_get xs k ≡ Some x → test x ≡ true
-    → list_any test xs ≡ true
-any_from test [] k x e h = cc
-any_from test (y ∷ ys) zero x e h = or_left (test y) (list_any test ys) (let same : y ≡ x = some_same y x e in ap test same ∙ h)
-any_from test (y ∷ ys) (suc k) x e h = or_right (test y) (list_any test ys) (any_from test ys k x e h)
-
 pub any_not : {A : Type 0} (test : A → Bool) (xs : List A) → ((k : ℕ) (x : A) → slice_get xs k ≡ Some x → test x ≡ false)
     → list_any test xs ≡ false
-any_not test [] h = refl
-any_not test (x ∷ xs) h = (let a = h 0 x refl in let b = any_not test xs (λ k y e. h (suc k) y e) in
-    ap (λ (t : Bool). t || list_any test xs) a ∙ b)
+any_not test xs h = never (list_any test xs) (λ t. let r = any_at test xs t in
+    true_or_false (test r.item) r.test_is (h r.place r.item r.is))
 
 pub all_at : {A : Type 0} (test : A → Bool) (xs : List A) (k : ℕ) (x : A) → list_all test xs ≡ true → slice_get xs k ≡ Some x
     → test x ≡ true
@@ -89,9 +70,6 @@ pub index_is : {A : Type 0} (xs : List A) (k : ℕ) (x : A) → k < length xs �
 index_is xs k x l h = (let y = at_below xs k l in y.1 ∙ ap Some (sym (h ∙ get_or_from_slice_get xs k y.0 x y.1)))
 
 -- ---- checks
--- A check that does not hold, or the first that does.
+-- A check that does not hold.
 pub free : (b : Bool) (r : Refusal) (o : Option Refusal) → b ≡ false → cond b (Some r) o ≡ o
 free b r o h = ap (λ (x : Bool). cond x (Some r) o) h
-
-pub hit : (b : Bool) (r : Refusal) (o : Option Refusal) → b ≡ true → cond b (Some r) o ≡ Some r
-hit b r o h = ap (λ (x : Bool). cond x (Some r) o) h

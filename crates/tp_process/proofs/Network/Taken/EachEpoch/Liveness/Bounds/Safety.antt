@@ -12,10 +12,7 @@ begins n =
         balance = omega (arith, total-zero n);
         each = λ i m.
             record {
-              number = refl;
-              processes = refl;
-              near = omega arith;
-              close = omega arith;
+              place = record { number = refl; processes = refl; near = omega arith; close = omega arith };
               floor = omega arith;
               above = λ p e. refl;
               given = λ k.
@@ -23,8 +20,7 @@ begins n =
                     sent = omega arith;
                     received = omega arith;
                     idle = λ b e. absurd (omega (arith, b));
-                    left = λ m. record { wave = refl; gone = refl };
-                    right = λ m. record { wave = refl; gone = refl };
+                    gave = (λ m. record { wave = refl; gone = refl }, λ m. record { wave = refl; gone = refl });
                     sums = refl;
                   };
               here = λ f. absurd (cc f);
@@ -35,13 +31,7 @@ begins n =
         controls = tt;
         pace = newest_pace n 0 _ (beginning n);
         posts = λ i m.
-            record {
-              down_left = λ f. absurd (cc f);
-              down_right = λ f. absurd (cc f);
-              up = λ a b. absurd (omega (arith, b));
-              over_left = λ f. absurd (cc f);
-              over_right = λ f. absurd (cc f);
-            };
+            record { down = λ f. absurd (cc f); up = λ a b. absurd (omega (arith, b)); over = λ f. absurd (cc f) };
         small = λ i m. record { sent = omega arith; received = omega arith };
       };
     }
@@ -83,11 +73,9 @@ module _ (n q i : ℕ) (x : World) (l : i < n) (v : Good n q x) where
       good_owes p.down_left p.down_right true (has p (left_of p)) (has p (right_of p)) x.controls
       (λ o. record { over = refl; left = o.left; right = o.right }) (λ e. inr f) (λ t. t) (λ a h. h)
       (record {
-        down_left = had.down_left;
-        down_right = had.down_right;
+        down = had.down;
         up = had.up;
-        over_left = λ f e m. no_child n i 1 p hold.number hold.processes e m;
-        over_right = λ f e m. no_child n i 2 p hold.number hold.processes e m;
+        over = λ f. no_child n i p (λ c. (u : ℕ) × Has x.controls (control_of n i c u Over)) hold.number hold.processes;
       })
 
   -- A process sends a control message to a child.
@@ -122,14 +110,9 @@ module _ (n q : ℕ) (x : World) (l : 0 < n) (v : Good n q x) (c : CanGive (x.at
             (all_given n q v.wave v.floor v.gifts x l v.inv c.here c.idle c.left c.right j p m);
       })
 
-  root_goes_on : is_end (x.at 0) ≡ false → IsGoodMove n q 0 x (record {
-    state = record (x.at 0) { here = false; known = true; last_received = (x.at 0).taken_received + (x.at 0).received };
-    next = Again;
-  })
+  root_goes_on : is_end (x.at 0) ≡ false
+      → IsGoodMove n q 0 x (record { state = gone (x.at 0) true ((x.at 0).taken_received + (x.at 0).received); next = Again })
   root_goes_on t = good (judge_step n q v.wave v.floor v.gifts x l v.inv c.here c.idle c.left c.right t)
-
-total_one : (n : ℕ) (f : ℕ → ℕ) → n ≡ 1 → total n f ≡ f 0
-total_one n f e = rw e (omega arith)
 
 module _ (n q i : ℕ) (x : World) (l : i < n) (v : Good n q x) where
   is_root : eqb (x.at i).number 0 ≡ true → i ≡ 0
@@ -148,40 +131,32 @@ module _ (n q i : ℕ) (x : World) (l : i < n) (v : Good n q x) where
       acts_cases p (IsGoodMove n q i x) (λ o t.
       good_message n q i x l v p.down_left p.down_right false p.over_right (left_of p) Over (λ y still. still (v.inv.over i l o)) tt (λ had.
       record {
-        down_left = had.down_left;
-        down_right = had.down_right;
+        down = had.down;
         up = had.up;
-        over_left = λ f e m. (p.wave, record { which = 0; there = rw (hold.number, hold.processes) });
-        over_right = had.over_right;
+        over = λ f. (λ e m. (p.wave, record { which = 0; there = rw (hold.number, hold.processes) }), (had.over f).1);
       }))
       (λ o t.
       good_message n q i x l v p.down_left p.down_right p.over_left false (right_of p) Over (λ y still. still (v.inv.over i l o)) tt (λ had.
       record {
-        down_left = had.down_left;
-        down_right = had.down_right;
+        down = had.down;
         up = had.up;
-        over_left = had.over_left;
-        over_right = λ f e m. (p.wave, record { which = 0; there = rw (hold.number, hold.processes) });
+        over = λ f. ((had.over f).0, λ e m. (p.wave, record { which = 0; there = rw (hold.number, hold.processes) }));
       }))
       (λ o a b. good_same n q i x l v) (λ o h t.
       good_message n q i x l v false p.down_right p.over_left p.over_right (left_of p) Down (λ y still. hold.near)
       (down false p.down_right (left_of p) (omega arith)) (λ had.
       record {
-        down_left = λ f e m. record { which = 0; there = rw (hold.number, hold.processes, (hold.here h).wave) };
-        down_right = had.down_right;
+        down = λ f. (λ e m. record { which = 0; there = rw (hold.number, hold.processes, (hold.here h).wave) }, (had.down f).1);
         up = had.up;
-        over_left = had.over_left;
-        over_right = had.over_right;
+        over = had.over;
       }))
       (λ o h t.
       good_message n q i x l v p.down_left false p.over_left p.over_right (right_of p) Down (λ y still. hold.near)
       (down p.down_left false (right_of p) (omega arith)) (λ had.
       record {
-        down_left = had.down_left;
-        down_right = λ f e m. record { which = 0; there = rw (hold.number, hold.processes, (hold.here h).wave) };
+        down = λ f. ((had.down f).0, λ e m. record { which = 0; there = rw (hold.number, hold.processes, (hold.here h).wave) });
         up = had.up;
-        over_left = had.over_left;
-        over_right = had.over_right;
+        over = had.over;
       }))
       (λ c z t.
       let e : i ≡ 0 = is_root z in
@@ -189,10 +164,8 @@ module _ (n q i : ℕ) (x : World) (l : i < n) (v : Good n q x) where
       (root_ends n q x (rw e at l) v (rw e at c) (rw e at t))) (λ c z t.
       let e : i ≡ 0 = is_root z in
       subst (λ k.
-      IsGoodMove n q k x (record {
-        state = record (x.at k) { here = false; known = true; last_received = (x.at k).taken_received + (x.at k).received };
-        next = Again;
-      })) (sym e) (root_goes_on n q x (rw e at l) v (rw e at c) (rw e at t)))
+      IsGoodMove n q k x (record { state = gone (x.at k) true ((x.at k).taken_received + (x.at k).received); next = Again })) (sym e)
+      (root_goes_on n q x (rw e at l) v (rw e at c) (rw e at t)))
       (λ c z.
       good (give_step n q v.wave i v.floor v.gifts x l v.inv c.here c.idle c.left c.right
       (λ e. eqb-false p.number 0 z (hold.number ∙ e))))
@@ -231,7 +204,7 @@ module _ (n q i : ℕ) (x : World) (l : i < n) (v : Good n q x) where
             let hold : Holds n v.wave v.floor v.gifts x.at 0 (x.at 0) = v.inv.each 0 first in
             let one : n ≡ 1
             = omega (arith, first, ltb-false (2 * (x.at 0).number + 1) (x.at 0).processes alone, hold.number, hold.processes) in
-            let sum : total n v.floor ≡ v.floor 0 = total_one n v.floor one in
+            let sum : total n v.floor ≡ v.floor 0 = subst (λ k. total k v.floor ≡ v.floor 0) (sym one) (omega arith) in
             more (rw away (omega (arith, v.inv.root.last known, sum, hold.floor)))
       ])
 
@@ -276,13 +249,22 @@ known_at n w g x [] k t = tt
 known_at n w g x (a ∷ ls) zero t = t.0
 known_at n w g x (a ∷ ls) (suc k) t = known_at n w g x ls k t.1
 
-good_came : (n q : ℕ) (x : World) (v : Good n q x) (o : Option ControlMessage) → IsKnown n v.wave v.gifts x o → Good n q (came n x o)
-good_came n q x v None t = v
-good_came n q x v (Some a) t =
-    cond_both (ltb a.to n) (record x { at = put a.to (took a (x.at a.to)) x.at }) x (Good n q) (λ l.
-    cond_both (is_for a (x.at a.to)) (takes a.from a.wave a.token (x.at a.to)) (x.at a.to)
-    (λ z. Good n q (record x { at = put a.to z x.at })) (λ e. good_takes n q a.to x (ltb-true a.to n l) v a.from a.wave a.token t.0 t.1)
-    (λ e. good_same n q a.to x (ltb-true a.to n l) v)) (λ l. v)
+pub known_one : (n q : ℕ) (x : World) (v : Good n q x) (k : ℕ) (a : ControlMessage) → control_at x.controls k ≡ Some a
+    → Known n v.wave v.gifts x a.from a.wave a.token × Path v.wave x.at a.from a.to a.wave a.token
+known_one n q x v k a there = rw there at (known_at n v.wave v.gifts x x.controls k v.inv.controls)
+
+-- What holds of a world holds after an event, if it holds after each act, and after a control message is taken.
+happens_cases : (n : ℕ) (x : World) (e : Event) (Q : World → Type 0) → Q x → ((i : ℕ) (a : Act) → i < n → Q (does n x i a))
+    → ((k : ℕ) (a : ControlMessage) → control_at x.controls k ≡ Some a → a.to < n
+    → Q (record x { at = put a.to (takes a.from a.wave a.token (x.at a.to)) x.at })) → Q (happens n x e)
+happens_cases n x (Does i a) Q same act take = cond_both (ltb i n) (does n x i a) x Q (λ t. act i a (ltb-true i n t)) (λ t. same)
+happens_cases n x (Comes k) Q same act take = comes (control_at x.controls k) refl where
+  comes : (o : Option ControlMessage) → control_at x.controls k ≡ o → Q (came n x o)
+  comes None there = same
+  comes (Some a) there =
+      cond_both (ltb a.to n) (record x { at = put a.to (took a (x.at a.to)) x.at }) x Q (λ m.
+      cond_both (is_for a (x.at a.to)) (takes a.from a.wave a.token (x.at a.to)) (x.at a.to) (λ z. Q (record x { at = put a.to z x.at }))
+      (λ d. take k a there (ltb-true a.to n m)) (λ d. subst (λ f. Q (record x { at = f })) (sym (put_id a.to x.at)) same)) (λ m. same)
 
 good_does : (n q : ℕ) (x : World) (i : ℕ) (a : Act) → i < n → Good n q x → (c : ℕ) × Good n c (does n x i a)
 good_does n q x i Opens l v = (q, good_opens n q i x l v)
@@ -297,9 +279,9 @@ good_does n q x i Receives l v =
 good_does n q x i Moves l v = (q, good_moves n q i x l v)
 
 pub good_happens : (n q : ℕ) (x : World) (e : Event) → Good n q x → (c : ℕ) × Good n c (happens n x e)
-good_happens n q x (Does i a) v =
-    cond_both (ltb i n) (does n x i a) x (λ z. (c : ℕ) × Good n c z) (λ t. good_does n q x i a (ltb-true i n t) v) (λ t. (q, v))
-good_happens n q x (Comes k) v = (q, good_came n q x v (control_at x.controls k) (known_at n v.wave v.gifts x x.controls k v.inv.controls))
+good_happens n q x e v =
+    happens_cases n x e (λ z. (c : ℕ) × Good n c z) (q, v) (λ i a l. good_does n q x i a l v) (λ k a there l.
+    let t = known_one n q x v k a there in (q, good_takes n q a.to x l v a.from a.wave a.token t.0 t.1))
 
 pub good_after : (n : ℕ) (events : List Event) → (c : ℕ) × Good n c (after n events)
 good_after n [] = (0, begins n)
@@ -308,7 +290,7 @@ good_after n (e ∷ past) = let v = good_after n past in good_happens n v.0 (aft
 -- ==== What every step preserves holds at all times: P says it of the processes and of the control messages sent.
 pub record IsKept (n : ℕ) (P : (ℕ → EpochState) → List ControlMessage → Type 0) : Type 0 where
   pub count : (q i a s r : ℕ) (x : World) → i < n → Good n q x → P x.at x.controls
-      → P (put i (record (x.at i) { pending = a; sent = s; received = r }) x.at) x.controls
+      → P (put i (recount a s r (x.at i)) x.at) x.controls
   pub start : (q : ℕ) (x : World) → 0 < n → Good n q x → (x.at 0).over ≡ false → (x.at 0).here ≡ false → P x.at x.controls
       → P (put 0 (opens ((x.at 0).wave + 1) (x.at 0)) x.at) x.controls
   pub act : (q i : ℕ) (x : World) → i < n → Good n q x → P x.at x.controls
@@ -338,20 +320,10 @@ module _ (n : ℕ) (P : (ℕ → EpochState) → List ControlMessage → Type 0)
       (subst (P (put i c.new x.at)) (sym c.controls)
       (subst (λ z. P (put i z x.at) x.controls) (sym c.same) (k.count q i c.new.pending c.new.sent c.new.received x l v h)))
 
-  kept_came : (q j : ℕ) (x : World) (v : Good n q x) (o : Option ControlMessage) → control_at x.controls j ≡ o
-      → IsKnown n v.wave v.gifts x o → P x.at x.controls → P (came n x o).at (came n x o).controls
-  kept_came q j x v None e t h = h
-  kept_came q j x v (Some a) e t h =
-      cond_both (ltb a.to n) _ x (λ z. P z.at z.controls) (λ m.
-      let l : a.to < n = ltb-true a.to n m in
-      cond_both (is_for a (x.at a.to)) _ (x.at a.to) (λ z. P (put a.to z x.at) x.controls) (λ d. k.take q j x v a l e t.0 h)
-      (λ d. subst (λ f. P f x.controls) (sym (put_id a.to x.at)) h)) (λ m. h)
-
   pub kept : (q : ℕ) (x : World) (e : Event) → Good n q x → P x.at x.controls → P (happens n x e).at (happens n x e).controls
-  kept q x (Does i a) v h =
-      cond_both (ltb i n) (does n x i a) x (λ z. P z.at z.controls)
-      (λ t. kept_does q x i a (ltb-true i n t) v h (does_counts n x i a)) (λ t. h)
-  kept q x (Comes j) v h = kept_came q j x v (control_at x.controls j) refl (known_at n v.wave v.gifts x x.controls j v.inv.controls) h
+  kept q x e v h =
+      happens_cases n x e (λ z. P z.at z.controls) h (λ i a l. kept_does q x i a l v h (does_counts n x i a))
+      (λ j a there l. k.take q j x v a l there (known_one n q x v j a there).0 h)
 
   pub kept_after : (events : List Event) → P (λ i. blank i n) [] → P (after n events).at (after n events).controls
   kept_after [] h = h
@@ -364,54 +336,66 @@ module _ (n : ℕ) (P : (ℕ → EpochState) → List ControlMessage → Type 0)
       let v = good_after n (later ++ events) in kept v.0 (after n (later ++ events)) e v.1 (kept_later later events h)
 
 -- ==== A quiet world.
+same_put : (i : ℕ) (x : World) (p : EpochState) → p ≡ x.at i → record x { at = put i p x.at } ≡ x
+same_put i x p e =
+    ap (λ (z : EpochState). record x { at = put i z x.at }) e ∙ ap (λ (f : ℕ → EpochState). record x { at = f }) (put_id i x.at)
+
+-- Nothing is opened, closed, sent or received there.
+pub does_nothing : (n i : ℕ) (x : World) (a : Act) → i < n → IsQuiet n x → (a ≡ Moves) ⊎ (does n x i a ≡ x)
+does_nothing n i x Opens l z =
+    let p : EpochState = x.at i in
+    inr (same_put i x (opened p) (cond_both (not (eqb p.pending 0) && ltb p.pending LIMIT) _ p (λ (r : EpochState). r ≡ p) (λ t.
+    absurd (eqb-false p.pending 0 (not-true _ (and_parts (not (eqb p.pending 0)) (ltb p.pending LIMIT) t).0) (z.idle i l)))
+    (λ t. refl)))
+does_nothing n i x Closes l z =
+    let same : (x.at i).pending - 1 ≡ (x.at i).pending = omega (arith, z.idle i l) in
+    inr (same_put i x (closed (x.at i)) (ap (λ k. record (x.at i) { pending = k }) same))
+does_nothing n i x (Sends j) l z =
+    inr (cond_both (can_send (x.at i) && ltb j n) _ x (λ y. y ≡ x) (λ t.
+    let a = and_parts (can_send (x.at i)) (ltb j n) t in
+    absurd (eqb-false (x.at i).pending 0 (not-true _ (and_parts (not (eqb (x.at i).pending 0)) (ltb (x.at i).sent LIMIT) a.0).0)
+    (z.idle i l))) (λ t. refl))
+does_nothing n i x Receives l z =
+    inr (cond_both (can_receive (x.at i) && ltb 0 (x.under_way i)) _ x (λ y. y ≡ x) (λ t.
+    let a = and_parts (can_receive (x.at i)) (ltb 0 (x.under_way i)) t in
+    absurd (omega (arith, ltb-true 0 (x.under_way i) a.1, z.none_under_way i l))) (λ t. refl))
+does_nothing n i x Moves l z = inl refl
+
 moved_idle : (p : EpochState) → (moved p).state.pending ≡ p.pending
 moved_idle p =
     cond_both (is_miscounted p) _ _ (λ (m : Move). m.state.pending ≡ p.pending) (λ t. refl)
     (λ t. ap (λ (z : EpochState). z.pending) (acts_keeps (ready p)) ∙ ready_cases p (λ z. z.pending ≡ p.pending) (λ a b c. refl) refl)
 
-opened_idle : (p : EpochState) → p.pending ≡ 0 → (opened p).pending ≡ 0
-opened_idle p e =
-    cond_both (not (eqb p.pending 0) && ltb p.pending LIMIT) _ p (λ (z : EpochState). z.pending ≡ 0)
-    (λ t. absurd (eqb-false p.pending 0 (not-true _ (and_parts (not (eqb p.pending 0)) (ltb p.pending LIMIT) t).0) e)) (λ t. e)
+-- So it stays quiet, and so does the wave q of the last message.
+calm_does : (n q : ℕ) (x : World) (i : ℕ) (a : Act) → i < n → IsQuiet n x → Good n q x
+    → IsQuiet n (does n x i a) × Good n q (does n x i a)
+calm_does n q x i a l z v =
+    elim (does_nothing n i x a l z) [
+      | inl e ↦
+          subst (λ (b : Act). IsQuiet n (does n x i b) × Good n q (does n x i b)) (sym e) (
+            quiet_put n i x (moved (x.at i)).state (posted (moved (x.at i)).next x.controls) (λ f. moved_idle (x.at i) ∙ f) z,
+            good_moves n q i x l v,
+          )
+      | inr e ↦ subst (λ (y : World). IsQuiet n y × Good n q y) (sym e) (z, v)
+    ]
 
--- Nothing is sent or received there.
-pub none_sent : (n i j : ℕ) (x : World) → i < n → IsQuiet n x → does n x i (Sends j) ≡ x
-none_sent n i j x l z =
-    cond_both (can_send (x.at i) && ltb j n) _ x (λ y. y ≡ x) (λ t.
-    let a = and_parts (can_send (x.at i)) (ltb j n) t in
-    absurd (eqb-false (x.at i).pending 0 (not-true _ (and_parts (not (eqb (x.at i).pending 0)) (ltb (x.at i).sent LIMIT) a.0).0)
-    (z.idle i l))) (λ t. refl)
+pub calm_happens : (n q : ℕ) (x : World) (e : Event) → IsQuiet n x → Good n q x → IsQuiet n (happens n x e) × Good n q (happens n x e)
+calm_happens n q x e z v =
+    happens_cases n x e (λ y. IsQuiet n y × Good n q y) (z, v) (λ i a l. calm_does n q x i a l z v) (λ k a there l.
+    let t = known_one n q x v k a there in (
+      quiet_put n a.to x (takes a.from a.wave a.token (x.at a.to)) x.controls
+          (λ f. takes_idle a.from a.wave a.token (x.at a.to) ∙ f) z,
+      good_takes n q a.to x l v a.from a.wave a.token t.0 t.1,
+    ))
 
-pub none_received : (n i : ℕ) (x : World) → i < n → IsQuiet n x → does n x i Receives ≡ x
-none_received n i x l z =
-    cond_both (can_receive (x.at i) && ltb 0 (x.under_way i)) _ x (λ y. y ≡ x) (λ t.
-    let a = and_parts (can_receive (x.at i)) (ltb 0 (x.under_way i)) t in
-    absurd (omega (arith, ltb-true 0 (x.under_way i) a.1, z.none_under_way i l))) (λ t. refl)
-
-quiet_does : (n : ℕ) (x : World) (i : ℕ) (a : Act) → i < n → IsQuiet n x → IsQuiet n (does n x i a)
-quiet_does n x i Opens l z = quiet_put n i x (opened (x.at i)) x.controls (opened_idle (x.at i)) z
-quiet_does n x i Closes l z = quiet_put n i x (closed (x.at i)) x.controls (λ e. omega (arith, e)) z
-quiet_does n x i (Sends j) l z = subst (IsQuiet n) (sym (none_sent n i j x l z)) z
-quiet_does n x i Receives l z = subst (IsQuiet n) (sym (none_received n i x l z)) z
-quiet_does n x i Moves l z =
-    quiet_put n i x (moved (x.at i)).state (posted (moved (x.at i)).next x.controls) (λ e. moved_idle (x.at i) ∙ e) z
-
-quiet_came : (n : ℕ) (x : World) (o : Option ControlMessage) → IsQuiet n x → IsQuiet n (came n x o)
-quiet_came n x None z = z
-quiet_came n x (Some a) z =
-    cond_both (ltb a.to n) (record x { at = put a.to (took a (x.at a.to)) x.at }) x (IsQuiet n) (λ l.
-    quiet_put n a.to x (took a (x.at a.to)) x.controls (λ e.
-    cond_both (is_for a (x.at a.to)) (takes a.from a.wave a.token (x.at a.to)) (x.at a.to) (λ y. y.pending ≡ 0)
-    (λ t. takes_idle a.from a.wave a.token (x.at a.to) ∙ e) (λ t. e))
-    z) (λ l. z)
-
-quiet_happens : (n : ℕ) (x : World) (e : Event) → IsQuiet n x → IsQuiet n (happens n x e)
-quiet_happens n x (Does i a) z = cond_both (ltb i n) (does n x i a) x (IsQuiet n) (λ t. quiet_does n x i a (ltb-true i n t) z) (λ t. z)
-quiet_happens n x (Comes k) z = quiet_came n x (control_at x.controls k) z
+pub calm_after : (n q : ℕ) (later events : List Event) → IsQuiet n (after n events) → Good n q (after n events)
+    → IsQuiet n (after n (later ++ events)) × Good n q (after n (later ++ events))
+calm_after n q [] events z v = (z, v)
+calm_after n q (e ∷ later) events z v =
+    let c = calm_after n q later events z v in calm_happens n q (after n (later ++ events)) e c.0 c.1
 
 pub quiet_stays : QuietLaw
-quiet_stays n [] events z = z
-quiet_stays n (e ∷ later) events z = quiet_happens n (after n (later ++ events)) e (quiet_stays n later events z)
+quiet_stays n later events z = let v = good_after n events in (calm_after n v.0 later events z v.1).0
 
 pub never_early : NeverEarlyLaw
 never_early n i later events l over = quiet_stays n later events ((good_after n events).1.inv.over i l over).quiet
@@ -438,35 +422,11 @@ moved_ended p =
 pub ended : EndedLaw
 ended n i later events l e = never_early n i later events l (moved_ended ((after n events).at i) e)
 
--- In a quiet world nothing is sent or received, so the wave q of the last message stays.
-calm_does : (n q : ℕ) (x : World) (i : ℕ) (a : Act) → i < n → IsQuiet n x → Good n q x → Good n q (does n x i a)
-calm_does n q x i Opens l z v = good_opens n q i x l v
-calm_does n q x i Closes l z v = good_closes n q i x l v
-calm_does n q x i (Sends j) l z v = subst (Good n q) (sym (none_sent n i j x l z)) v
-calm_does n q x i Receives l z v = subst (Good n q) (sym (none_received n i x l z)) v
-calm_does n q x i Moves l z v = good_moves n q i x l v
-
-pub calm_happens : (n q : ℕ) (x : World) (e : Event) → IsQuiet n x → Good n q x → Good n q (happens n x e)
-calm_happens n q x (Does i a) z v = cond_both (ltb i n) (does n x i a) x (Good n q) (λ t. calm_does n q x i a (ltb-true i n t) z v) (λ t. v)
-calm_happens n q x (Comes k) z v = good_came n q x v (control_at x.controls k) (known_at n v.wave v.gifts x x.controls k v.inv.controls)
-
-pub calm_after : (n q : ℕ) (later events : List Event) → IsQuiet n (after n events) → Good n q (after n events)
-    → Good n q (after n (later ++ events))
-calm_after n q [] events z v = v
-calm_after n q (e ∷ later) events z v =
-    calm_happens n q (after n (later ++ events)) e (quiet_stays n later events z) (calm_after n q later events z v)
-
 pub nothing_under_way : (n : ℕ) (x : World) → IsQuiet n x → total n x.under_way ≡ 0
 nothing_under_way n x z = total-equal n x.under_way (λ j. 0) z.none_under_way ∙ total-zero n
 
 pub few_waves : FewWavesLaw
 few_waves n later events l z =
     let v = good_after n events in
-    let u : Good n v.0 (after n (later ++ events)) = calm_after n v.0 later events z v.1 in
-    omega (
-      arith,
-      u.inv.pace.few (nothing_under_way n _ (quiet_stays n later events z)),
-      u.inv.root.wave,
-      v.1.inv.root.wave,
-      v.1.inv.pace.past,
-    )
+    let u = calm_after n v.0 later events z v.1 in
+    omega (arith, u.1.inv.pace.few (nothing_under_way n _ u.0), u.1.inv.root.wave, v.1.inv.root.wave, v.1.inv.pace.past)

@@ -6,10 +6,6 @@ pub use Steps.*
 counts_equal : (a b : Counts) → a.sent ≡ b.sent → a.received ≡ b.received → a ≡ b
 counts_equal a b e f = ap (λ s. record { sent = s; received = a.received }) e ∙ ap (λ r. record { sent = b.sent; received = r }) f
 
--- p after it has passed the wave up, with what process 0 keeps of the wave
-abbrev pub gone : EpochState → Bool → ℕ → EpochState
-gone p known last = record p { here = false; known = known; last_received = last }
-
 -- what a process and all processes below it have counted
 abbrev pub ours : EpochState → Counts
 ours p = record { sent = p.taken_sent + p.sent; received = p.taken_received + p.received }
@@ -36,10 +32,7 @@ module _ (n q w i : ℕ) (low : ℕ → ℕ) (g : Gifts) (x : World) (l : i < n)
       let new : EpochState = gone (x.at i) known last in
       let k : Keeps w g (with_gift i (x.at i) g) i (x.at i) new = give_keeps known last in
       record {
-        number = hold.number;
-        processes = hold.processes;
-        near = hold.near;
-        close = hold.close;
+        place = hold.place;
         floor = under;
         above = λ p e. wave_kept n w i g (with_gift i (x.at i) g) x.at new k (parent i) (hold.above p e);
         given = λ y.
@@ -47,8 +40,10 @@ module _ (n q w i : ℕ) (low : ℕ → ℕ) (g : Gifts) (x : World) (l : i < n)
               sent = rw (eq-eqb i i refl) (omega arith);
               received = rw (eq-eqb i i refl) (omega arith);
               idle = λ b e. idle;
-              left = λ m. given_kept n w i g (with_gift i (x.at i) g) x.at new k (2 * i + 1) (z.left no_left m);
-              right = λ m. given_kept n w i g (with_gift i (x.at i) g) x.at new k (2 * i + 2) (z.right no_right m);
+              gave = (
+                λ m. given_kept n w i g (with_gift i (x.at i) g) x.at new k (2 * i + 1) (z.gave.0 no_left m),
+                λ m. given_kept n w i g (with_gift i (x.at i) g) x.at new k (2 * i + 2) (z.gave.1 no_right m),
+              );
               sums =
                   rw (
                     eq-eqb i i refl,
@@ -66,16 +61,16 @@ module _ (n q w i : ℕ) (low : ℕ → ℕ) (g : Gifts) (x : World) (l : i < n)
   pub give_step : (i ≡ 0 → ⊥) → Inv n q w low (with_gift i (x.at i) g)
       (record x {
         at = put i (record (x.at i) { here = false }) x.at;
-        controls = control (x.at i) (parent (x.at i).number)
-            (Up ((x.at i).taken_sent + (x.at i).sent) ((x.at i).taken_received + (x.at i).received)) ∷ x.controls;
+        controls = control (x.at i) (parent (x.at i).number) (report_of (x.at i)) ∷ x.controls;
       })
   give_step below =
       let hold : Holds n w low g x.at i (x.at i) = v.each i l in
       let new : EpochState = gone (x.at i) (x.at i).known (x.at i).last_received in
-      let sums : Token = Up ((x.at i).taken_sent + (x.at i).sent) ((x.at i).taken_received + (x.at i).received) in
+      let post : ControlMessage = control (x.at i) (parent (x.at i).number) (report_of (x.at i)) in
+      let more : (a : ControlMessage) → Has x.controls a → Has (post ∷ x.controls) a = λ a h. has_more post a x.controls h in
       control_step n q w i low g (with_gift i (x.at i) g) x l v new (give_keeps (x.at i).known (x.at i).last_received)
-      (record { pending = refl; sent = refl; received = refl; over = refl; known = refl; last = refl })
-      (control (x.at i) (parent (x.at i).number) sums ∷ x.controls) (give_own low (x.at i).known (x.at i).last_received hold.floor)
+      (record { pending = refl; sent = refl; received = refl; over = refl; known = refl; last = refl }) (post ∷ x.controls)
+      (give_own low (x.at i).known (x.at i).last_received hold.floor)
       (λ e. absurd (below e)) (λ y. (rw (eq-eqb i i refl) hold.floor, rw (eq-eqb i i refl)))
       (λ t. (
         (
@@ -95,38 +90,32 @@ module _ (n q w i : ℕ) (low : ℕ → ℕ) (g : Gifts) (x : World) (l : i < n)
               (hold.above (omega (arith, below)) (hold.here there).wave)),
         ),
         t,
-      )) (λ a h. has_more (control (x.at i) (parent (x.at i).number) sums) a x.controls h)
+      )) more
       (record {
-        down_left = λ f. absurd (cc f);
-        down_right = λ f. absurd (cc f);
+        down = λ f. absurd (cc f);
         up = λ a b k f. (
           (x.at i).taken_sent + (x.at i).sent,
           (x.at i).taken_received + (x.at i).received,
           record { which = 0; there = rw (hold.number, hold.processes, (hold.here there).wave) },
         );
-        over_left = λ f e m. let z = (v.posts i l).over_left f e m in (z.0, has_more _ _ x.controls z.1);
-        over_right = λ f e m. let z = (v.posts i l).over_right f e m in (z.0, has_more _ _ x.controls z.1);
+        over = (posts_more n w x.controls (post ∷ x.controls) i (x.at i) more (v.posts i l)).over;
       })
 
 -- If the children of process 0 have passed the wave up, all processes below have.
-given_below : (n q w : ℕ) (low : ℕ → ℕ) (g : Gifts) (x : World) → Inv n q w low g x
-    → ((c : ℕ) → c < n → (c ≡ 1) ⊎ (c ≡ 2) → HasGiven w (x.at c)) → (b j : ℕ) → j < b → 0 < j → j < n → HasGiven w (x.at j)
+given_below : (n q w : ℕ) (low : ℕ → ℕ) (g : Gifts) (x : World) → Inv n q w low g x → ChildrenGave n w x.at 0
+    → (b j : ℕ) → j < b → 0 < j → j < n → HasGiven w (x.at j)
 given_below n q w low g x v top zero j k p m = absurd (omega arith)
 given_below n q w low g x v top (suc b) j k p m =
     let above : ℕ = parent j in
-    elim (cases_eq above 0) [
-      | inl e ↦
-          let small : j < 3 = omega (arith, e) in
-          elim (cases_eq j 1) [ inl one ↦ top j m (inl one) | inr other ↦ top j m (inr (omega (arith, small, p, other))) ]
+    let kids : ChildrenGave n w x.at above = elim (cases_eq above 0) [
+      | inl e ↦ subst (ChildrenGave n w x.at) (sym e) top
       | inr off ↦
           let up : HasGiven w (x.at above) = given_below n q w low g x v top b above (omega arith) (omega (arith, off)) (omega arith) in
-          let z : Visited n w g x.at above (x.at above) = (v.each above (omega arith)).given up in
-          elim (cases_eq j (2 * above + 1)) [
-            | inl e ↦ rw e (z.left (omega (arith, e)))
-            | inr other ↦
-                let e : j ≡ 2 * above + 2 = omega (arith, other) in
-                rw e (z.right (omega (arith, e)))
-          ]
+          let z : Visited n w g x.at above (x.at above) = (v.each above (omega arith)).given up in z.gave
+    ] in
+    elim (cases_eq j (2 * above + 1)) [
+      | inl e ↦ rw e (kids.0 (omega (arith, e)))
+      | inr other ↦ let e : j ≡ 2 * above + 2 = omega (arith, other) in rw e (kids.1 (omega (arith, e)))
     ]
 
 -- The wave ends at process 0: it is idle, and its children have reported.
@@ -135,11 +124,7 @@ module _ (n q w : ℕ) (low : ℕ → ℕ) (g : Gifts) (x : World) (l : 0 < n) (
   pub all_given : (j : ℕ) → 0 < j → j < n → HasGiven w (x.at j)
   all_given j p m =
       let z : Here n w g x.at 0 (x.at 0) = (v.each 0 l).here there in
-      given_below n q w low g x v
-      (λ c less e. elim e [
-        | inl one ↦ rw one (z.left no_left (omega (arith, one)))
-        | inr two ↦ rw two (z.right no_right (omega (arith, two)))
-      ]) (suc j) j (omega arith) p m
+      given_below n q w low g x v (z.gave.0 no_left, z.gave.1 no_right) (suc j) j (omega arith) p m
 
   -- process 0 after the judgement, if the end was not detected
   abbrev judged : EpochState
@@ -263,13 +248,7 @@ module _ (n q w : ℕ) (low : ℕ → ℕ) (g : Gifts) (x : World) (l : 0 < n) (
         posts = λ j m.
             put_holds (λ j z. Posts n w x.controls j z) 0 j judged x.at (λ e.
             rw e
-            (record {
-              down_left = λ f. absurd (cc f);
-              down_right = λ f. absurd (cc f);
-              up = λ a. absurd (omega (arith, a));
-              over_left = (v.posts 0 l).over_left;
-              over_right = (v.posts 0 l).over_right;
-            }))
+            (record { down = λ f. absurd (cc f); up = λ a. absurd (omega (arith, a)); over = (v.posts 0 l).over }))
             (λ off. v.posts j m);
         small = λ j m. put_keeps IsSmall 0 j judged x.at (λ o. o) (v.small j m);
       }
@@ -282,10 +261,7 @@ module _ (n q w : ℕ) (low : ℕ → ℕ) (g : Gifts) (x : World) (l : 0 < n) (
       let z : Visited n w g x.at 0 (x.at 0) = (v.each 0 l).given top in
       elim (cases_eq j 0) [
         | inl e ↦ rw e top
-        | inr off ↦
-            given_below n q w low g x v
-            (λ c less e. elim e [ inl one ↦ rw one (z.left (omega (arith, one))) | inr two ↦ rw two (z.right (omega (arith, two))) ])
-            (suc j) j (omega arith) (omega (arith, off)) m
+        | inr off ↦ given_below n q w low g x v z.gave (suc j) j (omega arith) (omega (arith, off)) m
       ]
 
   later_known : (ls : List ControlMessage) (y : World) → (Finished n w x → Finished n (w + 1) y)
@@ -321,10 +297,12 @@ module _ (n q w : ℕ) (low : ℕ → ℕ) (g : Gifts) (x : World) (l : 0 < n) (
         each = λ j m.
             put_holds (λ j z. j < n → Holds n (w + 1) low g (put 0 new x.at) j z) 0 j new x.at (λ e m.
             record {
-              number = hold.number ∙ sym e;
-              processes = hold.processes;
-              near = omega (arith, next);
-              close = omega (arith, next);
+              place = record {
+                number = hold.number ∙ sym e;
+                processes = hold.processes;
+                near = omega (arith, next);
+                close = omega (arith, next);
+              };
               floor = rw e hold.floor;
               above = λ p f. absurd (omega (arith, p, e));
               given = λ k. absurd (cc k.gone);
@@ -335,12 +313,11 @@ module _ (n q w : ℕ) (low : ℕ → ℕ) (g : Gifts) (x : World) (l : 0 < n) (
             })
             (λ off m.
             let k : HasGiven w (x.at j) = given_before j m in
+            let h : Holds n w low g x.at j (x.at j) = v.each j m in
             record {
-              number = (v.each j m).number;
-              processes = (v.each j m).processes;
-              near = omega (arith, k.wave);
-              close = omega (arith, k.wave);
-              floor = (v.each j m).floor;
+              place =
+                  record { number = h.number; processes = h.processes; near = omega (arith, k.wave); close = omega (arith, k.wave) };
+              floor = h.floor;
               above = λ p f. absurd (omega (arith, f, k.wave));
               given = λ z. absurd (omega (arith, z.wave, k.wave));
               here = λ f. absurd (cc (f, k.gone));
@@ -370,20 +347,16 @@ module _ (n q w : ℕ) (low : ℕ → ℕ) (g : Gifts) (x : World) (l : 0 < n) (
             put_holds (λ j z. Posts n (w + 1) x.controls j z) 0 j new x.at (λ e.
             rw e
             (record {
-              down_left = λ f e m. no_child n 0 1 (x.at 0) hold.number hold.processes e m;
-              down_right = λ f e m. no_child n 0 2 (x.at 0) hold.number hold.processes e m;
+              down = λ f. no_child n 0 (x.at 0) (λ c. Has x.controls (control_of n 0 c (w + 1) Down)) hold.number hold.processes;
               up = λ a. absurd (omega (arith, a));
-              over_left = (v.posts 0 l).over_left;
-              over_right = (v.posts 0 l).over_right;
+              over = (v.posts 0 l).over;
             }))
             (λ off.
             let k : HasGiven w (x.at j) = given_before j m in
             record {
-              down_left = λ f. absurd (cc (f, k.gone));
-              down_right = λ f. absurd (cc (f, k.gone));
+              down = λ f. absurd (cc (f, k.gone));
               up = λ a b z f. absurd (omega (arith, z, k.wave));
-              over_left = (v.posts j m).over_left;
-              over_right = (v.posts j m).over_right;
+              over = (v.posts j m).over;
             });
         small = λ j m. put_keeps IsSmall 0 j new x.at (λ o. o) (v.small j m);
       }

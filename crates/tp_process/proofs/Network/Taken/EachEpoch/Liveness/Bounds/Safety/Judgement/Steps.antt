@@ -24,6 +24,14 @@ pub record CanGive (p : EpochState) : Type 0 where
   pub right : p.up_right ≡ false
   pub idle : p.pending ≡ 0
 
+-- p after it has passed the wave up, with what process 0 keeps of the wave
+abbrev pub gone : EpochState → Bool → ℕ → EpochState
+gone p known last = record p { here = false; known = known; last_received = last }
+
+-- the sums that p reports to its parent
+abbrev pub report_of : EpochState → Token
+report_of p = Up (p.taken_sent + p.sent) (p.taken_received + p.received)
+
 pub acts_cases : (p : EpochState) (P : Move → Type 0)
     → (p.over ≡ true → p.over_left ≡ true → P (record { state = record p { over_left = false }; next = Send (control p (left_of p) Over) }))
     → (p.over ≡ true → p.over_right ≡ true
@@ -34,14 +42,10 @@ pub acts_cases : (p : EpochState) (P : Move → Type 0)
     → (p.over ≡ false → p.here ≡ true → p.down_right ≡ true
     → P (record { state = record p { down_right = false }; next = Send (control p (right_of p) Down) }))
     → (CanGive p → eqb p.number 0 ≡ true → is_end p ≡ true → P (record { state = ends p; next = Again }))
-    → (CanGive p → eqb p.number 0 ≡ true → is_end p ≡ false → P (record {
-      state = record p { here = false; known = true; last_received = p.taken_received + p.received };
-      next = Again;
-    }))
-    → (CanGive p → eqb p.number 0 ≡ false → P (record {
-      state = record p { here = false };
-      next = Send (control p (parent p.number) (Up (p.taken_sent + p.sent) (p.taken_received + p.received)));
-    }))
+    → (CanGive p → eqb p.number 0 ≡ true → is_end p ≡ false
+    → P (record { state = gone p true (p.taken_received + p.received); next = Again }))
+    → (CanGive p → eqb p.number 0 ≡ false
+    → P (record { state = record p { here = false }; next = Send (control p (parent p.number) (report_of p)) }))
     → (p.over ≡ false → P (record { state = p; next = Nothing })) → P (acts p)
 acts_cases p P tell_left tell_right told down_left down_right judge_end judge_on give none =
     cond_both p.over _ _ P (λ o.
@@ -252,18 +256,27 @@ opens_here n w i low g at p number processes begun beyond =
     record {
       begun = begun;
       wave = refl;
-      left_there = λ f. omega (arith, ltb-true (2 * p.number + 1) p.processes f, number, processes);
-      right_there = λ f. omega (arith, ltb-true (2 * p.number + 2) p.processes f, number, processes);
-      left = λ f m. absurd (omega (arith, l f));
-      right = λ f m. absurd (omega (arith, r f));
+      there = (
+        λ f. omega (arith, ltb-true (2 * p.number + 1) p.processes f, number, processes),
+        λ f. omega (arith, ltb-true (2 * p.number + 2) p.processes f, number, processes),
+      );
+      gave = (λ f m. absurd (omega (arith, l f)), λ f m. absurd (omega (arith, r f)));
       sent = omega (arith, a.0, b.0);
       received = omega (arith, a.1, b.1);
     }
 
--- A process owes a control message to each of its children.
-pub no_child : {P : Type 0} (n i c : ℕ) (p : EpochState) → p.number ≡ i → p.processes ≡ n → ltb (2 * p.number + c) p.processes ≡ false
-    → 2 * i + c < n → P
-no_child n i c p number processes f m = absurd (omega (arith, ltb-false (2 * p.number + c) p.processes f, number, processes))
+-- A child whose flag a new wave, or the end, does not set is none of the n processes: anything holds of it.
+pub no_child : (n i : ℕ) (p : EpochState) (P : ℕ → Type 0) → p.number ≡ i → p.processes ≡ n
+    → EachChild n i (has p (left_of p)) (has p (right_of p)) P
+no_child n i p P number processes = (
+  λ f m. absurd (omega (arith, ltb-false (2 * p.number + 1) p.processes f, number, processes)),
+  λ f m. absurd (omega (arith, ltb-false (2 * p.number + 2) p.processes f, number, processes)),
+)
+
+-- p with the sums of a child; left and right say which children have not reported
+abbrev summed : ℕ → ℕ → Bool → Bool → EpochState → EpochState
+summed s r left right p =
+    record p { taken_sent = p.taken_sent + s; taken_received = p.taken_received + r; up_left = left; up_right = right }
 
 module _ (n q w i : ℕ) (low : ℕ → ℕ) (g : Gifts) (x : World) (l : i < n) (v : Inv n q w low g x) where
   -- A wave comes down.
@@ -277,10 +290,7 @@ module _ (n q w i : ℕ) (low : ℕ → ℕ) (g : Gifts) (x : World) (l : i < n)
       same_reports w i g (x.at i) new (λ e. newest) (λ y. absurd (omega (arith, y.wave, newest, next))) in
       let old : Holds n w low g x.at i new =
       record {
-        number = hold.number;
-        processes = hold.processes;
-        near = near;
-        close = omega (arith, newest);
+        place = record { number = hold.number; processes = hold.processes; near = near; close = omega (arith, newest) };
         floor = hold.floor;
         above = λ p e. above p;
         given = λ y. absurd (cc y.gone);
@@ -292,41 +302,22 @@ module _ (n q w i : ℕ) (low : ℕ → ℕ) (g : Gifts) (x : World) (l : i < n)
       (λ e. absurd (omega (arith, subst (λ z. (x.at z).wave ≡ w) (sym e) v.root.wave, newest, next))) (λ y. absurd (cc y.gone)) (λ t. t)
       (λ a h. h)
       (record {
-        down_left = λ f e m. no_child n i 1 (x.at i) hold.number hold.processes e m;
-        down_right = λ f e m. no_child n i 2 (x.at i) hold.number hold.processes e m;
+        down = λ f. no_child n i (x.at i) (λ c. Has x.controls (control_of n i c w Down)) hold.number hold.processes;
         up = λ a b k f. absurd (cc f);
-        over_left = (v.posts i l).over_left;
-        over_right = (v.posts i l).over_right;
+        over = (v.posts i l).over;
       })
 
   -- A child's sums come up.
   child_step : (s r : ℕ) (left right : Bool) → (Settled (x.at i) → SettledBy (x.at i).over left right) → (x.at i).here ≡ true
-      → Here n w g x.at i (record (x.at i) {
-        taken_sent = (x.at i).taken_sent + s;
-        taken_received = (x.at i).taken_received + r;
-        up_left = left;
-        up_right = right;
-      })
-      → Inv n q w low g (record x {
-        at = put i (record (x.at i) {
-          taken_sent = (x.at i).taken_sent + s;
-          taken_received = (x.at i).taken_received + r;
-          up_left = left;
-          up_right = right;
-        }) x.at;
-      })
+      → Here n w g x.at i (summed s r left right (x.at i)) → Inv n q w low g (record x { at = put i (summed s r left right (x.at i)) x.at })
   child_step s r left right settled there here =
       let p : EpochState = x.at i in
       let hold : Holds n w low g x.at i p = v.each i l in
-      let new : EpochState =
-      record p { taken_sent = p.taken_sent + s; taken_received = p.taken_received + r; up_left = left; up_right = right } in
+      let new : EpochState = summed s r left right p in
       let k : Keeps w g g i p new = same_reports w i g p new (λ e. e) (λ y. y) in
       let old : Holds n w low g x.at i new =
       record {
-        number = hold.number;
-        processes = hold.processes;
-        near = hold.near;
-        close = hold.close;
+        place = hold.place;
         floor = hold.floor;
         above = hold.above;
         given = λ y. absurd (cc (y.gone, there));
@@ -346,10 +337,8 @@ module _ (n q w i : ℕ) (low : ℕ → ℕ) (g : Gifts) (x : World) (l : i < n)
       (record {
         begun = z.begun;
         wave = z.wave;
-        left_there = λ f. absurd (cc f);
-        right_there = z.right_there;
-        left = λ f m. t.given;
-        right = z.right;
+        there = (λ f. absurd (cc f), z.there.1);
+        gave = (λ f m. t.given, z.gave.1);
         sent = omega (arith, rw waits at z.sent, t.sent);
         received = omega (arith, rw waits at z.received, t.received);
       })
@@ -362,33 +351,32 @@ module _ (n q w i : ℕ) (low : ℕ → ℕ) (g : Gifts) (x : World) (l : i < n)
       (record {
         begun = z.begun;
         wave = z.wave;
-        left_there = z.left_there;
-        right_there = λ f. absurd (cc f);
-        left = z.left;
-        right = λ f m. t.given;
+        there = (z.there.0, λ f. absurd (cc f));
+        gave = (z.gave.0, λ f m. t.given);
         sent = omega (arith, rw waits at z.sent, t.sent);
         received = omega (arith, rw waits at z.received, t.received);
       })
 
 -- ==== Work and messages at a process.
+-- p with other counters
+abbrev pub recount : ℕ → ℕ → ℕ → EpochState → EpochState
+recount a s r p = record p { pending = a; sent = s; received = r }
+
 module _ (n q i : ℕ) (x : World) (l : i < n) (v : Good n q x) where
   -- The counters change; wave c is the wave of the last message.
   count : (c a s r : ℕ) (under : ℕ → ℕ) → (x.at i).sent ≤ s → (x.at i).received ≤ r → ((x.at i).received ≡ r → (x.at i).pending ≡ 0 → a ≡ 0)
-      → (total n (λ j. (put i (record (x.at i) { pending = a; sent = s; received = r }) x.at j).sent)
-      ≡ total n (λ j. (put i (record (x.at i) { pending = a; sent = s; received = r }) x.at j).received) + total n under)
-      → (IsQuiet n x → IsQuiet n (changed i (record (x.at i) { pending = a; sent = s; received = r }) under x.controls x))
-      → Pace n c v.wave v.gifts (changed i (record (x.at i) { pending = a; sent = s; received = r }) under x.controls x)
+      → (total n (λ j. (put i (recount a s r (x.at i)) x.at j).sent)
+      ≡ total n (λ j. (put i (recount a s r (x.at i)) x.at j).received) + total n under)
+      → (IsQuiet n x → IsQuiet n (changed i (recount a s r (x.at i)) under x.controls x))
+      → Pace n c v.wave v.gifts (changed i (recount a s r (x.at i)) under x.controls x)
       → s ≤ LIMIT → r ≤ LIMIT
-      → Good n c (record x { at = put i (record (x.at i) { pending = a; sent = s; received = r }) x.at; under_way = under })
+      → Good n c (record x { at = put i (recount a s r (x.at i)) x.at; under_way = under })
   count c a s r under more_sent more_received idle balance quiet pace small_sent small_received =
-      let new : EpochState = record (x.at i) { pending = a; sent = s; received = r } in
+      let new : EpochState = recount a s r (x.at i) in
       let hold : Holds n v.wave v.floor v.gifts x.at i (x.at i) = v.inv.each i l in
       let own : Holds n v.wave v.floor v.gifts x.at i new =
       record {
-        number = hold.number;
-        processes = hold.processes;
-        near = hold.near;
-        close = hold.close;
+        place = hold.place;
         floor = omega (arith, hold.floor, more_sent);
         above = hold.above;
         given = λ k.
@@ -399,8 +387,7 @@ module _ (n q i : ℕ) (x : World) (l : i < n) (v : Good n q x) where
               idle = λ b e.
                   let same : (x.at i).received ≡ r = omega (arith, z.received, more_received, e) in
                   idle same (z.idle b (omega (arith, e, same)));
-              left = z.left;
-              right = z.right;
+              gave = z.gave;
               sums = z.sums;
             };
         here = hold.here;

@@ -95,13 +95,20 @@ pub record GivenBy (w newest : ℕ) (there : Bool) : Type 0 where
 abbrev pub HasGiven : ℕ → EpochState → Type 0
 HasGiven w p = GivenBy w p.wave p.here
 
+-- The children of process i have passed wave w up.
+abbrev pub ChildrenGave : ℕ → ℕ → (ℕ → EpochState) → ℕ → Type 0
+ChildrenGave n w at i = (2 * i + 1 < n → HasGiven w (at (2 * i + 1))) × (2 * i + 2 < n → HasGiven w (at (2 * i + 2)))
+
+-- P holds of each child of process i whose flag, left or right, is not set.
+abbrev pub EachChild : ℕ → ℕ → Bool → Bool → (ℕ → Type 0) → Type 0
+EachChild n i left right P = (left ≡ false → 2 * i + 1 < n → P (2 * i + 1)) × (right ≡ false → 2 * i + 2 < n → P (2 * i + 2))
+
 -- what holds of a process that has passed wave w up
 pub record VisitedBy (n w : ℕ) (g : Gifts) (at : ℕ → EpochState) (i a s r : ℕ) : Type 0 where
   pub sent : (g.own i).sent ≤ s
   pub received : (g.own i).received ≤ r
   pub idle : 0 < w → (g.own i).received ≡ r → a ≡ 0
-  pub left : 2 * i + 1 < n → HasGiven w (at (2 * i + 1))
-  pub right : 2 * i + 2 < n → HasGiven w (at (2 * i + 2))
+  pub gave : ChildrenGave n w at i
   pub sums : g.all i ≡ plus (g.own i) (plus (g.all (2 * i + 1)) (g.all (2 * i + 2)))
 
 abbrev pub Visited : ℕ → ℕ → Gifts → (ℕ → EpochState) → ℕ → EpochState → Type 0
@@ -115,24 +122,27 @@ taken waits given = cond waits 0 given
 pub record HereBy (n w : ℕ) (g : Gifts) (at : ℕ → EpochState) (i newest s r : ℕ) (ul ur : Bool) : Type 0 where
   pub begun : 0 < w
   pub wave : newest ≡ w
-  pub left_there : ul ≡ true → 2 * i + 1 < n
-  pub right_there : ur ≡ true → 2 * i + 2 < n
-  pub left : ul ≡ false → 2 * i + 1 < n → HasGiven w (at (2 * i + 1))
-  pub right : ur ≡ false → 2 * i + 2 < n → HasGiven w (at (2 * i + 2))
+  pub there : (ul ≡ true → 2 * i + 1 < n) × (ur ≡ true → 2 * i + 2 < n)
+  pub gave : EachChild n i ul ur (λ c. HasGiven w (at c))
   pub sent : s ≡ taken ul (g.all (2 * i + 1)).sent + taken ur (g.all (2 * i + 2)).sent
   pub received : r ≡ taken ul (g.all (2 * i + 1)).received + taken ur (g.all (2 * i + 2)).received
 
 abbrev pub Here : ℕ → ℕ → Gifts → (ℕ → EpochState) → ℕ → EpochState → Type 0
 Here n w g at i p = HereBy n w g at i p.wave p.taken_sent p.taken_received p.up_left p.up_right
 
--- what holds of process i, if w is the newest wave and process i had sent `low i` messages when the wave before it
--- ended
-pub record HoldsBy (n w : ℕ) (low : ℕ → ℕ) (g : Gifts) (at : ℕ → EpochState) (i m c a s r newest ts tr : ℕ)
-    (there ul ur : Bool) : Type 0 where
+-- Process i is one of n processes, and its newest wave is w or the wave before.
+pub record PlaceBy (n w i m c newest : ℕ) : Type 0 where
   pub number : m ≡ i
   pub processes : c ≡ n
   pub near : newest ≤ w
   pub close : w ≤ newest + 1
+
+-- what holds of process i, if w is the newest wave and process i had sent `low i` messages when the wave before it
+-- ended
+pub record HoldsBy (n w : ℕ) (low : ℕ → ℕ) (g : Gifts) (at : ℕ → EpochState) (i m c a s r newest ts tr : ℕ)
+    (there ul ur : Bool) : Type 0 where
+  pub place : PlaceBy n w i m c newest
+  pub open place use *
   pub floor : low i ≤ s
   pub above : 0 < i → newest ≡ w → (at (parent i)).wave ≡ w
   pub given : GivenBy w newest there → VisitedBy n w g at i a s r
@@ -173,11 +183,9 @@ control_of n from to w token = record { from = from; to = to; wave = w; processe
 
 -- Process i has sent every control message that it no longer owes.
 pub record PostsBy (n w : ℕ) (ls : List ControlMessage) (i newest : ℕ) (there dl dr told ol or : Bool) : Type 0 where
-  pub down_left : there ≡ true → dl ≡ false → 2 * i + 1 < n → Has ls (control_of n i (2 * i + 1) w Down)
-  pub down_right : there ≡ true → dr ≡ false → 2 * i + 2 < n → Has ls (control_of n i (2 * i + 2) w Down)
+  pub down : there ≡ true → EachChild n i dl dr (λ c. Has ls (control_of n i c w Down))
   pub up : 0 < i → 0 < w → newest ≡ w → there ≡ false → (s : ℕ) × (r : ℕ) × Has ls (control_of n i (parent i) w (Up s r))
-  pub over_left : told ≡ true → ol ≡ false → 2 * i + 1 < n → (u : ℕ) × Has ls (control_of n i (2 * i + 1) u Over)
-  pub over_right : told ≡ true → or ≡ false → 2 * i + 2 < n → (u : ℕ) × Has ls (control_of n i (2 * i + 2) u Over)
+  pub over : told ≡ true → EachChild n i ol or (λ c. (u : ℕ) × Has ls (control_of n i c u Over))
 
 abbrev pub Posts : ℕ → ℕ → List ControlMessage → ℕ → EpochState → Type 0
 Posts n w ls i p = PostsBy n w ls i p.wave p.here p.down_left p.down_right p.over p.over_left p.over_right
@@ -279,7 +287,7 @@ ones (suc n) = omega (arith, ones n)
 pub size_all : (n : ℕ) → size n 0 ≡ n
 size_all n = sym (tree_sum n (λ i. 1) (size n) (size_at n) (size_past n)) ∙ ones n
 
-size_below : (n b i : ℕ) → i < b → i < n → size n i ≤ n
+pub size_below : (n b i : ℕ) → i < b → i < n → size n i ≤ n
 size_below n zero i m l = absurd (omega arith)
 size_below n (suc b) i m l =
     elim (cases_eq i 0) [
@@ -294,9 +302,6 @@ size_below n (suc b) i m l =
             | inr other ↦ let e : i ≡ 2 * above + 2 = omega (arith, other, off) in rw e (omega (arith, sum, up))
           ]
     ]
-
-pub size-le : (n i : ℕ) → i < n → size n i ≤ n
-size-le n i l = size_below n (suc i) i (omega arith) l
 
 -- What a process reported is at most what all processes in its subtree can have counted.
 pub record IsSmallGift (n c : ℕ) (g : Gifts) : Type 0 where
@@ -313,8 +318,8 @@ module _ (n q w : ℕ) (low : ℕ → ℕ) (g : Gifts) (x : World) (v : Inv n q 
       let z : Visited n w g x.at k (x.at k) = (v.each k l).given h in
       let child : (c : ℕ) → n ≤ c + b → (c < n → HasGiven w (x.at c)) → IsSmallGift n c g
       = λ c near h. elim (cases_lt c n) [ inl m ↦ given_small b c near m (h m) | inr past ↦ past_small c past ] in
-      let left : IsSmallGift n (2 * k + 1) g = child (2 * k + 1) (omega (arith, near)) z.left in
-      let right : IsSmallGift n (2 * k + 2) g = child (2 * k + 2) (omega (arith, near)) z.right in
+      let left : IsSmallGift n (2 * k + 1) g = child (2 * k + 1) (omega (arith, near)) z.gave.0 in
+      let right : IsSmallGift n (2 * k + 2) g = child (2 * k + 2) (omega (arith, near)) z.gave.1 in
       record {
         sent =
             omega (arith, ap (λ z. z.sent) z.sums, z.sent, (v.small k l).sent, left.sent, right.sent, size_at n k l);
@@ -368,24 +373,21 @@ module _ (n w i : ℕ) (g h : Gifts) (at : ℕ → EpochState) (p : EpochState) 
           sent = rw own v.sent;
           received = rw own v.received;
           idle = rw own v.idle;
-          left = λ m. given_kept (2 * j + 1) (v.left m);
-          right = λ m. given_kept (2 * j + 2) (v.right m);
-          sums = rw (own, all, child_kept (2 * j + 1) v.left, child_kept (2 * j + 2) v.right) v.sums;
+          gave = (λ m. given_kept (2 * j + 1) (v.gave.0 m), λ m. given_kept (2 * j + 2) (v.gave.1 m));
+          sums = rw (own, all, child_kept (2 * j + 1) v.gave.0, child_kept (2 * j + 2) v.gave.1) v.sums;
         }
 
     pub here_kept : (j : ℕ) (q : EpochState) → Here n w g at j q → Here n w h (put i p at) j q
     here_kept j q v =
         let left : (of : Counts → ℕ) → taken q.up_left (of (h.all (2 * j + 1))) ≡ taken q.up_left (of (g.all (2 * j + 1)))
-        = λ of. taken_same of (2 * j + 1) q.up_left v.left in
+        = λ of. taken_same of (2 * j + 1) q.up_left v.gave.0 in
         let right : (of : Counts → ℕ) → taken q.up_right (of (h.all (2 * j + 2))) ≡ taken q.up_right (of (g.all (2 * j + 2)))
-        = λ of. taken_same of (2 * j + 2) q.up_right v.right in
+        = λ of. taken_same of (2 * j + 2) q.up_right v.gave.1 in
         record {
           begun = v.begun;
           wave = v.wave;
-          left_there = v.left_there;
-          right_there = v.right_there;
-          left = λ f m. given_kept (2 * j + 1) (v.left f m);
-          right = λ f m. given_kept (2 * j + 2) (v.right f m);
+          there = v.there;
+          gave = (λ f m. given_kept (2 * j + 1) (v.gave.0 f m), λ f m. given_kept (2 * j + 2) (v.gave.1 f m));
           sent = omega (arith, v.sent, left (λ z. z.sent), right (λ z. z.sent));
           received = omega (arith, v.received, left (λ z. z.received), right (λ z. z.received));
         }
@@ -395,10 +397,7 @@ module _ (n w i : ℕ) (g h : Gifts) (at : ℕ → EpochState) (p : EpochState) 
         → roof j ≤ q.sent → Holds n w low g at j q → Holds n w roof h (put i p at) j q
     holds_kept low roof j q same under v =
         record {
-          number = v.number;
-          processes = v.processes;
-          near = v.near;
-          close = v.close;
+          place = v.place;
           floor = under;
           above = λ p e. wave_kept (parent j) (v.above p e);
           given = λ x. visited_kept j q (same x).0 (same x).1 (v.given x);
@@ -439,11 +438,12 @@ pub posts_more : (n w : ℕ) (ls more : List ControlMessage) (i : ℕ) (p : Epoc
     → Posts n w ls i p → Posts n w more i p
 posts_more n w ls more i p grow v =
     record {
-      down_left = λ f e m. grow _ (v.down_left f e m);
-      down_right = λ f e m. grow _ (v.down_right f e m);
+      down = λ f. (λ e m. grow _ ((v.down f).0 e m), λ e m. grow _ ((v.down f).1 e m));
       up = λ a b k f. let z = v.up a b k f in (z.0, z.1, grow _ z.2);
-      over_left = λ f e m. let z = v.over_left f e m in (z.0, grow _ z.1);
-      over_right = λ f e m. let z = v.over_right f e m in (z.0, grow _ z.1);
+      over = λ f. (
+        λ e m. let z = (v.over f).0 e m in (z.0, grow _ z.1),
+        λ e m. let z = (v.over f).1 e m in (z.0, grow _ z.1),
+      );
     }
 
 -- ==== Steps that change one process and send and receive no message preserve `Pace`.

@@ -17,8 +17,8 @@ pub use Rattle.tp_process.specs.Calls.{can_start, moved, do_fit, left_of, right_
 pub use Rattle.tp_process.specs.Calls.{is_right, is_due, blank, is_for}
 pub use Rattle.tp_process.specs.Epochs.{Epochs, EpochEvent, In, Reopens, IsEpoch, IsOver, with_state, has_notified, can_reopen, reopened}
 pub use Rattle.tp_process.specs.Epochs.{is_in_epoch, is_receiver_in_epoch, is_current, world_of, with_world, epochs_after, events_of}
-pub use Rattle.tp_process.specs.Epochs.{EpochLaw, NeverEarlyEpochLaw, LeftEpochLaw, NearLaw, NoneLateLaw, MessageLaw, AheadLaw, received_in}
-pub use Rattle.tp_process.specs.Epochs.{took_in, advance, CallsLaw, LagsLaw, is_progress, GoesOnEpochLaw, progress_count, SoonEpochLaw}
+pub use Rattle.tp_process.specs.Epochs.{EpochLaw, NeverEarlyEpochLaw, LeftEpochLaw, NearLaw, NoneLateLaw, MessageLaw, AheadLaw}
+pub use Rattle.tp_process.specs.Epochs.{advance, CallsLaw, LagsLaw, is_progress, GoesOnEpochLaw, progress_count, SoonEpochLaw}
 pub use Rattle.tp_process.specs.Epochs.{FewWavesEpochLaw, OnceEpochLaw, ControlMessagesEpochLaw, is_taken_in}
 pub use Rattle.tp_process.specs.Network.{HandedLaw, AllEndLaw, Carried, IsStill, Network, NetworkEvent, Acts, Restarts, Arrives, arrived}
 pub use Rattle.tp_process.specs.Network.{carried_after, carried_at, handed, is_early, network, network_step, with_sent, without}
