@@ -157,23 +157,28 @@ fn is_left_by_a_body(stop: &Stop) -> bool {
     has_failed && stop.refusal == Refusal::BodyFailed && stop.pending > 0 && !stop.ended
 }
 
-// Task 9i + 3j + k multiplies entry (i, k) of the left matrix by entry (k, j) of the right one, and adds what the task
-// before it computed, if k is not 0. In the first product only task 5 multiplies two numbers that are not 0. In the
-// second each task with k = 0 fails, and no other begins.
-#[test]
-fn the_task_whose_body_fails_is_named(rt: HostRuntime) {
+/// Whether the body that fails is named in two products with a configuration.
+///
+/// Task 9i + 3j + k multiplies entry (i, k) of the left matrix by entry (k, j) of the right one, and adds what the task
+/// before it computed, if k is not 0. In the first product only task 5 multiplies two numbers that are not 0. In the
+/// second each task with k = 0 fails, and no other begins.
+fn are_named<R: Threads + Wait + Sync>(rt: &R, alloc: Global, config: Config) -> bool
+    requires { IsWithinLimits config }
+{
     let left = [0, 0, i64::MAX, 0, 0, 0, 0, 0, 0];
     let right = [0, 0, 0, 0, 0, 0, 0, 2, 0];
-    let alloc = rt.alloc();
+    let one = stop_of_product(rt, alloc, &left, &right, config);
+    let some = stop_of_product(rt, alloc, &[i64::MAX; 9], &[2; 9], config);
+    let named = one.and_then(|one| one.failed);
+    named == Some(TaskId(5)) && some.is_some_and(|some| is_left_by_a_body(&some))
+}
+
+#[test]
+fn the_task_whose_body_fails_is_named(rt: HostRuntime) {
     for nodes in [1, 2, 8] {
         for workers in [1, 8] {
-            let config = Config::new(nodes, workers);
-            let one = stop_of_product(&rt, alloc, &left, &right, config);
-            let named = one.and_then(|one| one.failed);
-            assert_eq!(rt; named, Some(TaskId(5)), "{nodes} by {workers}");
-            let some = stop_of_product(&rt, alloc, &[i64::MAX; 9], &[2; 9], config);
-            let is_left = some.is_some_and(|some| is_left_by_a_body(&some));
-            assert!(rt; is_left, "{nodes} by {workers}");
+            let are_named = are_named(&rt, rt.alloc(), Config::new(nodes, workers));
+            assert!(rt; are_named, "{nodes} by {workers}");
         }
     }
 }
