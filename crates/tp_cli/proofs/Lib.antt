@@ -1,1 +1,10 @@
-pub mod Lemmas
+pub mod Asked
+pub mod Counted
+pub mod Ending
+pub mod Keeping
+pub mod Printed
+pub mod Ranked
+pub mod Rounds
+pub mod Settling
+pub mod Several
+pub mod Terminals

@@ -1,6 +1,6 @@
 -- What each exit status says of the arguments, the input and the output, and for which faults there is no output. The reader and
 -- the writer are seen by their bytes before and after.
-use Rattle.std.specs.Prelude.{ℕ, ◌≡◌, ◌⊎◌, Bool, true, false, List, Option}
+use Rattle.std.specs.Prelude.{ℕ, ◌⊎◌, Bool, true, false, List, Option}
 use Rattle.std.specs.Io.KnownBytes.{Appends}
 use Rattle.clap.specs.Words.{Text}
 use Rattle.tp_base.specs.declared.refusal.Refusal.{Refusal}
@@ -15,7 +15,7 @@ use Rattle.tp_cli.specs.declared.fault.RunFault.{RunFault}
 use Rattle.tp_cli.specs.declared.run.Form.{Form}
 use Rattle.tp_cli.specs.declared.text.TextKind.{TextKind}
 use Rattle.tp_shell.specs.Command.{AsksToBeShown, IsWordsFault}
-use Rattle.tp_shell.specs.Streams.{HasShown, MayExplain}
+use Rattle.tp_shell.specs.Streams.{HasShown}
 use Rattle.tp_shell.specs.declared.status.Status.{Status}
 use Rattle.tp_shell.specs.declared.status.Status.TheVariants as statuses
 use Rattle.tp_shell.specs.declared.words.WordsFault.TheVariants.{Write}
@@ -76,11 +76,6 @@ HasAnswered words read_old read_new written_old written_new statuses.Fault = ⊥
 HasAnswered words read_old read_new written_old written_new statuses.Refused =
     RefusedText words read_old read_new written_old written_new
 HasAnswered words read_old read_new written_old written_new statuses.Failed = RefusedPool words written_old written_new
-
--- If the program ended without a fault, the reason may be printed if it is that of a refused text.
-abbrev pub IsAnswerExplained : {D : Type 0} → (D → List ℕ → D → Type 0) → Status → D → D → Type 0
-IsAnswerExplained tells statuses.Refused old new = MayExplain tells old new
-IsAnswerExplained tells status old new = new ≡ old
 
 -- ---- faults
 

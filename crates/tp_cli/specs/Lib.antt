@@ -3,6 +3,7 @@ pub mod Command
 pub mod Ends
 pub mod Faults
 pub mod Pools
+pub mod Reasons
 pub mod Registry
 pub mod Runs
 pub mod Texts

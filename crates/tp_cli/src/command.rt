@@ -1,8 +1,8 @@
 //! The command line of the program.
 ghost use Rattle.std.specs.Prelude.{◌≡◌, IfOk, codes, false};
-ghost use Rattle.clap.specs.Words.{app_of, new_app, rule_of};
+ghost use Rattle.clap.specs.Words.{app_of, rule_of};
 ghost use Rattle.clap.specs.declared.builder.command.Command.TheViews.{out-Command};
-ghost use Rattle.tp_cli.specs.Command.{pools_app, profile_rule, run_app, spec_rule, texts_app, tp_app, trace_rule};
+ghost use Rattle.tp_cli.specs.Command.{audit_app, pools_app, profile_rule, run_app, sim_app, spec_rule, texts_app, tp_app, trace_rule};
 ghost use Rattle.tp_shell.specs.Command.{count_rule};
 
 use clap::{Arg, ArgAction, Command};
@@ -25,23 +25,31 @@ pub(crate) fn tp_command<'a>(alloc: Global) -> Result<Command<'a>, AllocError>
 fn text_commands<'a>(alloc: Global) -> Result<Command<'a>, AllocError>
     ensures { IfOk result (λ command. app_of command ≡ texts_app) }
 {
-    let sim = "Takes the steps of a script in order and prints the reply to each";
-    let audit = "Checks a trace, the record of a run, and trusts none of its lines";
     Command::new(alloc, "tp")
         .version(VERSION)
         .about("Runs task pools on several nodes, detects their termination, and audits traces")
         .after_help(TP_HELP)
         .subcommand_required(true)
-        .subcommand(reading_command(alloc, "sim", sim, SIM_HELP))?
-        .subcommand(reading_command(alloc, "audit", audit, AUDIT_HELP))
+        .subcommand(sim_command(alloc))?
+        .subcommand(audit_command(alloc))
 }
 
-/// Returns a subcommand that reads a text.
-fn reading_command<'a>(alloc: Global, name: &'a str, about: &'a str, help: &'a str) -> Command<'a>
-    ensures app { app_of result ≡ new_app name.entry.now }
+fn sim_command<'a>(alloc: Global) -> Command<'a>
+    ensures app { app_of result ≡ sim_app }
     ensures local { (out-Command result).has_globals ≡ false }
 {
-    Command::new(alloc, name).about(about).after_help(help)
+    Command::new(alloc, "sim")
+        .about("Takes the steps of a script in order and prints the reply to each")
+        .after_help(SIM_HELP)
+}
+
+fn audit_command<'a>(alloc: Global) -> Command<'a>
+    ensures app { app_of result ≡ audit_app }
+    ensures local { (out-Command result).has_globals ≡ false }
+{
+    Command::new(alloc, "audit")
+        .about("Checks a trace, the record of a run, and trusts none of its lines")
+        .after_help(AUDIT_HELP)
 }
 
 fn run_command<'a>(alloc: Global) -> Result<Command<'a>, AllocError>

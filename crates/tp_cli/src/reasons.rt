@@ -65,25 +65,33 @@ fn explain_arguments<E: Diagnostics>(fault: &Fault, words: &[&str], err: &mut E)
     }
 }
 
-/// Prints why a pool was not run, or its profile was not written, if there is more to say.
+/// Prints why a pool was not run, or its profile was not written.
 fn explain_run<E: Diagnostics>(fault: &Fault, spec: &str, reason: Option<&str>, err: &mut E)
     ensures { MayExplain E.tells err.old err.new }
 {
     if let Some(reason) = reason {
         return err.tell(reason);
     }
-    let reason = match fault {
-        Fault::NoPool => return explain_word(spec, err),
-        Fault::Run(fault) => match fault.refusal() {
-            Refusal::HistoryFull(_) => {
-                "reason: the run takes more than 1,048,576 events, which `tp run --help` counts\n"
+    match fault {
+        Fault::NoPool => explain_word(spec, err),
+        Fault::Run(fault) => {
+            if let Some(reason) = run_reason(fault.refusal()) {
+                err.tell(reason);
             }
-            Refusal::StoreFull => {
-                "reason: a node has room for 65,536 unfinished tasks: use --nodes\n"
-            }
-            _ => return,
-        },
-        _ => return,
-    };
-    err.tell(reason)
+        }
+        _ => {}
+    }
+}
+
+/// Returns the line that says why a run was refused, if there is more to say.
+fn run_reason(refusal: Refusal) -> Option<&'static str> {
+    match refusal {
+        Refusal::HistoryFull(_) => Some(
+            "reason: the run takes more than 1,048,576 events, which `tp run --help` counts\n",
+        ),
+        Refusal::StoreFull => Some(
+            "reason: a node has room for 65,536 unfinished tasks: use --nodes\n",
+        ),
+        _ => None,
+    }
 }

@@ -9,7 +9,7 @@ ghost use Rattle.tp_cli.specs.Runs.{IsWithoutText, NamesNoGraph, run_text, total
 ghost use Rattle.tp_graph.specs.Serial.{AreRight};
 ghost use Rattle.pool_samples.specs.Any.{any_graph};
 ghost use Rattle.tp_shell.specs.declared.status.Status.TheVariants.{Done};
-ghost use Rattle.tp_work.specs.Outcomes.{IsOutcome, IsWithinLimits};
+ghost use Rattle.tp_work.specs.Outcomes.{IsFault, IsOutcome, IsWithinLimits};
 
 use crate::fault::{Fault, RunFault};
 use crate::series::text_of_generations;
@@ -23,7 +23,7 @@ use tp_base::{Refusal, TaskId};
 use tp_graph::{Graph, Value};
 use tp_shell::{Log, Profile, Run, Status, Timed, write_text};
 use tp_text::print_trace;
-use tp_work::{Config, Counted, OpenGate, Outcome, Progress, Screen, run_pool, watched};
+use tp_work::{Config, Outcome, Progress, Screen, run_pool_counted, watched};
 
 /// What is printed of a run.
 #[derive(Clone, Copy, Debug, PartialEq, Eq)]
@@ -163,7 +163,7 @@ fn text_watched<R: Threads + Wait + Sync + Clock, W: Write + Send + Drop>(
         (IsWithoutText plan.form graph plan.config.nodes plan.config.workers plan.generations) }
 {
     let Some(screen) = screen else {
-        return text_logged(rt, alloc, graph, plan, log);
+        return text_of_run(rt, alloc, graph, plan, log, None);
     };
     let progress = Progress::new();
     let counts = &progress;
@@ -177,94 +177,92 @@ fn text_watched<R: Threads + Wait + Sync + Clock, W: Write + Send + Drop>(
             ensures { MatchResult result
                 (λ text. IsTextOf plan.form graph plan.config.nodes plan.config.workers plan.generations text.items)
                 (IsWithoutText plan.form graph plan.config.nodes plan.config.workers plan.generations) }
-        { text_counted(rt, alloc, graph, plan, counts) },
+        { text_of_run(rt, alloc, graph, plan, None, Some(counts)) },
     )
 }
 
-/// Runs a pool of a graph, and returns what is printed of its generations. The tasks are timed if there is a log.
-fn text_logged<R: Threads + Wait + Sync + Clock>(
+/// Runs a pool of a graph, and returns what is printed of its generations. The tasks are timed if there is a log, and
+/// counted if there is a progress.
+fn text_of_run<R: Threads + Wait + Sync + Clock>(
     rt: &R,
     alloc: Global,
     graph: AnyGraph,
     plan: Plan,
     log: Option<&Log>,
+    progress: Option<&Progress>,
 ) -> Result<Vec<u8>, RunFault>
     requires { IsPlan plan }
-    ensures { MatchResult result
-        (λ text. IsTextOf plan.form graph plan.config.nodes plan.config.workers plan.generations text.items)
-        (IsWithoutText plan.form graph plan.config.nodes plan.config.workers plan.generations) }
-{
-    let Some(log) = log else {
-        return text_of_run(rt, alloc, graph, graph, plan);
-    };
-    let timed = Timed::new(graph, plan.config.nodes, rt, log);
-    text_of_run(rt, alloc, graph, timed, plan)
-}
-
-/// Runs a pool of a graph with its tasks counted, and returns what is printed of its generations.
-fn text_counted<R: Threads + Wait + Sync>(
-    rt: &R,
-    alloc: Global,
-    graph: AnyGraph,
-    plan: Plan,
-    progress: &Progress,
-) -> Result<Vec<u8>, RunFault>
-    requires { IsPlan plan }
-    ensures { MatchResult result
-        (λ text. IsTextOf plan.form graph plan.config.nodes plan.config.workers plan.generations text.items)
-        (IsWithoutText plan.form graph plan.config.nodes plan.config.workers plan.generations) }
-{
-    let tasks = u64::from(graph.tasks()).saturating_mul(u64::from(plan.generations));
-    progress.begin(rt, tp_work::Plan::of_tasks(tasks));
-    let counted = Counted::new(rt, graph, progress);
-    text_of_run(rt, alloc, graph, counted, plan)
-}
-
-/// Runs a pool of a graph, and returns what is printed of its generations. What the threads run is `pool`, which has the
-/// meaning of the graph, and may also time or count the tasks.
-fn text_of_run<G: Graph, R: Threads + Wait + Sync>(
-    rt: &R,
-    alloc: Global,
-    graph: AnyGraph,
-    pool: G,
-    plan: Plan,
-) -> Result<Vec<u8>, RunFault>
-    requires plan { IsPlan plan }
-    requires same { G.meaning pool ≡ any_graph graph }
     ensures { MatchResult result
         (λ text. IsTextOf plan.form graph plan.config.nodes plan.config.workers plan.generations text.items)
         (IsWithoutText plan.form graph plan.config.nodes plan.config.workers plan.generations) }
 {
     // a pool of one generation is never opened for a second one
     if plan.generations == 1 {
-        text_of_one(rt, alloc, graph, pool, plan)
+        text_of_one(rt, alloc, graph, plan.config, plan.form, log, progress)
     } else {
-        text_of_generations(rt, alloc, graph, pool, plan)
+        text_of_generations(rt, alloc, graph, plan, log, progress)
     }
 }
 
 /// Runs a pool of a graph in one generation, and returns what is printed of it.
-fn text_of_one<G: Graph, R: Threads + Wait + Sync>(
+fn text_of_one<R: Threads + Wait + Sync + Clock>(
     rt: &R,
     alloc: Global,
     graph: AnyGraph,
-    pool: G,
-    plan: Plan,
+    config: Config,
+    form: Form,
+    log: Option<&Log>,
+    progress: Option<&Progress>,
 ) -> Result<Vec<u8>, RunFault>
-    requires plan { IsPlan plan }
-    requires same { G.meaning pool ≡ any_graph graph }
+    requires { IsWithinLimits config }
     ensures { MatchResult result
-        (λ text. IsTextOfOne plan.form graph plan.config.nodes plan.config.workers text.items)
-        (IsWithoutOne plan.form graph plan.config.nodes plan.config.workers) }
+        (λ text. IsTextOfOne form graph config.nodes config.workers text.items)
+        (IsWithoutOne form graph config.nodes config.workers) }
 {
-    let outcome = match run_pool(rt, alloc, pool, plan.config, &OpenGate) {
+    let outcome = match outcome_of(rt, alloc, graph, config, log, progress) {
         Ok(outcome) => outcome,
         Err(fault) => return Err(RunFault::Pool(fault)),
     };
-    match text_of_outcome(alloc, graph, &outcome, plan.config, plan.form) {
+    match text_of_outcome(alloc, graph, &outcome, config, form) {
         Ok(text) => Ok(text),
         Err(refusal) => Err(RunFault::Text(refusal)),
     }
+}
+
+/// Runs a pool of a graph in one generation. The tasks are timed if there is a log, and counted if there is a progress.
+fn outcome_of<R: Threads + Wait + Sync + Clock>(
+    rt: &R,
+    alloc: Global,
+    graph: AnyGraph,
+    config: Config,
+    log: Option<&Log>,
+    progress: Option<&Progress>,
+) -> Result<Outcome, tp_work::Fault>
+    requires { IsWithinLimits config }
+    ensures outcome { IfOk result (IsOutcome config.nodes config.workers (any_graph graph)) }
+    ensures fault { IfErr result (IsFault config.nodes (any_graph graph)) }
+{
+    match log {
+        Some(log) => outcome_timed(rt, alloc, graph, config, log, progress),
+        None => run_pool_counted(rt, alloc, graph, config, progress),
+    }
+}
+
+/// Runs the pool with its tasks timed.
+fn outcome_timed<R: Threads + Wait + Sync + Clock>(
+    rt: &R,
+    alloc: Global,
+    graph: AnyGraph,
+    config: Config,
+    log: &Log,
+    progress: Option<&Progress>,
+) -> Result<Outcome, tp_work::Fault>
+    requires { IsWithinLimits config }
+    ensures outcome { IfOk result (IsOutcome config.nodes config.workers (any_graph graph)) }
+    ensures fault { IfErr result (IsFault config.nodes (any_graph graph)) }
+{
+    let timed = Timed::new(graph, config.nodes, rt, log);
+    run_pool_counted(rt, alloc, timed, config, progress)
 }
 
 /// Returns what is printed of an outcome.

@@ -1,37 +1,41 @@
 //! Runs of a pool in several generations, and what is printed of them.
-ghost use Rattle.std.specs.Prelude.{◌≡◌, ◌++◌, IfErr, IfOk, MatchResult, OnOk};
+ghost use Rattle.std.specs.Prelude.{◌≡◌, ◌⊎◌, ◌++◌, IfErr, IfOk, MatchResult, OnOk};
 ghost use Rattle.std.specs.List.{All};
+ghost use Rattle.tp_base.specs.declared.refusal.Refusal.TheVariants.{NoMemory};
 ghost use Rattle.tp_cli.specs.Runs.{IsPlan, IsPrintOfSeries, IsRoundOf, IsTextOfSeries, IsUnprintedSeries, IsUntold, IsUntoldRound};
 ghost use Rattle.tp_cli.specs.Runs.{IsWithoutSeries, round_text, rounds_text};
 ghost use Rattle.pool_samples.specs.Any.{any_graph};
-ghost use Rattle.tp_work.specs.Series.{IsSeries};
+ghost use Rattle.tp_work.specs.Series.{IsSeries, IsSeriesFault};
 
 use crate::fault::RunFault;
 use crate::run::{Form, Plan, text_of_results};
 use pool_samples::AnyGraph;
 use std::alloc::Global;
+use std::rt::Clock;
 use std::sync::Wait;
 use std::thread::Threads;
 use tp_base::Refusal;
 use tp_graph::Graph;
+use tp_shell::{Log, Timed};
 use tp_text::print_trace;
-use tp_work::{OpenGate, Round, Series, run_generations};
+use tp_work::{Counted, Fault, OpenGate, Progress, Round, Series, run_generations};
 
-/// Runs a pool of a graph in several generations, and returns what is printed of them.
-pub(crate) fn text_of_generations<G: Graph, R: Threads + Wait + Sync>(
+/// Runs a pool of a graph in several generations, and returns what is printed of them. The tasks are timed if there is
+/// a log, and counted if there is a progress.
+pub(crate) fn text_of_generations<R: Threads + Wait + Sync + Clock>(
     rt: &R,
     alloc: Global,
     graph: AnyGraph,
-    pool: G,
     plan: Plan,
+    log: Option<&Log>,
+    progress: Option<&Progress>,
 ) -> Result<Vec<u8>, RunFault>
-    requires plan { IsPlan plan }
-    requires same { G.meaning pool ≡ any_graph graph }
+    requires { IsPlan plan }
     ensures { MatchResult result
         (λ text. IsTextOfSeries plan.form graph plan.config.nodes plan.config.workers plan.generations text.items)
         (IsWithoutSeries plan.form graph plan.config.nodes plan.config.workers plan.generations) }
 {
-    let series = match run_generations(rt, alloc, pool, plan.config, &OpenGate, plan.generations) {
+    let series = match series_of(rt, alloc, graph, plan, log, progress) {
         Ok(series) => series,
         Err(fault) => return Err(RunFault::Pool(fault)),
     };
@@ -39,6 +43,79 @@ pub(crate) fn text_of_generations<G: Graph, R: Threads + Wait + Sync>(
         Ok(text) => Ok(text),
         Err(refusal) => Err(RunFault::Text(refusal)),
     }
+}
+
+/// Runs a pool of a graph in several generations. The tasks are timed if there is a log, and counted if there is a
+/// progress.
+fn series_of<R: Threads + Wait + Sync + Clock>(
+    rt: &R,
+    alloc: Global,
+    graph: AnyGraph,
+    plan: Plan,
+    log: Option<&Log>,
+    progress: Option<&Progress>,
+) -> Result<Series, Fault>
+    requires { IsPlan plan }
+    ensures series { IfOk result (IsSeries plan.config.nodes plan.config.workers (any_graph graph) plan.generations) }
+    ensures fault { IfErr result (IsSeriesFault plan.config.nodes (any_graph graph) plan.generations) }
+{
+    match log {
+        Some(log) => series_timed(rt, alloc, graph, plan, log, progress),
+        None => series_counted(rt, alloc, graph, plan, progress),
+    }
+}
+
+/// Runs the pool with its tasks timed.
+fn series_timed<R: Threads + Wait + Sync + Clock>(
+    rt: &R,
+    alloc: Global,
+    graph: AnyGraph,
+    plan: Plan,
+    log: &Log,
+    progress: Option<&Progress>,
+) -> Result<Series, Fault>
+    requires { IsPlan plan }
+    ensures series { IfOk result (IsSeries plan.config.nodes plan.config.workers (any_graph graph) plan.generations) }
+    ensures fault { IfErr result (IsSeriesFault plan.config.nodes (any_graph graph) plan.generations) }
+{
+    let timed = Timed::new(graph, plan.config.nodes, rt, log);
+    series_counted(rt, alloc, timed, plan, progress)
+}
+
+/// Runs the pool. The tasks are counted if there is a progress.
+fn series_counted<G: Graph, R: Threads + Wait + Sync>(
+    rt: &R,
+    alloc: Global,
+    graph: G,
+    plan: Plan,
+    progress: Option<&Progress>,
+) -> Result<Series, Fault>
+    requires { IsPlan plan }
+    ensures series { IfOk result (IsSeries plan.config.nodes plan.config.workers (G.meaning graph) plan.generations) }
+    ensures fault { IfErr result (IsSeriesFault plan.config.nodes (G.meaning graph) plan.generations) }
+{
+    match progress {
+        Some(progress) => series_told(rt, alloc, graph, plan, progress),
+        None => run_generations(rt, alloc, graph, plan.config, &OpenGate, plan.generations),
+    }
+}
+
+/// Runs the pool with its tasks counted.
+fn series_told<G: Graph, R: Threads + Wait + Sync>(
+    rt: &R,
+    alloc: Global,
+    graph: G,
+    plan: Plan,
+    progress: &Progress,
+) -> Result<Series, Fault>
+    requires { IsPlan plan }
+    ensures series { IfOk result (IsSeries plan.config.nodes plan.config.workers (G.meaning graph) plan.generations) }
+    ensures fault { IfErr result (IsSeriesFault plan.config.nodes (G.meaning graph) plan.generations) }
+{
+    let tasks = u64::from(graph.tasks()).saturating_mul(u64::from(plan.generations));
+    progress.begin(rt, tp_work::Plan::of_tasks(tasks));
+    let counted = Counted::new(rt, graph, progress);
+    run_generations(rt, alloc, counted, plan.config, &OpenGate, plan.generations)
 }
 
 /// Returns what is printed of a series.

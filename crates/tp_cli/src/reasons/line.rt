@@ -12,8 +12,12 @@ use tp_shell::Diagnostics;
 /// How a message names what every number of a line is.
 static A_NUMBER: &str = "a number of at most six digits without leading zeros\n";
 
-/// How a message about a line begins.
-static HEAD: &str = "reason: line ";
+/// The numbers after a keyword.
+#[derive(Clone, Copy)]
+struct Numbers {
+    count: usize,
+    last: u32,
+}
 
 /// Prints what is wrong with the line that the reply names as not of the grammar, or what is pending if the line was
 /// refused for that.
@@ -52,16 +56,23 @@ fn explain_line<E: Diagnostics>(kind: TextKind, text: &[u8], line: u32, err: &mu
     let (words, is_ended) = find_line(text, line);
     let mut digits = Buffer::new();
     let number = digits.format(line);
-    let what = if let Some(what) = unseen(words, is_ended) {
-        what
+    if let Some(what) = unseen(words, is_ended) {
+        err.tell_parts(&["reason: line ", number, what])
     } else if kind == TextKind::Trace && line <= 1 {
-        " is neither `trace 1` nor `trace 2`\n"
+        err.tell_parts(&[
+            "reason: line ",
+            number,
+            " is neither `trace 1` nor `trace 2`\n",
+        ])
     } else if line <= nodes_at(kind, is_second) {
-        " is not `nodes N`, N from 1 to 8\n"
+        err.tell_parts(&[
+            "reason: line ",
+            number,
+            " is not `nodes N`, N from 1 to 8\n",
+        ])
     } else {
-        return explain_step(kind, is_second, number, words, err);
-    };
-    err.tell_parts(&[HEAD, number, what])
+        explain_step(kind, is_second, number, words, err)
+    }
 }
 
 /// Returns what is wrong with a line that an editor does not show, if something is.
@@ -120,14 +131,19 @@ fn explain_step<E: Diagnostics>(
     let Some(due) = numbers_due(is_second, word) else {
         return explain_unknown(line, word, err);
     };
-    let what = match word {
-        b"reopen" if !is_second => ": version 1 has no step `reopen`\n",
-        b"judge" if kind == TextKind::Trace => {
-            ": after `judge` comes `not` or `ended W`, W at least 1\n"
-        }
-        _ => return explain_numbers(line, word, rest, due, err),
-    };
-    err.tell_parts(&[HEAD, line, what])
+    match word {
+        b"reopen" if !is_second => err.tell_parts(&[
+            "reason: line ",
+            line,
+            ": version 1 has no step `reopen`\n",
+        ]),
+        b"judge" if kind == TextKind::Trace => err.tell_parts(&[
+            "reason: line ",
+            line,
+            ": after `judge` comes `not` or `ended W`, W at least 1\n",
+        ]),
+        _ => explain_numbers(line, word, rest, due, err),
+    }
 }
 
 /// Returns how many numbers follow a keyword, if the word is one. In version 2 a message also has the number of its
@@ -149,8 +165,8 @@ fn explain_unknown<E: Diagnostics>(line: &str, word: &[u8], err: &mut E)
     ensures { MayExplain E.tells err.old err.new }
 {
     match shown(word) {
-        Some(word) => err.tell_parts(&[HEAD, line, ": unknown step `", word, "`\n"]),
-        None => err.tell_parts(&[HEAD, line, ": not a step\n"]),
+        Some(word) => err.tell_parts(&["reason: line ", line, ": unknown step `", word, "`\n"]),
+        None => err.tell_parts(&["reason: line ", line, ": not a step\n"]),
     }
 }
 
@@ -164,21 +180,36 @@ fn explain_numbers<E: Diagnostics>(
 )
     ensures { MayExplain E.tells err.old err.new }
 {
-    let (count, last) = match numbers_in(rest) {
+    let Numbers { count, last } = match numbers_in(rest) {
         Ok(numbers) => numbers,
         Err(other) => return explain_other(line, other, err),
     };
     if count != due {
-        let (mut counts, mut dues) = (Buffer::new(), Buffer::new());
-        let (has, takes) = (counts.format(count), dues.format(due));
-        let wrong = ": wrong count of numbers: ";
-        return err.tell_parts(&[HEAD, line, wrong, has, " instead of ", takes, "\n"]);
+        return explain_count(line, count, due, err);
     }
-    let what = match word {
-        b"insert" if last > u32::from(MAX_INPUTS) => ": a task has at most 16 inputs\n",
-        _ => " does not match the grammar\n",
-    };
-    err.tell_parts(&[HEAD, line, what])
+    match word {
+        b"insert" if last > u32::from(MAX_INPUTS) => {
+            err.tell_parts(&["reason: line ", line, ": a task has at most 16 inputs\n"])
+        }
+        _ => err.tell_parts(&["reason: line ", line, " does not match the grammar\n"]),
+    }
+}
+
+/// Prints that more or fewer numbers follow a keyword than it takes.
+fn explain_count<E: Diagnostics>(line: &str, count: usize, due: usize, err: &mut E)
+    ensures { MayExplain E.tells err.old err.new }
+{
+    let mut has = Buffer::new();
+    let mut takes = Buffer::new();
+    err.tell_parts(&[
+        "reason: line ",
+        line,
+        ": wrong count of numbers: ",
+        has.format(count),
+        " instead of ",
+        takes.format(due),
+        "\n",
+    ])
 }
 
 /// Prints that a word after a keyword is no number.
@@ -186,18 +217,18 @@ fn explain_other<E: Diagnostics>(line: &str, word: &[u8], err: &mut E)
     ensures { MayExplain E.tells err.old err.new }
 {
     match shown(word) {
-        Some(word) => err.tell_parts(&[HEAD, line, ": `", word, "` is not ", A_NUMBER]),
-        None => err.tell_parts(&[HEAD, line, ": not ", A_NUMBER]),
+        Some(word) => err.tell_parts(&["reason: line ", line, ": `", word, "` is not ", A_NUMBER]),
+        None => err.tell_parts(&["reason: line ", line, ": not ", A_NUMBER]),
     }
 }
 
-/// Returns how many numbers follow a keyword, and the last of them, or the first word that is none.
-fn numbers_in(behind: Option<&[u8]>) -> Result<(usize, u32), &[u8]> {
+/// Returns the numbers after a keyword, or the first word that is none.
+fn numbers_in(behind: Option<&[u8]>) -> Result<Numbers, &[u8]> {
     let mut rest = behind;
     let mut last = 0;
     for count in 0..usize::MAX {
         let Some(left) = rest else {
-            return Ok((count, last));
+            return Ok(Numbers { count, last });
         };
         let (word, behind) = cut(left, b' ');
         match short_number_of(word) {
@@ -206,7 +237,8 @@ fn numbers_in(behind: Option<&[u8]>) -> Result<(usize, u32), &[u8]> {
         }
         rest = behind;
     }
-    Ok((usize::MAX, last))
+    let count = usize::MAX;
+    Ok(Numbers { count, last })
 }
 
 /// Returns the text of a word of 1 to 32 bytes, each a visible ASCII character. Others could garble a terminal.

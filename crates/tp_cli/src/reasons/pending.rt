@@ -82,11 +82,27 @@ fn tell_pending<E: Diagnostics>(node: u32, open: &[bool], err: &mut E)
     let kind = KINDS.get(first / NUMBERS).copied().unwrap_or("");
     let number = numbers.format(first % NUMBERS);
     let others = open.iter().filter(|open| **open).count().saturating_sub(1);
-    let (head, bare) = ("reason: pending at node ", "reason: node ");
-    let (missing, more) = (" is not ready: `ready ", counts.format(others));
+    let head = "reason: pending at node ";
     match (first, others) {
-        (0, _) => err.tell_parts(&[bare, node, missing, node, "` is missing\n"]),
+        (0, _) => {
+            err.tell_parts(&[
+                "reason: node ",
+                node,
+                " is not ready: `ready ",
+                node,
+                "` is missing\n",
+            ])
+        }
         (_, 0) => err.tell_parts(&[head, node, ": ", kind, number, "\n"]),
-        _ => err.tell_parts(&[head, node, ": ", kind, number, " and ", more, " more\n"]),
+        _ => err.tell_parts(&[
+            head,
+            node,
+            ": ",
+            kind,
+            number,
+            " and ",
+            counts.format(others),
+            " more\n",
+        ]),
     }
 }

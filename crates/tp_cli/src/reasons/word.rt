@@ -142,11 +142,16 @@ fn write_reason<E: Diagnostics>(word: &str, reason: WordReason, err: &mut E)
             ])
         }
         WordReason::Form(form) => write_form(word, form, err),
-        WordReason::NoNumber(field) => write_no_number(word, field.parts().0, err),
+        WordReason::NoNumber(field) => write_no_number(word, field.name(), err),
         WordReason::OutOfRange(field, number) => {
             let mut digits = Buffer::new();
-            let (name, range, _, _) = field.parts();
-            write_range(word, name, digits.format(number), range, err)
+            write_range(
+                word,
+                field.name(),
+                digits.format(number),
+                field.range(),
+                err,
+            )
         }
         WordReason::Repeated => err.tell_parts(&["reason: ", word, " repeats an earlier one\n"]),
         WordReason::Undivided(side, order) => write_undivided(word, side, order, err),
@@ -206,23 +211,34 @@ fn write_undivided<E: Diagnostics>(word: &str, side: u32, order: u32, err: &mut 
 }
 
 impl Field {
-    /// Returns the name that the help of `tp run` uses, how a message describes the range of a number, and its bounds.
-    fn parts(self) -> (&'static str, &'static str, u32, u32) {
-        let to_64 = "not from 1 to 64";
+    /// The name that the help of `tp run` uses.
+    fn name(self) -> &'static str {
         match self {
-            Field::Order => ("ORDER", to_64, 1, MAX_ORDER),
-            Field::Side => ("SIDE", to_64, 1, MAX_ORDER),
-            Field::Rows => ("ROWS", to_64, 1, MAX_SIDE),
-            Field::Columns => ("COLUMNS", to_64, 1, MAX_SIDE),
-            Field::Leaves => ("LEAVES", "not a power of two from 1 to 1024", 1, 1024),
-            Field::Seed => ("SEED", "not from 0 to 9999", 0, MAX_SEED),
+            Field::Order => "ORDER",
+            Field::Side => "SIDE",
+            Field::Rows => "ROWS",
+            Field::Columns => "COLUMNS",
+            Field::Leaves => "LEAVES",
+            Field::Seed => "SEED",
+        }
+    }
+
+    /// Returns how a message describes the range of a number.
+    fn range(self) -> &'static str {
+        match self {
+            Field::Order | Field::Side | Field::Rows | Field::Columns => "not from 1 to 64",
+            Field::Leaves => "not a power of two from 1 to 1024",
+            Field::Seed => "not from 0 to 9999",
         }
     }
 
     /// Returns whether a number is in its range.
     fn allows(self, n: u32) -> bool {
-        let (_, _, least, most) = self.parts();
-        let is_power = matches!(n, 1 | 2 | 4 | 8 | 16 | 32 | 64 | 128 | 256 | 512 | 1024);
-        least <= n && n <= most && (is_power || !matches!(self, Field::Leaves))
+        match self {
+            Field::Order | Field::Side => 1 <= n && n <= MAX_ORDER,
+            Field::Rows | Field::Columns => 1 <= n && n <= MAX_SIDE,
+            Field::Leaves => matches!(n, 1 | 2 | 4 | 8 | 16 | 32 | 64 | 128 | 256 | 512 | 1024),
+            Field::Seed => n <= MAX_SEED,
+        }
     }
 }

@@ -1,5 +1,8 @@
-use Rattle.tp_cli.proofs.Lemmas.{rules, ap, ap₂, codes, false, ◌||◌, ◌≡◌, ◌∙◌, IfOk-weaker, app_of, new_app, with_rule, out-Command}
-use Rattle.tp_cli.proofs.Lemmas.{with_count_rules}
+use Rattle.std.proofs.Common.{rules, ap, ap₂, codes, false, ◌||◌, ◌≡◌, ◌∙◌}
+use Rattle.std.proofs.lemmas.Result.{IfOk-weaker}
+use Rattle.clap.specs.Words.{app_of, new_app, with_rule}
+use Rattle.clap.specs.declared.builder.command.Command.TheViews.{out-Command}
+use Rattle.tp_shell.specs.Command.{with_count_rules}
 use Rattle.tp_cli.proofs.command.run_command.Goals as goal
 
 pub returns-clause-app : goal.returns-clause-app

@@ -1,4 +1,6 @@
-use Rattle.tp_cli.proofs.Lemmas.{◌≤◌, length, Consumes, MAX_TEXT}
+use Rattle.std.proofs.Common.{◌≤◌, length}
+use Rattle.std.specs.Io.KnownBytes.{Consumes}
+use Rattle.tp_text.specs.declared.input.TheConstants.{MAX_TEXT}
 use Rattle.tp_cli.proofs.kept.read_text.Given as goal
 
 abbrev pub invariant-loop : goal.invariant-loop

@@ -1,4 +1,5 @@
-use Rattle.tp_cli.proofs.Lemmas.{IfOk-weaker, answers_in_order}
+use Rattle.std.proofs.lemmas.Result.{IfOk-weaker}
+use Rattle.tp_cli.proofs.Several.{answers_in_order}
 use Rattle.tp_cli.proofs.pools.answers_of.Goals as goal
 
 pub returns-clause-ran : goal.returns-clause-ran

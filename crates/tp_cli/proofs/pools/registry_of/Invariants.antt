@@ -1,4 +1,5 @@
-use Rattle.tp_cli.proofs.Lemmas.{map, AreRegisteredTo}
+use Rattle.std.specs.Prelude.{map}
+use Rattle.tp_cli.proofs.Several.{AreRegisteredTo}
 use Rattle.tp_cli.proofs.pools.registry_of.Given as goal
 
 abbrev pub invariant-loop-word : goal.invariant-loop-word

@@ -1,4 +1,6 @@
-use Rattle.tp_cli.proofs.Lemmas.{◌∙◌, ◌<◌, ◌≤◌, arith, length, map, sym, get_or-map, length-map, line_more, lines_done}
+use Rattle.std.proofs.Common.{◌∙◌, ◌<◌, ◌≤◌, arith, length, map, sym}
+use Rattle.std.proofs.lemmas.List.{get_or-map, length-map}
+use Rattle.tp_cli.proofs.Several.{line_more, lines_done}
 use Rattle.tp_cli.proofs.pools.text_of_pools.Goals as goal
 
 pub loop-number-preserved : goal.loop-number-preserved

@@ -1,6 +1,8 @@
-use Rattle.tp_cli.proofs.Lemmas.{rules, arith, ◌≡◌, ◌∙◌, ◌∷◌, ◌<◌, ◌+◌, true, false, List, Result, ap, ap₂, length, slice_set, sym, subst}
-use Rattle.tp_cli.proofs.Lemmas.{set-get_or, AreSettledBelow, all_settled, ends, none_lacks, stays, Entered, Pools, after, is_waiting}
-use Rattle.tp_cli.proofs.Lemmas.{Standing}
+use Rattle.std.proofs.Common.{rules, arith, ◌≡◌, ◌∙◌, ◌∷◌, ◌<◌, ◌+◌, true, false, List, Result, ap, ap₂, length, slice_set, sym, subst}
+use Rattle.std.proofs.lemmas.List.{set-get_or}
+use Rattle.tp_cli.proofs.Settling.{AreSettledBelow, all_settled, ends, none_lacks, stays}
+use Rattle.tp_cli.specs.Registry.{Entered, Pools, after, is_waiting}
+use Rattle.tp_cli.specs.declared.entry.Standing.{Standing}
 use Rattle.tp_cli.proofs.registry.settle_each.Goals as goal
 use Rattle.tp_cli.proofs.registry.settle_each.Goals.{then-is_waiting+in-Some, then-is_waiting+in_default, else-is_waiting}
 
@@ -23,8 +25,8 @@ loop-entry-preserved g c =
           (ap₂ (λ (e : Entered) (s : Standing). record e { standing = s }) (c.entry.view_is
           ∙ sym c.entry-item.is) w.after-entry-inside.ensures) in
           subst (λ (ps : Pools). AreSettledBelow answers rest old ps (n + 1)) (sym made)
-          (ends answers left old pools n item c.loop-entry.invariant within c.entry-item.is rest a waits
-          (w.in-Some.ensures.steps ∙ ap (λ it. a ∷ it.rest.now) (sym w.answers-is)))
+          (ends answers left rest old pools n item a c.loop-entry.invariant within c.entry-item.is waits (w.in-Some.ensures.steps
+          ∙ ap (λ it. a ∷ it.rest.now) (sym w.answers-is)))
       | then-is_waiting+in_default w ↦
           let waits : is_waiting item ≡ true = ap is_waiting c.entry-item.is ∙ sym w.if-is_waiting.ensures in
           absurd (none_lacks answers left old pools n item c.loop-entry.invariant within c.entry-item.is waits

@@ -1,4 +1,4 @@
-use Rattle.tp_cli.proofs.Lemmas.{AreSettledBelow}
+use Rattle.tp_cli.proofs.Settling.{AreSettledBelow}
 use Rattle.tp_cli.proofs.registry.settle_each.Given as goal
 
 abbrev pub invariant-loop-entry : goal.invariant-loop-entry

@@ -1,5 +1,9 @@
-use Rattle.tp_cli.proofs.Lemmas.{◌≡◌, ◌∙◌, ap, codes, subst, sym, Some, IfOk-weaker, first_value-rows, found_of, rows_of, asked_as}
-use Rattle.tp_cli.proofs.Lemmas.{pools_unnamed, run_unnamed, IsMadeBy}
+use Rattle.std.proofs.Common.{◌≡◌, ◌∙◌, ap, codes, subst, sym, Some}
+use Rattle.std.proofs.lemmas.Result.{IfOk-weaker}
+use Rattle.clap.proofs.WalkLemmas.{first_value-rows}
+use Rattle.clap.specs.Words.{found_of, rows_of}
+use Rattle.tp_cli.proofs.Asked.{asked_as, pools_unnamed, run_unnamed}
+use Rattle.tp_cli.specs.Asked.{IsMadeBy}
 use Rattle.tp_cli.proofs.request.asked_of.Goals as goal
 
 pub returns-in-run : goal.returns-in-run

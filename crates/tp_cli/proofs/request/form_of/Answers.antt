@@ -1,4 +1,6 @@
-use Rattle.tp_cli.proofs.Lemmas.{◌≡◌, ◌∙◌, codes, false, refl, true, one_text-rows, found_of}
+use Rattle.std.proofs.Common.{◌≡◌, ◌∙◌, codes, false, refl, true}
+use Rattle.clap.proofs.WalkLemmas.{one_text-rows}
+use Rattle.clap.specs.Words.{found_of}
 use Rattle.tp_cli.proofs.request.form_of.Goals as goal
 
 pub returns-then-get_flag : goal.returns-then-get_flag

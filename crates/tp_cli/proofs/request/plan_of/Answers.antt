@@ -1,4 +1,6 @@
-use Rattle.tp_cli.proofs.Lemmas.{◌∙◌, codes, one_text-rows, found_of}
+use Rattle.std.proofs.Common.{◌∙◌, codes}
+use Rattle.clap.proofs.WalkLemmas.{one_text-rows}
+use Rattle.clap.specs.Words.{found_of}
 use Rattle.tp_cli.proofs.request.plan_of.Goals as goal
 
 pub returns-clause-generations : goal.returns-clause-generations

@@ -1,5 +1,10 @@
-use Rattle.tp_cli.proofs.Lemmas.{inr, map, refl, subst, MatchOption-at_none, MatchOption-at_some, passed_up, app_of, MissingSubcommand}
-use Rattle.tp_cli.proofs.Lemmas.{AsksForNothing, IsMadeBy, IsNeither, fails_as, found_is, tp_app}
+use Rattle.std.proofs.Common.{inr, map, refl}
+use Rattle.clap.proofs.TakesLemmas.{passed_up}
+use Rattle.clap.specs.Words.{app_of}
+use Rattle.clap.specs.declared.error.kind.ErrorKind.TheVariants.{MissingSubcommand}
+use Rattle.tp_cli.proofs.Asked.{neither_asked, request_asked, some_asked}
+use Rattle.tp_cli.specs.Command.{AsksForNothing, tp_app}
+use Rattle.tp_shell.proofs.Asked.{fails_as, none_asked}
 use Rattle.tp_cli.proofs.request.requested.Goals as goal
 
 pub returns-in_err-matches-clause-why : goal.returns-in_err-matches-clause-why
@@ -12,16 +17,13 @@ returns-in_err-matches-clause-why c =
 
 pub returns-clause-why : goal.returns-clause-why
 returns-clause-why c =
-    let asking = map (λ w. w.now) c.args.words.now in
-    let matches = c.in_ok-matches in
-    let is = found_is (app_of c.in_ok-command.command) asking matches.matches c.in_ok-command.ensures matches.ensures.ok.2 in
-    let neither = MatchOption-at_none _ _ c.in-None.is c.in_ok-request.ensures in
-    inr (inr (c.in_ok-error-in-None.ensures.kind, subst IsNeither is neither))
+    inr (inr (
+      c.in_ok-error-in-None.ensures.kind,
+      neither_asked (app_of c.in_ok-command.command) _ c.in_ok-matches.matches c.in_ok-command.ensures c.in_ok-matches.ensures.ok.2
+          (none_asked _ _ _ c.in-None.is c.in_ok-request.ensures),
+    ))
 
 pub returns-in-Some-clause-asked : goal.returns-in-Some-clause-asked
 returns-in-Some-clause-asked c =
-    let asking = map (λ w. w.now) c.args.words.now in
-    let matches = c.in_ok-matches in
-    let is = found_is (app_of c.in_ok-command.command) asking matches.matches c.in_ok-command.ensures matches.ensures.ok.2 in
-    let request = c.in-Some.request in
-    subst (λ found. IsMadeBy found request) is (MatchOption-at_some _ _ request c.in-Some.is c.in_ok-request.ensures)
+    request_asked (app_of c.in_ok-command.command) _ c.in_ok-matches.matches c.in-Some.request c.in_ok-command.ensures
+    c.in_ok-matches.ensures.ok.2 (some_asked _ _ _ c.in-Some.request c.in-Some.is c.in_ok-request.ensures)

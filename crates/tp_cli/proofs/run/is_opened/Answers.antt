@@ -1,4 +1,5 @@
-use Rattle.tp_cli.proofs.Lemmas.{ap, option_map}
+use Rattle.std.proofs.Common.{ap}
+use Rattle.std.specs.Option.{option_map}
 use Rattle.tp_cli.proofs.run.is_opened.Goals as goal
 
 pub returns-in-Err : goal.returns-in-Err

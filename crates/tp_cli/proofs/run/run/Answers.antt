@@ -1,13 +1,23 @@
-use Rattle.tp_cli.proofs.Lemmas.{rules, ◌≡◌, Err, IfErr, refl, subst, sym, IfErr-weaker, IfOk-weaker, option_map, BadSpec}
-use Rattle.tp_cli.proofs.Lemmas.{IsRunFault, IsTextOf, NamesNoGraph}
+use Rattle.std.proofs.Common.{rules, ◌≡◌, Err, IfErr, refl, subst, sym}
+use Rattle.std.proofs.lemmas.Result.{IfErr-weaker, IfOk-weaker}
+use Rattle.std.specs.Option.{option_map}
+use Rattle.tp_base.specs.declared.refusal.Refusal.TheVariants.{BadSpec}
+use Rattle.tp_cli.proofs.Ending.{names_none}
+use Rattle.tp_cli.specs.Runs.{IsRunFault, IsTextOf}
 use Rattle.tp_cli.specs.declared.fault.Fault.TheVariants as faults
 use Rattle.tp_cli.proofs.run.run.Goals as goal
 
-pub returns-in-Err : goal.returns-in-Err
-returns-in-Err g c =
-    let was : c.checked.result ≡ Err BadSpec = search rules in
-    let none : NamesNoGraph c.args.spec.now = λ graph same. let named = c.checked.ensures.named graph same in cc in
-    record { ran = tt; unnamed = (λ is. none, λ _. refl); why = none; unwritten = λ _. refl }
+pub returns-in-Err-clause-why : goal.returns-in-Err-clause-why
+returns-in-Err-clause-why g c =
+    names_none c.args.spec.now c.checked.result (λ graph is. let was : c.checked.result ≡ Err BadSpec = search rules in
+    cc) c.checked.ensures.named
+
+pub returns-in-Err-clause-unnamed : goal.returns-in-Err-clause-unnamed
+returns-in-Err-clause-unnamed g c = (
+  λ is. names_none c.args.spec.now c.checked.result (λ graph ok. let was : c.checked.result ≡ Err BadSpec = search rules in
+      cc) c.checked.ensures.named,
+  λ none. refl,
+)
 
 pub returns-in-Err-text_watched-clause-why : goal.returns-in-Err-text_watched-clause-why
 returns-in-Err-text_watched-clause-why g c = (c.in-Ok.graph, c.in-Ok.ensures.only, c.in-Err-text_watched.ensures)

@@ -1,4 +1,12 @@
-use Rattle.tp_cli.proofs.Lemmas.{any_graph, any_keeps, results_right, run_in_each, tasks-outcome}
+use Rattle.std.proofs.Common.{IfOk, subst, sym}
+use Rattle.std.proofs.lemmas.Result.{IfOk-weaker}
+use Rattle.tp_cli.proofs.Counted.{tasks-outcome}
+use Rattle.tp_cli.proofs.Printed.{printed_table}
+use Rattle.tp_cli.specs.Runs.{IsPrintOf}
+use Rattle.tp_graph.proofs.Left.{results_right}
+use Rattle.pool_samples.proofs.Keeping.{any_keeps}
+use Rattle.pool_samples.specs.Any.{any_graph}
+use Rattle.tp_text.proofs.Readings.Unique.Traces.Lines.{run_in_each}
 use Rattle.tp_cli.proofs.run.text_of_outcome.Goals as goal
 
 pub text_of_results-requires-clause-right : goal.text_of_results-requires-clause-right
@@ -11,10 +19,16 @@ text_of_results-requires-clause-tasks c =
     tasks-outcome c.args.config.nodes c.args.config.workers (any_graph c.args.graph) c.args.outcome.now c.requires.made
 
 pub returns-in-Table-clause-text : goal.returns-in-Table-clause-text
-returns-in-Table-clause-text c = rw c.in-Table.is c.text_of_results.ensures.text
+returns-in-Table-clause-text c =
+    IfOk-weaker c.text_of_results.result _ _
+    (λ text printed. printed_table c.args.form c.args.graph c.args.config.nodes c.args.outcome.now text.items c.in-Table.is printed)
+    c.text_of_results.ensures.text
 
 pub print_trace-requires-clause-run : goal.print_trace-requires-clause-run
 print_trace-requires-clause-run c = run_in_each c.args.config.nodes c.args.outcome.now.history.events c.requires.made.run
 
 pub returns-in-Trace-clause-text : goal.returns-in-Trace-clause-text
-returns-in-Trace-clause-text c = rw c.in-Trace.is c.print_trace.ensures.ok
+returns-in-Trace-clause-text c =
+    subst (λ form.
+    IfOk c.print_trace.result (λ text. IsPrintOf form c.args.graph c.args.config.nodes c.args.outcome.now text.items))
+    (sym c.in-Trace.is) c.print_trace.ensures.ok

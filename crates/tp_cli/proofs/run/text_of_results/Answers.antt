@@ -1,4 +1,6 @@
-use Rattle.tp_cli.proofs.Lemmas.{◌≡◌, ◌∙◌, ◌++◌, ap, ap₂, totals_text, any_graph}
+use Rattle.std.proofs.Common.{◌≡◌, ◌∙◌, ◌++◌, ap, ap₂}
+use Rattle.tp_cli.specs.Runs.{totals_text}
+use Rattle.pool_samples.specs.Any.{any_graph}
 use Rattle.tp_cli.proofs.run.text_of_results.Goals as goal
 
 pub returns-clause-text : goal.returns-clause-text

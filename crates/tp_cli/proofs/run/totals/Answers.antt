@@ -1,4 +1,8 @@
-use Rattle.tp_cli.proofs.Lemmas.{◌≡◌, ◌∙◌, decimal, sym, IfOk-weaker, string_bytes, three_lines, totals_text}
+use Rattle.std.proofs.Common.{◌≡◌, ◌∙◌, decimal, sym}
+use Rattle.std.proofs.lemmas.Result.{IfOk-weaker}
+use Rattle.std.specs.String.{string_bytes}
+use Rattle.tp_cli.proofs.Printed.{three_lines}
+use Rattle.tp_cli.specs.Runs.{totals_text}
 use Rattle.tp_cli.proofs.run.totals.Goals as goal
 
 pub returns : goal.returns

@@ -1,4 +1,5 @@
-use Rattle.tp_cli.proofs.Lemmas.{◌∙◌, round_written, tasks-round}
+use Rattle.std.proofs.Common.{◌∙◌}
+use Rattle.tp_cli.proofs.Rounds.{round_written, tasks-round}
 use Rattle.tp_cli.proofs.series.push_round.Goals as goal
 
 pub text_of_results-requires-clause-tasks : goal.text_of_results-requires-clause-tasks

@@ -1,4 +1,8 @@
-use Rattle.tp_cli.proofs.Lemmas.{◌≡◌, ◌∙◌, Some, ap, sym, slice_get-get_or, slice_get, passed_up, round_more, rounds_done}
+use Rattle.std.proofs.Common.{◌≡◌, ◌∙◌, Some, ap, sym}
+use Rattle.std.proofs.lemmas.Option.{slice_get-get_or}
+use Rattle.std.specs.Prelude.{slice_get}
+use Rattle.clap.proofs.TakesLemmas.{passed_up}
+use Rattle.tp_cli.proofs.Rounds.{round_more, rounds_done}
 use Rattle.tp_cli.specs.Runs.{rounds_text}
 use Rattle.tp_cli.proofs.series.text_of_rounds.Goals as goal
 

@@ -1,22 +1,38 @@
-use Rattle.tp_cli.proofs.Lemmas.{generations, generations_law, reverse, rounds_of}
+use Rattle.std.proofs.Common.{IfOk, subst, sym}
+use Rattle.std.proofs.lemmas.Result.{IfErr-weaker, IfOk-weaker}
+use Rattle.std.specs.List.{All}
+use Rattle.tp_cli.proofs.Rounds.{each_of, in_each, printed_rounds, untold_rounds}
+use Rattle.tp_cli.specs.Runs.{IsPrintOfSeries, IsRoundOf}
+use Rattle.pool_samples.specs.Any.{any_graph}
 use Rattle.tp_cli.proofs.series.text_of_series.Goals as goal
 
 pub text_of_rounds-requires : goal.text_of_rounds-requires
-text_of_rounds-requires c =
-    let plan = c.args.plan in
-    let s = c.args.series.now in record {
-      made = rw c.deref.ensures.value (rounds_of plan.config.nodes plan.config.workers c.args.graph
-          (reverse (generations s.history.events)) s.rounds.items c.requires.made.each);
-    }
+text_of_rounds-requires c = record {
+  made = subst (All (IsRoundOf c.args.graph)) (sym c.deref.ensures.value)
+      (each_of c.args.plan.config.nodes c.args.plan.config.workers c.args.graph c.args.plan.generations c.args.series.now c.requires.made);
+}
 
 pub print_trace-requires-clause-run : goal.print_trace-requires-clause-run
-print_trace-requires-clause-run c = generations_law c.args.plan.config.nodes c.args.series.now.history.events c.requires.made.runs
+print_trace-requires-clause-run c =
+    in_each c.args.plan.config.nodes c.args.plan.config.workers (any_graph c.args.graph) c.args.plan.generations c.args.series.now
+    c.requires.made
 
 pub returns-in-Table-clause-text : goal.returns-in-Table-clause-text
-returns-in-Table-clause-text c = rw c.in-Table.is (rw c.deref.ensures.value at c.text_of_rounds.ensures.text)
+returns-in-Table-clause-text c =
+    IfOk-weaker c.text_of_rounds.result _ _
+    (λ text printed.
+    printed_rounds c.args.plan.form c.args.graph c.args.plan.config.nodes c.args.series.now _ text.items c.in-Table.is
+    c.deref.ensures.value printed)
+    c.text_of_rounds.ensures.text
 
 pub returns-in-Table-clause-none : goal.returns-in-Table-clause-none
-returns-in-Table-clause-none c = rw c.in-Table.is (rw c.deref.ensures.value at c.text_of_rounds.ensures.none)
+returns-in-Table-clause-none c =
+    IfErr-weaker c.text_of_rounds.result _ _
+    (λ refusal why. untold_rounds c.args.plan.form c.args.graph c.args.series.now _ refusal c.in-Table.is c.deref.ensures.value why)
+    c.text_of_rounds.ensures.none
 
 pub returns-in-Trace-clause-text : goal.returns-in-Trace-clause-text
-returns-in-Trace-clause-text c = rw c.in-Trace.is c.print_trace.ensures.ok
+returns-in-Trace-clause-text c =
+    subst (λ form.
+    IfOk c.print_trace.result (λ text. IsPrintOfSeries form c.args.graph c.args.plan.config.nodes c.args.series.now text.items))
+    (sym c.in-Trace.is) c.print_trace.ensures.ok

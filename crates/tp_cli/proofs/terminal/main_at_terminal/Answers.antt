@@ -1,21 +1,27 @@
-use Rattle.tp_cli.proofs.Lemmas.{◌≡◌, inl, inr, map, ended, IsAnswerExplained, WasExplained}
+use Rattle.std.proofs.Common.{◌≡◌, map}
+use Rattle.tp_cli.proofs.Terminals.{explained_complained, explained_done, explained_failed, explained_refused}
 use Rattle.tp_cli.proofs.terminal.main_at_terminal.Goals as goal
 
-pub returns : goal.returns
-returns g c =
-    let did = c.answer_words-ended in
-    let tells = g.E.Diagnostics.tells in
-    let e = ended (map (λ w. w.now) c.args.words.now) _ _ _ _ (did.new.out ≡ c.args.out.now)
-    (λ t. IsAnswerExplained tells t c.args.err.now c.told_explained.new.err)
-    (WasExplained tells c.args.err.now c.told_explained.new.err) _ _ c.code.ensures.value did.result.0
-    did.ensures.answered did.ensures.why c.told_explained.ensures.done c.told_explained.ensures.faulty in record {
-      range = c.code.ensures.range;
-      succeeded = e.done;
-      complained = λ one. let r = e.complained one in (r.0, r.2.0, r.1, r.2.1, r.2.2, r.3);
-      refused = e.refused;
-      failed = λ three. elim (e.failed three) [
-        | inl r ↦ inl (r.0, r.2.0, r.1, r.2.1, r.2.2, r.3, r.4)
-        | inr r ↦ inr r
-      ];
-      unread = did.ensures.unread;
-    }
+pub returns-clause-succeeded : goal.returns-clause-succeeded
+returns-clause-succeeded g c =
+    explained_done g.E.Diagnostics.tells (map (λ w. w.now) c.args.words.now) _ _ _ _
+    (c.answer_words-ended.new.out ≡ c.args.out.now) _ _ _ _ c.code.ensures.value c.answer_words-ended.result.0
+    c.answer_words-ended.ensures.answered c.told_explained.ensures.done c.told_explained.ensures.faulty
+
+pub returns-clause-complained : goal.returns-clause-complained
+returns-clause-complained g c =
+    explained_complained g.E.Diagnostics.tells (map (λ w. w.now) c.args.words.now) _ _ _ _
+    (c.answer_words-ended.new.out ≡ c.args.out.now) _ _ _ _ c.code.ensures.value c.answer_words-ended.result.0
+    c.answer_words-ended.ensures.answered c.answer_words-ended.ensures.why c.told_explained.ensures.done c.told_explained.ensures.faulty
+
+pub returns-clause-refused : goal.returns-clause-refused
+returns-clause-refused g c =
+    explained_refused g.E.Diagnostics.tells (map (λ w. w.now) c.args.words.now) _ _ _ _
+    (c.answer_words-ended.new.out ≡ c.args.out.now) _ _ _ _ c.code.ensures.value c.answer_words-ended.result.0
+    c.answer_words-ended.ensures.answered c.told_explained.ensures.done c.told_explained.ensures.faulty
+
+pub returns-clause-failed : goal.returns-clause-failed
+returns-clause-failed g c =
+    explained_failed g.E.Diagnostics.tells (map (λ w. w.now) c.args.words.now) _ _ _ _
+    (c.answer_words-ended.new.out ≡ c.args.out.now) _ _ _ _ c.code.ensures.value c.answer_words-ended.result.0
+    c.answer_words-ended.ensures.answered c.answer_words-ended.ensures.why c.told_explained.ensures.done c.told_explained.ensures.faulty

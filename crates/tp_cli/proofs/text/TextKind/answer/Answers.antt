@@ -1,4 +1,6 @@
-use Rattle.tp_cli.proofs.Lemmas.{subst, sym, unanswered, IsTextTo}
+use Rattle.std.proofs.Common.{subst, sym}
+use Rattle.tp_cli.proofs.Ending.{unanswered}
+use Rattle.tp_cli.specs.Texts.{IsTextTo}
 use Rattle.tp_cli.proofs.text.TextKind.answer.Goals as goal
 
 pub returns-in-Script-clause-why : goal.returns-in-Script-clause-why

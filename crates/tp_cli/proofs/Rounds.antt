@@ -1,24 +1,29 @@
--- What is printed of a run and of a series.
-pub mod Words
-pub use Words.*
-use Rattle.tp_cli.specs.Runs.{rounds_text}
-
--- the number of tasks of an outcome is that of the graph
-pub tasks-outcome : (n workers : ℕ) (g : TaskGraph) (o : Outcome) → IsOutcome n workers g o → o.tasks ≡ g.tasks
-tasks-outcome n workers g o is = is.tasks.0 ∙ o.results.ok.0 ∙ length-once g.tasks o.results.items is.each_once
-
--- the totals as one text
-pub three_lines : (tasks messages : List ℕ) → line (codes "tasks " ++ tasks) ++ line (codes "messages " ++ messages) ++ line (codes "ended")
-    ≡ codes "tasks " ++ (tasks ++ (codes "\nmessages " ++ (messages ++ codes "\nended\n")))
-three_lines tasks messages =
-    let feed : List ℕ = 10 ∷ [] in
-    let second : List ℕ = codes "messages " ++ (messages ++ feed) in
-    let last : List ℕ = codes "ended\n" in
-    ap (λ rest. codes "tasks " ++ rest)
-    (append_assoc (tasks ++ feed) second last ∙ append_assoc tasks feed (second ++ last)
-    ∙ ap (λ rest. tasks ++ (codes "\nmessages " ++ rest)) (append_assoc messages feed last))
-
--- ==== The rounds of a series, and their text.
+-- The rounds of a series, and their text.
+use Rattle.std.proofs.Common.{◌≡◌, ◌∙◌, ◌+◌, ◌<◌, ◌≤◌, ◌++◌, ℕ, suc, List, ◌∷◌, Some, sym, ap, ap₂, subst, arith, length, drop, append-nil}
+use Rattle.std.proofs.Common.{append_assoc, drop_of_length-le, codes, decimal}
+use Rattle.std.proofs.lemmas.Option.{slice_get-get_or}
+use Rattle.std.proofs.lemmas.Slice.Zip.{AllZip-right}
+use Rattle.std.proofs.Math.Seq.{drop-cons}
+use Rattle.std.specs.List.{All, AllZip}
+use Rattle.std.specs.Prelude.{get_or, reverse, slice_get, Option, None, IsSomeAnd, MatchOption}
+use Rattle.tp_work.proofs.CountedTotals.{length-once}
+use Rattle.tp_base.specs.declared.refusal.Refusal.{Refusal}
+use Rattle.tp_cli.specs.Runs.{IsPrintOfSeries, IsRoundOf, IsUnprintedSeries, IsUntoldRound, round_text, rounds_text, run_text}
+use Rattle.tp_cli.specs.declared.run.Form.{Form}
+use Rattle.tp_cli.specs.declared.run.Form.TheVariants.{Table}
+use Rattle.tp_graph.proofs.Left.{results_right}
+use Rattle.tp_graph.specs.Graphs.{TaskGraph}
+use Rattle.pool_samples.proofs.Keeping.{any_keeps}
+use Rattle.pool_samples.specs.Any.{any_graph}
+use Rattle.pool_samples.specs.declared.any.AnyGraph.{AnyGraph}
+use Rattle.tp_text.specs.Spelling.{line}
+use Rattle.tp_wave.proofs.Generations.{generations_law}
+use Rattle.tp_wave.specs.Generations.{InEach}
+use Rattle.tp_wave.specs.Machine.{History, IsRun}
+use Rattle.tp_work.specs.Lives.{generations}
+use Rattle.tp_work.specs.Series.{IsRound, IsSeries}
+use Rattle.tp_work.specs.declared.series.Round.{Round}
+use Rattle.tp_work.specs.declared.series.Series.{Series}
 
 round_of : (n workers : ℕ) (g : AnyGraph) (h : Option History) (r : Round)
     → IsSomeAnd h (λ events. IsRound n workers (any_graph g) events r) → IsRoundOf g r
@@ -29,8 +34,7 @@ round_of n workers g (Some events) r is = record {
   tasks = is.tasks.0;
 }
 
--- each round of a series is one of the graph
-pub rounds_of : (n workers : ℕ) (g : AnyGraph) (hs : List History) (rounds : List Round) → AllZip (IsRound n workers (any_graph g)) hs rounds
+rounds_of : (n workers : ℕ) (g : AnyGraph) (hs : List History) (rounds : List Round) → AllZip (IsRound n workers (any_graph g)) hs rounds
     → All (IsRoundOf g) rounds
 rounds_of n workers g hs rounds all = λ k d lt.
     let here : slice_get rounds k ≡ Some (get_or rounds k d) = slice_get-get_or rounds k d lt in
@@ -38,6 +42,15 @@ rounds_of n workers g hs rounds all = λ k d lt.
     round_of n workers g (slice_get hs k) (get_or rounds k d)
     (subst (λ o.
     MatchOption o (Unit {0}) (λ r. IsSomeAnd (slice_get hs k) (λ events. IsRound n workers (any_graph g) events r))) here beside)
+
+-- each round of a series is one of the graph
+pub each_of : (n workers : ℕ) (g : AnyGraph) (count : ℕ) (s : Series) → IsSeries n workers (any_graph g) count s
+    → All (IsRoundOf g) s.rounds.items
+each_of n workers g count s is = rounds_of n workers g (reverse (generations s.history.events)) s.rounds.items is.each
+
+-- the events of each of its generations are a run
+pub in_each : (n workers : ℕ) (g : TaskGraph) (count : ℕ) (s : Series) → IsSeries n workers g count s → InEach (IsRun n) s.history.events
+in_each n workers g count s is = generations_law n s.history.events is.runs
 
 -- the number of tasks of a round is that of the graph
 pub tasks-round : (g : AnyGraph) (r : Round) → IsRoundOf g r → r.tasks ≡ (any_graph g).tasks
@@ -71,3 +84,16 @@ pub rounds_done : (g : AnyGraph) (k : ℕ) (rounds : List Round) (text whole : L
 unfolding rounds_text
 rounds_done g k rounds text whole past before =
     sym (append-nil text) ∙ ap (λ rs. text ++ rounds_text g (k + 1) rs) (sym (drop_of_length-le rounds past)) ∙ before
+
+-- ---- what is printed of a series, whose rounds were borrowed
+
+pub printed_rounds : (form : Form) (g : AnyGraph) (n : ℕ) (s : Series) (lent : List Round) (text : List ℕ) → form ≡ Table
+    → lent ≡ s.rounds.items
+    → text ≡ rounds_text g 1 lent → IsPrintOfSeries form g n s text
+printed_rounds form g n s lent text is same printed =
+    subst (λ f. IsPrintOfSeries f g n s text) (sym is) (printed ∙ ap (rounds_text g 1) same)
+
+pub untold_rounds : (form : Form) (g : AnyGraph) (s : Series) (lent : List Round) (r : Refusal) → form ≡ Table → lent ≡ s.rounds.items
+    → IsUntoldRound g lent r → IsUnprintedSeries form g s r
+untold_rounds form g s lent r is same why =
+    subst (λ f. IsUnprintedSeries f g s r) (sym is) (subst (λ rounds. IsUntoldRound g rounds r) same why)
