@@ -23,7 +23,10 @@ program processes
   end do
   call need(gerfmuod_process_finish_work(p(at)))
   ended = detected()
-  if (ended /= n .or. .not. all([(gerfmuod_process_knows_end(p(i)), i = 0, n - 1)])) error stop 'the end was not detected'
+  if (ended /= n) error stop 'the end was not detected'
+  do i = 0, n - 1
+    if (.not. gerfmuod_process_knows_end(p(i))) error stop 'a process does not know the end'
+  end do
   if (gerfmuod_process_finish_work(p(0)) /= gerfmuod_refused_no_work) error stop 'work without work'
   print '(i0, a, i0, a, i0, a)', ended, ' processes know the end, after ', p(0)%wave, ' waves and ', last, ' control messages'
 
