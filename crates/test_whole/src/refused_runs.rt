@@ -21,7 +21,7 @@ use tp_work::{Config, OpenGate, run_generations, run_pool};
 /// Whether the trace of a run was printed, or why there is no outcome.
 type End = Result<bool, Refusal>;
 
-#[tactic(auto, using(tp_text::proofs::Present::run_in_each))]
+#[tactic(auto, using(tp_text::proofs::Readings::Unique::Traces::Lines::run_in_each))]
 fn run_tree<R: Threads + Wait + Sync + Eprint>(rt: &R, alloc: Global, config: Config) -> End
     requires { IsWithinLimits config }
 {
