@@ -32,7 +32,7 @@ static double median(double *numbers) {
 }
 
 /* Seconds a message: each process waits for the number of the other, and sends one more. */
-static double by_hand(int tasks) {
+static double by_mpi_alone(int tasks) {
     int64_t number = 0;
     MPI_Barrier(MPI_COMM_WORLD);
     double from = MPI_Wtime();
@@ -40,7 +40,7 @@ static double by_hand(int tasks) {
         if (k % 2 == me) number++, MPI_Send(&number, 1, MPI_INT64_T, 1 - me, 0, MPI_COMM_WORLD);
         else MPI_Recv(&number, 1, MPI_INT64_T, 1 - me, 0, MPI_COMM_WORLD, MPI_STATUS_IGNORE);
     double seconds = MPI_Wtime() - from;
-    need(number == tasks, "by hand: a wrong number");
+    need(number == tasks, "with MPI alone: a wrong number");
     return seconds / tasks;
 }
 
@@ -99,12 +99,12 @@ int main(int argc, char **argv) {
     MPI_Comm_size(MPI_COMM_WORLD, &processes);
     need(level >= MPI_THREAD_FUNNELED && processes == 2 && tasks > 0, "two processes, and MPI_THREAD_FUNNELED");
     for (int r = 0; r < RUNS; r++) {
-        hand[r] = by_hand(tasks);
+        hand[r] = by_mpi_alone(tasks);
         graph[r] = by_graph(tasks);
         foreign[r] = described(tasks, &bytes[r]);
     }
     if (me == 0)
-        printf("a message of 8 bytes from task to task %.3f us, by hand %.3f us; a task of the other process %.1f ns, %.1f bytes\n",
+        printf("a message of 8 bytes from task to task %.3f us, with MPI alone %.3f us; a task of the other process %.1f ns, %.1f bytes\n",
                1e6 * median(graph), 1e6 * median(hand), 1e9 * median(foreign), median(bytes));
     MPI_Finalize();
     return 0;

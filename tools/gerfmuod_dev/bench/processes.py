@@ -17,7 +17,7 @@ from .measuring import quantiles
 from .rows import ProcessRow
 
 # the argument of the programs for each detector, and its name in the rows; the last one needs MPI
-DETECTORS = {"proved": "proved", "hand": "the same by hand", "safra": "Safra's ring", "reductions": "reductions"}
+DETECTORS = {"proved": "proved", "hand": "the same hand-written", "safra": "Safra's ring", "reductions": "reductions"}
 WITHOUT_MPI = list(DETECTORS)[:-1]
 PROCESSES = [1, 2, 4, 8, 16]
 CALLS = {"send": 1, "message": 2, "wave": 3}
