@@ -3,7 +3,7 @@
 capi/preload/mpi has the library, and in programs/ the programs. Both are compiled for Open MPI and for MPICH, whichever is installed. A
 wrong program has to be reported with the call, the rank or tag, and the place of its mistake, a right one without a verdict; the file in
 JSON has to agree. The calls of mpi.h are compared with those that the library defines. --build FOLDER only builds the library for
-`mpicc`, or for the compiler that the variable MPICC names. --cost measures messages and MPI_Allreduce without and with it.
+`mpicc`, or for the compiler that the variable MPICC names. `tools/dev bench preloaded` measures what it costs.
 """
 import collections
 import glob
@@ -39,11 +39,16 @@ def build(compiler, path):
     output_of([compiler, *OPTIONS, "-shared", "-fPIC", *sorted(glob.glob(f"{FOLDER}/*.c")), *LINK, "-o", path])
 
 
+def compiled(mpi, folder, name):
+    output_of([mpi.compiler, *OPTIONS, "-O1", "-g", f"{FOLDER}/programs/{name}.c", "-o", f"{folder}/{name}"])
+    return f"{folder}/{name}"
+
+
 def programs(mpi, folder):
     """Compiles the programs for an MPI; yields the path of each, and the list of its modes."""
-    for name in ("wrong", "right", "cost"):
-        output_of([mpi.compiler, *OPTIONS, "-O1", "-g", f"{FOLDER}/programs/{name}.c", "-o", f"{folder}/{name}"])
-        yield f"{folder}/{name}", "" if name == "cost" else output_of([f"{folder}/{name}", "modes"])
+    compiled(mpi, folder, "cost")
+    for path in (compiled(mpi, folder, name) for name in ("wrong", "right")):
+        yield path, output_of([path, "modes"])
     for name in ("fortran", "fortran_2008") if shutil.which(mpi.fortran) else ():
         output_of([mpi.fortran, "-g", "-w", f"{FOLDER}/programs/{name}.f90", "-J", folder, "-o", f"{folder}/{name}"])
         yield f"{folder}/{name}", FORTRAN_MODES
@@ -79,16 +84,6 @@ def judge_names(tally, mpi, path):
     tally.judge(declared and not unnamed, f"{mpi.name}: not defined: {' '.join(unnamed)}")
 
 
-def print_cost(mpi, folder, program):
-    """Prints the best times of some runs without and with the library, in turns, and their ratios."""
-    best = {"": {}, f"{folder}/{NAME}": {}}
-    for preload, times in list(best.items()) * 5:
-        for name, time in re.findall(r"^(\S.*): (\S+) us$", printed_by(mpi, 2, [program], LD_PRELOAD=preload), re.M):
-            times[name] = min(times.get(name, float("inf")), float(time))
-    for name, (plain, checked) in {name: [times[name] for times in best.values()] for name in best[""]}.items():
-        print(f"{mpi.name}: {name}: {plain:.2f} us, with the library {checked:.2f} us: {checked / plain:.1f} times")
-
-
 def check(tally, mpi, folder, options):
     build(mpi.compiler, f"{folder}/{NAME}")
     judge_names(tally, mpi, f"{folder}/{NAME}")
@@ -97,8 +92,6 @@ def check(tally, mpi, folder, options):
         name, least, _, *patterns = mode.split("\t")
         counts = [count for count in options.ranks if count >= int(least) and name in (options.only or [name])]
         runs += [(path, mode, count) for count in counts] * ((20 if patterns else 100) if options.full else 1)
-    if options.cost:
-        return print_cost(mpi, folder, f"{folder}/cost")
     with ThreadPoolExecutor(max(1, 4 * repository.processors() // max(options.ranks))) as pool:
         return list(pool.map(lambda run: judge(tally, mpi, folder, *run), runs))
 
@@ -107,7 +100,6 @@ def arguments(parser):
     parser.add_argument("--full", action="store_true", help="20 runs of each wrong program, and 100 of each right one")
     parser.add_argument("--ranks", type=int, nargs="+", default=[4], help="the numbers of ranks (4)")
     parser.add_argument("--only", metavar="MODE", nargs="+", help="only the programs with these modes")
-    parser.add_argument("--cost", action="store_true", help="measure times without and with the library")
     parser.add_argument("--build", metavar="FOLDER", help="only build the library, in this folder")
 
 

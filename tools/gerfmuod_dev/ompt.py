@@ -2,14 +2,13 @@
 
 Sound programs have to pass with 1, 4 and 12 threads, also one of gcc, and with the tool under ThreadSanitizer. A broken runtime,
 changed events of a sound one, and a program that hangs have to be named; a trace has to be sound. With --full two programs run 50
-times, and two million tasks between two barriers; with --cost it only measures. Needs the library, clang and its libomp
-(`tools/bench-packages`): what is missing is skipped.
+times, and two million tasks between two barriers. Needs the library, clang and its libomp (`tools/bench-packages`): what is missing is
+skipped. `tools/dev bench preloaded` measures what the tool costs.
 """
 import itertools
 import json
 import os
 import re
-import subprocess
 import tempfile
 
 from . import library, repository, running, summary
@@ -17,13 +16,14 @@ from .c_programs import start, succeeds
 
 FOLDER, WHAT, TOOL, BREAKER = "capi/preload/openmp", "the tool for OpenMP programs", "libgerfmuod_ompt.so", "libbroken.so"
 OMP, THREADS = "/usr/lib/x86_64-linux-gnu/libomp.so.5", [1, 4, 12]
+MAKE = ["make", "-s", "-j4", "-C", FOLDER, "CC=clang", "WERROR=-Werror", "programs"]
 # programs and patterns of what is printed: of sound runs; and of a broken runtime, or of a sound one one of whose events was changed
 SOUND, BROKEN = json.loads(repository.text_of(f"{repository.TOP}/tools/data/ompt.json")).values()
 
 
 def is_built(tally, folder, *options):
     """Compiles the tool and its programs to a folder; counts and returns whether that succeeds."""
-    result = start(["make", "-s", "-j4", "-C", FOLDER, "CC=clang", "WERROR=-Werror", "programs", f"OUT={folder}", *options])
+    result = start([*MAKE, f"OUT={folder}", *options])
     tally.judge(not result.status, f"make of {FOLDER}: {result.out.decode(errors='replace')[:2000]}")
     return not result.status
 
@@ -69,7 +69,6 @@ def try_all(tally, folder, is_full):
 
 def arguments(parser):
     parser.add_argument("--full", action="store_true", help="the long form: 50 runs, and two million tasks")
-    parser.add_argument("--cost", type=int, metavar="ROUNDS", help="measure what the tool costs, in this number of runs")
 
 
 def run(options):
@@ -81,7 +80,5 @@ def run(options):
         tally.skips(WHAT, "libomp-dev")
     elif reason:
         tally.fails(f"{reason}: {WHAT} was not linked. make lib builds it")
-    elif is_built(tally, folder) and options.cost:
-        subprocess.run([f"{folder}/cost", f"{folder}/{TOOL}", str(options.cost)], check=True)
-    elif not tally.failed:
+    elif is_built(tally, folder):
         try_all(tally, folder, options.full)

@@ -11,6 +11,7 @@
     dag          task graphs with bodies in C: Cholesky, Jacobi, merge sort, small tasks; OpenMP, oneTBB, StarPU, OpenBLAS
     processes    the detector for distributed programs over Open MPI, call by call and simulated, and a hand-written one,
                  Safra's ring, and repeated reductions
+    preloaded    programs with and without the checker of MPI programs and the tool for OpenMP programs
 
 Without a name all of them. Before anything is timed the outputs of all programs are compared; the status is 1 if one differs. Then all run
 once in each round, and it prints the medians of the rounds: all rows, and the tables of docs/PERFORMANCE.md; what begins is printed on

@@ -1,7 +1,7 @@
 """What is measured: for each measurement its cases, and the programs that are compared on them."""
 
 from ..repository import TOP
-from . import inputs, processes
+from . import inputs, preloaded, processes
 from .dag import dag
 from .measuring import Candidate, Case, Kernel, by_workers, compare, measure
 
@@ -14,6 +14,7 @@ FRONT = ["run", "body", "rod"]
 PROGRAMS = {
     "sim": [TP], "audit": [TP], "run": [TP, SAMPLES], "patterns": [SAMPLES], "rod": [SAMPLES], "body": [SAMPLES],
     "product": [SAMPLES], "library": [ARCHIVE], "dag": [ARCHIVE], "processes": [ARCHIVE],
+    "preloaded": [ARCHIVE],
 }
 
 TASKS = {"product:64:4:0": 4_096, "wavefront:64:64:0": 4_096, "reduce:1024:0": 2_047, "product:64:1:0": 262_144}
@@ -197,6 +198,5 @@ def library(bench):
 
 MEASUREMENTS = dict(
     sim=sim, audit=audit, run=run, patterns=grids, rod=rod, body=body, product=product, library=library,
-    dag=dag,
-    processes=processes.measure,
+    dag=dag, processes=processes.measure, preloaded=preloaded.measure,
 )

@@ -139,7 +139,7 @@ def write(path, rows, kind=Row):
 
 
 def kind_of(measurement):
-    return ProcessRow if measurement == "processes" else Row
+    return ProcessRow if measurement in ("processes", "preloaded") else Row
 
 
 def kept(measurement):

@@ -363,9 +363,24 @@ def detectors(rows):
     return "\n\n".join([*parts[:-2], f"A call, the loop around it included:\n\n{calls}", *parts[-2:]])
 
 
+def preloaded(rows):
+    """Returns a line for each case: its time without the checker and with it, and the ratio of both."""
+
+    fields = ("microseconds", "lower_quartile", "upper_quartile")
+
+    def cell_of(case, name):
+        own = {row.detector: row for row in having(rows, case=case)}
+        if name in own:
+            return "{:.2f} ({:.2f}–{:.2f})".format(*(getattr(own[name], field) for field in fields))
+        return ratio_of_rows(*fields, own["with"], own["without"])
+
+    return pivot("Microseconds (quartiles)", distinct(rows, "case"), {name: name for name in ("without", "with", "ratio")}, cell_of)
+
+
 TABLES = {
     "sim": texts, "audit": texts, "run": pools, "patterns": grids, "rod": functools.partial(milliseconds, ROD_PLACES), "body": body,
     "product": functools.partial(milliseconds, PRODUCT_PLACES), "library": library, "dag": task_graphs, "processes": detectors,
+    "preloaded": preloaded,
 }
 assert TABLES.keys() == MEASUREMENTS.keys()
 

@@ -1,7 +1,7 @@
 """Tests of what decides whether rows are stored and what tables say; pytest runs them."""
 import pytest
 
-from . import comparing, conditions, metg, soundness, tables
+from . import comparing, conditions, metg, preloaded, soundness, tables
 from .measuring import Bench, quantiles
 from .peers import Peers
 from .rows import Row
@@ -47,6 +47,14 @@ def test_speed_up_is_not_more_than_the_workers():
     alone, four = row("blocks of 100, 100 steps", 41, 1, "body"), row("blocks of 100, 100 steps", 10, 4, "body")
     assert soundness.impossible("body", [alone, four]) == []
     assert len(soundness.impossible("body", [alone._replace(milliseconds=42.5), four])) == 1
+
+
+def test_checkers_are_compared_with_nothing_by_times():
+    times = {"without": (2, 1, 3), "with": (8, 7, 9)}
+    rows = [preloaded.NO_ROW._replace(case="a", detector=name, **dict(zip(preloaded.TIMES, own))) for name, own in times.items()]
+    assert soundness.impossible("preloaded", rows) == []
+    assert len(soundness.impossible("preloaded", [rows[0], rows[1]._replace(lower_quartile=0)])) == 1
+    assert tables.preloaded(rows).endswith("| a | 2.00 (1.00–3.00) | 8.00 (7.00–9.00) | 4.00 (2.33–9.00) |")
 
 
 def test_smallest_body_is_named_only_if_all_larger_ones_are_fast():

@@ -33,7 +33,7 @@ int main(int count, char **arguments) {
     MPI_Comm_rank(MPI_COMM_WORLD, &me);
     for (int k = 0; k < 3; k++) {
         time = ping_pong(me, sizes[k]);
-        if (!me) printf("%d bytes, one way: %.3f us\n", sizes[k], time);
+        if (!me) printf("%d byte%s, one way: %.3f us\n", sizes[k], sizes[k] == 1 ? "" : "s", time);
     }
     time = sums();
     if (!me) printf("MPI_Allreduce: %.3f us\n", time);
