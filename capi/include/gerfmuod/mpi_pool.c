@@ -1,0 +1,332 @@
+/* gerfmuod/mpi_pool.c: tasks over the processes of a communicator that arise while they run. When a run has ended is decided by the
+ * proved calls of gerfmuod/process.h. This file has the queue, the threads and the messages. It is tested, not proved.
+ *
+ * The main thread alone talks to MPI and to the detector. To the detector a process has one piece of work, as long as a task waits or
+ * runs here or one that was made here is not sent. A message has one task; its tag is the kind of the task, from 1. That a body failed is
+ * a message too, and counted like one with a task, so that nothing of a run is in flight when it has ended. */
+#define _POSIX_C_SOURCE 200809L
+#include <gerfmuod/mpi_pool.h>
+
+#include <limits.h>
+#include <pthread.h>
+#include <stdbool.h>
+#include <stdlib.h>
+#include <string.h>
+#include <time.h>
+
+/* The tags of messages: that a body failed, and the first with a task. */
+enum { STOP = 0, FIRST_KIND = 1, MOST_KINDS = GERFMUOD_MPI_FIRST_TAG - FIRST_KIND };
+/* How long the main thread sleeps while it has nothing to do and others run bodies, in nanoseconds. */
+enum { NAP = 50000, SECOND = 1000000000 };
+
+/* A task, or that a body failed. */
+typedef struct item {
+    struct item *next;
+    int to, tag, size;
+    MPI_Request request; /* while it is being sent */
+    _Alignas(16) unsigned char arguments[];
+} item;
+
+typedef struct {
+    gerfmuod_mpi_pool_body body;
+    void *context;
+} kind;
+
+struct gerfmuod_mpi_pool {
+    int me, processes;
+    kind *kinds;
+    uint32_t kinds_count;
+    /* one lock protects all that follows; `work` is signalled when a task may be ready */
+    pthread_mutex_t lock;
+    pthread_cond_t work;
+    item *ready;           /* the newest first */
+    item *due, **last_due; /* for other processes, the oldest first */
+    item *stops;           /* kept for the others, if a body fails */
+    uint32_t running, sleeping;
+    bool is_over, is_stopped, lacks_kind;
+    int64_t failure; /* the process and the kind whose body failed, or NO_FAILURE */
+    uint64_t ran, sent;
+    /* of the main thread alone */
+    gerfmuod_mpi_detector detector;
+    bool is_working, has_run;
+    item *sending;
+};
+
+/* Signed, as MPICH compares MPI_UINT64_T too. */
+#define NO_FAILURE INT64_MAX
+
+uint32_t gerfmuod_mpi_pool_open(gerfmuod_mpi_pool **opened, MPI_Comm communicator) {
+    gerfmuod_mpi_pool *pool = calloc(1, sizeof *pool);
+    int lacks = !pool, lack;
+    MPI_Allreduce(&lacks, &lack, 1, MPI_INT, MPI_MAX, communicator);
+    *opened = lack ? NULL : pool;
+    if (lack) return free(pool), (uint32_t)GERFMUOD_REFUSED_NO_MEMORY;
+    MPI_Comm_rank(communicator, &pool->me);
+    MPI_Comm_size(communicator, &pool->processes);
+    pthread_mutex_init(&pool->lock, NULL);
+    pthread_cond_init(&pool->work, NULL);
+    pool->last_due = &pool->due;
+    pool->failure = NO_FAILURE;
+    return gerfmuod_mpi_detector_open(&pool->detector, communicator);
+}
+
+uint32_t gerfmuod_mpi_pool_kind(gerfmuod_mpi_pool *pool, gerfmuod_mpi_pool_body body, void *context) {
+    kind *kinds = pool->kinds_count < MOST_KINDS ? realloc(pool->kinds, (pool->kinds_count + 1) * sizeof *kinds) : NULL;
+    if (!kinds) return pool->lacks_kind = true, pool->kinds_count;
+    pool->kinds = kinds;
+    kinds[pool->kinds_count] = (kind){body, context};
+    return pool->kinds_count++;
+}
+
+/* ---- tasks; the lock is held */
+
+static item *new_item(int to, int tag, const void *arguments, size_t size) {
+    item *added = malloc(sizeof *added + size);
+    if (!added) return NULL;
+    *added = (item){.to = to, .tag = tag, .size = (int)size};
+    if (size && arguments) memcpy(added->arguments, arguments, size);
+    return added;
+}
+
+/* Leaves an item to a thread here, or to the main thread, which sends it. */
+static void leave(gerfmuod_mpi_pool *pool, item *i) {
+    if (i->to == pool->me) i->next = pool->ready, pool->ready = i;
+    else i->next = NULL, *pool->last_due = i, pool->last_due = &i->next;
+    if (pool->sleeping) pthread_cond_signal(&pool->work);
+}
+
+static void drop_all(item **first) {
+    for (item *i = *first, *next; i; i = next) next = i->next, free(i);
+    *first = NULL;
+}
+
+/* Ends the run here because of a process and a kind, the lowest of them; tasks that wait are dropped. */
+static void stop(gerfmuod_mpi_pool *pool, int64_t failure) {
+    if (failure < pool->failure) pool->failure = failure;
+    pool->is_stopped = true;
+    drop_all(&pool->ready);
+}
+
+/* A body failed here. The others are told once; what was due to them before still goes. */
+static void stop_all(gerfmuod_mpi_pool *pool, uint32_t number) {
+    int64_t failure = (int64_t)pool->me << 32 | number;
+    for (item *i = pool->stops, *next; i; i = next) {
+        next = i->next;
+        memcpy(i->arguments, &failure, sizeof failure);
+        leave(pool, i);
+    }
+    pool->stops = NULL;
+    stop(pool, failure);
+}
+
+/* Keeps what stop_all needs, which cannot wait for memory; returns whether there is enough. */
+static bool keep_stops(gerfmuod_mpi_pool *pool) {
+    bool has_some = pool->stops;
+    for (int p = 0; p < pool->processes && !has_some; p++) {
+        item *added = p == pool->me ? NULL : new_item(p, STOP, NULL, sizeof(int64_t));
+        if (added) added->next = pool->stops, pool->stops = added;
+        else if (p != pool->me) return drop_all(&pool->stops), false;
+    }
+    return true;
+}
+
+/* Runs the newest task, if there is one; returns whether there was. The lock is held, but not while the body runs. */
+static bool turn(gerfmuod_mpi_pool *pool) {
+    item *i = pool->ready;
+    if (!i) return false;
+    pool->ready = i->next;
+    pool->running++;
+    pool->ran++;
+    if (pool->ready && pool->sleeping) pthread_cond_signal(&pool->work);
+    pthread_mutex_unlock(&pool->lock);
+    uint32_t number = (uint32_t)(i->tag - FIRST_KIND);
+    bool has_failed = pool->kinds[number].body(pool, pool->kinds[number].context, i->arguments, (size_t)i->size) != 0;
+    free(i);
+    pthread_mutex_lock(&pool->lock);
+    if (has_failed) stop_all(pool, number);
+    pool->running--;
+    return true;
+}
+
+uint32_t gerfmuod_mpi_pool_spawn(gerfmuod_mpi_pool *pool, int to, uint32_t number, const void *arguments, size_t size) {
+    if (to < 0 || to >= pool->processes) return GERFMUOD_REFUSED_NO_NODE;
+    if (number >= pool->kinds_count || size > INT_MAX) return GERFMUOD_REFUSED_BAD_SPEC;
+    item *added = new_item(to, FIRST_KIND + (int)number, arguments, size);
+    pthread_mutex_lock(&pool->lock);
+    bool is_stopped = pool->is_stopped;
+    if (added && !is_stopped) leave(pool, added);
+    pthread_mutex_unlock(&pool->lock);
+    if (is_stopped) return free(added), (uint32_t)GERFMUOD_REFUSED_STOPPED;
+    return added ? GERFMUOD_OK : GERFMUOD_REFUSED_NO_MEMORY;
+}
+
+/* A thread beside the main thread, until the run is over. */
+static void *work(void *context) {
+    gerfmuod_mpi_pool *pool = context;
+    pthread_mutex_lock(&pool->lock);
+    while (!pool->is_over)
+        if (!turn(pool)) pool->sleeping++, pthread_cond_wait(&pool->work, &pool->lock), pool->sleeping--;
+    pthread_mutex_unlock(&pool->lock);
+    return NULL;
+}
+
+/* ---- the messages; all that follows is of the main thread */
+
+/* A call on the detector that a program which keeps its rules does not see refused. */
+static void must(const gerfmuod_mpi_pool *pool, uint32_t refused) {
+    if (refused) MPI_Abort(gerfmuod_mpi_detector_communicator(&pool->detector), (int)refused);
+}
+
+/* Frees the items that were sent. */
+static void forget_sent(gerfmuod_mpi_pool *pool) {
+    for (item **at = &pool->sending, *i; (i = *at);) {
+        int is_complete;
+        MPI_Test(&i->request, &is_complete, MPI_STATUS_IGNORE);
+        if (is_complete) *at = i->next, free(i);
+        else at = &i->next;
+    }
+}
+
+/* Sends what the threads left for it: work is open as long as something is due. Returns whether there was something. */
+static bool send_due(gerfmuod_mpi_pool *pool) {
+    pthread_mutex_lock(&pool->lock);
+    item *due = pool->due;
+    pool->due = NULL, pool->last_due = &pool->due;
+    pthread_mutex_unlock(&pool->lock);
+    for (item *i = due, *next; i; i = next) {
+        next = i->next;
+        must(pool, gerfmuod_process_count_sent(&pool->detector.process));
+        MPI_Isend(i->arguments, i->size, MPI_BYTE, i->to, i->tag, gerfmuod_mpi_detector_communicator(&pool->detector), &i->request);
+        i->next = pool->sending, pool->sending = i;
+        pool->sent += i->tag != STOP;
+    }
+    return due != NULL;
+}
+
+/* Receives the message that the detector found. It is a part of the work of this process, which it begins if there was none. */
+static void receive(gerfmuod_mpi_pool *pool, const MPI_Status *status) {
+    int size;
+    MPI_Get_count(status, MPI_BYTE, &size);
+    item *i = new_item(pool->me, status->MPI_TAG, NULL, (size_t)size);
+    if (!i) must(pool, GERFMUOD_REFUSED_NO_MEMORY);
+    must(pool, gerfmuod_process_count_received(&pool->detector.process, pool->detector.process.epoch));
+    MPI_Recv(i->arguments, size, MPI_BYTE, status->MPI_SOURCE, status->MPI_TAG, gerfmuod_mpi_detector_communicator(&pool->detector),
+             MPI_STATUS_IGNORE);
+    if (pool->is_working) must(pool, gerfmuod_process_finish_work(&pool->detector.process));
+    pool->is_working = true;
+    pthread_mutex_lock(&pool->lock);
+    int64_t failure;
+    if (i->tag == STOP) memcpy(&failure, i->arguments, sizeof failure), stop(pool, failure);
+    if (i->tag == STOP || pool->is_stopped) free(i);
+    else leave(pool, i);
+    pthread_mutex_unlock(&pool->lock);
+}
+
+/* Runs a task, if one is ready; returns whether it did. *is_idle says whether nothing is left here: then only a message brings work. */
+static bool advance(gerfmuod_mpi_pool *pool, bool *is_idle) {
+    pthread_mutex_lock(&pool->lock);
+    bool is_more = turn(pool);
+    *is_idle = !pool->ready && !pool->due && !pool->running;
+    pthread_mutex_unlock(&pool->lock);
+    return is_more;
+}
+
+/* Sleeps until a thread leaves something, but not long: a message may come. */
+static void nap(gerfmuod_mpi_pool *pool) {
+    struct timespec until;
+    clock_gettime(CLOCK_REALTIME, &until);
+    until.tv_nsec += NAP;
+    if (until.tv_nsec >= SECOND) until.tv_nsec -= SECOND, until.tv_sec++;
+    pthread_mutex_lock(&pool->lock);
+    pool->sleeping++;
+    if (!pool->ready && !pool->due && pool->running) pthread_cond_timedwait(&pool->work, &pool->lock, &until);
+    pool->sleeping--;
+    pthread_mutex_unlock(&pool->lock);
+}
+
+/* Runs tasks, sends and receives until the detector knows the end. */
+static void communicate(gerfmuod_mpi_pool *pool) {
+    for (bool has_ended = false; !has_ended;) {
+        bool is_idle, is_more = advance(pool, &is_idle);
+        int has_message = 0;
+        MPI_Status status;
+        is_more |= send_due(pool);
+        forget_sent(pool);
+        if (is_idle && pool->is_working) must(pool, gerfmuod_process_finish_work(&pool->detector.process)), pool->is_working = false;
+        if (pool->is_working) must(pool, gerfmuod_mpi_detector_test(&pool->detector, &has_message, &status));
+        else must(pool, gerfmuod_mpi_detector_wait(&pool->detector, &has_message, &status)), has_ended = !has_message;
+        if (has_message) receive(pool, &status);
+        else if (!is_more && !has_ended) nap(pool);
+    }
+}
+
+/* ---- a run */
+
+/* What all processes return, if one of them may not run. */
+static uint32_t agree_to_run(gerfmuod_mpi_pool *pool, uint32_t refused) {
+    int64_t mine[3] = {refused ? (int64_t)(pool->processes - pool->me) << 32 | refused : 0, pool->kinds_count, -(int64_t)pool->kinds_count};
+    int64_t all[3];
+    MPI_Allreduce(mine, all, 3, MPI_INT64_T, MPI_MAX, gerfmuod_mpi_detector_communicator(&pool->detector));
+    if (all[0]) return (uint32_t)all[0];
+    return all[1] == -all[2] ? GERFMUOD_OK : GERFMUOD_REFUSED_DIFFERENT;
+}
+
+/* Starts the threads beside this one; returns how many. They begin when the lock is free. */
+static uint32_t start(gerfmuod_mpi_pool *pool, pthread_t *started, uint32_t others) {
+    uint32_t begun = 0;
+    while (started && begun < others && !pthread_create(&started[begun], NULL, work, pool)) begun++;
+    return begun;
+}
+
+/* Runs until the end; returns the failure that all agree on. */
+static int64_t run_all(gerfmuod_mpi_pool *pool) {
+    int64_t failure;
+    if (pool->has_run) must(pool, gerfmuod_mpi_detector_reopen(&pool->detector));
+    pool->has_run = pool->is_working = true;
+    communicate(pool);
+    while (pool->sending) forget_sent(pool); /* all of them were received */
+    MPI_Allreduce(&pool->failure, &failure, 1, MPI_INT64_T, MPI_MIN, gerfmuod_mpi_detector_communicator(&pool->detector));
+    return failure;
+}
+
+uint32_t gerfmuod_mpi_pool_run(gerfmuod_mpi_pool *pool, uint32_t threads) {
+    uint32_t others = threads ? threads - 1 : 0, refused = GERFMUOD_OK;
+    pthread_t *started = malloc((others + 1) * sizeof *started);
+    pthread_mutex_lock(&pool->lock); /* the threads begin when all processes may run */
+    uint32_t begun = start(pool, started, others);
+    if (pool->lacks_kind || !keep_stops(pool)) refused = GERFMUOD_REFUSED_NO_MEMORY;
+    else if (!threads) refused = GERFMUOD_REFUSED_NO_THREAD;
+    else if (!started || begun < others) refused = GERFMUOD_REFUSED_NOT_STARTED;
+    refused = agree_to_run(pool, refused);
+    pool->is_over = refused != 0, pool->is_stopped = false, pool->failure = NO_FAILURE;
+    pthread_mutex_unlock(&pool->lock);
+    int64_t failure = refused ? NO_FAILURE : run_all(pool);
+    pthread_mutex_lock(&pool->lock);
+    pool->is_over = true, pool->is_stopped = false, pool->failure = failure;
+    pthread_cond_broadcast(&pool->work);
+    pthread_mutex_unlock(&pool->lock);
+    for (uint32_t k = 0; k < begun; k++) pthread_join(started[k], NULL);
+    free(started);
+    return failure == NO_FAILURE ? refused : GERFMUOD_REFUSED_STOPPED;
+}
+
+void gerfmuod_mpi_pool_failed(const gerfmuod_mpi_pool *pool, int *process, uint32_t *number) {
+    *process = (int)(pool->failure >> 32), *number = (uint32_t)pool->failure;
+}
+
+uint64_t gerfmuod_mpi_pool_ran(const gerfmuod_mpi_pool *pool) { return pool->ran; }
+uint64_t gerfmuod_mpi_pool_sent(const gerfmuod_mpi_pool *pool) { return pool->sent; }
+int gerfmuod_mpi_pool_rank(const gerfmuod_mpi_pool *pool) { return pool->me; }
+int gerfmuod_mpi_pool_size(const gerfmuod_mpi_pool *pool) { return pool->processes; }
+
+void gerfmuod_mpi_pool_close(gerfmuod_mpi_pool *pool) {
+    if (!pool) return;
+    drop_all(&pool->ready);
+    drop_all(&pool->due);
+    drop_all(&pool->stops);
+    gerfmuod_mpi_detector_close(&pool->detector);
+    pthread_cond_destroy(&pool->work);
+    pthread_mutex_destroy(&pool->lock);
+    free(pool->kinds);
+    free(pool);
+}
