@@ -41,8 +41,9 @@ def messages(bench, mpi):
 
 
 def tasks(bench):
-    output_of([*ompt.MAKE, f"OUT={bench.folder}"])
-    program, tools = f"{bench.folder}/cost", ({"OMP_TOOL": "disabled"}, {"OMP_TOOL_LIBRARIES": f"{bench.folder}/{ompt.TOOL}"})
+    folder = f"{bench.folder}/openmp"
+    output_of([*ompt.MAKE, f"OUT={folder}"])
+    program, tools = f"{folder}/cost", ({"OMP_TOOL": "disabled"}, {"OMP_TOOL_LIBRARIES": f"{folder}/{ompt.TOOL}"})
     turns = float(output_of([program]).split()[0])
     for threads, (kind, chained), (length, count) in itertools.product(THREADS, CHAINS.items(), BODIES.items()):
         case = f"OpenMP, {threads} thread{'s' * (threads > 1)}: {kind}, bodies of {length} us"
