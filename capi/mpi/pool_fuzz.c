@@ -5,7 +5,7 @@
  *     mpirun -n 4 ./pool_fuzz FIRST LAST THREADS [FAILS]
  *
  * The seeds FIRST to LAST are runs of one pool, after each refusal. With FAILS, in every second run one body fails, and every process has
- * to return STOPPED. Prints one line; the exit status is not 0 if a run was wrong. */
+ * to return STOPPED. Prints one line, without FAILS with the number of tasks; the exit status is not 0 if a run was wrong. */
 #define _POSIX_C_SOURCE 200809L
 #include <gerfmuod/mpi_pool.h>
 
@@ -156,10 +156,11 @@ int main(int argc, char **argv) {
     mine[0] = gerfmuod_mpi_pool_ran(pool), mine[1] = gerfmuod_mpi_pool_sent(pool);
     gerfmuod_mpi_pool_close(pool);
     MPI_Allreduce(mine, all, 3, MPI_UINT64_T, MPI_SUM, MPI_COMM_WORLD);
-    if (me == 0)
-        printf("%llu runs over %d processes with %s threads each, %llu tasks, %llu of them sent: %s\n",
-               (unsigned long long)(last - first + 1), processes, argv[3], (unsigned long long)all[0], (unsigned long long)all[1],
-               all[2] ? "WRONG" : "right");
+    if (me == 0) {
+        printf("%llu runs over %d processes with %s threads each", (unsigned long long)(last - first + 1), processes, argv[3]);
+        if (argc < 5) printf(", %llu tasks, %llu of them sent", (unsigned long long)all[0], (unsigned long long)all[1]);
+        printf(": %s\n", all[2] ? "WRONG" : "right");
+    }
     MPI_Finalize();
     return all[2] != 0;
 }

@@ -222,11 +222,12 @@ static void receive(gerfmuod_mpi_pool *pool, const MPI_Status *status) {
     pthread_mutex_unlock(&pool->lock);
 }
 
-/* Runs a task, if one is ready; returns whether it did. *is_idle says whether nothing is left here: then only a message brings work. */
+/* Runs a task, if one is ready; returns whether it did. *is_idle says whether none is left here: once what is due is sent, only a
+ * message brings work. */
 static bool advance(gerfmuod_mpi_pool *pool, bool *is_idle) {
     pthread_mutex_lock(&pool->lock);
     bool is_more = turn(pool);
-    *is_idle = !pool->ready && !pool->due && !pool->running;
+    *is_idle = !pool->ready && !pool->running;
     pthread_mutex_unlock(&pool->lock);
     return is_more;
 }
