@@ -9,4 +9,4 @@ a = pool.task(math.sqrt, 2.0)
 b = pool.task(math.exp, 1.0)
 c = pool.task(operator.mul, a, b)
 pool.run(threads=4)
-print(f"{c.result:.6f}")  # 3.844231
+print(f"{c.result():.6f}")  # 3.844231

@@ -7,7 +7,7 @@
     >>> b = pool.task(math.exp, 1.0)
     >>> c = pool.task(operator.mul, a, b)     # waits for a and b, and gets their results
     >>> pool.run(threads=4)
-    >>> round(c.result, 6)
+    >>> round(c.result(), 6)
     3.844231
 
 The package loads the shared object libgerfmuod.so.0, which `make lib` builds. It searches the path
@@ -15,7 +15,7 @@ in the environment variable GERFMUOD_LIBRARY; or else the folder of the package,
 repository, and the library path of the system.
 """
 from ._detector import Detector
-from ._pool import Handle, Pool, Task
+from ._pool import Data, Handle, Pool, Task, read, update, write
 from ._refused import Refused
 
-__all__ = ["Detector", "Handle", "Pool", "Refused", "Task"]
+__all__ = ["Data", "Detector", "Handle", "Pool", "Refused", "Task", "read", "update", "write"]

@@ -12,6 +12,7 @@ NONE = 0xFFFFFFFF
 NOT_STARTED = 65
 #: What a turn returns if it returns a task.
 RUN = 1
+READ, WRITE, UPDATE = 1, 2, 3  # enum gerfmuod_mode
 
 
 class GraphResult(ctypes.Structure):

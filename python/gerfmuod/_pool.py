@@ -10,7 +10,7 @@ import signal
 import threading
 from typing import Any, Callable, Dict, Generic, Iterable, Iterator, List, NamedTuple, Optional, Tuple, TypeVar, Union
 
-from ._library import NONE, NOT_STARTED, RUN, Access, Team, library
+from ._library import NONE, NOT_STARTED, READ, RUN, UPDATE, WRITE, Access, Team, library
 from ._refused import Refused
 
 Result = TypeVar("Result")
@@ -18,26 +18,33 @@ Path = Union[str, "os.PathLike[str]"]
 
 
 class Task(Generic[Result]):
-    """A task of a pool. As an argument of a later task it is replaced by its result."""
+    """A task of a pool. As an argument of a later task it is replaced by its result. Its methods are a Future's, but never wait."""
 
-    __slots__ = ("number", "_owner", "_result", "_is_done")
+    __slots__ = ("number", "_owner", "_result", "_error", "_is_done")
 
     def __init__(self, owner: object, number: int) -> None:
         self.number = number
         self._owner = owner  # of one pool; a reference to the pool itself would be a cycle
-        self._result: Any = None
-        self._is_done = False
+        self._end(None, None, False)
 
-    @property
+    def _end(self, result: Any, error: Optional[BaseException], is_done: bool = True) -> None:
+        self._result, self._error, self._is_done = result, error, is_done
+
     def result(self) -> Result:
-        """What the task's function returned.
-
-        Raises:
-            RuntimeError: the task did not run, or its function raised an exception.
-        """
-        if not self._is_done:
-            raise RuntimeError(f"task {self.number} has no result")
+        """Returns what the task's function returned, or raises what it raised; RuntimeError if the task did not run."""
+        if self.exception() is not None:
+            raise self._error  # type: ignore[misc]
         return self._result  # type: ignore[no-any-return]
+
+    def exception(self) -> Optional[BaseException]:
+        """Returns what the task's function raised, or None. Raises RuntimeError if the task did not run."""
+        if not self._is_done:
+            raise RuntimeError(f"task {self.number} did not run")
+        return self._error
+
+    def done(self) -> bool:
+        """Returns whether the task's function has returned or raised."""
+        return self._is_done
 
     def __repr__(self) -> str:
         return f"<Task {self.number}{', done' if self._is_done else ''}>"
@@ -53,7 +60,32 @@ class Handle:
         self._owner = owner
 
     def __repr__(self) -> str:
-        return f"<Handle {self.number}>"
+        return f"<{type(self).__name__} {self.number}>"
+
+
+class Data(Handle):
+    """A value with a handle. A task gets the value if an argument is :func:`read`, :func:`write` or :func:`update` of it."""
+
+    __slots__ = ("value",)
+    value: Any
+
+
+Accessed = NamedTuple("Accessed", [("data", Any), ("mode", int)])  # an argument of a task, and what the task does with it
+
+
+def read(data: Any) -> Any:
+    """An argument of a task: the value, which the task leaves as it is."""
+    return Accessed(data, READ)
+
+
+def write(data: Any) -> Any:
+    """An argument of a task: an object that the task changes, without use of what it was before."""
+    return Accessed(data, WRITE)
+
+
+def update(data: Any) -> Any:
+    """An argument of a task: an object that the task reads and changes."""
+    return Accessed(data, UPDATE)
 
 
 class _Job(NamedTuple):
@@ -64,18 +96,13 @@ class _Job(NamedTuple):
     arguments: Tuple[Any, ...]
     keywords: Dict[str, Any]
 
-    def run(self) -> None:
-        keywords = {name: _value(it) for name, it in self.keywords.items()}
-        self.task._result = self.function(*map(_value, self.arguments), **keywords)
-        self.task._is_done = True
-
 
 class _Run:
     """One run of a team: its threads, and what ended it. None of the threads is the caller, which waits and sees interrupts."""
 
-    def __init__(self, team: Team, jobs: List[_Job]) -> None:
-        self.team, self.jobs = team, jobs
-        self.errors: "List[Tuple[BaseException, int]]" = []  # and the number of the task that raised it, or NONE
+    def __init__(self, team: Team, jobs: List[Optional[_Job]], keeps_jobs: bool, report: Callable[[], None]) -> None:
+        self.team, self.jobs, self.keeps_jobs, self.report = team, jobs, keeps_jobs, report
+        self.errors: "List[Tuple[BaseException, Optional[Task[Any]]]]" = []  # and the task that raised it, if one did
         self.gate = threading.Event()  # set when it is known whether the run has begun
         self.has_begun = False
 
@@ -92,11 +119,14 @@ class _Run:
         for worker in workers:
             self._wait_for(worker)
 
-    def fail(self, error: BaseException, task: int = NONE) -> None:
-        """Ends the run because of an exception."""
+    def fail(self, error: BaseException, task: "Optional[Task[Any]]" = None) -> None:
+        """Ends the run because of an exception. The first one gets a note for each task that failed."""
         self.errors.append((error, task))
         if self.has_begun:
-            library.gerfmuod_team_stop(self.team, task)
+            library.gerfmuod_team_stop(self.team, task.number if task else NONE)
+        with contextlib.suppress(Exception):  # AttributeError before Python 3.11, or of a class of the caller's
+            if task:
+                self.errors[0][0].add_note(f"task {task.number} of the pool raised {error!r}")  # type: ignore[attr-defined]
 
     def _start(self, workers: List[threading.Thread], count: int) -> None:
         for _ in range(count):
@@ -113,7 +143,9 @@ class _Run:
         while worker.is_alive():
             try:
                 worker.join(0.1)  # or else an interrupt that the system delivers to another thread is not seen
-            except BaseException as error:  # raised by the handler of a signal other than SIGINT
+                if worker.is_alive() and not self.errors:
+                    self.report()
+            except BaseException as error:  # raised by the callback, or by the handler of a signal other than SIGINT
                 self.fail(error)
 
     def _work(self) -> None:
@@ -126,9 +158,24 @@ class _Run:
                 if answer.refused or answer.next != RUN:
                     return
                 done = answer.number
-                self.jobs[done].run()
+                self._call(done)  # if it fails, the next turn is refused
+        except BaseException as error:  # not of a task's function
+            self.fail(error)
+        finally:
+            del self  # frames of an exception that a task keeps refer to this one
+
+    def _call(self, number: int) -> None:
+        """Calls the function of a task, which is dropped unless the pool keeps bodies."""
+        task, function, arguments, keywords = self.jobs[number]  # type: ignore[misc]
+        if not self.keeps_jobs:
+            self.jobs[number] = None
+        try:
+            task._end(function(*map(_value, arguments), **{name: _value(it) for name, it in keywords.items()}), None)
         except BaseException as error:
-            self.fail(error, done)
+            task._end(None, error)
+            self.fail(error, task)
+        finally:
+            del self, task, function, arguments, keywords  # the exception refers to this frame
 
 
 @contextlib.contextmanager
@@ -157,6 +204,8 @@ class Pool:
     Args:
         traced: whether the pool keeps the events of a run for :meth:`trace`. Then it can have
             349,522 tasks; without, 134,217,728, and a run takes less time and memory.
+        keep_bodies: whether functions and their arguments live as long as the pool. Otherwise each
+            is dropped when it ran, and :meth:`again` and :meth:`reset` raise RuntimeError.
 
     :meth:`run` calls the functions of the tasks on several threads. Any thread, also a function of
     a task, may call :meth:`task`, :meth:`outside`, :meth:`release` and :meth:`stop`. The other
@@ -164,7 +213,7 @@ class Pool:
     TypeError if an argument is no task or no integer, and Refused as the library's calls.
     """
 
-    def __init__(self, *, traced: bool = False) -> None:
+    def __init__(self, *, traced: bool = False, keep_bodies: bool = False) -> None:
         team = Team()
         open_team = library.gerfmuod_team_open_traced if traced else library.gerfmuod_team_open
         refused = open_team(ctypes.byref(team))
@@ -172,7 +221,8 @@ class Pool:
             raise Refused(refused)
         self._team: Optional[Team] = team
         self._identity = object()
-        self._jobs: List[_Job] = []
+        self._jobs: List[Optional[_Job]] = []
+        self._keeps_bodies = keep_bodies
         self._newest = ctypes.c_uint32(NONE)  # the last task's number, which the library writes
         self._failed: "Optional[Task[Any]]" = None
         self._lock: Any = threading.RLock()  # held while a task gets its number, and by calls that the library takes one at a time
@@ -195,10 +245,11 @@ class Pool:
         Args:
             function: the function that the task calls.
             arguments, keywords: the arguments of the function. One that is a task of this pool is
-                replaced by its result, and the new task waits for it. Tasks inside lists and other
-                values are not found.
+                replaced by its result, and the new task waits for it. One that is :func:`read`,
+                :func:`write` or :func:`update` of data of this pool is replaced by their value, and
+                accesses them. Tasks and data inside lists and other values are not found.
             after: further tasks that the new task waits for.
-            reads, writes, updates: the data that the function reads, writes as a whole, or reads
+            reads, writes, updates: further data that the function reads, writes as a whole, or reads
                 and writes. If two tasks access a handle, and one of them not only reads it, the
                 later one waits for the earlier one: the run gives what the functions would give if
                 they were called in the order in which the tasks were added. Such a task has no other
@@ -218,9 +269,11 @@ class Pool:
         for it in after:
             if not isinstance(it, Task):
                 raise TypeError(f"after has {it!r}, which is no task")
-        waits_for = [*(it for it in (*arguments, *keywords.values()) if isinstance(it, Task)), *after]
-        modes = ((1, reads), (2, writes), (3, updates))  # as enum gerfmuod_mode
-        accesses = [(self._number_of(it, Handle), mode) for mode, handles in modes for it in handles]
+        values = (*arguments, *keywords.values())
+        waits_for = [*(it for it in values if isinstance(it, Task)), *after]
+        accesses = [(self._number_of(it.data, Data), it.mode) for it in values if isinstance(it, Accessed)]
+        named = ((READ, reads), (WRITE, writes), (UPDATE, updates))
+        accesses += [(self._number_of(it, Handle), mode) for mode, handles in named for it in handles]
         if accesses and waits_for:
             raise ValueError("a task names either tasks that it waits for or data")
         call, inputs = (
@@ -249,6 +302,12 @@ class Pool:
         _check(team, library.gerfmuod_team_handle(team, ctypes.byref(number)))
         return Handle(self._identity, number.value)
 
+    def data(self, value: Any = None) -> Data:
+        """Returns a new handle with a value. It is refused as :meth:`handle`."""
+        data = Data(self._identity, self.handle().number)
+        data.value = value
+        return data
+
     def outside(self, task: "Task[Any]") -> None:
         """Lets a task wait for one more input from outside, such as a message or a timer.
 
@@ -276,13 +335,15 @@ class Pool:
         team, number = self._open_team(), self._number_of(task)
         _check(team, library.gerfmuod_team_release(team, number), number)
 
-    def run(self, threads: Optional[int] = None) -> None:
+    def run(self, threads: Optional[int] = None, progress: Optional[Callable[[int, int], Any]] = None) -> None:
         """Runs all tasks, and returns when they are done.
 
         Args:
             threads: the number of threads that call functions, while the caller waits. The default
                 is the number of processors. Functions run in parallel as far as they release the
                 interpreter's lock, as those of numpy do.
+            progress: called by the caller with the numbers of tasks that are done and of all, at most
+                every 0.1 seconds, and after a run that raised nothing. What it raises stops the pool.
 
         Raises:
             ValueError: there are fewer than 1 threads.
@@ -291,11 +352,18 @@ class Pool:
                 ``Stopped`` if it was stopped.
 
         An exception of a task's function stops the pool: functions that run are finished, no
-        further one begins, and ``run`` raises that exception. :attr:`failed` is the task. An
-        interrupt from the keyboard does the same.
+        further one begins, and ``run`` raises that exception, from Python 3.11 on with a note for
+        each task that failed. :attr:`failed` is the task. An interrupt from the keyboard does the same.
         """
         count = _processors() if threads is None else _number("threads", threads, 1)
-        run = _Run(self._open_team(), self._jobs)
+
+        def report() -> None:
+            if progress:
+                with self._free_lock():  # no task is added between the two numbers
+                    total, left = len(self), self.left
+                progress(total - left, total)
+
+        run = _Run(self._open_team(), self._jobs, self._keeps_bodies, report)
         with _interrupts(run.fail):
             if not self._running.acquire(blocking=False):
                 raise RuntimeError("the pool runs")
@@ -306,19 +374,19 @@ class Pool:
             finally:
                 self._running.release()
         if run.errors:
-            error, number = run.errors[0]
+            error, failed = run.errors[0]
             run.errors.clear()
-            if number != NONE:
-                self._failed = run.jobs[number].task
+            self._failed = failed or self._failed
             try:
                 raise error
             finally:
-                del error  # it refers to this frame
+                del error, failed, run, self  # the exception refers to this frame
         _check(run.team, library.gerfmuod_team_fault(run.team))
+        report()
 
-    async def run_async(self, threads: Optional[int] = None) -> None:
-        """Runs all tasks as :meth:`run` does, while other coroutines go on. If it is cancelled, the pool stops."""
-        run = asyncio.ensure_future(asyncio.get_running_loop().run_in_executor(None, self.run, threads))
+    async def run_async(self, threads: Optional[int] = None, progress: Optional[Callable[[int, int], Any]] = None) -> None:
+        """:meth:`run`, by a thread of the loop's executor, while other coroutines go on. If it is cancelled, the pool stops."""
+        run = asyncio.ensure_future(asyncio.get_running_loop().run_in_executor(None, self.run, threads, progress))
         try:
             await asyncio.shield(run)
         except asyncio.CancelledError:
@@ -366,9 +434,11 @@ class Pool:
 
     def _prepare(self, call: Callable[[Team], int]) -> None:
         with self._at_rest() as team:
+            if not self._keeps_bodies:
+                raise RuntimeError("a pool runs again only if it was opened with keep_bodies=True")
             _check(team, call(team))
-            for job in self._jobs:
-                job.task._result, job.task._is_done = None, False
+            for job in filter(None, self._jobs):
+                job.task._end(None, None, False)
 
     def trace(self) -> str:
         """Returns the events of the run as a trace, which ``tp audit`` judges; empty without ``traced``."""
@@ -406,10 +476,7 @@ class Pool:
         self._write(library.gerfmuod_team_summary, path)
 
     def close(self) -> None:
-        """Frees the pool, which until then keeps all functions, arguments and results.
-
-        Results may still be used. A pool that is no longer referenced is closed as well.
-        """
+        """Frees the pool. Results may still be used. A pool that is no longer referenced is closed as well."""
         if self._team is not None:
             with self._at_rest():
                 self._team, self._jobs = None, []
@@ -471,7 +538,7 @@ def _check(team: Team, refused: int, task: int = NONE) -> None:
 
 
 def _value(argument: Any) -> Any:
-    return argument.result if isinstance(argument, Task) else argument
+    return argument.result() if isinstance(argument, Task) else argument.data.value if isinstance(argument, Accessed) else argument
 
 
 def _processors() -> int:

@@ -26,12 +26,13 @@ from typing import Any, Callable, Dict, List, NamedTuple, Optional, Tuple
 
 from mpi4py import MPI
 
-from ._library import Access, GraphResult, library
+from ._library import READ, WRITE, Access, GraphResult, library
+from ._pool import Accessed as _Access, read, update, write
 from ._refused import Refused
 
+__all__ = ["Data", "Graph", "Stopped", "read", "update", "write"]
 CLOSE, HANDLE, START, NEXT, DONE, ARRIVED = range(6)
 RUN, SEND, OVER = 1, 2, 4
-READ, WRITE, UPDATE = 1, 2, 3
 NO_NODE, BAD_SPEC, DIFFERENT = 1, 26, 69
 #: The tags of messages: that the graph was stopped, and the first with values.
 STOP, FIRST_VALUE = 0, 1
@@ -76,31 +77,11 @@ class Data:
         self._handle, self._writer = handle, 0
 
 
-class _Access(NamedTuple):
-    data: Data
-    mode: int
-
-
 class _Copy(NamedTuple):
     """A version of a datum that another process sends: the task that wrote it, and the datum."""
 
     task: int
     handle: int
-
-
-def read(data: Data) -> Any:
-    """An argument of a task: the value, which the task leaves as it is."""
-    return _Access(data, READ)
-
-
-def write(data: Data) -> Any:
-    """An argument of a task: an object that the task changes, without use of what it was before."""
-    return _Access(data, WRITE)
-
-
-def update(data: Data) -> Any:
-    """An argument of a task: an object that the task reads and changes."""
-    return _Access(data, UPDATE)
 
 
 class Graph:
@@ -158,7 +139,7 @@ class Graph:
             ValueError: a datum is of another graph.
         """
         accesses = [argument for argument in arguments if isinstance(argument, _Access)]
-        if any(access.data.graph is not self for access in accesses):
+        if any(getattr(access.data, "graph", None) is not self for access in accesses):
             raise ValueError("a datum of another graph")
         owners = {access.data.owner for access in accesses if access.mode != READ} or {a.data.owner for a in accesses[:1]}
         if len(owners) != 1:

@@ -1,5 +1,6 @@
 """Tests of the package: results, order, threads, refusals, misuse, exceptions, interrupts, traces, recorded times."""
 import asyncio
+import contextlib
 import errno
 import functools
 import json
@@ -11,10 +12,11 @@ import subprocess
 import sys
 import tempfile
 import threading
+import time
 import unittest
 import weakref
 
-from gerfmuod import Pool, Refused, Task
+from gerfmuod import Pool, Refused, Task, read, update, write
 
 
 class Case(unittest.TestCase):
@@ -32,48 +34,67 @@ class Results(Case):
         b = pool.task(lambda x, y: x + y, a, 3)
         c = pool.task(lambda x, y, z: (x, y, z), a, z=b, y="y")
         pool.run(threads=3)
-        self.assertEqual((a.result, b.result, c.result, pool.failed), (2, 5, (2, "y", 5), None))
+        self.assertEqual((a.result(), b.result(), c.result(), pool.failed), (2, 5, (2, "y", 5), None))
 
     def test_a_result_is_there_from_the_run_on(self):
         with Pool() as pool:
             a = pool.task(lambda: "kept")
-            self.assertRaises(RuntimeError, lambda: a.result)
-            self.assertEqual((repr(a), type(a)), ("<Task 0>", Task))
+            self.assertRaises(RuntimeError, a.result)
+            self.assertEqual((repr(a), type(a), a.done()), ("<Task 0>", Task, False))
             pool.run(1)
-        self.assertEqual((a.result, repr(a)), ("kept", "<Task 0, done>"))
+        self.assertEqual((a.result(), a.exception(), a.done(), repr(a)), ("kept", None, True, "<Task 0, done>"))
+
+    def test_exceptions_of_tasks_that_fail_at_a_time(self):
+        pool, meeting = Pool(), threading.Barrier(2, timeout=10)
+        tasks = [pool.task(lambda key: (meeting.wait(), {}[key]), key) for key in "ab"]
+        with self.assertRaises(KeyError) as caught:
+            pool.run(2)
+        self.assertIs(caught.exception, pool.failed.exception())
+        self.assertRaisesRegex(KeyError, "b", tasks[1].result)
+        notes = [f"task {number} of the pool raised KeyError('{key}')" for number, key in enumerate("ab")]
+        self.assertEqual(sorted(getattr(caught.exception, "__notes__", notes)), notes)
 
     def test_a_pool_that_has_run_is_freed_at_once(self):
         for function in (int, lambda: 1 // 0):
             pool = Pool()
-            pool.task(function)
-            try:
+            pool.task(int, task := pool.task(function))
+            with contextlib.suppress(ZeroDivisionError):
                 pool.run(2)
-            except ZeroDivisionError:
-                pass
             team = weakref.ref(pool._team)
             del pool
-            self.assertIsNone(team())
+            self.assertEqual((team(), task.done()), (None, True))
+
+    def test_functions_arguments_and_results_are_dropped_unless_they_are_kept(self):
+        for keeps in (False, True):
+            pool, function, result = Pool(keep_bodies=keeps), (lambda _: None), threading.Event()
+            seen = [*map(weakref.ref, (function, result))]
+            last = pool.task(lambda seen=seen: [bool(it()) for it in seen], after=[pool.task(function, pool.task(lambda it: it, result))])
+            del function, result
+            pool.run(2)
+            self.assertEqual(last.result(), [keeps, keeps])
 
 
 class Handles(Case):
     def test_random_programs_give_the_sequential_result(self):
         draw = random.Random(3)
         for _ in range(1000):
-            pool, values, expected = Pool(), [0] * 4, [0] * 4
-            handles = [pool.handle() for _ in values]
+            pool, expected = Pool(), [[0] for _ in range(4)]
+            data = [pool.data([0]) for _ in expected]
             for number in range(12):
-                modes = {place: draw.choice(("reads", "writes", "updates")) for place in draw.sample(range(4), draw.randrange(4))}
+                modes = {place: draw.choice((read, write, update)) for place in draw.sample(range(4), draw.randrange(4))}
 
-                def step(store, number=number, modes=modes):
-                    result = hash((number, *(store[place] for place, mode in modes.items() if mode != "writes")))
-                    for place in (place for place, mode in modes.items() if mode != "reads"):
-                        store[place] = result + place
+                def step(number, *values, modes=(*modes.values(),)):
+                    result = hash((number, *(value[0] for value, mode in zip(values, modes) if mode is not write)))
+                    for place, value in enumerate(value for value, mode in zip(values, modes) if mode is not read):
+                        value[0] = result + place
 
-                step(expected)
-                accesses = {mode: [handles[at] for at in modes if modes[at] == mode] for mode in ("reads", "writes", "updates")}
-                pool.task(step, values, **accesses, priority=draw.randrange(4))
+                step(number, *(expected[place] for place in modes))
+                handles = {f"{mode.__name__}s": [data[at] for at in modes if modes[at] is mode] for mode in (read, write, update)}
+                by_value = [data[at].value for at in modes], handles
+                values, accesses = draw.choice((by_value, ([mode(data[at]) for at, mode in modes.items()], {})))
+                pool.task(step, number, *values, **accesses, priority=draw.randrange(4))
             pool.run(3)
-            self.assertEqual(values, expected)
+            self.assertEqual([it.value for it in data], expected)
 
     def test_handles_beside_tasks(self):
         pool, order = Pool(), []
@@ -91,7 +112,9 @@ class Handles(Case):
         self.assertRaises(ValueError, pool.task, int, reads=[Pool().handle()])
         self.assertRaises(TypeError, pool.task, int, writes=[pool.task(int)])
         self.assertRaises(TypeError, pool.task, int, after=[pool.handle()])
-        self.assertEqual(len(pool), 1)
+        for error, argument in ((ValueError, read(Pool().data())), (TypeError, update(pool.handle())), (TypeError, write(3))):
+            self.assertRaises(error, pool.task, int, x=argument)
+        self.assertEqual((len(pool), repr(pool.data(3))), (1, "<Data 2>"))
 
 
 class Order(Case):
@@ -155,6 +178,7 @@ class Misuse(Case):
         self.refused("Ended", pool.run, 1)
         self.refused("Ended", pool.task, int)
         self.refused("WrongLife", pool.record)
+        self.assertRaisesRegex(RuntimeError, "keep_bodies", pool.again)
 
     def test_a_closed_pool(self):
         pool = Pool()
@@ -197,7 +221,7 @@ class Misuse(Case):
 class Growth(Case):
     def test_tasks_make_tasks(self):
         for threads in (1, 4):
-            pool, leaves = Pool(traced=True), []
+            pool, leaves = Pool(traced=True, keep_bodies=True), []
 
             def split(depth, pool=pool, leaves=leaves):
                 leaves.extend([0] if depth == 0 else [])
@@ -215,14 +239,14 @@ class Growth(Case):
         early = pool.task(int, "3")
         new = pool.task(lambda: pool.task(lambda a, b: a + b, early, pool.task(int, "4")), after=[early])
         pool.run(2)
-        self.assertEqual(new.result.result, 7)
+        self.assertEqual(new.result().result(), 7)
 
     def test_a_task_waits_for_the_results_of_tasks_to_come(self):
         pool, parts = Pool(), []
         total = pool.task(lambda: sum(parts), releases=4)
         pool.task(lambda: [pool.task(lambda number: deliver(pool, total, parts, number), number) for number in range(4)])
         pool.run(3)
-        self.assertEqual(total.result, 6)
+        self.assertEqual(total.result(), 6)
 
 
 def deliver(pool, task, data, value):
@@ -233,7 +257,7 @@ def deliver(pool, task, data, value):
 
 class Outside(Case):
     def test_a_task_waits_for_each_of_its_inputs_and_again(self):
-        pool, data = Pool(), []
+        pool, data = Pool(keep_bodies=True), []
         first = pool.task(lambda: list(data))
         last = pool.task(len, first)
         for run in range(3):
@@ -242,11 +266,11 @@ class Outside(Case):
                 pool.outside(first)
                 threading.Timer(0.02 * k, deliver, (pool, first, data, k)).start()
             pool.run(2 + run)
-            self.assertEqual((first.result, last.result), ([1, 2], 2))
+            self.assertEqual((first.result(), last.result()), ([1, 2], 2))
             self.refused("WrongLife", pool.release, first, task=0)
             self.refused("WrongLife", pool.outside, last, task=1)
             pool.again()
-            self.assertRaises(RuntimeError, lambda: last.result)
+            self.assertRaises(RuntimeError, last.result)
 
     def test_a_function_announces_an_input_of_a_task_that_waits_for_it(self):
         pool, data = Pool(), []
@@ -254,18 +278,18 @@ class Outside(Case):
         timer = threading.Timer(0.02, lambda: deliver(pool, last, data, "there"))
         last = pool.task(data.__getitem__, 0, after=[pool.task(lambda: pool.outside(last) or timer.start())])
         pool.run(2)
-        self.assertEqual(last.result, "there")
+        self.assertEqual(last.result(), "there")
 
     def test_an_exception_and_a_stop_end_the_wait(self):
         self.addCleanup(signal.signal, signal.SIGALRM, signal.signal(signal.SIGALRM, lambda *_: {}["alarm"]))
         alarm = functools.partial(signal.setitimer, signal.ITIMER_REAL, 0.01)
         for function, error in ((lambda: 1 // 0, ZeroDivisionError), (lambda: pool.stop(), Refused), (alarm, KeyError)):
-            pool = Pool()
+            pool = Pool(keep_bodies=True)
             waiting = pool.task(int, releases=1)
             bad = pool.task(function)
             self.assertRaises(error, pool.run, 3)
             self.assertIs(pool.failed, bad if error is ZeroDivisionError else None)
-            self.assertRaises(RuntimeError, lambda bad=waiting: bad.result)
+            self.assertRaises(RuntimeError, waiting.result)
             for call in (pool.run, pool.again, lambda: pool.release(waiting), lambda: pool.task(int)):
                 self.refused("Stopped", call, task=pool.failed and 1)
 
@@ -289,13 +313,12 @@ class Interrupts(Case):
         while left <= 0:
             at += 1
             left = at
-            sys.settrace(trace)
-            try:
-                call()
-            except KeyboardInterrupt:
-                pass
-            finally:
-                sys.settrace(None)
+            with contextlib.suppress(KeyboardInterrupt):
+                try:
+                    sys.settrace(trace)
+                    call()
+                finally:
+                    sys.settrace(None)
             yield at
         self.assertGreater(at, 10)
 
@@ -328,17 +351,17 @@ class Interrupts(Case):
 
 class Again(Case):
     def test_a_graph_is_reset_after_a_failure_and_a_stop(self):
-        pool, fails, seen = Pool(), [True], []
+        pool, fails, seen = Pool(keep_bodies=True), [True], []
         first = pool.task(seen.append, 1)
         last = pool.task(lambda: 1 // (not fails[0]), after=[first])
         self.assertRaises(ZeroDivisionError, pool.run, 2)
         self.assertEqual((pool.failed, pool.left), (last, 1))
         self.refused("Stopped", pool.again, task=last.number)
         pool.reset()
-        self.assertEqual((pool.failed, pool.left), (None, 2))
+        self.assertEqual((pool.failed, pool.left, first.done(), last.done()), (None, 2, False, False))
         fails[0] = False
         pool.run(2)
-        self.assertEqual((last.result, pool.left, seen), (1, 0, [1, 1]))
+        self.assertEqual((last.result(), pool.left, seen), (1, 0, [1, 1]))
         pool.reset()
         pool.task(pool.stop)
         self.refused("Stopped", pool.run, 1)
@@ -353,12 +376,12 @@ class Again(Case):
             await asyncio.sleep(0.01)
             gate.set()
             await run
-            return waits.result
+            return waits.result()
 
         self.assertTrue(asyncio.run(run_and_set()))
 
     def test_a_cancelled_run_stops(self):
-        pool, gate = Pool(), threading.Event()
+        pool, gate = Pool(keep_bodies=True), threading.Event()
         pool.task(gate.wait, after=[pool.task(gate.wait)])
 
         async def run_and_cancel():
@@ -374,16 +397,36 @@ class Again(Case):
         pool.reset()
         pool.run(1)
 
+    def test_the_caller_reports_at_most_every_100_ms_and_at_the_end(self):
+        pool, gate, calls = Pool(), threading.Event(), []
+        pool.task(gate.wait, after=[pool.task(lambda: pool.task(int))])
+
+        def progress(*numbers):
+            calls.append((numbers, threading.get_ident(), time.monotonic()))
+            if len(calls) > 2 and numbers == (2, 3):
+                gate.set()
+
+        pool.run(2, progress)
+        numbers, callers, times = zip(*calls)
+        self.assertEqual((numbers[-1], sorted(numbers), {*callers}), ((3, 3), [*numbers], {threading.get_ident()}))
+        self.assertGreaterEqual(min(b - a for a, b in zip(times, times[1:-1])), 0.099)
+
+    def test_an_exception_of_the_callback_stops_the_pool(self):
+        pool = Pool()
+        ran = [pool.task(time.sleep, 0.001) for _ in range(1000)]
+        self.assertRaises(KeyError, pool.run, 1, lambda *_: {}["x"])
+        self.assertEqual((pool.failed, ran[-1].done()), (None, False))
+
 
 class Traces(Case):
     def test_a_pool_without_a_trace_runs_as_one_with_it(self):
         for traced in (True, False):
-            with Pool(traced=traced) as pool:
+            with Pool(traced=traced, keep_bodies=True) as pool:
                 numbers = [pool.task(int, place) for place in range(20)]
                 total = pool.task(lambda *all_of_them: sum(all_of_them), *numbers)
                 for _ in range(2):
                     pool.run(2)
-                    self.assertEqual(total.result, 190)
+                    self.assertEqual(total.result(), 190)
                     lines = pool.trace().splitlines()
                     self.assertEqual(lines[:2], ["trace 1", "nodes 1"] if traced else [])
                     self.assertEqual((lines.count("begin 20"), lines.count("done 20")), (traced, traced))

@@ -9,7 +9,8 @@
 //     pool.run(4);
 //
 // Tasks are described in the order of a sequential program, and the run gives its result. Or a task names the tasks that it waits
-// for: auto a = pool.task(f), b = pool.task(g); pool.task(h, {a, b}).
+// for: auto a = pool.task(f), b = pool.task(g); pool.task(h, {a, b}). If f and g return values, pool.task(h, read(a), read(b)) calls
+// h with them, and a.get() is that of f.
 //
 // In a run, a body runs once, after all tasks that it waits for, and sees what they wrote. A pool is used by one thread,
 // except that run() calls the bodies on several threads, and that any thread, also a body, may call task(), task_on(), handle(),
@@ -28,6 +29,7 @@
 #include <cstdio>
 #include <cstring>
 #include <exception>
+#include <functional>
 #include <initializer_list>
 #include <memory>
 #include <mutex>
@@ -76,6 +78,77 @@ class Task {
     std::uint32_t own = GERFMUOD_GRAPH_NONE;
 };
 
+namespace internal {
+
+// The runs of a pool, for the results of its tasks, which outlive it.
+struct Runs {
+    std::uint64_t number = 0; // again() and reset() begin the next one
+    bool is_stopped = false;
+};
+
+// What a body returned or threw in the newest run. Of a reference it has the address.
+template <typename T>
+struct Outcome {
+    explicit Outcome(std::shared_ptr<const Runs> runs_) : runs(std::move(runs_)) {}
+    bool is_there() const { return run == runs->number && (value || error); }
+    // Calls the body. Throws what it throws.
+    template <typename F>
+    void take(F &body) {
+        value.reset(), error = nullptr, run = runs->number;
+        try {
+            if constexpr (std::is_reference_v<T>) {
+                auto &&returned = body();
+                value = std::addressof(returned);
+            } else {
+                value.emplace(body());
+            }
+        } catch (...) {
+            error = std::current_exception();
+            throw;
+        }
+    }
+
+    const std::shared_ptr<const Runs> runs;
+    std::uint64_t run = 0;
+    std::optional<std::conditional_t<std::is_reference_v<T>, std::add_pointer_t<T>, T>> value;
+    std::exception_ptr error;
+};
+
+} // namespace internal
+
+// A task whose body returns a T, which may be a reference, and what it returned. done() and get() are for the time after the run, also
+// after the end of the pool, and for bodies that wait for this task.
+template <typename T>
+class Result : public Task {
+  public:
+    Result() = default;
+    // Whether the body returned or threw.
+    bool done() const { return outcome && outcome->is_there(); }
+    // What the body returned. Throws what the body threw; if it did not run, Refused: Stopped, or WrongLife if the pool was not stopped.
+    std::add_lvalue_reference_t<T> get() const & {
+        if (!outcome) throw std::invalid_argument("a result of no pool");
+        if (!done()) throw Refused(outcome->runs->is_stopped ? GERFMUOD_REFUSED_STOPPED : GERFMUOD_REFUSED_WRONG_LIFE, number());
+        if (outcome->error) std::rethrow_exception(outcome->error);
+        if constexpr (std::is_reference_v<T>) return **outcome->value;
+        else return *outcome->value;
+    }
+    // The same, moved: auto value = std::move(result).get().
+    T get() && { return static_cast<T &&>(get()); }
+
+  private:
+    friend class Pool;
+    Result(Task task, std::shared_ptr<internal::Outcome<T>> outcome_) : Task(task), outcome(std::move(outcome_)) {}
+    std::shared_ptr<internal::Outcome<T>> outcome;
+};
+
+// An input of a task whose body gets the result of an earlier one.
+template <typename T>
+struct ReadResult {
+    Result<T> result;
+};
+template <typename T>
+ReadResult<T> read(const Result<T> &result) { return {result}; }
+
 // A piece of data that tasks access, of the pool that created it. Handle() is of no pool.
 class Handle {
   public:
@@ -122,20 +195,31 @@ class Pool {
         team.reset(opened);
         if (refused) throw Refused(refused);
     }
-    // Stops a run of run_async(), and waits for its threads.
-    ~Pool() { team.reset(); } // before the bodies
+    // Stops a run of run_async(), and waits for its threads. Not for a body.
+    ~Pool() { team.reset(), runs->is_stopped = true; } // before the bodies
 
     // One more task, before the start or in a run, of a class 0 (first) to 3. It waits for the tasks in `after`, and for
     // `releases` calls of release(). The body is called without arguments, and may be one that can only be moved. It is
-    // destroyed as soon as it ran, unless the pool keeps bodies. Throws std::invalid_argument if a task is not of this pool,
-    // and Refused as gerfmuod_team_spawn.
+    // destroyed as soon as it ran, unless the pool keeps bodies. Returns a Task, or if the body returns something, a Result of it.
+    // Throws std::invalid_argument if a task is not of this pool, and Refused as gerfmuod_team_spawn.
     template <typename F>
-    Task task(F &&body, std::initializer_list<Task> after = {}, std::uint32_t class_ = 0, std::uint32_t releases = 0) {
-        return add(Body(std::forward<F>(body)), after.begin(), after.size(), class_, releases);
+    auto task(F &&body, std::initializer_list<Task> after = {}, std::uint32_t class_ = 0, std::uint32_t releases = 0) {
+        auto add_it = [&](Body own) { return add(std::move(own), after.begin(), after.size(), class_, releases); };
+        return describe(std::forward<F>(body), add_it);
     }
     template <typename F>
-    Task task(F &&body, const std::vector<Task> &after, std::uint32_t class_ = 0, std::uint32_t releases = 0) {
-        return add(Body(std::forward<F>(body)), after.data(), after.size(), class_, releases);
+    auto task(F &&body, const std::vector<Task> &after, std::uint32_t class_ = 0, std::uint32_t releases = 0) {
+        auto add_it = [&](Body own) { return add(std::move(own), after.data(), after.size(), class_, releases); };
+        return describe(std::forward<F>(body), add_it);
+    }
+    // The same of class 0, whose body is called with the results of the tasks that it waits for: task(f, read(a), read(b)) calls
+    // f(a.get(), b.get()), and both are const. A task with results accesses no data: their order is another one.
+    template <typename F, typename First, typename... Rest>
+    auto task(F &&body, ReadResult<First> first, ReadResult<Rest>... rest) {
+        auto call_with = [own = std::decay_t<F>(std::forward<F>(body)), first, rest...]() mutable -> decltype(auto) {
+            return std::invoke(own, std::as_const(first.result.get()), std::as_const(rest.result.get())...);
+        };
+        return task(std::move(call_with), {first.result, rest.result...});
     }
 
     // One more piece of data. Throws Refused as gerfmuod_team_handle.
@@ -146,22 +230,25 @@ class Pool {
     }
     // One more task that accesses these pieces of data: if two tasks access one, and one of them writes or updates it, the later
     // one waits for the earlier one. Throws std::invalid_argument if a handle is not of this pool, and Refused as
-    // gerfmuod_team_task_on.
+    // gerfmuod_team_task_on. Returns as task().
     template <typename F>
-    Task task_on(std::initializer_list<Access> accesses, F &&body, std::uint32_t class_ = 0, std::uint32_t releases = 0) {
-        return add_on(Body(std::forward<F>(body)), accesses.begin(), accesses.size(), class_, releases);
+    auto task_on(std::initializer_list<Access> accesses, F &&body, std::uint32_t class_ = 0, std::uint32_t releases = 0) {
+        auto add_it = [&](Body own) { return add_on(std::move(own), accesses.begin(), accesses.size(), class_, releases); };
+        return describe(std::forward<F>(body), add_it);
     }
     template <typename F>
-    Task task_on(const std::vector<Access> &accesses, F &&body, std::uint32_t class_ = 0, std::uint32_t releases = 0) {
-        return add_on(Body(std::forward<F>(body)), accesses.data(), accesses.size(), class_, releases);
+    auto task_on(const std::vector<Access> &accesses, F &&body, std::uint32_t class_ = 0, std::uint32_t releases = 0) {
+        auto add_it = [&](Body own) { return add_on(std::move(own), accesses.data(), accesses.size(), class_, releases); };
+        return describe(std::forward<F>(body), add_it);
     }
     // The same of class 0, whose body is called with the values of the Data among the accesses, in this order: task(f, read(a),
     // update(b)) calls f(a, b), and the first one is const.
     template <typename F, typename... Accesses,
               std::enable_if_t<sizeof...(Accesses) != 0 && (std::is_convertible_v<Accesses, Access> && ...), int> = 0>
-    Task task(F &&body, Accesses... accesses) {
-        auto call_with = [own = std::decay_t<F>(std::forward<F>(body)), values = std::tuple_cat(value_of(accesses)...)]() mutable {
-            std::apply(own, values);
+    auto task(F &&body, Accesses... accesses) {
+        auto values = std::tuple_cat(value_of(accesses)...);
+        auto call_with = [own = std::decay_t<F>(std::forward<F>(body)), values]() mutable -> decltype(auto) {
+            return std::apply(own, values);
         };
         return task_on({accesses...}, std::move(call_with));
     }
@@ -176,19 +263,37 @@ class Pool {
     void stop() { gerfmuod_team_stop(team.get(), GERFMUOD_GRAPH_NONE); }
 
     // Runs all tasks on `threads` threads, of which the caller is one. Throws the first exception that a body threw; failed()
-    // is then the task of that body. Throws Refused as gerfmuod_team_run.
+    // is then the task of that body. Throws Refused as gerfmuod_team_run, and std::invalid_argument if the number is negative.
     void run(std::uint32_t threads = default_threads()) {
-        if (exchange_in_run(true)) throw Refused(GERFMUOD_REFUSED_RUNNING);
+        begin(threads);
         finish(gerfmuod_team_run(team.get(), threads, call, this));
     }
+    // The same on `threads` other threads. The caller calls progress(done, total) with numbers of tasks, at most every 100 ms, and once
+    // after a run that threw nothing. If this throws, the pool is stopped, and run() throws that exception.
+    template <typename F>
+    void run(std::uint32_t threads, F &&progress) {
+        run_async(threads);
+        for (bool is_over = false; !is_over;) {
+            is_over = wait_for(std::chrono::milliseconds(100));
+            try {
+                std::unique_lock<std::mutex> held(lock); // no task is added between the two numbers
+                std::size_t total = count, done = total - left();
+                held.unlock();
+                progress(done, total);
+            } catch (...) {
+                if (!is_over) abandon();
+                throw;
+            }
+        }
+    }
 
-    // run() on `threads` other threads: it returns at once. wait() or wait_for() ends the run. Throws Refused before any body runs.
+    // run() on `threads` other threads: it returns at once. wait() or wait_for() ends the run. Throws before any body runs.
     void run_async(std::uint32_t threads = default_threads()) {
-        if (exchange_in_run(true)) throw Refused(GERFMUOD_REFUSED_RUNNING);
+        begin(threads);
         std::uint32_t refused = gerfmuod_team_run_async(team.get(), threads, call, this);
         if (refused) finish(refused);
     }
-    // Waits until all tasks are done, and throws as run().
+    // Waits until all tasks are done, and throws as run(). Not for a body.
     void wait() { finish(gerfmuod_team_wait(team.get(), GERFMUOD_TEAM_NO_LIMIT)); }
     // The same for a time of less than 49 days. Returns whether the run has ended.
     bool wait_for(std::chrono::milliseconds time) {
@@ -199,16 +304,12 @@ class Pool {
     // The number of tasks that are not done.
     std::size_t left() const { return gerfmuod_team_left(team.get()); }
 
-    // The same graph once more, after run(): run() may be called again. Inputs from outside have to be announced again. Throws
-    // std::logic_error if the pool does not keep bodies.
-    void again() {
-        if (!keeps_bodies) throw std::logic_error("a pool runs again only if it was opened with keep_bodies()");
-        check(gerfmuod_team_again(team.get()));
-    }
+    // The same graph once more, after run(): run() may be called again. Results are forgotten, and inputs from outside have to be
+    // announced again. Throws std::logic_error if the pool does not keep bodies.
+    void again() { prepare(gerfmuod_team_again); }
     // The same, also after a run that was stopped or in which a body threw: the tasks count as never run. Throws as again().
     void reset() {
-        if (!keeps_bodies) throw std::logic_error("a pool runs again only if it was opened with keep_bodies()");
-        check(gerfmuod_team_reset(team.get()));
+        prepare(gerfmuod_team_reset);
         std::lock_guard<std::mutex> held(lock);
         thrower = GERFMUOD_GRAPH_NONE;
     }
@@ -244,7 +345,6 @@ class Pool {
         Body() = default;
         template <typename F, typename Own = std::decay_t<F>, typename = std::enable_if_t<!std::is_same_v<Own, Body>>>
         explicit Body(F &&body) {
-            static_assert(std::is_invocable_v<Own &>, "a body is called without arguments");
             if constexpr (is_small<Own>) {
                 new (room) Own(std::forward<F>(body));
                 act = [](void *own, bool is_call) {
@@ -288,12 +388,32 @@ class Pool {
         static std::uint64_t last = 0;
         return std::lock_guard<std::mutex>(lock_of_ids), ++last;
     }
+    // Begins a run. A negative number, which C++ converts, would start threads without end.
+    void begin(std::uint32_t threads) {
+        if (threads > GERFMUOD_GRAPH_MAX_THREADS) throw std::invalid_argument("a number of threads that is negative or too large");
+        if (exchange_in_run(true)) throw Refused(GERFMUOD_REFUSED_RUNNING);
+    }
+    // Ends a run of run_async() that goes on, whatever it throws.
+    void abandon() noexcept {
+        stop();
+        try {
+            wait();
+        } catch (...) {
+        }
+    }
     // Ends a run: throws the first exception of a body, or if the run was refused.
     void finish(std::uint32_t refused) {
         std::exception_ptr first = std::exchange(thrown, nullptr);
+        if (refused == GERFMUOD_REFUSED_STOPPED) runs->is_stopped = true;
         exchange_in_run(false);
         if (first) std::rethrow_exception(first);
         check(refused);
+    }
+    // Prepares the next run by a call of the team.
+    void prepare(std::uint32_t (*call_of_team)(gerfmuod_team *)) {
+        if (!keeps_bodies) throw std::logic_error("a pool runs again only if it was opened with keep_bodies()");
+        check(call_of_team(team.get()));
+        *runs = {runs->number + 1, false};
     }
     bool exchange_in_run(bool now) { return std::lock_guard<std::mutex>(lock), std::exchange(is_in_run, now); }
     std::uint32_t number_of(Task task) const {
@@ -307,6 +427,21 @@ class Pool {
     template <typename T>
     static std::tuple<T &> value_of(const AccessedValue<T> &accessed) { return std::tuple<T &>(*accessed.value); }
     static std::tuple<> value_of(const Access &) { return {}; }
+
+    // Adds a task by add(a body). Returns it, with what it will have returned.
+    template <typename F, typename Add>
+    auto describe(F &&body, Add &&add) {
+        using Own = std::decay_t<F>;
+        static_assert(std::is_invocable_v<Own &>, "a body is called without arguments");
+        using Returned = std::remove_cv_t<std::invoke_result_t<Own &>>;
+        if constexpr (std::is_void_v<Returned>) {
+            return add(Body(std::forward<F>(body)));
+        } else {
+            auto outcome = std::make_shared<internal::Outcome<Returned>>(runs);
+            Body call_and_store([own = Own(std::forward<F>(body)), outcome]() mutable { outcome->take(own); });
+            return Result<Returned>(add(std::move(call_and_store)), outcome);
+        }
+    }
 
     // An array of this length, which allocates only if it is long.
     template <typename T>
@@ -372,6 +507,7 @@ class Pool {
     const std::uint64_t id = next_id();
     const bool keeps_bodies;
     std::unique_ptr<gerfmuod_team, Close> team;
+    const std::shared_ptr<internal::Runs> runs = std::make_shared<internal::Runs>(); // changed between runs only
     mutable std::mutex lock; // of what follows; a body is read without it: its task was taken after it was written
     bool is_in_run = false;
     std::uint32_t count = 0;
