@@ -1,8 +1,8 @@
-"""Runs the programs over gerfmuod/mpi.h, one task graph over all processes, with Open MPI and with MPICH, whichever is installed.
+"""Runs the programs over gerfmuod/mpi.h and mpi.hpp, one task graph over all processes, with Open MPI and with MPICH, if installed.
 
-graph_fuzz.c compares random graphs with the sequential program, and with --fails stops each by a body that fails. mpi_jacobi.c and
-graph_cholesky.c compute something whose result is known. Then graph_fuzz.c is compiled with each damage of tools/data/mpi-damages.json in
-gerfmuod/mpi.c, and has to find it. `tools/dev mpi` calls this.
+graph_fuzz.c compares random graphs with the sequential program, and with --fails stops each by a body that fails. mpi_jacobi.c,
+jacobi.cpp and graph_cholesky.c compute something whose result is known; graph_bodies.cpp tests mpi.hpp. Then graph_fuzz.c is compiled
+with each damage of tools/data/mpi-damages.json in gerfmuod/mpi.c, and has to find it. `tools/dev mpi` calls this.
 """
 import collections
 import json
@@ -22,6 +22,8 @@ MPIS = [
     Mpi("MPICH", "mpicc.mpich", ["mpirun.mpich"]),
 ]
 ROOT = {"OMPI_ALLOW_RUN_AS_ROOT": "1", "OMPI_ALLOW_RUN_AS_ROOT_CONFIRM": "1", "OPENBLAS_NUM_THREADS": "1"}
+# (without the C++ bindings of MPI-2, whose headers have warnings)
+CPP = ["-std=c++17", *WARNINGS, "-DOMPI_SKIP_MPICXX", "-DMPICH_SKIP_MPICXX", "-O2", f"-I{INCLUDE}"]
 JACOBI = "100 steps of 32000 cells, sum 1000.000000"
 # the number of graphs in which a damage is sought, at three processes. With some the program hangs, and is ended after these seconds
 GRAPHS, SECONDS = "60", 10
@@ -31,6 +33,16 @@ def compiled(mpi, folder, name, source=SOURCE, options=(), path=None):
     path = path or f"{folder}/{name}"
     output_of([mpi.compiler, "-std=c11", *WARNINGS, "-Wno-unused-function", "-O2", f"-I{INCLUDE}", *environment_options("CFLAGS"),
                f"{FOLDER}/{name}.c", source, "-o", path, f"-L{TOP}/lib", "-lgerfmuod", "-pthread", "-lm", *options])
+    return path
+
+
+def compiled_cpp(mpi, folder, name):
+    """Compiles a program in C++ with each compiler that is installed, of which the last one's is left, and mpi.c, which is C."""
+    part, path = f"{folder}/mpi.o", f"{folder}/{name}"
+    output_of([mpi.compiler, "-std=c11", *WARNINGS, "-O2", f"-I{INCLUDE}", *environment_options("CFLAGS"), "-c", SOURCE, "-o", part])
+    for compiler in filter(shutil.which, ("clang++", "g++")):
+        output_of([mpi.compiler.replace("cc", "cxx"), *CPP, *environment_options("CXXFLAGS"), f"{FOLDER}/{name}.cpp", part, "-o", path,
+                   f"-L{TOP}/lib", "-lgerfmuod", "-pthread"], env={**os.environ, "OMPI_CXX": compiler, "MPICH_CXX": compiler})
     return path
 
 
@@ -56,7 +68,9 @@ def run_programs(tally, folder, counts, seeds, matrix):
         fuzz, jacobi = (compiled(mpi, folder, name) for name in ("graph_fuzz", "mpi_jacobi"))
         cholesky = compiled(mpi, folder, "graph_cholesky", options=blas)
         costs = compiled(mpi, folder, "graph_costs")
-        runs = [(fuzz, ["1", seeds, "1"], ""), (fuzz, ["1", seeds, "2"], ""), (fuzz, ["1", seeds, "2", "fails"], ""), (jacobi, [], JACOBI), (cholesky, [*matrix, "2"], "")]
+        runs = [(fuzz, ["1", seeds, "1"], ""), (fuzz, ["1", seeds, "2"], ""), (fuzz, ["1", seeds, "2", "fails"], ""), (jacobi, [], JACOBI),
+                (cholesky, [*matrix, "2"], ""), (compiled_cpp(mpi, folder, "jacobi"), [], JACOBI),
+                (compiled_cpp(mpi, folder, "graph_bodies"), [], "processes: as they should be")]
         for processes in counts:
             for program, arguments, expected in [*runs, *[(costs, ["100"], "a message of 8 bytes")] * (processes == 2)]:
                 command = command_of(mpi, processes, program, arguments)

@@ -52,7 +52,7 @@ uint32_t gerfmuod_mpi_data(gerfmuod_mpi *graph, int owner, void *at, size_t size
 
 /* Describes a task: its class, 0 (which runs first) to 3, its body with `size` bytes of arguments, which are copied, and its accesses:
  *     gerfmuod_mpi_task(graph, 0, body, &arguments, sizeof arguments, GERFMUOD_READS(a), GERFMUOD_WRITES(b))
- * It runs where the first datum that it writes lives or, if it writes none, the first that it reads. */
+ * It runs where the first datum that it writes lives or, if it writes none, the first that it reads. The macro is C; C++ has mpi.hpp. */
 #define gerfmuod_mpi_task(graph, class_, body, arguments, size, ...)                                                                 \
     gerfmuod_mpi_task_on(graph, class_, body, arguments, size, (const gerfmuod_access[]){__VA_ARGS__},                               \
                          sizeof((const gerfmuod_access[]){__VA_ARGS__}) / sizeof(gerfmuod_access))
