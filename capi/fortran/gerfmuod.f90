@@ -13,7 +13,8 @@ module gerfmuod
   ! what a turn returned in next
   integer(c_int32_t), parameter :: gerfmuod_graph_run = 1, gerfmuod_graph_over = 4
   ! refusals; gerfmuod_refusal_text returns texts for them
-  integer(c_int32_t), parameter :: gerfmuod_ok = 0, gerfmuod_refused_no_task = 4, gerfmuod_refused_wrong_life = 5
+  integer(c_int32_t), parameter :: gerfmuod_ok = 0, gerfmuod_refused_no_node = 1, gerfmuod_refused_no_task = 4
+  integer(c_int32_t), parameter :: gerfmuod_refused_wrong_life = 5
   integer(c_int32_t), parameter :: gerfmuod_refused_ended = 15, gerfmuod_refused_history_full = 16
   integer(c_int32_t), parameter :: gerfmuod_refused_no_memory = 17, gerfmuod_refused_bad_spec = 26
   integer(c_int32_t), parameter :: gerfmuod_refused_no_thread = 64, gerfmuod_refused_not_started = 65

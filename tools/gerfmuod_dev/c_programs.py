@@ -15,13 +15,13 @@ from typing import NamedTuple
 from . import running
 from .repository import TOP, text_of
 from .running import NOT_ENDED, short
-from .shared_object import FORTRAN_MODULE, INCLUDE, TEAM, environment_options, tool
+from .shared_object import FORTRAN_MODULES, INCLUDE, TEAM, environment_options, tool
 
 WARNINGS = ["-Wall", "-Wextra", "-Wpedantic", "-Wcast-qual", "-Wredundant-decls", "-Werror"]
 C = [*tool("CC", "gcc", "cc", "clang"), "-std=c11", *WARNINGS, "-O2", "-g", f"-I{INCLUDE}", *environment_options("CFLAGS")]
 CPP = [*tool("CXX", "g++", "c++", "clang++"), "-std=c++17", *WARNINGS, "-O2", "-g", f"-I{INCLUDE}", *environment_options("CXXFLAGS")]
 FORTRAN = [*tool("FC", "gfortran"), "-std=f2018", "-Wall", "-Wextra", "-Wno-unused-dummy-argument", "-Werror", "-O2", "-fopenmp"]
-FORTRAN += [*environment_options("FFLAGS"), FORTRAN_MODULE]
+FORTRAN += [*environment_options("FFLAGS"), FORTRAN_MODULES[0]]
 COMPILE = {".c": C, ".cpp": CPP, ".f90": FORTRAN, ".rs": ["rustc", "--edition", "2024", "-O"]}
 VALGRIND = ["valgrind", "-q", "--error-exitcode=99", "--leak-check=full", "--errors-for-leak-kinds=all"]
 SANITIZERS = {"address": ["-fsanitize=address,undefined", "-fno-sanitize-recover=all"], "thread": ["-fsanitize=thread"]}

@@ -5,7 +5,6 @@ wrong program has to be reported with the call, the rank or tag, and the place o
 JSON has to agree. The calls of mpi.h are compared with those that the library defines. --build FOLDER only builds the library for
 `mpicc`, or for the compiler that the variable MPICC names. `tools/dev bench preloaded` measures what it costs.
 """
-import collections
 import glob
 import json
 import os
@@ -17,7 +16,7 @@ from concurrent.futures import ThreadPoolExecutor
 
 from . import library, repository, running
 from .c_programs import output_of
-from .mpi import ROOT
+from .mpi_graphs import ROOT, Mpi
 from .shared_object import environment_options
 
 FOLDER, NAME = "capi/preload/mpi", "libgerfmuod_mpi_check.so"
@@ -25,7 +24,6 @@ OPTIONS = ["-std=gnu11", "-O2", "-Wall", "-Wextra", "-Werror", "-Wno-stringop-ov
 OPTIONS += environment_options("CFLAGS")
 LINK = ["-Llib", "-Wl,-Bstatic", "-lgerfmuod", "-Wl,-Bdynamic", "-ldl", "-Wl,-z,defs", f"-Wl,--version-script={FOLDER}/mpi_check.map"]
 LINK += environment_options("LDFLAGS")
-Mpi = collections.namedtuple("Mpi", "name compiler fortran runner")
 MPIS = [
     Mpi("Open MPI", "mpicc.openmpi", "mpifort.openmpi", "mpirun.openmpi --oversubscribe --mca mpi_yield_when_idle 0".split()),
     Mpi("MPICH", "mpicc.mpich", "mpifort.mpich", ["mpirun.mpich"]),

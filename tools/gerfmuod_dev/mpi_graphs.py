@@ -1,30 +1,34 @@
 """Runs the programs over gerfmuod/mpi.h and mpi.hpp, one task graph over all processes, with Open MPI and with MPICH, if installed.
 
 graph_fuzz.c compares random graphs with the sequential program, and with --fails stops each by a body that fails. mpi_jacobi.c,
-jacobi.cpp and graph_cholesky.c compute something whose result is known; graph_bodies.cpp tests mpi.hpp. Then graph_fuzz.c is compiled
-with each damage of tools/data/mpi-damages.json in gerfmuod/mpi.c, and has to find it. `tools/dev mpi` calls this.
+jacobi.cpp, jacobi.f90 and graph_cholesky.c compute something whose result is known; graph_bodies.cpp tests mpi.hpp, graph_failures.f90
+the module for Fortran. Then graph_fuzz.c is compiled with each damage of tools/data/mpi-damages.json in gerfmuod/mpi.c, and has to find
+it. `tools/dev mpi` calls this.
 """
 import collections
 import json
 import os
+import re
 import shutil
 
 from . import running
 from .c_programs import WARNINGS, judge, Run, output_of, start
 from .repository import TOP, text_of
-from .shared_object import INCLUDE, environment_options
+from .shared_object import FORTRAN_MODULES, INCLUDE, environment_options
 
 FOLDER, SOURCE = f"{TOP}/capi/mpi", f"{INCLUDE}/gerfmuod/mpi.c"
 DAMAGES = f"{TOP}/tools/data/mpi-damages.json"
-Mpi = collections.namedtuple("Mpi", "name compiler runner")
+Mpi = collections.namedtuple("Mpi", "name compiler fortran runner")
 MPIS = [
-    Mpi("Open MPI", "mpicc.openmpi", "mpirun.openmpi --oversubscribe --mca mpi_yield_when_idle 1".split()),
-    Mpi("MPICH", "mpicc.mpich", ["mpirun.mpich"]),
+    Mpi("Open MPI", "mpicc.openmpi", "mpifort.openmpi", "mpirun.openmpi --oversubscribe --mca mpi_yield_when_idle 1".split()),
+    Mpi("MPICH", "mpicc.mpich", "mpifort.mpich", ["mpirun.mpich"]),
 ]
 ROOT = {"OMPI_ALLOW_RUN_AS_ROOT": "1", "OMPI_ALLOW_RUN_AS_ROOT_CONFIRM": "1", "OPENBLAS_NUM_THREADS": "1"}
 # (without the C++ bindings of MPI-2, whose headers have warnings)
 CPP = ["-std=c++17", *WARNINGS, "-DOMPI_SKIP_MPICXX", "-DMPICH_SKIP_MPICXX", "-O2", f"-I{INCLUDE}"]
 JACOBI = "100 steps of 32000 cells, sum 1000.000000"
+IN_CPP = {"jacobi": JACOBI, "graph_bodies": "processes: as they should be"}
+IN_FORTRAN = {"jacobi": JACOBI, "graph_failures": "the chain ended, was stopped and was refused"}
 # the number of graphs in which a damage is sought, at three processes. With some the program hangs, and is ended after these seconds
 GRAPHS, SECONDS = "60", 10
 
@@ -43,6 +47,17 @@ def compiled_cpp(mpi, folder, name):
     for compiler in filter(shutil.which, ("clang++", "g++")):
         output_of([mpi.compiler.replace("cc", "cxx"), *CPP, *environment_options("CXXFLAGS"), f"{FOLDER}/{name}.cpp", part, "-o", path,
                    f"-L{TOP}/lib", "-lgerfmuod", "-pthread"], env={**os.environ, "OMPI_CXX": compiler, "MPICH_CXX": compiler})
+    return path
+
+
+def compiled_fortran(mpi, folder, name):
+    """Compiles a program in Fortran, with the modules, whose constants have to be those of the headers."""
+    constants = re.findall(r"\b(gerfmuod_\w+) = (-?\d+)", "".join(map(text_of, FORTRAN_MODULES)))
+    compared = "".join(f'_Static_assert({constant.upper()} == (uint32_t){value}, "");\n' for constant, value in constants)
+    source, path = running.write(f"{folder}/mpi.c", f'#include "{SOURCE}"\n{compared}'), f"{folder}/{name}_in_fortran"
+    output_of([mpi.compiler, "-O2", f"-I{INCLUDE}", "-c", source, "-o", f"{path}.o"])
+    output_of([mpi.fortran, "-std=f2018", "-Wall", "-Wextra", "-Werror", "-O2", *environment_options("FFLAGS"), "-J", folder,
+               *FORTRAN_MODULES, f"{FOLDER}/{name}.f90", f"{path}.o", "-o", path, f"-L{TOP}/lib", "-lgerfmuod", "-pthread"])
     return path
 
 
@@ -65,12 +80,12 @@ def run_programs(tally, folder, counts, seeds, matrix):
     found = [mpi for mpi in MPIS if tally.has(mpi.compiler, f"task graphs over {mpi.name}")]
     for mpi in found:
         blas = ["-DHAVE_BLAS", "-lopenblas"] if os.path.exists("/usr/include/x86_64-linux-gnu/cblas-openblas.h") else []
-        fuzz, jacobi = (compiled(mpi, folder, name) for name in ("graph_fuzz", "mpi_jacobi"))
-        cholesky = compiled(mpi, folder, "graph_cholesky", options=blas)
-        costs = compiled(mpi, folder, "graph_costs")
-        runs = [(fuzz, ["1", seeds, "1"], ""), (fuzz, ["1", seeds, "2"], ""), (fuzz, ["1", seeds, "2", "fails"], ""), (jacobi, [], JACOBI),
-                (cholesky, [*matrix, "2"], ""), (compiled_cpp(mpi, folder, "jacobi"), [], JACOBI),
-                (compiled_cpp(mpi, folder, "graph_bodies"), [], "processes: as they should be")]
+        fuzz, jacobi, costs = (compiled(mpi, folder, name) for name in ("graph_fuzz", "mpi_jacobi", "graph_costs"))
+        runs = [(fuzz, ["1", seeds, *options], "") for options in (["1"], ["2"], ["2", "fails"])]
+        runs += [(jacobi, [], JACOBI), (compiled(mpi, folder, "graph_cholesky", options=blas), [*matrix, "2"], "")]
+        runs += [(compiled_cpp(mpi, folder, name), [], printed) for name, printed in IN_CPP.items()]
+        if tally.has(mpi.fortran, f"task graphs in Fortran over {mpi.name}"):
+            runs += [(compiled_fortran(mpi, folder, name), [], printed) for name, printed in IN_FORTRAN.items()]
         for processes in counts:
             for program, arguments, expected in [*runs, *[(costs, ["100"], "a message of 8 bytes")] * (processes == 2)]:
                 command = command_of(mpi, processes, program, arguments)

@@ -20,7 +20,8 @@ CACHEGRIND = ["valgrind", "--tool=cachegrind", "--cache-sim=no", "--cachegrind-o
 # the package of Debian that has a command, if it has another name
 PACKAGES = {
     "c++": "g++", "cc": "gcc", "clang++": "clang", "dot": "graphviz", "mpicc": "libopenmpi-dev", "mpirun": "openmpi-bin",
-    "mpicc.mpich": "libmpich-dev", "mpicc.openmpi": "libopenmpi-dev", "pytest": "python3-pytest",
+    "mpicc.mpich": "libmpich-dev", "mpicc.openmpi": "libopenmpi-dev", "mpifort.mpich": "mpich", "mpifort.openmpi": "openmpi-bin",
+    "pytest": "python3-pytest",
 }
 
 

@@ -15,9 +15,9 @@ import tempfile
 from .repository import TOP, files_in, text_of
 
 INCLUDE, SOURCES = f"{TOP}/capi/include", f"{TOP}/capi/src"
-FORTRAN_MODULE = f"{TOP}/capi/fortran/gerfmuod.f90"
+FORTRAN_MODULES = files_in(f"{TOP}/capi/fortran")
 # what is installed for compilers
-HEADERS = [*files_in(INCLUDE), FORTRAN_MODULE]
+HEADERS = [*files_in(INCLUDE), *FORTRAN_MODULES]
 TEAM = f"{SOURCES}/gerfmuod_team.c"
 # each part in C, and a symbol of it
 PARTS = {f"{SOURCES}/gerfmuod_calls.c": "gerfmuod_core_insert", TEAM: "gerfmuod_team_open"}

@@ -129,6 +129,10 @@ uint32_t gerfmuod_mpi_open(gerfmuod_mpi **opened, MPI_Comm communicator) {
     return GERFMUOD_OK;
 }
 
+uint32_t gerfmuod_mpi_open_fortran(gerfmuod_mpi **opened, MPI_Fint communicator) {
+    return gerfmuod_mpi_open(opened, MPI_Comm_f2c(communicator));
+}
+
 /* The hash of Fowler, Noll and Vo (FNV-1a), over words. */
 static void mix(gerfmuod_mpi *graph, uint64_t word) { graph->hash = (graph->hash ^ word) * 0x100000001b3u; }
 

@@ -46,6 +46,9 @@ typedef int (*gerfmuod_mpi_body)(const void *arguments, void *const *values);
  * the call is refused: NO_MEMORY. */
 GERFMUOD_CHECKED uint32_t gerfmuod_mpi_open(gerfmuod_mpi **graph, MPI_Comm communicator);
 
+/* The same for a communicator of Fortran, an integer as MPI_Comm_f2c takes it; gerfmuod_mpi.f90 has the calls for Fortran. */
+GERFMUOD_CHECKED uint32_t gerfmuod_mpi_open_fortran(gerfmuod_mpi **graph, MPI_Fint communicator);
+
 /* Names a datum of `size` bytes, at most INT_MAX, which lives at `at` in the process `owner`; `at` is ignored in the others. Returns its handle. The
  * memory is the caller's, and is used until gerfmuod_mpi_run returns. */
 uint32_t gerfmuod_mpi_data(gerfmuod_mpi *graph, int owner, void *at, size_t size);
