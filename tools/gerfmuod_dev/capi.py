@@ -70,7 +70,7 @@ def run(options):
         sys.exit(f"{reason}: make lib builds it")
     if not options.bench and not options.full:
         sources = [path for path in repository.files_in("capi") if not ELSEWHERE.match(path)]
-        check_sources(tally, [path for path in library.HEADERS if path.endswith((".h", ".hpp")) and "/mpi.h" not in path], sources)
+        check_sources(tally, [path for path in library.HEADERS if path.endswith((".h", ".hpp")) and "gerfmuod/mpi" not in path], sources)
         print("the headers and programs of capi/: checked as C99, C11, C++98 to C++17")
     if reason:
         return tally.fails(f"{reason}: no program of capi/ was linked and run. make lib builds it")
