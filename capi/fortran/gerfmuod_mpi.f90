@@ -9,8 +9,9 @@ module gerfmuod_mpi
   public
 
   abstract interface
-    ! A body. values(k) is the address of the task's k-th datum. It returns 0, or another number if it failed.
-    function gerfmuod_mpi_body(arguments, values) bind(c) result(failed)
+    ! A body. values(k) is the address of the task's k-th datum. It returns 0, or another number if it failed. Several threads may run
+    ! it at once: declare it recursive, or a compiler may keep its local variables in static memory.
+    recursive function gerfmuod_mpi_body(arguments, values) bind(c) result(failed)
       import :: c_ptr, c_int
       type(c_ptr), value :: arguments
       type(c_ptr), intent(in) :: values(*)

@@ -5,7 +5,7 @@ module chain
   implicit none
 contains
   ! Writes twice the value before it, unless its argument is not 0: then it fails.
-  function twice(arguments, values) bind(c) result(failed)
+  recursive function twice(arguments, values) bind(c) result(failed)
     type(c_ptr), value :: arguments
     type(c_ptr), intent(in) :: values(*)
     integer(c_int) :: failed

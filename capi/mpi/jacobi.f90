@@ -8,7 +8,7 @@ module bodies
   implicit none
 contains
   ! Computes a block once more, and then its two ends. It reads the ends of the blocks next to it.
-  function step(arguments, values) bind(c) result(failed)
+  recursive function step(arguments, values) bind(c) result(failed)
     type(c_ptr), value :: arguments
     type(c_ptr), intent(in) :: values(*)
     integer(c_int) :: failed
@@ -24,7 +24,7 @@ contains
     failed = 0
   end function
 
-  function add(arguments, values) bind(c) result(failed)
+  recursive function add(arguments, values) bind(c) result(failed)
     type(c_ptr), value :: arguments
     type(c_ptr), intent(in) :: values(*)
     integer(c_int) :: failed
