@@ -4,7 +4,7 @@ module bodies
   implicit none
   real(8) :: x, y, z
 contains
-  function run_task(context, task) bind(c) result(failed)
+  recursive function run_task(context, task) bind(c) result(failed)
     type(c_ptr), value :: context
     integer(c_int32_t), value :: task
     integer(c_int) :: failed

@@ -29,7 +29,7 @@ contains
     call need(gerfmuod_team_spawn(team, 0, gerfmuod_no_inputs, 0_c_size_t, 0, c_funloc(attach), c_loc(own)))
   end subroutine
 
-  function run_task(context, task) bind(c) result(failed)
+  recursive function run_task(context, task) bind(c) result(failed)
     type(c_ptr), value :: context
     integer(c_int32_t), value :: task
     integer(c_int) :: failed

@@ -10,7 +10,7 @@ module blocks
   real(8) :: x(length * count), part(count), total(0:count)
 contains
   ! Tasks 0 to count - 1 square a block each; task count + k adds the part of block k to the total before it.
-  function run_task(context, task) bind(c) result(failed)
+  recursive function run_task(context, task) bind(c) result(failed)
     type(c_ptr), value :: context
     integer(c_int32_t), value :: task
     integer(c_int) :: failed

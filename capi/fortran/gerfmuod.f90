@@ -57,7 +57,8 @@ module gerfmuod
   end type
 
   abstract interface
-    ! The body of all tasks: runs one of them. Returns 0 if the task is done; another value if it failed, and the team stops.
+    ! The body of all tasks: runs one of them. Returns 0 if the task is done; another value if it failed, and the team stops. It is
+    ! recursive, as several threads run it at once: else a compiler may keep its arrays in one place.
     function gerfmuod_team_body(context, task) bind(c) result(failed)
       import :: c_ptr, c_int, c_int32_t
       type(c_ptr), value :: context
