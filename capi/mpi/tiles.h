@@ -12,6 +12,7 @@
 
 static int me, processes, grid[2]; /* grid: the rows and columns of processes, over which tiles are dealt out */
 static int order, tile, tiles;
+static int thread_level = MPI_THREAD_FUNNELED; /* which threads call MPI: that of a runtime may, beside the main thread */
 
 /* The numbers of each tile (i, j), at i * tiles + j, if they are here. */
 static double **numbers;
@@ -77,11 +78,11 @@ static double distance(void) {
 /* Reads the order of the matrix and of its tiles, and opens MPI. */
 static void begin(int argc, char **argv, int most_tiles) {
     int provided;
-    MPI_Init_thread(&argc, &argv, MPI_THREAD_FUNNELED, &provided);
+    MPI_Init_thread(&argc, &argv, thread_level, &provided);
     MPI_Comm_rank(MPI_COMM_WORLD, &me);
     MPI_Comm_size(MPI_COMM_WORLD, &processes);
     MPI_Dims_create(processes, 2, grid);
-    if (argc < 4 || provided < MPI_THREAD_FUNNELED) MPI_Abort(MPI_COMM_WORLD, 2);
+    if (argc < 4 || provided < thread_level) MPI_Abort(MPI_COMM_WORLD, 2);
     order = atoi(argv[1]), tile = atoi(argv[2]), tiles = tile > 0 ? order / tile : 0;
     if (tiles < 1 || tiles * tile != order || tiles > most_tiles) MPI_Abort(MPI_COMM_WORLD, 2);
 #ifdef HAVE_BLAS
