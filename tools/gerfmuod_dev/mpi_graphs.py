@@ -1,9 +1,9 @@
 """Runs the programs over gerfmuod/mpi.h and mpi.hpp, one task graph over all processes, with Open MPI and with MPICH, if installed.
 
 graph_fuzz.c compares random graphs with the sequential program, and with --fails stops each by a body that fails. mpi_jacobi.c,
-jacobi.cpp, jacobi.f90 and graph_cholesky.c compute something whose result is known; graph_bodies.cpp tests mpi.hpp, graph_failures.f90
-the module for Fortran. Then graph_fuzz.c is compiled with each damage of tools/data/mpi-damages.json in gerfmuod/mpi.c, and has to find
-it. `tools/dev mpi` calls this.
+jacobi.cpp, jacobi.f90, graph_cholesky.c and graph_patterns.c (as bench/peers do) compute something whose result is known;
+graph_bodies.cpp tests mpi.hpp, graph_failures.f90 the module for Fortran. Then graph_fuzz.c is compiled with each damage of
+tools/data/mpi-damages.json in gerfmuod/mpi.c, and has to find it. `tools/dev mpi` calls this.
 """
 import collections
 import json
@@ -26,7 +26,7 @@ MPIS = [
 ROOT = {"OMPI_ALLOW_RUN_AS_ROOT": "1", "OMPI_ALLOW_RUN_AS_ROOT_CONFIRM": "1", "OPENBLAS_NUM_THREADS": "1"}
 # (without the C++ bindings of MPI-2, whose headers have warnings)
 CPP = ["-std=c++17", *WARNINGS, "-DOMPI_SKIP_MPICXX", "-DMPICH_SKIP_MPICXX", "-O2", f"-I{INCLUDE}"]
-JACOBI = "100 steps of 32000 cells, sum 1000.000000"
+JACOBI, PATTERN = "100 steps of 32000 cells, sum 1000.000000", "checksum 543689408: right"
 IN_CPP = {"jacobi": JACOBI, "graph_bodies": "processes: as they should be"}
 IN_FORTRAN = {"jacobi": JACOBI, "graph_failures": "the chain ended, was stopped and was refused"}
 # the number of graphs in which a damage is sought, at three processes. With some the program hangs, and is ended after these seconds
@@ -81,9 +81,11 @@ def run_programs(tally, folder, counts, seeds, matrix):
     for mpi in found:
         blas = ["-DHAVE_BLAS", "-lopenblas"] if os.path.exists("/usr/include/x86_64-linux-gnu/cblas-openblas.h") else []
         fuzz, jacobi, costs = (compiled(mpi, folder, name) for name in ("graph_fuzz", "mpi_jacobi", "graph_costs"))
+        patterns = compiled(mpi, folder, "graph_patterns")
         runs = [(fuzz, ["1", seeds, *options], "") for options in (["1"], ["2"], ["2", "fails"])]
         runs += [(jacobi, [], JACOBI), (compiled(mpi, folder, "graph_cholesky", options=blas), [*matrix, "2"], "")]
         runs += [(compiled_cpp(mpi, folder, name), [], printed) for name, printed in IN_CPP.items()]
+        runs += [(patterns, [way, *"spread 16 50 2 2 100".split()], PATTERN) for way in ("graph", "plain")]
         if tally.has(mpi.fortran, f"task graphs in Fortran over {mpi.name}"):
             runs += [(compiled_fortran(mpi, folder, name), [], printed) for name, printed in IN_FORTRAN.items()]
         for processes in counts:

@@ -9,8 +9,8 @@
     product      `product` on two matrices, and three plain loops
     library      steps that a program in C reports to lib/libgerfmuod.a, and the hand-written core
     dag          task graphs with bodies in C: Cholesky, Jacobi, merge sort, small tasks; OpenMP, oneTBB, StarPU, OpenBLAS
-    processes    the detector for distributed programs over Open MPI, call by call and simulated, and a hand-written one,
-                 Safra's ring, and repeated reductions
+    processes    over Open MPI: the detector for distributed programs, also call by call and simulated, and hand-written ones;
+                 a factorization, StarPU and ScaLAPACK; short tasks, and MPI alone
     preloaded    programs with and without the checker of MPI programs and the tool for OpenMP programs
 
 Without a name all of them. Before anything is timed the outputs of all programs are compared; the status is 1 if one differs. Then all run

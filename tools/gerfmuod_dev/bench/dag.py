@@ -73,14 +73,12 @@ class Programs(Peers):
     def own(self, name, folder="examples"):
         return self.program(name, C, f"{folder}/{name}.c", (*self.over, "-lm"))
 
-    def cholesky(self):
-        return self.program("cholesky", (*C, "-DHAVE_BLAS"), "examples/cholesky.c", (*self.over, "-lopenblas", "-lm"))
+    def cholesky(self, name="cholesky", *more):
+        return self.program(name, (*C, "-DHAVE_BLAS"), "examples/cholesky.c", (*self.over, "-lopenblas", "-lm", *more))
 
     def starpu(self):
         options = running.run(["pkg-config", "--cflags", "--libs", "starpu-1.3"]).out.decode().split()
-        libraries = [option for option in options if option.startswith("-l")]
-        compiler = (*C, "-DHAVE_BLAS", "-DHAVE_STARPU", *(option for option in options if option not in libraries))
-        return self.program("cholesky_starpu", compiler, "examples/cholesky.c", (*self.over, "-lopenblas", "-lm", *libraries))
+        return self.cholesky("cholesky_starpu", "-DHAVE_STARPU", *options)
 
 
 def times_of(process, rounds):

@@ -59,7 +59,7 @@ def write():
 
 def check(tally):
     known = origins()
-    for name in (*TIMED, "preloaded"):
+    for name in [*TIMED, "processes", "preloaded"]:
         reasons = impossible(name, kept(name))
         reasons += list(missing(kept(name))) if name == "patterns" and name in known and known[name].form == "full" else []
         tally.judge(not reasons, f"{name}.csv: {'; '.join(reasons)}")

@@ -12,7 +12,7 @@ CPP = ["g++", "-std=c++17", "-O2"]
 # the package that a program needs besides its compiler
 NEEDED = {
     "-ltbb": "oneTBB (Debian's libtbb-dev)", "-fopenmp": "OpenMP (GCC's libgomp)", "-lopenblas": "OpenBLAS (libopenblas-dev)",
-    "-DHAVE_STARPU": "StarPU (libstarpu-dev)",
+    "-DHAVE_STARPU": "StarPU (libstarpu-dev)", "-lscalapack-openmpi": "ScaLAPACK (libscalapack-openmpi-dev)",
 }
 
 

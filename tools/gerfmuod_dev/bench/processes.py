@@ -1,18 +1,20 @@
-"""Measures programs over Open MPI on this machine: the detectors for distributed programs, also call by call and in simulations, and
-the factorization of a matrix.
+"""Measures programs over Open MPI on this machine: the detectors for distributed programs, also call by call and in simulations, the
+factorization of a matrix, and short tasks.
 
-The proved detector is that of lib/libgerfmuod.a. The others are hand-written, in capi/mpi/detectors.h: the same four
-counters over the same tree, Safra's ring (EWD 998), and repeated reductions of the counters (MPI_Iallreduce). The matrix is factored
-by graph_cholesky.c, mpi_cholesky.c and, if it is installed, ScaLAPACK.
+The proved detector is that of lib/libgerfmuod.a. The others are hand-written, in capi/mpi/detectors.h: the same four counters over the
+same tree, Safra's ring (EWD 998), and repeated reductions of the counters (MPI_Iallreduce). The matrix is factored by graph_cholesky.c,
+mpi_cholesky.c and, if they are installed, StarPU and ScaLAPACK. The short tasks are those of graph_patterns.c.
 """
-import contextlib
 import functools
+import itertools
+import os
 import re
 import sys
 from statistics import median
 
 from .. import mpi, mpi_graphs, running
 from ..c_programs import output_of
+from ..shared_object import INCLUDE
 from .measuring import quantiles
 from .rows import ProcessRow
 
@@ -22,6 +24,9 @@ WITHOUT_MPI = list(DETECTORS)[:-1]
 PROCESSES = [1, 2, 4, 8, 16]
 CALLS = {"send": 1, "message": 2, "wave": 3}
 SIMULATED = [2**power for power in range(0, 21, 2)]
+# the ways of graph_patterns.c, and their names in the rows; the columns and steps, and the iterations of tasks
+WAYS = {"graph": "one graph, with its description", "run": "one graph, described before", "plain": "MPI alone"}
+GRID, ITERATIONS = (16, 100), [50 * 2**power for power in range(11)]
 # a process whose instructions are counted does this number of turns
 TURNS = 1_000_000
 NO_ROW = ProcessRow("processes", "", "", 1, 1, *[None] * 9)
@@ -35,6 +40,7 @@ IDLE_FIELDS = ("microseconds", "lower_quartile", "upper_quartile", "slowest_tent
 SEARCH = rf"{NUMBER} ms to detect the end, {NUMBER} waves, {NUMBER} control messages"
 STEPS = rf": {NUMBER} steps, {NUMBER} control messages, {NUMBER} waves"
 FACTORED = rf", {NUMBER} s, .*: right"
+TASKS = rf".*: {NUMBER} ns an iteration, microseconds{{}}, .*: right\n"
 STORM = rf"{NUMBER} waves, {NUMBER} control messages, at most {NUMBER} waves after the end"
 
 
@@ -47,8 +53,9 @@ def numbers_in(text, form):
 
 
 def over_mpi(program, processes, arguments, form):
-    """Returns the numbers that a program prints with this number of processes; exits with status 1 if it fails."""
-    return numbers_in(output_of(mpi.command_of(program, processes, arguments, 300), env=mpi.environment()), form)
+    """Returns the numbers that a program prints with this number of unbound processes; exits with status 1 if it fails."""
+    own = {"OMPI_MCA_hwloc_base_binding_policy": "none", "STARPU_HOME": os.path.dirname(program)}
+    return numbers_in(output_of(mpi.command_of(program, processes, arguments, 300), env={**mpi.environment(), **own}), form)
 
 
 def print_case(case):
@@ -84,24 +91,44 @@ def search_tree(program, tree, rounds):
             yield row(f"tree {tree}", argument, processes=processes, rounds=rounds, **dict(zip(IDLE_FIELDS, numbers)))
 
 
-def factor(folder, order, blocks, rounds):
+def factor(bench, order, blocks, rounds):
     """Measures the factorization of a matrix by four threads in all; the programs take turns. ScaLAPACK has one thread a process."""
-    compiled = functools.partial(mpi_graphs.compiled, mpi_graphs.MPIS[0], folder)
-    graph, graphs = (compiled(name, options=mpi.BLAS) for name in ("graph_cholesky", "mpi_cholesky"))
-    own = {"one graph over all processes": (graph, blocks[0]), "a graph in each process": (graphs, blocks[0])}
-    with contextlib.suppress(SystemExit):
-        peer = compiled("../../bench/peers/pdpotrf", path=f"{folder}/pdpotrf", options=["-lscalapack-openmpi", *mpi.BLAS])
-        own.update({f"ScaLAPACK, blocks of {block}": (peer, block) for block in blocks})
+    compiled = functools.partial(mpi_graphs.compiled, mpi_graphs.MPIS[0], bench.folder, options=mpi.BLAS)
+    compiler, link = (mpi_graphs.MPIS[0].compiler, "-O2", f"-I{INCLUDE}"), (*mpi.BLAS, *mpi.LINK)
+    options = ["-DHAVE_STARPU", *running.run(["pkg-config", "--cflags", "--libs", "starpumpi-1.3"]).out.decode().split()]
+    starpu = bench.peers.program("starpu", compiler, "../../capi/bench/peers/starpu_cholesky.c", (*options, *link))
+    scalapack = bench.peers.program("pdpotrf", compiler, "pdpotrf.c", ("-lscalapack-openmpi", *link))
+    own = {
+        "one graph over all processes": [compiled("graph_cholesky"), blocks[0]], "StarPU": [starpu, blocks[0]],
+        "a graph in each process": [compiled("mpi_cholesky"), blocks[0]], "StarPU, tasks inserted before": [starpu, blocks[0], "before"],
+        **{f"ScaLAPACK, blocks of {block}": [scalapack, block] for block in blocks},
+    }
     for processes in (4, 2):
         print_case(f"Cholesky, {processes} processes")
-        programs = {name: case for name, case in own.items() if processes == 4 or case[0] in (graph, graphs)}
+        programs = {name: case for name, case in own.items() if case[0] and (processes == 4 or case[0] != scalapack)}
         times = {name: [] for name in programs}
-        for name in rounds * list(programs):
-            arguments = [str(order), str(programs[name][1]), str(4 // processes)]
-            times[name].append(1e6 * over_mpi(programs[name][0], processes, arguments, FACTORED)[0])
+        for name, (program, tile, *more) in rounds * list(programs.items()):
+            times[name] += over_mpi(program, processes, [str(order), str(tile), str(4 // processes), *more], FACTORED)
         for name, all_times in times.items():
-            values = dict(zip(IDLE_FIELDS, quantiles(all_times)))
+            values = dict(zip(IDLE_FIELDS, quantiles([1e6 * time for time in all_times])))
             yield NO_ROW._replace(case=f"Cholesky of order {order:,}", detector=name, processes=processes, rounds=rounds, **values)
+
+
+def patterns(bench, sizes, rounds, runs):
+    """Measures short tasks, of all sizes in each process; the ways take turns."""
+    program, kernels = mpi_graphs.compiled(mpi_graphs.MPIS[0], bench.folder, "graph_patterns"), []
+    for pattern, processes in itertools.product(("stencil", "spread"), (2, 4)):
+        print_case(f"{pattern}, {processes} processes")
+        times = {(way, size): [] for way in WAYS for size in sizes}
+        for way in rounds * list(WAYS):
+            arguments = [way, pattern, *map(str, [*GRID, 1, runs, *sizes])]
+            numbers = iter(over_mpi(program, processes, arguments, len(sizes) * TASKS.format(runs * f" {NUMBER}")))
+            for size in sizes:
+                kernels.append(next(numbers))
+                times[way, size] += itertools.islice(numbers, runs)
+        for (way, size), own in times.items():
+            values = dict(zip(IDLE_FIELDS, quantiles(own)), rounds=len(own), tasks=GRID[0] * GRID[1], kernel_nanoseconds=min(kernels))
+            yield NO_ROW._replace(case=f"{pattern}, {size:,} iterations", detector=WAYS[way], processes=processes, **values)
 
 
 def calls(bench, program, rounds, turns):
@@ -139,7 +166,8 @@ def measure(bench):
     else:
         yield from idle(mpi.compile_program("latency", bench.folder), 200 if quick else 2_000)
         yield from search_tree(mpi.compile_program("uts_mpi", bench.folder), "T0" if quick else "T1", 3 if quick else 5)
-        yield from factor(bench.folder, 512 if quick else 4096, [128, 64, 256], 3 if quick else 9)
+        yield from factor(bench, 512 if quick else 4096, [128, 64, 256], 3 if quick else 9)
+        yield from patterns(bench, ITERATIONS[3::2] if quick else ITERATIONS, 2 if quick else 5, 3 if quick else 10)
     yield from calls(bench, program, bench.rounds, 1_000_000 if quick else 10_000_000)
     sizes = SIMULATED[:6] if quick else SIMULATED
     yield from simulated(program, sizes)

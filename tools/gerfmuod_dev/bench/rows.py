@@ -51,9 +51,9 @@ class Row(NamedTuple):
 class ProcessRow(NamedTuple):
     """One detector for distributed programs in one case, with so many processes. A number that was not measured is None.
 
-    Microseconds are from the last piece of work to the last process that knows the end: the median of the rounds, their
-    quartiles, and what nine rounds of ten stay below. Control messages, waves and steps are those of one round: waves are
-    reductions or rounds of the token too, and steps are those of a network in which a control message takes one.
+    Microseconds are from the last piece of work to the last process that knows the end, or those of a run: the median of the rounds,
+    their quartiles, and what nine rounds of ten stay below. Control messages, waves and steps are those of one round: waves are reductions
+    or rounds of the token too, and steps are those of a network in which a control message takes one. A row with tasks is of a pattern.
     """
 
     measurement: str
@@ -70,6 +70,14 @@ class ProcessRow(NamedTuple):
     steps: int
     nanoseconds_a_call: float
     instructions: float
+    tasks: int = None
+    kernel_nanoseconds: float = None
+
+    @property
+    def as_pattern(self):
+        """The row of a pattern as one of `patterns`: a process is a node with one worker."""
+        own = "patterns", self.case, "task", self.tasks, self.detector, self.processes, 1, 0, self.rounds
+        return Row(*own, *(time / 1000 for time in self[5:9]), *[None] * 9, self.kernel_nanoseconds)
 
 
 class Origin(NamedTuple):

@@ -27,6 +27,8 @@ def missing(rows):
 
 def impossible(measurement, rows):
     """Returns the names of impossible rows with what is impossible."""
+    if measurement == "processes":
+        return impossible("patterns", [row.as_pattern for row in rows if row.tasks])
     if measurement == "preloaded":
         times = {(row.case, row.detector): (row.lower_quartile, row.microseconds, row.upper_quartile) for row in rows}
         return [f"{', '.join(name)}: {own} us are no times" for name, own in times.items() if not 0 < own[0] <= own[1] <= own[2]]

@@ -1,5 +1,6 @@
 """The tables that are printed, and that docs/PERFORMANCE.md has between marks."""
 import functools
+import itertools
 import re
 import statistics
 from typing import NamedTuple
@@ -341,9 +342,21 @@ def milliseconds_of(row):
     return f"{row.microseconds / 1000:,.0f} ({row.lower_quartile / 1000:,.0f}–{row.upper_quartile / 1000:,.0f})"
 
 
+def patterns_over_mpi(rows):
+    """Returns METG(50%) of each way to run a pattern over processes, and its ratio to the last one, which is MPI alone."""
+    ways, lines = distinct(rows, "program"), []
+    for pattern, processes in itertools.product(metg.patterns_of(rows), distinct(rows, "nodes")):
+        curves = [functools.partial(metg.curve, rows, pattern, way, processes, 1) for way in ways]
+        *sizes, last = (metg.metg(curve()) for curve in curves)
+        ratios = ["" if size.bound + last.bound else f"{size.microseconds / last.microseconds:.2f}" for size in sizes]
+        lines.append([pattern, str(processes), *map(metg.spelt_by_quartiles, curves), *ratios])
+    head = ["Pattern", "processes", *ways, *(f"{way}, by {ways[-1]}" for way in ways[:-1])]
+    return f"METG(50%) in microseconds, one thread a process, and ratios:\n\n{table(head, lines)}"
+
+
 def detectors(rows):
     what = "microseconds to the last process that knows the end (quartiles); control messages; waves, rounds of the token, reductions"
-    timed = [row for row in rows if row.microseconds is not None]
+    tasks, timed = [row.as_pattern for row in rows if row.tasks], [row for row in rows if row.microseconds is not None and not row.tasks]
     shown = [(case, what, times_and_messages) for case in distinct([row for row in timed if row.waves is not None], "case")]
     factored = distinct([row for row in timed if row.waves is None], "case")
     shown += [(case, "milliseconds (quartiles), with four threads in all", milliseconds_of) for case in factored]
@@ -359,8 +372,8 @@ def detectors(rows):
         [row.case[len("calls: "):], row.detector, cell(row.nanoseconds_a_call, "{:.1f}"), cell(row.instructions, "{:.0f}")]
         for row in rows if row.nanoseconds_a_call is not None
     ]
-    calls = table(["Calls", "Detector", "nanoseconds", "instructions"], lines)
-    return "\n\n".join([*parts[:-2], f"A call, the loop around it included:\n\n{calls}", *parts[-2:]])
+    calls = f"A call, the loop around it included:\n\n{table(['Calls', 'Detector', 'nanoseconds', 'instructions'], lines)}"
+    return "\n\n".join([*parts[:-2], *map(patterns_over_mpi, [tasks] * bool(tasks)), calls, *parts[-2:]])
 
 
 def preloaded(rows):

@@ -4,7 +4,7 @@ import pytest
 from . import comparing, conditions, metg, preloaded, soundness, tables
 from .measuring import Bench, quantiles
 from .peers import Peers
-from .rows import Row
+from .rows import ProcessRow, Row
 
 
 def row(case, milliseconds, workers=1, measurement="patterns", units=1600, spread=0.1):
@@ -41,6 +41,17 @@ def test_missing_sizes_have_names():
     rows = [row(f"{name}, {count} iterations", 99, 4) for name in soundness.PATTERNS_OF_TASKS for count in soundness.TOGETHER]
     assert list(soundness.missing(rows)) == []
     assert list(soundness.missing(rows[:-1])) == ["all_to_all, patterns, 1 by 4: 7 of 8 sizes of tasks"]
+
+
+def test_patterns_over_processes():
+    def process_row(way, iterations, time):
+        return ProcessRow("processes", f"stencil, {iterations:,} iterations", way, 4, 5, *[time] * 4, *[None] * 5, 1600, 2.0)
+
+    # with four processes tasks of 5 and 9 microseconds have kernels of 2 and 5; those of the second way are half as long
+    sizes = ("graph", 1000, 2000), ("graph", 2500, 3600), ("MPI alone", 500, 1000), ("MPI alone", 1250, 1800)
+    rows = [process_row(*size) for size in sizes]
+    assert "| stencil | 4 | 7.00 (7.00–7.00) | 3.50 (3.50–3.50) | 2.00 |\n" in tables.detectors(rows) and "METG" not in tables.detectors([])
+    assert len(soundness.impossible("processes", [*rows, process_row("graph", 1000, 700)])) == 1
 
 
 def test_speed_up_is_not_more_than_the_workers():
