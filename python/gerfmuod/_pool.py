@@ -272,7 +272,7 @@ class Pool:
         values = (*arguments, *keywords.values())
         waits_for = [*(it for it in values if isinstance(it, Task)), *after]
         accesses = [(self._number_of(it.data, Data), it.mode) for it in values if isinstance(it, Accessed)]
-        named = ((READ, reads), (WRITE, writes), (UPDATE, updates))
+        named = zip((READ, WRITE, UPDATE), (reads, writes, updates))
         accesses += [(self._number_of(it, Handle), mode) for mode, handles in named for it in handles]
         if accesses and waits_for:
             raise ValueError("a task names either tasks that it waits for or data")

@@ -90,8 +90,7 @@ class Handles(Case):
 
                 step(number, *(expected[place] for place in modes))
                 handles = {f"{mode.__name__}s": [data[at] for at in modes if modes[at] is mode] for mode in (read, write, update)}
-                by_value = [data[at].value for at in modes], handles
-                values, accesses = draw.choice((by_value, ([mode(data[at]) for at, mode in modes.items()], {})))
+                values, accesses = draw.choice((([data[at].value for at in modes], handles), ([modes[at](data[at]) for at in modes], {})))
                 pool.task(step, number, *values, **accesses, priority=draw.randrange(4))
             pool.run(3)
             self.assertEqual([it.value for it in data], expected)
@@ -139,9 +138,10 @@ class Order(Case):
         self.assertEqual(ended, [0, 1, 2, 3])
 
     def test_tasks_run_on_several_threads(self):
-        pool, meeting = Pool(), threading.Barrier(3, timeout=10)
+        pool, meeting = Pool(), threading.Barrier(3)
+        seconds = pool.data(10)
         for _ in range(3):
-            pool.task(meeting.wait)  # passes when three tasks run at a time
+            pool.task(meeting.wait, timeout=read(seconds))  # passes when three tasks run at a time
         pool.run(threads=3)
 
 
