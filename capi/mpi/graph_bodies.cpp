@@ -304,13 +304,17 @@ static bool stores_where_it_runs() {
     return well && Counted::alive == 0;
 }
 
-// The description of tasks of another process allocates nothing here, and that of own ones does.
+// Data and tasks of another process allocate nothing here, and own ones do.
 static bool costs_nothing_elsewhere() {
     Graph graph(MPI_COMM_WORLD);
-    GraphData<int> a(graph, 0), b(graph, processes - 1);
+    GraphData<int> b(graph, processes - 1);
     long before = allocations;
+    GraphData<int> a(graph, 0);
+    GraphData<double[]> c(graph, 0, 1000);
+    bool well = allocations - before == (me == 0 ? 2 : 0);
+    before = allocations;
     for (int t = 0; t < 1000; t++) graph.task([t](int &x, int y) { x += y + t; }, update(a), read(b));
-    bool well = me == 0 ? allocations - before >= 1000 : allocations == before;
+    well &= me == 0 ? allocations - before >= 1000 : allocations == before;
     graph.run();
     return well && (me != 0 || a.value() == 1000 * 999 / 2);
 }
@@ -445,7 +449,9 @@ static bool refuses() {
     if (has_two)
         well &= refusal_of([](Graph &graph, auto &a, auto &b, auto &body) { graph.task(body, write(a), update(b)); }) == no_node;
     auto differs = [&](Graph &graph, auto &a, auto &, auto &body) { graph.task(is_last ? 1 : 2, body, read(a)); };
+    auto updates = [&](Graph &graph, auto &a, auto &, auto &body) { graph.task(body, is_last ? update(a) : write(a)); };
     if (has_two) well &= refusal_of(differs) == refused(GERFMUOD_REFUSED_DIFFERENT);
+    if (has_two) well &= refusal_of(updates) == refused(GERFMUOD_REFUSED_DIFFERENT);
     return well && Counted::alive == 0;
 }
 
