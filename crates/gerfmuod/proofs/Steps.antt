@@ -21,10 +21,6 @@ room_after_settling old new (Ok answer) s room =
     λ e. let both = ended in cc
 room_after_settling old new (Err r) s room = subst HasRoom (sym s.1) room
 
--- a refusal other than `HistoryFull`
-other : (r s : Refusal) → r ≡ s → number_of s ≢ 16 → number_of r ≢ 16
-other r s e differs = subst (λ (x : Refusal). number_of x ≢ 16) (sym e) differs
-
 not_ended : (b : Bool) (more : List Check) → first_refusal ((b, Ended) ∷ more) ≡ None → IsFalse b
 not_ended true more e = cc
 not_ended false more e = refl

@@ -1,10 +1,9 @@
 //! The calls on a core, as C gets their results.
 ghost use Rattle.std.specs.Prelude.{◌≡◌, ◌≢◌, ◌&&◌, IsTrue, None, OnSome, option_map};
-ghost use Rattle.gerfmuod.specs.Calls.{number_of, no_numbers, world_of, InEach, is_maker};
-ghost use Rattle.gerfmuod.specs.Calls.{IsNeverEarly, is_quiet, counters, unsettled, IsSettled, IsStep, IsByCall, IsCountersCall};
-ghost use Rattle.gerfmuod.specs.Calls.{IsRestartCall, IsSettleCall, IsStepCall, IsStatusCall, refused_step, IsReserveCall, made_step};
-ghost use Rattle.gerfmuod.specs.Calls.{maker_asked, IsMade, has_plain_reply, is_ending_if, refusal_told, reply_told, IsTold, raw_step};
-ghost use Rattle.gerfmuod.specs.Calls.{TellsNoEarlyEnd, opening, refusal_of};
+ghost use Rattle.gerfmuod.specs.Calls.{number_of, no_numbers, world_of, InEach, is_maker, plain, IsNeverEarly, is_quiet, counters};
+ghost use Rattle.gerfmuod.specs.Calls.{unsettled, IsSettled, IsStep, IsByCall, IsCountersCall, IsRestartCall, IsSettleCall, IsStepCall};
+ghost use Rattle.gerfmuod.specs.Calls.{IsStatusCall, refused_step, IsReserveCall, made_step, maker_asked, IsMade, has_plain_reply};
+ghost use Rattle.gerfmuod.specs.Calls.{is_ending_if, refusal_told, reply_told, IsTold, raw_step, TellsNoEarlyEnd, opening, refusal_of};
 
 use crate::answer::{Counters, Settled, Status, StepResult};
 use crate::pool::CoreRoom;
@@ -42,19 +41,25 @@ pub(crate) fn reserved(slot: &mut CoreSlot, steps: u32, tasks: u32, messages: u3
     }
 }
 
-const PLAIN: StepResult = StepResult {
-    refused: 0,
-    event: 0,
-    number: 0,
-    sent: 0,
-    received: 0,
-};
-
-/// The result of a step that ended something and left nothing.
-const QUIET: StepResult = StepResult { event: 5, ..PLAIN };
+/// The event of a step that ended something and left nothing.
+const QUIET: u16 = 5;
 
 /// The refusal of a step whose maker may not make it.
 const NO_MAKER: u16 = 29;
+
+/// Returns the result of a step without sums.
+#[inline(always)]
+fn plain(refused: u16, event: u16, number: u32) -> StepResult
+    ensures { result ≡ plain refused event number }
+{
+    StepResult {
+        refused,
+        event,
+        number,
+        sent: 0,
+        received: 0,
+    }
+}
 
 /// Returns the result of a step that shows more than most.
 #[cold]
@@ -63,25 +68,15 @@ fn rare_reply(reply: Reply) -> StepResult
     ensures { result ≡ reply_told reply }
 {
     match reply {
-        Reply::Plain => PLAIN,
+        Reply::Plain => plain(0, 0, 0),
         Reply::WaveSums(sums) => StepResult {
-            event: 1,
-            number: sums.wave,
             sent: sums.sent,
             received: sums.received,
-            ..PLAIN
+            ..plain(0, 1, sums.wave)
         },
-        Reply::Not => StepResult { event: 2, ..PLAIN },
-        Reply::Over(wave) => StepResult {
-            event: 3,
-            number: wave,
-            ..PLAIN
-        },
-        Reply::Opened(generation) => StepResult {
-            event: 4,
-            number: generation.0,
-            ..PLAIN
-        },
+        Reply::Not => plain(0, 2, 0),
+        Reply::Over(wave) => plain(0, 3, wave),
+        Reply::Opened(generation) => plain(0, 4, generation.0),
     }
 }
 
@@ -102,11 +97,7 @@ fn of_refusal(refusal: Refusal) -> StepResult
         Refusal::HistoryFull(steps) => steps,
         _ => 0,
     };
-    StepResult {
-        refused: refusal_number(refusal),
-        number,
-        ..PLAIN
-    }
+    plain(refusal_number(refusal), 0, number)
 }
 
 /// Returns the result of a step on a core that is not open, or on which another call runs.
@@ -114,10 +105,7 @@ fn of_refusal(refusal: Refusal) -> StepResult
 pub(crate) fn not_taken(slot: &CoreSlot) -> StepResult
     ensures { result ≡ refused_step (refusal_of slot.now.use_is) }
 {
-    StepResult {
-        refused: slot.refusal(),
-        ..PLAIN
-    }
+    plain(slot.refusal(), 0, 0)
 }
 
 /// Returns whether the step ends something.
@@ -163,7 +151,7 @@ fn of_reply(reply: Reply) -> StepResult
 {
     match reply {
         // the case of most steps
-        Reply::Plain => PLAIN,
+        Reply::Plain => plain(0, 0, 0),
         _ => by_fields(rare_reply(reply)),
     }
 }
@@ -178,7 +166,7 @@ pub(crate) fn told(room: &mut CoreRoom, step: Option<Step>) -> StepResult
     match room.take(step) {
         Ok(reply) => {
             if leaves_nothing(room, ends) {
-                QUIET
+                plain(0, QUIET, 0)
             } else {
                 of_reply(reply)
             }
@@ -198,9 +186,9 @@ fn told_plainly(room: &mut CoreRoom, step: Option<Step>) -> StepResult
         Ok(reply) => {
             let _ = reply;
             if leaves_nothing(room, ends) {
-                QUIET
+                plain(0, QUIET, 0)
             } else {
-                PLAIN
+                plain(0, 0, 0)
             }
         }
         Err(refusal) => of_refusal(refusal),
@@ -291,10 +279,7 @@ fn told_by(room: &mut CoreRoom, maker_kind: u32, maker: u32, step: Option<Step>)
     };
     match is_made_by(room, maker_kind, maker, made) {
         Some(true) => told_plainly(room, step),
-        Some(false) => StepResult {
-            refused: NO_MAKER,
-            ..PLAIN
-        },
+        Some(false) => plain(NO_MAKER, 0, 0),
         None => by_fields(no_step(room)),
     }
 }

@@ -54,18 +54,11 @@ impl CoreSlot {
         ensures { result ≡ opened nodes }
     {
         can_be_sent::<CoreSlot>();
-        if can_be(nodes) {
-            CoreSlot {
-                mark: OPEN,
-                room: CoreRoom::new(alloc, nodes),
-                alloc,
-            }
-        } else {
-            CoreSlot {
-                mark: 0,
-                room: CoreRoom::new(alloc, 1),
-                alloc,
-            }
+        let (mark, nodes) = if can_be(nodes) { (OPEN, nodes) } else { (0, 1) };
+        CoreSlot {
+            mark,
+            room: CoreRoom::new(alloc, nodes),
+            alloc,
         }
     }
 

@@ -73,20 +73,13 @@ fn limit_of(refusal: TeamRefusal) -> u32
 pub(crate) fn task_named(number: u32) -> Option<u32>
     ensures { result ≡ task_named number }
 {
-    if number == NO_NUMBER {
-        None
-    } else {
-        Some(number)
-    }
+    (number != NO_NUMBER).then_some(number)
 }
 
 fn number_or_none(task: Option<u32>) -> u32
     ensures { result ≡ number_or_none task }
 {
-    match task {
-        Some(number) => number,
-        None => NO_NUMBER,
-    }
+    task.unwrap_or(NO_NUMBER)
 }
 
 fn of_fault(fault: Fault, signals: u32) -> GraphResult

@@ -1,7 +1,6 @@
 //! Data handles, and tasks whose inputs are inferred from their accesses.
 ghost use Rattle.std.specs.Prelude.{◌≡◌, ◌⊎◌, length, true, false, IsTrue};
-ghost use Rattle.gerfmuod.specs.Part.{NoMemory, Pool, all_below, is_not_above, opened_with};
-ghost use Rattle.gerfmuod.specs.Part.{IsHandle, IsTask, SpawnsTask, IsRefused};
+ghost use Rattle.gerfmuod.specs.Part.{NoMemory, Pool, all_below, is_not_above, opened_with, IsHandle, IsTask, SpawnsTask, IsRefused};
 
 use crate::graph::access::{RawAccess, are_accesses, decode};
 use crate::graph::answer::{GraphResult, NO_MEMORY, plain, refused};

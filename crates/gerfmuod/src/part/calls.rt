@@ -1,7 +1,6 @@
 //! The calls on a part, as C gets their results.
 ghost use Rattle.std.specs.Prelude.{◌≡◌};
-ghost use Rattle.gerfmuod.specs.Part.{IsArrived, IsDone, IsNext, IsPartCall, IsSharedTaskCall, IsStarted, IsTaskOfCall};
-ghost use Rattle.gerfmuod.specs.Part.{outcome_answer};
+ghost use Rattle.gerfmuod.specs.Part.{IsArrived, IsDone, IsNext, IsPartCall, IsSharedTaskCall, IsStarted, IsTaskOfCall, outcome_answer};
 
 use crate::graph::access::RawAccess;
 use crate::graph::answer::{GraphResult, plain, refused};

@@ -5,7 +5,7 @@ pub returns-then-leaves_nothing : goal.returns-then-leaves_nothing
 returns-then-leaves_nothing c =
     let left : IsTrue c.leaves_nothing.result = grind (arith, nat_tests, c.if-leaves_nothing.true) in
     told_left c.args.room.now c.take.new.self c.args.step c.in-Ok.reply _ c.is_ending-ends.result c.leaves_nothing.result
-    c.in-Ok.ensures.answers c.in-Ok.ensures.never_early c.is_ending-ends.ensures c.leaves_nothing.ensures (rw left refl)
+    c.in-Ok.ensures.answers c.in-Ok.ensures.never_early c.is_ending-ends.ensures c.leaves_nothing.ensures (c.plain.ensures ∙ rw left refl)
 
 pub returns-else-leaves_nothing : goal.returns-else-leaves_nothing
 returns-else-leaves_nothing c =

@@ -1,25 +1,14 @@
 -- The proof of `gerfmuod_graph_call`: it passes its arguments on with a borrow of the graph.
-use Rattle.gerfmuod.proofs.Borrowing.{[], ◌∷◌, refl, full_share, id⊢, vptr, flat, ◌$◌, !, done, enter, of_opd, addr, stop, no_more}
-use Rattle.gerfmuod.proofs.Borrowing.{and_then, returns, alloc_all, pass_all, free_all, look_at, get, through, sets, lands_as, framed}
-use Rattle.gerfmuod.proofs.Borrowing.{layout, tables, triple_of, graph_result_row, graph_row, graph_result_laws, exported, gives, passes_on}
-use Rattle.gerfmuod.proofs.Borrowing.{lent, dropped, drops, nums, nums_go, spells, tell, typed, u32s, vals, IsGraphCall}
-use Rattle.gerfmuod.specs.contracts.graph.gerfmuod_graph_call as f
+use Rattle.gerfmuod.proofs.Borrowing.{[], ◌∷◌, refl, full_share, vptr, ◌$◌, !, done, enter, alloc_all, pass_all, free_all, exported, lent}
+use Rattle.gerfmuod.proofs.Borrowing.{values, takes, reads, hands_on, frames, numbers, IsGraphCall, graph_row, graph_result_laws}
 use Rattle.gerfmuod.proofs.graph.gerfmuod_graph_call.Statement.{statement}
 use Rattle.gerfmuod.proofs.graph.gerfmuod_graph_call.Code as code
-use Rattle.gerfmuod.specs.contracts.graph.calls.call as g
 use Rattle.gerfmuod.proofs.graph.calls.call.Met.{met}
 
 pub gerfmuod_graph_call_spec : {M : Type 1} → statement M
 gerfmuod_graph_call_spec 𝓤 𝓛 𝓜 𝓡 wired =
-    exported 𝓛 𝓜 𝓡 graph_row graph_result_row graph_result_laws 0 (nums 3) f.ended.kept.1
-    (λ κs a n u out new. IsGraphCall n a.0 a.1.0 a.1.1.0 u new)
-    (dropped {n = 0} (nums 3) f.ended.kept.1) (nums_go 𝓛 0 3 f.ended.kept.1) (drops 𝓛 0 (nums 3) f.ended.kept.1)
-    f.Key.name code.function (code.unfolded 𝓤 𝓛.H 𝓜 𝓡 wired) (λ κs. spells 3) (λ κs. tell 3)
-    g.Key.name (triple_of 𝓛 g.signature (g.spec 𝓛 𝓜.mem 𝓡.returns)) (met 𝓤 𝓛 𝓜 𝓡 (code.calls-gerfmuod::graph::calls::call 𝓡.env wired))
-    (λ κs qs a n b o are. gives (λ α γ. (((α ∷ [], κs), (full_share, qs), tt, (lent b o γ n, a), (vptr b o ∷ [], vals 3 a)), tt))
-    (λ α γ. refl) (λ α γ. id⊢ 𝓤 _) (λ α γ v. id⊢ 𝓤 _) (λ Q.
-    enter ! _ _ _ _ _ $ alloc_all ! (λ l. pass_all ! refl ((tt, tt), typed 3 a are) $
-    sets ! (of_opd ! (get ! refl)) refl (tt, tt) $ sets ! (addr ! (through ! refl (stop !))) refl (tt, tt) $
-    passes_on ! (framed 𝓤 𝓛.H 𝓜 (tables 𝓤 𝓛.H 𝓜 𝓡 𝓡.env)) (layout graph_result_row) (vptr b o ∷ flat (u32s 3) (vals 3 a)) Q
-    (and_then ! (get ! refl) (and_then ! (get ! refl) (and_then ! (get ! refl) (and_then ! (get ! refl) (no_more !)))))
-    (λ v good. lands_as ! refl refl good $ returns ! (look_at ! 0 refl) $ free_all ! refl $ done !))))
+    exported 𝓛 𝓜 𝓡 graph_row graph_result_laws (numbers 𝓛 0 3) (λ κs a n u out new. IsGraphCall n a.0 a.1.0 a.1.1.0 u new) _ code.function
+    (code.unfolded 𝓤 𝓛.H 𝓜 𝓡 wired) _ (λ κs qs a n b o α γ. met 𝓤 𝓛 𝓜 𝓡 (code.calls-gerfmuod::graph::calls::call 𝓡.env wired)
+    (((α ∷ [], κs), (full_share, qs), tt, (lent b o γ n, a), (vptr b o ∷ [], values 𝓛 0 (numbers 𝓛 0 3) κs a)), tt))
+    (λ κs a b o ts Q. enter ! _ _ _ _ _ $ alloc_all ! (λ l. pass_all ! refl ((tt, tt), ts) $ takes 𝓛 _ ! refl ((tt, tt), (tt, tt)) $
+    hands_on 𝓛 _ ! (frames 𝓛 𝓜 𝓡) (reads 𝓛 _ ! refl) (λ v. refl) (λ v. free_all ! refl $ done !)))

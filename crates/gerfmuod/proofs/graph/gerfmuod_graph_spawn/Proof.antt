@@ -1,21 +1,15 @@
 -- The proof of `gerfmuod_graph_spawn`: it passes its arguments on with a borrow of the graph.
-use Rattle.gerfmuod.proofs.Borrowing.{[], ◌∷◌, refl, full_share, id⊢, vptr, ◌$◌, !, done, enter, of_opd, addr, stop, no_more, and_then}
-use Rattle.gerfmuod.proofs.Borrowing.{returns, alloc_all, pass_all, free_all, look_at, get, through, sets, lands_as, layout, u32, graph_row}
-use Rattle.gerfmuod.proofs.Borrowing.{graph_result_row, graph_result_laws, passes_on, gives, lent, IsSpawnCall, lists, listed_vals}
-use Rattle.gerfmuod.proofs.Borrowing.{listed_arguments, frames}
+use Rattle.gerfmuod.proofs.Borrowing.{[], ◌∷◌, refl, full_share, vptr, ◌$◌, !, done, enter, alloc_all, pass_all, free_all, exported, lent}
+use Rattle.gerfmuod.proofs.Borrowing.{values, takes, reads, hands_on, frames, listed, u32, IsSpawnCall, graph_row, graph_result_laws}
 use Rattle.gerfmuod.proofs.graph.gerfmuod_graph_spawn.Statement.{statement}
 use Rattle.gerfmuod.proofs.graph.gerfmuod_graph_spawn.Code as code
 use Rattle.gerfmuod.proofs.graph.calls.spawn.Met.{met}
 
 pub gerfmuod_graph_spawn_spec : {M : Type 1} → statement M
 gerfmuod_graph_spawn_spec 𝓤 𝓛 𝓜 𝓡 wired =
-    lists 𝓛 𝓜 𝓡 graph_row graph_result_row graph_result_laws u32 (λ κs a n u out new. IsSpawnCall n a.0 a.1.0.now a.1.1.0 u new) _
-    code.function (code.unfolded 𝓤 𝓛.H 𝓜 𝓡 wired) _ _ (met 𝓤 𝓛 𝓜 𝓡 (code.calls-gerfmuod::graph::calls::spawn 𝓡.env wired))
-    (λ κs qs a n b o are. let i = are.0.1 in let few = are.1.0.0.1.0 in let j = are.1.1.0.1 in
-    gives (λ α γ. (((α ∷ [], κs), (full_share, qs), tt, (lent b o γ n, a), (vptr b o ∷ [], listed_vals u32 κs a)), tt)) (λ α γ. refl)
-    (λ α γ. id⊢ 𝓤 _) (λ α γ v. id⊢ 𝓤 _) (λ Q. enter ! _ _ _ _ _ $ alloc_all ! (λ l.
-    pass_all ! refl ((tt, tt), ((tt, record { fits = i }), ((tt, (tt, (record { fits = few }, tt))), ((tt, record { fits = j }), tt)))) $
-    sets ! (of_opd ! (get ! refl)) refl (tt, tt) $ sets ! (addr ! (through ! refl (stop !))) refl (tt, tt) $
-    passes_on ! (frames 𝓛 𝓜 𝓡) (layout graph_result_row) (listed_arguments u32 κs a b o) Q
-    (and_then ! (get ! refl) (and_then ! (get ! refl) (and_then ! (get ! refl) (and_then ! (get ! refl) (no_more !)))))
-    (λ v good. lands_as ! refl refl good $ returns ! (look_at ! 0 refl) $ free_all ! refl $ done !))))
+    exported 𝓛 𝓜 𝓡 graph_row graph_result_laws (listed 𝓛 u32) (λ κs a n u out new. IsSpawnCall n a.0 a.1.0.now a.1.1.0 u new)
+    _ code.function (code.unfolded 𝓤 𝓛.H 𝓜 𝓡 wired) _
+    (λ κs qs a n b o α γ. met 𝓤 𝓛 𝓜 𝓡 (code.calls-gerfmuod::graph::calls::spawn 𝓡.env wired)
+    (((α ∷ [], κs), (full_share, qs), tt, (lent b o γ n, a), (vptr b o ∷ [], values 𝓛 1 (listed 𝓛 u32) κs a)), tt))
+    (λ κs a b o ts Q. enter ! _ _ _ _ _ $ alloc_all ! (λ l. pass_all ! refl ((tt, tt), ts) $ takes 𝓛 _ ! refl ((tt, tt), (tt, tt)) $
+    hands_on 𝓛 _ ! (frames 𝓛 𝓜 𝓡) (reads 𝓛 _ ! refl) (λ v. refl) (λ v. free_all ! refl $ done !)))
