@@ -5,8 +5,9 @@
 # make try      the programs and the library without proofs, in unproved/bin and unproved/lib (some minutes)
 # make test     every test and every program, without proofs: those in C, C++, Fortran and Python with the library of
 #               `make lib`, and the cases of the programs with those of `make` (some minutes; see docs/GATE.md)
-# make mpi      tree search with the detector for distributed programs, and Cholesky with a task graph in each process, over
-#               Open MPI, up to 16 processes, and one task graph over all processes (some minutes); then the checker of MPI programs, over Open MPI and MPICH
+# make mpi      tree search with the detector for distributed programs, Cholesky with a task graph in each process, and one task graph
+#               over all processes, over Open MPI and MPICH, up to 16 processes (some minutes); then the Python programs over MPI, and the
+#               checker of MPI programs
 # make ompt     of these only lib/libgerfmuod_ompt.so, which checks the tasks of OpenMP programs (docs/OPENMP-PROGRAMS.md)
 # make gate     the gate: every proof from scratch, its mutants, each test, each program (see docs/GATE.md; ANEW=1: nothing
 #               that an earlier run on this machine passed is reused)
@@ -78,6 +79,7 @@ test:
 
 mpi: lib/libgerfmuod.a
 	@tools/dev mpi
+	@tools/dev dag --processes 1 2 4 8 16
 	@tools/dev mpi-check
 
 ompt: lib/libgerfmuod_ompt.so

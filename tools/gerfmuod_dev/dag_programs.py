@@ -4,6 +4,7 @@ They are linked with lib/libgerfmuod.a, which has to be of these sources (`make 
 folder, and run as the second part of tools/data/capi.json says: under valgrind and with sanitizers, too; those in Python as
 tools/data/python.json says. Programs with a fault must fail. What teams record of their runs is compared with the traces. It skips
 what is not installed, and counts that; `tools/bench-packages` prints the packages. With --full only what has a long form runs, in it.
+With --processes only the Python programs over MPI run, with each of these numbers of processes.
 """
 import json
 import os
@@ -15,7 +16,7 @@ import tempfile
 from . import browser, library, plots, profiles, repository, shared_object, summary
 from .c_programs import SANITIZERS, Build, Program, Run, judge, programs, run_programs, start, succeeds
 from .event_format import Profile
-from .mpi import ROOT
+from .mpi_graphs import ROOT
 
 # of random graphs whose profiles are checked
 PROFILED, LONG_PROFILED = 40, 400
@@ -84,15 +85,17 @@ def run_profiles(tally, build, is_full):
     print(f"the profiles of {count} runs, read as JSON: each task of the trace once, no slices that overlap")
 
 
-def run_python(tally, build):
+def run_python(tally, build, counts):
     """Checks the names that the shared object exports, and runs the tests and the examples of the Python package."""
     path, pythons = f"{build.folder}/{shared_object.SONAME}", [sys.executable, shutil.which("python3", path="/usr/bin")]
     shared_object.link(f"{build.library}/libgerfmuod.a", path)
     foreign = sorted(name for name in shared_object.symbols(path, "-D") if not name.startswith("gerfmuod_"))
     tally.judge(not foreign, f"{path} exports {' '.join(foreign)}")
     package = {"GERFMUOD_LIBRARY": path, "PYTHONPATH": f"{repository.TOP}/python", "PYTHONDONTWRITEBYTECODE": "1"}
-    environment = {**os.environ, **ROOT, **package, "OPENBLAS_NUM_THREADS": "1"}
-    for modules, packages, line, output in json.loads(repository.text_of("tools/data/python.json")):
+    environment, rows = {**os.environ, **ROOT, **package}, json.loads(repository.text_of("tools/data/python.json"))
+    over_mpi = [row for row in rows if row[2].startswith("mpirun")]
+    rows = [[*about, re.sub("-n [0-9]+", f"-n {count}", line), output] for count in counts for *about, line, output in over_mpi] or rows
+    for modules, packages, line, output in rows:
         python = next((python for python in filter(None, pythons) if succeeds([python, "-c", f"import {modules}"])), None)
         if not python:
             tally.skips(line, packages)
@@ -104,6 +107,7 @@ def run_python(tally, build):
 def arguments(parser):
     parser.add_argument("--library", metavar="FOLDER", help="use libgerfmuod.a of this folder, whatever it was built from")
     parser.add_argument("--full", action="store_true", help="the long form of the fuzz and of random graphs alone")
+    parser.add_argument("--processes", metavar="N", nargs="+", default=[], help="only the Python programs over MPI")
 
 
 def run(options):
@@ -111,6 +115,7 @@ def run(options):
     if reason := "" if options.library else library.reason_not_built():
         return tally.fails(f"{reason}: no program of task graphs was linked and run. make lib builds it")
     tally.seconds *= 10 if options.full else 1
-    run_programs(tally, build, programs("dag", options.full))
-    run_profiles(tally, build, options.full)
-    return None if options.full else run_python(tally, build)
+    if not options.processes:
+        run_programs(tally, build, programs("dag", options.full))
+        run_profiles(tally, build, options.full)
+    return None if options.full else run_python(tally, build, options.processes)

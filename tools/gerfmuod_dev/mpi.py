@@ -2,10 +2,9 @@
 
 uts_mpi.c searches two trees whose numbers of nodes and leaves are known, T1 and T3, with 1, 2, 4, 8 and 16 processes here. Then it searches
 a small tree with each hand-written detector, and with each of three faults: with a fault it has to miss nodes or not to end, which shows
-that the check can fail. The events of a small search, with their times, are checked. mpi_cholesky.c factors a matrix, each process with a
-task graph of its own, and compares the factors with those of the whole matrix, over OpenBLAS if it is installed; it has a fault, too.
-Then come the programs of `mpi_graphs`. With
---quick trees and matrix are small, the processes at most 4, and what is missing is skipped: Open MPI, of `tools/mpi-packages`.
+that the check can fail. The events of a small search, with their times, are checked. latency.c has each detector find the end of idle
+processes. mpi_cholesky.c has a fault, too. Then come the programs of `mpi_graphs`, over MPICH as well. With --quick trees and matrix are
+small, the processes at most 4, and what is missing is skipped: Open MPI, of `tools/mpi-packages`.
 """
 import collections
 import itertools
@@ -20,9 +19,7 @@ from .shared_object import INCLUDE, environment_options
 
 COMPILER = ["mpicc", "-std=c11", *WARNINGS, "-Wno-unused-function", "-O2", f"-I{INCLUDE}", *environment_options("CFLAGS")]
 LINK = [f"-L{TOP}/lib", "-lgerfmuod", "-pthread", "-lm", *environment_options("LDFLAGS")]
-BLAS = ["-DHAVE_BLAS", "-lopenblas"]
 MPIRUN = ["mpirun", "--oversubscribe", "--mca", "mpi_yield_when_idle", "1"]
-ROOT = {"OMPI_ALLOW_RUN_AS_ROOT": "1", "OMPI_ALLOW_RUN_AS_ROOT_CONFIRM": "1"}
 # the faults that uts_mpi.c has as an argument, and the one that mpi_cholesky.c has
 FAULTS = ["late", "early", "uncounted"]
 CHOLESKY_FAULT = "early"
@@ -46,7 +43,7 @@ def command_of(program, processes, arguments, seconds):
 
 
 def environment():
-    return {**os.environ, **ROOT, "OPENBLAS_NUM_THREADS": "1"}
+    return {**os.environ, **mpi_graphs.ROOT}
 
 
 def judge_processes(tally, program, processes, arguments, seconds=300):
@@ -61,15 +58,15 @@ def judge_fault(tally, program, runs, seconds):
     tally.judge(has_failed, f"{os.path.basename(program)} with a fault passed each time: {runs}")
 
 
-def compile_program(name, folder, options=()):
-    output_of([*COMPILER, f"{TOP}/capi/mpi/{name}.c", "-o", f"{folder}/{name}", *LINK, *options])
+def compile_program(name, folder):
+    output_of([*COMPILER, f"{TOP}/capi/mpi/{name}.c", "-o", f"{folder}/{name}", *LINK])
     return f"{folder}/{name}"
 
 
 def run_programs(tally, folder, size):
-    """Searches the trees and factors a matrix with each number of processes; then small ones with each detector and each fault."""
+    """Searches the trees with each number of processes, and a small one with each detector and each fault; then come the other programs."""
     program, path = compile_program("uts_mpi", folder), f"{folder}/events.json"
-    compile_program("latency", folder)
+    idle, cholesky = compile_program("latency", folder), compile_program("mpi_cholesky", folder)
     for tree, processes in itertools.product(size.trees, size.counts):
         judge_processes(tally, program, processes, [tree])
     for processes in QUICK.counts:
@@ -77,18 +74,12 @@ def run_programs(tally, folder, size):
         # (an offset of a clock is not exact)
         found = profiles.faults(repository.text_of(path, ""), profiles.process_faults, processes, has_one_clock=False)
         tally.judge(not found, f"events of {processes} processes: {'; '.join(found)[:2000]}")
-    for peer in PEERS:
-        judge_processes(tally, program, 4, ["T0", peer], 60)
+    for detector in ["proved", *PEERS]:
+        judge_processes(tally, program, 4, ["T0", detector], 60)
+        judge_processes(tally, idle, 4, [detector, "20"], 60)
     for fault in FAULTS:
         judge_fault(tally, program, [["T0", "proved", fault, str(seed)] for seed in range(1, SEEDS + 1)], 5)
-    try:
-        program = compile_program("mpi_cholesky", folder, BLAS)
-    except SystemExit:
-        tally.skips("mpi_cholesky.c over OpenBLAS, which runs with plain kernels", "libopenblas-dev")
-        program = compile_program("mpi_cholesky", folder)
-    for processes in size.counts:
-        judge_processes(tally, program, processes, [*size.matrix, "2"])
-    judge_fault(tally, program, [[*QUICK.matrix, "2", CHOLESKY_FAULT]] * SEEDS, 10)
+    judge_fault(tally, cholesky, [[*QUICK.matrix, "2", CHOLESKY_FAULT]] * SEEDS, 10)
     mpi_graphs.run_programs(tally, folder, size.counts, size.seeds, size.matrix)
 
 

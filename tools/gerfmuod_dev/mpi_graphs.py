@@ -1,27 +1,32 @@
-"""Runs the programs over gerfmuod/mpi.h and mpi.hpp, one task graph over all processes, with Open MPI and with MPICH, if installed.
+"""Runs the programs over gerfmuod/mpi.h, mpi.hpp and mpi_pool.h, and others, with Open MPI and with MPICH, what is installed.
 
-graph_fuzz.c compares random graphs with the sequential program, and with --fails stops each by a body that fails. mpi_jacobi.c,
-jacobi.cpp, jacobi.f90, graph_cholesky.c and graph_patterns.c (as bench/peers do) compute something whose result is known;
-graph_bodies.cpp tests mpi.hpp, graph_failures.f90 the module for Fortran. Then graph_fuzz.c is compiled with each damage of
-tools/data/mpi-damages.json in gerfmuod/mpi.c, and has to find it. `tools/dev mpi` calls this.
+graph_fuzz.c compares random graphs, and pool_fuzz.c random tasks that make tasks, with a sequential program, and stop some by a body that
+fails. Others compute something whose result is known: jacobi in C, C++ and Fortran, graph_patterns.c (as bench/peers do), trees,
+factorizations, also by ScaLAPACK. graph_bodies.cpp tests mpi.hpp, graph_failures.f90 the module for Fortran. graph_crash.c ends a process
+in a body: mpirun has to end the others. Then each damage of tools/data/mpi-damages.json in gerfmuod/mpi.c or mpi_pool.c has to be found.
+`tools/dev mpi` calls this.
 """
 import collections
+import itertools
 import json
 import os
 import re
 import shutil
+import time
 
 from . import running
 from .c_programs import WARNINGS, judge, Run, output_of, start
 from .repository import TOP, text_of
 from .shared_object import FORTRAN_MODULES, INCLUDE, environment_options
 
-FOLDER, SOURCE = f"{TOP}/capi/mpi", f"{INCLUDE}/gerfmuod/mpi.c"
+FOLDER, SOURCE, POOL = f"{TOP}/capi/mpi", f"{INCLUDE}/gerfmuod/mpi.c", f"{INCLUDE}/gerfmuod/mpi_pool.c"
 DAMAGES = f"{TOP}/tools/data/mpi-damages.json"
-Mpi = collections.namedtuple("Mpi", "name compiler fortran runner")
+# (reasons: what mpirun prints if a process ends by a signal or by exit(3), of which MPICH says nothing)
+Mpi = collections.namedtuple("Mpi", "name compiler fortran runner reasons", defaults=[None])
+OPEN_MPI = "mpirun.openmpi --oversubscribe --mca mpi_yield_when_idle 1".split()
 MPIS = [
-    Mpi("Open MPI", "mpicc.openmpi", "mpifort.openmpi", "mpirun.openmpi --oversubscribe --mca mpi_yield_when_idle 1".split()),
-    Mpi("MPICH", "mpicc.mpich", "mpifort.mpich", ["mpirun.mpich"]),
+    Mpi("Open MPI", "mpicc.openmpi", "mpifort.openmpi", OPEN_MPI, {"kill": "signal 9", "abort": "signal 6", "exit": "Exit code:    3"}),
+    Mpi("MPICH", "mpicc.mpich", "mpifort.mpich", ["mpirun.mpich"], {"kill": "signal 9", "abort": "BAD TERMINATION", "exit": ""}),
 ]
 ROOT = {"OMPI_ALLOW_RUN_AS_ROOT": "1", "OMPI_ALLOW_RUN_AS_ROOT_CONFIRM": "1", "OPENBLAS_NUM_THREADS": "1"}
 # (without the C++ bindings of MPI-2, whose headers have warnings)
@@ -29,14 +34,19 @@ CPP = ["-std=c++17", *WARNINGS, "-DOMPI_SKIP_MPICXX", "-DMPICH_SKIP_MPICXX", "-O
 JACOBI, PATTERN = "100 steps of 32000 cells, sum 1000.000000", "checksum 543689408: right"
 IN_CPP = {"jacobi": JACOBI, "graph_bodies": "processes: as they should be"}
 IN_FORTRAN = {"jacobi": JACOBI, "graph_failures": "the chain ended, was stopped and was refused"}
+BLAS, SCALAPACK = ["-DHAVE_BLAS", "-lopenblas"], "/usr/lib/x86_64-linux-gnu/libscalapack-openmpi.so"
+# mpirun has ended by then if a process ended in a body; it takes less than 2 seconds
+SECONDS_OF_CRASH, WELL = 30, "have the value"
 # the number of graphs in which a damage is sought, at three processes. With some the program hangs, and is ended after these seconds
 GRAPHS, SECONDS = "60", 10
 
 
-def compiled(mpi, folder, name, source=SOURCE, options=(), path=None):
+def compiled(mpi, folder, name, sources=(SOURCE,), options=(), path=None):
     path = path or f"{folder}/{name}"
-    output_of([mpi.compiler, "-std=c11", *WARNINGS, "-Wno-unused-function", "-O2", f"-I{INCLUDE}", *environment_options("CFLAGS"),
-               f"{FOLDER}/{name}.c", source, "-o", path, f"-L{TOP}/lib", "-lgerfmuod", "-pthread", "-lm", *options])
+    # (MPICH declares MPI_STATUSES_IGNORE as an array)
+    warnings = [*WARNINGS, "-Wno-unused-function", "-Wno-stringop-overflow"]
+    output_of([mpi.compiler, "-std=c11", *warnings, "-O2", f"-I{INCLUDE}", *environment_options("CFLAGS"),
+               f"{FOLDER}/{name}.c", *sources, "-o", path, f"-L{TOP}/lib", "-lgerfmuod", "-pthread", "-lm", *options])
     return path
 
 
@@ -66,32 +76,53 @@ def command_of(mpi, processes, program, arguments, seconds=running.SECONDS):
 
 
 def judge_damages(tally, mpi, folder):
-    text = text_of(SOURCE)
+    texts, fuzzes = {path: text_of(path) for path in (SOURCE, POOL)}, {SOURCE: ("graph_fuzz", []), POOL: ("pool_fuzz", [SOURCE])}
     for name, old, new, *arguments in json.loads(text_of(DAMAGES)):
-        tally.judge(text.count(old) == 1, f"{SOURCE} has the text of the damage {text.count(old)} times: {name}")
-        source = running.write(f"{folder}/mpi.c", text.replace(old, new))
-        command = command_of(mpi, 3, compiled(mpi, folder, "graph_fuzz", source), ["1", GRAPHS, "2", *arguments], SECONDS)
+        found = [path for path, text in texts.items() for _ in range(text.count(old))]
+        tally.judge(len(found) == 1, f"{found} have the text of the damage: {name}")
+        (fuzz, others), source = fuzzes[found[0]], running.write(f"{folder}/damaged.c", texts[found[0]].replace(old, new))
+        command = command_of(mpi, 3, compiled(mpi, folder, fuzz, [source, *others]), ["1", GRAPHS, "2", *arguments], SECONDS)
         result = start(command, env={**os.environ, **ROOT}, timeout=SECONDS + running.SECONDS)
-        tally.judge(result.status, f"{mpi.name}: {SOURCE} with a damage passed: {name}")
+        tally.judge(result.status, f"{mpi.name}: {found[0]} with a damage passed: {name}")
+
+
+def judge_crashes(tally, mpi, program):
+    """Counts whether mpirun ends by itself, fails, says why, and leaves no process, if one ends in a body whose value the others await."""
+    for (way, reason), (processes, *rest) in itertools.product(mpi.reasons.items(), ((3, "1"), (4, "2", "return"))):
+        command, began = command_of(mpi, processes, program, [way, *rest], SECONDS_OF_CRASH), time.monotonic()
+        result = start(command, env={**os.environ, **ROOT}, timeout=2 * SECONDS_OF_CRASH)
+        seconds, left = time.monotonic() - began, start(["pgrep", "-f", program])
+        has_failed = result.status and reason.encode() in result.out and WELL.encode() not in result.out
+        fault = f"{seconds:.1f} s, {result.description()}, left: {left.description()}: {running.short(result.out, 2000)}"
+        tally.judge(has_failed and seconds < SECONDS_OF_CRASH and left.status == 1, f"{' '.join(command)}: {fault}")
 
 
 def run_programs(tally, folder, counts, seeds, matrix):
     """Runs each program with these numbers of processes, the fuzz over this number of seeds; the damages with one MPI."""
     found = [mpi for mpi in MPIS if tally.has(mpi.compiler, f"task graphs over {mpi.name}")]
+    blas, names = BLAS if os.path.exists("/usr/include/x86_64-linux-gnu/cblas-openblas.h") else [], ("graph_cholesky", "mpi_cholesky")
+    if not (blas and os.path.exists(SCALAPACK)):
+        tally.skips("factorizations by ScaLAPACK, or over OpenBLAS", "libscalapack-openmpi-dev or libopenblas-dev")
     for mpi in found:
-        blas = ["-DHAVE_BLAS", "-lopenblas"] if os.path.exists("/usr/include/x86_64-linux-gnu/cblas-openblas.h") else []
         fuzz, jacobi, costs = (compiled(mpi, folder, name) for name in ("graph_fuzz", "mpi_jacobi", "graph_costs"))
-        patterns = compiled(mpi, folder, "graph_patterns")
-        runs = [(fuzz, ["1", seeds, *options], "") for options in (["1"], ["2"], ["2", "fails"])]
-        runs += [(jacobi, [], JACOBI), (compiled(mpi, folder, "graph_cholesky", options=blas), [*matrix, "2"], "")]
-        runs += [(compiled_cpp(mpi, folder, name), [], printed) for name, printed in IN_CPP.items()]
+        crash, search, patterns = (compiled(mpi, folder, name) for name in ("graph_crash", "uts_mpi", "graph_patterns"))
+        pool_fuzz, pool_search = (compiled(mpi, folder, name, (POOL, SOURCE)) for name in ("pool_fuzz", "pool_search"))
+        factoring = [compiled(mpi, folder, name, options=blas) for name in names]
+        if mpi.name == "Open MPI" and blas and os.path.exists(SCALAPACK):
+            options = ["-lscalapack-openmpi", *blas]
+            factoring.append(compiled(mpi, folder, "../../bench/peers/pdpotrf", path=f"{folder}/pdpotrf", options=options))
+        runs = [(program, ["1", seeds, *rest], "") for program in (fuzz, pool_fuzz) for rest in (["1"], ["2"], ["2", "fails"])]
+        runs += [(jacobi, [], JACOBI), (crash, ["none", "2"], WELL), (search, ["T0"], "right"), (pool_search, ["T0", "2"], "right")]
         runs += [(patterns, [way, *"spread 16 50 2 2 100".split()], PATTERN) for way in ("graph", "plain")]
+        runs += [(compiled_cpp(mpi, folder, name), [], printed) for name, printed in IN_CPP.items()]
         if tally.has(mpi.fortran, f"task graphs in Fortran over {mpi.name}"):
             runs += [(compiled_fortran(mpi, folder, name), [], printed) for name, printed in IN_FORTRAN.items()]
+        runs += [(program, [*matrix, "2"], "right") for program in factoring]
         for processes in counts:
             for program, arguments, expected in [*runs, *[(costs, ["100"], "a message of 8 bytes")] * (processes == 2)]:
                 command = command_of(mpi, processes, program, arguments)
                 options = {"env": {**os.environ, **ROOT}, "timeout": 2 * running.SECONDS}
                 print(mpi.name, judge(tally, command, Run([], 0, expected), **options).strip(), sep=": ", flush=True)
+        judge_crashes(tally, mpi, crash)
     for mpi in found[:1]:
         judge_damages(tally, mpi, folder)

@@ -93,8 +93,8 @@ def search_tree(program, tree, rounds):
 
 def factor(bench, order, blocks, rounds):
     """Measures the factorization of a matrix by four threads in all; the programs take turns. ScaLAPACK has one thread a process."""
-    compiled = functools.partial(mpi_graphs.compiled, mpi_graphs.MPIS[0], bench.folder, options=mpi.BLAS)
-    compiler, link = (mpi_graphs.MPIS[0].compiler, "-O2", f"-I{INCLUDE}"), (*mpi.BLAS, *mpi.LINK)
+    compiled = functools.partial(mpi_graphs.compiled, mpi_graphs.MPIS[0], bench.folder, options=mpi_graphs.BLAS)
+    compiler, link = (mpi_graphs.MPIS[0].compiler, "-O2", f"-I{INCLUDE}"), (*mpi_graphs.BLAS, *mpi.LINK)
     options = ["-DHAVE_STARPU", *running.run(["pkg-config", "--cflags", "--libs", "starpumpi-1.3"]).out.decode().split()]
     starpu = bench.peers.program("starpu", compiler, "../../capi/bench/peers/starpu_cholesky.c", (*options, *link))
     scalapack = bench.peers.program("pdpotrf", compiler, "pdpotrf.c", ("-lscalapack-openmpi", *link))
