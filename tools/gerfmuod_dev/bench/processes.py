@@ -53,7 +53,7 @@ def numbers_in(text, form):
 
 
 def over_mpi(program, processes, arguments, form):
-    """Returns the numbers that a program prints with this number of unbound processes; exits with status 1 if it fails."""
+    """Returns the numbers that a program prints; exits with status 1 if it fails. (Open MPI would bind each of two processes to a core.)"""
     own = {"OMPI_MCA_hwloc_base_binding_policy": "none", "STARPU_HOME": os.path.dirname(program)}
     return numbers_in(output_of(mpi.command_of(program, processes, arguments, 300), env={**mpi.environment(), **own}), form)
 
