@@ -1,0 +1,5 @@
+pub mod Shapes
+pub mod Tables
+pub mod Least
+pub mod Bracketings
+pub mod MatrixCosts
