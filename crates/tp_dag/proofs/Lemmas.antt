@@ -176,56 +176,43 @@ record Moves (o p : Option Entry) (dispatches reports releases announced : ℕ) 
   pub ended : ended_at p ≡ ended_at o + reports
   pub outside : outside_at p + releases ≡ outside_at o + announced
 
-abbrev Changes : Call → Option Entry → Option Entry → Type 0
-Changes c o p = Moves o p (dispatched c) (reported c) (released c) (expected c)
+abbrev MovesIf : Bool → Call → Option Entry → Option Entry → Type 0
+MovesIf f c o p = let n : (Call → ℕ) → ℕ = (λ what. if f then what c else 0) in Moves o p (n dispatched) (n reported) (n released) (n expected)
 
 abbrev MovesAt : ℕ → Call → Option Entry → Option Entry → Type 0
-MovesAt t c o p = Moves o p (weight dispatched t c) (weight reported t c) (weight released t c) (weight expected t c)
+MovesAt t c o p = MovesIf (about c == t) c o p
 
-moves_here : {o p : Option Entry} (t : ℕ) (c : Call) → about c ≡ t → Changes c o p → MovesAt t c o p
-moves_here t c e m = let d = here dispatched in let r = here reported in let l = here released in let x = here expected in record {
-  begun = (let n = m.begun in omega (arith, n, d));
-  ended = (let n = m.ended in omega (arith, n, r));
-  outside = (let n = m.outside in omega (arith, n, l, x));
-}
-  where
-    here : (what : Call → ℕ) → weight what t c ≡ what c
-    here what = ap (λ (b : Bool). if b then what c else 0) (eq-eqb (about c) t e)
-
-moves_there : {o p : Option Entry} (t : ℕ) (c : Call) → about c ≢ t → p ≡ o → MovesAt t c o p
-moves_there t c e s = let d = there dispatched in let r = there reported in let l = there released in let x = there expected in record {
-  begun = (let n = ap begun_at s in omega (arith, n, d));
-  ended = (let n = ap ended_at s in omega (arith, n, r));
-  outside = (let n = ap outside_at s in omega (arith, n, l, x));
-}
-  where
-    there : (what : Call → ℕ) → weight what t c ≡ 0
-    there what = ap (λ (b : Bool). if b then what c else 0) (ne_eqb (about c) t e)
+-- of the task that the call is about, and of another
+moves : (t : ℕ) (c : Call) (a b : PoolState) → MovesIf true c (slice_get a.tasks (about c)) (slice_get b.tasks (about c))
+    → (about c ≢ t → slice_get b.tasks t ≡ slice_get a.tasks t) → MovesAt t c (slice_get a.tasks t) (slice_get b.tasks t)
+moves t c a b here there = elim (same_or (about c) t) [
+  | inl h ↦ subst (λ (k : ℕ). MovesAt k c (slice_get a.tasks k) (slice_get b.tasks k)) h (subst (λ (f : Bool). MovesIf f c
+      (slice_get a.tasks (about c)) (slice_get b.tasks (about c))) (sym (eq-eqb (about c) (about c) refl)) here)
+  | inr h ↦ subst (λ (p : Option Entry). MovesAt t c (slice_get a.tasks t) p) (sym (there h))
+      (subst (λ (f : Bool). MovesIf f c (slice_get a.tasks t) (slice_get a.tasks t)) (sym (ne_eqb (about c) t h))
+      (record { begun = omega arith; ended = omega arith; outside = refl }))
+]
 
 -- a task is written, or added, or none is
 wrote : (t : ℕ) (c : Call) (a b : PoolState) (x y : Entry) → slice_get a.tasks (about c) ≡ Some x → b.tasks ≡ set a.tasks (about c) y
-    → Changes c (Some x) (Some y) → MovesAt t c (slice_get a.tasks t) (slice_get b.tasks t)
-wrote t c a b x y is e m = elim (same_or (about c) t) [
-  | inl h ↦ moves_here t c h (subst (λ (p : Option Entry). Changes c (slice_get a.tasks t) p)
-      (sym (ap (λ (xs : List Entry). slice_get xs t) e ∙ subst (λ (k : ℕ). slice_get (set a.tasks (about c) y) k ≡ Some y) h
-      (set_here a.tasks (about c) x y is))) (subst (λ (o : Option Entry). Changes c o (Some y))
-      (sym (subst (λ (k : ℕ). slice_get a.tasks k ≡ Some x) h is)) m))
-  | inr h ↦ moves_there t c h (ap (λ (xs : List Entry). slice_get xs t) e ∙ set_there a.tasks (about c) t y (λ g. h (sym g)))
-]
+    → MovesIf true c (Some x) (Some y) → MovesAt t c (slice_get a.tasks t) (slice_get b.tasks t)
+wrote t c a b x y is e m = moves t c a b
+    (rw (is, ap (λ (xs : List Entry). slice_get xs (about c)) e ∙ set_here a.tasks (about c) x y is) m)
+    (λ h. ap (λ (xs : List Entry). slice_get xs t) e ∙ set_there a.tasks (about c) t y (λ g. h (sym g)))
 
 pushed : (t : ℕ) (c : Call) (a b : PoolState) (y : Entry) → about c ≡ length a.tasks → b.tasks ≡ a.tasks ++ y ∷ []
-    → Changes c None (Some y) → MovesAt t c (slice_get a.tasks t) (slice_get b.tasks t)
-pushed t c a b y at e m = elim (get_push a.tasks t y) [
-  | inr g ↦ moves_here t c (at ∙ sym g.0) (subst (λ (p : Option Entry). Changes c (slice_get a.tasks t) p)
-      (sym (ap (λ (xs : List Entry). slice_get xs t) e ∙ g.1)) (subst (λ (o : Option Entry). Changes c o (Some y))
-      (sym (slice_get_past a.tasks t (let n = g.0 in omega (arith, n)))) m))
-  | inl g ↦ moves_there t c (λ h. g.0 (sym h ∙ at)) (ap (λ (xs : List Entry). slice_get xs t) e ∙ g.1)
-]
+    → MovesIf true c None (Some y) → MovesAt t c (slice_get a.tasks t) (slice_get b.tasks t)
+pushed t c a b y at e m =
+    let here : slice_get (a.tasks ++ y ∷ []) (about c) ≡ Some y =
+    elim (get_push a.tasks (about c) y) [ inl g ↦ absurd (g.0 at) | inr g ↦ g.1 ] in
+    moves t c a b (rw (slice_get_past a.tasks (about c) (omega (arith, at)), ap (λ (xs : List Entry). slice_get xs (about c)) e ∙ here) m)
+    (λ h. let there : slice_get (a.tasks ++ y ∷ []) t ≡ slice_get a.tasks t = elim (get_push a.tasks t y)
+    [ inl g ↦ g.1 | inr g ↦ absurd (h (at ∙ sym g.0)) ] in ap (λ (xs : List Entry). slice_get xs t) e ∙ there)
 
-kept : (t : ℕ) (c : Call) (a b : PoolState) → b.tasks ≡ a.tasks → Changes c (slice_get a.tasks t) (slice_get a.tasks t)
+kept : (t : ℕ) (c : Call) (a b : PoolState) → b.tasks ≡ a.tasks → MovesIf true c (slice_get a.tasks (about c)) (slice_get a.tasks (about c))
     → MovesAt t c (slice_get a.tasks t) (slice_get b.tasks t)
-kept t c a b e m = subst (λ (p : Option Entry). MovesAt t c (slice_get a.tasks t) p) (sym (ap (λ (xs : List Entry). slice_get xs t) e))
-    (elim (same_or (about c) t) [ inl h ↦ moves_here t c h m | inr h ↦ moves_there t c h refl ])
+kept t c a b e m =
+    moves t c a b (rw (ap (λ (xs : List Entry). slice_get xs (about c)) e) m) (λ h. ap (λ (xs : List Entry). slice_get xs t) e)
 
 abbrev tasks_of : PoolState → List Entry
 tasks_of a = a.tasks
@@ -283,12 +270,7 @@ follows t (c ∷ calls) b h = elim (is_repeats c) as (λ r. is_repeats c ≡ r �
 -- ---- the theorems
 begun_few : (o : Option Entry) → begun_at o ≤ 1
 begun_few None = omega arith
-begun_few (Some x) = by_stage x.stage
-  where
-    by_stage : (s : Stage) → stage_begun s ≤ 1
-    by_stage stage.Fresh = omega arith
-    by_stage stage.Running = omega arith
-    by_stage stage.Done = omega arith
+begun_few (Some x) = one_few (not (is_fresh x.stage))
 
 pub never_twice : NeverTwice
 never_twice calls a t h = let n = (follows t calls a h).begun in let f = begun_few (slice_get a.tasks t) in omega (arith, n, f)

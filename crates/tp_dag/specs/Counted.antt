@@ -1,11 +1,9 @@
 -- The tasks of a pool as it stores them, and the numbers that it keeps of them.
-use Rattle.std.specs.Prelude.{ℕ, ◌≡◌, ◌<◌, ◌≤◌, ◌==◌, ◌&&◌, List, Bool, true, false, length, map, IsTrue, IsFalse}
+use Rattle.std.specs.Prelude.{ℕ, ◌≡◌, ◌<◌, ◌≤◌, ◌==◌, ◌&&◌, List, Bool, true, false, length, IsTrue, IsFalse}
 use Rattle.std.specs.Prelude.{Option, Some, None, slice_get}
 use Rattle.std.specs.List.{slice_index_or}
-use Rattle.tp_dag.specs.declared.limits.TheConstants.{MAX_TASKS}
+use Rattle.tp_dag.specs.declared.{entry.Task.Task, limits.TheConstants.MAX_TASKS, tasks.Tasks.TheInside.Inside}
 use Rattle.tp_dag.specs.declared.entry.Stage.TheVariants as stage
-use Rattle.tp_dag.specs.declared.entry.Task.{Task}
-use Rattle.tp_dag.specs.declared.tasks.Tasks.TheInside.{Inside}
 use Rattle.tp_dag.specs.State.{Entry, is_fresh, count_where, is_unfinished, is_dispatched, is_awaiting}
 
 abbrev pub TaskList : Type 0
@@ -57,13 +55,16 @@ pub record AreCounts (tasks : List Task) (ready : List ℕ) : Type 0 where
   pub long : length ready ≡ 4
   pub right : (n d : ℕ) → n < 4 → slice_index_or ready n d ≡ count_where (is_ready n) tasks
 
-pub record AreCounted (p : Inside) : Type 0 where
-  pub few : length p.items.items ≤ MAX_TASKS
-  pub classes : (t : ℕ) (x : Task) → slice_get p.items.items t ≡ Some x → x.class < 4
-  pub ready : AreCounts p.items.items p.ready
-  pub left : p.left ≡ count_where is_unfinished (map entry_of p.items.items)
-  pub running : p.running ≡ count_where is_dispatched (map entry_of p.items.items)
-  pub awaiting : p.awaiting ≡ count_where is_awaiting (map entry_of p.items.items)
+pub record AreCounted (tasks : List Task) (counts : List ℕ) (n m k : ℕ) : Type 0 where
+  pub few : length tasks ≤ MAX_TASKS
+  pub classes : (t : ℕ) (x : Task) → slice_get tasks t ≡ Some x → x.class < 4
+  pub ready : AreCounts tasks counts
+  pub left : n ≡ count_where (λ x. is_unfinished (entry_of x)) tasks
+  pub running : m ≡ count_where (λ x. is_dispatched (entry_of x)) tasks
+  pub awaiting : k ≡ count_where (λ x. is_awaiting (entry_of x)) tasks
+
+abbrev pub IsTasks : Inside → Type 0
+IsTasks p = AreCounted p.items.items p.ready p.left p.running p.awaiting
 
 abbrev pub items_of : Inside → TaskList
 items_of p = p.items.items

@@ -2,9 +2,8 @@
 use Rattle.std.specs.Prelude.{ℕ, zero, suc, ◌+◌, ◌≡◌, ◌<◌, ◌||◌, List, [], ◌∷◌, length, not, nat_lt, Option, Some, None, slice_range}
 use Rattle.std.specs.List.{slice_index_or}
 use Rattle.std.specs.Prelude.{◌&&◌, ◌==◌, ◌-◌}
-use Rattle.tp_base.specs.declared.refusal.Refusal.{Refusal}
+use Rattle.tp_base.specs.{Checks.Check, Checks.first_refusal, declared.refusal.Refusal.Refusal}
 use Rattle.tp_base.specs.declared.refusal.Refusal.TheVariants as refusal
-use Rattle.tp_base.specs.Checks.{Check, first_refusal}
 use Rattle.tp_dag.specs.State.{PoolState}
 use Rattle.tp_dag.specs.Calls.{task_checks, input_checks, with_task, with_input}
 

@@ -66,13 +66,7 @@ pub(crate) fn pass_on(
     while left != 0 {
         let link = links[left as usize - 1];
         let was = tasks.at(link.target);
-        tasks.set(
-            link.target,
-            Task {
-                missing: was.missing - 1,
-                ..was
-            },
-        );
+        tasks.put(link.target, was, was.stage, was.missing - 1, was.outside);
         queues.push_if(was.class, link.target, was.missing == 1);
         left = link.older;
     }

@@ -49,9 +49,12 @@ impl Queues {
         }
     }
 
-    /// Appends a task to the queue of its class.
+    /// Appends a task to the queue of its class, if `wanted`.
     #[inline]
-    pub(crate) fn push(&mut self, class: u8, task: u32) {
+    pub(crate) fn push_if(&mut self, class: u8, task: u32, wanted: bool) {
+        if !wanted {
+            return;
+        }
         let Some(last) = self.last.get_mut(class as usize) else {
             return;
         };
@@ -61,14 +64,6 @@ impl Queues {
             *first = task;
         }
         *last = task;
-    }
-
-    /// Appends a task to the queue of its class, if `wanted`.
-    #[inline]
-    pub(crate) fn push_if(&mut self, class: u8, task: u32, wanted: bool) {
-        if wanted {
-            self.push(class, task);
-        }
     }
 
     /// Removes the first task of a class; a number that no task has if there is none.

@@ -1,14 +1,14 @@
 //! The tasks of a pool. It counts those that are ready, of each class, and those that are not done, that run, and that wait for an input from
 //! outside.
-ghost use Rattle.std.specs.Prelude.{◌≡◌, ◌≤◌, ◌<◌, ◌+◌, ◌++◌, ◌∷◌, [], ℕ, length, map, IfSome, IfNone, OnOk, OnErr, IsTrue, IsFalse};
-ghost use Rattle.std.specs.Prelude.{slice_get, slice_set, Some};
+ghost use Rattle.std.specs.Prelude.{◌≡◌, ◌≤◌, ◌<◌, ◌+◌, ◌++◌, ◌∷◌, [], length, map, IfSome, IfNone, OnOk, OnErr, IsTrue, slice_get};
+ghost use Rattle.std.specs.Prelude.{slice_set, Some};
 ghost use Rattle.tp_dag.specs.declared.limits.TheConstants.{MAX_TASKS};
 ghost use Rattle.tp_dag.specs.declared.entry.Stage.TheVariants as stage;
 ghost use Rattle.tp_dag.specs.State.{count_where, is_unfinished, is_dispatched, is_awaiting};
 ghost use Rattle.tp_dag.specs.Counted.{one, may_begin, is_ready, entry_of, as_new, ready_at};
 ghost use Rattle.tp_dag.specs.Counted.{HasClass, NoneOf, NoneReady, ComesFirst};
 
-use crate::entry::{Stage, Task, is_done, is_fresh, is_running};
+use crate::entry::{Stage, Task, both, is_done, is_fresh, is_running};
 use crate::queues::Queues;
 use std::alloc::{AllocError, Global};
 use std::marker::Model;
@@ -24,13 +24,13 @@ pub(crate) struct Tasks {
 }
 
 impl Model for Tasks {
-    ghost use Rattle.tp_dag.specs.Counted.{TaskList, AreCounted, items_of};
+    ghost use Rattle.tp_dag.specs.Counted.{TaskList, IsTasks, items_of};
 
     ghost Value = { TaskList };
 
     ghost view = { items_of };
 
-    ghost invariant = { AreCounted };
+    ghost invariant = { IsTasks };
 }
 
 /// Returns whether a task was not dispatched and lacks nothing.
@@ -39,14 +39,6 @@ pub(crate) fn may_begin(task: Task) -> bool
     ensures { result ≡ may_begin task }
 {
     is_fresh(task.stage) && task.missing == 0
-}
-
-/// Returns whether a task is ready, and of the class.
-#[inline]
-fn is_ready_task(task: Task, class: u8) -> bool
-    ensures { result ≡ is_ready class task }
-{
-    task.class == class && may_begin(task)
 }
 
 /// Returns a count of tasks when one is written that was counted if `from`, and is counted now if `to`.
@@ -102,7 +94,7 @@ impl Tasks {
 
     /// Returns the number of tasks that are not done.
     #[inline]
-    #[tactic(auto, using(crate::proofs::Lemmas::tally_few))]
+    #[tactic(auto, using(crate::proofs::Lemmas::entries_of, crate::proofs::Lemmas::count_few))]
     pub(crate) fn left(&self) -> u32
         ensures count { result ≡ count_where is_unfinished (map entry_of self.now) }
         ensures few { result ≤ MAX_TASKS }
@@ -112,6 +104,7 @@ impl Tasks {
 
     /// Returns the number of tasks that run.
     #[inline]
+    #[tactic(auto, using(crate::proofs::Lemmas::entries_of))]
     pub(crate) fn running(&self) -> u32
         ensures { result ≡ count_where is_dispatched (map entry_of self.now) }
     {
@@ -120,6 +113,7 @@ impl Tasks {
 
     /// Returns the number of tasks that wait for an input from outside.
     #[inline]
+    #[tactic(auto, using(crate::proofs::Lemmas::entries_of))]
     pub(crate) fn awaiting(&self) -> u32
         ensures { result ≡ count_where is_awaiting (map entry_of self.now) }
     {
@@ -167,6 +161,23 @@ impl Tasks {
         self.items[number as usize] = task;
     }
 
+    /// Writes a task at this stage, which lacks this number of inputs, and this number of these from outside.
+    #[inline]
+    pub(crate) fn put(&mut self, number: u32, was: Task, stage: Stage, missing: u32, outside: u32)
+        requires { slice_get self.old number ≡ Some was }
+        ensures { self.new ≡ slice_set self.old number (record was { stage = stage; missing = missing; outside = outside }) }
+    {
+        self.set(
+            number,
+            Task {
+                stage,
+                missing,
+                outside,
+                ..was
+            },
+        );
+    }
+
     /// Adds a task.
     pub(crate) fn push(&mut self, task: Task) -> Result<(), AllocError>
         requires class { task.class < 4 }
@@ -190,7 +201,7 @@ impl Tasks {
         ensures { result ≡ ready_at class (slice_get self.now number) }
     {
         match self.get(number) {
-            Some(task) => is_ready_task(task, class),
+            Some(task) => both(task.class == class, may_begin(task)),
             None => false,
         }
     }
@@ -231,15 +242,7 @@ impl Tasks {
     {
         for number in 0..self.items.len() as u32 {
             let was = self.at(number);
-            self.set(
-                number,
-                Task {
-                    stage: Stage::Fresh,
-                    missing: was.inputs,
-                    outside: 0,
-                    ..was
-                },
-            );
+            self.put(number, was, Stage::Fresh, was.inputs, 0);
         }
     }
 }

@@ -3,20 +3,11 @@ pub mod Keeping
 pub use Keeping.*
 
 -- ==== What a contract says of a task, and what is stored of it.
-pub seen_at : (p : Inside) {now : PoolState} (t : ℕ) (x : Task) (e : Entry) → state_of p ≡ now → slice_get now.tasks t ≡ Some e
-    → slice_get p.tasks t ≡ Some x → entry_of x ≡ e
-seen_at p t x e same is h = some_same (entry_of x) e (sym (map_get entry_of p.tasks t x h)
-    ∙ (ap (λ (a : PoolState). slice_get a.tasks t) same ∙ is))
-
 -- a ready task was not dispatched, and lacks nothing
 pub stored_ready : (p : Inside) {now : PoolState} (t : ℕ) (x : Task) → state_of p ≡ now → Facts p.tasks p.links.items → IsReady t now
     → slice_get p.tasks t ≡ Some x → (x.stage ≡ stage.Fresh) × (x.missing ≡ 0)
-stored_ready p t x same f r h =
-    let b = ready_begins (state_of p) t x f h (subst (λ (a : PoolState). IsReady t a) (sym same) r) in
-    let q = and_parts (is_fresh x.stage) (x.missing == 0) b in (fresh_stage x.stage q.0, eqb-true x.missing 0 q.1)
-
-pub never : {s : Bool} → IsTrue s → IsFalse s → ⊥
-never a b = cc
+stored_ready p t x same f r h = let q = and_parts (is_fresh x.stage) (x.missing == 0) (ready_begins p t x same f h r) in
+    (fresh_stage x.stage q.0, eqb-true x.missing 0 q.1)
 
 pub started_at : (p : Inside) {now : PoolState} → state_of p ≡ now → IsTrue now.started → IsTrue p.started
 started_at p same h = ap (λ (a : PoolState). a.started) same ∙ h
@@ -25,14 +16,8 @@ started_at p same h = ap (λ (a : PoolState). a.started) same ∙ h
 pub facts_set : {ts : List Task} {ls : List Link} (t : ℕ) (x y : Task) → Facts ts ls → slice_get ts t ≡ Some x
     → is_done y.stage ≡ is_done x.stage → y.class ≡ x.class → y.inputs ≡ x.inputs → y.outputs ≡ x.outputs → y.outside ≤ MAX_OUTSIDE
     → y.missing + x.outside ≡ x.missing + y.outside → (is_fresh y.stage ≡ false → y.missing ≡ 0) → Facts (set ts t y) ls
-facts_set t x y f is done class inputs outputs few missing begun = let c = f.counted t x is in owing_set t x y f is done (λ u n. refl) (record {
-  class = (let l = c.class in omega (arith, l, class));
-  few = few;
-  missing = (let m = c.missing in omega (arith, m, missing));
-  inputs = inputs ∙ c.inputs;
-  outputs = outputs ∙ c.outputs;
-  begun = begun;
-})
+facts_set t x y f is done class inputs outputs few missing begun = owing_set t x y f is done (λ u n. refl)
+    (counted_to t y (f.counted t x is) class inputs outputs few (omega (arith, missing)) begun)
 
 -- the state when a task goes on to this stage
 pub goes_to : (p : Inside) {now : PoolState} (t : ℕ) (x : Task) (from to : Stage) (e : Event) (new : List Task) (es : List Event)
@@ -61,16 +46,13 @@ becomes_at p t x y f same is e =
     })
 
 -- ==== A task that ran is done, and has yet to pass on.
-done_here : (ts : List Task) (t : ℕ) (x : Task) → slice_get ts t ≡ Some x → IsTrue (done_at (slice_get (set ts t (at stage.Done x)) t))
-done_here ts t x is = ap done_at (set_here ts t x (at stage.Done x) is)
-
 -- an input blocked its target before, or does now, or is one that is owed
 split : (ts : List Task) (t u : ℕ) (x : Task) (e : Link) → slice_get ts t ≡ Some x → x.stage ≡ stage.Running
     → one (blocks ts u e) ≡ one (blocks (set ts t (at stage.Done x)) u e) + one (is_from_to t u e)
 split ts t u x e is runs = elim (same_or e.source t) [
   | inl o ↦ here (e.target == u) (e.source == t) _ _ (eq-eqb e.source t o)
       (ap (λ (k : ℕ). done_at (slice_get ts k)) o ∙ (ap done_at is ∙ ap is_done runs))
-      (ap (λ (k : ℕ). done_at (slice_get (set ts t (at stage.Done x)) k)) o ∙ done_here ts t x is)
+      (ap (λ (k : ℕ). done_at (slice_get (set ts t (at stage.Done x)) k)) o ∙ ap done_at (set_here ts t x (at stage.Done x) is))
   | inr o ↦ there (e.target == u) (e.source == t) _ _ (ne_eqb e.source t o) (ap done_at (set_there ts t e.source (at stage.Done x) o))
 ]
   where
@@ -88,53 +70,26 @@ split ts t u x e is runs = elim (same_or e.source t) [
 
 owing_done : {ts : List Task} {ls : List Link} (t : ℕ) (x : Task) → Facts ts ls → slice_get ts t ≡ Some x → x.stage ≡ stage.Running
     → Owing (owed t ls (length ls)) (set ts t (at stage.Done x)) ls
-owing_done {ts} {ls} t x f is runs = record {
-  few_links = f.few_links;
-  counted = λ u z h. elim (set_apart ts t u z (at stage.Done x) h) [
-    | inl g ↦ moved u z (f.counted u z g.0)
-    | inr g ↦ subst (λ (n : ℕ). IsCounted (owed t ls (length ls)) (set ts t (at stage.Done x)) ls n z) (sym g.0)
-        (subst (λ (w : Task). IsCounted (owed t ls (length ls)) (set ts t (at stage.Done x)) ls t w) (sym g.1) (own (moved t x
-        (f.counted t x is))))
-  ];
-  linked = linked_in (let l = length-set ts t (at stage.Done x) in omega (arith, l)) f.linked;
-}
+owing_done {ts} {ls} t x f is runs = let c = f.counted t x is in
+    owing_written t (at stage.Done x) f (λ u o. moved u) (counted_to {more = owed t ls (length ls)} t (at stage.Done x)
+    (counted_as t (moved t) c) refl refl refl c.few refl (λ b. c.begun (ap is_fresh runs)))
   where
-    moved : (u : ℕ) (z : Task) → IsCounted (λ n. 0) ts ls u z → IsCounted (owed t ls (length ls)) (set ts t (at stage.Done x)) ls u z
-    moved u z c = record {
-      class = c.class;
-      few = c.few;
-      missing = (let m = c.missing in
-          let s = count_sum (blocks (set ts t (at stage.Done x)) u) (is_from_to t u) (blocks ts u) ls (λ k e h. split ts t u x e is runs) in
-          let o = first_all (is_from_to t u) ls in omega (arith, m, s, o));
-      inputs = c.inputs;
-      outputs = c.outputs;
-      begun = c.begun;
-    }
-
-    own : IsCounted (owed t ls (length ls)) (set ts t (at stage.Done x)) ls t x
-        → IsCounted (owed t ls (length ls)) (set ts t (at stage.Done x)) ls t (at stage.Done x)
-    own c = record {
-      class = c.class;
-      few = c.few;
-      missing = c.missing;
-      inputs = c.inputs;
-      outputs = c.outputs;
-      begun = λ b. c.begun (ap is_fresh runs);
-    }
+    moved : (u : ℕ) → count_where (blocks (set ts t (at stage.Done x)) u) ls + owed t ls (length ls) u ≡ count_where (blocks ts u) ls + 0
+    moved u = let s = count_sum (blocks (set ts t (at stage.Done x)) u) (is_from_to t u) (blocks ts u) ls (λ k e h. split ts t u x e is runs) in
+        let o = first_all (is_from_to t u) ls in omega (arith, s, o)
 
 pub may_pass_on : {ts : List Task} {ls : List Link} (t : ℕ) (x : Task) → Facts ts ls → slice_get ts t ≡ Some x → x.stage ≡ stage.Running
     → MayPassOn t x.outputs (set ts t (at stage.Done x)) ls
 may_pass_on {ts} {ls} t x f is runs = record {
   place = (let l = slice_get_within ts t x is in let n = length-set ts t (at stage.Done x) in omega (arith, l, n));
-  done = done_here ts t x is;
+  done = ap done_at (set_here ts t x (at stage.Done x) is);
   newest = (f.counted t x is).outputs;
   owing = owing_done t x f is runs;
 }
 
 pub running_stage : (s : Stage) → IsTrue (is_running s) → s ≡ stage.Running
 running_stage stage.Running h = refl
-running_stage stage.Fresh h = cc
-running_stage stage.Done h = cc
+running_stage _ h = cc
 
 -- a pool with a task that runs was started
 pub runs_started : {s b : Bool} (ts : List Task) {e c : ℕ} (t : ℕ) (x : Task) → HasRoom s b (map entry_of ts) e c → slice_get ts t ≡ Some x
@@ -146,10 +101,6 @@ runs_started {s} ts t x i is runs = by_start s (λ h. sym runs ∙ i.fresh h t (
     by_start false h = let e = h refl in cc
 
 -- ==== A task waits for an input from outside more or less.
-pub await_at : (p : Inside) {now : PoolState} (t : ℕ) (x : Task) → state_of p ≡ now → (m : Awaits t now) → slice_get p.tasks t ≡ Some x
-    → 1 ≤ x.outside
-await_at p t x same m is = let o = ap (λ (e : Entry). e.outside) (seen_at p t x m.task same m.is is) in let l = m.some in omega (arith, o, l)
-
 pub awaits_if : (p : Inside) {now : PoolState} (t : ℕ) (x : Task) → state_of p ≡ now → slice_get p.tasks t ≡ Some x → 1 ≤ x.outside
     → Awaits t now
 awaits_if p t x same is some = subst (λ (a : PoolState). Awaits t a) same
@@ -158,13 +109,13 @@ awaits_if p t x same is some = subst (λ (a : PoolState). Awaits t a) same
 -- a task that lacks an input was not dispatched
 lacking_fresh : {m : ℕ} (s : Stage) → (is_fresh s ≡ false → m ≡ 0) → 1 ≤ m → s ≡ stage.Fresh
 lacking_fresh stage.Fresh h l = refl
-lacking_fresh stage.Running h l = let z = h refl in absurd (omega (arith, z, l))
-lacking_fresh stage.Done h l = let z = h refl in absurd (omega (arith, z, l))
+lacking_fresh _ h l = let z = h refl in absurd (omega (arith, z, l))
 
-pub awaits_fresh : {ts : List Task} {ls : List Link} (t : ℕ) (x : Task) → Facts ts ls → slice_get ts t ≡ Some x
-    → 1 ≤ x.outside → (1 ≤ x.missing) × (x.stage ≡ stage.Fresh)
-awaits_fresh t x i is some = let c = i.counted t x is in let m = c.missing in let l : 1 ≤ x.missing = omega (arith, m, some) in
-    (l, lacking_fresh x.stage c.begun l)
+pub awaited : (p : Inside) {now : PoolState} (t : ℕ) (x : Task) → state_of p ≡ now → Facts p.tasks p.links.items → Awaits t now
+    → slice_get p.tasks t ≡ Some x → (1 ≤ x.outside) × (1 ≤ x.missing) × (x.stage ≡ stage.Fresh)
+awaited p t x same f m is = let c = f.counted t x is in let o = ap (λ (e : Entry). e.outside) (seen_at p t x m.task same m.is is) in
+    let s = m.some in let some : 1 ≤ x.outside = omega (arith, o, s) in let k = c.missing in
+    let l : 1 ≤ x.missing = omega (arith, k, some) in (some, l, lacking_fresh x.stage c.begun l)
 
 -- ==== The next run of the same graph: what is true of a pool is true when each task is as it was described.
 new_at : (ts : List Task) (s : ℕ) → done_at (slice_get (map as_new ts) s) ≡ false
@@ -236,7 +187,7 @@ pub record Passing (s : ℕ) (first ts : List Task) (ls : List Link) (left : ℕ
 pub passed_all : {first ts : List Task} {ls : List Link} {s left : ℕ} → Passing s first ts ls left → left ≡ 0 → Facts ts ls
 passed_all {first} {ts} {ls} {s} p z = record {
   few_links = p.facts.few_links;
-  counted = λ t x h. counted_as ts ts ls t x (λ u. refl) (sym (newest_none s t ls p.seen (sym p.place ∙ z))) (p.facts.counted t x h);
+  counted = λ t x h. counted_as t (let n = newest_none s t ls p.seen (sym p.place ∙ z) in omega (arith, n)) (p.facts.counted t x h);
   linked = p.facts.linked;
 }
 
@@ -293,19 +244,13 @@ pub passed : {first ts new : List Task} {ls : List Link} {s left : ℕ} (e : Lin
 passed {first} {ts} {new} {ls} {s} {left} e x p a is become = let same = some_same a.task x (sym a.is ∙ is) in
     let some = missing_one x a is in
     let fresh : x.stage ≡ stage.Fresh = subst (λ (z : Task). z.stage ≡ stage.Fresh) same a.fresh in
-    let c = p.facts.counted e.target x is in let m = c.missing in let mine = a.mine in let rest = a.last.rest e.target in
+    let c = p.facts.counted e.target x is in let mine = a.mine in let rest = a.last.rest e.target in
     subst (λ (xs : List Task). Passing s first xs ls e.older) (sym become) (record {
       seen = left - 1;
       few = (let w = a.last.within in let g = p.few in omega (arith, w, g));
       place = a.older;
-      facts = owing_set e.target x (less x) p.facts is refl (λ u o. let z = apart u o in let r = a.last.rest u in omega (arith, z, r)) (record {
-        class = c.class;
-        few = c.few;
-        missing = omega (arith, m, mine, some, rest);
-        inputs = c.inputs;
-        outputs = c.outputs;
-        begun = fresh_keeps fresh;
-      });
+      facts = owing_set e.target x (less x) p.facts is refl (λ u o. let z = apart u o in let r = a.last.rest u in omega (arith, z, r))
+          (counted_to e.target (less x) c refl refl refl c.few (omega (arith, mine, some, rest)) (fresh_keeps fresh));
       same = map_same entry_of ts e.target x (less x) is refl ∙ p.same;
     })
   where
@@ -351,6 +296,9 @@ module _ {ts : List Task} {ls : List Link} (s n : ℕ) (x y : Task) (f : Facts t
   abbrev ls2 : List Link
   ls2 = ls ++ e ∷ []
 
+  many : length ts2 ≡ length ts
+  many = length-set (set ts n x2) s y2 ∙ length-set ts n x2
+
   long : length ls2 ≡ suc (length ls)
   long = let a = length_push ls e in omega (arith, a)
 
@@ -361,21 +309,17 @@ module _ {ts : List Task} {ls : List Link} (s n : ℕ) (x y : Task) (f : Facts t
   same u = done_set (set ts n x2) s u y y2 of2 refl ∙ done_set ts n u x x2 is refl
 
   blocked : (u : ℕ) → count_where (blocks ts2 u) ls2 ≡ count_where (blocks ts u) ls + one (blocks ts u e)
-  blocked u = let b = count_push (blocks ts2 u) ls e in
-      let c = count_same (blocks ts2 u) (blocks ts u) ls (λ k i h. blocks_same ts ts2 u i (same i.source)) in
+  blocked u = let b = count_push (blocks ts2 u) ls e in let c = blocked_as ts ts2 ls u same in
       let d = ap one (blocks_same ts ts2 u e (same s)) in omega (arith, b, c, d)
 
   into : (u : ℕ) → count_where (is_into u) ls2 ≡ count_where (is_into u) ls + one (n == u)
   into u = count_push (is_into u) ls e
 
-  one_false : {b : Bool} → b ≡ false → one b ≡ 0
-  one_false h = ap one h
-
   blocks_none : (u : ℕ) → u ≢ n → one (blocks ts u e) ≡ 0
   blocks_none u o = one_else n u (not (done_at (slice_get ts s))) (λ h. o (sym h))
 
   blocks_one : one (blocks ts n e) ≡ one (not (is_done y.stage))
-  blocks_one = one_here n n (not (done_at (slice_get ts s))) refl ∙ ap (λ (b : Bool). one (not b)) (ap done_at of)
+  blocks_one = ap one (and_here n n (not (done_at (slice_get ts s))) refl) ∙ ap (λ (b : Bool). one (not b)) (ap done_at of)
 
   outputs_else : (u : ℕ) → u ≢ s → newest u ls2 (length ls2) ≡ newest u ls (length ls)
   outputs_else u o = ap (λ (k : ℕ). newest u ls2 k) long ∙ (newest_link u ls e
@@ -390,7 +334,7 @@ module _ {ts : List Task} {ls : List Link} (s n : ℕ) (x y : Task) (f : Facts t
     class = c.class;
     few = c.few;
     missing = (let m = c.missing in let b = blocked s in let z = blocks_none s (λ h. omega (arith, h, l)) in omega (arith, m, b, z));
-    inputs = (let m = c.inputs in let b = into s in let z = one_false (ne_eqb n s (λ h. omega (arith, h, l))) in omega (arith, m, b, z));
+    inputs = (let m = c.inputs in let b = into s in let z = ap one (ne_eqb n s (λ h. omega (arith, h, l))) in omega (arith, m, b, z));
     outputs = (let o = outputs_here in omega (arith, o));
     begun = c.begun;
   }
@@ -405,12 +349,12 @@ module _ {ts : List Task} {ls : List Link} (s n : ℕ) (x y : Task) (f : Facts t
     begun = fresh_keeps fresh;
   }
 
-  other : (u : ℕ) (z : Task) → IsCounted (λ t. 0) ts ls u z → u ≢ s → u ≢ n → IsCounted (λ t. 0) ts2 ls2 u z
-  other u z c o p = record {
+  other : (u : ℕ) (z : Task) → IsCounted (λ t. 0) ts ls u z → u ≢ n → u ≢ s → IsCounted (λ t. 0) ts2 ls2 u z
+  other u z c p o = record {
     class = c.class;
     few = c.few;
     missing = (let m = c.missing in let b = blocked u in let q = blocks_none u p in omega (arith, m, b, q));
-    inputs = (let m = c.inputs in let b = into u in let z = one_false (ne_eqb n u (λ h. p (sym h))) in omega (arith, m, b, z));
+    inputs = (let m = c.inputs in let b = into u in let z = ap one (ne_eqb n u (λ h. p (sym h))) in omega (arith, m, b, z));
     outputs = c.outputs ∙ sym (outputs_else u o);
     begun = c.begun;
   }
@@ -418,28 +362,17 @@ module _ {ts : List Task} {ls : List Link} (s n : ℕ) (x y : Task) (f : Facts t
   pub facts_link : Facts ts2 ls2
   facts_link = record {
     few_links = (let a = length_push ls e in omega (arith, a, few));
-    counted = λ u z h. elim (set_apart (set ts n x2) s u z y2 h) [
-      | inr g ↦ subst (λ (k : ℕ). IsCounted (λ t. 0) ts2 ls2 k z) (sym g.0) (subst (λ (w : Task). IsCounted
-          (λ t. 0) ts2 ls2 s w) (sym g.1) source)
-      | inl g ↦ elim (set_apart ts n u z x2 g.0) [
-        | inr j ↦ subst (λ (k : ℕ). IsCounted (λ t. 0) ts2 ls2 k z) (sym j.0) (subst (λ (w : Task). IsCounted
-            (λ t. 0) ts2 ls2 n w) (sym j.1) target)
-        | inl j ↦ other u z (f.counted u z j.0) g.1 j.1
-      ]
-    ];
-    linked = λ k i h. elim (last_cases ls k i e h) [
-      | inl g ↦ (let p = f.linked k i g in let b = slice_get_within ls k i g in record {
-        before = p.before;
-        within = (let a = length-set ts n x2 in let c = length-set (set ts n x2) s y2 in let w = p.within in omega (arith, a, c, w));
-        older = p.older ∙ sym (newest_agree i.source ls ls2 k (λ j q. before_end ls e j (omega (arith, q, b))));
-      })
-      | inr g ↦ subst (λ (j : ℕ). IsLinked ts2 ls2 j i) (sym g.0) (subst (λ (w : Link). IsLinked ts2 ls2 (length ls) w) (sym g.1) (record {
-        before = l;
-        within = (let a = length-set ts n x2 in let c = length-set (set ts n x2) s y2 in
-            let w = slice_get_within ts n x is in omega (arith, a, c, w));
-        older = (f.counted s y of).outputs ∙ sym (newest_agree s ls ls2 (length ls) (λ j q. before_end ls e j q));
-      }))
-    ];
+    counted = all_set (IsCounted (λ t. 0) ts2 ls2) (set ts n x2) s y2 (all_set (λ u z. u ≢ s → IsCounted (λ t. 0) ts2 ls2 u z) ts n x2
+        (λ u z h. other u z (f.counted u z h)) (λ o. target)) source;
+    linked = all_push (IsLinked ts2 ls2) ls e (λ k i h. let p = f.linked k i h in let b = slice_get_within ls k i h in record {
+      before = p.before;
+      within = (let w = p.within in omega (arith, many, w));
+      older = p.older ∙ sym (newest_agree i.source ls ls2 k (λ j q. before_end ls e j (omega (arith, q, b))));
+    }) (λ k m. subst (λ (j : ℕ). IsLinked ts2 ls2 j e) (sym m) (record {
+      before = l;
+      within = (let w = slice_get_within ts n x is in omega (arith, many, w));
+      older = (f.counted s y of).outputs ∙ sym (newest_agree s ls ls2 (length ls) (λ j q. before_end ls e j q));
+    }));
   }
 
 below_one : (s n : ℕ) → IsTrue (nat_lt s n && true) → s < n
@@ -449,9 +382,9 @@ pub link_places : {ts : List Task} {ls : List Link} {room : ℕ} (s n : ℕ) →
 link_places {ts} s n m = (below_one s n m.lower, slice_get_within ts n m.target m.is)
 
 pub link_few : {ts : List Task} {ls : List Link} (n : ℕ) (x : Task) → Facts ts ls → slice_get ts n ≡ Some x
-    → x.missing ≤ MAX_INPUTS + MAX_OUTSIDE
+    → (x.missing ≤ MAX_INPUTS + MAX_OUTSIDE) × (x.outside ≤ MAX_OUTSIDE)
 link_few {ts} {ls} n x f is = let c = f.counted n x is in let m = c.missing in let o = c.few in let l = f.few_links in
-    let k = count_few (blocks ts n) ls in omega (arith, m, o, l, k)
+    let k = count_few (blocks ts n) ls in (omega (arith, m, o, l, k), o)
 
 pub inputs_few : {ts : List Task} {ls : List Link} (n : ℕ) (x : Task) → Facts ts ls → slice_get ts n ≡ Some x → x.inputs ≤ MAX_INPUTS
 inputs_few {ts} {ls} n x f is =

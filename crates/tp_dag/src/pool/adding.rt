@@ -1,16 +1,15 @@
 //! The calls that describe the graph: tasks, their inputs, and inputs from outside.
-ghost use Rattle.std.specs.Prelude.{◌&&◌, ◌==◌, ◌≡◌, ◌≤◌, ◌<◌, ◌+◌, ◌-◌, ◌⊎◌, ℕ};
-ghost use Rattle.std.specs.Prelude.{length, IfOk, IfErr, IfSome, IfNone, OnOk, OnErr, IsTrue, IsFalse};
-ghost use Rattle.std.specs.Prelude.{slice_get, true, false, Ok, Err, Some, None, nat_lt};
+ghost use Rattle.std.specs.Prelude.{◌&&◌, ◌==◌, ◌≡◌, ◌<◌, ◌+◌, ◌-◌, ◌⊎◌, length, IfOk, IfErr, IfSome, IfNone, OnOk, OnErr, false, Ok, Err};
+ghost use Rattle.std.specs.Prelude.{Some, None};
 ghost use Rattle.tp_base.specs.declared.limits.TheConstants.{MAX_STEPS};
 ghost use Rattle.tp_base.specs.Checks.{first_refusal};
 ghost use Rattle.tp_dag.specs.declared.entry.Stage.TheVariants as stage;
 ghost use Rattle.tp_dag.specs.declared.limits.TheConstants.{MAX_INPUTS, MAX_TASKS, MAX_OUTSIDE};
 ghost use Rattle.tp_dag.specs.State.{is_ready_now};
 ghost use Rattle.tp_dag.specs.Calls.{task_checks, input_checks, outside_checks, release_checks, with_task, with_input, MayHaveInput};
-ghost use Rattle.tp_dag.specs.Calls.{Becomes, one_more, one_less, MayWait, Awaits, lacks_steps};
+ghost use Rattle.tp_dag.specs.Calls.{Becomes, one_more, one_less, MayWait, Awaits};
 
-use crate::entry::{Task, both, either, is_fresh, one_if};
+use crate::entry::{both, either, is_fresh, one_if, refuse_if};
 use crate::limits::{MAX_INPUTS, MAX_OUTSIDE, MAX_TASKS};
 use crate::links::add_link;
 use crate::pool::Pool;
@@ -32,15 +31,11 @@ impl Pool {
         ensures checks { IfSome (first_refusal (task_checks self.old class)) (λ r. result ≡ Err r) }
         ensures exact { IfErr result (λ r. (first_refusal (task_checks self.old class) ≡ Some r) ⊎ (r ≡ Refusal.NoMemory)) }
     {
-        if class > 3 {
-            return Err(Refusal::BadSpec);
-        }
-        if self.tasks.len() >= MAX_TASKS as usize {
-            return Err(Refusal::HistoryFull(MAX_TASKS));
-        }
-        if self.started && self.lacks_steps(self.tasks.len() + 1) {
-            return Err(Refusal::HistoryFull(MAX_STEPS));
-        }
+        refuse_if(class > 3, Refusal::BadSpec)?;
+        let full = self.tasks.len() >= MAX_TASKS as usize;
+        refuse_if(full, Refusal::HistoryFull(MAX_TASKS))?;
+        let long = both(self.started, self.lacks_steps(self.tasks.len() + 1));
+        refuse_if(long, Refusal::HistoryFull(MAX_STEPS))?;
         let held = one_if(self.started);
         self.add(class as u8, &[], held)
     }
@@ -88,6 +83,7 @@ impl Pool {
 
     // whether a task is ready
     #[inline]
+    #[tactic(auto, using(crate::proofs::Lemmas::test_ready, crate::proofs::Lemmas::test_none))]
     fn is_ready_at(&self, task: u32) -> bool
         ensures { result ≡ is_ready_now self.now task }
     {
@@ -147,19 +143,14 @@ impl Pool {
         None
     }
 
+    #[tactic(auto, using(crate::proofs::Lemmas::link_few))]
     fn add_outside(&mut self, task: u32)
         requires { MayWait task self.old }
         ensures { Becomes task one_more self.old self.new }
     {
         let was = self.tasks.at(task);
-        self.tasks.set(
-            task,
-            Task {
-                missing: was.missing + 1,
-                outside: was.outside + 1,
-                ..was
-            },
-        );
+        self.tasks
+            .put(task, was, was.stage, was.missing + 1, was.outside + 1);
     }
 
     /// Reports that one input from outside is there for which a task waits.
@@ -171,26 +162,20 @@ impl Pool {
         ensures checks { IfSome (first_refusal (release_checks self.old task)) (λ r. result ≡ Err r) }
         ensures exact { IfErr result (λ r. first_refusal (release_checks self.old task) ≡ Some r) }
     {
-        if let Some(refusal) = self.release_refusal(task) {
-            return Err(refusal);
-        }
+        self.release_refusal(task)?;
         self.take_outside(task);
         Ok(())
     }
 
     // the first check of `release` that holds
     #[tactic(auto, using(crate::proofs::Lemmas::awaits_if))]
-    fn release_refusal(&self, task: u32) -> Option<Refusal>
-        ensures refusal { result ≡ first_refusal (release_checks self.now task) }
-        ensures awaits { IfNone result (Awaits task self.now) }
+    fn release_refusal(&self, task: u32) -> Result<(), Refusal>
+        ensures ok { OnOk result (first_refusal (release_checks self.now task) ≡ None) }
+        ensures err { IfErr result (λ r. first_refusal (release_checks self.now task) ≡ Some r) }
+        ensures awaits { OnOk result (Awaits task self.now) }
     {
-        let Some(found) = self.tasks.get(task) else {
-            return Some(Refusal::NoTask);
-        };
-        if found.outside == 0 {
-            return Some(Refusal::WrongLife);
-        }
-        None
+        let found = self.tasks.get(task).ok_or(Refusal::NoTask)?;
+        refuse_if(found.outside == 0, Refusal::WrongLife)
     }
 
     fn take_outside(&mut self, task: u32)
@@ -198,14 +183,8 @@ impl Pool {
         ensures { Becomes task one_less self.old self.new }
     {
         let was = self.tasks.at(task);
-        self.tasks.set(
-            task,
-            Task {
-                missing: was.missing - 1,
-                outside: was.outside - 1,
-                ..was
-            },
-        );
+        self.tasks
+            .put(task, was, was.stage, was.missing - 1, was.outside - 1);
         let ready = both(self.started, was.missing == 1);
         self.queues.push_if(was.class, task, ready);
     }

@@ -1,13 +1,11 @@
 //! The call that describes a whole graph. It builds the graph in a pool of its own by `task` and `input`: so a refusal changes nothing.
-ghost use Rattle.std.specs.Prelude.{◌||◌, ◌≡◌, ◌≤◌, ◌<◌, ◌+◌, ◌-◌, ◌⊎◌, ℕ, length};
-ghost use Rattle.std.specs.Prelude.{IfErr, IfSome, IfNone, IsFalse, OnOk, OnErr, Err, Some, None};
-ghost use Rattle.std.specs.Prelude.{nat_lt, slice_range};
+ghost use Rattle.std.specs.Prelude.{◌≡◌, ◌≤◌, ◌<◌, ◌+◌, ◌-◌, ◌⊎◌, ℕ, length, IfErr, IfSome, IsFalse, OnOk, OnErr, Err, Some, None, slice_range};
 ghost use Rattle.std.specs.List.{slice_index_or};
 ghost use Rattle.tp_base.specs.Checks.{first_refusal};
 ghost use Rattle.tp_dag.specs.Calls.{with_task};
-ghost use Rattle.tp_dag.specs.Describing.{Graph, described, describe_checks, fault_of};
-ghost use Rattle.tp_dag.specs.Describing.{next_fault, IsFirstFault, with_inputs, inputs_refusal};
+ghost use Rattle.tp_dag.specs.Describing.{described, describe_checks, fault_of, next_fault, IsFirstFault, with_inputs, inputs_refusal};
 
+use crate::entry::{both, either, refuse_if};
 use crate::pool::Pool;
 use std::alloc::AllocError;
 use tp_base::Refusal;
@@ -20,13 +18,6 @@ fn class_of(classes: &[u8], task: usize) -> u8
         Some(&class) => class,
         None => 0,
     }
-}
-
-/// Returns whether there are no such places among `count` inputs.
-fn is_no_range(from: u32, to: u32, count: usize) -> bool
-    ensures { result ≡ (nat_lt to from || nat_lt count to) }
-{
-    to < from || count < to as usize
 }
 
 impl Pool {
@@ -55,41 +46,39 @@ impl Pool {
             ⊎ IsFirstFault (record { classes = classes.now; offsets = offsets.now; inputs = inputs.now }) self.old e.0 e.1
             ⊎ (e.0 ≡ Refusal.NoMemory)) }
     {
-        if let Some(refusal) = self.describe_refusal(classes, offsets, inputs) {
+        if let Err(refusal) = self.describe_refusal(classes, offsets, inputs) {
             return Err((refusal, 0));
         }
         let mut pool = self.same_anew();
         if pool.reserve(offsets.len() - 1, inputs.len()).is_err() {
             return Err((Refusal::NoMemory, 0));
         }
-        match pool.add_graph(classes, offsets, inputs) {
-            Ok(()) => {
-                *self = pool;
-                Ok(())
-            }
-            Err(fault) => Err(fault),
-        }
+        pool.add_graph(classes, offsets, inputs)?;
+        *self = pool;
+        Ok(())
     }
 
     // the first check of `describe` that holds
-    fn describe_refusal(&self, classes: &[u8], offsets: &[u32], inputs: &[u32]) -> Option<Refusal>
-        ensures refusal { result ≡ first_refusal (describe_checks
-            (record { classes = classes.now; offsets = offsets.now; inputs = inputs.now }) self.now) }
-        ensures started { IfNone result (IsFalse self.now.started) }
-        ensures empty { IfNone result (length self.now.tasks ≡ 0) }
-        ensures some { IfNone result (1 ≤ length offsets.now) }
+    fn describe_refusal(
+        &self,
+        classes: &[u8],
+        offsets: &[u32],
+        inputs: &[u32],
+    ) -> Result<(), Refusal>
+        ensures ok { OnOk result (first_refusal (describe_checks
+            (record { classes = classes.now; offsets = offsets.now; inputs = inputs.now }) self.now) ≡ None) }
+        ensures err { IfErr result (λ r. first_refusal (describe_checks
+            (record { classes = classes.now; offsets = offsets.now; inputs = inputs.now }) self.now) ≡ Some r) }
+        ensures started { OnOk result (IsFalse self.now.started) }
+        ensures empty { OnOk result (length self.now.tasks ≡ 0) }
+        ensures some { OnOk result (1 ≤ length offsets.now) }
     {
         let _inputs = inputs;
-        if self.started || self.tasks.len() != 0 {
-            return Some(Refusal::WrongLife);
-        }
-        if offsets.is_empty() {
-            return Some(Refusal::BadSpec);
-        }
-        if !classes.is_empty() && classes.len() != offsets.len() - 1 {
-            return Some(Refusal::BadSpec);
-        }
-        None
+        let used = either(self.started, self.tasks.len() != 0);
+        refuse_if(used, Refusal::WrongLife)?;
+        refuse_if(offsets.is_empty(), Refusal::BadSpec)?;
+        let unlike = classes.len() != offsets.len() - 1;
+        refuse_if(both(!classes.is_empty(), unlike), Refusal::BadSpec)
     }
 
     // another pool in the state of this one, which has no tasks and was not started
@@ -151,9 +140,8 @@ impl Pool {
         ensures exact { IfErr result (λ r. (next_fault class from to inputs.now self.old ≡ Some r) ⊎ (r ≡ Refusal.NoMemory)) }
     {
         self.task(class as u32)?;
-        if is_no_range(from, to, inputs.len()) {
-            return Err(Refusal::BadSpec);
-        }
+        let none = either(to < from, inputs.len() < to as usize);
+        refuse_if(none, Refusal::BadSpec)?;
         self.add_inputs(&inputs[from as usize..to as usize])
     }
 

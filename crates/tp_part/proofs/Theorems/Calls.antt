@@ -283,7 +283,7 @@ ready_shown p k a r = record {
   inputs = λ s i. (let d = r.inputs s i in
       record { task = progress_of d.task; is = map_get progress_of p.pool.tasks s d.task d.is; stage = d.stage });
   arrived = λ n e j t. awaited_zero (e.target == k) e.passed
-      (count_none (is_awaited_at k) p.incoming n e (sym (a.counted k r.task r.is) ∙ r.outside) j) (eq-eqb e.target k t);
+      (ap one (count_none (is_awaited_at k) p.incoming n e (sym (a.counted k r.task r.is) ∙ r.outside) j)) (eq-eqb e.target k t);
 }
 
 awaited_none : (b d : Bool) → (b ≡ true → d ≡ true) → one (b && not d) ≡ 0

@@ -28,18 +28,36 @@ done_push tasks s y h = elim (get_push tasks s y) [
   | inr e ↦ ap done_at e.1 ∙ (h ∙ sym (ap done_at (slice_get_past tasks s (let n = e.0 in omega (arith, n)))))
 ]
 
--- a task that was counted is counted, if the same tasks are done
-pub counted_as : {more more' : ℕ → ℕ} (old new : List Task) (links : List Link) (t : ℕ) (x : Task)
-    → ((s : ℕ) → done_at (slice_get new s) ≡ done_at (slice_get old s)) → more' t ≡ more t → IsCounted more old links t x
+-- a task that was counted is counted, if as many inputs keep it waiting or are owed
+pub counted_as : {more more' : ℕ → ℕ} {old new : List Task} {links : List Link} (t : ℕ) {x : Task}
+    → count_where (blocks new t) links + more' t ≡ count_where (blocks old t) links + more t → IsCounted more old links t x
     → IsCounted more' new links t x
-counted_as old new links t x same owed c = record {
+counted_as t same c = record {
   class = c.class;
   few = c.few;
-  missing = (let m = c.missing in
-      let e = count_same (blocks new t) (blocks old t) links (λ k i h. blocks_same old new t i (same i.source)) in omega (arith, m, e, owed));
+  missing = (let m = c.missing in omega (arith, m, same));
   inputs = c.inputs;
   outputs = c.outputs;
   begun = c.begun;
+}
+
+-- the same tasks are done
+pub blocked_as : (old new : List Task) (links : List Link) (t : ℕ) → ((s : ℕ) → done_at (slice_get new s) ≡ done_at (slice_get old s))
+    → count_where (blocks new t) links ≡ count_where (blocks old t) links
+blocked_as old new links t same = count_same (blocks new t) (blocks old t) links (λ k i h. blocks_same old new t i (same i.source))
+
+-- as another task, of which as much is missing but from outside, and which is fresh if something is
+pub counted_to : {more more' : ℕ → ℕ} {tasks : List Task} {links : List Link} (t : ℕ) {x : Task} (y : Task) → IsCounted more tasks links t x
+    → y.class ≡ x.class → y.inputs ≡ x.inputs → y.outputs ≡ x.outputs → y.outside ≤ MAX_OUTSIDE
+    → y.missing + x.outside + more t ≡ x.missing + y.outside + more' t → (is_fresh y.stage ≡ false → y.missing ≡ 0)
+    → IsCounted more' tasks links t y
+counted_to t y c class inputs outputs few missing begun = record {
+  class = (let l = c.class in omega (arith, l, class));
+  few = few;
+  missing = (let m = c.missing in omega (arith, m, missing));
+  inputs = inputs ∙ c.inputs;
+  outputs = outputs ∙ c.outputs;
+  begun = begun;
 }
 
 -- all inputs are of these tasks, if there are as many
@@ -49,28 +67,32 @@ pub linked_in : {old new : List Task} {links : List Link} → length old ≤ len
 linked_in l all k e h = let p = all k e h in
     record { before = p.before; within = (let w = p.within in omega (arith, l, w)); older = p.older }
 
--- a task is written, and the same are done; what is owed may change there
+-- a task is written, and as many inputs keep others waiting or are owed
+pub owing_written : {more more' : ℕ → ℕ} {tasks : List Task} {links : List Link} (t : ℕ) (y : Task) → Owing more tasks links
+    → ((u : ℕ) → u ≢ t → count_where (blocks (set tasks t y) u) links + more' u ≡ count_where (blocks tasks u) links + more u)
+    → IsCounted more' (set tasks t y) links t y → Owing more' (set tasks t y) links
+owing_written {more} {more'} {tasks} {links} t y f others here = record {
+  few_links = f.few_links;
+  counted = all_set (IsCounted more' (set tasks t y) links) tasks t y (λ u z g o. counted_as u (others u o) (f.counted u z g)) here;
+  linked = linked_in (let l = length-set tasks t y in omega (arith, l)) f.linked;
+}
+
+-- the same are done; what is owed may change there
 pub owing_set : {more more' : ℕ → ℕ} {tasks : List Task} {links : List Link} (t : ℕ) (x y : Task) → Owing more tasks links
     → slice_get tasks t ≡ Some x → is_done y.stage ≡ is_done x.stage → ((u : ℕ) → u ≢ t → more' u ≡ more u)
     → IsCounted more' tasks links t y → Owing more' (set tasks t y) links
-owing_set {more} {more'} {tasks} {links} t x y f is same owed c = record {
-  few_links = f.few_links;
-  counted = λ u z h. elim (set_apart tasks t u z y h) [
-    | inl g ↦ counted_as tasks (set tasks t y) links u z (λ s. done_set tasks t s x y is same) (owed u g.1) (f.counted u z g.0)
-    | inr g ↦ subst (λ (n : ℕ). IsCounted more' (set tasks t y) links n z) (sym g.0) (subst (λ (w : Task). IsCounted more' (set tasks t y)
-        links t w) (sym g.1) (counted_as tasks (set tasks t y) links t y (λ s. done_set tasks t s x y is same) refl c))
-  ];
-  linked = linked_in (let l = length-set tasks t y in omega (arith, l)) f.linked;
-}
+owing_set {tasks = tasks} {links = links} t x y f is same owed c = owing_written t y f
+    (λ u o. let b = blocked u in let w = owed u o in omega (arith, b, w)) (counted_as t (let b = blocked t in omega (arith, b)) c)
+  where
+    blocked : (u : ℕ) → count_where (blocks (set tasks t y) u) links ≡ count_where (blocks tasks u) links
+    blocked u = blocked_as tasks (set tasks t y) links u (λ s. done_set tasks t s x y is same)
 
 pub facts_push : {tasks : List Task} {links : List Link} (y : Task) → Facts tasks links → y.class < 4
     → y.outside ≤ MAX_OUTSIDE → y.missing ≡ y.outside → y.stage ≡ stage.Fresh → y.inputs ≡ 0 → y.outputs ≡ 0 → Facts (tasks ++ y ∷ []) links
 facts_push {tasks} {links} y f class outside missing fresh bare none = record {
   few_links = f.few_links;
-  counted = λ u z h. elim (last_cases tasks u z y h) [
-    | inl g ↦ counted_as tasks (tasks ++ y ∷ []) links u z same refl (f.counted u z g)
-    | inr g ↦ subst (λ (w : Task). IsCounted (λ t. 0) (tasks ++ y ∷ []) links u w) (sym g.1) (here u g.0)
-  ];
+  counted = all_push (IsCounted (λ t. 0) (tasks ++ y ∷ []) links) tasks y
+      (λ u z g. counted_as u (let b = blocked_as tasks (tasks ++ y ∷ []) links u same in omega (arith, b)) (f.counted u z g)) here;
   linked = linked_in (let l = length_push tasks y in omega (arith, l)) f.linked;
 }
   where
@@ -115,8 +137,7 @@ to_come_few (x ∷ xs) = let r = to_come_few xs in let n = count_next is_unfinis
   where
     by_stage : (s : Stage) → events_of s ≤ 2 * one (not (is_done s))
     by_stage stage.Fresh = omega arith
-    by_stage stage.Running = omega arith
-    by_stage stage.Done = omega arith
+    by_stage _ = omega arith
 
 -- a task with an event to come has room for it
 pub room_for_one : {s b : Bool} (ts : List Task) {e c : ℕ} (t : ℕ) (x : Task) → HasRoom s b (map entry_of ts) e c → IsTrue s → IsTrue b
@@ -135,10 +156,8 @@ room_set {s} {b} ts t x y e' c' i is le lc same stays = let g = map_get entry_of
       room = λ h k. let m = i.room h k in
           let r = to_come_set (map entry_of ts) t (entry_of x) (entry_of y) g in omega (arith, m, r, le, lc);
       none = λ h. same h ∙ i.none h;
-      fresh = λ h u z q. elim (set_apart (map entry_of ts) t u z (entry_of y) q) [
-        | inl o ↦ i.fresh h u z o.0
-        | inr o ↦ ap (λ (v : Entry). v.stage) o.1 ∙ (stays h ∙ i.fresh h t (entry_of x) g)
-      ];
+      fresh = λ h. all_set (λ (u : ℕ) (z : Entry). z.stage ≡ stage.Fresh) (map entry_of ts) t (entry_of y) (λ u z q o. i.fresh h u z q)
+          (stays h ∙ i.fresh h t (entry_of x) g);
     })
 
 -- a task is added, for which room was made
@@ -153,10 +172,7 @@ room_added {s} {b} ts y e' c' i fresh ee fits room =
       room = λ h k. let m = room h k in let r = to_come_push (map entry_of ts) (entry_of y) in let f = to_come_few (map entry_of ts) in
           let o : events_of y.stage ≡ 2 = ap events_of fresh in omega (arith, m, r, f, o, ee);
       none = λ h. ee ∙ i.none h;
-      fresh = λ h u z q. elim (last_cases (map entry_of ts) u z (entry_of y) q) [
-        | inl o ↦ i.fresh h u z o
-        | inr o ↦ ap (λ (v : Entry). v.stage) o.1 ∙ fresh
-      ];
+      fresh = λ h. all_push (λ (u : ℕ) (z : Entry). z.stage ≡ stage.Fresh) (map entry_of ts) (entry_of y) (i.fresh h) (λ k m. fresh);
     })
 
 -- the same tasks
@@ -186,13 +202,11 @@ fits_more p {now} same h st tr =
 -- ==== The test of a ready task: it says what the relation says, and what the pool stores of a task decides it.
 pub fresh_stage : (s : Stage) → IsTrue (is_fresh s) → s ≡ stage.Fresh
 fresh_stage stage.Fresh h = refl
-fresh_stage stage.Running h = cc
-fresh_stage stage.Done h = cc
+fresh_stage _ h = cc
 
 done_stage : (s : Stage) → IsTrue (is_done s) → s ≡ stage.Done
 done_stage stage.Done h = refl
-done_stage stage.Fresh h = cc
-done_stage stage.Running h = cc
+done_stage _ h = cc
 
 done_entry : (o : Option Entry) → is_done_at o ≡ true → (x : Entry) × (o ≡ Some x) × (x.stage ≡ stage.Done)
 done_entry (Some x) h = (x, refl, done_stage x.stage h)
@@ -220,7 +234,7 @@ module _ (a : PoolState) (t : ℕ) where
         fresh = fresh_stage x.stage p.0;
         outside = eqb-true x.outside 0 q.0;
         inputs = λ s r.
-            let free = one_zero _ (count_none (keeps_waiting a.tasks t) a.inputs r.0 (record { source = s; target = t }) z r.1) in
+            let free = count_none (keeps_waiting a.tasks t) a.inputs r.0 (record { source = s; target = t }) z r.1 in
             let y = done_entry (slice_get a.tasks s) (by_done t (is_done_at (slice_get a.tasks s)) free) in
             record { task = y.0; is = y.1; stage = y.2 };
       }
@@ -248,10 +262,15 @@ module _ (a : PoolState) (t : ℕ) where
 pub ready_is_this : ReadyIsThis
 ready_is_this a t = test_is a t
 
--- ---- what the pool stores
--- what a reader sees of these tasks and inputs; the rest is as in a
-abbrev pub shown : PoolState → List Task → List Link → PoolState
-shown a ts ls = record a { tasks = map entry_of ts; inputs = map input_of ls }
+-- ---- what the pool stores, and what a reader sees of it
+pub seen_at : (p : Inside) {now : PoolState} (t : ℕ) (x : Task) (e : Entry) → state_of p ≡ now → slice_get now.tasks t ≡ Some e
+    → slice_get p.tasks t ≡ Some x → entry_of x ≡ e
+seen_at p t x e same is h = some_same (entry_of x) e (sym (map_get entry_of p.tasks t x h)
+    ∙ (ap (λ (a : PoolState). slice_get a.tasks t) same ∙ is))
+
+stored_at : (p : Inside) {now : PoolState} (t : ℕ) (e : Entry) → state_of p ≡ now → slice_get now.tasks t ≡ Some e
+    → (x : Task) × (slice_get p.tasks t ≡ Some x) × (entry_of x ≡ e)
+stored_at p t e same is = map_got entry_of p.tasks t e (ap (λ (a : PoolState). slice_get a.tasks t) same ∙ is)
 
 done_shown : (ts : List Task) (s : ℕ) → is_done_at (slice_get (map entry_of ts) s) ≡ done_at (slice_get ts s)
 done_shown [] s = refl
@@ -264,16 +283,18 @@ waiting_count ts ls t = count_map (keeps_waiting (map entry_of ts) t) input_of (
     (λ e. ap (λ (b : Bool). (e.target == t) && not b) (done_shown ts e.source))
 
 -- a task is ready exactly if it was not dispatched and lacks nothing
-pub test_ready : (a : PoolState) {ts : List Task} {ls : List Link} (t : ℕ) (x : Task) → Facts ts ls → slice_get ts t ≡ Some x
-    → is_ready_now (shown a ts ls) t ≡ may_begin x
-test_ready a {ts} {ls} t x f is = ap (is_ready_entry (shown a ts ls) t) (map_get entry_of ts t x is)
-    ∙ ap (λ (b : Bool). is_fresh x.stage && b) (lacks _ _ x.outside x.missing (waiting_count ts ls t) (f.counted t x is).missing)
+pub test_ready : (p : Inside) {now : PoolState} (t : ℕ) (x : Task) → state_of p ≡ now → Facts p.tasks p.links.items
+    → slice_get p.tasks t ≡ Some x → is_ready_now now t ≡ may_begin x
+test_ready p t x same f is = ap (λ (a : PoolState). is_ready_now a t) (sym same)
+    ∙ (ap (is_ready_entry (state_of p) t) (map_get entry_of p.tasks t x is) ∙ ap (λ (b : Bool). is_fresh x.stage && b)
+    (lacks _ _ x.outside x.missing (waiting_count p.tasks p.links.items t) (f.counted t x is).missing))
   where
     lacks : (n k o g : ℕ) → n ≡ k → g ≡ k + o + 0 → ((o == 0) && (n == 0)) ≡ (g == 0)
     lacks n k o g e h = grind (arith, nat_tests, e, h)
 
-pub test_none : (a : PoolState) (ts : List Task) (ls : List Link) (t : ℕ) → slice_get ts t ≡ None → is_ready_now (shown a ts ls) t ≡ false
-test_none a ts ls t h = ap (is_ready_entry (shown a ts ls) t) (slice_get-map entry_of ts t ∙ ap (option_map entry_of) h)
+pub test_none : (p : Inside) {now : PoolState} (t : ℕ) → state_of p ≡ now → slice_get p.tasks t ≡ None → is_ready_now now t ≡ false
+test_none p t same h = ap (λ (a : PoolState). is_ready_now a t) (sym same)
+    ∙ ap (is_ready_entry (state_of p) t) (slice_get-map entry_of p.tasks t ∙ ap (option_map entry_of) h)
 
 -- ---- the number of ready tasks
 by_class : (k : ℕ) (b : Bool) → k < 4 → one b ≡ one ((k == 0) && b) + one ((k == 1) && b) + one ((k == 2) && b) + one ((k == 3) && b)
@@ -290,58 +311,50 @@ count_classes (x ∷ ts) h = let r = count_classes ts (λ t y g. h (suc t) y g) 
     let n = count_next may_begin x ts in let n0 = count_next (is_ready 0) x ts in let n1 = count_next (is_ready 1) x ts in
     let n2 = count_next (is_ready 2) x ts in let n3 = count_next (is_ready 3) x ts in omega (arith, r, o, n, n0, n1, n2, n3)
 
-pub ready_count : (a : PoolState) {ts : List Task} {ls : List Link} → Facts ts ls → ready_tasks (shown a ts ls)
-    ≡ count_where (is_ready 0) ts + count_where (is_ready 1) ts + count_where (is_ready 2) ts + count_where (is_ready 3) ts
-ready_count a {ts} {ls} f = let long = length-map ts entry_of in
-    let e : ready_tasks (shown a ts ls) ≡ count_below (is_ready_now (shown a ts ls)) (length ts) =
-    ap (count_below (is_ready_now (shown a ts ls))) long in
-    let b = below_all (is_ready_now (shown a ts ls)) may_begin ts (λ t x is. test_ready a t x f is) in
-    let c = count_classes ts (λ t x is. (f.counted t x is).class) in omega (arith, e, b, c)
+pub ready_count : (p : Inside) {now : PoolState} → state_of p ≡ now → Facts p.tasks p.links.items → ready_tasks now
+    ≡ count_where (is_ready 0) p.tasks + count_where (is_ready 1) p.tasks + count_where (is_ready 2) p.tasks + count_where (is_ready 3) p.tasks
+ready_count p same f = ap ready_tasks (sym same) ∙ (ap (count_below (is_ready_now (state_of p))) (length-map p.tasks entry_of)
+    ∙ (below_all (is_ready_now (state_of p)) may_begin p.tasks (λ t x is. test_ready p t x refl f is)
+    ∙ count_classes p.tasks (λ t x is. (f.counted t x is).class)))
 
 -- ==== Ready tasks, and all tasks done, by what the pool stores.
 -- a ready task may begin, by what is stored of it
-pub ready_begins : (a : PoolState) {ts : List Task} {ls : List Link} (t : ℕ) (x : Task) → Facts ts ls → slice_get ts t ≡ Some x
-    → IsReady t (shown a ts ls) → IsTrue (may_begin x)
-ready_begins a {ts} {ls} t x f is r = sym (test_ready a t x f is) ∙ (test_is (shown a ts ls) t).1 r
+pub ready_begins : (p : Inside) {now : PoolState} (t : ℕ) (x : Task) → state_of p ≡ now → Facts p.tasks p.links.items
+    → slice_get p.tasks t ≡ Some x → IsReady t now → IsTrue (may_begin x)
+ready_begins p {now} t x same f is r = sym (test_ready p t x same f is) ∙ (test_is now t).1 r
 
 -- ---- all are done
 pub over_if : (a : PoolState) → count_where is_unfinished a.tasks ≡ 0 → IsOver a
-over_if a z t y h = by_test y.stage (one_zero (is_unfinished y) (count_none is_unfinished a.tasks t y z h))
+over_if a z t y h = by_test y.stage (count_none is_unfinished a.tasks t y z h)
   where
     by_test : (s : Stage) → IsFalse (not (is_done s)) → s ≡ stage.Done
     by_test stage.Done h = refl
-    by_test stage.Fresh h = cc
-    by_test stage.Running h = cc
+    by_test _ h = cc
 
-pub not_over : (a : PoolState) → count_where is_unfinished a.tasks ≢ 0 → IsOver a → ⊥
-not_over a some over = let g = find_one is_unfinished a.tasks some in by_test g.1.stage (over g.0 g.1 g.2) g.3
-  where
-    by_test : (s : Stage) → s ≡ stage.Done → IsTrue (not (is_done s)) → ⊥
-    by_test s h g = cc
+pub over_none : (p : Inside) {now : PoolState} → state_of p ≡ now → IsOver now → count_where is_unfinished (map entry_of p.tasks) ≡ 0
+over_none p {now} same over = ap (λ (a : PoolState). count_where is_unfinished a.tasks) same
+    ∙ count_zero is_unfinished now.tasks (λ t x is. ap (λ (s : Stage). one (not (is_done s))) (over t x is))
+
+-- a pool with a ready task is not over
+pub ready_left : (a : PoolState) (t : ℕ) → IsReady t a → IsOver a → ⊥
+ready_left a t r over = let e = sym r.fresh ∙ over t r.task r.is in cc
 
 -- ==== What a search finds.
-pub lowest_of : (b : PoolState) {ts : List Task} {ls : List Link} (o : Option ℕ) → Facts ts ls → IfSome o (λ t. ComesFirst t ts)
-    → IfSome o (λ t. IsLowest t (shown b ts ls))
-lowest_of b None f h = h
-lowest_of b {ts} {ls} (Some t) f h = let r : IsReady t (shown b ts ls) = (test_is (shown b ts ls) t).0 (test_ready b t h.task f h.is ∙ h.ready) in
-    let c = ap (λ (e : Entry). e.class) (some_same (entry_of h.task) r.task (sym (map_get entry_of ts t h.task h.is) ∙ r.is)) in record {
+pub lowest_of : (p : Inside) {now : PoolState} (o : Option ℕ) → state_of p ≡ now → Facts p.tasks p.links.items
+    → IfSome o (λ t. ComesFirst t p.tasks) → IfSome o (λ t. IsLowest t now)
+lowest_of p None same f h = h
+lowest_of p {now} (Some t) same f h = let r : IsReady t now = (test_is now t).0 (test_ready p t h.task same f h.is ∙ h.ready) in
+    let c = ap (λ (e : Entry). e.class) (seen_at p t h.task r.task same r.is h.is) in record {
       ready = r;
-      lowest = λ u q. let g = map_got entry_of ts u q.task q.is in let d = ap (λ (e : Entry). e.class) g.2 in
-          let m = h.lowest u g.0 g.1 (ready_begins b u g.0 f g.1 q) in omega (arith, c, d, m);
+      lowest = λ u q. let g = stored_at p u q.task same q.is in let d = ap (λ (e : Entry). e.class) g.2 in
+          let m = h.lowest u g.0 g.1 (ready_begins p u g.0 same f g.1 q) in omega (arith, c, d, m);
     }
 
-pub none_of : (b : PoolState) {ts : List Task} {ls : List Link} (o : Option ℕ) → Facts ts ls → IfNone o (NoneReady ts)
-    → IfNone o ((t : ℕ) → IsReady t (shown b ts ls) → ⊥)
-none_of b (Some t) f h = h
-none_of b {ts} None f h = λ t r. let g = map_got entry_of ts t r.task r.is in let x : Task = g.0 in
-    not_here x.class (may_begin x) (sym (ap (ready_at x.class) g.1) ∙ h x.class (f.counted t x g.1).class t) (ready_begins b t x f g.1 r)
-
-pub left_of : (a : PoolState) (o : Option ℕ) → IfSome o (λ t. IsLowest t a) → IfSome o (λ t. IsOver a → ⊥)
-left_of a None h = h
-left_of a (Some t) h = λ over. no h.ready.task.stage h.ready.fresh (over t h.ready.task h.ready.is)
-  where
-    no : (s : Stage) → s ≡ stage.Fresh → s ≡ stage.Done → ⊥
-    no s x y = cc
+pub none_of : (p : Inside) {now : PoolState} (o : Option ℕ) → state_of p ≡ now → Facts p.tasks p.links.items
+    → IfNone o (NoneReady p.tasks) → IfNone o ((t : ℕ) → IsReady t now → ⊥)
+none_of p (Some t) same f h = h
+none_of p None same f h = λ t r. let g = stored_at p t r.task same r.is in let x : Task = g.0 in
+    not_here x.class (may_begin x) (sym (ap (ready_at x.class) g.1) ∙ h x.class (f.counted t x g.1).class t) (ready_begins p t x same f g.1 r)
 
 pub consistent : (p : Inside) → IsPool p → IsConsistent (state_of p)
 consistent p i = record {

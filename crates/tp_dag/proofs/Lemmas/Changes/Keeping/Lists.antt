@@ -1,18 +1,28 @@
 -- Lists: one place written, one thing added, and how many pass a test; and the numbers that are kept of tasks.
 pub mod Words
 pub use Words.*
-use Rattle.tp_dag.specs.declared.tasks.Tasks.TheInside.{Inside as TasksInside}
 
 -- ==== Lists in which one place is written, or one thing is added, and what a function makes of them.
--- what is at a place of a list of which one place was written
-pub set_apart : {A : Type 0} (xs : List A) (i k : ℕ) (x y : A) → slice_get (set xs i y) k ≡ Some x
-    → ((slice_get xs k ≡ Some x) × (k ≢ i)) ⊎ ((k ≡ i) × (x ≡ y))
-set_apart [] i k x y e = cc
-set_apart (z ∷ xs) zero zero x y e = inr (refl, cc)
-set_apart (z ∷ xs) zero (suc k) x y e = inl (e, λ h. omega (arith, h))
-set_apart (z ∷ xs) (suc i) zero x y e = inl (e, λ h. omega (arith, h))
-set_apart (z ∷ xs) (suc i) (suc k) x y e =
-    elim (set_apart xs i k x y e) [ inl h ↦ inl (h.0, λ g. h.1 (omega (arith, g))) | inr h ↦ inr (ap suc h.0, h.1) ]
+pub some_same : {A : Type 0} (x y : A) → Some x ≡ Some y → x ≡ y
+some_same x y e = cc
+
+-- what is true of the other places, and of what is written or added, is true of each place then
+pub all_set : {A : Type 0} (P : ℕ → A → Type 0) (xs : List A) (i : ℕ) (y : A)
+    → ((k : ℕ) (x : A) → slice_get xs k ≡ Some x → k ≢ i → P k x) → P i y → (k : ℕ) (x : A) → slice_get (set xs i y) k ≡ Some x → P k x
+all_set P [] i y o h k x e = cc
+all_set P (z ∷ xs) zero y o h zero x e = subst (P 0) (some_same y x e) h
+all_set P (z ∷ xs) zero y o h (suc k) x e = o (suc k) x e (λ g. omega (arith, g))
+all_set P (z ∷ xs) (suc i) y o h zero x e = o 0 x e (λ g. omega (arith, g))
+all_set P (z ∷ xs) (suc i) y o h (suc k) x e =
+    all_set (λ j. P (suc j)) xs i y (λ j u g n. o (suc j) u g (λ m. n (omega (arith, m)))) h k x e
+
+pub all_push : {A : Type 0} (P : ℕ → A → Type 0) (xs : List A) (y : A) → ((k : ℕ) (x : A) → slice_get xs k ≡ Some x → P k x)
+    → ((k : ℕ) → k ≡ length xs → P k y) → (k : ℕ) (x : A) → slice_get (xs ++ y ∷ []) k ≡ Some x → P k x
+all_push P [] y o h zero x e = subst (P 0) (some_same y x e) (h 0 refl)
+all_push P [] y o h (suc k) x e = cc
+all_push P (z ∷ xs) y o h zero x e = o 0 x e
+all_push P (z ∷ xs) y o h (suc k) x e =
+    all_push (λ j. P (suc j)) xs y (λ j u g. o (suc j) u g) (λ j m. h (suc j) (omega (arith, m))) k x e
 
 pub set_here : {A : Type 0} (xs : List A) (i : ℕ) (x y : A) → slice_get xs i ≡ Some x → slice_get (set xs i y) i ≡ Some y
 set_here [] i x y e = cc
@@ -37,14 +47,6 @@ get_push (z ∷ xs) (suc k) y = elim (get_push xs k y) [
   | inl h ↦ inl (λ e. h.0 (omega (arith, e)), h.1)
   | inr h ↦ inr (ap suc h.0, h.1)
 ]
-
-pub some_same : {A : Type 0} (x y : A) → Some x ≡ Some y → x ≡ y
-some_same x y e = cc
-
-pub last_cases : {A : Type 0} (xs : List A) (k : ℕ) (x y : A) → slice_get (xs ++ y ∷ []) k ≡ Some x
-    → (slice_get xs k ≡ Some x) ⊎ ((k ≡ length xs) × (x ≡ y))
-last_cases xs k x y e =
-    elim (get_push xs k y) [ inl h ↦ inl (sym h.1 ∙ e) | inr h ↦ inr (h.0, some_same x y (sym e ∙ h.1)) ]
 
 pub at_below : {A : Type 0} (xs : List A) (k : ℕ) → k < length xs → (x : A) × (slice_get xs k ≡ Some x)
 at_below [] k l = absurd (omega (arith, l))
@@ -73,21 +75,9 @@ pub count_next : {A : Type 0} (test : A → Bool) (x : A) (xs : List A) → coun
 count_next test x xs = elim (test x) as (λ b. cond b (count_where test xs + 1) (count_where test xs) ≡ count_where test xs + one b)
     [ true ↦ refl | false ↦ omega arith ]
 
-one_few : (b : Bool) → one b ≤ 1
+pub one_few : (b : Bool) → one b ≤ 1
 one_few true = omega arith
 one_few false = omega arith
-
-pub one_zero : (b : Bool) → one b ≡ 0 → IsFalse b
-one_zero true h = cc
-one_zero false h = refl
-
--- none passes if the number is 0
-pub count_none : {A : Type 0} (test : A → Bool) (xs : List A) (k : ℕ) (x : A) → count_where test xs ≡ 0 → slice_get xs k ≡ Some x
-    → one (test x) ≡ 0
-count_none test [] k x e h = cc
-count_none test (y ∷ ys) zero x e h = let n = count_next test y ys in let same : y ≡ x = cc in
-    let m : one (test y) ≡ 0 = omega (arith, n, e) in ap (λ z. one (test z)) (sym same) ∙ m
-count_none test (y ∷ ys) (suc k) x e h = let n = count_next test y ys in count_none test ys k x (omega (arith, n, e)) h
 
 -- one that passes counts
 pub count_at : {A : Type 0} (test : A → Bool) (xs : List A) (k : ℕ) (x : A) → slice_get xs k ≡ Some x → one (test x) ≤ count_where test xs
@@ -96,7 +86,15 @@ count_at test (y ∷ ys) zero x h = let n = count_next test y ys in let same : y
     let m : one (test y) ≡ one (test x) = ap (λ z. one (test z)) same in omega (arith, n, m)
 count_at test (y ∷ ys) (suc k) x h = let n = count_next test y ys in let r = count_at test ys k x h in omega (arith, n, r)
 
--- the number is 0 if none passes
+-- the number is 0 if and only if none passes
+pub count_none : {A : Type 0} (test : A → Bool) (xs : List A) (k : ℕ) (x : A) → count_where test xs ≡ 0 → slice_get xs k ≡ Some x
+    → IsFalse (test x)
+count_none test xs k x e h = by_one (test x) (let a = count_at test xs k x h in omega (arith, a, e))
+  where
+    by_one : (b : Bool) → one b ≡ 0 → IsFalse b
+    by_one true h = cc
+    by_one false h = refl
+
 pub count_zero : {A : Type 0} (test : A → Bool) (xs : List A) → ((k : ℕ) (x : A) → slice_get xs k ≡ Some x → one (test x) ≡ 0)
     → count_where test xs ≡ 0
 count_zero test [] h = refl
@@ -120,18 +118,6 @@ pub count_push : {A : Type 0} (test : A → Bool) (xs : List A) (x : A) → coun
 count_push test [] x = count_next test x []
 count_push test (y ∷ ys) x =
     let n = count_next test y (ys ++ x ∷ []) in let m = count_next test y ys in let r = count_push test ys x in omega (arith, n, m, r)
-
--- if the number is not 0, one passes
-pub find_one : {A : Type 0} (test : A → Bool) (xs : List A) → count_where test xs ≢ 0
-    → (k : ℕ) × (x : A) × (slice_get xs k ≡ Some x) × IsTrue (test x)
-find_one {A = A} test [] h = absurd (h refl)
-find_one {A = A} test (y ∷ ys) h = pick (test y) refl (λ e. let n = count_next test y ys in let o : one (test y) ≡ 0 = ap one e in
-    find_one test ys (λ z. h (omega (arith, n, o, z))))
-  where
-    pick : (b : Bool) → test y ≡ b → (test y ≡ false → (k : ℕ) × (x : A) × (slice_get ys k ≡ Some x) × IsTrue (test x))
-        → (k : ℕ) × (x : A) × (slice_get (y ∷ ys) k ≡ Some x) × IsTrue (test x)
-    pick true e rest = (0, y, refl, e)
-    pick false e rest = let r = rest e in (suc r.0, r.1, r.2, r.3)
 
 pub same_or : (n m : ℕ) → (n ≡ m) ⊎ (n ≢ m)
 same_or n m = grind arith
@@ -231,12 +217,31 @@ newest_none s t xs (suc n) e = go (is_of s (slice_get xs n)) refl e (newest_none
     go false h e before = let a = at_skip s t (slice_get xs n) h in let r = before e in omega (arith, a, r)
 
 -- ==== The numbers that are kept of tasks stay right when a task is written or added.
-pub one_here : (n m : ℕ) (b : Bool) → n ≡ m → one ((n == m) && b) ≡ one b
-one_here n m true e = grind (arith, nat_tests, e)
-one_here n m false e = grind (arith, nat_tests, e)
+pub and_here : (n m : ℕ) (b : Bool) → n ≡ m → ((n == m) && b) ≡ b
+and_here n m b e = ap (λ (c : Bool). c && b) (eq-eqb n m e)
 
 pub one_else : (n m : ℕ) (b : Bool) → n ≢ m → one ((n == m) && b) ≡ 0
 one_else n m b o = grind (arith, nat_tests, o)
+
+-- `moved` counts one task less and one more
+abbrev pub Moved : ℕ → ℕ → Bool → Bool → Type 0
+Moved n m from to = one from ≤ n → n ≤ MAX_TASKS → m + one from ≡ n + one to
+
+-- n tasks passed, and m do when one is written or added
+pub tally_set : {n m : ℕ} (f : Task → Bool) (ts : List Task) (t : ℕ) (x y : Task) (b d : Bool) → n ≡ count_where f ts
+    → length ts ≤ MAX_TASKS → slice_get ts t ≡ Some x → b ≡ f x → d ≡ f y → Moved n m b d → m ≡ count_where f (set ts t y)
+tally_set f ts t x y b d c few is g h moved = let s = count_set f ts t x y is in let a = count_at f ts t x is in
+    let k = count_few f ts in let p = ap one g in let q = ap one h in
+    let e = moved (omega (arith, c, a, p)) (omega (arith, c, k, few)) in omega (arith, c, s, p, q, e)
+
+pub tally_push : {n m : ℕ} (f : Task → Bool) (ts : List Task) (y : Task) (d : Bool) → n ≡ count_where f ts → length ts ≤ MAX_TASKS
+    → d ≡ f y → Moved n m false d → m ≡ count_where f (ts ++ y ∷ [])
+tally_push {n} {m} f ts y d c few h moved = let s = count_push f ts y in let k = count_few f ts in let q = ap one h in
+    let e : m + 0 ≡ n + one d = moved (omega arith) (omega (arith, c, k, few)) in omega (arith, c, s, q, e)
+
+-- a reader counts entries
+pub entries_of : (test : Entry → Bool) (ts : List Task) → count_where test (map entry_of ts) ≡ count_where (λ x. test (entry_of x)) ts
+entries_of test ts = count_map test entry_of (λ x. test (entry_of x)) ts (λ x. refl)
 
 -- ---- ready tasks
 -- one number is written, and the numbers of tasks change so
@@ -253,72 +258,30 @@ ready_written {ts} {new} {rs} class m c l other here = record {
   ];
 }
 
--- `moved` counts one task less and one more
-abbrev pub Moved : ℕ → ℕ → Bool → Bool → Type 0
-Moved n m from to = one from ≤ n → n ≤ MAX_TASKS → m + one from ≡ n + one to
-
 pub ready_set : {ts : List Task} {rs : List ℕ} (t m : ℕ) (x y : Task) (b d : Bool) → AreCounts ts rs → length ts ≤ MAX_TASKS
     → slice_get ts t ≡ Some x → x.class < 4 → y.class ≡ x.class → b ≡ may_begin x → d ≡ may_begin y
     → Moved (slice_index_or rs x.class 0) m b d → AreCounts (set ts t y) (set rs x.class m)
 ready_set {ts} {rs} t m x y b d c few is l same f g moved = ready_written x.class m c l
     (λ n o. let s = count_set (is_ready n) ts t x y is in let u = one_else x.class n (may_begin x) (λ h. o (sym h)) in
     let v = one_else y.class n (may_begin y) (λ h. o (sym h ∙ same)) in omega (arith, s, u, v))
-    (λ r. let s = count_set (is_ready x.class) ts t x y is in let u = one_here x.class x.class (may_begin x) refl in
-    let v = one_here y.class x.class (may_begin y) same in let p = ap one f in let q = ap one g in
-    let a = count_at (is_ready x.class) ts t x is in let k = count_few (is_ready x.class) ts in
-    let e = moved (omega (arith, r, a, u, p)) (omega (arith, r, k, few)) in omega (arith, r, s, u, v, p, q, e))
+    (λ r. tally_set (is_ready x.class) ts t x y b d r few is (f ∙ sym (and_here x.class x.class (may_begin x) refl))
+    (g ∙ sym (and_here y.class x.class (may_begin y) same)) moved)
 
 pub ready_push : {ts : List Task} {rs : List ℕ} (m : ℕ) (y : Task) (d : Bool) → AreCounts ts rs → length ts ≤ MAX_TASKS → y.class < 4
     → d ≡ may_begin y → Moved (slice_index_or rs y.class 0) m false d → AreCounts (ts ++ y ∷ []) (set rs y.class m)
 ready_push {ts} {rs} m y d c few l g moved = ready_written y.class m c l
     (λ n o. let s = count_push (is_ready n) ts y in let v = one_else y.class n (may_begin y) (λ h. o (sym h)) in omega (arith, s, v))
-    (λ r. let s = count_push (is_ready y.class) ts y in let v = one_here y.class y.class (may_begin y) refl in let q = ap one g in
-    let k = count_few (is_ready y.class) ts in
-    let e : m + 0 ≡ slice_index_or rs y.class 0 + one d = moved (omega arith) (omega (arith, r, k, few)) in omega (arith, r, s, v, q, e))
+    (λ r. tally_push (is_ready y.class) ts y d r few (g ∙ sym (and_here y.class y.class (may_begin y) refl)) moved)
 
 pub ready_few : {ts : List Task} {rs : List ℕ} (class : ℕ) → AreCounts ts rs → length ts ≤ MAX_TASKS → class < 4
     → slice_index_or rs class 0 ≤ MAX_TASKS
 ready_few {ts} class c few l = let r = c.right class 0 l in let k = count_few (is_ready class) ts in omega (arith, r, k, few)
-
--- ---- tasks that pass a test
-pub tally_few : {n : ℕ} (test : Entry → Bool) (ts : List Task) → n ≡ count_where test (map entry_of ts) → length ts ≤ MAX_TASKS → n ≤ MAX_TASKS
-tally_few test ts c few = let f = count_few test (map entry_of ts) in let l = length-map ts entry_of in omega (arith, c, f, l, few)
-
-pub tally_set : {n m : ℕ} (test : Entry → Bool) (ts : List Task) (t : ℕ) (x y : Task) (b d : Bool) → n ≡ count_where test (map entry_of ts)
-    → length ts ≤ MAX_TASKS → slice_get ts t ≡ Some x → b ≡ test (entry_of x) → d ≡ test (entry_of y) → Moved n m b d
-    → m ≡ count_where test (map entry_of (set ts t y))
-tally_set test ts t x y b d c few is f g moved = let i = map_get entry_of ts t x is in
-    let s = count_set test (map entry_of ts) t (entry_of x) (entry_of y) i in let a = count_at test (map entry_of ts) t (entry_of x) i in
-    let w : count_where test (map entry_of (set ts t y)) ≡ count_where test (set (map entry_of ts) t (entry_of y)) =
-    ap (count_where test) (map-set entry_of ts t y) in let p = ap one f in let q = ap one g in
-    let e = moved (omega (arith, c, a, p)) (tally_few test ts c few) in omega (arith, c, s, w, p, q, e)
-
-pub tally_push : {n m : ℕ} (test : Entry → Bool) (ts : List Task) (y : Task) (d : Bool) → n ≡ count_where test (map entry_of ts)
-    → length ts ≤ MAX_TASKS → d ≡ test (entry_of y) → Moved n m false d → m ≡ count_where test (map entry_of (ts ++ y ∷ []))
-tally_push {n} {m} test ts y d c few g moved = let s = count_push test (map entry_of ts) (entry_of y) in
-    let w : count_where test (map entry_of (ts ++ y ∷ [])) ≡ count_where test (map entry_of ts ++ entry_of y ∷ []) =
-    ap (count_where test) (map-append entry_of ts (y ∷ [])) in let q = ap one g in
-    let e : m + 0 ≡ n + one d = moved (omega arith) (tally_few test ts c few) in omega (arith, c, s, w, q, e)
 
 -- ---- what the bodies read
 pub read_at : {ts now : List Task} {class : ℕ} (t : ℕ) (x : Task) → ts ≡ now → HasClass t class now → x ≡ slice_index_or ts t x
     → (slice_get ts t ≡ Some x) × (class ≡ x.class)
 read_at {ts} {now} t x same h e = let is = ap (λ (xs : List Task). slice_get xs t) same ∙ h.is in
     let q : h.task ≡ x = sym (e ∙ get_or_from_slice_get ts t h.task x is) in (is ∙ ap Some q, h.same ∙ ap (λ (z : Task). z.class) q)
-
-pub set_classes : (ts : List Task) (t : ℕ) (x y : Task) → ((u : ℕ) (z : Task) → slice_get ts u ≡ Some z → z.class < 4) → slice_get ts t ≡ Some x
-    → y.class ≡ x.class → (u : ℕ) (z : Task) → slice_get (set ts t y) u ≡ Some z → z.class < 4
-set_classes ts t x y h is same u z g = elim (set_apart ts t u z y g) [
-  | inl o ↦ h u z o.0
-  | inr o ↦ (let l = h t x is in let q = ap (λ (w : Task). w.class) o.1 in omega (arith, l, q, same))
-]
-
-pub push_classes : (ts : List Task) (y : Task) → ((u : ℕ) (z : Task) → slice_get ts u ≡ Some z → z.class < 4) → y.class < 4
-    → (u : ℕ) (z : Task) → slice_get (ts ++ y ∷ []) u ≡ Some z → z.class < 4
-push_classes ts y h l u z g = elim (last_cases ts u z y g) [
-  | inl o ↦ h u z o
-  | inr o ↦ (let q = ap (λ (w : Task). w.class) o.1 in omega (arith, l, q))
-]
 
 -- ---- the first n tasks are as they were described
 abbrev pub reset_to : ℕ → List Task → List Task
@@ -328,29 +291,12 @@ pub reset_at : {ts : List Task} (first : List Task) (n : ℕ) (x : Task) → ts 
     → set ts n (as_new x) ≡ reset_to (n + 1) first
 reset_at {ts} first n x e l is = map_over_more as_new first ts n x l e (sym (get_or_from_slice_get ts n x x is))
 
--- the numbers of these items are right
-pub counted_items : {ts : List Task} (p : TasksInside) → p.items.items ≡ ts → length ts ≤ MAX_TASKS
-    → ((t : ℕ) (x : Task) → slice_get ts t ≡ Some x → x.class < 4) → AreCounts ts p.ready → p.left ≡ count_where is_unfinished (map entry_of ts)
-    → p.running ≡ count_where is_dispatched (map entry_of ts) → p.awaiting ≡ count_where is_awaiting (map entry_of ts) → AreCounted p
-counted_items p e few classes ready left running awaiting = let s = sym e in record {
-  few = subst (λ (xs : List Task). length xs ≤ MAX_TASKS) s few;
-  classes = subst (λ (xs : List Task). (t : ℕ) (x : Task) → slice_get xs t ≡ Some x → x.class < 4) s classes;
-  ready = subst (λ (xs : List Task). AreCounts xs p.ready) s ready;
-  left = subst (λ (xs : List Task). p.left ≡ count_where is_unfinished (map entry_of xs)) s left;
-  running = subst (λ (xs : List Task). p.running ≡ count_where is_dispatched (map entry_of xs)) s running;
-  awaiting = subst (λ (xs : List Task). p.awaiting ≡ count_where is_awaiting (map entry_of xs)) s awaiting;
-}
-
 -- ---- the search
 pub le_or : (n m : ℕ) → (n ≤ m) ⊎ (m < n)
 le_or n m = grind arith
 
-ready_parts : (class : ℕ) (x : Task) → IsTrue (is_ready class x) → (x.class ≡ class) × IsTrue (may_begin x)
-ready_parts class x h = let p = and_parts (x.class == class) (may_begin x) h in (eqb-true x.class class p.0, p.1)
-
 pub not_here : (k : ℕ) (b : Bool) {P : Type 0} → IsFalse ((k == k) && b) → IsTrue b → P
-not_here k true h g = absurd (grind (arith, nat_tests, h))
-not_here k false h g = cc
+not_here k b h g = let e = sym g ∙ (sym (and_here k k b refl) ∙ h) in cc
 
 pub first_of : (ts : List Task) (class : ℕ) (o : Option ℕ) → IfSome o (λ t. IsTrue (ready_at class (slice_get ts t)))
     → ((k : ℕ) → k < class → NoneOf k ts) → IfSome o (λ t. ComesFirst t ts)
@@ -359,12 +305,12 @@ first_of ts class (Some t) h below = by_task (slice_get ts t) refl h
   where
     by_task : (o : Option Task) → slice_get ts t ≡ o → IsTrue (ready_at class o) → ComesFirst t ts
     by_task None is g = cc
-    by_task (Some x) is g = let p = ready_parts class x g in record {
+    by_task (Some x) is g = let p = and_parts (x.class == class) (may_begin x) g in record {
       task = x;
       is = is;
       ready = p.1;
       lowest = λ u y h m. elim (le_or class y.class) [
-        | inl l ↦ (let e = p.0 in omega (arith, e, l))
+        | inl l ↦ (let e = eqb-true x.class class p.0 in omega (arith, e, l))
         | inr l ↦ not_here y.class (may_begin y) (sym (ap (ready_at y.class) h) ∙ below y.class l u) m
       ];
     }
@@ -373,10 +319,7 @@ first_of ts class (Some t) h below = by_task (slice_get ts t) refl h
 pub found_of : (ts : List Task) (class : ℕ) (P : Type 0) (o : Option ℕ) → IfNone o (NoneOf class ts) → count_where (is_ready class) ts ≢ 0
     → IfNone o P
 found_of ts class P (Some t) h some = h
-found_of ts class P None h some = let g = find_one (is_ready class) ts some in absurd (no _ g.3 (sym (ap (ready_at class) g.2) ∙ h g.0))
-  where
-    no : (b : Bool) → IsTrue b → IsFalse b → ⊥
-    no b x y = cc
+found_of ts class P None h some = absurd (some (count_zero (is_ready class) ts (λ k x g. ap one (sym (ap (ready_at class) g) ∙ h k))))
 
 pub none_more : (ts : List Task) (class : ℕ) → ((k : ℕ) → k < class → NoneOf k ts) → count_where (is_ready class) ts ≡ 0
     → (k : ℕ) → k < class + 1 → NoneOf k ts
@@ -387,5 +330,4 @@ none_more ts class below z k l t = elim (le_or class k) [
   where
     by_task : (k : ℕ) → k ≡ class → (o : Option Task) → slice_get ts t ≡ o → IsFalse (ready_at k o)
     by_task k e None is = refl
-    by_task k e (Some x) is = subst (λ (j : ℕ). IsFalse (is_ready j x)) (sym e)
-        (one_zero (is_ready class x) (count_none (is_ready class) ts t x z is))
+    by_task k e (Some x) is = subst (λ (j : ℕ). IsFalse (is_ready j x)) (sym e) (count_none (is_ready class) ts t x z is)

@@ -1,7 +1,5 @@
 use Rattle.tp_dag.proofs.Lemmas.{◌∙◌, arith, map, ap, sym, IsTrue, common_steps, Task, entry_of, events_of, is_running, running_stage, at}
-use Rattle.tp_dag.proofs.Lemmas.{room_for_one, room_set, room_same, may_pass_on, goes_to, never, runs_started}
-use Rattle.tp_dag.specs.declared.entry.Stage.TheVariants as stage
-use Rattle.tp_dag.specs.declared.entry.Event.TheVariants as event
+use Rattle.tp_dag.proofs.Lemmas.{room_for_one, room_set, room_same, may_pass_on, goes_to, runs_started}
 use Rattle.tp_dag.proofs.pool.Pool.done.Goals as goal
 
 pub record-requires : goal.record-requires
@@ -13,21 +11,21 @@ record-requires c = λ h. let x : Task = c.in-Some.was in let is = sym c.in-Some
 pub pass_on-requires : goal.pass_on-requires
 pass_on-requires c = let x : Task = c.in-Some.was in
     let r : IsTrue (is_running x.stage) = grind (arith, common_steps) in
-    rw (c.set.ensures, c.deref.ensures.value) (may_pass_on c.args.task x c.self.invariant.facts (sym c.in-Some.ensures) (running_stage x.stage r))
+    rw (c.put.ensures, c.deref.ensures.value) (may_pass_on c.args.task x c.self.invariant.facts (sym c.in-Some.ensures) (running_stage x.stage r))
 
 pub invariant_of-self : goal.invariant_of-self
 invariant_of-self c = let x : Task = c.in-Some.was in let is = sym c.in-Some.ensures in
     let r : IsTrue (is_running x.stage) = grind (arith, common_steps) in let b = running_stage x.stage r in
     let n = c.record.ensures.count in let started = runs_started c.self.inside.tasks c.args.task x c.self.invariant.room is b in record {
       facts = rw c.deref.ensures.value at c.pass_on.ensures.facts;
-      room = room_same _ (room_set c.self.inside.tasks c.args.task x (at stage.Done x) _ _ c.self.invariant.room is
+      room = room_same _ (room_set c.self.inside.tasks c.args.task x (at _ x) _ _ c.self.invariant.room is
           (let o = ap events_of b in omega (arith, o, n)) (let r = c.record.ensures.room in omega (arith, r))
-          (λ h. absurd (never started h)) (λ h. absurd (never started h)))
-          (c.pass_on.ensures.same ∙ ap (map entry_of) c.set.ensures);
+          (λ h. cc) (λ h. cc))
+          (c.pass_on.ensures.same ∙ ap (map entry_of) c.put.ensures);
       settled = c.self.invariant.settled;
     }
 
 pub returns-clause-ok : goal.returns-clause-ok
 returns-clause-ok c = let x : Task = c.in-Some.was in let r : IsTrue (is_running x.stage) = grind (arith, common_steps) in
-    goes_to c.self.inside c.args.task x stage.Running stage.Done (event.Done c.args.task) _ _ c.self.view_is (sym c.in-Some.ensures)
-    (running_stage x.stage r) (c.pass_on.ensures.same ∙ ap (map entry_of) c.set.ensures) c.record.ensures.kept
+    goes_to c.self.inside c.args.task x _ _ _ _ _ c.self.view_is (sym c.in-Some.ensures)
+    (running_stage x.stage r) (c.pass_on.ensures.same ∙ ap (map entry_of) c.put.ensures) c.record.ensures.kept

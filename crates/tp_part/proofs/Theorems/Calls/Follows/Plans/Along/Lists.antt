@@ -2,6 +2,29 @@
 pub mod Words
 pub use Words.*
 
+-- what is at a place of a list of which one place was written, or to which one thing was added
+pub set_apart : {A : Type 0} (xs : List A) (i k : ℕ) (x y : A) → slice_get (set xs i y) k ≡ Some x
+    → ((slice_get xs k ≡ Some x) × (k ≢ i)) ⊎ ((k ≡ i) × (x ≡ y))
+set_apart {A = A} xs i k x y = all_set (λ (j : ℕ) (z : A). ((slice_get xs j ≡ Some z) × (j ≢ i)) ⊎ ((j ≡ i) × (z ≡ y))) xs i y
+    (λ j z g n. inl (g, n)) (inr (refl, refl)) k x
+
+pub last_cases : {A : Type 0} (xs : List A) (k : ℕ) (x y : A) → slice_get (xs ++ y ∷ []) k ≡ Some x
+    → (slice_get xs k ≡ Some x) ⊎ ((k ≡ length xs) × (x ≡ y))
+last_cases {A = A} xs k x y = all_push (λ (j : ℕ) (z : A). (slice_get xs j ≡ Some z) ⊎ ((j ≡ length xs) × (z ≡ y))) xs y
+    (λ j z g. inl g) (λ j e. inr (e, refl)) k x
+
+-- if the number is not 0, one passes
+pub find_one : {A : Type 0} (test : A → Bool) (xs : List A) → count_where test xs ≢ 0
+    → (k : ℕ) × (x : A) × (slice_get xs k ≡ Some x) × IsTrue (test x)
+find_one {A = A} test [] h = absurd (h refl)
+find_one {A = A} test (y ∷ ys) h = pick (test y) refl (λ e. let n = count_next test y ys in let o : one (test y) ≡ 0 = ap one e in
+    find_one test ys (λ z. h (omega (arith, n, o, z))))
+  where
+    pick : (b : Bool) → test y ≡ b → (test y ≡ false → (k : ℕ) × (x : A) × (slice_get ys k ≡ Some x) × IsTrue (test x))
+        → (k : ℕ) × (x : A) × (slice_get (y ∷ ys) k ≡ Some x) × IsTrue (test x)
+    pick true e rest = (0, y, refl, e)
+    pick false e rest = let r = rest e in (suc r.0, r.1, r.2, r.3)
+
 pub there : {A : Type 0} (xs : List A) (k : ℕ) (x y : A) → slice_get xs k ≡ Some x → slice_get xs k ≡ Some y → x ≡ y
 there xs k x y a b = some_same x y (sym a ∙ b)
 

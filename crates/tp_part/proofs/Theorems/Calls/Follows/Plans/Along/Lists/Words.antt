@@ -18,10 +18,9 @@ pub use Rattle.std.specs.List.{slice_index_or, list_any, list_all}
 pub use Rattle.std.specs.Vec.{vec_capacity}
 pub use Rattle.tp_dag.specs.State.{count_where, Input, PoolState, Entry, is_fresh, is_done, count_below}
 pub use Rattle.tp_dag.specs.Counted.{one}
-pub use Rattle.tp_dag.proofs.Lemmas.Changes.Keeping.Lists.{set_apart, set_here, set_there, get_push, some_same, last_cases, at_below}
+pub use Rattle.tp_dag.proofs.Lemmas.Changes.Keeping.Lists.{all_set, all_push, set_here, set_there, get_push, some_same, at_below, le_or}
 pub use Rattle.tp_dag.proofs.Lemmas.Changes.Keeping.Lists.{map_get, map_got, map_same, count_next, count_none, count_at, count_zero}
-pub use Rattle.tp_dag.proofs.Lemmas.Changes.Keeping.Lists.{count_few, count_sum, count_set, count_push, find_one, same_or, count_same}
-pub use Rattle.tp_dag.proofs.Lemmas.Changes.Keeping.Lists.{le_or}
+pub use Rattle.tp_dag.proofs.Lemmas.Changes.Keeping.Lists.{count_few, count_sum, count_set, count_push, same_or, count_same}
 pub use Rattle.tp_part.specs.declared.edges.Edge.{Edge}
 pub use Rattle.tp_part.specs.Edges.{is_of, newest, places, is_edge, has_edge, new_edge, passed_on, pass, pass_one}
 pub use Rattle.std.specs.Option.{is_some, option_map}
