@@ -311,7 +311,7 @@ static bool costs_nothing_elsewhere() {
     long before = allocations;
     GraphData<int> a(graph, 0);
     GraphData<double[]> c(graph, 0, 1000);
-    bool well = allocations - before == (me == 0 ? 2 : 0);
+    bool well = me == 0 ? allocations > before : allocations == before;
     before = allocations;
     for (int t = 0; t < 1000; t++) graph.task([t](int &x, int y) { x += y + t; }, update(a), read(b));
     well &= me == 0 ? allocations - before >= 1000 : allocations == before;
