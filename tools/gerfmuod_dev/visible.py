@@ -14,7 +14,7 @@ from .contracts import TYPE, Function, block_at, contracts_of, items_of, owner_o
 from .mutant_files import Fault
 from .repository import text_of
 
-GHOST_IMPORT = re.compile(r"^ *(?:pub )?(?:ghost )?use Rattle\.(\w+)\.specs\.([\w.]+?)(?:\.\{([^}]*)\})?(?: as (\w+))?;?$", re.M)
+GHOST_IMPORT = re.compile(r"^ *(?:pub )?(?:ghost )?use Rattle\.(\w+)\.specs(?:\.([\w.]+?))?(?:\.\{([^}]*)\})?(?: as (\w+))?;?$", re.M)
 GHOST_PATH = re.compile(r"Rattle\.(\w+)\.specs\.([\w.]*\w)")
 IMPORT = re.compile(r"^ *(?:pub )?use (\w+)::(?:[\w:]*::)?(?:\{([^}]*)\}|(\w+));$", re.M)
 PATH = re.compile(r"\b(\w+)::(?:\{([^}]*)\}|(\w+))")
@@ -93,8 +93,9 @@ def ghost_imports_in(text):
     """Returns what a text imports from specs, as pairs of a name and a part; a name that the text calls in full is empty."""
     found = []
     for crate, file, several, alias in GHOST_IMPORT.findall(text):
-        names = listed(several, alias or file.split(".")[-1])
-        found += [(name, part) for name in names for part in definitions(crate, file, (name,))]
+        # (a name in braces may begin with the path of its file)
+        for *path, name in (whole.split(".") for whole in listed(several, alias or file.split(".")[-1])):
+            found += [(name, part) for part in definitions(crate, ".".join(filter(None, [file, *path])), (name,))]
     rest = GHOST_IMPORT.sub("", text)
     return found + [("", part) for crate, file in GHOST_PATH.findall(rest) for part in definitions(crate, file, ())]
 

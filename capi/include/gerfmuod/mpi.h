@@ -74,7 +74,7 @@ void gerfmuod_mpi_task_on(gerfmuod_mpi *graph, uint32_t class_, gerfmuod_mpi_bod
 GERFMUOD_CHECKED uint32_t gerfmuod_mpi_run(gerfmuod_mpi *graph, uint32_t threads);
 
 /* After a run that returned STOPPED: the process and the number of the task whose body failed, tasks counted from 0 in the order of their
- * description. If several failed, the lowest process's. */
+ * description. If several failed, one of them, the same in every process. */
 void gerfmuod_mpi_failed(const gerfmuod_mpi *graph, int *process, uint32_t *task);
 
 /* The number of messages that this process sent. */
