@@ -14,6 +14,6 @@ gerfmuod_core_trace_spec 𝓤 𝓛 𝓜 𝓡 wired =
     (((α ∷ [], κs), (full_share, qs), tt, (lent b o γ n, a), (vptr b o ∷ [], values 𝓛 1 p κs a)), tt))
     (λ κs a b o ts Q. enter ! _ _ _ _ _ $ alloc_all ! (λ l. pass_all ! refl ((tt, tt), ts) $ takes 𝓛 _ ! refl ((tt, tt), (tt, tt)) $
     sets ! (addr ! (from ! (fld ! refl (hop ! (look_in_at ! 3 (sub ! 0 refl (whole !))) (stop !))))) refl (tt, tt) $
-    sets ! (agg ! (and_then ! (get ! refl) (and_then ! (get_in ! (fld ! refl (stop !)) (sub ! 1 refl (whole !))) (no_more !)))) refl ts.1.0 $
-    hands_on 𝓛 _ ! (frames 𝓛 𝓜 𝓡) (and_then ! (get ! refl) (and_then ! (get ! refl) (and_then ! (get ! refl) (no_more !))))
+    sets ! (agg ! (and_then ! (get ! refl) (and_then ! (get_in ! (fld ! refl (stop !)) (sub ! 1 refl (whole !))) (no_more !)))) refl
+    ts.1.0 $ hands_on 𝓛 _ ! (frames 𝓛 𝓜 𝓡) (and_then ! (get ! refl) (and_then ! (get ! refl) (and_then ! (get ! refl) (no_more !))))
     (λ v. refl) (λ v. free_all ! refl $ done !)))
