@@ -15,7 +15,7 @@ import tempfile
 from .repository import TOP, files_in, text_of
 
 INCLUDE, SOURCES = f"{TOP}/capi/include", f"{TOP}/capi/src"
-FORTRAN_MODULES = files_in(f"{TOP}/capi/fortran")
+FORTRAN_MODULES = [f"{TOP}/capi/fortran/{name}.f90" for name in ("gerfmuod", "gerfmuod_mpi")]
 # what is installed for compilers
 HEADERS = [*files_in(INCLUDE), *FORTRAN_MODULES]
 TEAM = f"{SOURCES}/gerfmuod_team.c"
