@@ -3,7 +3,8 @@
 FOLDER gets the crate NAME, a program that runs a graph by threads and prints the results, and the crates that it is built on, without
 their mutants, with what `make` proved of them. With `--like chain` NAME is a copy of the crate chain, a chain of tasks that add; with
 `--like prefix` of the crate prefix, rows of tasks by a relation and a kernel, with a program that reads numbers; with `--like rod` of the
-rod of pool_blocks, cells in blocks, with the program of tools/data/rod_run. docs/RUNNING-A-POOL.md describes the next steps.
+rod of pool_blocks, cells in blocks, and with `--like intervals` of the chain of matrices of pool_intervals, with the programs of
+tools/data/rod_run and intervals_run. docs/RUNNING-A-POOL.md describes the next steps.
 
 Prints what to type next. The status is 1 if nothing was created, because the folder is not empty or the name is not free.
 """
@@ -17,15 +18,20 @@ from .build import NOT_COPIED, keep
 from .library import kit
 from .repository import text_of
 
-# for each kind the crate that it copies; of the rod's these parts, next to a program, and the rest stays a crate below
-KINDS = {"chain": "chain", "prefix": "prefix", "rod": "pool_blocks"}
-PROGRAM = "tools/data/rod_run"
-PARTS = (
-    "src/heat.rt", "src/rod_mix.rt", "src/rod_result.rt", "specs/Heats.antt", "specs/HeatLaws.antt",
-    "proofs/Sweeps.antt", "proofs/RodCuts.antt", "proofs/heat", "proofs/rod_mix",
-)
-# its line in crates.txt, where the others have that of the copied crate
-BELOW = {"rod": " may_wait=2: tp_base tp_graph pool_blocks tp_work"}
+# for each kind the crate that it copies; of some only these parts, next to a program, and the rest stays a crate below
+KINDS = {"chain": "chain", "prefix": "prefix", "rod": "pool_blocks", "intervals": "pool_intervals"}
+PARTS = {
+    "rod": (
+        "src/heat.rt", "src/rod_mix.rt", "src/rod_result.rt", "specs/Heats.antt", "specs/HeatLaws.antt",
+        "proofs/Sweeps.antt", "proofs/RodCuts.antt", "proofs/heat", "proofs/rod_mix",
+    ),
+    "intervals": ("src/matrix_chain.rt", "specs/MatrixChains.antt", "proofs/MatrixCosts.antt", "proofs/matrix_chain"),
+}
+# their lines in crates.txt, where the others have that of the copied crate
+BELOW = {
+    "rod": " may_wait=2: tp_base tp_graph pool_blocks tp_work",
+    "intervals": " may_wait=3: tp_base tp_graph pool_intervals tp_work",
+}
 # the end of the name of a file that is none of the repository's own code until it is copied
 TEMPLATE = ".text"
 
@@ -47,12 +53,12 @@ def fault_of(folder, name):
 def rename(folder, kind, new):
     """Gives the copied modules the new name of their crate, in each file that names it, and templates the names of their copies."""
     old, modules = KINDS[kind], r"\w+"
-    if kind == "rod":
-        modules = "|".join(os.path.splitext(os.path.basename(part))[0] for part in PARTS)
+    if kind in PARTS:
+        modules = "|".join(os.path.splitext(os.path.basename(part))[0] for part in PARTS[kind])
     for path in repository.files_in(folder):
         # only as a crate: the chain's own name is a plain word elsewhere
         text = re.sub(rf"\bRattle\.{old}(?=\.(?:specs|proofs)\.(?:{modules})\b)", f"Rattle.{new}", text_of(path))
-        if kind == "rod":
+        if kind in PARTS:
             # what a part takes from the root of its crate
             text = text.replace("use crate::{", f"use {old}::{{")
         os.remove(path)
@@ -67,8 +73,8 @@ def create(folder, name, kind):
     for crate in lower:
         shutil.copytree(f"crates/{crate}", f"{folder}/crates/{crate}", ignore=NOT_COPIED)
     target, copied = f"{folder}/crates/{name}", f"crates/{source}"
-    shutil.copytree(PROGRAM if kind == "rod" else copied, target, ignore=NOT_COPIED)
-    for part in PARTS if kind == "rod" else ():
+    shutil.copytree(f"tools/data/{kind}_run" if kind in PARTS else copied, target, ignore=NOT_COPIED)
+    for part in PARTS.get(kind, ()):
         (shutil.copytree if os.path.isdir(f"{copied}/{part}") else shutil.copy2)(f"{copied}/{part}", f"{target}/{part}")
     rename(f"{folder}/crates/{name}", kind, name)
     with open(f"{folder}/crates.txt", "w", encoding="utf-8") as out:
