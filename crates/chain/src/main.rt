@@ -17,8 +17,8 @@ use std::io;
 use std::sync::Wait;
 use std::thread::Threads;
 use tp_base::TaskId;
-use tp_graph::{Value, in_order};
-use tp_work::{Config, Fault, OpenGate, run_pool};
+use tp_graph::Value;
+use tp_work::{Config, Fault, run_in_order};
 
 fn main(rt: HostRuntime) -> io::Result<()> {
     let (length, config) = (4, Config::new(2, 2));
@@ -49,7 +49,7 @@ fn main(rt: HostRuntime) -> io::Result<()> {
 }
 
 /// Returns the value of each task of a chain of `length` tasks, in rising order, computed by a pool of threads: the sum
-/// of the numbers up to its own. Refused as [`run_pool`] is.
+/// of the numbers up to its own. Refused as [`run_in_order`] is.
 fn run_chain<R: Threads + Wait + Sync>(
     rt: &R,
     alloc: Global,
@@ -61,6 +61,5 @@ fn run_chain<R: Threads + Wait + Sync>(
     ensures sums { IfOk result (λ results. AreSums length results.items) }
     ensures fault { IfErr result (IsFault config.nodes (chain_graph length)) }
 {
-    let outcome = run_pool(rt, alloc, Chain { length }, config, &OpenGate)?;
-    Ok(in_order(outcome.results))
+    Ok(run_in_order(rt, alloc, Chain { length }, config)?)
 }
