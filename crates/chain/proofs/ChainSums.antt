@@ -1,12 +1,8 @@
 -- The tasks of the chain compute the sums.
+use Rattle.chain.specs.{Chains.{chain_graph, chain_lawful, number_and_input}, Sums.{AreSums, sum_to}}
 use Rattle.std.proofs.Common.{◌≡◌, ◌<◌, ◌+◌, ◌-◌, ℕ, zero, suc, ℤ, pos, List, [], ◌∷◌, length, get_or, Some, refl, sym, ap, ◌∙◌, false}
-use Rattle.std.proofs.Common.{nat_eq, arith}
-use Rattle.std.proofs.lemmas.Bool.Decides.{nat_tests}
-use Rattle.tp_graph.proofs.Made.{inputs_of, some_same}
-use Rattle.tp_graph.specs.Serial.{AreValues, Results}
-use Rattle.tp_graph.specs.Values.{value_of}
-use Rattle.chain.specs.Chains.{chain_graph, chain_lawful, number_and_input}
-use Rattle.chain.specs.Sums.{AreSums, sum_to}
+use Rattle.std.proofs.{Common.{nat_eq, arith}, lemmas.Bool.Decides.nat_tests}
+use Rattle.tp_graph.{proofs.Made.{inputs_of, some_same}, specs.{Serial.{AreValues, Results}, Values.value_of}}
 
 -- the result of the rule on no input, and on one
 of_none : (t : ℕ) (inputs : List (List ℤ)) (value : List ℤ) → length inputs ≡ 0 → number_and_input t inputs ≡ Some value

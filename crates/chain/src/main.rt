@@ -2,10 +2,9 @@
 //! checks that the tasks and feeds are in order, for a graph of your own whose laws are not proved yet.
 #![tactic(auto)]
 
+ghost use Rattle.chain.specs.{Chains.chain_graph, Sums.AreSums};
 ghost use Rattle.std.specs.Prelude.{IfErr, IfOk};
 ghost use Rattle.tp_graph.specs.Serial.{AreValues};
-ghost use Rattle.chain.specs.Chains.{chain_graph};
-ghost use Rattle.chain.specs.Sums.{AreSums};
 ghost use Rattle.tp_work.specs.Outcomes.{IsFault, IsWithinLimits};
 
 mod graph;

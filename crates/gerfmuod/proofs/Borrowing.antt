@@ -1,71 +1,56 @@
 -- Exported functions that borrow the value at a raw pointer for one call: each passes its arguments on to a function that takes a `&mut`
 -- in place of the pointer, and returns that function's result. Also the names that the proofs of all exports use. Assumes `Logic`.
-pub use Rattle.std.proofs.Common.{◌≡◌, List, [], ◌∷◌, refl, ap, subst, ◌++◌, w32, MutBor, ℕ, zero, suc}
-pub use Rattle.std.proofs.RcSteps.{Good}
-pub use Rattle.std.proofs.raw_atomic.Walks.{proved}
-pub use seplogic.Ra.Ura.{Ura}
+pub use Rattle.gerfmuod.proofs.answer.{Counters.TheLaws.the_row_laws as counters_laws, Settled.TheLaws.the_row_laws as settled_laws}
+pub use Rattle.gerfmuod.proofs.answer.{Status.TheLaws.the_row_laws as status_laws, StepResult.TheLaws.the_row_laws as result_laws}
+pub use Rattle.gerfmuod.proofs.answer.Written.TheLaws.{the_row_laws as written_laws}
+pub use Rattle.gerfmuod.{proofs.graph.answer.GraphResult.TheLaws.the_row_laws as graph_result_laws, specs.Calls.{IsByCall, IsClosed}}
+pub use Rattle.gerfmuod.specs.Calls.{IsCountersCall, IsRestartCall, IsSettleCall, IsStepCall, IsStepsCall, IsTraceCall, IsReserveCall}
+pub use Rattle.gerfmuod.specs.{Calls.{IsStatusCall, raw_step, CoreState, opened, opening}, Part.{GraphState, opened_graph, IsDescribeCall}}
+pub use Rattle.gerfmuod.specs.Part.{IsGraphCall, IsSpawnCall, IsTaskCall, IsPartCall, IsSharedTaskCall, IsTaskOfCall, PartView, opened_part}
+pub use Rattle.gerfmuod.specs.contracts.{answer.StepResult.the_row as result_row, graph.slot.GraphSlot.the_row as graph_row}
+pub use Rattle.gerfmuod.specs.contracts.{part.slot.PartSlot.the_row as part_row, slot.CoreSlot.the_row as core_row}
+pub use Rattle.std.proofs.{Common.{◌≡◌, List, [], ◌∷◌, refl, ap, subst, ◌++◌, w32, MutBor, ℕ, zero, suc}, RcSteps.Good}
+pub use Rattle.std.{proofs.raw_atomic.Walks.proved, specs.contracts.alloc.Global.the_row as Z}
+pub use base.Fml.{Fml, GName, ftrue, fsep, fat, flft, flent, fres, fbor, froom}
 pub use base.Fraction.{full_share}
 pub use base.Logic.{SProp, ent, sep, emp, ex, id⊢}
-pub use mir.Syntax.{Ty, named, Callee, Fn, Opd, Body as Code, seq, call, assign, return, place, copy, deref, rv_opd, addr_of}
-pub use mir.Val.{Val, vint, vptr, vunit}
+pub use borrow.Table.OneValue.{part_in}
+pub use contract.Lifetimes.{Lfts, Shares, toks, lft_at}
 pub use contract.Monad.{fact, Fun}
-pub use types.Logic.{Logic, sem}
-pub use types.Kit.{Item, Seq, mean, ‵, ◌$◌, ◌∵◌, !, qed, done, rewrite, show, raw, ◌⊛◌, some, later, prop, move, keep}
-pub use types.Kit.{drop, use0, use1, use2, use3, updating, now, by, Sq, split, join, fsplit, pick, await, regoal, suffices, group, feq_i}
-pub use types.Kit.{feq_l, frame, fjoin, Post, runs, frees, at_ret, Step, step, nth, del}
-pub use denote.RattleType.{RattleType, owns, Denots, Valss, flat}
-pub use denote.RawPtr.{Ptr, lies_at, RawPtr, block_ptr, in_a_block, rawptr_vals, rawptr_Tells, rawptr_Lawful, room_at}
-pub use denote.Steps.{peeks, nothing, owned, heard}
-pub use denote.Laws.{Is, shows, Are, Ises, Spells, Tells, Tellss, valss}
-pub use denote.Param.{param, layout}
-pub use denote.Param.Laws.{Laws, param_laws, of_field}
-pub use denote.Triple.Walked.{says, Stays, walk_of, stay_dropped, Goes-dropped, ends_at, gave_slice, Goes-gave_slice, AllGo, fits_of}
-pub use denote.Triple.Walked.{has_of, Silent}
-pub use base.Fml.{Fml, GName, ftrue, fsep, fat, flft, flent, fres, fbor, froom}
-pub use prog.Wp.{WpFn, Calls, Closed, Env, Loops, spot_of}
 pub use contract.Running.{tables, Running, MachineTables}
-pub use types.Tokens.{lft_new, lft_end}
-pub use types.SemTy.{Body}
-pub use types.Run.{enter, of_opd, addr, stop, no_more, and_then, returns, unit_lit, init, assigns, land, from, fld, hop, Opds}
-pub use types.ByLocal.{alloc_all, pass_all, free_all, look_at, get, through, sets, lands_as, look_in_at, get_in, AllTyped, at, set, cell}
 pub use denote.Builtin.{u32, u8, usize, unit}
 pub use denote.Exit.{yes}
+pub use denote.Laws.{Is, shows, Are, Ises, Spells, Tells, Tellss, valss}
 pub use denote.Lend.{lends_ref, ref_back}
 pub use denote.Memory.{mem, lone}
+pub use denote.Param.{param, layout, Laws.{Laws, param_laws, of_field}, Shared.copy_shared}
 pub use denote.Plain.{uint_Makes, uint_vals, uint_Tells, uint_Lawful}
+pub use denote.RattleType.{RattleType, owns, Denots, Valss, flat}
+pub use denote.RawPtr.{Ptr, lies_at, RawPtr, block_ptr, in_a_block, rawptr_vals, rawptr_Tells, rawptr_Lawful, room_at}
 pub use denote.Ref.{MutRef}
 pub use denote.Signature.{plain, AllWithin, Slot, type_at, types_at, shr_slice_of, mut_slice_of}
-pub use denote.Triple.Call.{calls_at, calls_from}
-pub use denote.Triple.Clauses.{lasts, Clauses, Ended, closing}
-pub use denote.Triple.Spec.{triple_of, Meets}
-pub use denote.Triple.Table.{framed, Enters, enters}
-pub use borrow.Table.OneValue.{part_in}
-pub use Rattle.gerfmuod.specs.Calls.{IsByCall, IsClosed, IsCountersCall, IsRestartCall, IsSettleCall, IsStepCall, IsStepsCall, IsTraceCall}
-pub use Rattle.gerfmuod.specs.Calls.{IsReserveCall, IsStatusCall, raw_step, CoreState, opened, opening}
-pub use denote.Triple.End.{Kepts, Fins, Outs, all, outs, lasts_of}
-pub use contract.Lifetimes.{Lfts, Shares, toks, lft_at}
-pub use denote.Param.Shared.{copy_shared}
-pub use denote.Struct.Field.{u32-field, usize-field}
-pub use denote.Struct.Laws.{u32-laws, u32-copy, usize-laws, usize-copy}
-pub use denote.Triple.Statement.{FmF}
-pub use prog.Model.{Model}
-pub use sound.WpLaws.{FmC}
 pub use denote.Slice.{shr_slice_vals, shr_slice_Tells, mut_slice_vals, mut_slice_Tells}
+pub use denote.Steps.{peeks, nothing, owned, heard}
+pub use denote.Struct.{Field.{u32-field, usize-field}, Laws.{u32-laws, u32-copy, usize-laws, usize-copy}}
+pub use denote.Triple.{Call.{calls_at, calls_from}, Clauses.{lasts, Clauses, Ended, closing}, End.{Kepts, Fins, Outs, all, outs, lasts_of}}
+pub use denote.Triple.{Spec.{triple_of, Meets}, Statement.FmF, Table.{framed, Enters, enters}, Walked.{says, Stays, walk_of, stay_dropped}}
+pub use denote.Triple.Walked.{Goes-dropped, ends_at, gave_slice, Goes-gave_slice, AllGo, fits_of, has_of, Silent}
+pub use mir.Syntax.{Ty, named, Callee, Fn, Opd, Body as Code, seq, call, assign, return, place, copy, deref, rv_opd, addr_of}
+pub use mir.Val.{Val, vint, vptr, vunit}
+pub use prog.Model.{Model}
+pub use prog.Wp.{WpFn, Calls, Closed, Env, Loops, spot_of}
+pub use seplogic.Ra.Ura.{Ura}
+pub use sound.WpLaws.{FmC}
+pub use types.ByLocal.{alloc_all, pass_all, free_all, look_at, get, through, sets, lands_as, look_in_at, get_in, AllTyped, at, set, cell}
+pub use types.Kit.{Item, Seq, mean, ‵, ◌$◌, ◌∵◌, !, qed, done, rewrite, show, raw, ◌⊛◌, some, later, prop, move, keep, drop, use0, use1}
+pub use types.Kit.{use2, use3, updating, now, by, Sq, split, join, fsplit, pick, await, regoal, suffices, group, feq_i, feq_l, frame, fjoin}
+pub use types.Kit.{Post, runs, frees, at_ret, Step, step, nth, del}
+pub use types.Logic.{Logic, sem}
 pub use types.Part.{whole, sub, agg}
-pub use Rattle.gerfmuod.specs.Part.{GraphState, opened_graph, IsDescribeCall, IsGraphCall, IsSpawnCall, IsTaskCall, IsPartCall}
-pub use Rattle.gerfmuod.specs.Part.{IsSharedTaskCall, IsTaskOfCall, PartView, opened_part}
-pub use Rattle.std.specs.contracts.alloc.Global.{the_row as Z}
+pub use types.Run.{enter, of_opd, addr, stop, no_more, and_then, returns, unit_lit, init, assigns, land, from, fld, hop, Opds}
+pub use types.SemTy.{Body}
+pub use types.Tokens.{lft_new, lft_end}
 use Rattle.std.proofs.alloc.Global.TheLaws as heap
-pub use Rattle.gerfmuod.specs.contracts.slot.CoreSlot.{the_row as core_row}
-pub use Rattle.gerfmuod.specs.contracts.graph.slot.GraphSlot.{the_row as graph_row}
-pub use Rattle.gerfmuod.specs.contracts.part.slot.PartSlot.{the_row as part_row}
-pub use Rattle.gerfmuod.specs.contracts.answer.StepResult.{the_row as result_row}
-pub use Rattle.gerfmuod.proofs.answer.StepResult.TheLaws.{the_row_laws as result_laws}
-pub use Rattle.gerfmuod.proofs.answer.Counters.TheLaws.{the_row_laws as counters_laws}
-pub use Rattle.gerfmuod.proofs.answer.Settled.TheLaws.{the_row_laws as settled_laws}
-pub use Rattle.gerfmuod.proofs.answer.Status.TheLaws.{the_row_laws as status_laws}
-pub use Rattle.gerfmuod.proofs.answer.Written.TheLaws.{the_row_laws as written_laws}
-pub use Rattle.gerfmuod.proofs.graph.answer.GraphResult.TheLaws.{the_row_laws as graph_result_laws}
 
 module _ {M : Type 1} {𝓤 : Ura M} (𝓛 : Logic 𝓤) (R : RattleType) where
   -- The memory at p has some value with the property P.

@@ -1,13 +1,12 @@
 -- The name and the meaning of each refusal of the library, by its number.
+use Rattle.gerfmuod.specs.Wire.{refused_as}
 use Rattle.std.specs.Prelude.{ℕ, ◌==◌, List, codes, if◌then◌else◌, Option, Some, None}
-use Rattle.tp_base.specs.Refusals.{number_of, name_of}
-use Rattle.tp_base.specs.declared.Refusal.{Refusal}
-use Rattle.tp_base.specs.declared.Refusal.TheVariants as pool
+use Rattle.tp_base.specs.{Refusals.{number_of, name_of}, declared.Refusal.Refusal}
 use Rattle.tp_process.specs.declared.outcome.Refusal.{Refusal as ProcessRefusal}
+use Rattle.tp_base.specs.declared.Refusal.TheVariants as pool
 use Rattle.tp_process.specs.declared.outcome.Refusal.TheVariants as process
 use Rattle.tp_team.specs.Refusals as numbers
 use Rattle.tp_team.specs.declared.TeamRefusal.TheVariants as team
-use Rattle.gerfmuod.specs.Wire.{refused_as}
 
 abbrev pub Texts : Type 0
 Texts = Option (List ℕ × List ℕ)

@@ -2,19 +2,14 @@
 -- does. What a call does to the part is in the contracts of `tp_part`.
 pub mod GraphCalls
 pub use GraphCalls.*
-use Rattle.std.specs.Prelude.{Result, Ok, Err}
-use Rattle.std.specs.Option.{option_map}
+use Rattle.gerfmuod.specs.declared.part.{call.PartCall.PartCall, slot.{PartSlot.TheInside.Inside, TheConstants.MARK}}
+use Rattle.std.specs.{Option.option_map, Prelude.{Result, Ok, Err}}
 use Rattle.tp_base.specs.Checks.{first_refusal, Check}
-use Rattle.tp_flow.specs.Description as flow
-use Rattle.tp_part.specs.declared.part.Next.{Next}
-use Rattle.tp_part.specs.declared.part.Next.TheVariants.{Run, Send, Wait, Over}
-use Rattle.tp_part.specs.State.{PartState}
 use Rattle.tp_part.specs.Calls.{new_part, with_task, with_arrival, Runs, Sends, Ends, IsOver, IsWaiting, arrived_checks, done_checks}
-use Rattle.tp_part.specs.Calls.{next_checks, start_checks, task_checks}
-use Rattle.gerfmuod.specs.declared.part.call.PartCall.{PartCall}
+use Rattle.tp_part.specs.{Calls.{next_checks, start_checks, task_checks}, State.PartState, declared.part.Next.{Next, TheVariants.Run}}
+use Rattle.tp_part.specs.declared.part.Next.TheVariants.{Send, Wait, Over}
+use Rattle.tp_flow.specs.Description as flow
 use Rattle.gerfmuod.specs.declared.part.call.PartCall.TheVariants as call
-use Rattle.gerfmuod.specs.declared.part.slot.PartSlot.TheInside.{Inside}
-use Rattle.gerfmuod.specs.declared.part.slot.TheConstants.{MARK}
 
 -- A part in the caller's memory: whether it is open, and which tasks accessed its data handles.
 pub record PartView : Type 0 where

@@ -1,21 +1,14 @@
 -- Control messages, refusals and results of `next`, as numbers.
+pub use Rattle.gerfmuod.specs.declared.wire.WireMessage.{WireMessage}
 pub use Rattle.std.specs.Prelude.{ℕ, ◌≡◌, ◌⊎◌, ◌==◌, if◌then◌else◌, Option, Some, None, Result, Ok, Err, ◌≤◌, ◌&&◌, true}
 pub use Rattle.std.specs.Result.{result_err}
 pub use Rattle.tp_process.specs.Calls.{receive_refusal, take_refusal, close_refusal, closed, moved, open_refusal, opened, send_refusal}
-pub use Rattle.tp_process.specs.Calls.{sent}
-pub use Rattle.tp_process.specs.Epochs.{of_epoch, took_in, with_state, received_in, reopen_refusal, reopened}
-pub use Rattle.tp_process.specs.Opening.{checked, if_open, is_open, unopened, new_process, next_of}
-pub use Rattle.tp_process.specs.declared.control_message.Token.{Token}
-pub use Rattle.tp_process.specs.declared.control_message.Token.TheVariants.{Down, Up, Over}
-pub use Rattle.tp_process.specs.declared.control_message.ControlMessage.{ControlMessage}
-pub use Rattle.tp_process.specs.declared.outcome.Next.{Next}
-pub use Rattle.tp_process.specs.declared.outcome.Next.TheVariants.{Send, Again, Ended, Nothing}
-pub use Rattle.tp_process.specs.declared.outcome.Refusal.{Refusal}
+pub use Rattle.tp_process.specs.{Calls.sent, Epochs.{of_epoch, took_in, with_state, received_in, reopen_refusal, reopened}, Opening.checked}
+pub use Rattle.tp_process.specs.{Opening.{if_open, is_open, unopened, new_process, next_of}, State.{EpochState, ProcessState, read}}
+pub use Rattle.tp_process.specs.declared.control_message.{ControlMessage.ControlMessage, Token.{Token, TheVariants.{Down, Up, Over}}}
+pub use Rattle.tp_process.specs.declared.outcome.{Next.{Next, TheVariants.{Send, Again, Ended, Nothing}}, Refusal.Refusal}
 pub use Rattle.tp_process.specs.declared.outcome.Refusal.TheVariants.{Inactive, Full, NotDue, NotYet, Late, NotEnded, NotOpen, NoProcess}
-pub use Rattle.tp_process.specs.declared.outcome.Refusal.TheVariants.{Miscounted, Mismatched}
-pub use Rattle.tp_process.specs.State.{EpochState, ProcessState, read}
-pub use Rattle.tp_process.specs.declared.process.Process.{Process}
-pub use Rattle.gerfmuod.specs.declared.wire.WireMessage.{WireMessage}
+pub use Rattle.tp_process.specs.declared.{outcome.Refusal.TheVariants.{Miscounted, Mismatched}, process.Process.Process}
 
 abbrev pub wire_as : ℕ → ControlMessage → ℕ → ℕ → ℕ → WireMessage
 wire_as e l token s r =

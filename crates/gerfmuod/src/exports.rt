@@ -1,10 +1,8 @@
 //! The exported functions on a core, which `gerfmuod/core.h` declares.
-ghost use Rattle.std.specs.Prelude.{◌≡◌, ◌≤◌};
 ghost use Rattle.gerfmuod.specs.Calls.{IsByCall, IsClosed, IsCountersCall, IsRestartCall, IsSettleCall, IsStepCall, IsTraceCall};
 ghost use Rattle.gerfmuod.specs.Calls.{IsReserveCall, IsStepsCall, IsStatusCall, raw_step, CoreState, opened, opening};
-ghost use Rattle.std.specs.Borrow.{full_share, sem};
-ghost use Rattle.std.specs.Ptr.{lies_at, room_at};
 ghost use Rattle.gerfmuod.specs.contracts.slot.CoreSlot.{the_row as slot_row};
+ghost use Rattle.std.specs.{Borrow.{full_share, sem}, Prelude.{◌≡◌, ◌≤◌}, Ptr.{lies_at, room_at}};
 
 use crate::answer::{Counters, Settled, Status, StepResult, Written};
 use crate::batch;

@@ -1,9 +1,8 @@
 //! Task graphs that run on the threads of a program in C: a team in the caller's memory. The header
 //! `gerfmuod/graph.h` states what a caller must ensure.
-ghost use Rattle.std.specs.Borrow.{full_share, sem};
-ghost use Rattle.std.specs.Ptr.{lies_at, room_at};
-ghost use Rattle.gerfmuod.specs.contracts.graph.slot.GraphSlot.{the_row as slot_row};
 ghost use Rattle.gerfmuod.specs.Part.{opened_graph, GraphState, IsDescribeCall, IsGraphCall, IsSpawnCall, IsTaskCall};
+ghost use Rattle.gerfmuod.specs.contracts.graph.slot.GraphSlot.{the_row as slot_row};
+ghost use Rattle.std.specs.{Borrow.{full_share, sem}, Ptr.{lies_at, room_at}};
 
 use crate::graph::access::RawAccess;
 use crate::graph::answer::GraphResult;

@@ -1,9 +1,8 @@
 //! One part of a task graph that several processes run together, for programs in C: a part in the caller's memory. The
 //! header `gerfmuod/part.h` states what a caller must ensure.
-ghost use Rattle.std.specs.Borrow.{full_share, sem};
-ghost use Rattle.std.specs.Ptr.{lies_at, room_at};
-ghost use Rattle.gerfmuod.specs.contracts.part.slot.PartSlot.{the_row as slot_row};
 ghost use Rattle.gerfmuod.specs.Part.{IsPartCall, IsSharedTaskCall, IsTaskOfCall, opened_part, PartView};
+ghost use Rattle.gerfmuod.specs.contracts.part.slot.PartSlot.{the_row as slot_row};
+ghost use Rattle.std.specs.{Borrow.{full_share, sem}, Ptr.{lies_at, room_at}};
 
 use crate::graph::access::RawAccess;
 use crate::graph::answer::GraphResult;

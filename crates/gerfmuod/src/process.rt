@@ -1,12 +1,11 @@
 //! The exported functions on one process of a distributed program, which `gerfmuod/process.h` declares. A process
 //! is plain data in the caller's memory.
 
-ghost use Rattle.std.specs.Prelude.{◌≡◌, ◌≤◌, ◌⊎◌, ◌&&◌, true, Some};
-ghost use Rattle.std.specs.Result.{result_err};
-ghost use Rattle.gerfmuod.specs.Wire.{after_event, after_init, after_taking, message_of};
-ghost use Rattle.gerfmuod.specs.Wire.{message_with, next_as, IsKept, receipt_refused, refused_as, refused_by, taken_as, wire_after};
-ghost use Rattle.gerfmuod.specs.Wire.{close_refusal, closed, moved, open_refusal, opened, send_refusal, sent, received_in, reopen_refusal};
-ghost use Rattle.gerfmuod.specs.Wire.{reopened, checked, if_open, is_open, new_process, next_of, read};
+ghost use Rattle.gerfmuod.specs.Wire.{after_event, after_init, after_taking, message_of, message_with, next_as, IsKept, receipt_refused};
+ghost use Rattle.gerfmuod.specs.Wire.{refused_as, refused_by, taken_as, wire_after, close_refusal, closed, moved, open_refusal, opened};
+ghost use Rattle.gerfmuod.specs.Wire.{send_refusal, sent, received_in, reopen_refusal, reopened, checked, if_open, is_open, new_process};
+ghost use Rattle.gerfmuod.specs.Wire.{next_of, read};
+ghost use Rattle.std.specs.{Prelude.{◌≡◌, ◌≤◌, ◌⊎◌, ◌&&◌, true, Some}, Result.result_err};
 
 use crate::wire::{WireMessage, wire_of};
 use tp_process::{ControlMessage, Next, Process, Refusal, Token};

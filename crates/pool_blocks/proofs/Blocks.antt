@@ -1,19 +1,12 @@
 -- The values of the tasks are the blocks of the cells after each number of steps.
-use Rattle.std.proofs.Common.{◌≡◌, ◌<◌, ◌≤◌, ◌+◌, ◌-◌, ◌*◌, ◌%◌, ℕ, zero, suc, ℤ, Bool, List, [], ◌∷◌, ◌++◌, length, get_or}
-use Rattle.std.proofs.Common.{take, drop, true, false, if◌then◌else◌, nat_lt, refl, ap, sym, ◌∙◌, ⊎_elim, IsTrue, Option, Some, arith}
-use Rattle.std.proofs.Math.Seq.{take-add}
-use Rattle.std.proofs.lemmas.Nat.{mul-le, mul-add-lt, mod-mul-add}
-use Rattle.std.proofs.lemmas.List.{drop-drop, get_or_past, take_all}
-use Rattle.std.proofs.lemmas.Bool.{le-leb}
-use Rattle.std.proofs.lemmas.Bool.Decides.{nat_tests}
-use Rattle.tp_graph.proofs.Made.{gathered, inputs_of, some_same, then_some-is}
-use Rattle.tp_graph.specs.Blocks.{block_of}
-use Rattle.tp_graph.specs.Values.{gather, value_of}
-use Rattle.pool_blocks.specs.ListLaws.{block-past, lt-tells}
-use Rattle.pool_blocks.specs.Joined.{in_a_row, numbers_from}
-use Rattle.pool_blocks.specs.Lists.{block_before, block_behind}
-use Rattle.pool_blocks.specs.StencilLaws.{block_lawful}
-use Rattle.pool_blocks.specs.Stencils.{BlockStep, IsByBlocks, IsCut, KeepsLength, Step, after, befores, block_graph, next_of, source}
+use Rattle.pool_blocks.specs.{Joined.{in_a_row, numbers_from}, ListLaws.{block-past, lt-tells}, Lists.{block_before, block_behind}}
+use Rattle.pool_blocks.specs.{StencilLaws.block_lawful, Stencils.{BlockStep, IsByBlocks, IsCut, KeepsLength, Step, after, befores}}
+use Rattle.pool_blocks.specs.Stencils.{block_graph, next_of, source}
+use Rattle.std.proofs.Common.{◌≡◌, ◌<◌, ◌≤◌, ◌+◌, ◌-◌, ◌*◌, ◌%◌, ℕ, zero, suc, ℤ, Bool, List, [], ◌∷◌, ◌++◌, length, get_or, take, drop}
+use Rattle.std.proofs.Common.{true, false, if◌then◌else◌, nat_lt, refl, ap, sym, ◌∙◌, ⊎_elim, IsTrue, Option, Some, arith}
+use Rattle.std.proofs.{Math.Seq.take-add, lemmas.{Bool.{le-leb, Decides.nat_tests}, List.{drop-drop, get_or_past, take_all}, Nat.mul-le}}
+use Rattle.std.proofs.lemmas.Nat.{mul-add-lt, mod-mul-add}
+use Rattle.tp_graph.{proofs.Made.{gathered, inputs_of, some_same, then_some-is}, specs.{Blocks.block_of, Values.{gather, value_of}}}
 
 -- cells keep their number
 pub after-length : (step : Step) (steps : ℕ) (cells : List ℤ) → KeepsLength step → length (after step steps cells) ≡ length cells

@@ -1,10 +1,8 @@
 -- The number of boundaries between nodes, if each node has a range of blocks.
-use Rattle.std.proofs.Common.{◌≡◌, ◌≢◌, ◌<◌, ◌≤◌, ◌+◌, ◌-◌, ◌*◌, ◌/◌, ◌%◌, ◌==◌, ℕ, zero, suc, if◌then◌else◌, refl, sym, ap, ◌∙◌, ◌⊎◌}
-use Rattle.std.proofs.Common.{⊎_elim, inl, inr, arith}
-use Rattle.std.proofs.lemmas.Bool.{cases_lt, eq-eqb, ne_eqb}
-use Rattle.std.proofs.lemmas.Nat.{div-add-mod', div-mul-add}
-use Rattle.tp_base.specs.Totals.{total}
 use Rattle.pool_blocks.specs.Events.{step_messages}
+use Rattle.std.proofs.Common.{◌≡◌, ◌≢◌, ◌<◌, ◌≤◌, ◌+◌, ◌-◌, ◌*◌, ◌/◌, ◌%◌, ◌==◌, ℕ, zero, suc, if◌then◌else◌, refl, sym, ap, ◌∙◌, ◌⊎◌}
+use Rattle.std.proofs.{Common.{⊎_elim, inl, inr, arith}, lemmas.{Bool.{cases_lt, eq-eqb, ne_eqb}, Nat.{div-add-mod', div-mul-add}}}
+use Rattle.tp_base.specs.Totals.{total}
 
 -- the node of a block
 abbrev pub home_of : ℕ → ℕ → ℕ → ℕ

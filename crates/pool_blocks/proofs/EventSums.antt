@@ -1,19 +1,11 @@
 -- The events and the messages of steps in blocks, counted on their graph, row by row.
-use Rattle.std.proofs.Common.{◌≡◌, ◌<◌, ◌≤◌, ◌+◌, ◌-◌, ◌*◌, ◌%◌, ◌∙◌, ℕ, zero, suc, ℤ, List, Bool, true, false, nat_lt, if◌then◌else◌}
-use Rattle.std.proofs.Common.{refl, ap, subst, ⊎_elim, arith}
-use Rattle.std.proofs.lemmas.Bool.{eq-eqb}
-use Rattle.std.proofs.lemmas.Bool.Decides.{nat_tests}
-use Rattle.std.proofs.lemmas.Nat.{mod-mul-add, mul-add-lt}
-use Rattle.tp_graph.proofs.Rows.{column-down}
-use Rattle.tp_base.proofs.Totals.{total-equal}
-use Rattle.tp_base.specs.Totals.{total}
-use Rattle.tp_graph.proofs.Counted.{events_counted}
-use Rattle.tp_graph.proofs.Totals.{total-add, total-const, total-plus}
-use Rattle.tp_graph.specs.Events.{crossing, messages_from, messages_of, task_events}
-use Rattle.pool_blocks.proofs.Crossings.{apart, home_of, messages_counted}
-use Rattle.pool_blocks.specs.ListLaws.{lt-tells}
-use Rattle.pool_blocks.specs.Events.{BlockEventsLaw, BlockMessagesLaw, BlockStepsLaw, step_inputs, step_messages}
-use Rattle.pool_blocks.specs.Stencils.{BlockStep, befores, block_graph, target}
+use Rattle.pool_blocks.{proofs.Crossings.{apart, home_of, messages_counted}, specs.Events.{BlockEventsLaw, BlockMessagesLaw, BlockStepsLaw}}
+use Rattle.pool_blocks.specs.{Events.{step_inputs, step_messages}, ListLaws.lt-tells, Stencils.{BlockStep, befores, block_graph, target}}
+use Rattle.std.proofs.Common.{◌≡◌, ◌<◌, ◌≤◌, ◌+◌, ◌-◌, ◌*◌, ◌%◌, ◌∙◌, ℕ, zero, suc, ℤ, List, Bool, true, false, nat_lt, if◌then◌else◌, refl}
+use Rattle.std.proofs.{Common.{ap, subst, ⊎_elim, arith}, lemmas.{Bool.{eq-eqb, Decides.nat_tests}, Nat.{mod-mul-add, mul-add-lt}}}
+use Rattle.tp_base.{proofs.Totals.total-equal, specs.Totals.total}
+use Rattle.tp_graph.{proofs.{Counted.events_counted, Rows.column-down, Totals.{total-add, total-const, total-plus}}, specs.Events.crossing}
+use Rattle.tp_graph.specs.Events.{messages_from, messages_of, task_events}
 
 -- 1 if a column has one before it, after it
 abbrev left : ℕ → ℕ

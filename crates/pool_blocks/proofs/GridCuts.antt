@@ -1,12 +1,8 @@
 -- What a grid requires, in its own terms.
+use Rattle.pool_blocks.specs.{Grids.{IsGrid, IsNoGrid, are_whole_rows, blocks_of}, Stencils.{AreNoSteps, AreSteps}}
 use Rattle.std.proofs.Common.{◌≡◌, ◌≢◌, ◌<◌, ◌≤◌, ◌+◌, ◌*◌, ◌%◌, ◌^◌, ℕ, Bool, true, false, sym, ap, ◌∙◌, ◌⊎◌, ⊎_elim, inl, inr, arith}
-use Rattle.std.proofs.Common.{rules}
+use Rattle.std.proofs.{Common.rules, Math.Nat.mul-mod_left, lemmas.{Bool.{and_from, and_parts, cases_lt, eq-eqb, eqb-true}, Nat.mul-le}}
 use Rattle.std.specs.Prelude.{◌==◌}
-use Rattle.std.proofs.Math.Nat.{mul-mod_left}
-use Rattle.std.proofs.lemmas.Nat.{mul-le}
-use Rattle.std.proofs.lemmas.Bool.{and_from, and_parts, cases_lt, eq-eqb, eqb-true}
-use Rattle.pool_blocks.specs.Stencils.{AreNoSteps, AreSteps}
-use Rattle.pool_blocks.specs.Grids.{IsGrid, IsNoGrid, are_whole_rows, blocks_of}
 
 -- if rows and blocks do not fit the cells, the last row is not whole
 pub no_row : (width rows count : ℕ) → are_whole_rows width count (rows * width) ≡ false → count % width ≢ 0

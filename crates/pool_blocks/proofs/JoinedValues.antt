@@ -1,14 +1,8 @@
 -- The values of tasks in a row as one list.
-use Rattle.std.proofs.Common.{◌≡◌, ◌≢◌, ◌<◌, ◌≤◌, ◌+◌, ℕ, zero, suc, ℤ, List, [], ◌∷◌, ◌++◌, Option, Some, None}
-use Rattle.std.proofs.Common.{refl, ap, sym, ◌∙◌, ⊎_elim, append_assoc, arith}
-use Rattle.std.specs.List.{All, Contains}
-use Rattle.std.proofs.lemmas.Bool.{cases_lt}
-use Rattle.std.proofs.lemmas.List.{append-nil}
-use Rattle.tp_graph.proofs.Made.{some_same}
-use Rattle.tp_graph.specs.Graphs.{TaskGraph}
-use Rattle.tp_graph.specs.Serial.{Results}
-use Rattle.tp_graph.specs.Values.{gather, then_some, value_of}
 use Rattle.pool_blocks.specs.Joined.{in_a_row, numbers_from}
+use Rattle.std.proofs.Common.{◌≡◌, ◌≢◌, ◌<◌, ◌≤◌, ◌+◌, ℕ, zero, suc, ℤ, List, [], ◌∷◌, ◌++◌, Option, Some, None, refl, ap, sym, ◌∙◌, ⊎_elim}
+use Rattle.std.{proofs.{Common.{append_assoc, arith}, lemmas.{Bool.cases_lt, List.append-nil}}, specs.List.{All, Contains}}
+use Rattle.tp_graph.{proofs.Made.some_same, specs.{Graphs.TaskGraph, Serial.Results, Values.{gather, then_some, value_of}}}
 
 -- one more at the end
 abbrev pub and_then : {A : Type 0} → Option (List A) → Option A → Option (List A)

@@ -1,10 +1,8 @@
 -- Which blocks of the last step have a result.
-use Rattle.std.proofs.Common.{◌≡◌, ◌<◌, ◌+◌, ◌*◌, ℕ, ℤ, List, [], ⊎_elim, arith}
-use Rattle.tp_base.specs.declared.TaskId.{TaskId}
-use Rattle.tp_base.specs.declared.Refusal.{Refusal}
-use Rattle.tp_base.specs.declared.Refusal.TheVariants.{NoMemory}
-use Rattle.tp_graph.specs.Serial.{AreValues, Results}
 use Rattle.pool_blocks.specs.Stencils.{BlockStep, IsCellsRefusal, LacksBlock, block_graph}
+use Rattle.std.proofs.Common.{◌≡◌, ◌<◌, ◌+◌, ◌*◌, ℕ, ℤ, List, [], ⊎_elim, arith}
+use Rattle.tp_base.specs.declared.{Refusal.{Refusal, TheVariants.NoMemory}, TaskId.TaskId}
+use Rattle.tp_graph.specs.Serial.{AreValues, Results}
 
 -- the values of all tasks lack none
 pub all_there : (next : BlockStep) (cells : List ℤ) (blocks size steps : ℕ) (results : Results)

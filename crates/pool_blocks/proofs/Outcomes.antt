@@ -1,23 +1,12 @@
 -- The steps of an outcome.
-use Rattle.std.proofs.Common.{◌≡◌, ◌≢◌, ◌∙◌, ◌<◌, ◌+◌, ◌==◌, ℕ, zero, suc, true, false, List, [], ◌∷◌, Some, refl, sym, ap}
-use Rattle.std.proofs.Common.{if◌then◌else◌, inl, inr, arith}
-use Rattle.std.proofs.lemmas.Bool.{cases_eq, cases_lt, eq-eqb, lt-ltb, ne_eqb}
-use Rattle.std.proofs.lemmas.Bool.Decides.{nat_tests}
+use Rattle.pool_blocks.{proofs.EventSums.steps_law, specs.{Outcomes.{LeastEventsLaw, OutcomeLaw, RunEventsLaw}, Stencils.block_graph}}
+use Rattle.std.proofs.Common.{◌≡◌, ◌≢◌, ◌∙◌, ◌<◌, ◌+◌, ◌==◌, ℕ, zero, suc, true, false, List, [], ◌∷◌, Some, refl, sym, ap, if◌then◌else◌}
+use Rattle.std.proofs.{Common.{inl, inr, arith}, lemmas.Bool.{cases_eq, cases_lt, eq-eqb, lt-ltb, ne_eqb, Decides.nat_tests}}
 use Rattle.std.specs.Prelude.{nat_lt}
-use Rattle.tp_base.specs.declared.Step.{Step}
-use Rattle.tp_base.specs.declared.Step.TheVariants.{Insert, Begin, Done, Send, Recv}
-use Rattle.tp_graph.specs.Graphs.{TaskGraph}
-use Rattle.tp_wave.proofs.Judged.{judged_law}
-use Rattle.tp_wave.specs.Machine.{History, IsRun, steps_of, under_way}
-use Rattle.tp_wave.specs.Steps.{count, is_recv, is_send}
-use Rattle.tp_work.specs.Lives.{life, moments, with_moment}
-use Rattle.tp_work.specs.Outcomes.{IsOutcome}
-use Rattle.tp_work.specs.declared.config.Outcome.{Outcome}
-use Rattle.pool_blocks.proofs.EventSums.{steps_law}
-use Rattle.pool_blocks.specs.Stencils.{block_graph}
-use Rattle.pool_blocks.specs.Outcomes.{LeastEventsLaw, OutcomeLaw, RunEventsLaw}
-use Rattle.tp_graph.proofs.Counted.{least_steps}
-use Rattle.tp_graph.specs.Events.{below, is_begin_of, is_done_of, is_insert_of}
+use Rattle.tp_base.specs.declared.Step.{Step, TheVariants.{Insert, Begin, Done, Send, Recv}}
+use Rattle.tp_graph.{proofs.Counted.least_steps, specs.{Events.{below, is_begin_of, is_done_of, is_insert_of}, Graphs.TaskGraph}}
+use Rattle.tp_wave.{proofs.Judged.judged_law, specs.{Machine.{History, IsRun, steps_of, under_way}, Steps.{count, is_recv, is_send}}}
+use Rattle.tp_work.specs.{Lives.{life, moments, with_moment}, Outcomes.IsOutcome, declared.config.Outcome.Outcome}
 
 -- how many of the stages are of this kind
 abbrev among : ℕ → List ℕ → ℕ

@@ -1,9 +1,7 @@
 -- Steps taken in parts.
+use Rattle.pool_blocks.{proofs.Blocks.after-on, specs.Stencils.{Step, after}}
+use Rattle.std.proofs.{Common.{◌≡◌, ◌+◌, ◌*◌, ◌/◌, ◌%◌, ◌<◌, ◌≤◌, ◌-◌, ℕ, ℤ, List, max, ap, ◌∙◌, ⊎_elim, arith}, lemmas.Bool.cases_lt}
 use Rattle.std.proofs.lemmas.Nat.{div-add-mod', mul-le}
-use Rattle.std.proofs.Common.{◌≡◌, ◌+◌, ◌*◌, ◌/◌, ◌%◌, ◌<◌, ◌≤◌, ◌-◌, ℕ, ℤ, List, max, ap, ◌∙◌, ⊎_elim, arith}
-use Rattle.std.proofs.lemmas.Bool.{cases_lt}
-use Rattle.pool_blocks.proofs.Blocks.{after-on}
-use Rattle.pool_blocks.specs.Stencils.{Step, after}
 
 -- the next part of the steps, of which some are left
 pub part_more : (step : Step) (steps left part : ℕ) (made next cells : List ℤ) → part ≤ left → left ≤ steps

@@ -1,26 +1,14 @@
 -- Why a run over borrowed cells has no result.
-use Rattle.std.proofs.Common.{◌≡◌, ◌≢◌, ◌<◌, ◌≤◌, ◌+◌, ◌-◌, ◌*◌, ℕ, suc, ℤ, Bool, true, Result, Ok, Err, List, [], ◌∷◌, length, cond}
-use Rattle.std.proofs.Common.{refl, sym, ap, subst, ◌∙◌, ⊎_elim, inl, inr, arith}
-use Rattle.std.specs.Prelude.{◌==◌, MatchResult}
-use Rattle.std.specs.List.{All}
-use Rattle.std.proofs.lemmas.Bool.{false≢true, ne_eqb}
-use Rattle.std.proofs.lemmas.Bool.Decides.{nat_tests}
-use Rattle.std.proofs.lemmas.List.Sums.{sum_by-cons}
-use Rattle.std.proofs.lemmas.Nat.{mul-le}
-use Rattle.tp_base.specs.declared.Refusal.{Refusal}
-use Rattle.tp_base.specs.declared.Refusal.TheVariants.{Missing, NoMemory}
-use Rattle.tp_graph.specs.Graphs.{TaskGraph}
-use Rattle.tp_graph.specs.Serial.{Results}
-use Rattle.pool_blocks.proofs.Blocks.{after-length}
-use Rattle.pool_blocks.specs.Stencils.{AreNoSteps, AreSteps, BlockStep, IsCellsRefusal, KeepsLength, LacksBlock, Step, after, block_graph}
-use Rattle.pool_blocks.specs.Stencils.{blocks_of}
-use Rattle.pool_blocks.specs.RunEvents.{TakeSteps, step_events}
-use Rattle.pool_blocks.specs.Faults.{IsLentFault, IsOfPart, IsPartFault}
-use Rattle.pool_blocks.specs.Runs.{HasRun, HasRunInParts}
-use Rattle.pool_blocks.specs.declared.fault.LentFault.{LentFault}
+use Rattle.pool_blocks.{proofs.Blocks.after-length, specs.{Faults.{IsLentFault, IsOfPart, IsPartFault}, RunEvents.{TakeSteps, step_events}}}
+use Rattle.pool_blocks.specs.{Runs.{HasRun, HasRunInParts}, Stencils.{AreNoSteps, AreSteps, BlockStep, IsCellsRefusal, KeepsLength}}
+use Rattle.pool_blocks.specs.{Stencils.{LacksBlock, Step, after, block_graph, blocks_of}, declared.fault.LentFault.LentFault}
 use Rattle.pool_blocks.specs.declared.fault.LentFault.TheVariants.{BadInput, Run, Unmade}
+use Rattle.std.proofs.Common.{◌≡◌, ◌≢◌, ◌<◌, ◌≤◌, ◌+◌, ◌-◌, ◌*◌, ℕ, suc, ℤ, Bool, true, Result, Ok, Err, List, [], ◌∷◌, length, cond, refl}
+use Rattle.std.proofs.{Common.{sym, ap, subst, ◌∙◌, ⊎_elim, inl, inr, arith}, lemmas.Bool.{false≢true, ne_eqb, Decides.nat_tests}}
+use Rattle.std.{proofs.lemmas.{List.Sums.sum_by-cons, Nat.mul-le}, specs.{List.All, Prelude.{◌==◌, MatchResult}}}
+use Rattle.tp_base.specs.declared.Refusal.{Refusal, TheVariants.{Missing, NoMemory}}
+use Rattle.tp_graph.specs.{Found.{HasEachOnce, times}, Graphs.TaskGraph, Serial.Results}
 use Rattle.tp_work.specs.Outcomes.{IsFault, IsOutcome}
-use Rattle.tp_graph.specs.Found.{HasEachOnce, times}
 
 -- what follows from a result
 pub match_weaker : {T E : Type 0} (r : Result T E) (P P2 : T → Type 0) (Q Q2 : E → Type 0) → ((x : T) → P x → P2 x)

@@ -1,8 +1,6 @@
 -- What a rod requires, in its own terms.
-use Rattle.std.proofs.Common.{◌≡◌, ◌≤◌, ℕ, true, false, sym, inl, inr}
-use Rattle.std.proofs.lemmas.Bool.{false≢true}
-use Rattle.pool_blocks.specs.Stencils.{AreNoSteps}
-use Rattle.pool_blocks.specs.Heats.{IsNoRod}
+use Rattle.pool_blocks.specs.{Heats.IsNoRod, Stencils.AreNoSteps}
+use Rattle.std.proofs.{Common.{◌≡◌, ◌≤◌, ℕ, true, false, sym, inl, inr}, lemmas.Bool.false≢true}
 
 pub no_rod : (count size steps : ℕ) → AreNoSteps (λ cells size. true) count size steps → IsNoRod count size steps
 no_rod count size steps (inl none) = inl none

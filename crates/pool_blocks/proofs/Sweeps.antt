@@ -1,10 +1,8 @@
 -- A sweep over a block, cell by cell.
-use Rattle.std.proofs.Common.{◌≡◌, ◌<◌, ◌≤◌, ◌+◌, ◌-◌, ◌^◌, ℕ, zero, suc, ℤ, pos, List, [], ◌∷◌, ◌++◌, length, get_or, drop, true, refl, ap}
-use Rattle.std.proofs.Common.{sym, ◌∙◌, append_assoc, add-one, arith}
-use Rattle.std.specs.Prelude.{unsigned_abs}
-use Rattle.tp_graph.proofs.Fits.{fits-from, fit-push}
-use Rattle.tp_graph.specs.Values.{all_fit}
 use Rattle.pool_blocks.specs.Heats.{mixed, first_or, last_or, sweep}
+use Rattle.std.proofs.Common.{◌≡◌, ◌<◌, ◌≤◌, ◌+◌, ◌-◌, ◌^◌, ℕ, zero, suc, ℤ, pos, List, [], ◌∷◌, ◌++◌, length, get_or, drop, true, refl, ap}
+use Rattle.std.{proofs.Common.{sym, ◌∙◌, append_assoc, add-one, arith}, specs.Prelude.unsigned_abs}
+use Rattle.tp_graph.{proofs.Fits.{fits-from, fit-push}, specs.Values.all_fit}
 
 -- the last of some cells is the one at the last place
 last-from : (d e : ℤ) (x : ℤ) (xs : List ℤ) → last_or d (x ∷ xs) ≡ get_or (x ∷ xs) (length xs) e

@@ -1,16 +1,11 @@
 -- Each task has a value: every cell fits 64 bits.
-use Rattle.std.proofs.Common.{◌≡◌, ◌<◌, ◌≤◌, ◌+◌, ◌*◌, inl, inr, ℕ, zero, suc, ℤ, List, [], ◌∷◌, length, get_or, drop, true}
-use Rattle.std.proofs.Common.{if◌then◌else◌, nat_lt, Some, None, refl, ap, sym, ◌∙◌, arith}
-use Rattle.tp_base.specs.declared.Refusal.{Refusal}
-use Rattle.tp_base.specs.declared.Refusal.TheVariants.{NoMemory}
-use Rattle.tp_graph.proofs.Valued.{value_made}
-use Rattle.tp_graph.specs.Blocks.{block_of}
-use Rattle.tp_graph.specs.Graphs.{TaskGraph}
-use Rattle.tp_graph.specs.Serial.{IsSerialRefusal}
-use Rattle.tp_graph.specs.Values.{all_fit, fitting, value_of}
-use Rattle.pool_blocks.specs.Fits.{drop-fits, one-list-fits, take-fits}
-use Rattle.pool_blocks.specs.StencilLaws.{block_lawful}
-use Rattle.pool_blocks.specs.Stencils.{BlockStep, KeepsFit, befores, block_graph, next_of}
+use Rattle.pool_blocks.specs.{Fits.{drop-fits, one-list-fits, take-fits}, StencilLaws.block_lawful, Stencils.{BlockStep, KeepsFit, befores}}
+use Rattle.pool_blocks.specs.Stencils.{block_graph, next_of}
+use Rattle.std.proofs.Common.{◌≡◌, ◌<◌, ◌≤◌, ◌+◌, ◌*◌, inl, inr, ℕ, zero, suc, ℤ, List, [], ◌∷◌, length, get_or, drop, true, if◌then◌else◌}
+use Rattle.std.proofs.Common.{nat_lt, Some, None, refl, ap, sym, ◌∙◌, arith}
+use Rattle.tp_base.specs.declared.Refusal.{Refusal, TheVariants.NoMemory}
+use Rattle.tp_graph.{proofs.Valued.value_made, specs.{Blocks.block_of, Graphs.TaskGraph, Serial.IsSerialRefusal, Values.{all_fit, fitting}}}
+use Rattle.tp_graph.specs.Values.{value_of}
 
 fitting-all : (xs : List ℤ) → all_fit xs ≡ true → fitting xs ≡ Some xs
 fitting-all xs h = rw h refl

@@ -1,12 +1,9 @@
 -- Why a run over borrowed cells has no result, by cases of the returned fault.
+use Rattle.pool_blocks.specs.{RunEvents.TakeNoStep, Stencils.{BlockStep, Step, after, block_graph, blocks_of}}
+use Rattle.pool_blocks.specs.declared.fault.LentFault.{LentFault, TheVariants.{BadInput, Run, Unmade}}
 use Rattle.std.specs.Prelude.{ℕ, ℤ, Bool, false, ◌≡◌, ◌≤◌, ◌+◌, ◌⊎◌, List, length}
-use Rattle.tp_base.specs.declared.refusal.Refusal.{Refusal}
-use Rattle.tp_base.specs.declared.refusal.Refusal.TheVariants.{BadSpec, NoMemory}
+use Rattle.tp_base.specs.declared.refusal.Refusal.{Refusal, TheVariants.{BadSpec, NoMemory}}
 use Rattle.tp_graph.specs.Graphs.{TaskGraph}
-use Rattle.pool_blocks.specs.Stencils.{BlockStep, Step, after, block_graph, blocks_of}
-use Rattle.pool_blocks.specs.RunEvents.{TakeNoStep}
-use Rattle.pool_blocks.specs.declared.fault.LentFault.{LentFault}
-use Rattle.pool_blocks.specs.declared.fault.LentFault.TheVariants.{BadInput, Run, Unmade}
 use Rattle.tp_work.specs.Outcomes.{IsFault, IsOutcome}
 
 -- the refusal of a fault: that of the pool's own fault is its own

@@ -1,24 +1,14 @@
 -- A step of a grid is one of its blocks of rows, and every cell fits 64 bits.
+use Rattle.pool_blocks.specs.{Fits.{append-fits, at-fits, drop-fits, list-fits, one-fits, take-fits}, Grids.{are_whole_rows, block_relaxed}}
+use Rattle.pool_blocks.specs.{Grids.{cell_after, inner, last_row, mixed, relaxed, swept_between}, ListLaws.{block-at, block-long}}
+use Rattle.pool_blocks.specs.{ListLaws.{block-past, list-at, list-length, lt-tells}, Lists.{at, block_before, block_behind, list_of}}
+use Rattle.pool_blocks.specs.{Stencils.{IsByBlocks, KeepsFit, KeepsLength}, Sums.fits-signed, Windows.{IsAbove, IsBelow, swept-at}}
 use Rattle.std.proofs.Common.{◌≡◌, ◌<◌, ◌≤◌, ◌+◌, ◌-◌, ◌*◌, ◌/◌, ◌%◌, ◌^◌, ℕ, zero, suc, ℤ, pos, negsuc, ◌+ℤ◌, ◌*ℤ◌, ◌<ℤ◌, ◌≤ℤ◌, Bool, List}
 use Rattle.std.proofs.Common.{[], ◌∷◌, ◌++◌, length, take, drop, min, true, false, if◌then◌else◌, nat_lt, length-take, length-drop, refl}
-use Rattle.std.proofs.Common.{ap, sym, subst, ◌∙◌, ⊎_elim, inl, inr, arith, FitsSigned, w64}
-use Rattle.std.specs.Int.{int_div_euclid}
-use Rattle.std.specs.Prelude.{◌==◌}
-use Rattle.std.proofs.Math.Seq.{drop-nil, take-nil}
-use Rattle.std.proofs.lemmas.Bool.{and_parts, cases_lt, eqb-true}
-use Rattle.std.proofs.lemmas.Int.{ints}
-use Rattle.std.proofs.lemmas.List.{same_lists, get_or-take, get_or-drop}
-use Rattle.std.proofs.lemmas.Nat.{mul-le, div-add-mod'}
-use Rattle.tp_graph.proofs.Fits.{fits-word}
-use Rattle.tp_graph.specs.Blocks.{block_of}
-use Rattle.tp_graph.specs.Values.{all_fit, fits}
-use Rattle.pool_blocks.specs.Fits.{append-fits, at-fits, drop-fits, list-fits, one-fits, take-fits}
-use Rattle.pool_blocks.specs.ListLaws.{block-at, block-long, block-past, list-at, list-length, lt-tells}
-use Rattle.pool_blocks.specs.Sums.{fits-signed}
-use Rattle.pool_blocks.specs.Lists.{at, block_before, block_behind, list_of}
-use Rattle.pool_blocks.specs.Stencils.{IsByBlocks, KeepsFit, KeepsLength}
-use Rattle.pool_blocks.specs.Grids.{are_whole_rows, block_relaxed, cell_after, inner, last_row, mixed, relaxed, swept_between}
-use Rattle.pool_blocks.specs.Windows.{IsAbove, IsBelow, swept-at}
+use Rattle.std.proofs.{Common.{ap, sym, subst, ◌∙◌, ⊎_elim, inl, inr, arith, FitsSigned, w64}, Math.Seq.{drop-nil, take-nil}}
+use Rattle.std.proofs.lemmas.{Bool.{and_parts, cases_lt, eqb-true}, Int.ints, List.{same_lists, get_or-take, get_or-drop}, Nat.mul-le}
+use Rattle.std.{proofs.lemmas.Nat.div-add-mod', specs.{Int.int_div_euclid, Prelude.◌==◌}}
+use Rattle.tp_graph.{proofs.Fits.fits-word, specs.{Blocks.block_of, Values.{all_fit, fits}}}
 
 pub relaxed-long : (width : ℕ) → KeepsLength (relaxed width)
 relaxed-long width cells = list-length (length cells) (cell_after width cells)

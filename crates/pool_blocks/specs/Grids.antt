@@ -1,10 +1,7 @@
 -- A grid of cells, row by row, and its steps.
-use Rattle.std.specs.Prelude.{◌≡◌, ◌≢◌, ◌<◌, ◌≤◌, ◌+◌, ◌-◌, ◌*◌, ◌%◌, ◌^◌, ◌⊎◌, ◌&&◌, ◌==◌, ◌++◌, ℕ, ℤ, pos}
-use Rattle.std.specs.Prelude.{◌+ℤ◌, ◌*ℤ◌, Bool, List, length}
-use Rattle.std.specs.Prelude.{take, drop, if◌then◌else◌, nat_lt}
-use Rattle.std.specs.Int.{int_div_euclid}
-use Rattle.pool_blocks.specs.Lists.{at, list_of}
-use Rattle.pool_blocks.specs.Stencils.{BlockStep, Step}
+use Rattle.pool_blocks.specs.{Lists.{at, list_of}, Stencils.{BlockStep, Step}}
+use Rattle.std.specs.{Int.int_div_euclid, Prelude.{◌≡◌, ◌≢◌, ◌<◌, ◌≤◌, ◌+◌, ◌-◌, ◌*◌, ◌%◌, ◌^◌, ◌⊎◌, ◌&&◌, ◌==◌, ◌++◌, ℕ, ℤ, pos, ◌+ℤ◌}}
+use Rattle.std.specs.Prelude.{◌*ℤ◌, Bool, List, length, take, drop, if◌then◌else◌, nat_lt}
 pub use Rattle.pool_blocks.specs.Stencils.{blocks_of}
 
 -- a cell after a step: an eighth of its neighbours and four times itself, rounded down

@@ -1,21 +1,11 @@
 -- A step of a rod is one of its blocks, and every cell fits 64 bits.
+use Rattle.pool_blocks.specs.{Heats.{block_heated, first_or, heated, last_or, mixed, sweep, third}, ListLaws.{block-long, lt-tells}}
+use Rattle.pool_blocks.specs.{Lists.{block_before, block_behind}, Stencils.{IsByBlocks, KeepsFit, KeepsLength}, Sums.{abs-neg, plus-small}}
 use Rattle.std.proofs.Common.{◌≡◌, ◌<◌, ◌≤◌, ◌+◌, ◌-◌, ◌*◌, ◌/◌, ◌^◌, ℕ, zero, suc, ℤ, pos, negsuc, neg_ℤ, ◌+ℤ◌, Bool, List, [], ◌∷◌, ◌++◌}
 use Rattle.std.proofs.Common.{length, take, drop, true, false, if◌then◌else◌, nat_lt, length-take, length-drop, refl, ap, sym, ◌∙◌, ⊎_elim}
-use Rattle.std.proofs.Common.{arith}
+use Rattle.std.proofs.{Common.arith, Math.Seq.take-add, lemmas.{Bool.{and_parts, and_from, Decides.nat_tests}, List.drop-drop, Nat.mul-le}}
 use Rattle.std.specs.Prelude.{unsigned_abs}
-use Rattle.std.proofs.Math.Seq.{take-add}
-use Rattle.std.proofs.lemmas.Bool.{and_parts, and_from}
-use Rattle.std.proofs.lemmas.Bool.Decides.{nat_tests}
-use Rattle.std.proofs.lemmas.List.{drop-drop}
-use Rattle.std.proofs.lemmas.Nat.{mul-le}
-use Rattle.tp_graph.proofs.Fits.{fits-from}
-use Rattle.tp_graph.specs.Blocks.{block_of}
-use Rattle.tp_graph.specs.Values.{all_fit, fits}
-use Rattle.pool_blocks.specs.ListLaws.{block-long, lt-tells}
-use Rattle.pool_blocks.specs.Sums.{abs-neg, plus-small}
-use Rattle.pool_blocks.specs.Lists.{block_before, block_behind}
-use Rattle.pool_blocks.specs.Stencils.{IsByBlocks, KeepsFit, KeepsLength}
-use Rattle.pool_blocks.specs.Heats.{block_heated, first_or, heated, last_or, mixed, sweep, third}
+use Rattle.tp_graph.{proofs.Fits.fits-from, specs.{Blocks.block_of, Values.{all_fit, fits}}}
 
 swept-length : (l : ℤ) (xs : List ℤ) (r : ℤ) → length (sweep l xs r) ≡ length xs
 swept-length l [] r = refl

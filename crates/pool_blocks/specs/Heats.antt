@@ -1,7 +1,6 @@
 -- A rod of cells, and its steps.
-use Rattle.std.specs.Prelude.{◌≡◌, ◌<◌, ◌≤◌, ◌+◌, ◌*◌, ◌^◌, ◌⊎◌, ℕ, ℤ, pos, ◌+ℤ◌, List, [], ◌∷◌}
-use Rattle.std.specs.Int.RustNames.{int_div}
 use Rattle.pool_blocks.specs.Stencils.{BlockStep, Step}
+use Rattle.std.specs.{Int.RustNames.int_div, Prelude.{◌≡◌, ◌<◌, ◌≤◌, ◌+◌, ◌*◌, ◌^◌, ◌⊎◌, ℕ, ℤ, pos, ◌+ℤ◌, List, [], ◌∷◌}}
 pub use Rattle.pool_blocks.specs.Stencils.{LacksBlock, blocks_of}
 
 -- a third of a number, cut towards 0

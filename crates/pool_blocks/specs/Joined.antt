@@ -1,10 +1,7 @@
 -- The values of tasks in a row, as one list.
 use Rattle.std.specs.Prelude.{◌≡◌, ◌≢◌, ◌<◌, ◌+◌, ◌⊎◌, ℕ, ℤ, List, [], ◌∷◌, ◌++◌, Option, Some, All, IsTrue}
-use Rattle.tp_base.specs.declared.Refusal.{Refusal}
-use Rattle.tp_base.specs.declared.Refusal.TheVariants.{Missing, NoMemory}
-use Rattle.tp_graph.specs.Graphs.{TaskGraph}
-use Rattle.tp_graph.specs.Serial.{Results}
-use Rattle.tp_graph.specs.Values.{gather, then_some, value_of}
+use Rattle.tp_base.specs.declared.Refusal.{Refusal, TheVariants.{Missing, NoMemory}}
+use Rattle.tp_graph.specs.{Graphs.TaskGraph, Serial.Results, Values.{gather, then_some, value_of}}
 
 -- lists of numbers, one after the other
 abbrev pub in_a_row : List (List ℤ) → List ℤ

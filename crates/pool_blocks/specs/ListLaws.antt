@@ -1,11 +1,9 @@
 -- Lists by index, and lists in blocks.
+use Rattle.pool_blocks.specs.Lists.{at, list_of}
 use Rattle.std.proofs.Common.{◌≡◌, ◌<◌, ◌≤◌, ◌+◌, ◌-◌, ◌*◌, ℕ, zero, suc, ℤ, pos, List, [], ◌∷◌, ◌++◌, length, get_or, take, drop, min}
 use Rattle.std.proofs.Common.{true, false, nat_lt, length-take, length-drop, refl, ap, sym, ◌∙◌, ◌⊎◌, ⊎_elim, inl, inr, arith}
-use Rattle.std.proofs.Math.Seq.{take-nil}
-use Rattle.std.proofs.lemmas.Bool.Decides.{leb_tells}
-use Rattle.std.proofs.lemmas.List.{drop_all, get_or-take, get_or-drop}
+use Rattle.std.proofs.{Math.Seq.take-nil, lemmas.{Bool.Decides.leb_tells, List.{drop_all, get_or-take, get_or-drop}}}
 use Rattle.tp_graph.specs.Blocks.{block_of}
-use Rattle.pool_blocks.specs.Lists.{at, list_of}
 
 pub list-length : (count : ℕ) (f : ℕ → ℤ) → length (list_of count f) ≡ count
 list-length zero f = refl

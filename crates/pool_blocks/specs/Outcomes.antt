@@ -1,13 +1,9 @@
 -- How many events a finished run took, as far as its outcome shows.
+use Rattle.pool_blocks.specs.{Events.all_events, Stencils.{BlockStep, block_graph}}
 use Rattle.std.specs.Prelude.{ℕ, ◌≡◌, ◌≤◌, ◌+◌, ◌-◌, ◌*◌, ℤ, List}
-use Rattle.tp_graph.specs.Graphs.{TaskGraph}
-use Rattle.tp_wave.specs.Machine.{steps_of}
-use Rattle.tp_wave.specs.Steps.{count}
-use Rattle.tp_work.specs.Outcomes.{IsOutcome}
-use Rattle.tp_work.specs.declared.config.Outcome.{Outcome}
-use Rattle.pool_blocks.specs.Events.{all_events}
-use Rattle.pool_blocks.specs.Stencils.{BlockStep, block_graph}
-use Rattle.tp_graph.specs.Events.{WorkOut, below, is_message_end, is_supply_of, is_work, messages_of}
+use Rattle.tp_graph.specs.{Events.{WorkOut, below, is_message_end, is_supply_of, is_work, messages_of}, Graphs.TaskGraph}
+use Rattle.tp_wave.specs.{Machine.steps_of, Steps.count}
+use Rattle.tp_work.specs.{Outcomes.IsOutcome, declared.config.Outcome.Outcome}
 
 -- An outcome takes at least 3 events for each task and 2 for each message.
 abbrev pub LeastEventsLaw : Type 0

@@ -1,9 +1,8 @@
 -- A run over borrowed cells took place: a pool of threads ended.
+use Rattle.pool_blocks.specs.Stencils.{BlockStep, Step, after, block_graph, blocks_of}
 use Rattle.std.specs.Prelude.{ℕ, ℤ, ◌≡◌, ◌≤◌, ◌+◌, ◌⊎◌, List, length}
 use Rattle.tp_graph.specs.Graphs.{TaskGraph}
-use Rattle.pool_blocks.specs.Stencils.{BlockStep, Step, after, block_graph, blocks_of}
-use Rattle.tp_work.specs.Outcomes.{IsOutcome}
-use Rattle.tp_work.specs.declared.config.Outcome.{Outcome}
+use Rattle.tp_work.specs.{Outcomes.IsOutcome, declared.config.Outcome.Outcome}
 
 -- on n nodes, with this many workers at each, the graph's pool has an outcome
 abbrev pub HasRun : ℕ → ℕ → TaskGraph → Type 0

@@ -1,10 +1,8 @@
 -- The blocks of each step are a task graph.
-use Rattle.std.proofs.Common.{◌≡◌, ◌<◌, ◌≤◌, ◌+◌, ◌-◌, ◌*◌, ◌/◌, ◌%◌, ℕ, List, ℤ, arith}
-use Rattle.std.proofs.lemmas.Bool.Decides.{nat_tests}
-use Rattle.std.proofs.lemmas.Nat.{div_below, mul-le}
-use Rattle.tp_graph.proofs.Rows.{column-down, column-up, row-within, row-same}
-use Rattle.tp_graph.specs.Graphs.{IsLawful, FillsSlot, IsFilled}
 use Rattle.pool_blocks.specs.Stencils.{BlockStep, befores, behinds, block_graph, source, target}
+use Rattle.std.proofs.{Common.{◌≡◌, ◌<◌, ◌≤◌, ◌+◌, ◌-◌, ◌*◌, ◌/◌, ◌%◌, ℕ, List, ℤ, arith}, lemmas.{Bool.Decides.nat_tests, Nat.div_below}}
+use Rattle.std.proofs.lemmas.Nat.{mul-le}
+use Rattle.tp_graph.{proofs.Rows.{column-down, column-up, row-within, row-same}, specs.Graphs.{IsLawful, FillsSlot, IsFilled}}
 
 -- a block's node is one of the nodes
 pub home_below : (blocks t m : ℕ) → 0 < blocks → 1 ≤ m → (t % blocks) * m / blocks < m

@@ -1,13 +1,9 @@
 -- Steps of a stencil over some cells in blocks: a block becomes a function of itself and its neighbours.
-use Rattle.std.specs.Prelude.{◌≡◌, ◌<◌, ◌≤◌, ◌+◌, ◌-◌, ◌*◌, ◌/◌, ◌%◌, ◌^◌, ◌⊎◌, ℕ, zero, suc, ℤ, Bool, true, false, List, []}
-use Rattle.std.specs.Prelude.{length, slice_index_or, Some, if◌then◌else◌, nat_lt, nat_le}
+use Rattle.pool_blocks.specs.{Joined.{IsJoinedRefusal, LacksTask}, Lists.{block_before, block_behind}}
+use Rattle.std.specs.Prelude.{◌≡◌, ◌<◌, ◌≤◌, ◌+◌, ◌-◌, ◌*◌, ◌/◌, ◌%◌, ◌^◌, ◌⊎◌, ℕ, zero, suc, ℤ, Bool, true, false, List, [], length}
+use Rattle.std.specs.Prelude.{slice_index_or, Some, if◌then◌else◌, nat_lt, nat_le}
 use Rattle.tp_base.specs.declared.Refusal.{Refusal}
-use Rattle.tp_graph.specs.Blocks.{block_of}
-use Rattle.tp_graph.specs.Graphs.{TaskGraph}
-use Rattle.tp_graph.specs.Serial.{Results}
-use Rattle.tp_graph.specs.Values.{all_fit}
-use Rattle.pool_blocks.specs.Joined.{IsJoinedRefusal, LacksTask}
-use Rattle.pool_blocks.specs.Lists.{block_before, block_behind}
+use Rattle.tp_graph.specs.{Blocks.block_of, Graphs.TaskGraph, Serial.Results, Values.all_fit}
 
 -- what cells become at a step, and what a block becomes, from the block before it, itself and the block after it
 abbrev pub Step : Type 0

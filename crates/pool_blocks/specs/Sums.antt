@@ -1,10 +1,7 @@
 -- Sums of whole numbers, as arguments of calls, and how large they are.
 use Rattle.std.proofs.Common.{◌≡◌, ◌≤◌, ◌<◌, ◌+◌, ◌^◌, ℕ, zero, suc, ℤ, pos, negsuc, neg_ℤ, ◌+ℤ◌, ◌*ℤ◌, true, refl, ap, ◌∙◌, arith}
-use Rattle.std.proofs.Common.{FitsSigned, w64, to_z, of_z}
-use Rattle.std.specs.Int.{w128}
+use Rattle.std.{proofs.{Common.{FitsSigned, w64, to_z, of_z}, lemmas.{Bool.Decides.nat_tests, Int.{ints, to_z-of_z}}}, specs.Int.w128}
 use Rattle.std.specs.Prelude.{unsigned_abs}
-use Rattle.std.proofs.lemmas.Bool.Decides.{nat_tests}
-use Rattle.std.proofs.lemmas.Int.{ints, to_z-of_z}
 use Rattle.tp_graph.specs.Values.{fits}
 
 pub abs-neg : (n : ℕ) → unsigned_abs (neg_ℤ (pos n)) ≡ n

@@ -1,13 +1,8 @@
 -- A block with the rows above and below it is a window of the grid.
+use Rattle.pool_blocks.specs.{Grids.{mixed, inner, cell_after}, ListLaws.lt-same, Lists.at}
 use Rattle.std.proofs.Common.{◌≡◌, ◌<◌, ◌≤◌, ◌+◌, ◌-◌, ◌*◌, ◌%◌, ◌&&◌, ℕ, ℤ, pos, Bool, List, [], ◌∷◌, ◌++◌, length, get_or, true, false}
-use Rattle.std.proofs.Common.{if◌then◌else◌, nat_lt, refl, ap, sym, ◌∙◌, ◌⊎◌, ⊎_elim, inl, inr, arith}
-use Rattle.std.proofs.lemmas.List.{get_or_append_left, get_or-append_right, length-append}
-use Rattle.std.proofs.lemmas.Bool.{cases_lt, cases_Bool}
-use Rattle.std.proofs.lemmas.Bool.Decides.{nat_tests}
-use Rattle.std.proofs.Math.Nat.{mul-add-mod_self_right}
-use Rattle.pool_blocks.specs.ListLaws.{lt-same}
-use Rattle.pool_blocks.specs.Lists.{at}
-use Rattle.pool_blocks.specs.Grids.{mixed, inner, cell_after}
+use Rattle.std.proofs.{Common.{if◌then◌else◌, nat_lt, refl, ap, sym, ◌∙◌, ◌⊎◌, ⊎_elim, inl, inr, arith}, Math.Nat.mul-add-mod_self_right}
+use Rattle.std.proofs.lemmas.{Bool.{cases_lt, cases_Bool, Decides.nat_tests}, List.{get_or_append_left, get_or-append_right, length-append}}
 
 -- the bounds of an inner position
 inner-within : (w count i : ℕ) → inner w count i ≡ true → (w ≤ i) × (i + w < count)

@@ -1,8 +1,6 @@
 //! Runs of stencils whose tasks are counted for a progress line.
+ghost use Rattle.pool_blocks.specs.{Faults.IsPartFault, Runs.HasRunInParts, Stencils.after};
 ghost use Rattle.std.specs.Prelude.{◌≡◌, MatchResult};
-ghost use Rattle.pool_blocks.specs.Stencils.{after};
-ghost use Rattle.pool_blocks.specs.Faults.{IsPartFault};
-ghost use Rattle.pool_blocks.specs.Runs.{HasRunInParts};
 ghost use Rattle.tp_work.specs.Outcomes.{IsWithinLimits};
 
 use crate::Stencil;

@@ -1,9 +1,8 @@
 //! The arithmetic of the five-point stencil.
-ghost use Rattle.std.specs.Prelude.{◌≡◌, ◌≤◌, ◌<◌, ◌+◌, ◌-◌, ◌^◌, ◌+ℤ◌, ◌*ℤ◌, pos, true, IfOk, unsigned_abs, length, take, FitsSigned};
-ghost use Rattle.std.specs.Int.{int_div_euclid, w64};
+ghost use Rattle.pool_blocks.specs.{Grids.{block_relaxed, cell_after, last_row, mixed}, Lists.list_of};
+ghost use Rattle.std.specs.{Int.{int_div_euclid, w64}, Prelude.{◌≡◌, ◌≤◌, ◌<◌, ◌+◌, ◌-◌, ◌^◌, ◌+ℤ◌, ◌*ℤ◌, pos, true, IfOk, unsigned_abs}};
+ghost use Rattle.std.specs.Prelude.{length, take, FitsSigned};
 ghost use Rattle.tp_graph.specs.Values.{fits, all_fit};
-ghost use Rattle.pool_blocks.specs.Lists.{list_of};
-ghost use Rattle.pool_blocks.specs.Grids.{block_relaxed, cell_after, last_row, mixed};
 
 use std::alloc::{AllocError, Global};
 

@@ -1,8 +1,7 @@
 //! The numbers of the results of tasks in a row, as one list.
-ghost use Rattle.std.specs.Prelude.{◌≡◌, ◌<◌, ◌+◌, ◌^◌, IfOk, IfErr, OnOk, Some};
-ghost use Rattle.tp_graph.specs.Graphs.{TaskGraph};
-ghost use Rattle.tp_graph.specs.Left.{AreKept};
 ghost use Rattle.pool_blocks.specs.Joined.{IsJoinedRefusal, KeepsFrom, LacksTask, numbers_from};
+ghost use Rattle.std.specs.Prelude.{◌≡◌, ◌<◌, ◌+◌, ◌^◌, IfOk, IfErr, OnOk, Some};
+ghost use Rattle.tp_graph.specs.{Graphs.TaskGraph, Left.AreKept};
 
 use std::alloc::Global;
 use tp_base::{Refusal, TaskId};

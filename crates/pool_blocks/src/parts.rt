@@ -1,8 +1,7 @@
 //! Runs of any number of steps, as several pools one after the other.
+ghost use Rattle.pool_blocks.specs.{Faults.{IsLentFault, IsPartFault}, Runs.{HasRun, HasRunInParts}, Stencils.{AreSteps, after}};
+ghost use Rattle.pool_blocks.specs.Stencils.{block_graph, blocks_of};
 ghost use Rattle.std.specs.Prelude.{◌≡◌, MatchResult, length};
-ghost use Rattle.pool_blocks.specs.Stencils.{AreSteps, after, block_graph, blocks_of};
-ghost use Rattle.pool_blocks.specs.Faults.{IsLentFault, IsPartFault};
-ghost use Rattle.pool_blocks.specs.Runs.{HasRun, HasRunInParts};
 ghost use Rattle.tp_work.specs.Outcomes.{IsWithinLimits};
 
 use crate::events::steps_at_once;

@@ -1,8 +1,6 @@
 //! Running the steps that fit in one pool.
+ghost use Rattle.pool_blocks.specs.{Faults.IsLentFault, Runs.HasRun, Stencils.{after, block_graph}};
 ghost use Rattle.std.specs.Prelude.{◌≡◌, MatchResult};
-ghost use Rattle.pool_blocks.specs.Stencils.{after, block_graph};
-ghost use Rattle.pool_blocks.specs.Faults.{IsLentFault};
-ghost use Rattle.pool_blocks.specs.Runs.{HasRun};
 ghost use Rattle.tp_work.specs.Outcomes.{IsWithinLimits};
 
 use crate::fault::LentFault;

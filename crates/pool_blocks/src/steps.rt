@@ -1,9 +1,8 @@
 //! Steps of a stencil in blocks, as a graph.
+ghost use Rattle.pool_blocks.specs.{StencilLaws.block_lawful, Stencils.{AreNoSteps, AreSteps, IsCut, befores, behinds, block_graph}};
+ghost use Rattle.pool_blocks.specs.Stencils.{blocks_of};
 ghost use Rattle.std.specs.Prelude.{◌≡◌, ◌<◌, ◌≤◌, ◌+◌, ◌-◌, ◌*◌, ◌^◌, ⊤, pos, true, length, slice_index_or, IfNone, IfSome};
-ghost use Rattle.tp_graph.specs.Blocks.{block_of};
-ghost use Rattle.tp_graph.specs.Values.{all_fit, fits};
-ghost use Rattle.pool_blocks.specs.Stencils.{AreNoSteps, AreSteps, IsCut, befores, behinds, block_graph, blocks_of};
-ghost use Rattle.pool_blocks.specs.StencilLaws.{block_lawful};
+ghost use Rattle.tp_graph.specs.{Blocks.block_of, Values.{all_fit, fits}};
 
 use crate::inputs::{cells_at, cells_before};
 use crate::stencil::Stencil;

@@ -1,16 +1,11 @@
 -- Each task of a grid has the value of its cell.
+use Rattle.pool_kernels.{proofs.Gathers.{AreTwo, from_one, from_two, gather-nth, gather_one, gather_two}, specs.GridLaws.grid_lawful}
+use Rattle.pool_kernels.specs.{Grids.{IsNarrow, Relation, grid_graph, inputs, source}, Kernels.{CellLaw, Rule, cell, computed}}
+use Rattle.pool_kernels.specs.{Kernels.{kernel_graph, rule_in}, Ranks.{nth, nth_is, rank}}
 use Rattle.std.proofs.Common.{◌≡◌, ◌<◌, ◌≤◌, ◌+◌, ◌*◌, ◌%◌, ℕ, zero, suc, ℤ, List, [], ◌∷◌, Bool, true, false, Option, Some, None}
-use Rattle.std.proofs.Common.{if◌then◌else◌, ap, sym, ◌∙◌, arith}
-use Rattle.std.proofs.lemmas.Nat.{div-mul-add, mod-mul-add, mul-add-lt}
-use Rattle.tp_graph.proofs.Made.{then_some-is}
-use Rattle.tp_graph.proofs.Valued.{gather-same, value-is}
-use Rattle.tp_graph.specs.Graphs.{IsLawful, TaskGraph}
-use Rattle.tp_graph.specs.Values.{all_fit, fitting, gather, then_some, value_of}
-use Rattle.pool_kernels.specs.GridLaws.{grid_lawful}
-use Rattle.pool_kernels.specs.Grids.{IsNarrow, Relation, grid_graph, inputs, source}
-use Rattle.pool_kernels.specs.Ranks.{nth, nth_is, rank}
-use Rattle.pool_kernels.proofs.Gathers.{AreTwo, from_one, from_two, gather-nth, gather_one, gather_two}
-use Rattle.pool_kernels.specs.Kernels.{CellLaw, Rule, cell, computed, kernel_graph, rule_in}
+use Rattle.std.proofs.{Common.{if◌then◌else◌, ap, sym, ◌∙◌, arith}, lemmas.Nat.{div-mul-add, mod-mul-add, mul-add-lt}}
+use Rattle.tp_graph.{proofs.{Made.then_some-is, Valued.{gather-same, value-is}}, specs.{Graphs.{IsLawful, TaskGraph}, Values.all_fit}}
+use Rattle.tp_graph.specs.Values.{fitting, gather, then_some, value_of}
 
 pub kernel_lawful : (r : Relation) (rule : Rule) (w steps : ℕ) → 1 ≤ w → IsNarrow r w steps → IsLawful (kernel_graph r rule w steps)
 kernel_lawful r rule w steps some narrow = grid_lawful r w steps (rule_in rule w) some narrow

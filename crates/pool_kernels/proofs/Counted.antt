@@ -1,20 +1,13 @@
 -- The outputs of rows, computed column by column.
+use Rattle.pool_kernels.proofs.{More.{rank_alike, nth_alike, rank_grows, rank_more_suc, rank_same_suc}, Picked.{picked_at, picked_long}}
+use Rattle.pool_kernels.{proofs.Picked.{picked_more, picked_same}, specs.{Grids.{Relation, ComesAgain}, Kinds.{AreArities, AreSeen}}}
+use Rattle.pool_kernels.specs.{Kinds.{AreSpans, outputs_to}, Ranks.{rank, nth, nth_is}, Tables.{AreOutputs, IsOutput}}
+use Rattle.pool_kernels.specs.declared.spots.{Output.Output, Span.Span}
 use Rattle.std.proofs.Common.{◌≡◌, ◌<◌, ◌≤◌, ◌+◌, ◌-◌, ◌*◌, ◌/◌, ◌%◌, ℕ, zero, suc, true, false, List, [], ◌∷◌, ◌++◌, length, get_or, set}
-use Rattle.std.proofs.Common.{min, ap, sym, ◌∙◌, subst, arith, ⊎_elim, append_assoc, length-append}
-use Rattle.std.proofs.lemmas.Bool.{cases_lt, cases_eq}
-use Rattle.std.proofs.lemmas.Bool.Decides.{nat_tests}
-use Rattle.std.proofs.lemmas.List.{get_or-append-add, get_or-append_right, get_or-set_other, get_or-set_same, get_or_append_left, get_or_at}
-use Rattle.std.proofs.lemmas.List.{length-set}
-use Rattle.std.proofs.Math.Nat.{mod-le}
-use Rattle.std.proofs.lemmas.Nat.{div-add-mod', div-mul-add, mod-mul-add, mul-add-lt, mod_below}
-use Rattle.pool_kernels.specs.Grids.{Relation, ComesAgain}
-use Rattle.pool_kernels.specs.Kinds.{AreArities, AreSeen, AreSpans, outputs_to}
-use Rattle.pool_kernels.specs.Ranks.{rank, nth, nth_is}
-use Rattle.pool_kernels.specs.Tables.{AreOutputs, IsOutput}
-use Rattle.pool_kernels.specs.declared.spots.Output.{Output}
-use Rattle.pool_kernels.specs.declared.spots.Span.{Span}
-use Rattle.pool_kernels.proofs.More.{rank_alike, nth_alike, rank_grows, rank_more_suc, rank_same_suc}
-use Rattle.pool_kernels.proofs.Picked.{picked_at, picked_long, picked_more, picked_same}
+use Rattle.std.proofs.{Common.{min, ap, sym, ◌∙◌, subst, arith, ⊎_elim, append_assoc, length-append}, Math.Nat.mod-le, lemmas.Bool.cases_lt}
+use Rattle.std.proofs.lemmas.{Bool.{cases_eq, Decides.nat_tests}, List.{get_or-append-add, get_or-append_right, get_or-set_other}}
+use Rattle.std.proofs.lemmas.{List.{get_or-set_same, get_or_append_left, get_or_at, length-set}, Nat.{div-add-mod', div-mul-add}}
+use Rattle.std.proofs.lemmas.Nat.{mod-mul-add, mul-add-lt, mod_below}
 
 -- the position of a column among the computed rows
 pub kind_within : (q period steps w c : ℕ) → 1 ≤ period → q + 1 < steps → c < w → q % period * w + c < min period (steps - 1) * w

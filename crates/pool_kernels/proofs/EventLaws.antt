@@ -1,14 +1,10 @@
 -- The events and the messages of a grid, counted on its graph.
-use Rattle.std.proofs.Common.{◌≡◌, ◌≤◌, ◌+◌, ◌*◌, ◌/◌, ◌%◌, ◌∙◌, ℕ, zero, suc, ℤ, List, Option}
-use Rattle.std.proofs.Common.{refl, sym, ap, arith}
-use Rattle.std.proofs.lemmas.Bool.{eq-eqb}
+use Rattle.pool_kernels.specs.{Events.{GridEventsLaw, GridStepsLaw, NoMessageLaw, events_below, grid_events}, Grids.{Relation, grid_graph}}
+use Rattle.pool_kernels.specs.Grids.{inputs}
+use Rattle.std.proofs.{Common.{◌≡◌, ◌≤◌, ◌+◌, ◌*◌, ◌/◌, ◌%◌, ◌∙◌, ℕ, zero, suc, ℤ, List, Option, refl, sym, ap, arith}, lemmas.Bool.eq-eqb}
 use Rattle.std.proofs.lemmas.Nat.{div-mul-add}
-use Rattle.tp_base.proofs.Totals.{total-equal, total-zero}
-use Rattle.tp_base.specs.Totals.{total}
-use Rattle.tp_graph.proofs.Counted.{events_counted}
-use Rattle.tp_graph.specs.Events.{crossing, messages_from, task_events}
-use Rattle.pool_kernels.specs.Events.{GridEventsLaw, GridStepsLaw, NoMessageLaw, events_below, grid_events}
-use Rattle.pool_kernels.specs.Grids.{Relation, grid_graph, inputs}
+use Rattle.tp_base.{proofs.Totals.{total-equal, total-zero}, specs.Totals.total}
+use Rattle.tp_graph.{proofs.Counted.events_counted, specs.Events.{crossing, messages_from, task_events}}
 
 all_below : (r : Relation) (w n : ℕ) → total n (λ t. task_events (inputs r w (t / w) (t % w))) ≡ events_below r w n
 all_below r w zero = refl

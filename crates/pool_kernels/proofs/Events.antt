@@ -1,15 +1,10 @@
 -- How many events a grid takes.
+use Rattle.pool_kernels.specs.{Events.{events_below, grid_events}, Faults.IsTableFault, Grids.{Relation, inputs}, Kinds.IsRowFault}
+use Rattle.pool_kernels.specs.{Kinds.IsRowsFault, Ranks.rank, declared.table_fault.TableFault.{TableFault, TheVariants.Empty}}
+use Rattle.pool_kernels.specs.declared.table_fault.TableFault.TheVariants.{TooManyInputs, TooManyEvents, NoMemory}
 use Rattle.std.proofs.Common.{◌≡◌, ◌<◌, ◌≤◌, ◌+◌, ◌*◌, ◌/◌, ◌%◌, ◌^◌, ℕ, zero, suc, ap, sym, ◌∙◌, subst, arith}
-use Rattle.std.proofs.lemmas.Bool.Decides.{nat_tests}
-use Rattle.std.proofs.lemmas.Nat.{mul-le}
+use Rattle.std.proofs.lemmas.{Bool.Decides.nat_tests, Nat.mul-le}
 use Rattle.tp_graph.specs.Events.{task_events}
-use Rattle.pool_kernels.specs.Events.{events_below, grid_events}
-use Rattle.pool_kernels.specs.Faults.{IsTableFault}
-use Rattle.pool_kernels.specs.Grids.{Relation, inputs}
-use Rattle.pool_kernels.specs.Kinds.{IsRowFault, IsRowsFault}
-use Rattle.pool_kernels.specs.Ranks.{rank}
-use Rattle.pool_kernels.specs.declared.table_fault.TableFault.{TableFault}
-use Rattle.pool_kernels.specs.declared.table_fault.TableFault.TheVariants.{Empty, TooManyInputs, TooManyEvents, NoMemory}
 
 -- a task takes three at least
 three_each : (count : ℕ) → 3 ≤ task_events count

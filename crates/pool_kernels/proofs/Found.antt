@@ -1,12 +1,7 @@
 -- The results of tasks, among results in any order.
-use Rattle.std.proofs.Common.{◌≡◌, ◌≢◌, ◌<◌, ◌+◌, ℕ, suc, [], ◌∷◌, cond, refl, ap, ◌∙◌, arith}
-use Rattle.std.specs.Prelude.{◌==◌}
-use Rattle.std.specs.List.{All, count_by}
-use Rattle.std.proofs.lemmas.Bool.{ne_eqb}
-use Rattle.std.proofs.lemmas.Bool.Decides.{nat_tests}
-use Rattle.std.proofs.lemmas.List.Sums.{sum_by-cons}
-use Rattle.tp_graph.specs.Found.{HasEachOnce}
-use Rattle.tp_graph.specs.Serial.{Results}
+use Rattle.std.proofs.{Common.{◌≡◌, ◌≢◌, ◌<◌, ◌+◌, ℕ, suc, [], ◌∷◌, cond, refl, ap, ◌∙◌, arith}, lemmas.Bool.{ne_eqb, Decides.nat_tests}}
+use Rattle.std.{proofs.lemmas.List.Sums.sum_by-cons, specs.{List.{All, count_by}, Prelude.◌==◌}}
+use Rattle.tp_graph.specs.{Found.HasEachOnce, Serial.Results}
 
 -- if no result is of a task, the task has none
 times-none : (t : ℕ) (results : Results) → All (λ r. r.0.0 ≢ t) results → count_by (λ r. r.0.0 == t) results ≡ 0

@@ -1,12 +1,9 @@
 -- What is gathered of the numbers below another.
-use Rattle.std.proofs.Common.{◌≡◌, ◌≢◌, ◌<◌, ◌≤◌, ℕ, zero, suc, Bool, true, false, List, [], ◌∷◌, Option, Some, None, if◌then◌else◌}
-use Rattle.std.proofs.Common.{eqb, refl, ap, sym, ◌∙◌, ⊎_elim, arith}
-use Rattle.std.proofs.lemmas.Bool.{cases_eq, cases_lt, eq-eqb, ne_eqb}
-use Rattle.tp_graph.proofs.Valued.{gather-same}
-use Rattle.tp_graph.specs.Values.{gather, then_some}
 use Rattle.pool_blocks.proofs.JoinedValues.{and_then, gather-more}
-use Rattle.pool_kernels.specs.Ranks.{rank, nth}
-use Rattle.pool_kernels.specs.Kernels.{gather_where}
+use Rattle.pool_kernels.specs.{Kernels.gather_where, Ranks.{rank, nth}}
+use Rattle.std.proofs.Common.{◌≡◌, ◌≢◌, ◌<◌, ◌≤◌, ℕ, zero, suc, Bool, true, false, List, [], ◌∷◌, Option, Some, None, if◌then◌else◌, eqb}
+use Rattle.std.proofs.{Common.{refl, ap, sym, ◌∙◌, ⊎_elim, arith}, lemmas.Bool.{cases_eq, cases_lt, eq-eqb, ne_eqb}}
+use Rattle.tp_graph.{proofs.Valued.gather-same, specs.Values.{gather, then_some}}
 
 -- the numbers below n that have f, by their ranks
 nth_step : {A : Type 0} (f : ℕ → Bool) (v : ℕ → Option A) (n : ℕ) (b : Bool)

@@ -1,19 +1,11 @@
 -- The entry of each task.
-use Rattle.std.proofs.Common.{◌≡◌, ◌<◌, ◌≤◌, ◌+◌, ◌-◌, ◌*◌, ◌/◌, ◌%◌, ℕ, zero, suc, true, false, List, [], ◌∷◌, ◌++◌, length, get_or, min}
-use Rattle.std.proofs.Common.{nat_lt, refl, ap, sym, ◌∙◌, subst, arith, ⊎_elim, length-append}
-use Rattle.std.proofs.lemmas.Bool.{cases_lt, lt-ltb, le-ltb}
-use Rattle.std.proofs.lemmas.List.{get_or_append_left, get_or_at}
-use Rattle.std.proofs.lemmas.Nat.{div-mul-add, mod-mul-add, div_below, mod_below}
-use Rattle.pool_kernels.specs.Grids.{Relation, ComesAgain, IsNarrow, inputs, outputs}
-use Rattle.pool_kernels.specs.Kinds.{AreArities, AreKinds, AreSpans}
-use Rattle.pool_kernels.specs.GridLaws.{some_if}
-use Rattle.pool_kernels.specs.Ranks.{rank, nth_is}
-use Rattle.pool_kernels.specs.Tables.{AreOutputs, AreSpots, IsOutput, IsSpot}
-use Rattle.pool_kernels.specs.declared.spots.Output.{Output}
-use Rattle.pool_kernels.specs.declared.spots.Span.{Span}
+use Rattle.pool_kernels.{proofs.{Counted.{kind_within, outputs_alike, same_kind}, More.rank_alike}, specs.GridLaws.some_if}
+use Rattle.pool_kernels.specs.{Grids.{Relation, ComesAgain, IsNarrow, inputs, outputs}, Kinds.{AreArities, AreKinds, AreSpans}, Ranks.rank}
+use Rattle.pool_kernels.specs.{Ranks.nth_is, Tables.{AreOutputs, AreSpots, IsOutput, IsSpot}, declared.spots.{Output.Output, Span.Span}}
 use Rattle.pool_kernels.specs.declared.spots.Spot.{Spot}
-use Rattle.pool_kernels.proofs.Counted.{kind_within, outputs_alike, same_kind}
-use Rattle.pool_kernels.proofs.More.{rank_alike}
+use Rattle.std.proofs.Common.{◌≡◌, ◌<◌, ◌≤◌, ◌+◌, ◌-◌, ◌*◌, ◌/◌, ◌%◌, ℕ, zero, suc, true, false, List, [], ◌∷◌, ◌++◌, length, get_or, min}
+use Rattle.std.proofs.{Common.{nat_lt, refl, ap, sym, ◌∙◌, subst, arith, ⊎_elim, length-append}, lemmas.Bool.{cases_lt, lt-ltb, le-ltb}}
+use Rattle.std.proofs.lemmas.{List.{get_or_append_left, get_or_at}, Nat.{div-mul-add, mod-mul-add, div_below, mod_below}}
 
 -- what was computed of this many rows is what was computed of the grid's relation
 pub kinds_are : (r : Relation) (w steps period rows : ℕ) (spans : List Span) (all : List Output) (arities : List ℕ)

@@ -1,12 +1,9 @@
 -- Values that are computed number by number.
-use Rattle.std.proofs.Common.{◌≡◌, ◌<◌, ◌+◌, ℕ, zero, suc, ℤ, List, [], ◌∷◌, ◌++◌, ◌&&◌, Bool, Some, None, true, false}
-use Rattle.std.proofs.Common.{if◌then◌else◌, refl, ap, sym, ◌∙◌, arith, w64, to_z, of_z}
-use Rattle.std.proofs.lemmas.Int.{to_z-of_z}
-use Rattle.tp_graph.specs.Values.{all_fit, fits, fitting}
-use Rattle.pool_blocks.specs.ListLaws.{list-more}
-use Rattle.pool_blocks.specs.Sums.{fits-signed}
-use Rattle.pool_blocks.specs.Lists.{list_of}
+use Rattle.pool_blocks.specs.{ListLaws.list-more, Lists.list_of, Sums.fits-signed}
 use Rattle.pool_kernels.specs.Numbers.{checked}
+use Rattle.std.proofs.Common.{◌≡◌, ◌<◌, ◌+◌, ℕ, zero, suc, ℤ, List, [], ◌∷◌, ◌++◌, ◌&&◌, Bool, Some, None, true, false, if◌then◌else◌, refl}
+use Rattle.std.proofs.{Common.{ap, sym, ◌∙◌, arith, w64, to_z, of_z}, lemmas.Int.to_z-of_z}
+use Rattle.tp_graph.specs.Values.{all_fit, fits, fitting}
 
 no_and : (b : Bool) → (b && false) ≡ false
 no_and true = refl

@@ -1,18 +1,11 @@
 -- The blocks after each row of a butterfly, and the numbers after the last.
-use Rattle.std.proofs.Common.{◌≡◌, ◌<◌, ◌≤◌, ◌+◌, ◌-◌, ◌*◌, ◌^◌, ℕ, zero, suc, ℤ, pos, List, [], ◌∷◌, length, get_or}
-use Rattle.std.proofs.Common.{Some}
-use Rattle.std.proofs.Common.{ap, sym, ◌∙◌, arith}
-use Rattle.std.proofs.lemmas.Nat.{pow-add}
-use Rattle.tp_graph.proofs.Made.{some_same, then_some-is}
-use Rattle.tp_graph.specs.Values.{all_fit, fitting, then_some}
-use Rattle.pool_blocks.specs.ListLaws.{list-at}
-use Rattle.pool_blocks.specs.Lists.{at, list_of}
-use Rattle.pool_kernels.proofs.Cells.{cell_first, cell_from_two, if_some}
-use Rattle.pool_kernels.proofs.Rows.{list_same, row_of_blocks}
-use Rattle.pool_kernels.proofs.Splits.{butterfly_two, digit_inner, digit_outer, high_below, without_inner, without_outer}
-use Rattle.pool_kernels.specs.Digits.{butterfly, digit, without}
-use Rattle.pool_kernels.specs.Kernels.{cell, computed, row_at}
-use Rattle.pool_kernels.specs.Pairs.{Pair, after, pair_rule, paired, within}
+use Rattle.pool_blocks.specs.{ListLaws.list-at, Lists.{at, list_of}}
+use Rattle.pool_kernels.proofs.{Cells.{cell_first, cell_from_two, if_some}, Rows.{list_same, row_of_blocks}, Splits.butterfly_two}
+use Rattle.pool_kernels.{proofs.Splits.{digit_inner, digit_outer, high_below, without_inner, without_outer}, specs.Digits.butterfly}
+use Rattle.pool_kernels.specs.{Digits.{digit, without}, Kernels.{cell, computed, row_at}, Pairs.{Pair, after, pair_rule, paired, within}}
+use Rattle.std.proofs.Common.{◌≡◌, ◌<◌, ◌≤◌, ◌+◌, ◌-◌, ◌*◌, ◌^◌, ℕ, zero, suc, ℤ, pos, List, [], ◌∷◌, length, get_or, Some, ap, sym, ◌∙◌}
+use Rattle.std.proofs.{Common.arith, lemmas.Nat.pow-add}
+use Rattle.tp_graph.{proofs.Made.{some_same, then_some-is}, specs.Values.{all_fit, fitting, then_some}}
 
 module _ (pair : Pair) (xs : List ℤ) (inner : ℕ) where
   -- a block of the numbers after some steps

@@ -1,17 +1,10 @@
 -- The transform of parts of the numbers, and how that of a part comes from those of its halves.
-use Rattle.std.proofs.Common.{◌≡◌, ◌<◌, ◌+◌, ◌*◌, ◌/◌, ◌%◌, ◌^◌, ℕ, zero, suc, ℤ, neg_ℤ, ◌+ℤ◌, List, length, bit_and}
-use Rattle.std.proofs.Common.{refl, ap, sym, ◌∙◌, arith}
-use Rattle.std.specs.Int.RustNames.{count_ones}
-use Rattle.std.proofs.Math.IntN.{+ℤ_idl}
-use Rattle.std.proofs.lemmas.Nat.{and_block, and_le_l, div-mul-add, mod-mul-add, mul-add-lt, ones_cat, pow-add}
 use Rattle.pool_blocks.specs.Lists.{at}
-use Rattle.pool_kernels.proofs.Rows.{list_same}
-use Rattle.pool_kernels.proofs.Splits.{split, without_is}
-use Rattle.pool_kernels.proofs.Sums.{sum_neg, sum_same, sum_split}
-use Rattle.pool_kernels.specs.Digits.{digit, without}
-use Rattle.pool_kernels.specs.Pairs.{after, paired}
-use Rattle.pool_kernels.specs.Sums.{sum_to}
-use Rattle.pool_kernels.specs.Transforms.{summed, term, transform, turned}
+use Rattle.pool_kernels.{proofs.{Rows.list_same, Splits.{split, without_is}, Sums.{sum_neg, sum_same, sum_split}}, specs.Digits.digit}
+use Rattle.pool_kernels.specs.{Digits.without, Pairs.{after, paired}, Sums.sum_to, Transforms.{summed, term, transform, turned}}
+use Rattle.std.proofs.Common.{◌≡◌, ◌<◌, ◌+◌, ◌*◌, ◌/◌, ◌%◌, ◌^◌, ℕ, zero, suc, ℤ, neg_ℤ, ◌+ℤ◌, List, length, bit_and, refl, ap, sym, ◌∙◌}
+use Rattle.std.proofs.{Common.arith, Math.IntN.+ℤ_idl, lemmas.Nat.{and_block, and_le_l, div-mul-add, mod-mul-add, mul-add-lt, ones_cat}}
+use Rattle.std.{proofs.lemmas.Nat.pow-add, specs.Int.RustNames.count_ones}
 
 bits : (b c : ℕ) → b < 2 → c < 2 → count_ones (bit_and b c) ≡ b * c
 unfolding count_ones

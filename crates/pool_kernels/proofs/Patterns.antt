@@ -1,18 +1,11 @@
 -- The period of each pattern, and one iteration more.
+use Rattle.pool_kernels.{proofs.More.{suc_false, suc_true}, specs.{Grids.ComesAgain, Patterns.{doublings, fifth, period_of, relates}}}
+use Rattle.pool_kernels.specs.{Ranks.rank, Stirrings.{stir, stirred}, declared.pattern.Pattern.{Pattern, TheVariants.{Trivial, NoComm}}}
+use Rattle.pool_kernels.specs.declared.pattern.Pattern.TheVariants.{Stencil, StencilPeriodic, Dom, Tree, Fft, AllToAll, Nearest, Spread}
+use Rattle.pool_kernels.specs.declared.pattern.Pattern.TheVariants.{RandomNearest}
 use Rattle.std.proofs.Common.{◌≡◌, ◌<◌, ◌≤◌, ◌+◌, ◌-◌, ◌*◌, ◌/◌, ◌%◌, ◌^◌, ℕ, zero, suc, min, max, refl, ap, sym, ◌∙◌, subst, arith, ⊎_elim}
-use Rattle.std.specs.Prelude.{◌==◌, ◌||◌, nat_le}
-use Rattle.std.specs.Int.{abs_diff}
-use Rattle.std.proofs.Math.Nat.{add-mod_right, pow-suc}
-use Rattle.std.proofs.lemmas.Bool.{cases_eq, cases_lt, le-leb, lt-leb}
-use Rattle.std.proofs.lemmas.Nat.{pow_below}
-use Rattle.pool_kernels.proofs.More.{suc_false, suc_true}
-use Rattle.pool_kernels.specs.Grids.{ComesAgain}
-use Rattle.pool_kernels.specs.Ranks.{rank}
-use Rattle.pool_kernels.specs.Stirrings.{stir, stirred}
-use Rattle.pool_kernels.specs.Patterns.{doublings, fifth, period_of, relates}
-use Rattle.pool_kernels.specs.declared.pattern.Pattern.{Pattern}
-use Rattle.pool_kernels.specs.declared.pattern.Pattern.TheVariants.{Trivial, NoComm, Stencil, StencilPeriodic, Dom, Tree, Fft, AllToAll}
-use Rattle.pool_kernels.specs.declared.pattern.Pattern.TheVariants.{Nearest, Spread, RandomNearest}
+use Rattle.std.proofs.{Math.Nat.{add-mod_right, pow-suc}, lemmas.{Bool.{cases_eq, cases_lt, le-leb, lt-leb}, Nat.pow_below}}
+use Rattle.std.specs.{Int.abs_diff, Prelude.{◌==◌, ◌||◌, nat_le}}
 
 power_le : (i j : ℕ) → i ≤ j → 2 ^ i ≤ 2 ^ j
 power_le i j h =

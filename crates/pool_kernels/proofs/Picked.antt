@@ -1,10 +1,8 @@
 -- What is picked of the numbers below another.
+use Rattle.pool_kernels.specs.{Kinds.picked, Ranks.{rank, nth}}
 use Rattle.std.proofs.Common.{◌≡◌, ◌<◌, ◌+◌, ℕ, zero, suc, Bool, true, false, List, [], ◌∷◌, ◌++◌, length, get_or, if◌then◌else◌, eqb, refl}
-use Rattle.std.proofs.Common.{ap, sym, ◌∙◌, arith, length-append}
-use Rattle.std.proofs.lemmas.Bool.{eqb-true, eqb-false}
-use Rattle.std.proofs.lemmas.List.{get_or_append_left, get_or_at}
-use Rattle.pool_kernels.specs.Kinds.{picked}
-use Rattle.pool_kernels.specs.Ranks.{rank, nth}
+use Rattle.std.proofs.{Common.{ap, sym, ◌∙◌, arith, length-append}, lemmas.{Bool.{eqb-true, eqb-false}, List.get_or_append_left}}
+use Rattle.std.proofs.lemmas.List.{get_or_at}
 
 long_step : {A : Type 0} (b : Bool) (xs : List A) (a : A) (m : ℕ) → length xs ≡ m
     → length (if b then xs ++ a ∷ [] else xs) ≡ (if b then suc m else m)

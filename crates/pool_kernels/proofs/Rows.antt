@@ -1,21 +1,11 @@
 -- The last row of a grid, from the values of its tasks.
-use Rattle.std.proofs.Common.{◌≡◌, ◌<◌, ◌≤◌, ◌+◌, ◌-◌, ◌*◌, ℕ, zero, suc, ℤ, List, [], ◌∷◌, ◌++◌, length, get_or, Some}
-use Rattle.std.proofs.Common.{refl, ap, sym, ◌∙◌, arith}
-use Rattle.tp_graph.proofs.Made.{gathered, some_same, then_some-is}
-use Rattle.tp_graph.proofs.Valued.{gather-same}
-use Rattle.tp_graph.specs.Found.{HasEachOnce}
-use Rattle.tp_graph.specs.Graphs.{TaskGraph}
-use Rattle.tp_graph.specs.Left.{AreKept}
-use Rattle.tp_graph.specs.Serial.{Results}
-use Rattle.tp_graph.specs.Values.{gather, value_of}
-use Rattle.pool_blocks.proofs.JoinedValues.{joining}
-use Rattle.pool_blocks.specs.Joined.{KeepsFrom, LacksTask, in_a_row, numbers_from}
-use Rattle.pool_blocks.specs.Lists.{list_of}
-use Rattle.pool_kernels.proofs.Found.{has_one}
-use Rattle.pool_kernels.proofs.LastRow.{last_kept}
-use Rattle.pool_kernels.specs.Grids.{IsNarrow, Relation}
-use Rattle.pool_kernels.proofs.Cells.{cell_is}
-use Rattle.pool_kernels.specs.Kernels.{Rule, cell, kernel_graph, row_at, rule_in}
+use Rattle.pool_blocks.{proofs.JoinedValues.joining, specs.{Joined.{KeepsFrom, LacksTask, in_a_row, numbers_from}, Lists.list_of}}
+use Rattle.pool_kernels.{proofs.{Cells.cell_is, Found.has_one, LastRow.last_kept}, specs.{Grids.{IsNarrow, Relation}, Kernels.{Rule, cell}}}
+use Rattle.pool_kernels.specs.Kernels.{kernel_graph, row_at, rule_in}
+use Rattle.std.proofs.Common.{◌≡◌, ◌<◌, ◌≤◌, ◌+◌, ◌-◌, ◌*◌, ℕ, zero, suc, ℤ, List, [], ◌∷◌, ◌++◌, length, get_or, Some, refl, ap, sym, ◌∙◌}
+use Rattle.std.proofs.Common.{arith}
+use Rattle.tp_graph.{proofs.{Made.{gathered, some_same, then_some-is}, Valued.gather-same}, specs.{Found.HasEachOnce, Graphs.TaskGraph}}
+use Rattle.tp_graph.specs.{Left.AreKept, Serial.Results, Values.{gather, value_of}}
 
 -- ---- the last row of a grid
 pub last_row : (r : Relation) (rule : Rule) (w steps : ℕ) → IsNarrow r w steps → 1 ≤ steps

@@ -1,9 +1,8 @@
 -- A lawful graph is in order, and one that is in order is lawful with the ways back that are found.
-use Rattle.std.proofs.Common.{◌≡◌, ◌<◌, ◌≤◌, ℕ, inl, inr, refl, ap, sym, ◌∙◌, ⊎_elim, arith}
-use Rattle.std.proofs.lemmas.Bool.{cases_lt}
+use Rattle.pool_kernels.specs.Plans.{Fills, IsBefore, IsConnected, IsRight, IsSound, LawfulIsSound, SoundIsLawful}
+use Rattle.std.proofs.{Common.{◌≡◌, ◌<◌, ◌≤◌, ℕ, inl, inr, refl, ap, sym, ◌∙◌, ⊎_elim, arith}, lemmas.Bool.cases_lt}
 use Rattle.tp_base.specs.declared.limits.TheConstants.{MAX_NODES}
 use Rattle.tp_graph.specs.Graphs.{FillsSlot, IsFilled, IsLawful, TaskGraph}
-use Rattle.pool_kernels.specs.Plans.{Fills, IsBefore, IsConnected, IsRight, IsSound, LawfulIsSound, SoundIsLawful}
 
 -- ---- a lawful graph
 -- no two feeds fill a slot

@@ -1,10 +1,8 @@
 -- Binary digits, and which columns a butterfly relates.
+use Rattle.pool_kernels.{proofs.Gathers.AreTwo, specs.Digits.{butterfly, digit, without}}
 use Rattle.std.proofs.Common.{◌≡◌, ◌<◌, ◌≤◌, ◌+◌, ◌-◌, ◌*◌, ◌/◌, ◌%◌, ◌^◌, ℕ, zero, suc, refl, ap, sym, ◌∙◌, subst, ⊎_elim, arith}
-use Rattle.std.specs.Prelude.{◌==◌}
-use Rattle.std.proofs.lemmas.Bool.{cases_lt, eq-eqb, eqb-true}
-use Rattle.std.proofs.lemmas.Nat.{div-add-mod', div-mul-add, div_below, mod_below, mul-add-lt, pow-add, pow_below, pow_pos}
-use Rattle.pool_kernels.proofs.Gathers.{AreTwo}
-use Rattle.pool_kernels.specs.Digits.{butterfly, digit, without}
+use Rattle.std.proofs.lemmas.{Bool.{cases_lt, eq-eqb, eqb-true}, Nat.{div-add-mod', div-mul-add, div_below, mod_below, mul-add-lt, pow-add}}
+use Rattle.std.{proofs.lemmas.Nat.{pow_below, pow_pos}, specs.Prelude.◌==◌}
 
 one_or : (b : ℕ) → b < 2 → (b ≡ 0 → ⊥) → b ≡ 1
 one_or zero h other = absurd (other refl)

@@ -1,7 +1,5 @@
 -- Doubles as numbers of 64 bits.
-use Rattle.std.specs.Prelude.{ℤ, Float, from_bits}
-use Rattle.std.specs.Float.{binary64}
-use Rattle.std.specs.Int.{cast_unsigned, w64}
+use Rattle.std.specs.{Float.binary64, Int.{cast_unsigned, w64}, Prelude.{ℤ, Float, from_bits}}
 
 -- the double that has these bits
 abbrev pub double_in : ℤ → Float

@@ -1,10 +1,8 @@
 -- Why there is no table of a grid.
+use Rattle.pool_kernels.specs.{Events.grid_events, Grids.{IsNarrow, Relation, inputs}, declared.table_fault.TableFault.TableFault}
+use Rattle.pool_kernels.specs.declared.table_fault.TableFault.TheVariants.{Empty, TooManyInputs, TooManyEvents, NoMemory}
 use Rattle.std.specs.Prelude.{◌≡◌, ◌<◌, ◌≤◌, ◌⊎◌, ℕ, ⊤}
 use Rattle.tp_base.specs.declared.limits.TheConstants.{MAX_STEPS}
-use Rattle.pool_kernels.specs.Events.{grid_events}
-use Rattle.pool_kernels.specs.Grids.{IsNarrow, Relation, inputs}
-use Rattle.pool_kernels.specs.declared.table_fault.TableFault.{TableFault}
-use Rattle.pool_kernels.specs.declared.table_fault.TableFault.TheVariants.{Empty, TooManyInputs, TooManyEvents, NoMemory}
 
 -- a task of the grid has more than 16 inputs
 pub record IsWide (r : Relation) (w steps : ℕ) : Type 0 where

@@ -1,12 +1,11 @@
 -- The graph of a grid keeps the invariant of task graphs, whatever its relation: the s-th of those that feed a column
 -- and the rank among them are inverse to each other.
-use Rattle.std.proofs.Common.{◌≡◌, ◌<◌, ◌≤◌, ◌+◌, ◌*◌, ◌/◌, ◌%◌, ℕ, zero, suc, Bool, true, false, ℤ, List, Option, if◌then◌else◌, nat_lt}
-use Rattle.std.proofs.Common.{refl, ap, sym, ◌∙◌, subst, arith}
-use Rattle.std.proofs.lemmas.Bool.{lt-ltb, ltb-true}
-use Rattle.std.proofs.lemmas.Nat.{div-add-mod', mod-mul-add, div-mul-add, mul-add-lt, div_below}
-use Rattle.tp_graph.specs.Graphs.{IsLawful, FillsSlot, IsFilled}
-use Rattle.pool_kernels.specs.Ranks.{rank, nth_is, rank_is}
 use Rattle.pool_kernels.specs.Grids.{Relation, grid_graph, inputs, outputs, input, output, source, turn, target, slot, IsNarrow}
+use Rattle.pool_kernels.specs.Ranks.{rank, nth_is, rank_is}
+use Rattle.std.proofs.Common.{◌≡◌, ◌<◌, ◌≤◌, ◌+◌, ◌*◌, ◌/◌, ◌%◌, ℕ, zero, suc, Bool, true, false, ℤ, List, Option, if◌then◌else◌, nat_lt}
+use Rattle.std.proofs.{Common.{refl, ap, sym, ◌∙◌, subst, arith}, lemmas.{Bool.{lt-ltb, ltb-true}, Nat.{div-add-mod', mod-mul-add}}}
+use Rattle.std.proofs.lemmas.Nat.{div-mul-add, mul-add-lt, div_below}
+use Rattle.tp_graph.specs.Graphs.{IsLawful, FillsSlot, IsFilled}
 
 pub some_if : (b : Bool) (k n : ℕ) → k < (if b then n else 0) → (b ≡ true) × (k < n)
 some_if true k n h = (refl, h)

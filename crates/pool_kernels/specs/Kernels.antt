@@ -1,9 +1,8 @@
 -- What a grid computes whose tasks have a kernel, row by row: no tasks, no slots.
-use Rattle.std.specs.Prelude.{◌≡◌, ◌<◌, ◌+◌, ◌*◌, ◌/◌, ◌%◌, ℕ, zero, suc, ℤ, Bool, List, [], ◌∷◌, ◌++◌, Option, Some, if◌then◌else◌}
-use Rattle.tp_graph.specs.Graphs.{TaskGraph}
-use Rattle.tp_graph.specs.Values.{fitting, gather, then_some, value_of}
 use Rattle.pool_blocks.specs.Joined.{in_a_row}
 use Rattle.pool_kernels.specs.Grids.{IsNarrow, Relation, grid_graph}
+use Rattle.std.specs.Prelude.{◌≡◌, ◌<◌, ◌+◌, ◌*◌, ◌/◌, ◌%◌, ℕ, zero, suc, ℤ, Bool, List, [], ◌∷◌, ◌++◌, Option, Some, if◌then◌else◌}
+use Rattle.tp_graph.specs.{Graphs.TaskGraph, Values.{fitting, gather, then_some, value_of}}
 
 -- what a task computes from its row, its column and the values that feed it, in rising order of their columns; none if
 -- it fails

@@ -1,14 +1,8 @@
 -- The outputs of rows, computed column by column.
+use Rattle.pool_kernels.specs.{Faults.IsWide, Grids.{Relation, ComesAgain}, Ranks.rank, Tables.AreOutputs, declared.spots.Output.Output}
+use Rattle.pool_kernels.specs.declared.{spots.Span.Span, table_fault.TableFault.{TableFault, TheVariants.{TooManyInputs, NoMemory}}}
 use Rattle.std.specs.Prelude.{◌≡◌, ◌<◌, ◌≤◌, ◌-◌, ◌*◌, ◌/◌, ◌%◌, ℕ, zero, suc, Bool, List, [], ◌∷◌, ◌++◌, length, slice_index_or}
 use Rattle.std.specs.Prelude.{if◌then◌else◌, min, ⊤}
-use Rattle.pool_kernels.specs.Grids.{Relation, ComesAgain}
-use Rattle.pool_kernels.specs.Faults.{IsWide}
-use Rattle.pool_kernels.specs.Ranks.{rank}
-use Rattle.pool_kernels.specs.Tables.{AreOutputs}
-use Rattle.pool_kernels.specs.declared.table_fault.TableFault.{TableFault}
-use Rattle.pool_kernels.specs.declared.table_fault.TableFault.TheVariants.{TooManyInputs, NoMemory}
-use Rattle.pool_kernels.specs.declared.spots.Output.{Output}
-use Rattle.pool_kernels.specs.declared.spots.Span.{Span}
 
 -- v of each number below n that has f, in rising order
 abbrev pub picked : {A : Type 0} → (ℕ → Bool) → (ℕ → A) → ℕ → List A

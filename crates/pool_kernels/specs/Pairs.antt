@@ -1,9 +1,8 @@
 -- Numbers after steps that pair them by binary digits of their positions, at once and in blocks.
+use Rattle.pool_blocks.specs.Lists.{at, list_of}
+use Rattle.pool_kernels.specs.{Digits.{digit, without}, Kernels.Rule}
 use Rattle.std.specs.Prelude.{◌≡◌, ◌<◌, ◌+◌, ◌-◌, ◌*◌, ◌^◌, ℕ, zero, suc, ℤ, List, [], ◌∷◌, Option, Some, None, length}
 use Rattle.tp_graph.specs.Values.{fitting, then_some}
-use Rattle.pool_blocks.specs.Lists.{at, list_of}
-use Rattle.pool_kernels.specs.Digits.{digit, without}
-use Rattle.pool_kernels.specs.Kernels.{Rule}
 
 -- what a number becomes, from its digit (0 or 1) and the two numbers of its pair
 abbrev pub Pair : Type 0

@@ -1,11 +1,8 @@
 -- Task Bench's patterns as relations of columns.
-use Rattle.std.specs.Prelude.{ℕ, Bool, true, false, ◌+◌, ◌-◌, ◌*◌, ◌/◌, ◌%◌, ◌^◌, ◌==◌, ◌||◌, ◌&&◌, nat_le, max}
-use Rattle.std.specs.Int.{abs_diff}
-use Rattle.pool_kernels.specs.Stirrings.{stirred}
-use Rattle.pool_kernels.specs.Ranks.{rank}
-use Rattle.pool_kernels.specs.declared.pattern.Pattern.{Pattern}
-use Rattle.pool_kernels.specs.declared.pattern.Pattern.TheVariants.{Trivial, NoComm, Stencil, StencilPeriodic, Dom, Tree, Fft, AllToAll}
-use Rattle.pool_kernels.specs.declared.pattern.Pattern.TheVariants.{Nearest, Spread, RandomNearest}
+use Rattle.pool_kernels.specs.{Ranks.rank, Stirrings.stirred, declared.pattern.Pattern.{Pattern, TheVariants.{Trivial, NoComm, Stencil}}}
+use Rattle.pool_kernels.specs.declared.pattern.Pattern.TheVariants.{StencilPeriodic, Dom, Tree, Fft, AllToAll, Nearest, Spread}
+use Rattle.pool_kernels.specs.declared.pattern.Pattern.TheVariants.{RandomNearest}
+use Rattle.std.specs.{Int.abs_diff, Prelude.{ℕ, Bool, true, false, ◌+◌, ◌-◌, ◌*◌, ◌/◌, ◌%◌, ◌^◌, ◌==◌, ◌||◌, ◌&&◌, nat_le, max}}
 
 -- how many of 2, 4, 8 and so on are at most w, but at least 1
 abbrev pub doublings : ℕ → ℕ

@@ -1,16 +1,11 @@
 -- Why a run of a grid has no row, by cases of the returned fault.
+use Rattle.pool_kernels.specs.{Faults.IsTableFault, Grids.Relation, Kernels.{Rule, kernel_graph}, declared.fault.GridFault.GridFault}
+use Rattle.pool_kernels.specs.declared.fault.RunFault.{RunFault, TheVariants.{Run, Unmade}}
 use Rattle.std.specs.Prelude.{ℕ}
-use Rattle.tp_base.specs.declared.refusal.Refusal.{Refusal}
-use Rattle.tp_base.specs.declared.refusal.Refusal.TheVariants.{NoMemory}
+use Rattle.tp_base.specs.declared.refusal.Refusal.{Refusal, TheVariants.NoMemory}
 use Rattle.tp_graph.specs.Graphs.{TaskGraph}
 use Rattle.tp_work.specs.Outcomes.{IsFault, IsOutcome}
-use Rattle.pool_kernels.specs.Faults.{IsTableFault}
-use Rattle.pool_kernels.specs.Grids.{Relation}
-use Rattle.pool_kernels.specs.Kernels.{Rule, kernel_graph}
-use Rattle.pool_kernels.specs.declared.fault.GridFault.{GridFault}
 use Rattle.pool_kernels.specs.declared.fault.GridFault.TheVariants as grid
-use Rattle.pool_kernels.specs.declared.fault.RunFault.{RunFault}
-use Rattle.pool_kernels.specs.declared.fault.RunFault.TheVariants.{Run, Unmade}
 
 -- the refusal of a fault: that of the pool's own fault is its own
 abbrev pub refusal_of : RunFault → Refusal

@@ -1,9 +1,8 @@
 -- What a task computes from its inputs: numbers below 2 ^ 31, to which the kernel is applied this many times.
-use Rattle.std.specs.Prelude.{◌+◌, ◌*◌, ◌%◌, ℕ, zero, suc, ℤ, pos, List, [], ◌∷◌, map, Option, Some, None, if◌then◌else◌, nat_lt}
-use Rattle.std.specs.Int.{cast_unsigned, w64}
-use Rattle.std.specs.List.{sum}
-use Rattle.tp_graph.specs.Values.{then_some}
 use Rattle.pool_kernels.specs.Kernels.{Rule}
+use Rattle.std.specs.{Int.{cast_unsigned, w64}, List.sum, Prelude.{◌+◌, ◌*◌, ◌%◌, ℕ, zero, suc, ℤ, pos, List, [], ◌∷◌, map, Option, Some}}
+use Rattle.std.specs.Prelude.{None, if◌then◌else◌, nat_lt}
+use Rattle.tp_graph.specs.Values.{then_some}
 
 -- one iteration
 abbrev pub stirred : ℕ → ℕ

@@ -1,9 +1,6 @@
 -- The entries of a table of feeds.
+use Rattle.pool_kernels.specs.{Grids.{Relation, inputs, outputs, output}, Ranks.rank, declared.spots.{Output.Output, Spot.Spot}}
 use Rattle.std.specs.Prelude.{◌≡◌, ◌<◌, ◌≤◌, ◌+◌, ◌/◌, ◌%◌, ℕ, suc, List, length, slice_index_or}
-use Rattle.pool_kernels.specs.Grids.{Relation, inputs, outputs, output}
-use Rattle.pool_kernels.specs.Ranks.{rank}
-use Rattle.pool_kernels.specs.declared.spots.Output.{Output}
-use Rattle.pool_kernels.specs.declared.spots.Spot.{Spot}
 
 -- the k-th column that column j of the row before feeds in row t, and the slot there
 pub record IsOutput (r : Relation) (w t j k : ℕ) (found : Output) : Type 0 where

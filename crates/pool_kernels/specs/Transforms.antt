@@ -1,9 +1,7 @@
 -- The Walsh-Hadamard transform, as it is defined, and its pairing.
-use Rattle.std.specs.Prelude.{ℕ, zero, suc, ℤ, neg_ℤ, ◌+ℤ◌, List, length, bit_and}
-use Rattle.std.specs.Int.RustNames.{count_ones}
 use Rattle.pool_blocks.specs.Lists.{at, list_of}
-use Rattle.pool_kernels.specs.Pairs.{Pair}
-use Rattle.pool_kernels.specs.Sums.{sum_to}
+use Rattle.pool_kernels.specs.{Pairs.Pair, Sums.sum_to}
+use Rattle.std.specs.{Int.RustNames.count_ones, Prelude.{ℕ, zero, suc, ℤ, neg_ℤ, ◌+ℤ◌, List, length, bit_and}}
 
 -- a number with its sign turned n times: (-1) ^ n times the number
 abbrev pub turned : ℕ → ℤ → ℤ

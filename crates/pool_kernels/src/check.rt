@@ -1,9 +1,8 @@
 //! Checks that the tasks and feeds of a graph are in order.
+ghost use Rattle.pool_kernels.specs.{Marks.{AreFew, AreMarks}, Plans.{AreFed, AreRight, IsConnected, IsFirstFeed, IsFirstPlace}};
+ghost use Rattle.pool_kernels.specs.Plans.{IsGraphFault, IsPlaced, IsReached, IsRight, IsSound};
 ghost use Rattle.std.specs.Prelude.{◌≡◌, ◌<◌, ◌≤◌, ◌+◌, ◌*◌, ℕ, IfErr, OnOk};
 ghost use Rattle.tp_base.specs.declared.limits.TheConstants.{MAX_INPUTS, MAX_NODES};
-ghost use Rattle.pool_kernels.specs.Plans.{AreFed, AreRight, IsConnected, IsFirstFeed, IsFirstPlace, IsGraphFault};
-ghost use Rattle.pool_kernels.specs.Plans.{IsPlaced, IsReached, IsRight, IsSound};
-ghost use Rattle.pool_kernels.specs.Marks.{AreFew, AreMarks};
 
 use crate::graph_fault::GraphFault;
 use crate::plan::{Plan, PlanOf};

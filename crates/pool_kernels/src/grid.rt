@@ -1,9 +1,7 @@
 //! A grid of tasks with a kernel, as a graph, and its last row from a pool's results.
+ghost use Rattle.pool_kernels.specs.{GridLaws.grid_lawful, Kernels.{kernel_graph, row_at, rule_in}};
 ghost use Rattle.std.specs.Prelude.{◌≡◌, ◌-◌, ◌*◌, IfOk, Some, ⊤};
-ghost use Rattle.pool_kernels.specs.GridLaws.{grid_lawful};
-ghost use Rattle.pool_kernels.specs.Kernels.{kernel_graph, row_at, rule_in};
-ghost use Rattle.tp_graph.specs.Found.{HasEachOnce};
-ghost use Rattle.tp_graph.specs.Left.{AreKept};
+ghost use Rattle.tp_graph.specs.{Found.HasEachOnce, Left.AreKept};
 
 use crate::kernel::Kernel;
 use crate::relation::Relation;

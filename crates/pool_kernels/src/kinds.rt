@@ -1,8 +1,7 @@
 //! The outputs and inputs of a grid's rows, up to the period of its relation.
-ghost use Rattle.std.specs.Prelude.{◌≡◌, ◌≤◌, ◌<◌, ◌+◌, ◌-◌, ◌*◌, ◌++◌, ◌^◌, IfOk, IfErr};
-ghost use Rattle.pool_kernels.specs.Grids.{AreSizes};
-ghost use Rattle.pool_kernels.specs.Kinds.{AreArities, AreSeen, AreSpans, IsRowFault, IsRowsFault, outputs_to};
+ghost use Rattle.pool_kernels.specs.{Grids.AreSizes, Kinds.{AreArities, AreSeen, AreSpans, IsRowFault, IsRowsFault, outputs_to}};
 ghost use Rattle.pool_kernels.specs.Ranks.{rank};
+ghost use Rattle.std.specs.Prelude.{◌≡◌, ◌≤◌, ◌<◌, ◌+◌, ◌-◌, ◌*◌, ◌++◌, ◌^◌, IfOk, IfErr};
 
 use crate::relation::Relation;
 use crate::spots::{Output, Span};

@@ -1,8 +1,7 @@
 //! What the tasks of a grid compute, how many events a grid takes, and what a check of a graph means, as laws: calls whose
 //! postconditions are theorems.
-ghost use Rattle.pool_kernels.specs.Events.{GridEventsLaw, GridStepsLaw, NoMessageLaw};
-ghost use Rattle.pool_kernels.specs.Kernels.{CellLaw};
-ghost use Rattle.pool_kernels.specs.Plans.{LawfulIsSound, SoundIsLawful};
+ghost use Rattle.pool_kernels.specs.{Events.{GridEventsLaw, GridStepsLaw, NoMessageLaw}, Kernels.CellLaw, Plans.LawfulIsSound};
+ghost use Rattle.pool_kernels.specs.Plans.{SoundIsLawful};
 
 /// States that the value of each task of a grid is what its kernel computes from the values of the columns that feed it.
 #[tactic(auto, using(crate::proofs::Cells::cell_value))]

@@ -1,12 +1,8 @@
 //! Computes a table's entry for each task.
+ghost use Rattle.pool_kernels.specs.{Events.grid_events, Faults.IsTableFault, Grids.{AreSizes, Relation}, Kinds.AreKinds, Tables.AreSpots};
+ghost use Rattle.pool_kernels.specs.{Tables.IsSpot, declared.spots.Span.Span};
 ghost use Rattle.std.specs.Prelude.{◌≡◌, ◌≤◌, ◌<◌, ◌+◌, ◌-◌, ◌*◌, ◌/◌, ◌%◌, ◌^◌, min, length, slice_index_or, IfOk, IfErr, OnOk, ℕ};
 ghost use Rattle.tp_graph.specs.Events.{task_events};
-ghost use Rattle.pool_kernels.specs.Events.{grid_events};
-ghost use Rattle.pool_kernels.specs.Faults.{IsTableFault};
-ghost use Rattle.pool_kernels.specs.Grids.{AreSizes, Relation};
-ghost use Rattle.pool_kernels.specs.Kinds.{AreKinds};
-ghost use Rattle.pool_kernels.specs.Tables.{AreSpots, IsSpot};
-ghost use Rattle.pool_kernels.specs.declared.spots.Span.{Span};
 
 use crate::kinds::Kinds;
 use crate::spots::{Span, Spot};

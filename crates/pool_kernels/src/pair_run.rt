@@ -1,8 +1,6 @@
 //! Running steps that pair numbers on threads.
+ghost use Rattle.pool_kernels.specs.{Digits.butterfly, Pairs.{pair_rule, paired}, RunFaults.IsGridFault};
 ghost use Rattle.std.specs.Prelude.{◌≡◌, ◌+◌, ◌^◌, IfErr, IfOk};
-ghost use Rattle.pool_kernels.specs.Digits.{butterfly};
-ghost use Rattle.pool_kernels.specs.RunFaults.{IsGridFault};
-ghost use Rattle.pool_kernels.specs.Pairs.{pair_rule, paired};
 ghost use Rattle.tp_work.specs.Outcomes.{IsWithinLimits};
 
 use crate::blocks::PairedBlocks;

@@ -1,7 +1,6 @@
 //! The trait of pairings, which say what numbers become in pairs.
+ghost use Rattle.pool_kernels.specs.{Numbers.checked, Pairs.Pair};
 ghost use Rattle.std.specs.Prelude.{◌≡◌, ◌<◌};
-ghost use Rattle.pool_kernels.specs.Numbers.{checked};
-ghost use Rattle.pool_kernels.specs.Pairs.{Pair};
 
 /// A pairing: what the two numbers of a pair become in a step of a transform.
 pub trait Pairing: Copy {

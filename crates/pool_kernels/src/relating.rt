@@ -1,7 +1,6 @@
 //! The relation of each of Task Bench's patterns, and its period.
+ghost use Rattle.pool_kernels.specs.{Grids.AreSizes, Patterns.{doublings, fifth, is_drawn, period_of, relates}};
 ghost use Rattle.std.specs.Prelude.{◌≡◌, ◌≤◌, ◌<◌, ◌^◌};
-ghost use Rattle.pool_kernels.specs.Grids.{AreSizes};
-ghost use Rattle.pool_kernels.specs.Patterns.{doublings, fifth, is_drawn, period_of, relates};
 
 use crate::pattern::Pattern;
 use crate::relation::Relation;

@@ -1,10 +1,8 @@
 //! The table of a grid, which makes each call of its graph a look-up.
+ghost use Rattle.pool_kernels.specs.{Events.grid_events, Faults.{HasNoFault, IsTableFault}, Grids.IsNarrow, Tables.{AreSpots, IsOutput}};
+ghost use Rattle.pool_kernels.specs.Tables.{IsSpot};
 ghost use Rattle.std.specs.Prelude.{◌≡◌, ◌≤◌, ◌<◌, ◌*◌, ◌/◌, ◌%◌, ◌^◌, suc, IfErr, IfOk, OnOk};
 ghost use Rattle.tp_base.specs.declared.limits.TheConstants.{MAX_STEPS};
-ghost use Rattle.pool_kernels.specs.Events.{grid_events};
-ghost use Rattle.pool_kernels.specs.Faults.{HasNoFault, IsTableFault};
-ghost use Rattle.pool_kernels.specs.Grids.{IsNarrow};
-ghost use Rattle.pool_kernels.specs.Tables.{AreSpots, IsOutput, IsSpot};
 
 use crate::kinds::{Kinds, kinds_of};
 use crate::noting::spots_of;

@@ -1,9 +1,6 @@
 //! Running the transform on threads.
+ghost use Rattle.pool_kernels.specs.{Digits.butterfly, Pairs.pair_rule, RunFaults.IsGridFault, Transforms.{summed, transform}};
 ghost use Rattle.std.specs.Prelude.{◌≡◌, ◌+◌, ◌^◌, IfErr, IfOk};
-ghost use Rattle.pool_kernels.specs.Digits.{butterfly};
-ghost use Rattle.pool_kernels.specs.RunFaults.{IsGridFault};
-ghost use Rattle.pool_kernels.specs.Pairs.{pair_rule};
-ghost use Rattle.pool_kernels.specs.Transforms.{summed, transform};
 ghost use Rattle.tp_work.specs.Outcomes.{IsWithinLimits};
 
 use crate::blocks::PairedBlocks;

@@ -1,13 +1,10 @@
 -- How many events a finished run of a product took, as far as its outcome shows.
-use Rattle.std.specs.Prelude.{ℕ, ◌≡◌, ◌≤◌, ℤ, List}
-use Rattle.tp_wave.specs.Machine.{steps_of}
-use Rattle.tp_wave.specs.Steps.{count}
-use Rattle.tp_work.specs.Outcomes.{IsOutcome}
-use Rattle.tp_work.specs.declared.config.Outcome.{Outcome}
 use Rattle.pool_blocks.specs.Outcomes.{IsFed}
+use Rattle.pool_matrix.specs.{Events.product_events, Matrices.matrix_graph}
+use Rattle.std.specs.Prelude.{ℕ, ◌≡◌, ◌≤◌, ℤ, List}
 use Rattle.tp_graph.specs.Events.{is_work}
-use Rattle.pool_matrix.specs.Events.{product_events}
-use Rattle.pool_matrix.specs.Matrices.{matrix_graph}
+use Rattle.tp_wave.specs.{Machine.steps_of, Steps.count}
+use Rattle.tp_work.specs.{Outcomes.IsOutcome, declared.config.Outcome.Outcome}
 
 -- If each task got its inputs and each feed to another node was a message, a product in tiles took exactly the events that are
 -- counted beforehand.

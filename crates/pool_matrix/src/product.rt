@@ -1,7 +1,6 @@
 //! The product of two borrowed matrices in tiles, as a graph.
+ghost use Rattle.pool_matrix.specs.{Matrices.{AreMatrices, AreNoMatrices, IsProduct, matrix_graph}, MatrixLaws.matrix_lawful};
 ghost use Rattle.std.specs.Prelude.{◌≡◌, ◌<◌, ◌≤◌, ◌+◌, ◌-◌, ◌*◌, ◌/◌, ◌%◌, ◌^◌, length, IfNone, IfSome};
-ghost use Rattle.pool_matrix.specs.Matrices.{AreMatrices, AreNoMatrices, IsProduct, matrix_graph};
-ghost use Rattle.pool_matrix.specs.MatrixLaws.{matrix_lawful};
 
 use crate::row::LentMatrices;
 use crate::tile::make_tile;

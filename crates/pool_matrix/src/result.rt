@@ -1,8 +1,7 @@
 //! The product of the matrices, from a pool's results or from one thread.
-ghost use Rattle.std.specs.Prelude.{◌≡◌, ◌*◌, IfErr, IfOk};
-ghost use Rattle.tp_graph.specs.Left.{AreKept};
-ghost use Rattle.tp_graph.specs.Serial.{IsSerialRefusal};
 ghost use Rattle.pool_matrix.specs.Matrices.{IsMatrixRefusal, LacksTile, matrix_graph, product_of};
+ghost use Rattle.std.specs.Prelude.{◌≡◌, ◌*◌, IfErr, IfOk};
+ghost use Rattle.tp_graph.specs.{Left.AreKept, Serial.IsSerialRefusal};
 
 use crate::product::Product;
 use crate::tile::number_at;

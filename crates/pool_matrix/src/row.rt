@@ -1,10 +1,9 @@
 //! The inner loops of a product: rows of sums of products, each of which is checked for overflow.
+ghost use Rattle.pool_matrix.specs.{Matrices.{entry, more, term}, Rows.{one_more, row_entry}};
 ghost use Rattle.std.specs.Prelude.{◌≡◌, ◌<◌, ◌≤◌, ◌+◌, ◌*◌, ◌^◌, ◌*ℤ◌, ℕ, pos, length, slice_index_or, MatchOption, MatchResult, Some};
 ghost use Rattle.std.specs.Prelude.{None};
 ghost use Rattle.tp_base.specs.declared.Refusal.TheVariants.{BodyFailed};
 ghost use Rattle.tp_graph.specs.Values.{gather};
-ghost use Rattle.pool_matrix.specs.Matrices.{entry, more, term};
-ghost use Rattle.pool_matrix.specs.Rows.{one_more, row_entry};
 
 use tp_base::Refusal;
 

@@ -1,8 +1,7 @@
 //! Running a product on threads.
-ghost use Rattle.std.specs.Prelude.{◌≡◌, ◌/◌, MatchResult};
 ghost use Rattle.pool_blocks.specs.Runs.{HasRun};
-ghost use Rattle.pool_matrix.specs.Faults.{IsProductFault};
-ghost use Rattle.pool_matrix.specs.Matrices.{matrix_graph, product_of};
+ghost use Rattle.pool_matrix.specs.{Faults.IsProductFault, Matrices.{matrix_graph, product_of}};
+ghost use Rattle.std.specs.Prelude.{◌≡◌, ◌/◌, MatchResult};
 ghost use Rattle.tp_work.specs.Outcomes.{IsWithinLimits};
 
 use crate::product::Product;

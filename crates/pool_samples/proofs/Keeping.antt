@@ -1,9 +1,7 @@
 -- Each task of a sample pool has a value, and the pools keep all values.
 pub mod Spelling
 pub use Spelling.*
-use Rattle.pool_samples.specs.Products.{product_graph}
-use Rattle.pool_samples.specs.Trees.{reduce_graph}
-use Rattle.pool_samples.specs.Waves.{wavefront_graph}
+use Rattle.pool_samples.specs.{Products.product_graph, Trees.reduce_graph, Waves.wavefront_graph}
 use Rattle.pool_samples.specs.declared.any.AnyGraph.TheVariants as pool
 
 pub each_valued : (graph : AnyGraph) (t : ℕ) → t < (any_graph graph).tasks → IsSome (value_of (any_graph graph) t)

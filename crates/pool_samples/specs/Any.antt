@@ -1,12 +1,7 @@
 -- The graphs of the three sample pools.
+use Rattle.pool_samples.specs.{ProductLaws.product_lawful, Products.product_graph, TreeLaws.reduce_lawful, Trees.reduce_graph}
+use Rattle.pool_samples.specs.{WaveLaws.wavefront_lawful, Waves.wavefront_graph, declared.any.AnyGraph.AnyGraph}
 use Rattle.tp_graph.specs.Graphs.{TaskGraph, IsLawful}
-use Rattle.pool_samples.specs.Products.{product_graph}
-use Rattle.pool_samples.specs.ProductLaws.{product_lawful}
-use Rattle.pool_samples.specs.Waves.{wavefront_graph}
-use Rattle.pool_samples.specs.WaveLaws.{wavefront_lawful}
-use Rattle.pool_samples.specs.Trees.{reduce_graph}
-use Rattle.pool_samples.specs.TreeLaws.{reduce_lawful}
-use Rattle.pool_samples.specs.declared.any.AnyGraph.{AnyGraph}
 use Rattle.pool_samples.specs.declared.any.AnyGraph.TheVariants as pool
 
 -- the meaning of one of the three pools

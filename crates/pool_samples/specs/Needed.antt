@@ -1,12 +1,8 @@
 -- Finding the numbers of a table among results, by the ranks of the tasks whose values it needs.
-use Rattle.std.specs.Prelude.{◌≡◌, ◌<◌, ◌≤◌, ◌+◌, ◌-◌, ◌*◌, ℕ, ℤ, pos, Bool, true, false, List, Option, Some, None, IsSomeAnd, length}
-use Rattle.std.specs.Prelude.{slice_index_or}
-use Rattle.std.specs.Borrow.{Bor}
-use Rattle.tp_graph.specs.Serial.{Results}
-use Rattle.tp_graph.specs.Values.{value_of}
-use Rattle.pool_samples.specs.Any.{any_graph}
-use Rattle.pool_samples.specs.Tables.{HasNone, table_of, task_at}
-use Rattle.pool_samples.specs.declared.any.AnyGraph.{AnyGraph}
+use Rattle.pool_samples.specs.{Any.any_graph, Tables.{HasNone, table_of, task_at}, declared.any.AnyGraph.AnyGraph}
+use Rattle.std.specs.{Borrow.Bor, Prelude.{◌≡◌, ◌<◌, ◌≤◌, ◌+◌, ◌-◌, ◌*◌, ℕ, ℤ, pos, Bool, true, false, List, Option, Some, None, IsSomeAnd}}
+use Rattle.std.specs.Prelude.{length, slice_index_or}
+use Rattle.tp_graph.specs.{Serial.Results, Values.value_of}
 use Rattle.pool_samples.specs.declared.any.AnyGraph.TheVariants as pool
 
 -- How many tasks have a value that the table needs, and which these are, in rising order.

@@ -1,9 +1,7 @@
 -- The graph of a product keeps the invariant of task graphs: feeds go to higher tasks, and each slot has exactly one.
-use Rattle.std.proofs.Common.{◌≡◌, ◌<◌, ◌≤◌, ◌+◌, ◌-◌, ◌*◌, ◌%◌, ℕ, arith}
-use Rattle.std.proofs.lemmas.Bool.Decides.{nat_tests}
-use Rattle.tp_graph.specs.Graphs.{IsLawful, FillsSlot, IsFilled}
 use Rattle.pool_samples.specs.Products.{IsProduct, product_graph}
-use Rattle.tp_graph.proofs.Rows.{mod_right, mod_left, right_within}
+use Rattle.std.proofs.{Common.{◌≡◌, ◌<◌, ◌≤◌, ◌+◌, ◌-◌, ◌*◌, ◌%◌, ℕ, arith}, lemmas.Bool.Decides.nat_tests}
+use Rattle.tp_graph.{proofs.Rows.{mod_right, mod_left, right_within}, specs.Graphs.{IsLawful, FillsSlot, IsFilled}}
 
 module _ (tiles side seed : ℕ) (some : 0 < tiles) where
   fills : (p k : ℕ) → p < tiles * tiles * tiles → k < (product_graph tiles side seed).feeds p

@@ -1,9 +1,7 @@
 -- The product of two matrices in tiles: its entries, and its graph.
-use Rattle.std.specs.Prelude.{◌≤◌, ◌+◌, ◌-◌, ◌*◌, ◌/◌, ◌%◌, ℕ, zero, suc, ℤ, pos, ◌+ℤ◌, ◌-ℤ◌, ◌*ℤ◌, List, [], ◌∷◌, length, slice_index_or}
-use Rattle.std.specs.Prelude.{true, Option, Some, None, if◌then◌else◌, nat_lt, nat_eq}
-use Rattle.std.proofs.Props.{props}
-use Rattle.tp_graph.specs.Values.{then_some, fitting}
-use Rattle.tp_graph.specs.Graphs.{TaskGraph}
+use Rattle.std.{proofs.Props.props, specs.Prelude.{◌≤◌, ◌+◌, ◌-◌, ◌*◌, ◌/◌, ◌%◌, ℕ, zero, suc, ℤ, pos, ◌+ℤ◌, ◌-ℤ◌, ◌*ℤ◌, List, [], ◌∷◌}}
+use Rattle.std.specs.Prelude.{length, slice_index_or, true, Option, Some, None, if◌then◌else◌, nat_lt, nat_eq}
+use Rattle.tp_graph.specs.{Graphs.TaskGraph, Values.{then_some, fitting}}
 
 -- matrices of this many tiles a side, each tile of this many numbers a side
 pub record IsProduct (tiles : ℕ) (side : ℕ) (seed : ℕ) : Type 0 where

@@ -1,13 +1,8 @@
 -- When two sample pools are the same: if their numbers are.
-use Rattle.std.proofs.Common.{◌≡◌, ℕ, true, ◌&&◌, eqb, arith}
-use Rattle.std.proofs.lemmas.Bool.Decides.{nat_tests}
+use Rattle.pool_samples.specs.{Products.{IsProduct, IsProduct-prop}, Trees.{IsReduce, IsReduce-prop}, Waves.{IsWavefront, IsWavefront-prop}}
+use Rattle.pool_samples.specs.declared.{product.Product.Product, reduce.Reduce.Reduce, wavefront.Wavefront.Wavefront}
+use Rattle.std.proofs.{Common.{◌≡◌, ℕ, true, ◌&&◌, eqb, arith}, lemmas.Bool.Decides.nat_tests}
 use mathlib.Core.HLevel.{is_prop→PathP}
-use Rattle.pool_samples.specs.Products.{IsProduct, IsProduct-prop}
-use Rattle.pool_samples.specs.Waves.{IsWavefront, IsWavefront-prop}
-use Rattle.pool_samples.specs.Trees.{IsReduce, IsReduce-prop}
-use Rattle.pool_samples.specs.declared.product.Product.{Product}
-use Rattle.pool_samples.specs.declared.wavefront.Wavefront.{Wavefront}
-use Rattle.pool_samples.specs.declared.reduce.Reduce.{Reduce}
 
 -- two or three pairs of numbers that a test finds equal are equal
 pub both_same : (a b c d : ℕ) → (eqb a b && eqb c d) ≡ true → (a ≡ b) × (c ≡ d)

@@ -1,11 +1,8 @@
 -- The table that a sample pool computes, as numbers and as text.
-use Rattle.std.specs.Prelude.{◌≢◌, ◌<◌, ◌+◌, ◌-◌, ◌*◌, ◌/◌, ◌++◌, ℕ, zero, suc, ℤ, pos, List, [], ◌∷◌, if◌then◌else◌, nat_eq, All}
-use Rattle.std.specs.Fmt.{signed_decimal}
-use Rattle.pool_samples.specs.Products.{entry}
+use Rattle.pool_samples.specs.{Products.entry, Trees.sum_of_leaves, Waves.cell, declared.any.AnyGraph.AnyGraph}
+use Rattle.std.specs.{Fmt.signed_decimal, Prelude.{◌≢◌, ◌<◌, ◌+◌, ◌-◌, ◌*◌, ◌/◌, ◌++◌, ℕ, zero, suc, ℤ, pos, List, [], ◌∷◌, if◌then◌else◌}}
+use Rattle.std.specs.Prelude.{nat_eq, All}
 use Rattle.tp_graph.specs.Serial.{Results}
-use Rattle.pool_samples.specs.Trees.{sum_of_leaves}
-use Rattle.pool_samples.specs.Waves.{cell}
-use Rattle.pool_samples.specs.declared.any.AnyGraph.{AnyGraph}
 use Rattle.pool_samples.specs.declared.any.AnyGraph.TheVariants as pool
 
 -- a table of numbers, by row and column

@@ -1,9 +1,8 @@
 -- The graph of a tree of sums keeps the invariant of task graphs: feeds go to higher tasks, and each slot has exactly
 -- one.
-use Rattle.std.proofs.Common.{◌<◌, ◌-◌, ◌*◌, ℕ, arith}
-use Rattle.std.proofs.lemmas.Bool.Decides.{nat_tests}
-use Rattle.tp_graph.specs.Graphs.{IsLawful, FillsSlot, IsFilled}
 use Rattle.pool_samples.specs.Trees.{IsReduce, reduce_graph}
+use Rattle.std.proofs.{Common.{◌<◌, ◌-◌, ◌*◌, ℕ, arith}, lemmas.Bool.Decides.nat_tests}
+use Rattle.tp_graph.specs.Graphs.{IsLawful, FillsSlot, IsFilled}
 
 fills : (leaves seed p k : ℕ) → p < 2 * leaves - 1 → k < (reduce_graph leaves seed).feeds p → FillsSlot (reduce_graph leaves seed) p k
 unfolding reduce_graph

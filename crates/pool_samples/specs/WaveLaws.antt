@@ -1,9 +1,7 @@
 -- The graph of a wavefront keeps the invariant of task graphs: feeds go to higher tasks, and each slot has exactly one.
-use Rattle.std.proofs.Common.{◌≡◌, ◌<◌, ◌≤◌, ◌+◌, ◌-◌, ◌*◌, ◌%◌, ℕ, arith}
-use Rattle.std.proofs.lemmas.Bool.Decides.{nat_tests}
-use Rattle.tp_graph.specs.Graphs.{IsLawful, FillsSlot, IsFilled}
 use Rattle.pool_samples.specs.Waves.{IsWavefront, wavefront_graph}
-use Rattle.tp_graph.proofs.Rows.{mod_right, mod_left, mod_down, mod_up, right_within}
+use Rattle.std.proofs.{Common.{◌≡◌, ◌<◌, ◌≤◌, ◌+◌, ◌-◌, ◌*◌, ◌%◌, ℕ, arith}, lemmas.Bool.Decides.nat_tests}
+use Rattle.tp_graph.{proofs.Rows.{mod_right, mod_left, mod_down, mod_up, right_within}, specs.Graphs.{IsLawful, FillsSlot, IsFilled}}
 
 module _ (rows columns seed : ℕ) (some : 0 < columns) where
   fills : (p k : ℕ) → p < rows * columns → k < (wavefront_graph rows columns seed).feeds p

@@ -1,10 +1,8 @@
 //! Printing the table of a pool's result.
-ghost use Rattle.std.specs.Prelude.{◌≡◌, ◌<◌, ◌⊎◌, ◌↔◌, ◌++◌, ◌∷◌, [], if◌then◌else◌, IfOk, OnOk, IfErr};
-ghost use Rattle.std.specs.Fmt.{signed_decimal};
+ghost use Rattle.pool_samples.specs.{Any.any_graph, Tables.{LacksCell, table_of, texts, cell_text, table_text}};
+ghost use Rattle.std.specs.{Fmt.signed_decimal, Prelude.{◌≡◌, ◌<◌, ◌⊎◌, ◌↔◌, ◌++◌, ◌∷◌, [], if◌then◌else◌, IfOk, OnOk, IfErr}};
 ghost use Rattle.tp_base.specs.declared.Refusal.TheVariants.{Missing, NoMemory};
 ghost use Rattle.tp_graph.specs.Serial.{AreRight};
-ghost use Rattle.pool_samples.specs.Any.{any_graph};
-ghost use Rattle.pool_samples.specs.Tables.{LacksCell, table_of, texts, cell_text, table_text};
 
 use crate::{AnyGraph, ResultTable};
 use std::alloc::{AllocError, Global};

@@ -1,7 +1,6 @@
 //! A tree of sums, as a graph.
+ghost use Rattle.pool_samples.specs.{TreeLaws.reduce_lawful, Trees.{IsReduce, reduce_graph}};
 ghost use Rattle.std.specs.Prelude.{◌≡◌, ◌<◌, ◌≤◌, ◌-◌, ◌*◌};
-ghost use Rattle.pool_samples.specs.Trees.{IsReduce, reduce_graph};
-ghost use Rattle.pool_samples.specs.TreeLaws.{reduce_lawful};
 
 use std::alloc::Global;
 use tp_base::{NodeId, Refusal, TaskId};

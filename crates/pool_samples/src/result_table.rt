@@ -1,11 +1,9 @@
 //! The table of a pool's result: where its numbers are among the results of the tasks.
+ghost use Rattle.pool_samples.specs.{Any.any_graph, Needed.{needed, IsIndex, IsMarked}, Tables.{table_of, LacksCell}};
 ghost use Rattle.std.specs.Prelude.{◌≡◌, ◌<◌, ◌≤◌, ◌↔◌, ◌⊎◌, ℕ, IfErr, IfOk, IsSome, IsTrue, MatchOption, slice_index_or, Err, None, false};
 ghost use Rattle.std.specs.Prelude.{length};
 ghost use Rattle.tp_base.specs.declared.Refusal.TheVariants.{Missing, NoMemory};
-ghost use Rattle.pool_samples.specs.Needed.{needed, IsIndex, IsMarked};
 ghost use Rattle.tp_graph.specs.Serial.{AreRight};
-ghost use Rattle.pool_samples.specs.Any.{any_graph};
-ghost use Rattle.pool_samples.specs.Tables.{table_of, LacksCell};
 
 use crate::any::AnyGraph;
 use std::alloc::{AllocError, Global};
@@ -24,8 +22,7 @@ pub struct ResultTable<'a> {
 }
 
 impl<'a> Model for ResultTable<'a> {
-    ghost use Rattle.pool_samples.specs.Needed.{HasValues};
-    ghost use Rattle.pool_samples.specs.declared.any.AnyGraph.{AnyGraph};
+    ghost use Rattle.pool_samples.specs.{Needed.HasValues, declared.any.AnyGraph.AnyGraph};
 
     ghost Value = { AnyGraph };
 

@@ -1,8 +1,6 @@
 //! The shape of each pool's table, and which task has which of its numbers.
+ghost use Rattle.pool_samples.specs.{Needed.{needed, needed_task, HasCell}, Tables.table_of, declared.any.AnyGraph.AnyGraph};
 ghost use Rattle.std.specs.Prelude.{◌≡◌, ◌<◌, ◌≤◌, ◌*◌, ℕ, IfSome};
-ghost use Rattle.pool_samples.specs.declared.any.AnyGraph.{AnyGraph};
-ghost use Rattle.pool_samples.specs.Needed.{needed, needed_task, HasCell};
-ghost use Rattle.pool_samples.specs.Tables.{table_of};
 
 use crate::any::AnyGraph;
 use crate::product::Product;

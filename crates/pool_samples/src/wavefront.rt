@@ -1,7 +1,6 @@
 //! A wavefront over a table of cells, as a graph.
+ghost use Rattle.pool_samples.specs.{WaveLaws.wavefront_lawful, Waves.{IsWavefront, cost, wavefront_graph}};
 ghost use Rattle.std.specs.Prelude.{◌≡◌, ◌<◌, ◌≤◌, ◌+◌, ◌*◌, ◌/◌, ◌%◌};
-ghost use Rattle.pool_samples.specs.Waves.{IsWavefront, cost, wavefront_graph};
-ghost use Rattle.pool_samples.specs.WaveLaws.{wavefront_lawful};
 
 use std::alloc::Global;
 use tp_base::{NodeId, Refusal, TaskId};

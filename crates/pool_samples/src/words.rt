@@ -1,12 +1,9 @@
 //! The specifications of sample pools, and their parser.
+ghost use Rattle.pool_samples.specs.{Trees.is_leaf_count, Words.{IsPlain, joined, two_numbers, three_numbers, word_of}};
+ghost use Rattle.pool_samples.specs.declared.{any.AnyGraph.AnyGraph, product.Product.Product, reduce.Reduce.Reduce};
+ghost use Rattle.pool_samples.specs.declared.wavefront.Wavefront.{Wavefront};
 ghost use Rattle.std.specs.Prelude.{◌≡◌, ◌<◌, ◌↔◌, ◌^◌, ◌*◌, IsTrue, ℕ, List, decimal, IfOk, IfErr, IfSome, IsSomeAnd};
 ghost use Rattle.tp_base.specs.declared.Refusal.TheVariants.{BadSpec};
-ghost use Rattle.pool_samples.specs.Trees.{is_leaf_count};
-ghost use Rattle.pool_samples.specs.Words.{IsPlain, joined, two_numbers, three_numbers, word_of};
-ghost use Rattle.pool_samples.specs.declared.any.AnyGraph.{AnyGraph};
-ghost use Rattle.pool_samples.specs.declared.product.Product.{Product};
-ghost use Rattle.pool_samples.specs.declared.reduce.Reduce.{Reduce};
-ghost use Rattle.pool_samples.specs.declared.wavefront.Wavefront.{Wavefront};
 
 use crate::any::AnyGraph;
 use crate::product::Product;

@@ -1,21 +1,12 @@
 -- The columns of each row are sums of 1, 2, 4 and so on numbers up to the column's.
-use Rattle.std.proofs.Common.{◌≡◌, ◌≢◌, ◌<◌, ◌≤◌, ◌+◌, ◌-◌, ◌*◌, ◌^◌, ◌||◌, ℕ, zero, suc, ℤ, pos, ◌+ℤ◌, Bool, true, false}
-use Rattle.std.proofs.Common.{List, [], ◌∷◌, length}
-use Rattle.std.proofs.Common.{Some}
-use Rattle.std.proofs.Common.{refl, ap, sym, ◌∙◌, ⊎_elim, arith}
-use Rattle.std.specs.Prelude.{◌==◌}
-use Rattle.std.proofs.Math.IntN.{+ℤ_assoc, +ℤ_idl}
-use Rattle.std.proofs.lemmas.Bool.{cases_lt, cases_eq, eq-eqb, eqb-true, ne_eqb}
-use Rattle.std.proofs.lemmas.Nat.{pow-add, pow_below, pow_pos}
-use Rattle.tp_graph.proofs.Made.{some_same, then_some-is}
-use Rattle.tp_graph.specs.Values.{lone_of, then_some}
 use Rattle.pool_blocks.specs.Lists.{at, list_of}
-use Rattle.pool_kernels.proofs.Cells.{cell_first, cell_from_one, cell_from_two}
-use Rattle.pool_kernels.proofs.Gathers.{AreTwo}
-use Rattle.pool_kernels.proofs.Rows.{row_of_blocks}
-use Rattle.pool_kernels.specs.Kernels.{cell, row_at}
-use Rattle.pool_kernels.specs.Sums.{sum_to}
+use Rattle.pool_kernels.{proofs.{Cells.{cell_first, cell_from_one, cell_from_two}, Gathers.AreTwo, Rows.row_of_blocks}, specs.Kernels.cell}
+use Rattle.pool_kernels.specs.{Kernels.row_at, Sums.sum_to}
 use Rattle.prefix.specs.Prefixes.{doubling, prefix_rule, prefixes}
+use Rattle.std.proofs.Common.{◌≡◌, ◌≢◌, ◌<◌, ◌≤◌, ◌+◌, ◌-◌, ◌*◌, ◌^◌, ◌||◌, ℕ, zero, suc, ℤ, pos, ◌+ℤ◌, Bool, true, false, List, [], ◌∷◌}
+use Rattle.std.proofs.{Common.{length, Some, refl, ap, sym, ◌∙◌, ⊎_elim, arith}, Math.IntN.{+ℤ_assoc, +ℤ_idl}, lemmas.Bool.cases_lt}
+use Rattle.std.{proofs.lemmas.{Bool.{cases_eq, eq-eqb, eqb-true, ne_eqb}, Nat.{pow-add, pow_below, pow_pos}}, specs.Prelude.◌==◌}
+use Rattle.tp_graph.{proofs.Made.{some_same, then_some-is}, specs.Values.{lone_of, then_some}}
 
 pub too_far : (t j i : ℕ) → 20 < t → i < 2 ^ 20 → ((j + 2 ^ (t - 1)) == i) ≡ false
 too_far t j i h small =

@@ -1,9 +1,7 @@
 -- Why there are no prefix sums.
-use Rattle.std.specs.Prelude.{ℕ, ℤ, ◌≤◌, ◌^◌, List, length}
 use Rattle.pool_kernels.specs.RunFaults.{IsGridFault}
-use Rattle.prefix.specs.Prefixes.{AreRows, doubling, prefix_rule}
-use Rattle.prefix.specs.declared.sums.PrefixFault.{PrefixFault}
-use Rattle.prefix.specs.declared.sums.PrefixFault.TheVariants.{Grid, TooMany}
+use Rattle.prefix.specs.{Prefixes.{AreRows, doubling, prefix_rule}, declared.sums.PrefixFault.{PrefixFault, TheVariants.{Grid, TooMany}}}
+use Rattle.std.specs.Prelude.{ℕ, ℤ, ◌≤◌, ◌^◌, List, length}
 
 -- At n nodes, with this many workers at each: there are too many numbers, or the grid of the fewest rows that are enough
 -- has exactly the fault that is returned.

@@ -3,9 +3,8 @@
 //! input are at fault, and 3 if reading or writing fails, or memory runs out there.
 #![tactic(auto)]
 
+ghost use Rattle.clap.specs.{Values.kind_of, declared.error.kind.ErrorKind.TheVariants.{DisplayHelp, OutOfMemory}};
 ghost use Rattle.std.specs.Prelude.{◌≡◌, ◌≢◌, ◌≤◌, ◌⊎◌, IfOk, IsErr, MatchResult};
-ghost use Rattle.clap.specs.Values.{kind_of};
-ghost use Rattle.clap.specs.declared.error.kind.ErrorKind.TheVariants.{DisplayHelp, OutOfMemory};
 ghost use Rattle.tp_work.specs.Outcomes.{IsWithinLimits};
 
 mod kernel;

@@ -1,7 +1,6 @@
 //! Prefix sums, computed by a pool of threads.
+ghost use Rattle.prefix.specs.{Faults.IsPrefixFault, Prefixes.{AreRows, prefixes}};
 ghost use Rattle.std.specs.Prelude.{◌≡◌, ◌≤◌, ◌<◌, ◌^◌, IfErr, IfOk};
-ghost use Rattle.prefix.specs.Faults.{IsPrefixFault};
-ghost use Rattle.prefix.specs.Prefixes.{AreRows, prefixes};
 ghost use Rattle.tp_work.specs.Outcomes.{IsWithinLimits};
 
 use crate::kernel::Prefix;

@@ -1,12 +1,10 @@
 //! The runs over numbers: rod, product and grid. What each returns is, by contract, the plain result, computed by a
 //! pool of the nodes and workers that were asked for.
 
-ghost use Rattle.std.specs.Prelude.{◌≡◌, ◌*◌, ◌/◌, IfOk};
-ghost use Rattle.pool_blocks.specs.Runs.{HasRun, HasRunInParts};
-ghost use Rattle.pool_blocks.specs.Grids.{block_relaxed, relaxed};
-ghost use Rattle.pool_matrix.specs.Matrices.{matrix_graph, product_of};
-ghost use Rattle.pool_blocks.specs.Heats.{block_heated, heated};
+ghost use Rattle.pool_blocks.specs.{Grids.{block_relaxed, relaxed}, Heats.{block_heated, heated}, Runs.{HasRun, HasRunInParts}};
 ghost use Rattle.pool_blocks.specs.Stencils.{after};
+ghost use Rattle.pool_matrix.specs.Matrices.{matrix_graph, product_of};
+ghost use Rattle.std.specs.Prelude.{◌≡◌, ◌*◌, ◌/◌, IfOk};
 ghost use Rattle.tp_work.specs.Outcomes.{IsWithinLimits};
 
 use crate::fault::{Fault, InputFault};

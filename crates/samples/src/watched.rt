@@ -1,9 +1,8 @@
 //! Runs that are watched: their tasks are counted for a progress line, or timed for a profile. Each has the contract of
 //! the run that is not watched.
 
+ghost use Rattle.pool_blocks.specs.{Runs.HasRunInParts, Stencils.after};
 ghost use Rattle.std.specs.Prelude.{◌≡◌, ⊤, IfOk};
-ghost use Rattle.pool_blocks.specs.Runs.{HasRunInParts};
-ghost use Rattle.pool_blocks.specs.Stencils.{after};
 ghost use Rattle.tp_work.specs.Outcomes.{IsOutcome, IsWithinLimits};
 
 use pool_blocks::{LentFault, Stencil, run_in_parts_counted};

@@ -1,8 +1,7 @@
 //! Runs and texts whose allocations fail, and that succeed when they are repeated.
 
 ghost use Rattle.std.specs.Prelude.{◌≡◌, ◌≤◌};
-ghost use Rattle.tp_wave.specs.Generations.{InEach};
-ghost use Rattle.tp_wave.specs.Machine.{IsRun};
+ghost use Rattle.tp_wave.specs.{Generations.InEach, Machine.IsRun};
 ghost use Rattle.tp_work.specs.Outcomes.{IsWithinLimits};
 
 use crate::calls::say;

@@ -1,14 +1,9 @@
 -- The places and values of the pages after one page is added or replaced.
-use Rattle.std.proofs.Common.{ℕ, zero, suc, ◌≡◌, ◌≢◌, ◌≤◌, ◌<◌, ◌/◌, ◌%◌, ◌==◌, ◌++◌, ◌∙◌, List, [], ◌∷◌, length, slice_get}
-use Rattle.std.proofs.Common.{set, length-set, slice_index_or}
-use Rattle.std.proofs.Common.{Vec, vec_len, Option, Some, None, Result, true, false, IsTrue, refl, sym, ap, subst, inl, inr, arith}
-use Rattle.std.specs.Prelude.{Ok, Err, OnOk, OnErr, IsSome, if◌then◌else◌}
-use Rattle.std.specs.List.{list_all}
-use Rattle.std.specs.declared.alloc.Global.{Global}
-use Rattle.std.proofs.lemmas.Bool.{and_parts, cases_eq}
-use Rattle.std.proofs.lemmas.Bool.Decides.{nat_tests}
-use Rattle.std.proofs.lemmas.Nat.{div-add-mod'}
-use Rattle.std.proofs.lemmas.Option.{slice_get-get_or, slice_get_past, slice_get_read, slice_get_within}
+use Rattle.std.proofs.Common.{ℕ, zero, suc, ◌≡◌, ◌≢◌, ◌≤◌, ◌<◌, ◌/◌, ◌%◌, ◌==◌, ◌++◌, ◌∙◌, List, [], ◌∷◌, length, slice_get, set}
+use Rattle.std.proofs.Common.{length-set, slice_index_or, Vec, vec_len, Option, Some, None, Result, true, false, IsTrue, refl, sym, ap}
+use Rattle.std.proofs.{Common.{subst, inl, inr, arith}, lemmas.{Bool.{and_parts, cases_eq, Decides.nat_tests}, Nat.div-add-mod'}}
+use Rattle.std.{proofs.lemmas.Option.{slice_get-get_or, slice_get_past, slice_get_read, slice_get_within}, specs.List.list_all}
+use Rattle.std.specs.{Prelude.{Ok, Err, OnOk, OnErr, IsSome, if◌then◌else◌}, declared.alloc.Global.Global}
 use Rattle.tp_base.specs.Pages.{flat, in_page, place, near, is_whole, AreWhole, HasPlace}
 
 -- ---- lists

@@ -1,16 +1,10 @@
 -- The indices of the elements of pieces in their concatenation.
 use Rattle.std.proofs.Common.{◌≡◌, ◌≤◌, ◌<◌, ◌+◌, ◌-◌, ◌*◌, ◌/◌, ◌%◌, ◌++◌, ◌∙◌, ℕ, List, [], ◌∷◌, None, Some, suc, zero, length, slice_get}
-use Rattle.std.proofs.Common.{Vec, reverse, vec_len, Option, Bor, refl, sym, ap, inl, inr, arith}
-use Rattle.std.specs.List.{All}
-use Rattle.std.specs.Option.{option_copied, unwrap_or}
-use Rattle.std.specs.Slice.{IsItemAt}
+use Rattle.std.proofs.{Common.{Vec, reverse, vec_len, Option, Bor, refl, sym, ap, inl, inr, arith}, lemmas.List.length-append}
+use Rattle.std.proofs.lemmas.{List.{length-reverse, append_assoc, Elements.{All-head, All-tail}}, Nat.{div-add-mod', mod-mul-add}}
+use Rattle.std.{proofs.lemmas.Option.{slice_get_past, slice_get_read}, specs.{List.All, Option.{option_copied, unwrap_or}, Slice.IsItemAt}}
 use Rattle.std.specs.declared.alloc.Global.{Global}
-use Rattle.std.proofs.lemmas.Nat.{div-add-mod', mod-mul-add}
-use Rattle.std.proofs.lemmas.Option.{slice_get_past, slice_get_read}
-use Rattle.std.proofs.lemmas.List.{length-append, length-reverse, append_assoc}
-use Rattle.std.proofs.lemmas.List.Elements.{All-head, All-tail}
-use Rattle.tp_base.specs.declared.history.TheConstants.{PIECE}
-use Rattle.tp_base.specs.Pieces.{joined, places, ArePieces, IsFull}
+use Rattle.tp_base.specs.{Pieces.{joined, places, ArePieces, IsFull}, declared.history.TheConstants.PIECE}
 
 module _ {X : Type 0} where
   pub item_at : (xs : List X) (i : ℕ) (found : Option (Bor X)) → IsItemAt xs i found → option_copied found ≡ slice_get xs i

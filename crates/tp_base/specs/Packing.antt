@@ -1,12 +1,9 @@
 -- How an event is packed into bytes: the event of each packed form.
 use Rattle.std.specs.Prelude.{ℕ, ◌+◌, ◌*◌, ◌/◌, ◌%◌}
-use Rattle.tp_base.specs.History.{Event}
-use Rattle.tp_base.specs.declared.packed.Kind.{Kind}
+use Rattle.tp_base.specs.{History.Event, declared.{packed.{Kind.Kind, Packed.TheInside.Inside}, step.Step.{Step, TheVariants.Insert}}}
+use Rattle.tp_base.specs.declared.step.Step.TheVariants.{Supply, Begin, Done, ActionOpen, ActionClose, Ready, Send, Recv, MessageEnd, Start}
+use Rattle.tp_base.specs.declared.step.Step.TheVariants.{Down, Give, Up, Judge, Reopen}
 use Rattle.tp_base.specs.declared.packed.Kind.TheVariants as kind
-use Rattle.tp_base.specs.declared.packed.Packed.TheInside.{Inside}
-use Rattle.tp_base.specs.declared.step.Step.{Step}
-use Rattle.tp_base.specs.declared.step.Step.TheVariants.{Insert, Supply, Begin, Done, ActionOpen, ActionClose, Ready, Send, Recv}
-use Rattle.tp_base.specs.declared.step.Step.TheVariants.{MessageEnd, Start, Down, Give, Up, Judge, Reopen}
 
 -- the message whose number is in the low 20 bits of n
 abbrev pub message_in : ℕ → ℕ

@@ -1,8 +1,6 @@
 -- The pages of a table. Each is for 64 consecutive numbers.
-use Rattle.std.specs.Prelude.{ℕ, ◌==◌, ◌||◌, ◌/◌, ◌%◌, List, Bool, IsTrue, Option, Some, None, IsSome, Vec, vec_len, nat_lt, slice_get}
-use Rattle.std.specs.Prelude.{if◌then◌else◌}
-use Rattle.std.specs.List.{list_all}
-use Rattle.std.specs.declared.alloc.Global.{Global}
+use Rattle.std.specs.{List.list_all, Prelude.{ℕ, ◌==◌, ◌||◌, ◌/◌, ◌%◌, List, Bool, IsTrue, Option, Some, None, IsSome, Vec, vec_len}}
+use Rattle.std.specs.{Prelude.{nat_lt, slice_get, if◌then◌else◌}, declared.alloc.Global.Global}
 
 abbrev pub flat : {V : Type 0} → Option (Option V) → Option V
 flat None = None

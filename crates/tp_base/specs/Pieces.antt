@@ -1,6 +1,5 @@
 -- A list that is stored in pieces, so that its elements never move.
-use Rattle.std.specs.Prelude.{ℕ, ◌≡◌, ◌≤◌, ◌<◌, ◌+◌, ◌-◌, ◌*◌, ◌⊎◌, List, Vec, vec_len, vec_capacity}
-use Rattle.std.specs.List.{All, flat_map}
+use Rattle.std.specs.{List.{All, flat_map}, Prelude.{ℕ, ◌≡◌, ◌≤◌, ◌<◌, ◌+◌, ◌-◌, ◌*◌, ◌⊎◌, List, Vec, vec_len, vec_capacity}}
 use Rattle.std.specs.declared.alloc.Global.{Global}
 use Rattle.tp_base.specs.declared.history.TheConstants.{PIECE, MAX_PIECES}
 

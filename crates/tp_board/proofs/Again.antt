@@ -1,13 +1,9 @@
 -- Each node's opening action is opened again, once.
 use Rattle.std.proofs.Common.{ℕ, zero, suc, refl, ◌+◌, ◌≡◌, ◌<◌, ◌≤◌, List, [], ◌∷◌, ◌++◌, Option, Some, None, ap, ◌∙◌, map, length-append}
-use Rattle.std.proofs.Common.{length, inl, inr, arith}
-use Rattle.std.proofs.lemmas.Bool.{cases_eq}
-use Rattle.std.proofs.lemmas.List.{get_or-set_same, get_or-set_other}
+use Rattle.std.proofs.{Common.{length, inl, inr, arith}, lemmas.{Bool.cases_eq, List.{get_or-set_same, get_or-set_other}}}
 use Rattle.std.specs.Prelude.{slice_index, slice_set, MatchOption}
-use Rattle.tp_base.specs.Totals.{total}
-use Rattle.tp_base.proofs.Totals.{total-equal, total-zero, total_same, total_one-changes}
-use Rattle.tp_board.specs.Numbers.{PartNumbers, ShareNumbers, PendingNumber}
-use Rattle.tp_board.specs.Reopening.{AllAre, opened_again, with_numbers, begun_anew}
+use Rattle.tp_base.{proofs.Totals.{total-equal, total-zero, total_same, total_one-changes}, specs.Totals.total}
+use Rattle.tp_board.specs.{Numbers.{PartNumbers, ShareNumbers, PendingNumber}, Reopening.{AllAre, opened_again, with_numbers, begun_anew}}
 
 pub one_more : (n a : ℕ) (books : List ℕ) → a < n → a < length books
     → total n (λ i. slice_index (slice_set books a (slice_index books a + 1)) i) ≡ total n (λ i. slice_index books i) + 1

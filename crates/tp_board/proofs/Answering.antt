@@ -1,24 +1,12 @@
 -- The result of a call whose checks are made by two calls in turn.
 use Rattle.std.proofs.Common.{ℕ, ◌≡◌, List, [], ◌∷◌, ◌++◌, Bool, true, false, Some, None, Option, Result, Ok, Err, ◌<◌, length, ◌+◌, refl}
-use Rattle.std.proofs.Common.{sym, ap, subst, ◌∙◌, arith}
-use Rattle.std.proofs.lemmas.Bool.Decides.{nat_tests}
-use Rattle.std.specs.Prelude.{if◌then◌else◌, MatchOption, IfErr, nat_lt}
-use Rattle.std.specs.Result.{result_err}
-use Rattle.tp_base.specs.declared.refusal.Refusal.TheVariants.{HistoryFull, NoMemory, NotIdle}
-use Rattle.tp_base.specs.declared.refusal.Refusal.{Refusal}
-use Rattle.tp_base.specs.declared.step.Step.{Step}
-use Rattle.tp_base.specs.Checks.{Check, first_refusal}
-use Rattle.tp_base.specs.History.{Event}
-use Rattle.tp_wave.specs.ControlChecks.{control_checks, wave_checks}
-use Rattle.tp_wave.specs.Generations.{present, present_events}
-use Rattle.tp_wave.specs.Machine.{pending_at, steps_of}
-use Rattle.tp_wave.specs.Sums.{is_ended}
-use Rattle.tp_wave.proofs.Generations.{steps-present}
-use Rattle.tp_wave.specs.Wave.{Stands}
-use Rattle.tp_wave.specs.declared.wave.Wave.{Wave}
-use Rattle.tp_board.specs.States.{AnswersBy, BoardState, full_check}
-use Rattle.tp_board.specs.Books.{BookTotals}
-use Rattle.tp_board.specs.Boards.{IsBoardOf}
+use Rattle.std.{proofs.{Common.{sym, ap, subst, ◌∙◌, arith}, lemmas.Bool.Decides.nat_tests}, specs.Prelude.{if◌then◌else◌, MatchOption}}
+use Rattle.std.specs.{Prelude.{IfErr, nat_lt}, Result.result_err}
+use Rattle.tp_base.specs.{Checks.{Check, first_refusal}, History.Event, declared.refusal.Refusal.{Refusal, TheVariants.HistoryFull}}
+use Rattle.tp_base.specs.declared.{refusal.Refusal.TheVariants.{NoMemory, NotIdle}, step.Step.Step}
+use Rattle.tp_board.specs.{Boards.IsBoardOf, Books.BookTotals, States.{AnswersBy, BoardState, full_check}}
+use Rattle.tp_wave.{proofs.Generations.steps-present, specs.{ControlChecks.{control_checks, wave_checks}, Generations.present}}
+use Rattle.tp_wave.specs.{Generations.present_events, Machine.{pending_at, steps_of}, Sums.is_ended, Wave.Stands, declared.wave.Wave.Wave}
 
 -- if a check of the first call fails
 first_refused : (cs ds : List Check) (e : Refusal) → first_refusal cs ≡ Some e → first_refusal (cs ++ ds) ≡ Some e

@@ -1,28 +1,16 @@
 -- A board of one generation, one event further.
 use Rattle.std.proofs.Common.{ℕ, ◌+◌, ◌-◌, ◌≡◌, ◌≢◌, ◌<◌, ◌≤◌, List, [], ◌∷◌, ◌++◌, length, Bool, IsTrue, refl, sym, ap, subst, ◌∙◌, arith}
-use Rattle.std.proofs.Common.{inl, inr}
-use Rattle.std.specs.Prelude.{IsFalse, slice_index, slice_set, if◌then◌else◌}
-use Rattle.std.proofs.lemmas.Bool.{eq-eqb, ne_eqb, cases_eq}
-use Rattle.std.specs.List.{All}
-use Rattle.std.proofs.lemmas.List.Elements.{All-append, All-cons}
-use Rattle.std.proofs.lemmas.List.{get_or-set_same, get_or-set_other}
-use Rattle.tp_base.specs.History.{Event}
-use Rattle.tp_base.specs.declared.step.Step.{Step}
-use Rattle.tp_base.specs.declared.step.Step.TheVariants.{Insert, ActionOpen, Send, Recv, Done, Start, Down, Give, Up, Judge, Reopen}
-use Rattle.tp_wave.specs.Steps.{any, count, is_start}
-use Rattle.tp_base.specs.declared.Sums.{Sums}
-use Rattle.tp_wave.specs.Sums.{is_ended, waves}
-use Rattle.tp_wave.specs.Wave.{started}
-use Rattle.tp_wave.specs.Control.{is_control}
-use Rattle.tp_wave.specs.Machine.{node_beside, step_of, steps_of, pending_at, pending_after, under_way, under_way_after, IsOf, IsRun, Needs}
-use Rattle.tp_wave.specs.Machine.{is_send_numbered, is_send_to}
-use Rattle.tp_wave.proofs.Given.{pool_step}
-use Rattle.tp_wave.specs.declared.wave.Wave.{Wave}
-use Rattle.tp_board.specs.Numbers.{AreWithin, ShareNumbers, ending, event, is_done, is_plain, is_recv, is_send, numbers_after, plus_if}
-use Rattle.tp_board.specs.Numbers.{receiving, sending}
-use Rattle.tp_board.specs.Books.{BookTotals, IsBooked, totals_after, with_under}
-use Rattle.tp_board.specs.Boards.{IsBoard}
-use Rattle.tp_board.proofs.Counting.{count-le, pending_at-le}
+use Rattle.std.proofs.{Common.{inl, inr}, lemmas.{Bool.{eq-eqb, ne_eqb, cases_eq}, List.{get_or-set_same, get_or-set_other}}}
+use Rattle.std.{proofs.lemmas.List.Elements.{All-append, All-cons}, specs.{List.All, Prelude.{IsFalse, slice_index, slice_set}}}
+use Rattle.std.specs.Prelude.{if◌then◌else◌}
+use Rattle.tp_base.specs.{History.Event, declared.{Sums.Sums, step.Step.{Step, TheVariants.{Insert, ActionOpen, Send, Recv, Done, Start}}}}
+use Rattle.tp_base.specs.declared.step.Step.TheVariants.{Down, Give, Up, Judge, Reopen}
+use Rattle.tp_board.{proofs.Counting.{count-le, pending_at-le}, specs.{Boards.IsBoard, Books.{BookTotals, IsBooked, totals_after}}}
+use Rattle.tp_board.specs.{Books.with_under, Numbers.{AreWithin, ShareNumbers, ending, event, is_done, is_plain, is_recv, is_send}}
+use Rattle.tp_board.specs.Numbers.{numbers_after, plus_if, receiving, sending}
+use Rattle.tp_wave.{proofs.Given.pool_step, specs.{Control.is_control, Machine.{node_beside, step_of, steps_of, pending_at, pending_after}}}
+use Rattle.tp_wave.specs.{Machine.{under_way, under_way_after, IsOf, IsRun, Needs, is_send_numbered, is_send_to}, Steps.{any, count}}
+use Rattle.tp_wave.specs.{Steps.is_start, Sums.{is_ended, waves}, Wave.started, declared.wave.Wave.Wave}
 
 pool_ended : (n : ℕ) (s : Step) (past : List Step) → IsFalse (is_control s) → is_ended n (s ∷ past) ≡ is_ended n past
 pool_ended n Judge past pool = absurd cc

@@ -1,20 +1,13 @@
 -- The counts of a history, one event further.
 use Rattle.std.proofs.Common.{ℕ, zero, suc, ◌+◌, ◌≡◌, ◌≢◌, ◌<◌, ◌≤◌, ◌==◌, List, [], ◌∷◌, length, set, Bool, true, false, Some, refl, sym}
-use Rattle.std.proofs.Common.{ap, subst, ◌∙◌, arith, inl, inr}
-use Rattle.std.specs.Prelude.{slice_get, slice_index_or, if◌then◌else◌}
-use Rattle.std.proofs.lemmas.Bool.{eq-eqb, ne_eqb, cases_eq}
-use Rattle.std.proofs.lemmas.Option.{slice_get_within, get_or_from_slice_get}
-use Rattle.tp_base.specs.History.{Event}
-use Rattle.tp_base.specs.declared.step.Step.{Step}
-use Rattle.tp_base.specs.declared.step.Step.TheVariants.{Insert, ActionOpen, Send, Recv}
-use Rattle.tp_wave.specs.Steps.{count, is_send_of, is_recv_at}
-use Rattle.tp_wave.specs.Generations.{present, present_events}
-use Rattle.tp_wave.specs.Machine.{node_beside, step_of, steps_of, pending_at, pending_after, under_way, under_way_after, IsOf}
-use Rattle.tp_wave.proofs.Generations.{length-present, steps-present}
-use Rattle.tp_board.specs.Numbers.{event, is_done, is_recv, is_send, plus_if}
-use Rattle.tp_board.specs.Counts.{counts_at, counts_after, AreCountsOf, AreFew}
-use Rattle.tp_board.specs.declared.counts.NodeCounts.{NodeCounts}
-use Rattle.tp_board.specs.declared.counts.Counts.{Counts}
+use Rattle.std.proofs.{Common.{ap, subst, ◌∙◌, arith, inl, inr}, lemmas.{Bool.{eq-eqb, ne_eqb, cases_eq}, Option.slice_get_within}}
+use Rattle.std.{proofs.lemmas.Option.get_or_from_slice_get, specs.Prelude.{slice_get, slice_index_or, if◌then◌else◌}}
+use Rattle.tp_base.specs.{History.Event, declared.step.Step.{Step, TheVariants.{Insert, ActionOpen, Send, Recv}}}
+use Rattle.tp_board.specs.{Counts.{counts_at, counts_after, AreCountsOf, AreFew}, Numbers.{event, is_done, is_recv, is_send, plus_if}}
+use Rattle.tp_board.specs.declared.counts.{Counts.Counts, NodeCounts.NodeCounts}
+use Rattle.tp_wave.{proofs.Generations.{length-present, steps-present}, specs.{Generations.{present, present_events}, Machine.node_beside}}
+use Rattle.tp_wave.specs.{Machine.{step_of, steps_of, pending_at, pending_after, under_way, under_way_after, IsOf}, Steps.count}
+use Rattle.tp_wave.specs.Steps.{is_send_of, is_recv_at}
 
 pending_here : (i : ℕ) (s : Step) (h : List Event) → pending_at i (event i s ∷ h) ≡ pending_after s (pending_at i h)
 pending_here i s h = rw (eq-eqb i i refl) refl

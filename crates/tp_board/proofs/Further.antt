@@ -1,31 +1,18 @@
 -- A board of all generations, one event further: what is known of one generation is used for the present one.
 use Rattle.std.proofs.Common.{ℕ, ◌+◌, ◌≡◌, ◌≢◌, ◌<◌, List, [], ◌∷◌, length, Bool, true, false, cond, nat_eq, IsTrue, refl, sym, ap, subst}
-use Rattle.std.proofs.Common.{◌∙◌, arith, Option, Some, None, ◌||◌, ◌==◌}
-use Rattle.std.specs.Prelude.{IsFalse, ◌↔◌, if◌then◌else◌, is_some}
-use Rattle.std.proofs.lemmas.Bool.Decides.{nat_tests}
-use Rattle.tp_base.specs.History.{Event}
-use Rattle.tp_base.specs.declared.Sums.{Sums}
-use Rattle.tp_base.specs.declared.ids.NodeId.{NodeId}
-use Rattle.tp_base.specs.declared.step.Step.{Step}
-use Rattle.tp_base.specs.declared.step.Step.TheVariants.{Send, Recv, MessageEnd, Start, Down, Give, Up, Judge, Reopen}
-use Rattle.tp_wave.specs.Steps.{any, count, is_reopen}
-use Rattle.tp_wave.specs.Sums.{is_ended, judgement, sums_of}
-use Rattle.tp_wave.specs.Wave.{Follows}
-use Rattle.tp_wave.specs.Control.{is_control}
-use Rattle.tp_wave.specs.Cut.{IsQuietHistory}
-use Rattle.tp_wave.specs.Generations.{IsOfGeneration, generation, present, present_events}
-use Rattle.tp_wave.specs.Machine.{step_of, steps_of, pending_at, pending_after, under_way, under_way_after, IsOf, Needs, is_send_numbered}
-use Rattle.tp_wave.specs.Machine.{is_send_to}
-use Rattle.tp_wave.specs.declared.wave.Wave.{Wave}
-use Rattle.tp_wave.proofs.Generations.{few_law, length-present, present-goes_on, steps-present}
-use Rattle.tp_wave.proofs.Judged.{judged_law}
-use Rattle.tp_board.specs.Books.{BookTotals, IsBooked, totals_after, with_judged, with_under}
+use Rattle.std.{proofs.{Common.{◌∙◌, arith, Option, Some, None, ◌||◌, ◌==◌}, lemmas.Bool.Decides.nat_tests}, specs.Prelude.{IsFalse, ◌↔◌}}
+use Rattle.std.specs.Prelude.{if◌then◌else◌, is_some}
+use Rattle.tp_base.specs.{History.Event, declared.{Sums.Sums, ids.NodeId.NodeId, step.Step.{Step, TheVariants.{Send, Recv, MessageEnd}}}}
+use Rattle.tp_base.specs.declared.step.Step.TheVariants.{Start, Down, Give, Up, Judge, Reopen}
+use Rattle.tp_board.proofs.{Boards.{balance, end_next, plain_next, recv_next, send_next, within, within_next}, Naming.plain_kind}
+use Rattle.tp_board.specs.{Boards.{IsBoard, IsBoardOf, ended_number}, Books.{BookTotals, IsBooked, totals_after, with_judged, with_under}}
 use Rattle.tp_board.specs.Numbers.{AreWithin, ShareNumbers, ending, event, is_done, is_plain, is_recv, is_send, numbers_after, receiving}
-use Rattle.tp_board.specs.Numbers.{sending}
-use Rattle.tp_board.specs.Reopening.{AreFirst}
-use Rattle.tp_board.specs.Boards.{IsBoard, IsBoardOf, ended_number}
-use Rattle.tp_board.proofs.Boards.{balance, end_next, plain_next, recv_next, send_next, within, within_next}
-use Rattle.tp_board.proofs.Naming.{plain_kind}
+use Rattle.tp_board.specs.{Numbers.sending, Reopening.AreFirst}
+use Rattle.tp_wave.proofs.{Generations.{few_law, length-present, present-goes_on, steps-present}, Judged.judged_law}
+use Rattle.tp_wave.specs.{Control.is_control, Cut.IsQuietHistory, Generations.{IsOfGeneration, generation, present, present_events}}
+use Rattle.tp_wave.specs.Machine.{step_of, steps_of, pending_at, pending_after, under_way, under_way_after, IsOf, Needs, is_send_numbered}
+use Rattle.tp_wave.specs.{Machine.is_send_to, Steps.{any, count, is_reopen}, Sums.{is_ended, judgement, sums_of}, Wave.Follows}
+use Rattle.tp_wave.specs.declared.wave.Wave.{Wave}
 
 -- ---- what the board shows of the present steps
 pub record IsTold (n : ℕ) (steps : List Step) (t : BookTotals) : Type 0 where

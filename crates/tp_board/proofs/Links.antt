@@ -1,12 +1,9 @@
 -- The lists of first links.
 use Rattle.std.proofs.Common.{List, ℕ, zero, suc, ◌+◌, ◌*◌, ◌≡◌, ◌≢◌, ◌<◌, ◌≤◌, ◌==◌, [], ◌∷◌, ◌++◌, get_or, length, length-append}
-use Rattle.std.proofs.Common.{append-nil, not, map, filter, refl, sym, ap, ◌∙◌, add-one, arith, inl, inr}
-use Rattle.std.specs.List.{All, flat_map, range_with_len}
-use Rattle.std.proofs.lemmas.List.FromFn.{get_or-map-range_with_len, length-map-range_with_len}
-use Rattle.std.proofs.lemmas.Bool.{eq-eqb, ne_eqb, cases_eq, cases_lt}
-use Rattle.std.proofs.lemmas.Grind.{flat_map-append}
-use Rattle.std.proofs.lemmas.List.{map-append}
-use Rattle.std.proofs.lemmas.List.Elements.{All-append, All-cons, filter-append}
+use Rattle.std.proofs.{Common.{append-nil, not, map, filter, refl, sym, ap, ◌∙◌, add-one, arith, inl, inr}, lemmas.Bool.{eq-eqb, ne_eqb}}
+use Rattle.std.proofs.lemmas.{Bool.{cases_eq, cases_lt}, Grind.flat_map-append, List.{map-append, Elements.{All-append, All-cons}}}
+use Rattle.std.{proofs.lemmas.List.{Elements.filter-append, FromFn.{get_or-map-range_with_len, length-map-range_with_len}}, specs.List.All}
+use Rattle.std.specs.List.{flat_map, range_with_len}
 use Rattle.tp_board.specs.Numbers.{LinkNumbers, ShareNumbers, empty_link, first_links, first_numbers, first_shares, links_of}
 
 range_from : (a n : ℕ) → range_with_len a (suc n) ≡ range_with_len a n ++ (a + n) ∷ []

@@ -1,14 +1,9 @@
 -- Nodes have numbers below 8.
-use Rattle.std.proofs.Common.{ℕ, ◌<◌, refl, arith}
-use Rattle.std.specs.Prelude.{IsFalse, IsTrue}
-use Rattle.tp_base.specs.History.{NamesSmall}
-use Rattle.tp_base.specs.declared.step.Step.{Step}
-use Rattle.tp_base.specs.declared.step.Step.TheVariants.{Insert, ActionOpen, ActionClose, Ready, Send, Recv, MessageEnd, Down, Give, Up}
-use Rattle.tp_base.specs.declared.step.Step.TheVariants.{Reopen}
-use Rattle.tp_board.specs.Numbers.{is_plain, is_send}
-use Rattle.tp_wave.specs.Steps.{is_reopen}
-use Rattle.tp_wave.specs.Machine.{IsOf}
-use Rattle.tp_board.specs.EventLogs.{HasFew}
+use Rattle.std.{proofs.Common.{ℕ, ◌<◌, refl, arith}, specs.Prelude.{IsFalse, IsTrue}}
+use Rattle.tp_base.specs.{History.NamesSmall, declared.step.Step.{Step, TheVariants.{Insert, ActionOpen, ActionClose, Ready, Send, Recv}}}
+use Rattle.tp_base.specs.declared.step.Step.TheVariants.{MessageEnd, Down, Give, Up, Reopen}
+use Rattle.tp_board.specs.{EventLogs.HasFew, Numbers.{is_plain, is_send}}
+use Rattle.tp_wave.specs.{Machine.IsOf, Steps.is_reopen}
 
 -- The numbers that a step of a node names are small, if it sends nothing.
 pub names_small : (i : ℕ) (s : Step) → i < 8 → IsOf i s → HasFew s → IsFalse (is_send s) → NamesSmall s

@@ -1,25 +1,14 @@
 -- The routes of messages, by their numbers.
-use Rattle.std.proofs.Common.{ℕ, zero, suc, ◌+◌, ◌-◌, ◌≡◌, ◌≢◌, ◌<◌, ◌≤◌, ◌==◌, ◌&&◌, ◌||◌}
-use Rattle.std.proofs.Common.{List, [], ◌∷◌, ◌++◌, length, reverse, Bool, true, false, Some, None, length-append, inl, inr, refl, sym, ap}
-use Rattle.std.proofs.Common.{◌∙◌, ◌%◌, max, arith}
-use Rattle.std.specs.Prelude.{slice_get, IsFalse}
-use Rattle.std.proofs.lemmas.Bool.{eq-eqb, ne_eqb, cases_eq, cases_lt}
-use Rattle.std.proofs.lemmas.Grind.{reverse_onto}
-use Rattle.std.proofs.lemmas.List.{length-reverse}
-use Rattle.tp_base.specs.History.{Recorded}
-use Rattle.tp_base.specs.declared.ids.NodeId.{NodeId}
-use Rattle.tp_base.specs.declared.step.Step.{Step}
-use Rattle.tp_base.specs.declared.step.Step.TheVariants.{Send}
-use Rattle.tp_wave.specs.Generations.{present, present_events}
-use Rattle.tp_wave.specs.Steps.{any, count, is_reopen}
-use Rattle.tp_wave.specs.Machine.{steps_of, is_send_numbered, is_send_to}
-use Rattle.tp_board.proofs.Counting.{count_present-le}
-use Rattle.tp_board.specs.Numbers.{is_send}
-use Rattle.tp_board.specs.Routes.{IsNumbered, Route, RouteTable, is_route, is_send_between, routes_of}
-use Rattle.tp_board.specs.Counts.{AreCountsOf}
-use Rattle.tp_board.specs.EventLogs.{IsEventLog}
-use Rattle.tp_board.specs.States.{left_of_piece}
+use Rattle.std.proofs.Common.{ℕ, zero, suc, ◌+◌, ◌-◌, ◌≡◌, ◌≢◌, ◌<◌, ◌≤◌, ◌==◌, ◌&&◌, ◌||◌, List, [], ◌∷◌, ◌++◌, length, reverse, Bool}
+use Rattle.std.proofs.{Common.{true, false, Some, None, length-append, inl, inr, refl, sym, ap, ◌∙◌, ◌%◌, max, arith}, lemmas.Bool.eq-eqb}
+use Rattle.std.{proofs.lemmas.{Bool.{ne_eqb, cases_eq, cases_lt}, Grind.reverse_onto, List.length-reverse}, specs.Prelude.slice_get}
+use Rattle.std.specs.Prelude.{IsFalse}
+use Rattle.tp_base.specs.{History.Recorded, declared.{ids.NodeId.NodeId, step.Step.{Step, TheVariants.Send}}}
+use Rattle.tp_board.{proofs.Counting.count_present-le, specs.{Counts.AreCountsOf, EventLogs.IsEventLog, Numbers.is_send, Routes.IsNumbered}}
+use Rattle.tp_board.specs.{Routes.{Route, RouteTable, is_route, is_send_between, routes_of}, States.left_of_piece}
 use Rattle.tp_board.specs.declared.counts.Counts.{Counts}
+use Rattle.tp_wave.specs.{Generations.{present, present_events}, Machine.{steps_of, is_send_numbered, is_send_to}, Steps.{any, count}}
+use Rattle.tp_wave.specs.Steps.{is_reopen}
 
 -- one route for each message
 pub length-routes_of : (steps : List Step) → length (routes_of steps) ≡ count is_send steps

@@ -1,25 +1,13 @@
 -- The result of a turn that tries control steps in order.
 use Rattle.std.proofs.Common.{ℕ, ◌≡◌, List, [], ◌∷◌, ◌++◌, Bool, true, false, Option, Some, None, Result, Ok, Err, refl, sym, ap, subst}
-use Rattle.std.proofs.Common.{◌∙◌, cond, arith}
-use Rattle.std.specs.Prelude.{MatchOption, IfErr, IfOk, OnErr, OnOk, if◌then◌else◌, ◌<◌, ◌≤◌, is_none, is_some, nat_lt, ◌+◌, length}
-use Rattle.std.proofs.lemmas.Bool.Decides.{nat_tests}
-use Rattle.std.specs.List.{find}
-use Rattle.std.specs.Result.{result_err}
-use Rattle.tp_base.specs.Checks.{Check, first_refusal}
-use Rattle.tp_base.specs.declared.refusal.Refusal.{Refusal}
-use Rattle.tp_base.specs.declared.refusal.Refusal.TheVariants.{HistoryFull, NoMemory, NotIdle}
-use Rattle.tp_base.specs.declared.step.Step.{Step}
-use Rattle.tp_base.specs.declared.step.Step.TheVariants.{Start, Down, Give, Up, Judge}
-use Rattle.tp_board.specs.Numbers.{node_at}
-use Rattle.tp_board.specs.States.{AnswersBy, BoardState, IsAtPiece, full_check, step_checks, visit_checks, with_event}
-use Rattle.tp_board.specs.Turns.{ComesTo, IsMade, Makes, MakesFirst, control_event, ends, is_for_room, may_make, turn_checks, turn_steps}
-use Rattle.tp_board.specs.Turns.{wave_steps}
-use Rattle.tp_board.proofs.Answering.{same_answer}
-use Rattle.tp_board.specs.declared.turn.Turn.{Turn}
-use Rattle.tp_board.specs.declared.turn.Turn.TheVariants.{Idle}
-use Rattle.tp_wave.specs.ControlChecks.{control_checks}
-use Rattle.tp_wave.specs.Generations.{present, present_events}
-use Rattle.tp_wave.specs.Machine.{pending_at, steps_of}
+use Rattle.std.{proofs.{Common.{◌∙◌, cond, arith}, lemmas.Bool.Decides.nat_tests}, specs.{List.find, Prelude.{MatchOption, IfErr, IfOk}}}
+use Rattle.std.specs.{Prelude.{OnErr, OnOk, if◌then◌else◌, ◌<◌, ◌≤◌, is_none, is_some, nat_lt, ◌+◌, length}, Result.result_err}
+use Rattle.tp_base.specs.{Checks.{Check, first_refusal}, declared.refusal.Refusal.{Refusal, TheVariants.{HistoryFull, NoMemory, NotIdle}}}
+use Rattle.tp_base.specs.declared.step.Step.{Step, TheVariants.{Start, Down, Give, Up, Judge}}
+use Rattle.tp_board.{proofs.Answering.same_answer, specs.{Numbers.node_at, States.{AnswersBy, BoardState, IsAtPiece, full_check}}}
+use Rattle.tp_board.specs.{States.{step_checks, visit_checks, with_event}, Turns.{ComesTo, IsMade, Makes, MakesFirst, control_event, ends}}
+use Rattle.tp_board.specs.{Turns.{is_for_room, may_make, turn_checks, turn_steps, wave_steps}, declared.turn.Turn.{Turn, TheVariants.Idle}}
+use Rattle.tp_wave.specs.{ControlChecks.control_checks, Generations.{present, present_events}, Machine.{pending_at, steps_of}}
 use Rattle.tp_wave.specs.Sums.{judgement}
 
 -- None of these checks is for lack of room.

@@ -1,15 +1,9 @@
 -- The invariant of a board.
 use Rattle.std.specs.Prelude.{ℕ, ◌≡◌, ◌<◌, ◌≤◌, List, length, slice_index, if◌then◌else◌}
-use Rattle.tp_base.specs.History.{Event}
-use Rattle.tp_base.specs.declared.step.Step.{Step}
-use Rattle.tp_wave.specs.Steps.{count}
-use Rattle.tp_wave.specs.Sums.{is_ended}
-use Rattle.tp_wave.specs.Machine.{steps_of, pending_at, under_way, IsRun}
-use Rattle.tp_wave.specs.Generations.{present_events, AreRuns}
-use Rattle.tp_wave.specs.Wave.{Follows}
-use Rattle.tp_wave.specs.declared.wave.Wave.{Wave}
-use Rattle.tp_board.specs.Books.{BookTotals}
-use Rattle.tp_board.specs.Numbers.{is_done, is_recv, is_send}
+use Rattle.tp_base.specs.{History.Event, declared.step.Step.Step}
+use Rattle.tp_board.specs.{Books.BookTotals, Numbers.{is_done, is_recv, is_send}}
+use Rattle.tp_wave.specs.{Generations.{present_events, AreRuns}, Machine.{steps_of, pending_at, under_way, IsRun}, Steps.count}
+use Rattle.tp_wave.specs.{Sums.is_ended, Wave.Follows, declared.wave.Wave.Wave}
 
 -- how many termination tokens are issued: one, once termination was detected
 abbrev pub ended_number : ℕ → List Step → ℕ

@@ -1,10 +1,7 @@
 -- The effect of a node's call on the board, and why it is refused.
 use Rattle.std.specs.Prelude.{ℕ, ◌+◌, ◌≡◌, ◌≤◌, ◌<◌, List, ◌++◌, length, Result, Err, MatchOption, IfErr}
-use Rattle.tp_base.specs.History.{Event}
-use Rattle.tp_base.specs.declared.refusal.Refusal.{Refusal}
-use Rattle.tp_base.specs.declared.refusal.Refusal.TheVariants.{NoMemory}
+use Rattle.tp_base.specs.{Checks.{Check, first_refusal}, History.Event, declared.refusal.Refusal.{Refusal, TheVariants.NoMemory}}
 use Rattle.tp_board.specs.States.{BoardState}
-use Rattle.tp_base.specs.Checks.{Check, first_refusal}
 
 -- The board has these additional events, newest first, and is otherwise unchanged. Each used at most one of the reserved places.
 pub record Appends (events : List Event) (old new : BoardState) : Type 0 where

@@ -1,12 +1,8 @@
 -- The numbers that a board counts along with its history.
 use Rattle.std.specs.Prelude.{ℕ, ◌≡◌, ◌<◌, ◌≤◌, List, Some, slice_get}
-use Rattle.tp_base.specs.History.{Event}
-use Rattle.tp_base.specs.declared.step.Step.{Step}
-use Rattle.tp_wave.specs.Steps.{count, is_send_of, is_recv_at}
-use Rattle.tp_wave.specs.Machine.{steps_of, pending_at, pending_after}
-use Rattle.tp_board.specs.Numbers.{is_done, is_recv, is_send, plus_if}
-use Rattle.tp_board.specs.declared.counts.NodeCounts.{NodeCounts}
-use Rattle.tp_board.specs.declared.counts.Counts.{Counts}
+use Rattle.tp_base.specs.{History.Event, declared.step.Step.Step}
+use Rattle.tp_board.specs.{Numbers.{is_done, is_recv, is_send, plus_if}, declared.counts.{Counts.Counts, NodeCounts.NodeCounts}}
+use Rattle.tp_wave.specs.{Machine.{steps_of, pending_at, pending_after}, Steps.{count, is_send_of, is_recv_at}}
 
 -- the numbers of node i in the history
 abbrev pub counts_at : ℕ → List Event → NodeCounts

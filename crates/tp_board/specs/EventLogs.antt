@@ -1,13 +1,8 @@
 -- The invariant of an event log.
 use Rattle.std.specs.Prelude.{ℕ, ◌+◌, ◌≡◌, ◌≤◌, ◌<◌, length}
-use Rattle.tp_base.specs.declared.step.Step.{Step}
-use Rattle.tp_base.specs.declared.step.Step.TheVariants.{Recv, MessageEnd}
-use Rattle.tp_base.specs.History.{Recorded}
-use Rattle.tp_wave.specs.Generations.{generation, present, present_events}
-use Rattle.tp_wave.specs.Machine.{steps_of}
-use Rattle.tp_board.specs.Counts.{AreCountsOf}
-use Rattle.tp_board.specs.Routes.{IsNumbered, RouteTable, routes_of}
-use Rattle.tp_board.specs.declared.counts.Counts.{Counts}
+use Rattle.tp_base.specs.{History.Recorded, declared.step.Step.{Step, TheVariants.{Recv, MessageEnd}}}
+use Rattle.tp_board.specs.{Counts.AreCountsOf, Routes.{IsNumbered, RouteTable, routes_of}, declared.counts.Counts.Counts}
+use Rattle.tp_wave.specs.{Generations.{generation, present, present_events}, Machine.steps_of}
 
 -- The numbers of a step's message and of its generation fit into an event. (A sent message is numbered by the log.)
 abbrev pub HasFew : Step → Type 0

@@ -1,7 +1,6 @@
 -- The result of a judgement.
 use Rattle.std.specs.Prelude.{Bool, true, false}
-use Rattle.tp_board.specs.declared.judgement.Judgement.{Judgement}
-use Rattle.tp_board.specs.declared.judgement.Judgement.TheVariants.{Not, Over}
+use Rattle.tp_board.specs.declared.judgement.Judgement.{Judgement, TheVariants.{Not, Over}}
 
 -- termination was detected
 abbrev pub is_over : {K : Type 0} → Judgement K → Bool

@@ -1,11 +1,8 @@
 -- The numbers of a node's and a link's shares, and how steps change them.
-use Rattle.std.specs.Prelude.{ℕ, ◌+◌, ◌≤◌, ◌==◌, Bool, true, false, not, List, map, filter, if◌then◌else◌}
-use Rattle.std.specs.List.{range_with_len, flat_map}
-use Rattle.tp_base.specs.History.{Event}
-use Rattle.tp_base.specs.declared.ids.NodeId.{NodeId}
-use Rattle.tp_base.specs.declared.step.Step.{Step}
-use Rattle.tp_base.specs.declared.step.Step.TheVariants.{Insert, Supply, Begin, Done, ActionOpen, ActionClose, Ready, Send, Recv}
-use Rattle.tp_base.specs.declared.step.Step.TheVariants.{MessageEnd}
+use Rattle.std.specs.{List.{range_with_len, flat_map}, Prelude.{ℕ, ◌+◌, ◌≤◌, ◌==◌, Bool, true, false, not, List, map, filter}}
+use Rattle.std.specs.Prelude.{if◌then◌else◌}
+use Rattle.tp_base.specs.{History.Event, declared.{ids.NodeId.NodeId, step.Step.{Step, TheVariants.{Insert, Supply, Begin, Done}}}}
+use Rattle.tp_base.specs.declared.step.Step.TheVariants.{ActionOpen, ActionClose, Ready, Send, Recv, MessageEnd}
 use Rattle.tp_wave.specs.Machine.{pending_after}
 pub use Rattle.tp_wave.specs.Steps.{is_done, is_recv, is_send}
 

@@ -1,8 +1,7 @@
 -- What contracts see of the shares of the pending ledgers.
 use Rattle.std.specs.Prelude.{◌≡◌}
-use Rattle.tp_board.specs.Numbers.{PendingNumber}
-use Rattle.tp_board.specs.declared.pending.PendingShare.{PendingShare}
-use Rattle.tp_board.specs.declared.pending.PendingShare.TheVariants.{Node0, Node1, Node2, Node3, Node4, Node5, Node6, Node7}
+use Rattle.tp_board.specs.{Numbers.PendingNumber, declared.pending.PendingShare.{PendingShare, TheVariants.{Node0, Node1, Node2, Node3}}}
+use Rattle.tp_board.specs.declared.pending.PendingShare.TheVariants.{Node4, Node5, Node6, Node7}
 
 abbrev pub pending_number : {K : Type 0} → PendingShare K → PendingNumber
 pending_number (Node0 s) = record { node = 0; amount = s.amount }

@@ -1,7 +1,6 @@
 -- The books and shares of a pool that is reopened.
 use Rattle.std.specs.Prelude.{ℕ, ◌≡◌, ◌<◌, List, slice_index}
-use Rattle.tp_board.specs.Books.{BookTotals}
-use Rattle.tp_board.specs.Numbers.{ShareNumbers, PendingNumber, first_pending, first_numbers}
+use Rattle.tp_board.specs.{Books.BookTotals, Numbers.{ShareNumbers, PendingNumber, first_pending, first_numbers}}
 
 -- each of n pending books has the number
 abbrev pub AllAre : ℕ → ℕ → List ℕ → Type 0

@@ -1,10 +1,8 @@
 -- The routes of messages: who sent which message to whom.
 use Rattle.std.specs.Prelude.{ℕ, ◌≡◌, ◌==◌, ◌&&◌, List, [], ◌∷◌, Bool, false, Option, Some, None}
-use Rattle.tp_base.specs.declared.ids.NodeId.{NodeId}
-use Rattle.tp_base.specs.declared.step.Step.{Step}
-use Rattle.tp_base.specs.declared.step.Step.TheVariants.{Send}
-use Rattle.tp_wave.specs.Steps.{count}
+use Rattle.tp_base.specs.declared.{ids.NodeId.NodeId, step.Step.{Step, TheVariants.Send}}
 use Rattle.tp_board.specs.Numbers.{is_send}
+use Rattle.tp_wave.specs.Steps.{count}
 
 -- node i sends message m to node j
 abbrev pub is_send_between : ℕ → ℕ → ℕ → Step → Bool

@@ -1,19 +1,10 @@
 -- What contracts see of a board, and the checks of its calls.
-use Rattle.std.specs.Prelude.{ℕ, ◌+◌, ◌-◌, ◌%◌, ◌≡◌, ◌<◌, ◌⊎◌, List, [], ◌∷◌, ◌++◌, length, Option, Some}
-use Rattle.std.specs.Prelude.{Result, Err, MatchOption, IfErr, nat_lt}
-use Rattle.std.specs.Option.{option_or}
-use Rattle.tp_base.specs.History.{Event}
-use Rattle.tp_base.specs.declared.refusal.Refusal.{Refusal}
-use Rattle.tp_base.specs.declared.refusal.Refusal.TheVariants.{HistoryFull, NoMemory, NotIdle}
-use Rattle.tp_base.specs.declared.ids.NodeId.{NodeId}
-use Rattle.tp_base.specs.declared.step.Step.{Step}
-use Rattle.tp_base.specs.declared.step.Step.TheVariants.{Give}
-use Rattle.tp_base.specs.Checks.{Check, first_refusal}
-use Rattle.tp_wave.specs.ControlChecks.{control_checks}
-use Rattle.tp_wave.specs.Generations.{present, present_events}
-use Rattle.tp_wave.specs.Machine.{pending_at, steps_of}
-use Rattle.tp_wave.specs.Steps.{count}
+use Rattle.std.specs.{Option.option_or, Prelude.{ℕ, ◌+◌, ◌-◌, ◌%◌, ◌≡◌, ◌<◌, ◌⊎◌, List, [], ◌∷◌, ◌++◌, length, Option, Some, Result, Err}}
+use Rattle.std.specs.Prelude.{MatchOption, IfErr, nat_lt}
+use Rattle.tp_base.specs.{Checks.{Check, first_refusal}, History.Event, declared.{ids.NodeId.NodeId, refusal.Refusal.Refusal}}
+use Rattle.tp_base.specs.declared.{refusal.Refusal.TheVariants.{HistoryFull, NoMemory, NotIdle}, step.Step.{Step, TheVariants.Give}}
 use Rattle.tp_board.specs.Numbers.{is_send}
+use Rattle.tp_wave.specs.{ControlChecks.control_checks, Generations.{present, present_events}, Machine.{pending_at, steps_of}, Steps.count}
 
 -- What contracts see of a board: its events, newest first, their limit, how many more have a reserved place and memory,
 -- and the first fault that was set.

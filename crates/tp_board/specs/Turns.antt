@@ -1,22 +1,13 @@
 -- A node's control turn: which step it makes, and its result.
-use Rattle.std.specs.Prelude.{ℕ, ◌+◌, ◌*◌, ◌≡◌, ◌==◌, ◌&&◌, List, [], ◌∷◌, ◌++◌, Bool, true, false, IsTrue, IsFalse, Some, None, is_some}
-use Rattle.std.specs.Prelude.{is_none, if◌then◌else◌, Result, Ok, Err, IfErr, IfOk, IsOkAnd, OnErr, OnOk, nat_lt}
-use Rattle.std.specs.List.{find}
-use Rattle.tp_base.specs.Checks.{Check, first_refusal}
-use Rattle.tp_base.specs.History.{Event}
-use Rattle.tp_base.specs.declared.refusal.Refusal.{Refusal}
-use Rattle.tp_base.specs.declared.refusal.Refusal.TheVariants.{HistoryFull, NoMemory, NotIdle}
-use Rattle.tp_base.specs.declared.step.Step.{Step}
-use Rattle.tp_base.specs.declared.step.Step.TheVariants.{Start, Down, Give, Up, Judge}
-use Rattle.tp_board.specs.Numbers.{event, node_at}
-use Rattle.tp_board.specs.States.{AnswersBy, BoardState, IsAtPiece, full_check, with_event}
-use Rattle.tp_board.specs.declared.turn.Turn.{Turn}
-use Rattle.tp_board.specs.declared.turn.Turn.TheVariants.{Idle, Moved, Over}
-use Rattle.tp_wave.specs.ControlChecks.{control_checks}
-use Rattle.tp_wave.specs.Generations.{present, present_events}
-use Rattle.tp_wave.specs.Machine.{pending_at, steps_of}
-use Rattle.tp_wave.specs.Steps.{is_judge}
-use Rattle.tp_wave.specs.Sums.{judgement}
+use Rattle.std.specs.{List.find, Prelude.{ℕ, ◌+◌, ◌*◌, ◌≡◌, ◌==◌, ◌&&◌, List, [], ◌∷◌, ◌++◌, Bool, true, false, IsTrue, IsFalse, Some}}
+use Rattle.std.specs.Prelude.{None, is_some, is_none, if◌then◌else◌, Result, Ok, Err, IfErr, IfOk, IsOkAnd, OnErr, OnOk, nat_lt}
+use Rattle.tp_base.specs.{Checks.{Check, first_refusal}, History.Event, declared.refusal.Refusal.{Refusal, TheVariants.HistoryFull}}
+use Rattle.tp_base.specs.declared.{refusal.Refusal.TheVariants.{NoMemory, NotIdle}, step.Step.{Step, TheVariants.{Start, Down, Give, Up}}}
+use Rattle.tp_base.specs.declared.step.Step.TheVariants.{Judge}
+use Rattle.tp_board.specs.{Numbers.{event, node_at}, States.{AnswersBy, BoardState, IsAtPiece, full_check, with_event}}
+use Rattle.tp_board.specs.declared.turn.Turn.{Turn, TheVariants.{Idle, Moved, Over}}
+use Rattle.tp_wave.specs.{ControlChecks.control_checks, Generations.{present, present_events}, Machine.{pending_at, steps_of}}
+use Rattle.tp_wave.specs.{Steps.is_judge, Sums.judgement}
 
 -- ---- which step
 -- the part of any node in a wave: it takes its token, then the sums of its lower and of its higher child, and then gives

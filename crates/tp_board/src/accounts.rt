@@ -1,11 +1,7 @@
 //! The books of a pool's ledgers, which are ghost state: the sums that the shares of nodes and links add up to.
-ghost use Rattle.std.specs.Prelude.{◌≡◌, ◌≤◌, ◌<◌, ◌+◌, ◌↔◌, IsFalse, IsTrue, map, vec_len};
-ghost use Rattle.std.specs.List.{All};
-ghost use Rattle.tp_board.specs.Fresh.{HasRoom};
-ghost use Rattle.tp_board.specs.Reopening.{AllAre, AreFirst, begun_anew};
-ghost use Rattle.tp_board.specs.Books.{IsBooked, totals_after, with_judged, with_under};
-ghost use Rattle.tp_board.specs.Names.{under_parts};
-ghost use Rattle.tp_board.specs.Numbers.{is_done, is_recv, is_send, numbers_after, plus_if};
+ghost use Rattle.std.specs.{List.All, Prelude.{◌≡◌, ◌≤◌, ◌<◌, ◌+◌, ◌↔◌, IsFalse, IsTrue, map, vec_len}};
+ghost use Rattle.tp_board.specs.{Books.{IsBooked, totals_after, with_judged, with_under}, Fresh.HasRoom, Names.under_parts};
+ghost use Rattle.tp_board.specs.{Numbers.{is_done, is_recv, is_send, numbers_after, plus_if}, Reopening.{AllAre, AreFirst, begun_anew}};
 ghost use Rattle.tp_wave.specs.Machine.{under_way_after};
 
 use crate::ended::{Ended, Keeper};

@@ -1,17 +1,11 @@
 //! The board: what a pool keeps under its board lock, and the calls that record an event.
 ghost use Rattle.std.specs.Prelude.{◌≡◌, ◌==◌, ◌≤◌, ◌<◌, ◌+◌, ◌-◌, ◌∷◌, ℕ, [], length, max, slice_index, IsTrue, IfErr, IfOk, IsOk, OnErr};
 ghost use Rattle.std.specs.Prelude.{OnOk, None};
-ghost use Rattle.tp_board.specs.Books.{first_totals};
-ghost use Rattle.tp_board.specs.Names.{under_parts};
-ghost use Rattle.tp_board.specs.Numbers.{AreWithin, ending, event, is_done, is_plain, is_recv, is_send, numbers_after, receiving};
-ghost use Rattle.tp_board.specs.Numbers.{sending};
-ghost use Rattle.tp_board.specs.Routes.{is_send_between};
-ghost use Rattle.tp_board.specs.States.{AnswersBy, IsAtPiece, IsPastPiece, full_check, with_event, with_fault, with_reserved};
-ghost use Rattle.tp_wave.specs.Generations.{AreRuns, generation, present, present_events};
-ghost use Rattle.tp_wave.specs.Machine.{IsOf, is_send_to, pending_at, steps_of, under_way};
-ghost use Rattle.tp_wave.specs.Cut.{IsQuietHistory};
-ghost use Rattle.tp_wave.specs.Steps.{any, count};
-ghost use Rattle.tp_wave.specs.Sums.{is_ended};
+ghost use Rattle.tp_board.specs.{Books.first_totals, Names.under_parts, Numbers.{AreWithin, ending, event, is_done, is_plain, is_recv}};
+ghost use Rattle.tp_board.specs.{Numbers.{is_send, numbers_after, receiving, sending}, Routes.is_send_between, States.AnswersBy};
+ghost use Rattle.tp_board.specs.States.{IsAtPiece, IsPastPiece, full_check, with_event, with_fault, with_reserved};
+ghost use Rattle.tp_wave.specs.{Cut.IsQuietHistory, Generations.{AreRuns, generation, present, present_events}, Machine.{IsOf, is_send_to}};
+ghost use Rattle.tp_wave.specs.{Machine.{pending_at, steps_of, under_way}, Steps.{any, count}, Sums.is_ended};
 
 use crate::books::Totals;
 use crate::event_log::EventLog;
@@ -36,8 +30,7 @@ pub struct Board<K: Ledgers> {
 }
 
 impl<K: Ledgers> Model for Board<K> {
-    ghost use Rattle.tp_board.specs.Boards.{IsBoardOf};
-    ghost use Rattle.tp_board.specs.States.{BoardState};
+    ghost use Rattle.tp_board.specs.{Boards.IsBoardOf, States.BoardState};
 
     ghost Value = { BoardState };
 

@@ -1,13 +1,9 @@
 //! Opening a pool's board with all its shares, and adding all shares up at the end.
-ghost use Rattle.std.specs.Prelude.{◌≡◌, ◌≤◌, ◌<◌, ◌+◌, ◌-◌, ◌*◌, [], IfErr, IfOk, IsTrue, None, length, sum_by, vec_len};
-ghost use Rattle.std.specs.List.{All};
+ghost use Rattle.std.specs.{List.All, Prelude.{◌≡◌, ◌≤◌, ◌<◌, ◌+◌, ◌-◌, ◌*◌, [], IfErr, IfOk, IsTrue, None, length, sum_by, vec_len}};
 ghost use Rattle.tp_base.specs.declared.refusal.Refusal.TheVariants as refusals;
 ghost use Rattle.tp_board.specs.Numbers.{first_links, first_numbers, first_shares, is_done, is_recv, is_send};
-ghost use Rattle.tp_wave.specs.Cut.{IsQuietHistory};
-ghost use Rattle.tp_wave.specs.Generations.{AreRuns, present, present_events};
-ghost use Rattle.tp_wave.specs.Machine.{pending_at, steps_of, under_way};
-ghost use Rattle.tp_wave.specs.Steps.{count};
-ghost use Rattle.tp_wave.specs.Sums.{is_ended};
+ghost use Rattle.tp_wave.specs.{Cut.IsQuietHistory, Generations.{AreRuns, present, present_events}, Machine.{pending_at, steps_of}};
+ghost use Rattle.tp_wave.specs.{Machine.under_way, Steps.count, Sums.is_ended};
 
 use crate::board::Board;
 use crate::{Blanks, Ledgers, LinkShare, Opened, Parts, Shares, Under};

@@ -1,15 +1,12 @@
 //! The control steps of the board: the five steps of a wave.
-ghost use Rattle.std.specs.Prelude.{◌≡◌, ◌==◌, ◌≤◌, ◌<◌, ◌∷◌, IsFalse, IsTrue, IfErr, IfOk, IsOk, OnErr, OnOk, None, Some};
-ghost use Rattle.std.specs.Prelude.{is_some, if◌then◌else◌};
+ghost use Rattle.std.specs.Prelude.{◌≡◌, ◌==◌, ◌≤◌, ◌<◌, ◌∷◌, IsFalse, IsTrue, IfErr, IfOk, IsOk, OnErr, OnOk, None, Some, is_some};
+ghost use Rattle.std.specs.Prelude.{if◌then◌else◌};
 ghost use Rattle.tp_base.specs.declared.step.Step.TheVariants as steps;
-ghost use Rattle.tp_board.specs.Judgements.{is_over};
-ghost use Rattle.tp_board.specs.Numbers.{event, node_at};
-ghost use Rattle.tp_board.specs.States.{AnswersBy, IsAtPiece, step_checks, visit_checks, with_event};
 ghost use Rattle.tp_base.specs.Tree.{parent};
-ghost use Rattle.tp_wave.specs.Cut.{IsQuietHistory};
-ghost use Rattle.tp_wave.specs.Generations.{present, present_events};
-ghost use Rattle.tp_wave.specs.Machine.{steps_of};
-ghost use Rattle.tp_wave.specs.Sums.{is_ended, judgement, sums_of};
+ghost use Rattle.tp_board.specs.{Judgements.is_over, Numbers.{event, node_at}, States.{AnswersBy, IsAtPiece, step_checks, visit_checks}};
+ghost use Rattle.tp_board.specs.States.{with_event};
+ghost use Rattle.tp_wave.specs.{Cut.IsQuietHistory, Generations.{present, present_events}, Machine.steps_of, Sums.{is_ended, judgement}};
+ghost use Rattle.tp_wave.specs.Sums.{sums_of};
 
 use crate::board::Board;
 use crate::judgement::Judgement;

@@ -1,8 +1,7 @@
 //! The numbers that are counted along with a history, so that nothing has to scan it.
 ghost use Rattle.std.specs.Prelude.{◌≡◌, ◌≤◌, ◌<◌, ◌^◌, ◌∷◌, List, [], length};
 ghost use Rattle.tp_base.specs.History.{Event};
-ghost use Rattle.tp_board.specs.Counts.{AreCountsOf, counts_after, counts_at, AreFew};
-ghost use Rattle.tp_board.specs.Numbers.{event, is_done, is_recv, plus_if};
+ghost use Rattle.tp_board.specs.{Counts.{AreCountsOf, counts_after, counts_at, AreFew}, Numbers.{event, is_done, is_recv, plus_if}};
 ghost use Rattle.tp_wave.specs.Machine.{IsOf};
 
 use tp_base::{NodeId, Step};

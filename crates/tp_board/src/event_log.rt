@@ -1,16 +1,12 @@
 //! The event log of a board: the history with its limit, its counts and the routes of its messages. Ledgers and waves
 //! are not here.
-ghost use Rattle.std.specs.Prelude.{◌≡◌, ◌∷◌, ◌+◌, ◌≤◌, ◌<◌, [], length, max, IsTrue, IsFalse, IfErr, IfOk, IsOk, OnErr, OnOk};
-ghost use Rattle.std.specs.Prelude.{None};
+ghost use Rattle.std.specs.Prelude.{◌≡◌, ◌∷◌, ◌+◌, ◌≤◌, ◌<◌, [], length, max, IsTrue, IsFalse, IfErr, IfOk, IsOk, OnErr, OnOk, None};
 ghost use Rattle.tp_base.specs.declared.step.Step.TheVariants as steps;
-ghost use Rattle.tp_board.specs.Counts.{AreFew, counts_at};
-ghost use Rattle.tp_board.specs.Numbers.{event, is_done, is_recv, is_send, sending};
-ghost use Rattle.tp_board.specs.Routes.{is_send_between};
-ghost use Rattle.tp_board.specs.States.{AnswersBy, IsAtPiece, IsPastPiece, full_check, with_event, with_fault, with_reserved};
-ghost use Rattle.tp_wave.specs.Generations.{generation, present, present_events};
-ghost use Rattle.tp_wave.specs.Machine.{IsOf, is_send_numbered, steps_of};
-ghost use Rattle.tp_wave.specs.Steps.{any, count, is_reopen};
-ghost use Rattle.tp_board.specs.EventLogs.{HasFew};
+ghost use Rattle.tp_board.specs.{Counts.{AreFew, counts_at}, EventLogs.HasFew, Numbers.{event, is_done, is_recv, is_send, sending}};
+ghost use Rattle.tp_board.specs.{Routes.is_send_between, States.{AnswersBy, IsAtPiece, IsPastPiece, full_check, with_event, with_fault}};
+ghost use Rattle.tp_board.specs.States.{with_reserved};
+ghost use Rattle.tp_wave.specs.{Generations.{generation, present, present_events}, Machine.{IsOf, is_send_numbered, steps_of}, Steps.any};
+ghost use Rattle.tp_wave.specs.Steps.{count, is_reopen};
 
 use crate::counts::{Counts, NodeCounts};
 use crate::routes::Routes;
@@ -32,8 +28,7 @@ pub struct EventLog {
 }
 
 impl Model for EventLog {
-    ghost use Rattle.tp_board.specs.EventLogs.{IsEventLog};
-    ghost use Rattle.tp_board.specs.States.{BoardState};
+    ghost use Rattle.tp_board.specs.{EventLogs.IsEventLog, States.BoardState};
 
     ghost Value = { BoardState };
 

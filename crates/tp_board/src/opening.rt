@@ -1,10 +1,8 @@
 //! New ledgers, with the first shares of the nodes and links.
-ghost use Rattle.std.specs.Prelude.{◌≡◌, ◌≤◌, ◌<◌, ◌+◌, ◌-◌, ◌*◌, ◌++◌, [], IfErr, IfOk, min, vec_capacity, vec_len};
-ghost use Rattle.std.specs.List.{All};
+ghost use Rattle.std.specs.{List.All, Prelude.{◌≡◌, ◌≤◌, ◌<◌, ◌+◌, ◌-◌, ◌*◌, ◌++◌, [], IfErr, IfOk, min, vec_capacity, vec_len}};
 ghost use Rattle.tp_base.specs.declared.refusal.Refusal.TheVariants as refusals;
-ghost use Rattle.tp_board.specs.Books.{first_totals};
-ghost use Rattle.tp_board.specs.Names.{under_parts};
-ghost use Rattle.tp_board.specs.Numbers.{empty_parts, first_links, first_numbers, first_shares, links_of};
+ghost use Rattle.tp_board.specs.{Books.first_totals, Names.under_parts, Numbers.{empty_parts, first_links, first_numbers, first_shares}};
+ghost use Rattle.tp_board.specs.Numbers.{links_of};
 
 use crate::accounts::Accounts;
 use crate::ended::Keeper;

@@ -1,7 +1,6 @@
 //! The ledgers of the pending numbers, one for each node.
 ghost use Rattle.std.specs.Prelude.{◌≡◌, ◌≤◌, ℕ, ◌+◌, ◌-◌, ◌*◌, ◌<◌, IsFalse, [], ◌∷◌, slice_index, slice_set, length};
-ghost use Rattle.tp_board.specs.Names.{pending_name};
-ghost use Rattle.tp_board.specs.Numbers.{first_pending, is_recv};
+ghost use Rattle.tp_board.specs.{Names.pending_name, Numbers.{first_pending, is_recv}};
 ghost use Rattle.tp_wave.specs.Machine.{pending_after};
 
 use crate::names::{Ledgers, Pending};

@@ -1,10 +1,8 @@
 //! The ledgers of a pool that is reopened: all shares are gathered, cleared and split again.
-ghost use Rattle.std.specs.Prelude.{◌≡◌, ◌≤◌, ◌<◌, ◌+◌, ℕ, IfOk, MatchOption, [], map, length, slice_index, vec_capacity, vec_len};
-ghost use Rattle.std.specs.List.{All};
-ghost use Rattle.tp_board.specs.Numbers.{empty_parts};
-ghost use Rattle.tp_board.specs.Fresh.{HasRoom};
-ghost use Rattle.tp_board.specs.Reopening.{AllAre, AreFirst, begun_anew, opened_again, with_numbers};
+ghost use Rattle.std.specs.{List.All, Prelude.{◌≡◌, ◌≤◌, ◌<◌, ◌+◌, ℕ, IfOk, MatchOption, [], map, length, slice_index, vec_capacity}};
+ghost use Rattle.std.specs.Prelude.{vec_len};
 ghost use Rattle.tp_base.specs.Totals.{total};
+ghost use Rattle.tp_board.specs.{Fresh.HasRoom, Numbers.empty_parts, Reopening.{AllAre, AreFirst, begun_anew, opened_again, with_numbers}};
 
 use crate::names::Ledgers;
 use crate::pending::{PendingBooks, PendingOf};

@@ -1,15 +1,8 @@
 //! The reopening of a board: the one event that changes all nodes.
-ghost use Rattle.std.specs.Prelude.{◌≡◌, ◌<◌, IsTrue, map, vec_len};
-ghost use Rattle.std.specs.List.{All};
+ghost use Rattle.std.specs.{List.All, Prelude.{◌≡◌, ◌<◌, IsTrue, map, vec_len}};
 ghost use Rattle.tp_base.specs.declared.step.Step.TheVariants as steps;
-ghost use Rattle.tp_board.specs.States.{with_event};
-ghost use Rattle.tp_board.specs.Fresh.{HasRoom};
-ghost use Rattle.tp_board.specs.Numbers.{event, first_numbers};
-ghost use Rattle.tp_board.specs.Reopening.{begun_anew};
-ghost use Rattle.tp_wave.specs.Cut.{IsQuietHistory};
-ghost use Rattle.tp_wave.specs.Generations.{present, present_events};
-ghost use Rattle.tp_wave.specs.Machine.{steps_of};
-ghost use Rattle.tp_wave.specs.Sums.{is_ended};
+ghost use Rattle.tp_board.specs.{Fresh.HasRoom, Numbers.{event, first_numbers}, Reopening.begun_anew, States.with_event};
+ghost use Rattle.tp_wave.specs.{Cut.IsQuietHistory, Generations.{present, present_events}, Machine.steps_of, Sums.is_ended};
 
 use crate::board::Board;
 use crate::{Ended, Fresh, Ledgers, Shares};

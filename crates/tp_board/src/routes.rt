@@ -20,8 +20,7 @@ pub struct Routes {
 
 impl Model for Routes {
     ghost use Rattle.std.specs.Prelude.{◌≡◌, ◌≤◌, ◌-◌, ◌%◌, reverse, vec_len, vec_capacity};
-    ghost use Rattle.tp_board.specs.declared.routes.TheConstants.{PIECE};
-    ghost use Rattle.tp_board.specs.Routes.{RouteTable};
+    ghost use Rattle.tp_board.specs.{Routes.RouteTable, declared.routes.TheConstants.PIECE};
 
     ghost Value = { RouteTable };
 

@@ -1,11 +1,8 @@
 //! A control turn of a node: it makes the first control step that the waves allow the node.
 ghost use Rattle.std.specs.Prelude.{◌≡◌, ◌≤◌, ◌+◌, ◌*◌, [], ◌∷◌, false, if◌then◌else◌};
 ghost use Rattle.tp_base.specs.declared.step.Step.TheVariants as steps;
-ghost use Rattle.tp_board.specs.Numbers.{node_at};
-ghost use Rattle.tp_board.specs.Judgements.{is_over};
-ghost use Rattle.tp_board.specs.Turns.{ComesTo, MakesFirst, is_for_room, turn_steps, wave_steps};
-ghost use Rattle.tp_wave.specs.Generations.{present_events};
-ghost use Rattle.tp_wave.specs.Machine.{pending_at};
+ghost use Rattle.tp_board.specs.{Judgements.is_over, Numbers.node_at, Turns.{ComesTo, MakesFirst, is_for_room, turn_steps, wave_steps}};
+ghost use Rattle.tp_wave.specs.{Generations.present_events, Machine.pending_at};
 
 use crate::{Board, Ended, Judgement, Ledgers, Shares};
 use tp_base::{NodeId, Refusal};

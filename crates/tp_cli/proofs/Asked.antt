@@ -1,17 +1,10 @@
 -- What a caller knows of a parse of the command line.
-use Rattle.std.proofs.Common.{◌≡◌, ◌≢◌, ◌∙◌, refl, ap, sym, subst, arith, ℕ, List, Option, Some, None, MatchOption, option_map, codes}
-use Rattle.std.proofs.Common.{slice_index, unwrap_or}
-use Rattle.std.specs.Prelude.{Box}
-use Rattle.std.specs.Box.{box_value}
 use Rattle.clap.specs.Words.{App, HasMatchesOf, Row, Text, all_of, first_of, is_simple, subcommand_of, subcommand_rows, subcommand_rows_of}
-use Rattle.clap.specs.declared.parser.matches.ArgMatches.{ArgMatches}
-use Rattle.clap.specs.declared.parser.matches.ArgMatches.TheViews.{out-SubCommand}
-use Rattle.clap.specs.declared.parser.matches.SubCommand.{SubCommand}
-use Rattle.tp_cli.specs.Command.{AsksForNothing, IsNeither, reading_word, tp_app}
-use Rattle.tp_cli.specs.Asked.{IsAskedBy, IsMadeBy}
-use Rattle.tp_cli.specs.declared.request.Request.{Request}
-use Rattle.tp_cli.specs.declared.text.TextKind.{TextKind}
-use Rattle.tp_cli.specs.declared.text.TextKind.TheVariants.{Script, Trace}
+use Rattle.clap.specs.declared.parser.matches.{ArgMatches.{ArgMatches, TheViews.out-SubCommand}, SubCommand.SubCommand}
+use Rattle.std.proofs.Common.{◌≡◌, ◌≢◌, ◌∙◌, refl, ap, sym, subst, arith, ℕ, List, Option, Some, None, MatchOption, option_map, codes}
+use Rattle.std.{proofs.Common.{slice_index, unwrap_or}, specs.{Box.box_value, Prelude.Box}}
+use Rattle.tp_cli.specs.{Asked.{IsAskedBy, IsMadeBy}, Command.{AsksForNothing, IsNeither, reading_word, tp_app}}
+use Rattle.tp_cli.specs.declared.{request.Request.Request, text.TextKind.{TextKind, TheVariants.{Script, Trace}}}
 
 -- the name and the rows of the subcommand that was found
 pub found_as : {Z : Type 0} (o : Option (Box SubCommand Z)) (name : Text) (rows : List Row)

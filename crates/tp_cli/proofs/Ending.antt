@@ -1,36 +1,21 @@
 -- How a run ends.
+use Rattle.clap.specs.{Words.{Text, subcommand_of}, declared.error.kind.ErrorKind.{ErrorKind, TheVariants.MissingSubcommand}}
+use Rattle.pool_samples.specs.{Words.word_of, declared.any.AnyGraph.AnyGraph}
 use Rattle.std.proofs.Common.{◌≡◌, ◌≢◌, ◌∙◌, ◌⊎◌, ℕ, Bool, true, false, List, Option, Result, Ok, Err, IfErr, IfOk, ap, arith, codes, inl}
-use Rattle.std.proofs.Common.{inr, map, refl, subst, sym}
-use Rattle.std.specs.Io.KnownBytes.{Appends}
+use Rattle.std.{proofs.Common.{inr, map, refl, subst, sym}, specs.Io.KnownBytes.Appends}
 use Rattle.tp_base.specs.declared.refusal.Refusal.{Refusal}
-use Rattle.clap.specs.Words.{Text, subcommand_of}
-use Rattle.clap.specs.declared.error.kind.ErrorKind.{ErrorKind}
-use Rattle.clap.specs.declared.error.kind.ErrorKind.TheVariants.{MissingSubcommand}
-use Rattle.tp_cli.specs.Asked.{IsRunOf}
-use Rattle.tp_cli.specs.Command.{AsksForNothing, AsksForPools, AsksForText, IsAt, IsRunWith, tp_app}
-use Rattle.tp_cli.specs.Ends.{CouldNotWrite, HasAnswered, HasNothing, IsRunText, IsTextOfPools, RefusedPool, RefusedText, Succeeded}
-use Rattle.tp_cli.specs.Faults.{line_of, status_of}
-use Rattle.tp_cli.specs.Pools.{IsPoolsFault, IsPoolsText, status_of_pools}
-use Rattle.tp_cli.specs.Runs.{IsRunFault, IsTextFor, NamesNoGraph}
-use Rattle.tp_cli.specs.Texts.{IsAnswerTo, IsUnansweredText, status_of_verdict}
-use Rattle.tp_cli.specs.declared.fault.Fault.{Fault}
-use Rattle.tp_cli.specs.declared.fault.Fault.TheVariants as faults
-use Rattle.tp_cli.specs.declared.run.Plan.{Plan}
+use Rattle.tp_cli.specs.{Asked.IsRunOf, Command.{AsksForNothing, AsksForPools, AsksForText, IsAt, IsRunWith, tp_app}, Ends.CouldNotWrite}
+use Rattle.tp_cli.specs.{Ends.{HasAnswered, HasNothing, IsRunText, IsTextOfPools, RefusedPool, RefusedText, Succeeded}, Faults.line_of}
+use Rattle.tp_cli.specs.{Faults.status_of, Pools.{IsPoolsFault, IsPoolsText, status_of_pools}, Runs.{IsRunFault, IsTextFor, NamesNoGraph}}
+use Rattle.tp_cli.specs.{Texts.{IsAnswerTo, IsUnansweredText, status_of_verdict}, declared.{fault.Fault.Fault, run.Plan.Plan}}
 use Rattle.tp_cli.specs.declared.text.TextKind.{TextKind}
-use Rattle.pool_samples.specs.Words.{word_of}
-use Rattle.pool_samples.specs.declared.any.AnyGraph.{AnyGraph}
-use Rattle.tp_shell.proofs.Asked.{shown_asked, words_fault}
-use Rattle.tp_shell.specs.Command.{FailsAs, IsMetBy, IsToBeShown}
-use Rattle.tp_shell.specs.Statuses.{code_of}
-use Rattle.tp_shell.specs.Streams.{HasShown}
-use Rattle.tp_shell.specs.declared.status.Status.{Status}
-use Rattle.tp_shell.specs.declared.status.Status.TheVariants.{Done}
+use Rattle.tp_shell.{proofs.Asked.{shown_asked, words_fault}, specs.{Command.{FailsAs, IsMetBy, IsToBeShown}, Statuses.code_of}}
+use Rattle.tp_shell.specs.{Streams.HasShown, declared.{status.Status.{Status, TheVariants.Done}, words.WordsFault.WordsFault}}
+use Rattle.tp_text.specs.declared.{TextFault.TextFault, Verdict.Verdict}
+use Rattle.tp_cli.specs.declared.fault.Fault.TheVariants as faults
 use Rattle.tp_shell.specs.declared.status.Status.TheVariants as statuses
-use Rattle.tp_shell.specs.declared.words.WordsFault.{WordsFault}
 use Rattle.tp_shell.specs.declared.words.WordsFault.TheVariants as words
-use Rattle.tp_text.specs.declared.TextFault.{TextFault}
 use Rattle.tp_text.specs.declared.TextFault.TheVariants as texts
-use Rattle.tp_text.specs.declared.Verdict.{Verdict}
 use Rattle.tp_text.specs.declared.Verdict.TheVariants as verdicts
 
 -- ---- faults on the way

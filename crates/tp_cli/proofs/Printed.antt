@@ -1,9 +1,7 @@
 -- What is printed of a run.
-use Rattle.std.proofs.Common.{◌≡◌, ◌∙◌, ◌++◌, ℕ, List, [], ◌∷◌, ap, append_assoc, codes, subst, sym}
-use Rattle.tp_cli.specs.Runs.{IsPrintOf, run_text}
-use Rattle.tp_cli.specs.declared.run.Form.{Form}
-use Rattle.tp_cli.specs.declared.run.Form.TheVariants.{Table}
 use Rattle.pool_samples.specs.declared.any.AnyGraph.{AnyGraph}
+use Rattle.std.proofs.Common.{◌≡◌, ◌∙◌, ◌++◌, ℕ, List, [], ◌∷◌, ap, append_assoc, codes, subst, sym}
+use Rattle.tp_cli.specs.{Runs.{IsPrintOf, run_text}, declared.run.Form.{Form, TheVariants.Table}}
 use Rattle.tp_text.specs.Spelling.{line}
 use Rattle.tp_work.specs.declared.config.Outcome.{Outcome}
 

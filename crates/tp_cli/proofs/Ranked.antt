@@ -1,18 +1,12 @@
 -- The result of a pool's rank is that of the pool's own graph.
-use Rattle.std.proofs.Common.{arith, ap, ap₂, sym, subst, refl, cond, true, ℕ, ◌≡◌, ◌∙◌, ◌+◌, ◌<◌, ◌++◌, ◌∷◌, [], Bool, List, Option, Some}
-use Rattle.std.proofs.Common.{Result, drop, length, map, slice_get, take}
-use Rattle.std.proofs.lemmas.List.{get_or_append_left, length-append, length-map, take-append-drop}
-use Rattle.std.proofs.lemmas.List.Elements.{filter-append, filter_more}
-use Rattle.std.proofs.lemmas.List.Sums.{length-filter}
-use Rattle.std.proofs.lemmas.Option.{get_or_from_slice_get, slice_get-get_or, slice_get-map, slice_get_within}
-use Rattle.std.proofs.Math.Seq.{get_or-append_seam}
-use Rattle.std.specs.List.{count_by, filter}
-use Rattle.std.specs.Option.{option_map}
-use Rattle.std.specs.Prelude.{get_or}
-use Rattle.tp_cli.specs.Registry.{AreRun, AreRunAnswers, AreSettled, Entered, IsRunAnswer, Pools, graphs_to_run, is_waiting, rank}
 use Rattle.pool_samples.specs.declared.any.AnyGraph.{AnyGraph}
-use Rattle.tp_work.specs.declared.config.Fault.{Fault}
-use Rattle.tp_work.specs.declared.config.Outcome.{Outcome}
+use Rattle.std.proofs.Common.{arith, ap, ap₂, sym, subst, refl, cond, true, ℕ, ◌≡◌, ◌∙◌, ◌+◌, ◌<◌, ◌++◌, ◌∷◌, [], Bool, List, Option, Some}
+use Rattle.std.proofs.{Common.{Result, drop, length, map, slice_get, take}, Math.Seq.get_or-append_seam, lemmas.List.get_or_append_left}
+use Rattle.std.proofs.lemmas.List.{length-append, length-map, take-append-drop, Elements.{filter-append, filter_more}, Sums.length-filter}
+use Rattle.std.{proofs.lemmas.Option.{get_or_from_slice_get, slice_get-get_or, slice_get-map, slice_get_within}, specs.List.count_by}
+use Rattle.std.specs.{List.filter, Option.option_map, Prelude.get_or}
+use Rattle.tp_cli.specs.Registry.{AreRun, AreRunAnswers, AreSettled, Entered, IsRunAnswer, Pools, graphs_to_run, is_waiting, rank}
+use Rattle.tp_work.specs.declared.config.{Fault.Fault, Outcome.Outcome}
 
 ranked : (pools : Pools) (i : ℕ) (p : Entered) → slice_get pools i ≡ Some p → is_waiting p ≡ true
     → slice_get (filter is_waiting pools) (rank pools i) ≡ Some p

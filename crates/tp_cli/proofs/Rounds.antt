@@ -1,28 +1,16 @@
 -- The rounds of a series, and their text.
+use Rattle.pool_samples.{proofs.Keeping.any_keeps, specs.{Any.any_graph, declared.any.AnyGraph.AnyGraph}}
 use Rattle.std.proofs.Common.{◌≡◌, ◌∙◌, ◌+◌, ◌<◌, ◌≤◌, ◌++◌, ℕ, suc, List, ◌∷◌, Some, sym, ap, ap₂, subst, arith, length, drop, append-nil}
-use Rattle.std.proofs.Common.{append_assoc, drop_of_length-le, codes, decimal}
-use Rattle.std.proofs.lemmas.Option.{slice_get-get_or}
-use Rattle.std.proofs.lemmas.Slice.Zip.{AllZip-right}
-use Rattle.std.proofs.Math.Seq.{drop-cons}
-use Rattle.std.specs.List.{All, AllZip}
-use Rattle.std.specs.Prelude.{get_or, reverse, slice_get, Option, None, IsSomeAnd, MatchOption}
-use Rattle.tp_work.proofs.CountedTotals.{length-once}
+use Rattle.std.proofs.{Common.{append_assoc, drop_of_length-le, codes, decimal}, Math.Seq.drop-cons, lemmas.Option.slice_get-get_or}
+use Rattle.std.{proofs.lemmas.Slice.Zip.AllZip-right, specs.{List.{All, AllZip}, Prelude.{get_or, reverse, slice_get, Option, None}}}
+use Rattle.std.specs.Prelude.{IsSomeAnd, MatchOption}
 use Rattle.tp_base.specs.declared.refusal.Refusal.{Refusal}
 use Rattle.tp_cli.specs.Runs.{IsPrintOfSeries, IsRoundOf, IsUnprintedSeries, IsUntoldRound, round_text, rounds_text, run_text}
-use Rattle.tp_cli.specs.declared.run.Form.{Form}
-use Rattle.tp_cli.specs.declared.run.Form.TheVariants.{Table}
-use Rattle.tp_graph.proofs.Left.{results_right}
-use Rattle.tp_graph.specs.Graphs.{TaskGraph}
-use Rattle.pool_samples.proofs.Keeping.{any_keeps}
-use Rattle.pool_samples.specs.Any.{any_graph}
-use Rattle.pool_samples.specs.declared.any.AnyGraph.{AnyGraph}
+use Rattle.tp_cli.specs.declared.run.Form.{Form, TheVariants.Table}
+use Rattle.tp_graph.{proofs.Left.results_right, specs.Graphs.TaskGraph}
 use Rattle.tp_text.specs.Spelling.{line}
-use Rattle.tp_wave.proofs.Generations.{generations_law}
-use Rattle.tp_wave.specs.Generations.{InEach}
-use Rattle.tp_wave.specs.Machine.{History, IsRun}
-use Rattle.tp_work.specs.Lives.{generations}
-use Rattle.tp_work.specs.Series.{IsRound, IsSeries}
-use Rattle.tp_work.specs.declared.series.Round.{Round}
+use Rattle.tp_wave.{proofs.Generations.generations_law, specs.{Generations.InEach, Machine.{History, IsRun}}}
+use Rattle.tp_work.{proofs.CountedTotals.length-once, specs.{Lives.generations, Series.{IsRound, IsSeries}, declared.series.Round.Round}}
 use Rattle.tp_work.specs.declared.series.Series.{Series}
 
 round_of : (n workers : ℕ) (g : AnyGraph) (h : Option History) (r : Round)

@@ -1,14 +1,9 @@
 -- Pools whose states are set one after the other.
 use Rattle.std.proofs.Common.{refl, arith, ap, ap₂, sym, inl, inr, cond, true, false, ℕ, suc, ◌≡◌, ◌≢◌, ◌∙◌, ◌+◌, ◌<◌, ◌≤◌, ◌∷◌, Bool, List}
-use Rattle.std.proofs.Common.{Option, Some, Result, drop, length, slice_get, slice_set, unwrap_or}
-use Rattle.std.proofs.lemmas.Bool.{cases_lt}
-use Rattle.std.proofs.lemmas.List.{length-drop, length-set, get_or-set_same, get_or-set_other}
-use Rattle.std.proofs.lemmas.List.Sums.{count_by_more_no, count_by_more_yes, sum_by-take-le}
-use Rattle.std.proofs.lemmas.Option.{get_or_from_slice_get, slice_get-get_or, slice_get_past, slice_get_within}
-use Rattle.std.proofs.Math.Seq.{drop-cons}
-use Rattle.std.specs.List.{count_by}
-use Rattle.std.specs.Option.{option_map}
-use Rattle.std.specs.Prelude.{get_or}
+use Rattle.std.proofs.{Common.{Option, Some, Result, drop, length, slice_get, slice_set, unwrap_or}, Math.Seq.drop-cons}
+use Rattle.std.proofs.lemmas.{Bool.cases_lt, List.{length-drop, length-set, get_or-set_same, get_or-set_other, Sums.count_by_more_no}}
+use Rattle.std.proofs.lemmas.{List.Sums.{count_by_more_yes, sum_by-take-le}, Option.{get_or_from_slice_get, slice_get-get_or}}
+use Rattle.std.{proofs.lemmas.Option.{slice_get_past, slice_get_within}, specs.{List.count_by, Option.option_map, Prelude.get_or}}
 use Rattle.tp_cli.specs.Registry.{AreSettled, Entered, Pools, after, is_waiting, rank}
 
 get-set_same : {X : Type 0} (xs : List X) (i : ℕ) (y : X) → i < length xs → slice_get (slice_set xs i y) i ≡ Some y

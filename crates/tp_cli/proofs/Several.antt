@@ -1,33 +1,18 @@
 -- Pools that are registered one after the other, each under its specification, and the results of their runs.
+use Rattle.pool_samples.specs.{Words.word_of, declared.any.AnyGraph.AnyGraph}
 use Rattle.std.proofs.Common.{◌≡◌, ◌≢◌, ◌==◌, ◌∙◌, ◌+◌, ◌<◌, ◌≤◌, ◌⊎◌, ◌++◌, ◌||◌, ℕ, zero, suc, Bool, true, false, true≢false, cond, List}
-use Rattle.std.proofs.Common.{[], ◌∷◌, Some, refl, sym, ap, ap₂, subst, arith}
-use Rattle.std.proofs.Common.{Result, Ok, Err, IfErr, IfOk, MatchOption, inl, inr, length, map, drop, take, append-nil, append_assoc}
-use Rattle.std.proofs.Common.{drop_of_length-le}
-use Rattle.std.proofs.lemmas.Bool.{cases_lt}
-use Rattle.std.proofs.lemmas.List.{length-map, length-take-le, map-append, take-map}
-use Rattle.std.proofs.lemmas.List.Sums.{sum_by-cons}
-use Rattle.std.proofs.lemmas.Option.{get_or_from_slice_get, slice_get-get_or, slice_get-map}
-use Rattle.std.proofs.Math.Seq.{drop-cons, take-length, take-suc}
-use Rattle.std.specs.List.{count_by}
-use Rattle.std.specs.Option.{option_map}
-use Rattle.std.specs.Prelude.{get_or, slice_get}
-use Rattle.std.specs.Result.{is_ok}
-use Rattle.std.specs.Str.{bytes_eq}
-use Rattle.tp_base.specs.Checks.{Check, first_refusal}
-use Rattle.tp_base.specs.declared.ids.PoolId.{PoolId}
-use Rattle.tp_base.specs.declared.limits.TheConstants.{MAX_POOLS}
-use Rattle.tp_base.specs.declared.refusal.Refusal.{Refusal}
-use Rattle.tp_base.specs.declared.refusal.Refusal.TheVariants.{BadSpec, NoMemory, PoolKnown, StoreFull}
-use Rattle.tp_cli.specs.Registry.{AreRun, AreRunAnswers, Entered, IsUnregistered, Pools, is_named}
-use Rattle.tp_cli.specs.Registry.{is_waiting, rank, register_checks, registered}
-use Rattle.pool_samples.specs.Words.{word_of}
-use Rattle.pool_samples.specs.declared.any.AnyGraph.{AnyGraph}
-use Rattle.tp_work.specs.declared.config.Fault as ended
-use Rattle.tp_work.specs.declared.config.Outcome.{Outcome}
+use Rattle.std.proofs.Common.{[], ◌∷◌, Some, refl, sym, ap, ap₂, subst, arith, Result, Ok, Err, IfErr, IfOk, MatchOption, inl, inr, length}
+use Rattle.std.proofs.{Common.{map, drop, take, append-nil, append_assoc, drop_of_length-le}, Math.Seq.{drop-cons, take-length, take-suc}}
+use Rattle.std.proofs.lemmas.{Bool.cases_lt, List.{length-map, length-take-le, map-append, take-map, Sums.sum_by-cons}}
+use Rattle.std.{proofs.lemmas.Option.{get_or_from_slice_get, slice_get-get_or, slice_get-map}, specs.{List.count_by, Option.option_map}}
+use Rattle.std.specs.{Prelude.{get_or, slice_get}, Result.is_ok, Str.bytes_eq}
+use Rattle.tp_base.specs.{Checks.{Check, first_refusal}, declared.{ids.PoolId.PoolId, limits.TheConstants.MAX_POOLS}}
+use Rattle.tp_base.specs.declared.refusal.Refusal.{Refusal, TheVariants.{BadSpec, NoMemory, PoolKnown, StoreFull}}
 use Rattle.tp_cli.specs.Pools.{AreInVain, AreNamed, AreTakenTo, IsPoolsFault, IsWordsFault, MayNamePools, Word, is_among, lines_from}
-use Rattle.tp_cli.specs.Pools.{pool_line, pools_of, word_fault}
-use Rattle.tp_cli.specs.Runs.{NamesNoGraph}
-use Rattle.tp_cli.specs.declared.fault.Fault.{Fault}
+use Rattle.tp_cli.specs.{Pools.{pool_line, pools_of, word_fault}, Registry.{AreRun, AreRunAnswers, Entered, IsUnregistered, Pools}}
+use Rattle.tp_cli.specs.{Registry.{is_named, is_waiting, rank, register_checks, registered}, Runs.NamesNoGraph, declared.fault.Fault.Fault}
+use Rattle.tp_work.specs.declared.config.Outcome.{Outcome}
+use Rattle.tp_work.specs.declared.config.Fault as ended
 use Rattle.tp_cli.specs.declared.fault.Fault.TheVariants as faults
 
 -- ---- specifications

@@ -1,14 +1,10 @@
 -- How a run ends on a terminal.
-use Rattle.std.proofs.Common.{◌≡◌, ◌∙◌, ◌⊎◌, ℕ, List, Option, Result, Ok, Err, IfErr, IfOk, ap, arith, inl, inr, sym}
 use Rattle.clap.specs.Words.{Text}
-use Rattle.tp_cli.proofs.Ending.{faulty, if_done, if_failed, if_fault, if_refused, written_status}
-use Rattle.tp_cli.specs.Ends.{CouldNotWrite, HasAnswered, HasNothing, RefusedPool, RefusedText, Succeeded}
-use Rattle.tp_cli.specs.Faults.{line_of, status_of}
-use Rattle.tp_cli.specs.Reasons.{IsAnswerExplained}
-use Rattle.tp_shell.specs.Streams.{MayExplain}
-use Rattle.tp_cli.specs.declared.fault.Fault.{Fault}
-use Rattle.tp_shell.specs.Statuses.{code_of}
-use Rattle.tp_shell.specs.declared.status.Status.{Status}
+use Rattle.std.proofs.Common.{◌≡◌, ◌∙◌, ◌⊎◌, ℕ, List, Option, Result, Ok, Err, IfErr, IfOk, ap, arith, inl, inr, sym}
+use Rattle.tp_cli.{proofs.Ending.{faulty, if_done, if_failed, if_fault, if_refused, written_status}, specs.Ends.CouldNotWrite}
+use Rattle.tp_cli.specs.{Ends.{HasAnswered, HasNothing, RefusedPool, RefusedText, Succeeded}, Faults.{line_of, status_of}}
+use Rattle.tp_cli.specs.{Reasons.IsAnswerExplained, declared.fault.Fault.Fault}
+use Rattle.tp_shell.specs.{Statuses.code_of, Streams.MayExplain, declared.status.Status.Status}
 use Rattle.tp_shell.specs.declared.status.Status.TheVariants as statuses
 
 module _ {D : Type 0} (tells : D → List ℕ → D → Type 0) (asking : List Text) (read_old read_new written_old written_new : Option (List ℕ))

@@ -1,11 +1,8 @@
 -- Requests, and the arguments that make them.
-use Rattle.std.specs.Prelude.{List, Option, codes, map, option_map}
 use Rattle.clap.specs.Words.{Row, Text, subcommand_of}
-use Rattle.tp_cli.specs.Command.{IsAt, IsPoolsNaming, IsReading, IsRunIn, IsRunNaming, IsRunOver, IsRunWith, tp_app}
-use Rattle.tp_cli.specs.Runs.{IsPlan}
-use Rattle.tp_cli.specs.declared.request.Request.{Request}
-use Rattle.tp_cli.specs.declared.request.Request.TheVariants.{Answer, Run, Pools}
-use Rattle.tp_cli.specs.declared.run.Plan.{Plan}
+use Rattle.std.specs.Prelude.{List, Option, codes, map, option_map}
+use Rattle.tp_cli.specs.{Command.{IsAt, IsPoolsNaming, IsReading, IsRunIn, IsRunNaming, IsRunOver, IsRunWith, tp_app}, Runs.IsPlan}
+use Rattle.tp_cli.specs.declared.{request.Request.{Request, TheVariants.{Answer, Run, Pools}}, run.Plan.Plan}
 use Rattle.tp_work.specs.Outcomes.{IsWithinLimits}
 
 -- `run` was found, with this specification and this plan

@@ -1,14 +1,12 @@
 -- The command line as plain data, and what its arguments ask for. What clap finds for each argument, and why a parse fails, are
 -- functions of the command and the arguments.
-use Rattle.std.specs.Prelude.{ℕ, ◌≡◌, List, Option, Some, true, codes}
-use Rattle.tp_cli.specs.declared.command.TheConstants.{MAX_GENERATIONS}
-use Rattle.tp_cli.specs.declared.run.Form.{Form}
-use Rattle.tp_cli.specs.declared.run.Form.TheVariants as forms
-use Rattle.tp_cli.specs.declared.text.TextKind.{TextKind}
-use Rattle.tp_cli.specs.declared.text.TextKind.TheVariants.{Script, Trace}
 use Rattle.clap.specs.Words.{App, Row, Rule, Text, all_of, first_of, one_of, new_app, new_rule, subcommand_of, with_rule, with_subcommand}
 use Rattle.clap.specs.declared.builder.action.ArgAction.TheVariants.{Append, SetTrue}
+use Rattle.std.specs.Prelude.{ℕ, ◌≡◌, List, Option, Some, true, codes}
+use Rattle.tp_cli.specs.declared.{command.TheConstants.MAX_GENERATIONS, run.Form.Form, text.TextKind.{TextKind, TheVariants.Script}}
+use Rattle.tp_cli.specs.declared.text.TextKind.TheVariants.{Trace}
 use Rattle.tp_shell.specs.Command.{AreCountsIn, IsCount, count_rule, with_count_rules, with_version}
+use Rattle.tp_cli.specs.declared.run.Form.TheVariants as forms
 
 -- a flag, which asks for the trace of a run
 abbrev pub trace_rule : Rule

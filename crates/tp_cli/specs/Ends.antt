@@ -1,28 +1,18 @@
 -- What each exit status says of the arguments, the input and the output, and for which faults there is no output. The reader and
 -- the writer are seen by their bytes before and after.
-use Rattle.std.specs.Prelude.{ℕ, ◌⊎◌, Bool, true, false, List, Option}
-use Rattle.std.specs.Io.KnownBytes.{Appends}
 use Rattle.clap.specs.Words.{Text}
+use Rattle.std.specs.{Io.KnownBytes.Appends, Prelude.{ℕ, ◌⊎◌, Bool, true, false, List, Option}}
 use Rattle.tp_base.specs.declared.refusal.Refusal.{Refusal}
-use Rattle.tp_cli.specs.Command.{AsksForForm, AsksForGenerations, AsksForNothing, AsksForPools, AsksForPoolsAt, AsksForProfile}
-use Rattle.tp_cli.specs.Command.{AsksForRun, AsksForRunAt, AsksForText, tp_app}
-use Rattle.tp_cli.specs.Pools.{AreInVain, IsPoolsText, MayNamePools}
-use Rattle.tp_cli.specs.Runs.{IsRefusedRun, IsTextFor, NamesNoGraph}
-use Rattle.tp_cli.specs.Texts.{IsAnswerTo, IsUnansweredText}
-use Rattle.tp_cli.specs.declared.fault.Fault.{Fault}
-use Rattle.tp_cli.specs.declared.fault.Fault.TheVariants as faults
-use Rattle.tp_cli.specs.declared.fault.RunFault.{RunFault}
-use Rattle.tp_cli.specs.declared.run.Form.{Form}
-use Rattle.tp_cli.specs.declared.text.TextKind.{TextKind}
-use Rattle.tp_shell.specs.Command.{AsksToBeShown, IsWordsFault}
-use Rattle.tp_shell.specs.Streams.{HasShown}
-use Rattle.tp_shell.specs.declared.status.Status.{Status}
-use Rattle.tp_shell.specs.declared.status.Status.TheVariants as statuses
+use Rattle.tp_cli.specs.Command.{AsksForForm, AsksForGenerations, AsksForNothing, AsksForPools, AsksForPoolsAt, AsksForProfile, AsksForRun}
+use Rattle.tp_cli.specs.{Command.{AsksForRunAt, AsksForText, tp_app}, Pools.{AreInVain, IsPoolsText, MayNamePools}, Runs.IsRefusedRun}
+use Rattle.tp_cli.specs.{Runs.{IsTextFor, NamesNoGraph}, Texts.{IsAnswerTo, IsUnansweredText}, declared.fault.Fault.Fault}
+use Rattle.tp_cli.specs.declared.{fault.RunFault.RunFault, run.Form.Form, text.TextKind.TextKind}
+use Rattle.tp_shell.specs.{Command.{AsksToBeShown, IsWordsFault}, Streams.HasShown, declared.status.Status.Status}
 use Rattle.tp_shell.specs.declared.words.WordsFault.TheVariants.{Write}
-use Rattle.tp_text.specs.declared.TextFault.{TextFault}
+use Rattle.tp_text.specs.declared.{TextFault.TextFault, Verdict.{Verdict, TheVariants.{Sound, Refused}}}
+use Rattle.tp_cli.specs.declared.fault.Fault.TheVariants as faults
+use Rattle.tp_shell.specs.declared.status.Status.TheVariants as statuses
 use Rattle.tp_text.specs.declared.TextFault.TheVariants as texts
-use Rattle.tp_text.specs.declared.Verdict.{Verdict}
-use Rattle.tp_text.specs.declared.Verdict.TheVariants.{Sound, Refused}
 
 -- The arguments ask for the reply to a script or to a trace; all was read, and this is the reply to it, with this verdict.
 abbrev pub IsReadText : List Text → Option (List ℕ) → Option (List ℕ) → Verdict → List ℕ → Type 0

@@ -1,17 +1,13 @@
 -- The error line of a fault, and its exit status.
 use Rattle.std.specs.Prelude.{ℕ, ◌++◌, List, codes, decimal}
-use Rattle.tp_base.specs.Refusals.{number_of, name_of}
-use Rattle.tp_base.specs.declared.refusal.Refusal.{Refusal}
-use Rattle.tp_base.specs.declared.refusal.Refusal.TheVariants.{BadSpec, NoMemory}
-use Rattle.tp_cli.specs.declared.fault.Fault.{Fault}
-use Rattle.tp_cli.specs.declared.fault.Fault.TheVariants as faults
-use Rattle.tp_cli.specs.declared.fault.RunFault.{RunFault}
-use Rattle.tp_cli.specs.declared.fault.RunFault.TheVariants as runs
-use Rattle.tp_shell.specs.declared.status.Status.{Status}
-use Rattle.tp_shell.specs.declared.status.Status.TheVariants as statuses
-use Rattle.tp_shell.specs.Texts.{words_line}
-use Rattle.tp_shell.specs.declared.words.WordsFault.TheVariants as words
+use Rattle.tp_base.specs.{Refusals.{number_of, name_of}, declared.refusal.Refusal.{Refusal, TheVariants.{BadSpec, NoMemory}}}
+use Rattle.tp_cli.specs.declared.fault.{Fault.Fault, RunFault.RunFault}
+use Rattle.tp_shell.specs.{Texts.words_line, declared.status.Status.Status}
 use Rattle.tp_text.specs.declared.TextFault.{TextFault}
+use Rattle.tp_cli.specs.declared.fault.Fault.TheVariants as faults
+use Rattle.tp_cli.specs.declared.fault.RunFault.TheVariants as runs
+use Rattle.tp_shell.specs.declared.status.Status.TheVariants as statuses
+use Rattle.tp_shell.specs.declared.words.WordsFault.TheVariants as words
 use Rattle.tp_text.specs.declared.TextFault.TheVariants as texts
 
 -- the line of a refusal

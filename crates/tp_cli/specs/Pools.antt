@@ -1,23 +1,14 @@
 -- The specifications of several pools: which of them are refused, and the text of their runs.
-use Rattle.std.specs.Prelude.{ℕ, suc, ◌≡◌, ◌≤◌, ◌<◌, ◌⊎◌, ◌++◌, Bool, true, false, List, [], ◌∷◌, Some, Result, Ok, Err, codes, decimal}
-use Rattle.std.specs.Prelude.{length, map, slice_get, take}
-use Rattle.std.specs.List.{list_all, list_any}
-use Rattle.std.specs.Result.{is_ok}
-use Rattle.std.specs.Str.{bytes_eq}
-use Rattle.tp_base.specs.Refusals.{number_of, name_of}
-use Rattle.tp_base.specs.declared.limits.TheConstants.{MAX_POOLS}
-use Rattle.tp_base.specs.declared.refusal.Refusal.{Refusal}
+use Rattle.pool_samples.specs.{Words.word_of, declared.any.AnyGraph.AnyGraph}
+use Rattle.std.specs.{List.{list_all, list_any}, Prelude.{ℕ, suc, ◌≡◌, ◌≤◌, ◌<◌, ◌⊎◌, ◌++◌, Bool, true, false, List, [], ◌∷◌, Some, Result}}
+use Rattle.std.specs.{Prelude.{Ok, Err, codes, decimal, length, map, slice_get, take}, Result.is_ok, Str.bytes_eq}
+use Rattle.tp_base.specs.{Refusals.{number_of, name_of}, declared.{limits.TheConstants.MAX_POOLS, refusal.Refusal.Refusal}}
 use Rattle.tp_base.specs.declared.refusal.Refusal.TheVariants.{BadSpec, NoMemory, PoolKnown, StoreFull}
-use Rattle.tp_cli.specs.Runs.{NamesNoGraph}
-use Rattle.tp_cli.specs.declared.fault.Fault.{Fault}
-use Rattle.tp_cli.specs.declared.fault.Fault.TheVariants as faults
-use Rattle.tp_cli.specs.Registry.{AreRunAnswers, Pools, registered}
-use Rattle.pool_samples.specs.Words.{word_of}
-use Rattle.pool_samples.specs.declared.any.AnyGraph.{AnyGraph}
-use Rattle.tp_shell.specs.declared.status.Status.{Status}
-use Rattle.tp_shell.specs.declared.status.Status.TheVariants.{Done, Failed}
-use Rattle.tp_work.specs.declared.config.Fault as ended
+use Rattle.tp_cli.specs.{Registry.{AreRunAnswers, Pools, registered}, Runs.NamesNoGraph, declared.fault.Fault.Fault}
+use Rattle.tp_shell.specs.declared.status.Status.{Status, TheVariants.{Done, Failed}}
 use Rattle.tp_work.specs.declared.config.Outcome.{Outcome}
+use Rattle.tp_cli.specs.declared.fault.Fault.TheVariants as faults
+use Rattle.tp_work.specs.declared.config.Fault as ended
 
 abbrev pub Word : Type 0
 Word = List ℕ

@@ -1,7 +1,6 @@
 -- What may be printed if the program ended without a fault.
 use Rattle.std.specs.Prelude.{ℕ, ◌≡◌, List}
-use Rattle.tp_shell.specs.Streams.{MayExplain}
-use Rattle.tp_shell.specs.declared.status.Status.{Status}
+use Rattle.tp_shell.specs.{Streams.MayExplain, declared.status.Status.Status}
 use Rattle.tp_shell.specs.declared.status.Status.TheVariants as statuses
 
 -- If the program ended without a fault, the reason may be printed if it is that of a refused text.

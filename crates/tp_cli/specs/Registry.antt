@@ -1,23 +1,13 @@
 -- A registry as the list of its pools, in the order of registration, the checks of its calls, and a run of all its registered
 -- pools: one result for each, in order, and the states of the pools after these.
-use Rattle.std.specs.Prelude.{ℕ, ◌≡◌, ◌≢◌, ◌<◌, ⊤, ◌==◌, List, [], ◌∷◌, Bool, true, false, not, Option, Some, is_none, unwrap_or}
-use Rattle.std.specs.Prelude.{length, map}
-use Rattle.std.specs.Prelude.{Result, Ok, Err, slice_get, slice_index_or, slice_set, take}
-use Rattle.std.specs.Option.{option_map}
-use Rattle.std.specs.List.{count_by, filter, list_any}
-use Rattle.std.specs.Str.{bytes_eq}
-use Rattle.tp_base.specs.Checks.{Check}
-use Rattle.tp_base.specs.declared.limits.TheConstants.{MAX_POOLS}
-use Rattle.tp_base.specs.declared.refusal.Refusal.{Refusal}
-use Rattle.tp_base.specs.declared.refusal.Refusal.TheVariants.{BadSpec, NoMemory, NoPool, PoolKnown, StoreFull}
-use Rattle.pool_samples.specs.Any.{any_graph}
-use Rattle.pool_samples.specs.Words.{word_of}
-use Rattle.pool_samples.specs.declared.any.AnyGraph.{AnyGraph}
-use Rattle.tp_cli.specs.declared.entry.Standing.{Standing}
-use Rattle.tp_cli.specs.declared.entry.Standing.TheVariants.{Registered, Active, Over, Failed}
-use Rattle.tp_work.specs.Outcomes.{IsFault, IsOutcome}
-use Rattle.tp_work.specs.declared.config.Fault.{Fault}
-use Rattle.tp_work.specs.declared.config.Outcome.{Outcome}
+use Rattle.pool_samples.specs.{Any.any_graph, Words.word_of, declared.any.AnyGraph.AnyGraph}
+use Rattle.std.specs.{List.{count_by, filter, list_any}, Option.option_map, Prelude.{ℕ, ◌≡◌, ◌≢◌, ◌<◌, ⊤, ◌==◌, List, [], ◌∷◌, Bool, true}}
+use Rattle.std.specs.Prelude.{false, not, Option, Some, is_none, unwrap_or, length, map, Result, Ok, Err, slice_get, slice_index_or}
+use Rattle.std.specs.{Prelude.{slice_set, take}, Str.bytes_eq}
+use Rattle.tp_base.specs.{Checks.Check, declared.{limits.TheConstants.MAX_POOLS, refusal.Refusal.{Refusal, TheVariants.BadSpec}}}
+use Rattle.tp_base.specs.declared.refusal.Refusal.TheVariants.{NoMemory, NoPool, PoolKnown, StoreFull}
+use Rattle.tp_cli.specs.declared.entry.Standing.{Standing, TheVariants.{Registered, Active, Over, Failed}}
+use Rattle.tp_work.specs.{Outcomes.{IsFault, IsOutcome}, declared.config.{Fault.Fault, Outcome.Outcome}}
 
 -- a pool: its name, as the bytes of its UTF-8, the graph that it computes, and its state
 pub record Entered : Type 0 where

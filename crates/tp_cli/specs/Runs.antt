@@ -1,29 +1,15 @@
 -- The text of a pool's run, in one generation or in several.
+use Rattle.pool_samples.specs.{Any.any_graph, Tables.{LacksCell, table_of, table_text}, Words.word_of, declared.any.AnyGraph.AnyGraph}
 use Rattle.std.specs.Prelude.{ℕ, suc, ◌≡◌, ◌≢◌, ◌≤◌, ◌⊎◌, ◌++◌, List, [], ◌∷◌, Option, Some, codes, decimal, slice_get, vec_len}
-use Rattle.tp_base.specs.declared.refusal.Refusal.{Refusal}
-use Rattle.tp_base.specs.declared.refusal.Refusal.TheVariants.{BadSpec, Missing, NoMemory}
-use Rattle.tp_graph.specs.Serial.{AreRight, Results}
-use Rattle.pool_samples.specs.Any.{any_graph}
-use Rattle.pool_samples.specs.Tables.{LacksCell, table_of, table_text}
-use Rattle.pool_samples.specs.Words.{word_of}
-use Rattle.pool_samples.specs.declared.any.AnyGraph.{AnyGraph}
-use Rattle.tp_cli.specs.declared.command.TheConstants.{MAX_GENERATIONS}
-use Rattle.tp_cli.specs.declared.fault.Fault.{Fault}
-use Rattle.tp_cli.specs.declared.fault.Fault.TheVariants as faults
-use Rattle.tp_cli.specs.declared.fault.RunFault.{RunFault}
-use Rattle.tp_cli.specs.declared.fault.RunFault.TheVariants.{Pool, Text}
-use Rattle.tp_cli.specs.declared.run.Form.{Form}
-use Rattle.tp_cli.specs.declared.run.Form.TheVariants.{Table, Trace}
-use Rattle.tp_cli.specs.declared.run.Plan.{Plan}
-use Rattle.tp_text.specs.Spelling.{line}
-use Rattle.tp_text.specs.TraceOf.{CanBeTraced, IsTraceOf}
+use Rattle.tp_base.specs.declared.refusal.Refusal.{Refusal, TheVariants.{BadSpec, Missing, NoMemory}}
+use Rattle.tp_cli.specs.declared.{command.TheConstants.MAX_GENERATIONS, fault.{Fault.Fault, RunFault.{RunFault, TheVariants.{Pool, Text}}}}
+use Rattle.tp_cli.specs.declared.run.{Form.{Form, TheVariants.{Table, Trace}}, Plan.Plan}
+use Rattle.tp_graph.specs.{Found.HasEachOnce, Serial.{AreRight, Results}}
+use Rattle.tp_text.specs.{Spelling.line, TraceOf.{CanBeTraced, IsTraceOf}}
 use Rattle.tp_wave.specs.Machine.{History, steps_of}
-use Rattle.tp_work.specs.Outcomes.{IsFault, IsOutcome, IsWithinLimits}
-use Rattle.tp_graph.specs.Found.{HasEachOnce}
-use Rattle.tp_work.specs.Series.{IsSeries, IsSeriesFault}
-use Rattle.tp_work.specs.declared.config.Outcome.{Outcome}
-use Rattle.tp_work.specs.declared.series.Round.{Round}
-use Rattle.tp_work.specs.declared.series.Series.{Series}
+use Rattle.tp_work.specs.{Outcomes.{IsFault, IsOutcome, IsWithinLimits}, Series.{IsSeries, IsSeriesFault}, declared.config.Outcome.Outcome}
+use Rattle.tp_work.specs.declared.series.{Round.Round, Series.Series}
+use Rattle.tp_cli.specs.declared.fault.Fault.TheVariants as faults
 
 -- the numbers of tasks and of messages sent, and that the pool ended
 abbrev pub totals_text : ℕ → ℕ → List ℕ

@@ -1,19 +1,11 @@
 -- The replies to texts that are read. The reader is seen by its bytes before and after.
-use Rattle.std.specs.Prelude.{ℕ, ◌≡◌, ◌+◌, List, Option, length}
-use Rattle.std.specs.Io.KnownBytes.{Consumes}
-use Rattle.tp_cli.specs.declared.text.TextKind.{TextKind}
-use Rattle.tp_cli.specs.declared.text.TextKind.TheVariants.{Script, Trace}
-use Rattle.tp_text.specs.AuditText.{IsAuditText}
-use Rattle.tp_text.specs.Input.{ReadsAll}
-use Rattle.tp_text.specs.SimText.{IsSimText}
-use Rattle.tp_shell.specs.declared.status.Status.{Status}
-use Rattle.tp_shell.specs.declared.status.Status.TheVariants.{Done}
+use Rattle.std.specs.{Io.KnownBytes.Consumes, Prelude.{ℕ, ◌≡◌, ◌+◌, List, Option, length}}
+use Rattle.tp_cli.specs.declared.text.TextKind.{TextKind, TheVariants.{Script, Trace}}
+use Rattle.tp_shell.specs.declared.status.Status.{Status, TheVariants.Done}
+use Rattle.tp_text.specs.{AuditText.IsAuditText, Input.ReadsAll, SimText.IsSimText, declared.{TextFault.TextFault, Verdict.Verdict}}
+use Rattle.tp_text.specs.declared.{Verdict.TheVariants.{Sound, Refused}, input.TheConstants.MAX_TEXT}
 use Rattle.tp_shell.specs.declared.status.Status.TheVariants as statuses
-use Rattle.tp_text.specs.declared.TextFault.{TextFault}
 use Rattle.tp_text.specs.declared.TextFault.TheVariants as texts
-use Rattle.tp_text.specs.declared.Verdict.{Verdict}
-use Rattle.tp_text.specs.declared.input.TheConstants.{MAX_TEXT}
-use Rattle.tp_text.specs.declared.Verdict.TheVariants.{Sound, Refused}
 
 -- This text is the reply to bytes of this kind, with this verdict.
 abbrev pub IsTextTo : TextKind → List ℕ → Verdict → List ℕ → Type 0

@@ -1,14 +1,9 @@
 //! The program without a terminal: from its arguments to its output and exit status.
-ghost use Rattle.std.specs.Prelude.{◌≡◌, ◌≢◌, ◌≤◌, ◌⊎◌, List, ℕ, IfErr, IfOk, map};
-ghost use Rattle.std.specs.Io.KnownBytes.{Appends};
 ghost use Rattle.clap.specs.Values.{kind_of};
-ghost use Rattle.tp_cli.specs.Command.{ReadsAText};
-ghost use Rattle.tp_cli.specs.Ends.{CouldNotWrite, HasAnswered, HasNothing, RefusedPool, RefusedText, Succeeded};
-ghost use Rattle.tp_cli.specs.Faults.{line_of, status_of};
-ghost use Rattle.tp_cli.specs.Texts.{IsAnswerTo, IsUnansweredText, status_of_verdict};
-ghost use Rattle.tp_shell.specs.Command.{IsMetBy, IsToBeShown};
-ghost use Rattle.tp_shell.specs.Statuses.{code_of};
-ghost use Rattle.tp_shell.specs.Streams.{HasShown};
+ghost use Rattle.std.specs.{Io.KnownBytes.Appends, Prelude.{◌≡◌, ◌≢◌, ◌≤◌, ◌⊎◌, List, ℕ, IfErr, IfOk, map}};
+ghost use Rattle.tp_cli.specs.{Command.ReadsAText, Ends.{CouldNotWrite, HasAnswered, HasNothing, RefusedPool, RefusedText, Succeeded}};
+ghost use Rattle.tp_cli.specs.{Faults.{line_of, status_of}, Texts.{IsAnswerTo, IsUnansweredText, status_of_verdict}};
+ghost use Rattle.tp_shell.specs.{Command.{IsMetBy, IsToBeShown}, Statuses.code_of, Streams.HasShown};
 ghost use Rattle.tp_shell.specs.declared.status.Status.TheVariants.{Done};
 
 use crate::fault::Fault;

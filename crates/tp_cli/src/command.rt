@@ -1,7 +1,6 @@
 //! The command line of the program.
+ghost use Rattle.clap.specs.{Words.{app_of, rule_of}, declared.builder.command.Command.TheViews.out-Command};
 ghost use Rattle.std.specs.Prelude.{◌≡◌, IfOk, codes, false};
-ghost use Rattle.clap.specs.Words.{app_of, rule_of};
-ghost use Rattle.clap.specs.declared.builder.command.Command.TheViews.{out-Command};
 ghost use Rattle.tp_cli.specs.Command.{audit_app, pools_app, profile_rule, run_app, sim_app, spec_rule, texts_app, tp_app, trace_rule};
 ghost use Rattle.tp_shell.specs.Command.{count_rule};
 

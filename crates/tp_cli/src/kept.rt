@@ -1,9 +1,7 @@
 //! Reading a script or a trace that is kept until its reply is written.
-ghost use Rattle.std.specs.Prelude.{◌≡◌, ◌≢◌, ◌+◌, ◌≤◌, List, ℕ, length, IfErr, IfOk, IsErrOf};
-ghost use Rattle.std.specs.Io.KnownBytes.{Appends, Consumes};
+ghost use Rattle.std.specs.{Io.KnownBytes.{Appends, Consumes}, Prelude.{◌≡◌, ◌≢◌, ◌+◌, ◌≤◌, List, ℕ, length, IfErr, IfOk, IsErrOf}};
 ghost use Rattle.tp_cli.specs.Texts.{IsAnswerTo, IsTextTo, IsUnansweredText, status_of_verdict};
-ghost use Rattle.tp_text.specs.Input.{ReadsAll};
-ghost use Rattle.tp_text.specs.declared.input.TheConstants.{MAX_TEXT};
+ghost use Rattle.tp_text.specs.{Input.ReadsAll, declared.input.TheConstants.MAX_TEXT};
 
 use crate::cli::status_of_verdict;
 use crate::fault::Fault;

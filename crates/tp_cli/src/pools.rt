@@ -1,15 +1,10 @@
 //! The subcommand `pools`: runs several pools at once.
-ghost use Rattle.std.specs.Prelude.{◌≡◌, ◌≢◌, Bool, List, ℕ, IfErr, IfOk, MatchResult, length, map};
-ghost use Rattle.std.specs.Io.KnownBytes.{Appends};
-ghost use Rattle.std.specs.List.{list_all};
-ghost use Rattle.std.specs.Result.{is_ok};
-ghost use Rattle.std.specs.String.{string_bytes};
-ghost use Rattle.tp_base.specs.Refusals.{name_of, number_of};
-ghost use Rattle.tp_base.specs.declared.refusal.Refusal.TheVariants.{NoMemory};
-ghost use Rattle.tp_cli.specs.Pools.{AreNamed, IsPoolsFault, IsPoolsText, IsWordsFault, lines_from, pool_line, pools_of, status_of_pools};
-ghost use Rattle.tp_cli.specs.Pools.{word_fault};
 ghost use Rattle.pool_samples.specs.declared.any.AnyGraph.{AnyGraph};
-ghost use Rattle.tp_cli.specs.Registry.{AreRunAnswers};
+ghost use Rattle.std.specs.{Io.KnownBytes.Appends, List.list_all, Prelude.{◌≡◌, ◌≢◌, Bool, List, ℕ, IfErr, IfOk, MatchResult, length, map}};
+ghost use Rattle.std.specs.{Result.is_ok, String.string_bytes};
+ghost use Rattle.tp_base.specs.{Refusals.{name_of, number_of}, declared.refusal.Refusal.TheVariants.NoMemory};
+ghost use Rattle.tp_cli.specs.Pools.{AreNamed, IsPoolsFault, IsPoolsText, IsWordsFault, lines_from, pool_line, pools_of, status_of_pools};
+ghost use Rattle.tp_cli.specs.{Pools.word_fault, Registry.AreRunAnswers};
 ghost use Rattle.tp_work.specs.Outcomes.{IsWithinLimits};
 
 use crate::fault::Fault;

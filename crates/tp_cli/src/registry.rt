@@ -1,15 +1,12 @@
 //! The registry, with its calls.
-ghost use Rattle.std.specs.Prelude.{◌≡◌, ◌≤◌, ◌++◌, ◌∷◌, [], IfErr, IfOk, MatchOption, OnErr, OnOk, length};
-ghost use Rattle.std.specs.List.{count_by};
+ghost use Rattle.std.specs.{List.count_by, Prelude.{◌≡◌, ◌≤◌, ◌++◌, ◌∷◌, [], IfErr, IfOk, MatchOption, OnErr, OnOk, length}};
 ghost use Rattle.std.specs.Result.{result_err};
-ghost use Rattle.tp_base.specs.Checks.{first_refusal};
-ghost use Rattle.tp_base.specs.declared.refusal.Refusal.TheVariants.{BadSpec, NoMemory, NoPool, PoolKnown, WrongLife};
-ghost use Rattle.tp_base.specs.declared.limits.TheConstants.{MAX_POOLS};
+ghost use Rattle.tp_base.specs.{Checks.first_refusal, declared.{limits.TheConstants.MAX_POOLS, refusal.Refusal.TheVariants.BadSpec}};
+ghost use Rattle.tp_base.specs.declared.refusal.Refusal.TheVariants.{NoMemory, NoPool, PoolKnown, WrongLife};
 ghost use Rattle.tp_cli.specs.Registry.{IsUnregistered, is_named, register_checks, registered, standing_checks, standing_of, with_standing};
 ghost use Rattle.tp_cli.specs.Registry.{AreSettled, graphs_to_run, is_waiting};
 ghost use Rattle.tp_cli.specs.declared.entry.Standing.TheVariants as stand;
-ghost use Rattle.pool_samples.specs.Words.{word_of};
-ghost use Rattle.pool_samples.specs.declared.any.AnyGraph.{AnyGraph};
+ghost use Rattle.pool_samples.specs.{Words.word_of, declared.any.AnyGraph.AnyGraph};
 
 use crate::entry::{PoolEntry, Standing};
 use pool_samples::{AnyGraph, checked};

@@ -1,11 +1,8 @@
 //! From arguments to a request.
-ghost use Rattle.std.specs.Prelude.{◌≡◌, Some, None, IfErr, IfOk, MatchOption, codes, map};
-ghost use Rattle.clap.specs.Values.{kind_of};
-ghost use Rattle.clap.specs.Words.{all_of, first_value, found_of, rows_of, subcommand_rows_of};
+ghost use Rattle.clap.specs.{Values.kind_of, Words.{all_of, first_value, found_of, rows_of, subcommand_rows_of}};
 ghost use Rattle.clap.specs.declared.error.kind.ErrorKind.TheVariants.{MissingSubcommand};
-ghost use Rattle.tp_cli.specs.Asked.{IsAskedBy, IsMadeBy};
-ghost use Rattle.tp_cli.specs.Command.{AsksForNothing, IsFormOf, IsNeither, tp_app};
-ghost use Rattle.tp_cli.specs.Runs.{IsPlan};
+ghost use Rattle.std.specs.Prelude.{◌≡◌, Some, None, IfErr, IfOk, MatchOption, codes, map};
+ghost use Rattle.tp_cli.specs.{Asked.{IsAskedBy, IsMadeBy}, Command.{AsksForNothing, IsFormOf, IsNeither, tp_app}, Runs.IsPlan};
 ghost use Rattle.tp_shell.specs.Command.{AreCountsIn, FailsAs, IsCount};
 
 use crate::command::{MAX_GENERATIONS, tp_command};

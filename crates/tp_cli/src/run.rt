@@ -1,13 +1,10 @@
 //! The subcommand `run`: runs one pool, and prints its table or its trace.
-ghost use Rattle.std.specs.Prelude.{◌≡◌, ◌≢◌, ◌↔◌, ℕ, List, Ok, Err, IfErr, IfOk, MatchResult, Some, false};
-ghost use Rattle.std.specs.Io.KnownBytes.{Appends};
-ghost use Rattle.std.specs.String.{string_bytes};
-ghost use Rattle.std.specs.Option.{option_map};
-ghost use Rattle.std.specs.Thread.{IsSync};
+ghost use Rattle.pool_samples.specs.Any.{any_graph};
+ghost use Rattle.std.specs.{Io.KnownBytes.Appends, Option.option_map, Prelude.{◌≡◌, ◌≢◌, ◌↔◌, ℕ, List, Ok, Err, IfErr, IfOk, MatchResult}};
+ghost use Rattle.std.specs.{Prelude.{Some, false}, String.string_bytes, Thread.IsSync};
 ghost use Rattle.tp_cli.specs.Runs.{IsPlan, IsPrintOf, IsRunFault, IsTextFor, IsTextOf, IsTextOfOne, IsUnprinted, IsUntold, IsWithoutOne};
 ghost use Rattle.tp_cli.specs.Runs.{IsWithoutText, NamesNoGraph, run_text, totals_text};
 ghost use Rattle.tp_graph.specs.Serial.{AreRight};
-ghost use Rattle.pool_samples.specs.Any.{any_graph};
 ghost use Rattle.tp_shell.specs.declared.status.Status.TheVariants.{Done};
 ghost use Rattle.tp_work.specs.Outcomes.{IsFault, IsOutcome, IsWithinLimits};
 

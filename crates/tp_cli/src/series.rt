@@ -1,10 +1,9 @@
 //! Runs of a pool in several generations, and what is printed of them.
-ghost use Rattle.std.specs.Prelude.{◌≡◌, ◌⊎◌, ◌++◌, IfErr, IfOk, MatchResult, OnOk};
-ghost use Rattle.std.specs.List.{All};
+ghost use Rattle.pool_samples.specs.Any.{any_graph};
+ghost use Rattle.std.specs.{List.All, Prelude.{◌≡◌, ◌⊎◌, ◌++◌, IfErr, IfOk, MatchResult, OnOk}};
 ghost use Rattle.tp_base.specs.declared.refusal.Refusal.TheVariants.{NoMemory};
 ghost use Rattle.tp_cli.specs.Runs.{IsPlan, IsPrintOfSeries, IsRoundOf, IsTextOfSeries, IsUnprintedSeries, IsUntold, IsUntoldRound};
 ghost use Rattle.tp_cli.specs.Runs.{IsWithoutSeries, round_text, rounds_text};
-ghost use Rattle.pool_samples.specs.Any.{any_graph};
 ghost use Rattle.tp_work.specs.Series.{IsSeries, IsSeriesFault};
 
 use crate::fault::RunFault;

@@ -1,11 +1,8 @@
 //! The program for a user, to whom it also prints reasons and progress.
 ghost use Rattle.std.specs.Prelude.{◌≡◌, ◌≤◌, ◌⊎◌, IfErr, IfOk, map};
-ghost use Rattle.tp_cli.specs.Command.{ReadsAText};
-ghost use Rattle.tp_cli.specs.Ends.{CouldNotWrite, HasNothing, RefusedPool, RefusedText, Succeeded};
-ghost use Rattle.tp_cli.specs.Faults.{line_of, status_of};
-ghost use Rattle.tp_cli.specs.Reasons.{IsAnswerExplained};
-ghost use Rattle.tp_shell.specs.Streams.{MayExplain};
-ghost use Rattle.tp_shell.specs.Statuses.{code_of};
+ghost use Rattle.tp_cli.specs.{Command.ReadsAText, Ends.{CouldNotWrite, HasNothing, RefusedPool, RefusedText, Succeeded}, Faults.line_of};
+ghost use Rattle.tp_cli.specs.{Faults.status_of, Reasons.IsAnswerExplained};
+ghost use Rattle.tp_shell.specs.{Statuses.code_of, Streams.MayExplain};
 
 use crate::cli::answer_words;
 use crate::fault::Fault;

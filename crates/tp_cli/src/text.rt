@@ -1,6 +1,5 @@
 //! The subcommands that read a text: `sim` for scripts, `audit` for traces.
-ghost use Rattle.std.specs.Prelude.{◌≡◌, ◌≢◌, List, ℕ, IfErr, IfOk};
-ghost use Rattle.std.specs.Io.KnownBytes.{Appends};
+ghost use Rattle.std.specs.{Io.KnownBytes.Appends, Prelude.{◌≡◌, ◌≢◌, List, ℕ, IfErr, IfOk}};
 ghost use Rattle.tp_cli.specs.Texts.{IsAnswerTo, IsUnansweredText};
 
 use std::alloc::Global;

@@ -1,25 +1,12 @@
 -- What a core has accepted, and its reply to the next step.
-use Rattle.std.specs.Prelude.{Bool, true, false, not, IsTrue, IsFalse, ℕ, ◌%◌, ◌||◌, ◌==◌, ◌≡◌, ◌<◌, ◌+◌, List, [], ◌∷◌, ◌++◌, nat_le}
-use Rattle.std.specs.Prelude.{is_some, length, Option, Some, None, Result, Ok, Err, if◌then◌else◌}
-use Rattle.std.specs.List.{list_any}
-use Rattle.tp_base.specs.declared.limits.TheConstants.{MAX_STEPS}
-use Rattle.tp_base.specs.declared.Refusal.{Refusal}
-use Rattle.tp_base.specs.declared.Refusal.TheVariants.{HistoryFull, NoMemory}
-use Rattle.tp_base.specs.declared.Step.{Step}
-use Rattle.tp_base.specs.declared.Step.TheVariants.{Insert, ActionOpen, Send, Give, Judge, Reopen}
-use Rattle.tp_wave.specs.Steps.{any, count, is_send_of, is_recv_at}
-use Rattle.tp_wave.specs.Sums.{sums_of, judgement}
-use Rattle.tp_base.specs.Checks.{Check, first_refusal}
-use Rattle.tp_base.specs.Pages.{is_beside}
-use Rattle.tp_core.specs.declared.accepting.TheConstants.{PIECE}
-use Rattle.tp_core.specs.declared.numbers.NodeNumbers.{NodeNumbers}
-use Rattle.tp_core.specs.declared.reply.Reply.{Reply}
-use Rattle.tp_core.specs.declared.reply.Reply.TheVariants.{Plain, WaveSums, Not, Over, Opened}
-use Rattle.tp_core.specs.World.{World, pending}
-use Rattle.tp_wave.specs.Generations.{present, generation}
-use Rattle.tp_core.specs.Run.{world}
-use Rattle.tp_core.specs.Generations.{world_after, MayCome}
-use Rattle.tp_core.specs.StepChecks.{checks}
+use Rattle.std.specs.{List.list_any, Prelude.{Bool, true, false, not, IsTrue, IsFalse, ℕ, ◌%◌, ◌||◌, ◌==◌, ◌≡◌, ◌<◌, ◌+◌, List, [], ◌∷◌}}
+use Rattle.std.specs.Prelude.{◌++◌, nat_le, is_some, length, Option, Some, None, Result, Ok, Err, if◌then◌else◌}
+use Rattle.tp_base.specs.{Checks.{Check, first_refusal}, Pages.is_beside, declared.Refusal.{Refusal, TheVariants.{HistoryFull, NoMemory}}}
+use Rattle.tp_base.specs.declared.{Step.{Step, TheVariants.{Insert, ActionOpen, Send, Give, Judge, Reopen}}, limits.TheConstants.MAX_STEPS}
+use Rattle.tp_core.specs.{Generations.{world_after, MayCome}, Run.world, StepChecks.checks, World.{World, pending}}
+use Rattle.tp_core.specs.declared.{accepting.TheConstants.PIECE, numbers.NodeNumbers.NodeNumbers, reply.Reply.{Reply, TheVariants.Plain}}
+use Rattle.tp_core.specs.declared.reply.Reply.TheVariants.{WaveSums, Not, Over, Opened}
+use Rattle.tp_wave.specs.{Generations.{present, generation}, Steps.{any, count, is_send_of, is_recv_at}, Sums.{sums_of, judgement}}
 
 -- the number of nodes, and the accepted steps, newest first
 pub record Accepted : Type 0 where

@@ -1,18 +1,9 @@
 -- The effect of a control step on the wave of a core, and the reply to it.
 use Rattle.std.specs.Prelude.{ℕ, ◌≡◌, ◌<◌, ◌≤◌, List, ◌∷◌, length, Option, Some, None, Result, Ok, Err}
-use Rattle.tp_base.specs.declared.limits.TheConstants.{MAX_STEPS, MAX_NODES}
-use Rattle.tp_base.specs.declared.Refusal.{Refusal}
-use Rattle.tp_base.specs.declared.Step.{Step}
-use Rattle.tp_wave.specs.Generations.{present}
-use Rattle.tp_wave.specs.Wave.{Follows}
-use Rattle.tp_wave.specs.declared.Wave.{Wave}
-use Rattle.tp_core.specs.declared.numbers.NodeNumbers.{NodeNumbers}
-use Rattle.tp_core.specs.declared.reply.Reply.{Reply}
-use Rattle.tp_core.specs.declared.reply.Reply.TheVariants.{Over}
-use Rattle.tp_core.specs.Accepted.{reply_to}
-use Rattle.tp_core.specs.Kept.{HasNumbers}
-use Rattle.tp_core.specs.Run.{IsLawfulRun}
-use Rattle.tp_core.specs.StepChecks.{refusal_of}
+use Rattle.tp_base.specs.declared.{Refusal.Refusal, Step.Step, limits.TheConstants.{MAX_STEPS, MAX_NODES}}
+use Rattle.tp_core.specs.{Accepted.reply_to, Kept.HasNumbers, Run.IsLawfulRun, StepChecks.refusal_of}
+use Rattle.tp_core.specs.declared.{numbers.NodeNumbers.NodeNumbers, reply.Reply.{Reply, TheVariants.Over}}
+use Rattle.tp_wave.specs.{Generations.present, Wave.Follows, declared.Wave.Wave}
 
 -- The steps on n nodes are a run in the present generation. The counters and the wave follow from them.
 pub record HasWaves (n : ℕ) (numbers : List NodeNumbers) (steps : List Step) (wave : Wave) : Type 0 where

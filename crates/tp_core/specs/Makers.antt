@@ -1,13 +1,9 @@
 -- Who makes a step: the pieces of work that may insert, supply, send and open, and the threads that run tasks.
-use Rattle.std.specs.Prelude.{ℕ, ◌==◌, ◌&&◌, Bool, true, false, Option, Some, None}
-use Rattle.std.specs.List.{find}
-use Rattle.std.specs.Option.{option_map}
-use Rattle.tp_base.specs.declared.Step.{Step}
-use Rattle.tp_base.specs.declared.Step.TheVariants.{Insert, Supply, Begin, Done, ActionOpen, Send}
+use Rattle.std.specs.{List.find, Option.option_map, Prelude.{ℕ, ◌==◌, ◌&&◌, Bool, true, false, Option, Some, None}}
+use Rattle.tp_base.specs.declared.Step.{Step, TheVariants.{Insert, Supply, Begin, Done, ActionOpen, Send}}
+use Rattle.tp_core.specs.{StepChecks.is_running, World.{World, Opening, Named, OfMessage, home_of, life_of, is_open}}
 use Rattle.tp_core.specs.declared.accepting.looking.Maker.{Maker}
 use Rattle.tp_core.specs.declared.accepting.looking.Maker.TheVariants as maker
-use Rattle.tp_core.specs.StepChecks.{is_running}
-use Rattle.tp_core.specs.World.{World, Opening, Named, OfMessage, home_of, life_of, is_open}
 
 -- the home of a task, if it was inserted
 abbrev pub home_if_known : ℕ → World → Option ℕ

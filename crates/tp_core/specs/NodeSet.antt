@@ -1,6 +1,5 @@
 -- A set of nodes, as a test of a node's number.
-use Rattle.std.specs.Prelude.{ℕ, Bool, false}
-use Rattle.std.specs.List.{slice_index_or}
+use Rattle.std.specs.{List.slice_index_or, Prelude.{ℕ, Bool, false}}
 use Rattle.tp_core.specs.declared.node_set.NodeSet.{NodeSet}
 
 -- Node i is in the set.

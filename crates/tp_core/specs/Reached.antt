@@ -1,9 +1,7 @@
 -- What a new core accepts of any list of steps, unless memory runs out.
 use Rattle.std.specs.Prelude.{List, [], ◌≡◌}
 use Rattle.tp_base.specs.declared.Step.{Step}
-use Rattle.tp_core.specs.Accepted.{Accepted, after_all}
-use Rattle.tp_core.specs.NeverEarly.{IsNeverEarly}
-use Rattle.tp_core.specs.Generations.{AreRuns, InEach}
+use Rattle.tp_core.specs.{Accepted.{Accepted, after_all}, Generations.{AreRuns, InEach}, NeverEarly.IsNeverEarly}
 
 -- The accepted steps are runs, and the detector is never early in any generation.
 abbrev pub AcceptedIsNeverEarly : Type 0

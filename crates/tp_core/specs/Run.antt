@@ -1,12 +1,9 @@
 -- The runs of the core on n nodes in one generation. A list of steps has the newest step first.
 use Rattle.std.specs.Prelude.{ℕ, ◌≡◌, List, [], ◌∷◌}
-use Rattle.tp_base.specs.declared.Step.{Step}
-use Rattle.tp_base.specs.declared.Step.TheVariants.{Insert, Supply, Begin, Done, ActionOpen, ActionClose, Ready, Send, Recv, MessageEnd}
-use Rattle.tp_base.specs.declared.Step.TheVariants.{Start, Down, Give, Up, Judge, Reopen}
-use Rattle.tp_wave.specs.Control.{IsControlStep}
-use Rattle.tp_wave.specs.Machine.{History}
-use Rattle.tp_core.specs.World.{World, first_world, home_of, pending}
-use Rattle.tp_core.specs.Pool.{MayTake, after}
+use Rattle.tp_base.specs.declared.Step.{Step, TheVariants.{Insert, Supply, Begin, Done, ActionOpen, ActionClose, Ready, Send, Recv}}
+use Rattle.tp_base.specs.declared.Step.TheVariants.{MessageEnd, Start, Down, Give, Up, Judge, Reopen}
+use Rattle.tp_core.specs.{Pool.{MayTake, after}, World.{World, first_world, home_of, pending}}
+use Rattle.tp_wave.specs.{Control.IsControlStep, Machine.History}
 
 -- the world after these steps
 abbrev pub world : ℕ → List Step → World

@@ -1,20 +1,11 @@
 -- The result of `settle`, which takes control steps until termination is detected.
-use Rattle.std.specs.Prelude.{ℕ, ◌+◌, ◌-◌, ◌*◌, ◌/◌, ◌≡◌, ◌≤◌, List, [], ◌∷◌, ◌++◌, Bool, not, nat_lt, length, IsTrue, None, Some, Result}
-use Rattle.std.specs.Prelude.{Ok, Err}
-use Rattle.std.specs.List.{list_all}
-use Rattle.tp_base.specs.declared.limits.TheConstants.{MAX_STEPS}
-use Rattle.tp_base.specs.declared.Refusal.TheVariants.{Ended, NotIdle, HistoryFull}
-use Rattle.tp_base.specs.declared.Step.{Step}
-use Rattle.tp_base.specs.declared.Step.TheVariants.{Judge}
-use Rattle.tp_base.specs.Checks.{Check, first_refusal}
-use Rattle.tp_base.specs.declared.Refusal.{Refusal}
-use Rattle.tp_wave.specs.Sums.{waves, is_ended, judgement}
-use Rattle.tp_wave.specs.Control.{is_control}
+use Rattle.std.specs.{List.list_all, Prelude.{ℕ, ◌+◌, ◌-◌, ◌*◌, ◌/◌, ◌≡◌, ◌≤◌, List, [], ◌∷◌, ◌++◌, Bool, not, nat_lt, length, IsTrue}}
+use Rattle.std.specs.Prelude.{None, Some, Result, Ok, Err}
+use Rattle.tp_base.specs.{Checks.{Check, first_refusal}, declared.{Refusal.{Refusal, TheVariants.{Ended, NotIdle, HistoryFull}}, Step.Step}}
+use Rattle.tp_base.specs.declared.{Step.TheVariants.Judge, limits.TheConstants.MAX_STEPS}
+use Rattle.tp_core.specs.{Accepted.{Accepted, IsRefusedFor, world_of}, Generations.AreRuns, World.is_quiet}
 use Rattle.tp_core.specs.declared.accepting.TheConstants.{PIECE}
-use Rattle.tp_core.specs.World.{is_quiet}
-use Rattle.tp_wave.specs.Generations.{present}
-use Rattle.tp_core.specs.Generations.{AreRuns}
-use Rattle.tp_core.specs.Accepted.{Accepted, IsRefusedFor, world_of}
+use Rattle.tp_wave.specs.{Control.is_control, Generations.present, Sums.{waves, is_ended, judgement}}
 
 -- the check for lack of room for `more` steps, if `taken` steps were accepted
 abbrev pub rooms_check : ℕ → ℕ → List Check

@@ -1,17 +1,8 @@
 -- The loop invariant of settling, in which control steps are taken until termination is detected.
-use Rattle.std.specs.Prelude.{ℕ, ◌+◌, ◌*◌, ◌≡◌, ◌≤◌, List, ◌∷◌, ◌++◌, length, IsTrue, IsFalse, Option, Some, None}
-use Rattle.std.specs.List.{list_all}
-use Rattle.tp_base.specs.declared.Step.{Step}
-use Rattle.tp_base.specs.declared.Step.TheVariants.{Judge}
-use Rattle.tp_wave.specs.Sums.{is_ended, judgement}
-use Rattle.tp_wave.specs.Control.{is_control}
-use Rattle.tp_wave.specs.Generations.{present}
-use Rattle.tp_wave.specs.Wave.{Follows}
-use Rattle.tp_wave.specs.declared.Wave.{Wave}
-use Rattle.tp_core.specs.declared.numbers.NodeNumbers.{NodeNumbers}
-use Rattle.tp_core.specs.World.{IsQuiet}
-use Rattle.tp_core.specs.Run.{world, IsLawful, IsLawfulRun}
-use Rattle.tp_core.specs.Advancing.{HasWaves}
+use Rattle.std.specs.{List.list_all, Prelude.{ℕ, ◌+◌, ◌*◌, ◌≡◌, ◌≤◌, List, ◌∷◌, ◌++◌, length, IsTrue, IsFalse, Option, Some, None}}
+use Rattle.tp_base.specs.declared.Step.{Step, TheVariants.Judge}
+use Rattle.tp_core.specs.{Advancing.HasWaves, Run.{world, IsLawful, IsLawfulRun}, World.IsQuiet, declared.numbers.NodeNumbers.NodeNumbers}
+use Rattle.tp_wave.specs.{Control.is_control, Generations.present, Sums.{is_ended, judgement}, Wave.Follows, declared.Wave.Wave}
 
 -- The steps on n nodes are a run after which the pool is quiet and termination was not detected. The counters and the
 -- wave follow from the steps.

@@ -1,15 +1,13 @@
 -- The calls of a pool: the checks of each, in their order, and what each does.
-use Rattle.std.specs.Prelude.{ℕ, ◌+◌, ◌-◌, ◌≡◌, ◌<◌, ◌≤◌, ◌&&◌, ◌||◌, ◌==◌, List, [], ◌∷◌, ◌++◌, Bool, false, not, length, map}
-use Rattle.std.specs.Prelude.{slice_get, slice_set, IsTrue, IsFalse, Option, Some, None, nat_le, nat_lt, if◌then◌else◌}
-use Rattle.std.specs.List.{list_all}
+use Rattle.std.specs.{List.list_all, Prelude.{ℕ, ◌+◌, ◌-◌, ◌≡◌, ◌<◌, ◌≤◌, ◌&&◌, ◌||◌, ◌==◌, List, [], ◌∷◌, ◌++◌, Bool, false, not, length}}
+use Rattle.std.specs.Prelude.{map, slice_get, slice_set, IsTrue, IsFalse, Option, Some, None, nat_le, nat_lt, if◌then◌else◌}
 use Rattle.tp_base.specs.{Checks.Check, declared.limits.TheConstants.MAX_STEPS}
+use Rattle.tp_dag.specs.State.{PoolState, Entry, IsReady, NoneReadyBelow, is_fresh, is_running, is_traced, is_ready_now, count_where}
+use Rattle.tp_dag.specs.{State.{is_unfinished, steps_of_trace}, declared.{entry.{Event.Event, Stage.Stage}, limits.TheConstants.MAX_TASKS}}
+use Rattle.tp_dag.specs.declared.limits.TheConstants.{MAX_INPUTS, MAX_OUTSIDE}
 use Rattle.tp_base.specs.declared.refusal.Refusal.TheVariants as refusal
-use Rattle.tp_dag.specs.declared.entry.{Event.Event, Stage.Stage}
 use Rattle.tp_dag.specs.declared.entry.Stage.TheVariants as stage
 use Rattle.tp_dag.specs.declared.entry.Event.TheVariants as event
-use Rattle.tp_dag.specs.declared.limits.TheConstants.{MAX_TASKS, MAX_INPUTS, MAX_OUTSIDE}
-use Rattle.tp_dag.specs.State.{PoolState, Entry, IsReady, NoneReadyBelow, is_fresh, is_running, is_traced, is_ready_now, count_where}
-use Rattle.tp_dag.specs.State.{is_unfinished, steps_of_trace}
 
 abbrev pub is_fresh_at : Option Entry → Bool
 is_fresh_at (Some x) = is_fresh x.stage

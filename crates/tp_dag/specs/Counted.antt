@@ -1,10 +1,9 @@
 -- The tasks of a pool as it stores them, and the numbers that it keeps of them.
-use Rattle.std.specs.Prelude.{ℕ, ◌≡◌, ◌<◌, ◌≤◌, ◌==◌, ◌&&◌, List, Bool, true, false, length, IsTrue, IsFalse}
-use Rattle.std.specs.Prelude.{Option, Some, None, slice_get}
-use Rattle.std.specs.List.{slice_index_or}
-use Rattle.tp_dag.specs.declared.{entry.Task.Task, limits.TheConstants.MAX_TASKS, tasks.Tasks.TheInside.Inside}
+use Rattle.std.specs.{List.slice_index_or, Prelude.{ℕ, ◌≡◌, ◌<◌, ◌≤◌, ◌==◌, ◌&&◌, List, Bool, true, false, length, IsTrue, IsFalse, Option}}
+use Rattle.std.specs.Prelude.{Some, None, slice_get}
+use Rattle.tp_dag.specs.{State.{Entry, is_fresh, count_where, is_unfinished, is_dispatched, is_awaiting}, declared.entry.Task.Task}
+use Rattle.tp_dag.specs.declared.{limits.TheConstants.MAX_TASKS, tasks.Tasks.TheInside.Inside}
 use Rattle.tp_dag.specs.declared.entry.Stage.TheVariants as stage
-use Rattle.tp_dag.specs.State.{Entry, is_fresh, count_where, is_unfinished, is_dispatched, is_awaiting}
 
 abbrev pub TaskList : Type 0
 TaskList = List Task

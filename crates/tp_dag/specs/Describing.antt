@@ -1,11 +1,9 @@
 -- A whole graph in one call: what `describe` adds, and its first fault. Task t reads the inputs at places offsets[t] to offsets[t+1] - 1.
-use Rattle.std.specs.Prelude.{ℕ, zero, suc, ◌+◌, ◌≡◌, ◌<◌, ◌||◌, List, [], ◌∷◌, length, not, nat_lt, Option, Some, None, slice_range}
-use Rattle.std.specs.List.{slice_index_or}
-use Rattle.std.specs.Prelude.{◌&&◌, ◌==◌, ◌-◌}
-use Rattle.tp_base.specs.{Checks.Check, Checks.first_refusal, declared.refusal.Refusal.Refusal}
+use Rattle.std.specs.{List.slice_index_or, Prelude.{ℕ, zero, suc, ◌+◌, ◌≡◌, ◌<◌, ◌||◌, List, [], ◌∷◌, length, not, nat_lt, Option, Some}}
+use Rattle.std.specs.Prelude.{None, slice_range, ◌&&◌, ◌==◌, ◌-◌}
+use Rattle.tp_base.specs.{Checks.{Check, first_refusal}, declared.refusal.Refusal.Refusal}
+use Rattle.tp_dag.specs.{Calls.{task_checks, input_checks, with_task, with_input}, State.PoolState}
 use Rattle.tp_base.specs.declared.refusal.Refusal.TheVariants as refusal
-use Rattle.tp_dag.specs.State.{PoolState}
-use Rattle.tp_dag.specs.Calls.{task_checks, input_checks, with_task, with_input}
 
 -- A graph: the class of each task, or none if all are 0; and where the inputs of each task are.
 pub record Graph : Type 0 where

@@ -1,8 +1,6 @@
 //! The events of a traced pool. Room for them is reserved before a task can be dispatched, so that to record one cannot fail.
-ghost use Rattle.std.specs.Prelude.{◌≡◌, ◌≤◌, ◌<◌, ◌+◌, ◌*◌, IfErr, IsTrue, OnOk, length};
-ghost use Rattle.std.specs.Vec.{vec_capacity};
-ghost use Rattle.tp_dag.specs.Calls.{with_event};
-ghost use Rattle.tp_dag.specs.Kept.{kept_of};
+ghost use Rattle.std.specs.{Prelude.{◌≡◌, ◌≤◌, ◌<◌, ◌+◌, ◌*◌, IfErr, IsTrue, OnOk, length}, Vec.vec_capacity};
+ghost use Rattle.tp_dag.specs.{Calls.with_event, Kept.kept_of};
 
 use crate::entry::Event;
 use tp_base::Refusal;

@@ -1,9 +1,7 @@
 //! The inputs of tasks. They are added to a task that was not dispatched, for which the caller makes room before, so that this cannot fail;
 //! and a task that is done passes on to the tasks that read it.
-ghost use Rattle.std.specs.Prelude.{◌≡◌, ◌∷◌, [], map};
-ghost use Rattle.std.specs.Vec.{vec_capacity};
-ghost use Rattle.tp_dag.specs.Counted.{entry_of};
-ghost use Rattle.tp_dag.specs.Kept.{Facts, Linked, MayLink, MayPassOn};
+ghost use Rattle.std.specs.{Prelude.{◌≡◌, ◌∷◌, [], map}, Vec.vec_capacity};
+ghost use Rattle.tp_dag.specs.{Counted.entry_of, Kept.{Facts, Linked, MayLink, MayPassOn}};
 
 use crate::entry::{Link, Task, is_done, one_if};
 use crate::queues::Queues;

@@ -1,7 +1,6 @@
 //! Queues of tasks that became ready, one for each class, first in, first out. The pool checks each task before it dispatches it, so of these
 //! calls only that for room has a contract.
-ghost use Rattle.std.specs.Prelude.{◌+◌, ◌≤◌, ◌<◌, OnOk};
-ghost use Rattle.std.specs.Vec.{vec_capacity, vec_len};
+ghost use Rattle.std.specs.{Prelude.{◌+◌, ◌≤◌, ◌<◌, OnOk}, Vec.{vec_capacity, vec_len}};
 
 use crate::tasks::{Tasks, may_begin};
 use std::alloc::{AllocError, Global};

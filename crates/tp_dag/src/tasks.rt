@@ -4,9 +4,8 @@ ghost use Rattle.std.specs.Prelude.{◌≡◌, ◌≤◌, ◌<◌, ◌+◌, ◌+
 ghost use Rattle.std.specs.Prelude.{slice_set, Some};
 ghost use Rattle.tp_dag.specs.declared.limits.TheConstants.{MAX_TASKS};
 ghost use Rattle.tp_dag.specs.declared.entry.Stage.TheVariants as stage;
+ghost use Rattle.tp_dag.specs.Counted.{one, may_begin, is_ready, entry_of, as_new, ready_at, HasClass, NoneOf, NoneReady, ComesFirst};
 ghost use Rattle.tp_dag.specs.State.{count_where, is_unfinished, is_dispatched, is_awaiting};
-ghost use Rattle.tp_dag.specs.Counted.{one, may_begin, is_ready, entry_of, as_new, ready_at};
-ghost use Rattle.tp_dag.specs.Counted.{HasClass, NoneOf, NoneReady, ComesFirst};
 
 use crate::entry::{Stage, Task, both, is_done, is_fresh, is_running};
 use crate::queues::Queues;

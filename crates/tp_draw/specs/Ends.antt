@@ -1,8 +1,7 @@
 -- What was read when a picture of a run was written.
 use Rattle.std.specs.Prelude.{ℕ, List, Option}
 use Rattle.tp_base.specs.declared.Step.{Step}
-use Rattle.tp_text.specs.Input.{ReadsAll}
-use Rattle.tp_text.specs.Reading.{IsSoundTraceOf}
+use Rattle.tp_text.specs.{Input.ReadsAll, Reading.IsSoundTraceOf}
 
 -- All was read, and it is a sound trace. The reader is seen by its bytes before and after.
 abbrev pub HasReadTrace : Option (List ℕ) → Option (List ℕ) → Type 0

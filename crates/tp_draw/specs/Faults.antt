@@ -1,13 +1,11 @@
 -- The error line of a fault, and its exit status.
-use Rattle.std.specs.Prelude.{ℕ, List, codes}
-use Rattle.std.specs.String.{string_bytes}
+use Rattle.std.specs.{Prelude.{ℕ, List, codes}, String.string_bytes}
 use Rattle.tp_draw.specs.declared.fault.Fault.{Fault}
-use Rattle.tp_draw.specs.declared.fault.Fault.TheVariants as faults
-use Rattle.tp_shell.specs.declared.status.Status.{Status}
-use Rattle.tp_shell.specs.declared.status.Status.TheVariants as statuses
-use Rattle.tp_shell.specs.Texts.{words_line}
-use Rattle.tp_shell.specs.declared.words.WordsFault.TheVariants as words
+use Rattle.tp_shell.specs.{Texts.words_line, declared.status.Status.Status}
 use Rattle.tp_text.specs.declared.fault.TextFault.{TextFault}
+use Rattle.tp_draw.specs.declared.fault.Fault.TheVariants as faults
+use Rattle.tp_shell.specs.declared.status.Status.TheVariants as statuses
+use Rattle.tp_shell.specs.declared.words.WordsFault.TheVariants as words
 use Rattle.tp_text.specs.declared.fault.TextFault.TheVariants as texts
 
 -- the line of a trace that was not read

@@ -1,10 +1,8 @@
 //! The program `draw` as a call, from its arguments to its exit status.
 
 ghost use Rattle.std.specs.Prelude.{◌≡◌, ◌≤◌, ◌⊎◌, IfErr, OnOk};
-ghost use Rattle.tp_draw.specs.Ends.{HasReadTrace};
-ghost use Rattle.tp_draw.specs.Faults.{line_of, status_of};
-ghost use Rattle.tp_shell.specs.Statuses.{code_of};
-ghost use Rattle.tp_shell.specs.Streams.{MayExplain};
+ghost use Rattle.tp_draw.specs.{Ends.HasReadTrace, Faults.{line_of, status_of}};
+ghost use Rattle.tp_shell.specs.{Statuses.code_of, Streams.MayExplain};
 
 use crate::command::{Request, requested};
 use crate::fault::Fault;

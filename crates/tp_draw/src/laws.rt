@@ -1,7 +1,6 @@
 //! The theorem that states the value of each limit of the program `draw`, as a call without arguments.
 ghost use Rattle.std.specs.Prelude.{◌≡◌};
-ghost use Rattle.tp_draw.specs.declared.cli.TheConstants.{MAX_TASKS};
-ghost use Rattle.tp_draw.specs.declared.command.TheConstants.{MAX_PIXELS, MIN_PIXELS};
+ghost use Rattle.tp_draw.specs.declared.{cli.TheConstants.MAX_TASKS, command.TheConstants.{MAX_PIXELS, MIN_PIXELS}};
 
 /// The limits have these values.
 pub fn limits_are_these()

@@ -1,11 +1,7 @@
 -- What a program described: its tasks with the handles that each reads and writes, and what a task has to wait for.
-use Rattle.std.specs.Prelude.{ℕ, ◌+◌, ◌≡◌, ◌<◌, ◌==◌, ◌&&◌, ◌||◌, ◌⊎◌, ◌↔◌, ◌++◌, List, [], ◌∷◌, Bool, true, false}
-use Rattle.std.specs.Prelude.{Option, Some, None, IsTrue, nat_lt, if◌then◌else◌}
-use Rattle.std.specs.List.{flat_map, list_all}
-use Rattle.std.specs.Option.{option_to_list}
-use Rattle.std.specs.List.Sorted.{IsStrictlyIncreasing}
-use Rattle.tp_flow.specs.declared.access.Access.{Access}
-use Rattle.tp_flow.specs.declared.access.Mode.{Mode}
+use Rattle.std.specs.{List.{flat_map, list_all, Sorted.IsStrictlyIncreasing}, Option.option_to_list, Prelude.{ℕ, ◌+◌, ◌≡◌, ◌<◌, ◌==◌, ◌&&◌}}
+use Rattle.std.specs.Prelude.{◌||◌, ◌⊎◌, ◌↔◌, ◌++◌, List, [], ◌∷◌, Bool, true, false, Option, Some, None, IsTrue, nat_lt, if◌then◌else◌}
+use Rattle.tp_flow.specs.declared.access.{Access.Access, Mode.Mode}
 use Rattle.tp_flow.specs.declared.access.Mode.TheVariants as mode
 
 -- A task: its number, and what it accesses.

@@ -1,8 +1,7 @@
 -- What follows from the inputs alone: they order every conflict, and every order of the tasks that keeps to them gives the result of the
 -- sequential program.
 use Rattle.std.specs.Prelude.{ℕ, ◌≡◌, ◌||◌, ◌⊎◌, ◌↔◌, ◌++◌, List, [], ◌∷◌, IsTrue, IsFalse, map}
-use Rattle.tp_flow.specs.declared.access.Access.{Access}
-use Rattle.tp_flow.specs.Description.{Task, Has, is_accessed, is_read, is_written, awaited, AreOrdered}
+use Rattle.tp_flow.specs.{Description.{Task, Has, is_accessed, is_read, is_written, awaited, AreOrdered}, declared.access.Access.Access}
 
 -- Task t waits for task s.
 abbrev pub IsInput : List Task → ℕ → ℕ → Type 0

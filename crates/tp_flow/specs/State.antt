@@ -1,17 +1,11 @@
 -- What a flow keeps, which descriptions it follows, and when a call is refused.
-use Rattle.std.specs.Prelude.{ℕ, ◌≡◌, ◌<◌, ◌-◌, ◌==◌, ◌||◌, ◌++◌, List, [], ◌∷◌, Bool, false, not, length, map, nat_le, nat_lt}
-use Rattle.std.specs.Prelude.{Option, Some, None, IsTrue, slice_get, slice_index_or, if◌then◌else◌}
-use Rattle.std.specs.Vec.{vec_capacity}
-use Rattle.std.specs.List.{All}
-use Rattle.tp_base.specs.declared.refusal.Refusal.TheVariants as refusal
+use Rattle.std.specs.{List.All, Prelude.{ℕ, ◌≡◌, ◌<◌, ◌-◌, ◌==◌, ◌||◌, ◌++◌, List, [], ◌∷◌, Bool, false, not, length, map, nat_le, nat_lt}}
+use Rattle.std.specs.{Prelude.{Option, Some, None, IsTrue, slice_get, slice_index_or, if◌then◌else◌}, Vec.vec_capacity}
 use Rattle.tp_base.specs.Checks.{Check}
-use Rattle.tp_flow.specs.declared.access.Access.{Access}
-use Rattle.tp_flow.specs.declared.access.Mode.{Mode}
-use Rattle.tp_flow.specs.declared.uses.Uses.{Uses}
-use Rattle.tp_flow.specs.declared.flow.Flow.TheInside.{Inside}
-use Rattle.tp_flow.specs.declared.limits.TheConstants.{MAX_HANDLES}
 use Rattle.tp_flow.specs.Description.{Task, Description, last_writer, readers_since, newest_of, all_below, AreOrdered, AreTasksBelow}
-use Rattle.tp_flow.specs.Description.{writes}
+use Rattle.tp_flow.specs.{Description.writes, declared.{access.{Access.Access, Mode.Mode}, flow.Flow.TheInside.Inside}}
+use Rattle.tp_flow.specs.declared.{limits.TheConstants.MAX_HANDLES, uses.Uses.Uses}
+use Rattle.tp_base.specs.declared.refusal.Refusal.TheVariants as refusal
 
 -- What is kept of a handle: its last writer, and the tasks that read it since, the oldest first.
 pub record HandleState : Type 0 where

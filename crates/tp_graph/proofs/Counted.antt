@@ -1,17 +1,11 @@
 -- The steps that compute a graph, counted kind by kind.
 use Rattle.std.proofs.Common.{◌≡◌, ◌∙◌, ◌+◌, ◌-◌, ◌*◌, ◌<◌, ◌≤◌, ◌==◌, ◌⊎◌, ℕ, zero, suc, Bool, true, false, List, [], ◌∷◌, refl, sym, ap}
-use Rattle.std.proofs.Common.{inl, inr, arith}
-use Rattle.std.proofs.lemmas.Bool.{cases_lt, eq-eqb, lt-ltb, ne_eqb}
-use Rattle.std.proofs.lemmas.Bool.Decides.{nat_tests}
-use Rattle.std.specs.Prelude.{nat_lt}
-use Rattle.tp_base.specs.declared.Step.{Step}
+use Rattle.std.{proofs.{Common.{inl, inr, arith}, lemmas.Bool.{cases_lt, eq-eqb, lt-ltb, ne_eqb, Decides.nat_tests}}, specs.Prelude.nat_lt}
+use Rattle.tp_base.{proofs.Totals.{total-equal, total-zero, total_one-changes}, specs.{Totals.total, declared.Step.Step}}
 use Rattle.tp_base.specs.declared.Step.TheVariants.{Insert, Supply, Begin, Done, Send, Recv, MessageEnd}
-use Rattle.tp_base.proofs.Totals.{total-equal, total-zero, total_one-changes}
+use Rattle.tp_graph.{proofs.Totals.total-const, specs.Events.{EventsLaw, below, is_begin_of, is_done_of, is_insert_of, is_message_end}}
+use Rattle.tp_graph.specs.Events.{is_supply_of, is_work, task_events}
 use Rattle.tp_wave.specs.Steps.{count, is_recv, is_send}
-use Rattle.tp_base.specs.Totals.{total}
-use Rattle.tp_graph.proofs.Totals.{total-const}
-use Rattle.tp_graph.specs.Events.{EventsLaw, below, is_begin_of, is_done_of, is_insert_of, is_message_end, is_supply_of}
-use Rattle.tp_graph.specs.Events.{is_work, task_events}
 
 -- the count of a task below a number, and that of one that is not
 below-some : (tasks : ℕ) (f : ℕ → ℕ) (t : ℕ) → t < tasks → below tasks f t ≡ f t

@@ -1,8 +1,6 @@
 -- Lists of numbers that fit 64 bits.
 use Rattle.std.proofs.Common.{◌≡◌, ◌<◌, ◌^◌, ℤ, pos, negsuc, List, [], ◌∷◌, ◌++◌, true, refl, arith, FitsSigned, w64}
-use Rattle.std.specs.Prelude.{unsigned_abs}
-use Rattle.std.proofs.lemmas.Bool.{and_parts, and_from}
-use Rattle.std.proofs.lemmas.Bool.Decides.{nat_tests}
+use Rattle.std.{proofs.lemmas.Bool.{and_parts, and_from, Decides.nat_tests}, specs.Prelude.unsigned_abs}
 use Rattle.tp_graph.specs.Values.{fits, all_fit}
 
 pub fits-from : (z : ℤ) → unsigned_abs z < 2 ^ 63 → fits z ≡ true

@@ -1,8 +1,6 @@
 -- What a run leaves is each task's value if the graph keeps it.
 use Rattle.std.proofs.Common.{◌≡◌, ℕ, ℤ, List, [], Option, Some, None, true, get_or, if◌then◌else◌, refl, sym, ap, ◌∙◌}
-use Rattle.tp_graph.specs.Graphs.{TaskGraph, KeepsAll}
-use Rattle.tp_graph.specs.Left.{AreKept, AreResults, left_of, result_of}
-use Rattle.tp_graph.specs.Serial.{AreRight, Results}
+use Rattle.tp_graph.specs.{Graphs.{TaskGraph, KeepsAll}, Left.{AreKept, AreResults, left_of, result_of}, Serial.{AreRight, Results}}
 use Rattle.tp_graph.specs.Values.{then_some, value_of}
 
 whole : (g : TaskGraph) (t : ℕ) (o : Option (List ℤ)) → g.keeps t ≡ true → then_some o (λ value. Some (left_of g t value)) ≡ o

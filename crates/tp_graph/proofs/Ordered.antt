@@ -1,19 +1,11 @@
 -- Results whose tasks do not fall, each once.
 use Rattle.std.proofs.Common.{◌≡◌, ◌≢◌, ◌<◌, ◌≤◌, ◌+◌, ℕ, zero, suc, ℤ, List, [], ◌∷◌, length, get_or, true, false, cond, if◌then◌else◌}
-use Rattle.std.proofs.Common.{nat_lt, refl, sym, ap, ◌∙◌, ⊎_elim, subst, Some, arith}
-use Rattle.std.specs.Prelude.{◌==◌}
-use Rattle.std.specs.List.{count_by}
-use Rattle.std.specs.List.Sorted.{IsNonDecreasingBy, IsPermutation}
-use Rattle.std.proofs.lemmas.Bool.{cases_lt, cases_eq, eq-eqb}
-use Rattle.std.proofs.lemmas.Bool.Decides.{nat_tests, eqb_tells}
-use Rattle.std.proofs.lemmas.List.Sums.{sum_by-cons}
-use Rattle.std.proofs.lemmas.List.Sorted.{sum_by-IsPermutation, All-permutation}
+use Rattle.std.proofs.{Common.{nat_lt, refl, sym, ap, ◌∙◌, ⊎_elim, subst, Some, arith}, lemmas.Bool.{cases_lt, cases_eq, eq-eqb}}
+use Rattle.std.proofs.lemmas.{Bool.Decides.{nat_tests, eqb_tells}, List.{Sorted.{sum_by-IsPermutation, All-permutation}, Sums.sum_by-cons}}
+use Rattle.std.specs.{List.{count_by, Sorted.{IsNonDecreasingBy, IsPermutation}}, Prelude.◌==◌}
 use Rattle.tp_base.specs.declared.TaskId.{TaskId}
-use Rattle.tp_graph.specs.Graphs.{TaskGraph}
-use Rattle.tp_graph.specs.Left.{AreResults, result_of}
-use Rattle.tp_graph.specs.Serial.{AreInTaskOrder, AreRight, AreValues, Results}
-use Rattle.tp_graph.specs.Values.{value_of}
-use Rattle.tp_graph.specs.Found.{HasEachOnce}
+use Rattle.tp_graph.specs.{Found.HasEachOnce, Graphs.TaskGraph, Left.{AreResults, result_of}, Serial.{AreInTaskOrder, AreRight, AreValues}}
+use Rattle.tp_graph.specs.{Serial.Results, Values.value_of}
 
 abbrev times : ℕ → Results → ℕ
 times t results = count_by (λ r. r.0.0 == t) results

@@ -1,11 +1,8 @@
 -- The index of results by task.
 use Rattle.std.proofs.Common.{◌≡◌, ◌≢◌, ◌<◌, ◌≤◌, ◌+◌, ℕ, ℤ, List, length, get_or, set, sym, ap, ◌∙◌, ⊎_elim, arith, subst}
-use Rattle.std.specs.List.{All}
-use Rattle.std.proofs.lemmas.Bool.{cases_eq, cases_lt}
-use Rattle.std.proofs.lemmas.List.{get_or-set_same, get_or-set_other, get_or_default}
+use Rattle.std.{proofs.lemmas.{Bool.{cases_eq, cases_lt}, List.{get_or-set_same, get_or-set_other, get_or_default}}, specs.List.All}
 use Rattle.tp_base.specs.declared.TaskId.{TaskId}
-use Rattle.tp_graph.specs.Serial.{Results}
-use Rattle.tp_graph.specs.Found.{IsPlaceOf, ArePlaces}
+use Rattle.tp_graph.specs.{Found.{IsPlaceOf, ArePlaces}, Serial.Results}
 
 -- the index after this many first results
 pub record ArePlacesTo (tasks : ℕ) (results : Results) (seen : ℕ) (places : List ℕ) : Type 0 where

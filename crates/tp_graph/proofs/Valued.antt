@@ -1,9 +1,7 @@
 -- Values of tasks: how they follow from the values of lower tasks.
 use Rattle.std.proofs.Common.{◌≡◌, ◌≢◌, ◌<◌, ℕ, zero, suc, ◌^◌, ℤ, pos, List, [], ◌∷◌, length, get_or, Option, Some, refl, ap, ◌∙◌, true}
-use Rattle.std.proofs.Common.{false, eqb, arith, ⊎_elim}
-use Rattle.std.proofs.lemmas.Bool.Decides.{nat_tests, eqb_tells}
-use Rattle.tp_graph.specs.Graphs.{TaskGraph, IsLawful}
-use Rattle.tp_graph.specs.Values.{value_of, values_below, fitting, gather, then_some, outcome, AreInputs}
+use Rattle.std.proofs.{Common.{false, eqb, arith, ⊎_elim}, lemmas.Bool.Decides.{nat_tests, eqb_tells}}
+use Rattle.tp_graph.specs.{Graphs.{TaskGraph, IsLawful}, Values.{value_of, values_below, fitting, gather, then_some, outcome, AreInputs}}
 
 -- two lists that agree below a number gather to the same list
 pub gather-same : {A : Type 0} (n : ℕ) (f h : ℕ → Option A) → ((s : ℕ) → s < n → f s ≡ h s) → gather n f ≡ gather n h

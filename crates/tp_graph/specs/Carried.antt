@@ -1,12 +1,7 @@
 -- What contracts see of the types that carry values.
 use Rattle.std.specs.Prelude.{◌≡◌, ◌<◌, ◌≤◌, ℕ, ℤ, List, Some}
-use Rattle.tp_base.specs.declared.ids.TaskId.{TaskId}
-use Rattle.tp_base.specs.declared.ids.NodeId.{NodeId}
-use Rattle.tp_base.specs.declared.ids.MessageId.{MessageId}
-use Rattle.tp_base.specs.declared.ids.Generation.{Generation}
-use Rattle.tp_graph.specs.Graphs.{TaskGraph}
-use Rattle.tp_graph.specs.Values.{value_of, AreInputs}
-use Rattle.tp_graph.specs.declared.feed.Feed.{Feed}
+use Rattle.tp_base.specs.declared.ids.{Generation.Generation, MessageId.MessageId, NodeId.NodeId, TaskId.TaskId}
+use Rattle.tp_graph.specs.{Graphs.TaskGraph, Values.{value_of, AreInputs}, declared.feed.Feed.Feed}
 
 -- one of the feeds of a task goes to that slot of that target
 pub record IsFeed (g : TaskGraph) (feed : Feed) : Type 0 where

@@ -1,11 +1,9 @@
 -- How many events a run of a task graph takes, counting those of its tasks and of its messages. Waves, opening actions, named
 -- actions and the reopening of a pool are not counted here.
 use Rattle.std.specs.Prelude.{ℕ, ◌+◌, ◌-◌, ◌*◌, ◌==◌, ◌≡◌, List, Bool, true, false, nat_lt, if◌then◌else◌}
-use Rattle.tp_base.specs.declared.Step.{Step}
-use Rattle.tp_base.specs.declared.Step.TheVariants.{Insert, Supply, Begin, Done, Send, Recv, MessageEnd}
+use Rattle.tp_base.specs.{Totals.total, declared.Step.{Step, TheVariants.{Insert, Supply, Begin, Done, Send, Recv, MessageEnd}}}
 use Rattle.tp_graph.specs.Graphs.{TaskGraph}
 use Rattle.tp_wave.specs.Steps.{count, is_recv, is_send}
-use Rattle.tp_base.specs.Totals.{total}
 
 -- ---- counted on the graph
 

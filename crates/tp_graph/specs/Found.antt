@@ -1,6 +1,5 @@
 -- Results in any order: the positions of those of tasks, and how many a task has.
-use Rattle.std.specs.Prelude.{◌≡◌, ◌<◌, ◌==◌, ℕ, ℤ, List, length, slice_index_or, nat_lt, if◌then◌else◌}
-use Rattle.std.specs.List.{count_by}
+use Rattle.std.specs.{List.count_by, Prelude.{◌≡◌, ◌<◌, ◌==◌, ℕ, ℤ, List, length, slice_index_or, nat_lt, if◌then◌else◌}}
 use Rattle.tp_base.specs.declared.TaskId.{TaskId}
 use Rattle.tp_graph.specs.Serial.{Results}
 

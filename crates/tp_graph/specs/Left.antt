@@ -1,8 +1,6 @@
 -- The results of a run: the values that a graph keeps.
 use Rattle.std.specs.Prelude.{◌≡◌, ℕ, ℤ, IsTrue, List, [], Option, Some, All, if◌then◌else◌}
-use Rattle.tp_graph.specs.Graphs.{TaskGraph}
-use Rattle.tp_graph.specs.Serial.{Results}
-use Rattle.tp_graph.specs.Values.{then_some, value_of}
+use Rattle.tp_graph.specs.{Graphs.TaskGraph, Serial.Results, Values.{then_some, value_of}}
 
 -- what is left of a value of task t: the value if the graph keeps it, and else no numbers
 abbrev pub left_of : TaskGraph → ℕ → List ℤ → List ℤ

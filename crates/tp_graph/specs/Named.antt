@@ -1,8 +1,6 @@
 -- A name that names one value.
-use Rattle.std.specs.Prelude.{◌≡◌, Option, Some, None, ⊤}
-use Rattle.std.specs.Option.{unwrap_or}
-use Rattle.std.specs.Coded.{Coded, coded_option, Coded-set}
-use Rattle.std.proofs.Common.{ap, ◌∙◌, refl}
+use Rattle.std.{proofs.Common.{ap, ◌∙◌, refl}, specs.{Coded.{Coded, coded_option, Coded-set}, Option.unwrap_or, Prelude.{◌≡◌, Option}}}
+use Rattle.std.specs.Prelude.{Some, None, ⊤}
 use mathlib.Core.Path.{path_j, path_j', contract}
 
 -- there is one proof that a value is the one named

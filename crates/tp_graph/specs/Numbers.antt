@@ -1,8 +1,6 @@
 -- The numbers of a value, however they are stored.
-use Rattle.std.specs.Prelude.{◌<◌, List, [], ◌∷◌, length, ℤ}
-use Rattle.std.specs.Arc.{arc_value}
-use Rattle.tp_graph.specs.declared.numbers.Numbers.{Numbers}
-use Rattle.tp_graph.specs.declared.numbers.Numbers.TheVariants.{Empty, Lone, Shared}
+use Rattle.std.specs.{Arc.arc_value, Prelude.{◌<◌, List, [], ◌∷◌, length, ℤ}}
+use Rattle.tp_graph.specs.declared.numbers.Numbers.{Numbers, TheVariants.{Empty, Lone, Shared}}
 
 -- the numbers of a value as a list, wherever they are stored
 abbrev pub listed : Numbers → List ℤ

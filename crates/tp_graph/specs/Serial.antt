@@ -1,10 +1,7 @@
 -- The results of a graph that is computed on one thread.
 use Rattle.std.specs.Prelude.{◌≡◌, ◌<◌, ◌⊎◌, ℕ, ℤ, List, Some, None, length, slice_index_or, All}
-use Rattle.tp_base.specs.declared.TaskId.{TaskId}
-use Rattle.tp_base.specs.declared.Refusal.{Refusal}
-use Rattle.tp_base.specs.declared.Refusal.TheVariants.{BodyFailed, NoMemory}
-use Rattle.tp_graph.specs.Graphs.{TaskGraph}
-use Rattle.tp_graph.specs.Values.{value_of}
+use Rattle.tp_base.specs.declared.{Refusal.{Refusal, TheVariants.{BodyFailed, NoMemory}}, TaskId.TaskId}
+use Rattle.tp_graph.specs.{Graphs.TaskGraph, Values.value_of}
 
 -- results, each a task and numbers
 abbrev pub Results : Type 0

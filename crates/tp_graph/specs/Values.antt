@@ -1,8 +1,7 @@
 -- The value of each task, as the graph defines it.
 use Rattle.std.specs.Prelude.{◌≡◌, ◌<◌, ◌^◌, ◌&&◌, ◌⊎◌, ℕ, suc, zero, ℤ, pos, negsuc, Bool, true, List, [], ◌∷◌, Option, Some, None}
 use Rattle.std.specs.Prelude.{if◌then◌else◌, ◌==◌, nat_lt, length, slice_index_or}
-use Rattle.tp_base.specs.declared.Refusal.{Refusal}
-use Rattle.tp_base.specs.declared.Refusal.TheVariants.{BodyFailed, NoMemory}
+use Rattle.tp_base.specs.declared.Refusal.{Refusal, TheVariants.{BodyFailed, NoMemory}}
 use Rattle.tp_graph.specs.Graphs.{TaskGraph}
 
 -- a number of 64 bits

@@ -15,8 +15,7 @@ pub struct ValueBuilder {
 
 impl Model for ValueBuilder {
     ghost use Rattle.std.specs.Prelude.{◌≡◌, ◌-◌, true, vec_len, vec_capacity};
-    ghost use Rattle.tp_graph.specs.Building.{Building};
-    ghost use Rattle.tp_graph.specs.Values.{all_fit};
+    ghost use Rattle.tp_graph.specs.{Building.Building, Values.all_fit};
 
     ghost Value = { Building };
 

@@ -1,7 +1,6 @@
 //! Feeds: the edges of a task graph, with their two ends.
 ghost use Rattle.std.specs.Prelude.{◌≡◌, ◌<◌, ℤ, List, Some};
-ghost use Rattle.tp_graph.specs.Carried.{feed_at, IsFeed};
-ghost use Rattle.tp_graph.specs.Values.{value_of, IsInput};
+ghost use Rattle.tp_graph.specs.{Carried.{feed_at, IsFeed}, Values.{value_of, IsInput}};
 
 use crate::graph::Graph;
 use tp_base::TaskId;

@@ -1,11 +1,7 @@
 //! Finds values in the results of a run, which are in the order in which tasks finished.
-ghost use Rattle.std.specs.Prelude.{◌≡◌, ◌≢◌, ◌<◌, ℕ, All, Contains, IfOk, IfNone, IfSome, IsTrue, Some};
-ghost use Rattle.std.specs.List.Sorted.{IsPermutation};
-ghost use Rattle.tp_graph.specs.Found.{ArePlaces, HasEachOnce};
-ghost use Rattle.tp_graph.specs.Graphs.{TaskGraph};
-ghost use Rattle.tp_graph.specs.Left.{AreKept, AreResults};
-ghost use Rattle.tp_graph.specs.Serial.{AreInTaskOrder, AreRight, AreValues};
-ghost use Rattle.tp_graph.specs.Values.{value_of};
+ghost use Rattle.std.specs.{List.Sorted.IsPermutation, Prelude.{◌≡◌, ◌≢◌, ◌<◌, ℕ, All, Contains, IfOk, IfNone, IfSome, IsTrue, Some}};
+ghost use Rattle.tp_graph.specs.{Found.{ArePlaces, HasEachOnce}, Graphs.TaskGraph, Left.{AreKept, AreResults}, Serial.AreInTaskOrder};
+ghost use Rattle.tp_graph.specs.{Serial.{AreRight, AreValues}, Values.value_of};
 
 use crate::value::Value;
 use std::alloc::{AllocError, Global};

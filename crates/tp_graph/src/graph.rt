@@ -1,7 +1,6 @@
 //! The trait of task graphs, and graphs that can be compared.
 ghost use Rattle.std.specs.Prelude.{◌≡◌, ◌<◌, ◌≤◌, ◌↔◌, ℕ, true, IsTrue, MatchResult, Some};
-ghost use Rattle.tp_graph.specs.Graphs.{TaskGraph, IsLawful};
-ghost use Rattle.tp_graph.specs.Values.{outcome, AreInputs, IsRefusal};
+ghost use Rattle.tp_graph.specs.{Graphs.{TaskGraph, IsLawful}, Values.{outcome, AreInputs, IsRefusal}};
 
 use crate::value::Value;
 use std::alloc::Global;

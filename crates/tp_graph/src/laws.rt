@@ -1,9 +1,7 @@
 //! Laws of values and results: calls whose postcondition is a theorem.
 ghost use Rattle.std.specs.Prelude.{◌≡◌, ◌<◌, ◌↔◌, ℕ, ℤ, List};
-ghost use Rattle.tp_graph.specs.Graphs.{KeepsAll};
-ghost use Rattle.tp_graph.specs.Left.{AreKept, AreResults};
-ghost use Rattle.tp_graph.specs.Serial.{AreRight, Results};
-ghost use Rattle.tp_graph.specs.Values.{value_of, outcome, AreInputs};
+ghost use Rattle.tp_graph.specs.{Graphs.KeepsAll, Left.{AreKept, AreResults}, Serial.{AreRight, Results}, Values.{value_of, outcome}};
+ghost use Rattle.tp_graph.specs.Values.{AreInputs};
 
 use crate::graph::Graph;
 

@@ -20,8 +20,7 @@ pub struct Link<M: Routed> {
 }
 
 impl<M: Routed> Model for Link<M> {
-    ghost use Rattle.std.specs.Prelude.{◌-◌};
-    ghost use Rattle.std.specs.VecDeque.{deque_len, deque_capacity};
+    ghost use Rattle.std.specs.{Prelude.◌-◌, VecDeque.{deque_len, deque_capacity}};
     ghost use Rattle.tp_graph.specs.Link.{Line};
 
     ghost Value = { Line M };

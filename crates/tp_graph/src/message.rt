@@ -1,7 +1,6 @@
 //! Messages, which carry a value to a task at another node, and parcels, which are received messages.
 ghost use Rattle.std.specs.Prelude.{◌≡◌, ◌<◌, Some};
-ghost use Rattle.tp_graph.specs.Carried.{Carried, IsFeed};
-ghost use Rattle.tp_graph.specs.Values.{value_of, IsInput};
+ghost use Rattle.tp_graph.specs.{Carried.{Carried, IsFeed}, Values.{value_of, IsInput}};
 
 use crate::feed::Feed;
 use crate::graph::Graph;

@@ -1,8 +1,6 @@
 //! Computes a graph on one thread, without a pool.
 ghost use Rattle.std.specs.Prelude.{◌≡◌, ◌<◌, Some, IfOk, MatchResult};
-ghost use Rattle.tp_graph.specs.Producers.{IsTable};
-ghost use Rattle.tp_graph.specs.Serial.{AreValues, IsSerialRefusal};
-ghost use Rattle.tp_graph.specs.Values.{value_of, AreInputs, IsRefusal};
+ghost use Rattle.tp_graph.specs.{Producers.IsTable, Serial.{AreValues, IsSerialRefusal}, Values.{value_of, AreInputs, IsRefusal}};
 
 use crate::body::run_body;
 use crate::graph::Graph;

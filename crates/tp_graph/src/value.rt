@@ -1,8 +1,7 @@
 //! Values of tasks: short lists of 64-bit numbers that are shared, not copied.
-ghost use Rattle.std.specs.Prelude.{◌≡◌, ◌<◌, ◌≤◌, ◌+ℤ◌, [], ◌∷◌, true, false, length, Some, None, IsOk, OnErr, IfOk, IfErr, MatchResult};
-ghost use Rattle.std.specs.Cmp.{int_eq_equiv, on_equiv, on_per, partial_equiv_from_equiv};
-ghost use Rattle.std.specs.Cmp.Lexicographic.{pointwise, lists_equiv};
-ghost use Rattle.std.specs.Ordering.{int_eq};
+ghost use Rattle.std.specs.Cmp.{int_eq_equiv, on_equiv, on_per, partial_equiv_from_equiv, Lexicographic.{pointwise, lists_equiv}};
+ghost use Rattle.std.specs.{Ordering.int_eq, Prelude.{◌≡◌, ◌<◌, ◌≤◌, ◌+ℤ◌, [], ◌∷◌, true, false, length, Some, None, IsOk, OnErr, IfOk}};
+ghost use Rattle.std.specs.Prelude.{IfErr, MatchResult};
 ghost use Rattle.tp_base.specs.declared.Refusal.TheVariants.{BodyFailed};
 ghost use Rattle.tp_graph.specs.Values.{all_fit, fits, lone_of};
 

@@ -1,7 +1,6 @@
 -- The first refusal of some checks stays the same if more checks follow.
 use Rattle.std.proofs.Common.{◌≡◌, List, [], ◌∷◌, ◌++◌, true, false, Some}
-use Rattle.tp_base.specs.declared.Refusal.{Refusal}
-use Rattle.tp_base.specs.Checks.{Check, first_refusal}
+use Rattle.tp_base.specs.{Checks.{Check, first_refusal}, declared.Refusal.Refusal}
 
 pub first_refusal-append : (checks rest : List Check) (e : Refusal)
     → Some e ≡ first_refusal checks → Some e ≡ first_refusal (checks ++ rest)

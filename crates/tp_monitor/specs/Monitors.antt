@@ -2,14 +2,10 @@
 -- counters.
 use Rattle.std.specs.Prelude.{ℕ, ℤ, pos, ◌+◌, ◌-◌, ◌+ℤ◌, ◌≡◌, ◌==◌, ◌&&◌, ◌≤◌, int_lt, unsigned_abs, List, [], ◌∷◌, ◌++◌, Bool, true, false}
 use Rattle.std.specs.Prelude.{not, IsTrue, Option, Some, None, is_some, if◌then◌else◌}
-use Rattle.tp_base.specs.declared.PoolId.{PoolId}
-use Rattle.tp_base.specs.declared.Refusal.TheVariants.{NoTask, WrongLife, Inactive, NoAction, HistoryFull, StoreFull, NoPool, PoolKnown}
-use Rattle.tp_base.specs.declared.limits.TheConstants.{MAX_LIVE_TASKS, MAX_STEPS}
-use Rattle.tp_monitor.specs.declared.numbers.MonitorNumbers.{MonitorNumbers}
-use Rattle.tp_monitor.specs.declared.numbers.TheConstants.{MAX_ACTIONS}
-use Rattle.tp_monitor.specs.declared.state.TaskpoolState.{TaskpoolState}
+use Rattle.tp_base.specs.{Checks.Check, declared.{PoolId.PoolId, Refusal.TheVariants.{NoTask, WrongLife, Inactive, NoAction, HistoryFull}}}
+use Rattle.tp_base.specs.declared.{Refusal.TheVariants.{StoreFull, NoPool, PoolKnown}, limits.TheConstants.{MAX_LIVE_TASKS, MAX_STEPS}}
+use Rattle.tp_monitor.specs.declared.{numbers.{MonitorNumbers.MonitorNumbers, TheConstants.MAX_ACTIONS}, state.TaskpoolState.TaskpoolState}
 use Rattle.tp_monitor.specs.declared.state.TaskpoolState.TheVariants.{NotMonitored, NotReady, Busy, Idle, Terminated}
-use Rattle.tp_base.specs.Checks.{Check}
 
 -- What contracts see of a monitor: the pool that it monitors, if any, its counters, and whether termination was announced.
 pub record Monitored : Type 0 where

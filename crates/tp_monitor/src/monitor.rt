@@ -1,6 +1,5 @@
 //! The calls of a monitor, with their checks in order.
-ghost use Rattle.std.specs.Prelude.{◌≡◌, ◌+ℤ◌, pos, true, false, IfSome, OnOk, OnErr};
-ghost use Rattle.std.specs.Result.{result_err};
+ghost use Rattle.std.specs.{Prelude.{◌≡◌, ◌+ℤ◌, pos, true, false, IfSome, OnOk, OnErr}, Result.result_err};
 ghost use Rattle.tp_base.specs.Checks.{first_refusal};
 ghost use Rattle.tp_monitor.specs.Monitors.{
   IsWithinLimits,

@@ -1,30 +1,14 @@
 -- How the results of consecutive calls combine.
 use Rattle.std.proofs.Common.{◌≡◌, ℕ, suc, ◌-◌, List, [], ◌∷◌, length, Option, Some, None, MatchOption, cond, refl, sym, ap, subst, ◌∙◌}
-use Rattle.std.proofs.Common.{arith}
-use Rattle.std.specs.Prelude.{Result, Ok, Err, OnErr, OnOk, drop, slice_get}
-use Rattle.std.proofs.lemmas.List.Elements.{All-cons, All-drop}
-use Rattle.tp_base.specs.declared.refusal.Refusal.{Refusal}
+use Rattle.std.{proofs.{Common.arith, lemmas.{Cmp.{nat_cmp_total, eq_by_cmp_equiv}, List.Elements.{All-cons, All-drop}}}, specs.List.All}
+use Rattle.std.specs.Prelude.{Result, Ok, Err, OnErr, OnOk, drop, slice_get, IsTrue}
+use Rattle.tp_base.specs.{Checks.{Check, first_refusal}, History.Event, declared.{ids.MessageId.MessageId, refusal.Refusal.Refusal}}
 use Rattle.tp_base.specs.declared.refusal.Refusal.TheVariants.{NoMemory}
-use Rattle.tp_board.specs.Calls.{AnswersFirst, AnswersWith}
-use Rattle.std.specs.Prelude.{IsTrue}
-use Rattle.tp_base.specs.History.{Event}
-use Rattle.tp_graph.specs.Carried.{Carried}
-use Rattle.tp_graph.specs.Graphs.{TaskGraph}
-use Rattle.tp_graph.specs.declared.feed.Feed.{Feed}
-use Rattle.tp_wave.specs.Generations.{present}
-use Rattle.tp_wave.specs.Machine.{is_send_to, steps_of}
-use Rattle.tp_wave.specs.Steps.{any}
+use Rattle.tp_board.specs.{Calls.{AnswersFirst, AnswersWith}, Numbers.LinkNumbers}
+use Rattle.tp_graph.specs.{Carried.Carried, Graphs.TaskGraph, Link.Line, declared.feed.Feed.Feed}
+use Rattle.tp_node.specs.{Locals.{LocalState, Numbers}, Nodes.{HasBrought, NodeState, with_received}, PoolLinks.{IsOnWay, IsPoolLink}}
+use Rattle.tp_wave.specs.{Generations.present, Machine.{is_send_to, steps_of}, Steps.any}
 use Rattle.std.specs.FinMap as finite
-use Rattle.std.specs.List.{All}
-use Rattle.std.proofs.lemmas.Cmp.{nat_cmp_total, eq_by_cmp_equiv}
-use Rattle.tp_base.specs.declared.ids.MessageId.{MessageId}
-use Rattle.tp_node.specs.Locals.{LocalState}
-use Rattle.tp_node.specs.Nodes.{HasBrought, NodeState, with_received}
-use Rattle.tp_node.specs.PoolLinks.{IsOnWay, IsPoolLink}
-use Rattle.tp_board.specs.Numbers.{LinkNumbers}
-use Rattle.tp_graph.specs.Link.{Line}
-use Rattle.tp_node.specs.Locals.{Numbers}
-use Rattle.tp_base.specs.Checks.{Check, first_refusal}
 
 -- the same refusal, with what is returned
 module _ (A : Type 0) {B : Type 0} (checks : List Check) (e : Refusal) (back : B) where

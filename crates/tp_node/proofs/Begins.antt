@@ -1,32 +1,19 @@
 -- The result of beginning several tasks in a row.
 use Rattle.std.proofs.Common.{◌≡◌, ℕ, zero, suc, ◌+◌, ◌<◌, ◌≤◌, true, false, List, [], ◌∷◌, ◌++◌, map, take, drop, Option, Some, None}
-use Rattle.std.proofs.Common.{is_some, unwrap_or}
-use Rattle.std.proofs.Common.{refl, sym, ap, subst, ◌∙◌, inl, inr, arith, count_by, add-one}
-use Rattle.std.specs.Prelude.{IfSome, MatchOption, Result, Ok, max, nat_lt, reverse}
-use Rattle.std.specs.Option.{option_map}
-use Rattle.std.specs.Ordering.{nat_cmp}
-use Rattle.std.specs.FinMap as finite
-use Rattle.std.proofs.lemmas.Bool.{cases_eq}
-use Rattle.std.proofs.lemmas.Bool.Decides.{nat_tests}
-use Rattle.std.proofs.lemmas.List.{length-append, map-append, reverse-append}
-use Rattle.tp_base.specs.History.{Event}
-use Rattle.tp_base.specs.declared.ids.TaskId.{TaskId}
-use Rattle.tp_base.specs.declared.refusal.Refusal.{Refusal}
-use Rattle.tp_base.specs.declared.step.Step.TheVariants as steps
-use Rattle.tp_board.specs.Calls.{Appends}
-use Rattle.tp_board.proofs.Answering.{same_answer}
-use Rattle.tp_board.specs.Numbers.{event}
-use Rattle.tp_board.specs.States.{AnswersBy, BoardState, full_check, with_reserved}
+use Rattle.std.proofs.{Common.{is_some, unwrap_or, refl, sym, ap, subst, ◌∙◌, inl, inr, arith, count_by, add-one}, lemmas.Bool.cases_eq}
+use Rattle.std.{proofs.lemmas.{Bool.Decides.nat_tests, List.{length-append, map-append, reverse-append}}, specs.Option.option_map}
+use Rattle.std.specs.{Ordering.nat_cmp, Prelude.{IfSome, MatchOption, Result, Ok, max, nat_lt, reverse}}
+use Rattle.tp_base.specs.{History.Event, declared.{ids.TaskId.TaskId, refusal.Refusal.Refusal}}
+use Rattle.tp_board.{proofs.Answering.same_answer, specs.{Calls.Appends, Numbers.event, States.{AnswersBy, BoardState, full_check}}}
+use Rattle.tp_board.specs.States.{with_reserved}
 use Rattle.tp_graph.specs.Carried.{Begun}
-use Rattle.tp_node.specs.Begins.{AreWorksOf, BeginsSome, IsWorkOf, begins_of, begun_with_each, joined, next_ready, ready_count}
-use Rattle.tp_node.specs.Calls.{Begins, Rests}
-use Rattle.tp_node.specs.Nodes.{NodeState, begun_with, event_of}
-use Rattle.tp_node.proofs.Right.{here, there}
+use Rattle.tp_node.{proofs.Right.{here, there}, specs.Begins.{AreWorksOf, BeginsSome, IsWorkOf, begins_of, begun_with_each, joined}}
+use Rattle.tp_node.specs.{Begins.{next_ready, ready_count}, Calls.{Begins, Rests}, Nodes.{NodeState, begun_with, event_of}}
 use Rattle.tp_slots.specs.Content.{front, without_front}
-use Rattle.tp_store.specs.Content.{Content, Task, begun, count_lives, is_ready, life_of, task_of, values_of, with_begun}
-use Rattle.tp_store.specs.Sound.{IsSound}
-use Rattle.tp_store.specs.declared.life.Life.TheVariants.{Ready, Running}
-use Rattle.tp_store.proofs.Contents.{available, moves}
+use Rattle.tp_store.{proofs.Contents.{available, moves}, specs.Content.{Content, Task, begun, count_lives, is_ready, life_of, task_of}}
+use Rattle.tp_store.specs.{Content.{values_of, with_begun}, Sound.IsSound, declared.life.Life.TheVariants.{Ready, Running}}
+use Rattle.std.specs.FinMap as finite
+use Rattle.tp_base.specs.declared.step.Step.TheVariants as steps
 
 -- ---- the lists of ready tasks
 joined_front : {X : Type 0} (rs : List (List X)) (x : X) → front rs ≡ Some x → joined rs ≡ x ∷ joined (without_front rs)

@@ -1,13 +1,10 @@
 -- If the action of a message is open at a node, something is pending there.
 use Rattle.std.proofs.Common.{ℕ, ◌+◌, ◌<◌, IsTrue, is_some, ap, arith}
+use Rattle.tp_graph.specs.{Carried.Carried, Graphs.TaskGraph}
+use Rattle.tp_node.{proofs.FiniteMaps.feeds_some, specs.{Actions.{has_message, opening_count}, Nodes.{NodeState, HasBrought, IsNode}}}
+use Rattle.tp_store.specs.Content.{unfinished}
 use Rattle.std.specs.FinMap as finite
 use Rattle.std.specs.FinSet as set
-use Rattle.tp_graph.specs.Carried.{Carried}
-use Rattle.tp_graph.specs.Graphs.{TaskGraph}
-use Rattle.tp_node.proofs.FiniteMaps.{feeds_some}
-use Rattle.tp_node.specs.Actions.{has_message, opening_count}
-use Rattle.tp_node.specs.Nodes.{NodeState, HasBrought, IsNode}
-use Rattle.tp_store.specs.Content.{unfinished}
 
 among : (tasks named messages opening : ℕ) → 0 < messages → 0 < tasks + (named + messages + opening)
 among tasks named messages opening some = omega (arith, some)

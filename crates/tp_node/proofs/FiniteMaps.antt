@@ -1,14 +1,11 @@
 -- Lists of entries as finite maps.
 use Rattle.std.proofs.Common.{◌≡◌, ℕ, ◌+◌, ◌-◌, ◌<◌, arith, List, [], ◌∷◌, true, false, cond, Option, Some, None, is_some, refl, sym, ◌∙◌}
-use Rattle.std.proofs.Common.{ap}
-use Rattle.std.specs.FinMap as finite
-use mathlib.Core.Bool.{true≢false}
-use Rattle.std.specs.Ordering.{nat_cmp, eq_by_cmp}
-use Rattle.std.specs.BTreeMap.{is_at}
-use Rattle.std.specs.Map.{lookup}
-use Rattle.std.proofs.lemmas.Cmp.{nat_cmp_total, eq_by_cmp_equiv}
+use Rattle.std.{proofs.{Common.ap, lemmas.Cmp.{nat_cmp_total, eq_by_cmp_equiv}}, specs.{BTreeMap.is_at, Map.lookup, Ordering.nat_cmp}}
+use Rattle.std.specs.Ordering.{eq_by_cmp}
 use Rattle.tp_graph.specs.declared.feed.Feed.{Feed}
 use Rattle.tp_node.proofs.FiniteSets.{above_zero}
+use mathlib.Core.Bool.{true≢false}
+use Rattle.std.specs.FinMap as finite
 
 abbrev feeds : List (ℕ × Feed) → finite.FinMap nat_cmp Feed
 feeds es = finite.from_entries es

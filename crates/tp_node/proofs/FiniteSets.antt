@@ -1,10 +1,8 @@
 -- Rising lists of numbers as finite sets.
 use Rattle.std.proofs.Common.{◌≡◌, ℕ, ◌+◌, ◌-◌, ◌<◌, zero, suc, arith, List, Bool, true, false, cond, not, ◌||◌, ◌&&◌, refl, sym, ◌∙◌, ap}
-use Rattle.std.specs.FinSet as set
+use Rattle.std.{proofs.lemmas.Cmp.{nat_cmp_total, eq_by_cmp_equiv}, specs.{List.list_any, Ordering.{nat_cmp, eq_by_cmp}}}
 use mathlib.Core.Bool.{true≢false}
-use Rattle.std.specs.Ordering.{nat_cmp, eq_by_cmp}
-use Rattle.std.specs.List.{list_any}
-use Rattle.std.proofs.lemmas.Cmp.{nat_cmp_total, eq_by_cmp_equiv}
+use Rattle.std.specs.FinSet as set
 
 abbrev has : List ℕ → ℕ → Bool
 has keys q = list_any (eq_by_cmp nat_cmp q) keys

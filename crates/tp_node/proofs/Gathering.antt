@@ -1,18 +1,11 @@
 -- The sums over consecutive nodes.
-use Rattle.std.proofs.Common.{◌≡◌, List, [], ◌∷◌, ◌++◌, length, map, refl, sym, ap, subst, ◌∙◌, arith}
-use Rattle.std.specs.Prelude.{Some}
-use Rattle.std.specs.List.{All, flat_map}
+use Rattle.std.proofs.{Common.{◌≡◌, List, [], ◌∷◌, ◌++◌, length, map, refl, sym, ap, subst, ◌∙◌, arith}, Math.Seq.get_or-append_seam}
 use Rattle.std.proofs.lemmas.List.{flat_map_more, get_or-map, get_or_append_left, length-append, length-map, map-append}
-use Rattle.std.proofs.Math.Seq.{get_or-append_seam}
-use Rattle.std.proofs.lemmas.List.Elements.{All-append}
+use Rattle.std.{proofs.lemmas.List.Elements.All-append, specs.{List.{All, flat_map}, Prelude.Some}}
 use Rattle.tp_base.specs.declared.ids.TaskId.{TaskId}
-use Rattle.tp_graph.specs.Graphs.{TaskGraph}
-use Rattle.tp_graph.specs.Left.{AreResults, result_of}
-use Rattle.tp_graph.specs.Serial.{Results}
-use Rattle.tp_board.specs.Numbers.{ShareNumbers}
-use Rattle.tp_board.specs.Reopening.{begun_anew}
-use Rattle.tp_node.specs.Nodes.{NodeState, anew}
-use Rattle.tp_node.specs.Locals.{Numbers}
+use Rattle.tp_board.specs.{Numbers.ShareNumbers, Reopening.begun_anew}
+use Rattle.tp_graph.specs.{Graphs.TaskGraph, Left.{AreResults, result_of}, Serial.Results}
+use Rattle.tp_node.specs.{Locals.Numbers, Nodes.{NodeState, anew}}
 
 -- the images of a list, and of one more element
 pub mapped-more : {X Y : Type 0} (f : X → Y) (xs : List X) (x : X) (made new : List Y) (last : Y)

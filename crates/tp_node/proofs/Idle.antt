@@ -1,22 +1,13 @@
 -- What holds if no task is unfinished.
 use Rattle.std.proofs.Common.{◌≡◌, ℕ, ◌+◌, ◌<◌, ◌==◌, Bool, true, false, cond, [], ◌∷◌, Option, Some, None, is_some, unwrap_or, count_by}
-use Rattle.std.proofs.Common.{refl, sym, ap, ◌∙◌, arith}
-use Rattle.std.specs.Prelude.{if◌then◌else◌, not, IsTrue, IfSome, OnSome}
-use Rattle.std.specs.Option.{option_map}
+use Rattle.std.{proofs.Common.{refl, sym, ap, ◌∙◌, arith}, specs.{Option.option_map, Prelude.{if◌then◌else◌, not, IsTrue, IfSome, OnSome}}}
+use Rattle.tp_base.specs.{Checks.first_refusal, declared.{ids.TaskId.TaskId, refusal.Refusal.TheVariants.WrongLife}}
+use Rattle.tp_monitor.specs.{Monitors.is_idle, declared.TaskpoolState.TheVariants.{NotReady, Busy, Idle, Terminated}}
+use Rattle.tp_node.specs.{Actions.opening_count, Locals.{LocalState, finish_checks, is_live, pending_here, Numbers, EachOnce}}
+use Rattle.tp_store.{proofs.Counting.passing-insert, specs.Content.{Task, Content, task_of, life_of, done, unfinished, is_unfinished}}
+use Rattle.tp_store.specs.{Content.is_done, Sound.{IsSound, times_done}, declared.life.Life.{Life, TheVariants.{Waiting, Ready, Running}}}
+use Rattle.tp_store.specs.declared.life.Life.TheVariants.{Done}
 use Rattle.std.specs.FinMap as finite
-use Rattle.tp_base.specs.declared.ids.TaskId.{TaskId}
-use Rattle.tp_base.specs.declared.refusal.Refusal.TheVariants.{WrongLife}
-use Rattle.tp_monitor.specs.Monitors.{is_idle}
-use Rattle.tp_monitor.specs.declared.TaskpoolState.TheVariants.{NotReady, Busy, Idle, Terminated}
-use Rattle.tp_base.specs.Checks.{first_refusal}
-use Rattle.tp_node.specs.Actions.{opening_count}
-use Rattle.tp_node.specs.Locals.{LocalState, finish_checks, is_live, pending_here}
-use Rattle.tp_node.specs.Locals.{Numbers, EachOnce}
-use Rattle.tp_store.proofs.Counting.{passing-insert}
-use Rattle.tp_store.specs.Content.{Task, Content, task_of, life_of, done, unfinished, is_unfinished, is_done}
-use Rattle.tp_store.specs.Sound.{IsSound, times_done}
-use Rattle.tp_store.specs.declared.life.Life.{Life}
-use Rattle.tp_store.specs.declared.life.Life.TheVariants.{Waiting, Ready, Running, Done}
 
 abbrev weight : Life → ℕ
 weight life = cond (is_unfinished life) 1 0

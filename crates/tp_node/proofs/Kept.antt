@@ -1,26 +1,18 @@
 -- How a node's invariant is kept when its store changes.
 use Rattle.std.proofs.Common.{◌≡◌, ℕ, ◌+◌, ◌-◌, ◌<◌, Bool, true, false, [], ◌∷◌, length, Option, Some, None, unwrap_or, refl, sym, ap}
-use Rattle.std.proofs.Common.{subst, ◌∙◌, inl, inr, arith}
-use Rattle.std.specs.Prelude.{if◌then◌else◌}
-use Rattle.std.specs.Option.{option_map}
-use Rattle.std.specs.Ordering.{nat_cmp}
-use Rattle.std.specs.FinMap as finite
-use Rattle.std.proofs.lemmas.Bool.{cases_eq}
-use Rattle.std.proofs.lemmas.List.{length-append}
-use Rattle.tp_base.specs.declared.ids.TaskId.{TaskId}
-use Rattle.tp_base.specs.declared.step.Step.{Step}
-use Rattle.tp_base.specs.declared.step.Step.TheVariants as steps
+use Rattle.std.{proofs.{Common.{subst, ◌∙◌, inl, inr, arith}, lemmas.{Bool.cases_eq, List.length-append}}, specs.Option.option_map}
+use Rattle.std.specs.{Ordering.nat_cmp, Prelude.if◌then◌else◌}
+use Rattle.tp_base.specs.declared.{ids.TaskId.TaskId, step.Step.Step}
 use Rattle.tp_board.specs.Numbers.{ShareNumbers, numbers_after}
-use Rattle.tp_graph.specs.Graphs.{TaskGraph}
-use Rattle.tp_graph.specs.Left.{result_of}
-use Rattle.tp_graph.specs.Values.{IsInput}
-use Rattle.tp_node.specs.Locals.{LocalState, pending_here}
-use Rattle.tp_node.specs.Nodes.{NodeState, AreHere, IsNode, IsCountedBy, AreRightValues, inserting, task_at, with_store}
-use Rattle.tp_node.specs.Locals.{Numbers}
-use Rattle.tp_node.proofs.Right.{here, there, right-inserted, right-delivered, right-begun, right-done}
+use Rattle.tp_graph.specs.{Graphs.TaskGraph, Left.result_of, Values.IsInput}
+use Rattle.tp_node.{proofs.Right.{here, there, right-inserted, right-delivered, right-begun, right-done}, specs.Locals.LocalState}
+use Rattle.tp_node.specs.{Locals.{pending_here, Numbers}, Nodes.{NodeState, AreHere, IsNode, IsCountedBy, AreRightValues, inserting}}
+use Rattle.tp_node.specs.Nodes.{task_at, with_store}
 use Rattle.tp_store.specs.Content.{Task, Content, nothing_stored, task_of, begun, done, fresh, with_value, with_task, with_inserted}
-use Rattle.tp_store.specs.Content.{with_delivered, with_begun, with_done, inserted_by}
-use Rattle.tp_store.specs.declared.life.Delivered.TheVariants.{Inserted, Filled}
+use Rattle.tp_store.specs.{Content.{with_delivered, with_begun, with_done, inserted_by}, declared.life.Delivered.TheVariants.Inserted}
+use Rattle.tp_store.specs.declared.life.Delivered.TheVariants.{Filled}
+use Rattle.std.specs.FinMap as finite
+use Rattle.tp_base.specs.declared.step.Step.TheVariants as steps
 
 -- a task that is unknown afterwards was unknown before
 abbrev pub KeepsKnown : Content Numbers → Content Numbers → Type 0

@@ -1,13 +1,10 @@
 -- What the tests of a node say of its store.
 use Rattle.std.proofs.Common.{◌≡◌, ℕ, ◌==◌, Bool, true, false, [], ◌∷◌, get_or, Option, Some, None, is_some, unwrap_or, refl, ap, ◌∙◌}
-use Rattle.std.specs.Prelude.{if◌then◌else◌, ◌||◌, not}
-use Rattle.std.specs.Option.{option_map}
-use Rattle.tp_base.specs.declared.ids.TaskId.{TaskId}
-use Rattle.tp_base.specs.declared.refusal.Refusal.{Refusal}
-use Rattle.tp_base.specs.declared.refusal.Refusal.TheVariants.{TaskKnown, SlotTaken, StoreFull}
+use Rattle.std.specs.{Option.option_map, Prelude.{if◌then◌else◌, ◌||◌, not}}
+use Rattle.tp_base.specs.{Checks.first_refusal, declared.{ids.TaskId.TaskId, refusal.Refusal.{Refusal, TheVariants.{TaskKnown, SlotTaken}}}}
+use Rattle.tp_base.specs.declared.refusal.Refusal.TheVariants.{StoreFull}
 use Rattle.tp_node.specs.Refused.{takes_nothing, is_taken, lacks_place}
 use Rattle.tp_store.specs.Content.{Task, Content, task_of, unfinished, has_begun, refusal_of_new, refusal_of_value, refusal_of_deliver}
-use Rattle.tp_base.specs.Checks.{first_refusal}
 
 module _ {V : Type 0} (s : Content V) (t : TaskId) where
   abbrev pub put_test : ℕ → ℕ → Option Refusal

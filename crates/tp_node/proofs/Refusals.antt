@@ -1,15 +1,10 @@
 -- What a node refuses in addition to its store.
 use Rattle.std.proofs.Common.{◌≡◌, ℕ, ◌<◌, Bool, true, false, Option, Some, None, is_some, unwrap_or, MatchOption, refl, ap, sym, ◌∙◌}
-use Rattle.std.proofs.Common.{arith, if◌then◌else◌, ◌==◌}
-use Rattle.std.specs.Option.{option_map}
+use Rattle.std.{proofs.{Common.{arith, if◌then◌else◌, ◌==◌, Result, Ok, Err}, lemmas.Bool.Decides.nat_tests}, specs.Option.option_map}
 use Rattle.std.specs.Result.{result_err}
-use Rattle.std.proofs.Common.{Result, Ok, Err}
-use Rattle.std.proofs.lemmas.Bool.Decides.{nat_tests}
-use Rattle.tp_base.specs.declared.TaskId.{TaskId}
-use Rattle.tp_base.specs.declared.Refusal.{Refusal}
-use Rattle.tp_base.specs.declared.Refusal.TheVariants.{TaskKnown, Inactive}
-use Rattle.tp_store.specs.Content.{Content, task_of, refusal_of_new, refusal_of_insert, refusal_of_deliver, refusal_of_value}
+use Rattle.tp_base.specs.declared.{Refusal.{Refusal, TheVariants.{TaskKnown, Inactive}}, TaskId.TaskId}
 use Rattle.tp_node.specs.Locals.{LocalState, pending_here, is_inactive, refusal_of_new_task, refusal_of_insertion, refusal_of_delivery}
+use Rattle.tp_store.specs.Content.{Content, task_of, refusal_of_new, refusal_of_insert, refusal_of_deliver, refusal_of_value}
 
 -- a task that is not known, at an active node
 alike : (known inactive : Bool) (kept r : Option Refusal) → known ≡ false → inactive ≡ false

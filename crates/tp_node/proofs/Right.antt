@@ -1,26 +1,16 @@
 -- What the changes of a store leave right.
 use Rattle.std.proofs.Common.{◌≡◌, ◌≢◌, ℕ, zero, suc, ◌<◌, ◌==◌, true, false, cond, List, [], ◌∷◌, length, get_or, set, map, Option, Some}
-use Rattle.std.proofs.Common.{None, unwrap_or}
-use Rattle.std.proofs.Common.{MatchOption, MatchBool, count_by, refl, sym, ap, subst, ◌∙◌, inl, inr, arith}
+use Rattle.std.proofs.Common.{None, unwrap_or, MatchOption, MatchBool, count_by, refl, sym, ap, subst, ◌∙◌, inl, inr, arith}
+use Rattle.std.{proofs.lemmas.{Bool.{cases_eq, Decides.nat_tests}, List.Elements.All-push}, specs.{Option.option_map, Ordering.nat_cmp}}
 use Rattle.std.specs.Prelude.{replicate, is_none, ◌⊎◌}
-use Rattle.std.specs.Option.{option_map}
-use Rattle.std.specs.Ordering.{nat_cmp}
-use Rattle.std.specs.FinMap as finite
-use Rattle.std.proofs.lemmas.Bool.{cases_eq}
-use Rattle.std.proofs.lemmas.Bool.Decides.{nat_tests}
-use Rattle.std.proofs.lemmas.List.Elements.{All-push}
 use Rattle.tp_base.specs.declared.ids.TaskId.{TaskId}
-use Rattle.tp_graph.specs.Graphs.{TaskGraph}
-use Rattle.tp_graph.specs.Left.{result_of}
-use Rattle.tp_graph.specs.Values.{IsInput, AreInputs}
-use Rattle.tp_node.specs.Nodes.{IsRightTask, AreRightValues}
-use Rattle.tp_node.specs.Locals.{Numbers}
+use Rattle.tp_graph.specs.{Graphs.TaskGraph, Left.result_of, Values.{IsInput, AreInputs}}
+use Rattle.tp_node.specs.{Locals.Numbers, Nodes.{IsRightTask, AreRightValues}}
 use Rattle.tp_slots.proofs.Sound.{get_inserted}
 use Rattle.tp_store.specs.Content.{Task, Content, has_begun, task_of, life_of, values_of, fresh, with_value, begun, done, with_task}
-use Rattle.tp_store.specs.Content.{with_inserted, with_delivered, with_begun, with_done}
-use Rattle.tp_store.specs.Sound.{IsTask, IsSound, lacking}
-use Rattle.tp_store.specs.declared.life.Life.{Life}
-use Rattle.tp_store.specs.declared.life.Life.TheVariants.{Waiting, Ready, Running, Done}
+use Rattle.tp_store.specs.{Content.{with_inserted, with_delivered, with_begun, with_done}, Sound.{IsTask, IsSound, lacking}}
+use Rattle.tp_store.specs.declared.life.Life.{Life, TheVariants.{Waiting, Ready, Running, Done}}
+use Rattle.std.specs.FinMap as finite
 
 module _ {V : Type 0} where
   pub here : (s : Content V) (t : TaskId) (x : Task V) (u : TaskId) → u.0 ≡ t.0 → finite.get (finite.insert s.tasks t.0 x) u.0 ≡ Some x

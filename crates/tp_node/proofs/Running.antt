@@ -1,14 +1,9 @@
 -- A task that runs at a node can be done there.
 use Rattle.std.proofs.Common.{◌≡◌, Bool, true, false, Option, Some, None, Result, Ok, Err, IsTrue, refl, sym, ◌∙◌, unwrap_or}
-use Rattle.std.specs.Prelude.{MatchBool}
-use Rattle.std.specs.Option.{option_map}
-use Rattle.tp_base.specs.declared.ids.TaskId.{TaskId}
-use Rattle.tp_base.specs.declared.refusal.Refusal.{Refusal}
-use Rattle.tp_base.specs.declared.refusal.Refusal.TheVariants.{WrongLife}
-use Rattle.tp_node.specs.Locals.{Numbers}
-use Rattle.tp_node.specs.Refused.{runs}
-use Rattle.tp_store.specs.Content.{Task, Content, task_of, life_of, is_running, refusal_of_done}
-use Rattle.tp_store.specs.declared.life.Life.{Life}
+use Rattle.std.specs.{Option.option_map, Prelude.MatchBool}
+use Rattle.tp_base.specs.declared.{ids.TaskId.TaskId, refusal.Refusal.{Refusal, TheVariants.WrongLife}}
+use Rattle.tp_node.specs.{Locals.Numbers, Refused.runs}
+use Rattle.tp_store.specs.{Content.{Task, Content, task_of, life_of, is_running, refusal_of_done}, declared.life.Life.Life}
 use Rattle.tp_store.specs.declared.life.Life.TheVariants.{Running}
 
 -- if it was found that it runs

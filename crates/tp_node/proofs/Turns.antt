@@ -1,17 +1,10 @@
 -- The result of a node's turn.
 use Rattle.std.proofs.Common.{ℕ, ◌≡◌, [], ◌∷◌, false, Option, Some, None, Result, Ok, Err, refl, sym, ap, subst, ◌∙◌, arith}
-use Rattle.std.specs.Prelude.{IfErr, IfNone, IfOk, IfSome, OnErr, OnOk, if◌then◌else◌, is_some}
-use Rattle.std.specs.List.{find}
-use Rattle.tp_base.specs.History.{Event}
-use Rattle.tp_base.specs.declared.refusal.Refusal.{Refusal}
-use Rattle.tp_base.specs.declared.step.Step.{Step}
-use Rattle.tp_board.specs.States.{AnswersBy, BoardState, IsAtPiece, full_check, with_event}
-use Rattle.tp_board.specs.Calls.{Appends}
-use Rattle.tp_node.specs.Turns.{turn_of}
-use Rattle.tp_board.specs.Turns.{IsMade, MakesFirst, control_event, ends, may_make, turn_steps}
-use Rattle.tp_node.specs.Nodes.{NodeState}
-use Rattle.tp_board.specs.declared.turn.Turn.{Turn}
-use Rattle.tp_board.specs.declared.turn.Turn.TheVariants.{Idle}
+use Rattle.std.specs.{List.find, Prelude.{IfErr, IfNone, IfOk, IfSome, OnErr, OnOk, if◌then◌else◌, is_some}}
+use Rattle.tp_base.specs.{History.Event, declared.{refusal.Refusal.Refusal, step.Step.Step}}
+use Rattle.tp_board.specs.{Calls.Appends, States.{AnswersBy, BoardState, IsAtPiece, full_check, with_event}, Turns.{IsMade, MakesFirst}}
+use Rattle.tp_board.specs.{Turns.{control_event, ends, may_make, turn_steps}, declared.turn.Turn.{Turn, TheVariants.Idle}}
+use Rattle.tp_node.specs.{Nodes.NodeState, Turns.turn_of}
 
 -- ---- the turn of a node
 nothing : (old new : BoardState) → new ≡ old → Appends [] old new

@@ -1,14 +1,12 @@
 -- Several tasks of a node that begin in a row.
 use Rattle.std.specs.Prelude.{ℕ, ◌≡◌, List, [], ◌∷◌, ◌++◌, Option, Some, length, map, reverse, take}
-use Rattle.tp_base.specs.History.{Event}
-use Rattle.tp_base.specs.declared.ids.TaskId.{TaskId}
-use Rattle.tp_base.specs.declared.step.Step.TheVariants as steps
-use Rattle.tp_board.specs.Calls.{Appends}
-use Rattle.tp_board.specs.States.{BoardState}
+use Rattle.tp_base.specs.{History.Event, declared.ids.TaskId.TaskId}
+use Rattle.tp_board.specs.{Calls.Appends, States.BoardState}
 use Rattle.tp_graph.specs.Carried.{Begun}
 use Rattle.tp_node.specs.Nodes.{NodeState, begun_with, event_of}
 use Rattle.tp_slots.specs.Content.{front}
 use Rattle.tp_store.specs.Content.{counts_of, values_of}
+use Rattle.tp_base.specs.declared.step.Step.TheVariants as steps
 
 -- the concatenation of lists
 abbrev pub joined : {X : Type 0} → List (List X) → List X

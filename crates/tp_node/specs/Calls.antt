@@ -1,18 +1,13 @@
 -- The effects of those calls of a node that return more than success.
 use Rattle.std.specs.Prelude.{ℕ, ◌≡◌, List, [], ◌∷◌, Bool, MatchBool, MatchOption, Some, Result, Err, IfErr, map}
-use Rattle.tp_base.specs.Checks.{Check, first_refusal}
-use Rattle.tp_base.specs.declared.refusal.Refusal.{Refusal}
-use Rattle.tp_base.specs.declared.refusal.Refusal.TheVariants.{NoMemory}
-use Rattle.tp_base.specs.declared.step.Step.TheVariants as steps
-use Rattle.tp_board.specs.Calls.{Appends}
-use Rattle.tp_board.specs.Numbers.{receiving}
-use Rattle.tp_board.specs.States.{BoardState}
-use Rattle.tp_graph.specs.Carried.{Begun, Carried}
-use Rattle.tp_graph.specs.Graphs.{TaskGraph}
+use Rattle.tp_base.specs.{Checks.{Check, first_refusal}, declared.refusal.Refusal.{Refusal, TheVariants.NoMemory}}
+use Rattle.tp_board.specs.{Calls.Appends, Numbers.receiving, States.BoardState}
+use Rattle.tp_graph.specs.{Carried.{Begun, Carried}, Graphs.TaskGraph}
 use Rattle.tp_node.specs.Nodes.{HasNoSeed, IsNextSeed, NodeState, after, begun_with, event_of, seeded, seeding, with_received}
 use Rattle.tp_node.specs.PoolLinks.{PoolLinkState, generation_of}
 use Rattle.tp_slots.specs.Content.{front}
 use Rattle.tp_store.specs.Content.{values_of}
+use Rattle.tp_base.specs.declared.step.Step.TheVariants as steps
 
 -- A call that makes these checks returns the first refusal that applies, with both values that were moved in. If none does, it
 -- succeeds, or an allocation fails.

@@ -1,23 +1,15 @@
 -- A node's own state: its tasks, its open actions, the messages sent and received, and whether termination was announced to it.
 -- What is pending is counted over the tasks and the actions.
-use Rattle.std.specs.Prelude.{ℕ, ℤ, ◌+◌, ◌≡◌, ◌==◌, List, [], ◌∷◌, Bool, false, not, IsTrue, Option, Some, None, is_some, if◌then◌else◌}
-use Rattle.std.specs.Prelude.{refl}
-use Rattle.std.specs.FinSet as set
-use Rattle.std.specs.Coded.{Coded, code_by, coded×, coded_ℕ, coded_bool}
-use Rattle.tp_base.specs.declared.TaskId.{TaskId}
-use Rattle.tp_base.specs.declared.Refusal.{Refusal}
-use Rattle.tp_base.specs.declared.Refusal.TheVariants.{TaskKnown, WrongLife, Inactive, ActionKnown, NoAction, HistoryFull}
-use Rattle.tp_base.specs.declared.limits.TheConstants.{MAX_STEPS}
-use Rattle.tp_monitor.specs.declared.numbers.TheConstants.{MAX_ACTIONS}
-use Rattle.tp_monitor.specs.declared.TaskpoolState.{TaskpoolState}
-use Rattle.tp_monitor.specs.declared.TaskpoolState.TheVariants.{NotReady, Busy, Idle, Terminated}
-use Rattle.tp_base.specs.Checks.{Check}
-use Rattle.tp_monitor.specs.Monitors.{Monitored, is_idle}
-use Rattle.tp_store.specs.Content.{Content, nothing_stored, task_of, unfinished, is_unfinished, refusal_of_new, refusal_of_deliver}
-use Rattle.tp_store.specs.Sound.{times_done}
-use Rattle.tp_store.specs.declared.life.Life.{Life}
-use Rattle.tp_store.specs.Codes.{content_code}
+use Rattle.std.specs.{Coded.{Coded, code_by, coded×, coded_ℕ, coded_bool}, Prelude.{ℕ, ℤ, ◌+◌, ◌≡◌, ◌==◌, List, [], ◌∷◌, Bool, false, not}}
+use Rattle.std.specs.Prelude.{IsTrue, Option, Some, None, is_some, if◌then◌else◌, refl}
+use Rattle.tp_base.specs.{Checks.Check, declared.Refusal.{Refusal, TheVariants.{TaskKnown, WrongLife, Inactive, ActionKnown, NoAction}}}
+use Rattle.tp_base.specs.declared.{Refusal.TheVariants.HistoryFull, TaskId.TaskId, limits.TheConstants.MAX_STEPS}
+use Rattle.tp_monitor.specs.{Monitors.{Monitored, is_idle}, declared.TaskpoolState.{TaskpoolState, TheVariants.{NotReady, Busy, Idle}}}
+use Rattle.tp_monitor.specs.declared.{TaskpoolState.TheVariants.Terminated, numbers.TheConstants.MAX_ACTIONS}
 use Rattle.tp_node.specs.Actions.{Actions, actions_code, first_actions, has_message, open_count}
+use Rattle.tp_store.specs.{Codes.content_code, Content.{Content, nothing_stored, task_of, unfinished, is_unfinished, refusal_of_new}}
+use Rattle.tp_store.specs.{Content.refusal_of_deliver, Sound.times_done, declared.life.Life.Life}
+use Rattle.std.specs.FinSet as set
 
 -- the content of the store, the open actions, the numbers of messages sent and received, and whether termination was announced
 pub record LocalState (V : Type 0) : Type 0 where

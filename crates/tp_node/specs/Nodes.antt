@@ -1,21 +1,14 @@
 -- What contracts see of a node, and how its calls change it.
-use Rattle.std.specs.Prelude.{ℕ, ◌+◌, ◌-◌, ◌≡◌, ◌<◌, ◌≤◌, List, true, Option, None, Some, length, is_some, MatchOption, if◌then◌else◌}
-use Rattle.std.specs.Prelude.{slice_index_or, refl}
-use Rattle.std.specs.Coded.{Coded, code_by, coded×, coded_ℕ, coded_ℤ, coded_list}
-use Rattle.tp_base.specs.History.{Event}
-use Rattle.tp_base.specs.declared.ids.TaskId.{TaskId}
-use Rattle.tp_base.specs.declared.step.Step.{Step}
-use Rattle.tp_base.specs.declared.step.Step.TheVariants as steps
+use Rattle.std.specs.{Coded.{Coded, code_by, coded×, coded_ℕ, coded_ℤ, coded_list}, Prelude.{ℕ, ◌+◌, ◌-◌, ◌≡◌, ◌<◌, ◌≤◌, List, true}}
+use Rattle.std.specs.Prelude.{Option, None, Some, length, is_some, MatchOption, if◌then◌else◌, slice_index_or, refl}
+use Rattle.tp_base.specs.{History.Event, declared.{ids.TaskId.TaskId, step.Step.Step}}
 use Rattle.tp_board.specs.Numbers.{ShareNumbers, ending, event, node_at, numbers_after, first_numbers}
-use Rattle.tp_graph.specs.Carried.{Carried}
-use Rattle.tp_graph.specs.Graphs.{TaskGraph}
-use Rattle.tp_graph.specs.Left.{AreResults}
-use Rattle.tp_graph.specs.Values.{value_of}
-use Rattle.tp_graph.specs.declared.feed.Feed.{Feed}
+use Rattle.tp_graph.specs.{Carried.Carried, Graphs.TaskGraph, Left.AreResults, Values.value_of, declared.feed.Feed.Feed}
 use Rattle.tp_node.specs.Actions.{Actions, without_opening, with_named, without_named, with_message, without_message, Brought}
 use Rattle.tp_node.specs.Locals.{LocalState, Numbers, first_state, pending_here, state_code}
-use Rattle.tp_wave.specs.Machine.{pending_at}
 use Rattle.tp_store.specs.Content.{Task, Content, task_of, with_inserted, with_delivered, with_begun, with_done}
+use Rattle.tp_wave.specs.Machine.{pending_at}
+use Rattle.tp_base.specs.declared.step.Step.TheVariants as steps
 
 -- A node has the graph that its pool computes, and the number of nodes; its own state; and its shares' numbers, which include its
 -- own number.

@@ -1,14 +1,8 @@
 -- What contracts see of a link of a pool: a queue of messages with its share.
-use Rattle.std.specs.Prelude.{ℕ, ◌≡◌, List, [], ◌∷◌, ◌++◌, length, All}
-use Rattle.tp_board.specs.Numbers.{LinkNumbers, node_at}
-use Rattle.tp_board.specs.States.{BoardState}
-use Rattle.tp_graph.specs.Carried.{Carried}
-use Rattle.tp_graph.specs.Graphs.{TaskGraph}
-use Rattle.tp_graph.specs.declared.feed.Feed.{Feed}
-use Rattle.tp_graph.specs.Link.{Line}
-use Rattle.tp_wave.specs.Generations.{generation}
-use Rattle.tp_wave.specs.Machine.{steps_of}
-use Rattle.std.specs.Prelude.{ℤ}
+use Rattle.std.specs.Prelude.{ℕ, ◌≡◌, List, [], ◌∷◌, ◌++◌, length, All, ℤ}
+use Rattle.tp_board.specs.{Numbers.{LinkNumbers, node_at}, States.BoardState}
+use Rattle.tp_graph.specs.{Carried.Carried, Graphs.TaskGraph, Link.Line, declared.feed.Feed.Feed}
+use Rattle.tp_wave.specs.{Generations.generation, Machine.steps_of}
 
 -- A link goes from one node to another. Its messages are listed oldest first.
 pub record PoolLinkState (G : Type 0) : Type 0 where

@@ -1,8 +1,7 @@
 -- A new pool.
 use Rattle.std.specs.Prelude.{ℕ, List, map}
 use Rattle.tp_board.specs.Numbers.{first_links, first_shares}
-use Rattle.tp_node.specs.Nodes.{NodeState, first_node}
-use Rattle.tp_node.specs.PoolLinks.{PoolLinkState, empty_pool_link}
+use Rattle.tp_node.specs.{Nodes.{NodeState, first_node}, PoolLinks.{PoolLinkState, empty_pool_link}}
 
 -- n new nodes, in rising order
 abbrev pub first_nodes : {G : Type 0} → G → ℕ → List (NodeState G)

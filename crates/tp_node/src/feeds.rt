@@ -14,8 +14,7 @@ pub(crate) struct FeedMap {
 }
 
 impl Model for FeedMap {
-    ghost use Rattle.std.specs.Ordering.{nat_cmp};
-    ghost use Rattle.std.specs.Coded.{coded_ℕ};
+    ghost use Rattle.std.specs.{Coded.coded_ℕ, Ordering.nat_cmp};
     ghost use Rattle.std.specs.FinMap as finite;
     ghost use Rattle.tp_graph.specs.declared.feed.Feed.{Feed as FeedSeen};
     ghost use Rattle.tp_node.specs.Actions.{feed_code};

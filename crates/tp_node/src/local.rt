@@ -2,18 +2,14 @@
 ghost use Rattle.std.specs.Prelude.{◌≡◌, ◌+◌, ◌≤◌, ◌<◌, true, None, Some, map, unwrap_or, is_some, OnOk, OnErr, IfOk, IfErr, IfSome};
 ghost use Rattle.std.specs.Prelude.{OnSome, IsTrue, MatchOption};
 ghost use Rattle.std.specs.FinSet as set;
-ghost use Rattle.std.specs.Option.{option_map};
-ghost use Rattle.std.specs.Result.{result_err};
+ghost use Rattle.std.specs.{Option.option_map, Result.result_err};
 ghost use Rattle.tp_base.specs.Checks.{first_refusal};
-ghost use Rattle.tp_monitor.specs.Monitors.{IsWithinLimits};
-ghost use Rattle.tp_monitor.specs.declared.TaskpoolState.TheVariants.{Terminated};
+ghost use Rattle.tp_monitor.specs.{Monitors.IsWithinLimits, declared.TaskpoolState.TheVariants.Terminated};
 ghost use Rattle.tp_slots.specs.Content.{front};
 ghost use Rattle.tp_store.specs.Content.{with_inserted, with_delivered, with_begun, with_done, delivered_to, values_of, counts_of, task_of};
-ghost use Rattle.tp_store.specs.Content.{life_of, unfinished, refusal_of_done, inserted_by};
-ghost use Rattle.tp_store.specs.Sound.{IsSound};
+ghost use Rattle.tp_store.specs.{Content.{life_of, unfinished, refusal_of_done, inserted_by}, Sound.IsSound};
 ghost use Rattle.tp_store.specs.declared.life.Life.TheVariants as lives;
-ghost use Rattle.tp_node.specs.Actions.{open_count, without_opening, with_named, without_named, with_message, without_message};
-ghost use Rattle.tp_node.specs.Actions.{has_message};
+ghost use Rattle.tp_node.specs.Actions.{open_count, without_opening, with_named, without_named, with_message, without_message, has_message};
 ghost use Rattle.tp_node.specs.Locals.{first_state, pending_here, is_live, standing, refusal_of_insertion, refusal_of_delivery};
 ghost use Rattle.tp_node.specs.Locals.{send_checks, receive_checks, end_checks, open_checks, close_checks, ready_checks, finish_checks};
 
@@ -44,11 +40,9 @@ pub struct Local {
 }
 
 impl Model for Local {
-    ghost use Rattle.tp_store.specs.Content.{unfinished};
-    ghost use Rattle.tp_node.specs.Actions.{open_count, opening_count};
-    ghost use Rattle.tp_node.specs.Locals.{LocalState, state_code, IsCounted, state_of};
     ghost use Rattle.std.specs.Coded.{coded_list, coded_ℤ};
-    ghost use Rattle.tp_node.specs.Locals.{Numbers};
+    ghost use Rattle.tp_node.specs.{Actions.{open_count, opening_count}, Locals.{LocalState, state_code, IsCounted, state_of, Numbers}};
+    ghost use Rattle.tp_store.specs.Content.{unfinished};
 
     ghost Value = { LocalState Numbers };
 

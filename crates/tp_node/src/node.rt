@@ -2,8 +2,7 @@
 ghost use Rattle.std.specs.Prelude.{◌≡◌, ◌≤◌, ◌<◌, length, IsTrue};
 ghost use Rattle.tp_board.specs.Numbers.{first_numbers};
 ghost use Rattle.tp_graph.specs.Left.{AreResults};
-ghost use Rattle.tp_node.specs.Locals.{pending_here, standing};
-ghost use Rattle.tp_node.specs.Nodes.{AgreesWith, counted_of, first_node};
+ghost use Rattle.tp_node.specs.{Locals.{pending_here, standing}, Nodes.{AgreesWith, counted_of, first_node}};
 ghost use Rattle.tp_store.specs.Content.{counts_of};
 ghost use Rattle.tp_wave.specs.Generations.{AreRuns, present_events};
 

@@ -1,8 +1,6 @@
 //! The monitor of a node's one pool, with preconditions instead of most refusals.
-ghost use Rattle.std.specs.Prelude.{◌≡◌, ◌+◌, ◌-◌, ◌<◌, ◌==◌, [], ◌∷◌, Some, true, false, not, IsTrue, OnOk, OnErr};
-ghost use Rattle.std.specs.Result.{result_err};
-ghost use Rattle.tp_base.specs.declared.Refusal.TheVariants.{WrongLife, HistoryFull};
-ghost use Rattle.tp_base.specs.Checks.{first_refusal};
+ghost use Rattle.std.specs.{Prelude.{◌≡◌, ◌+◌, ◌-◌, ◌<◌, ◌==◌, [], ◌∷◌, Some, true, false, not, IsTrue, OnOk, OnErr}, Result.result_err};
+ghost use Rattle.tp_base.specs.{Checks.first_refusal, declared.Refusal.TheVariants.{WrongLife, HistoryFull}};
 ghost use Rattle.tp_monitor.specs.Monitors.{IsWithinLimits, first_numbers, ready_numbers, sent_numbers, received_numbers};
 ghost use Rattle.tp_monitor.specs.Monitors.{message_ended_numbers, monitored_pending, standing, is_idle};
 ghost use Rattle.tp_monitor.specs.declared.TaskpoolState.TheVariants.{Terminated};

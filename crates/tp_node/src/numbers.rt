@@ -13,8 +13,7 @@ pub(crate) struct NumberSet {
 }
 
 impl Model for NumberSet {
-    ghost use Rattle.std.specs.Ordering.{nat_cmp};
-    ghost use Rattle.std.specs.Coded.{coded_ℕ};
+    ghost use Rattle.std.specs.{Coded.coded_ℕ, Ordering.nat_cmp};
     ghost use Rattle.std.specs.FinSet as set;
 
     ghost Value = { set.FinSet nat_cmp };

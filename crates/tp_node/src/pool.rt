@@ -1,11 +1,8 @@
 //! Opening a pool: its nodes, its links and its board.
-ghost use Rattle.std.specs.Prelude.{◌≡◌, ◌≤◌, [], map, vec_len, IfErr, IfOk, None};
-ghost use Rattle.std.specs.List.{All};
+ghost use Rattle.std.specs.{List.All, Prelude.{◌≡◌, ◌≤◌, [], map, vec_len, IfErr, IfOk, None}};
 ghost use Rattle.tp_base.specs.declared.refusal.Refusal.TheVariants.{NoMemory};
 ghost use Rattle.tp_board.specs.Numbers.{first_links, first_numbers};
-ghost use Rattle.tp_node.specs.Nodes.{first_node};
-ghost use Rattle.tp_node.specs.Pools.{first_nodes, first_pool_links};
-ghost use Rattle.tp_node.specs.PoolLinks.{empty_pool_link};
+ghost use Rattle.tp_node.specs.{Nodes.first_node, PoolLinks.empty_pool_link, Pools.{first_nodes, first_pool_links}};
 
 use crate::node::Node;
 use crate::pool_link::PoolLink;

@@ -1,21 +1,12 @@
 //! Reopening a pool, which begins its next generation.
-ghost use Rattle.std.specs.Prelude.{◌≡◌, ◌≤◌, ◌<◌, ◌+◌, ◌^◌, [], ◌∷◌, ◌++◌, IfErr, IfOk, IsTrue, MatchOption, OnErr, OnOk, length, map};
-ghost use Rattle.std.specs.Prelude.{sum_by, vec_capacity, vec_len};
-ghost use Rattle.std.specs.List.{All, flat_map};
-ghost use Rattle.std.specs.Result.{result_err};
+ghost use Rattle.std.specs.{List.{All, flat_map}, Prelude.{◌≡◌, ◌≤◌, ◌<◌, ◌+◌, ◌^◌, [], ◌∷◌, ◌++◌, IfErr, IfOk, IsTrue, MatchOption}};
+ghost use Rattle.std.specs.{Prelude.{OnErr, OnOk, length, map, sum_by, vec_capacity, vec_len}, Result.result_err};
 ghost use Rattle.tp_base.specs.Checks.{first_refusal};
 ghost use Rattle.tp_base.specs.declared.step.Step.TheVariants as steps;
-ghost use Rattle.tp_board.specs.Calls.{AnswersFirst, Appends};
-ghost use Rattle.tp_board.specs.Fresh.{HasRoom};
-ghost use Rattle.tp_board.specs.Numbers.{event};
-ghost use Rattle.tp_board.specs.States.{full_check, with_event};
+ghost use Rattle.tp_board.specs.{Calls.{AnswersFirst, Appends}, Fresh.HasRoom, Numbers.event, States.{full_check, with_event}};
 ghost use Rattle.tp_graph.specs.Left.{AreResults};
-ghost use Rattle.tp_node.specs.Calls.{AnswersWithBoth};
-ghost use Rattle.tp_node.specs.Nodes.{IsOfPool, anew};
-ghost use Rattle.tp_wave.specs.Cut.{IsQuietHistory};
-ghost use Rattle.tp_wave.specs.Generations.{present, present_events};
-ghost use Rattle.tp_wave.specs.Machine.{steps_of};
-ghost use Rattle.tp_wave.specs.Sums.{is_ended};
+ghost use Rattle.tp_node.specs.{Calls.AnswersWithBoth, Nodes.{IsOfPool, anew}};
+ghost use Rattle.tp_wave.specs.{Cut.IsQuietHistory, Generations.{present, present_events}, Machine.steps_of, Sums.is_ended};
 
 use crate::node::{Node, UnsharedNode};
 use crate::pool::Pool;

@@ -1,8 +1,6 @@
 //! Work, which is a begun task, and finished tasks. Contracts carry that each value is the one that the graph defines.
 ghost use Rattle.std.specs.Prelude.{◌≡◌, ◌<◌, ◌≤◌, ◌↔◌, IsTrue, Some, IfOk, IfErr, MatchResult};
-ghost use Rattle.tp_graph.specs.Carried.{IsFeed};
-ghost use Rattle.tp_graph.specs.Left.{left_of};
-ghost use Rattle.tp_graph.specs.Values.{value_of, AreInputs, IsInput, IsRefusal};
+ghost use Rattle.tp_graph.specs.{Carried.IsFeed, Left.left_of, Values.{value_of, AreInputs, IsInput, IsRefusal}};
 ghost use Rattle.tp_node.specs.Feeds.{HasFeed, next_feed_of, passed_on};
 
 use smallvec::SmallVec;

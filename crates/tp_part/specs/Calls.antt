@@ -1,16 +1,13 @@
 -- The calls of a part: the checks of each, in their order, and what each does.
-use Rattle.std.specs.Prelude.{ℕ, ◌+◌, ◌≡◌, ◌<◌, ◌≤◌, ◌&&◌, ◌==◌, List, [], ◌∷◌, ◌++◌, Bool, false, not, length, map}
-use Rattle.std.specs.Prelude.{slice_get, slice_set, Option, Some, None, nat_le, nat_lt, if◌then◌else◌, IsTrue, IsFalse}
-use Rattle.std.specs.List.{list_all, list_any}
-use Rattle.std.specs.Option.{is_some}
-use Rattle.tp_base.specs.declared.refusal.Refusal.TheVariants as refusal
+use Rattle.std.specs.{List.{list_all, list_any}, Option.is_some, Prelude.{ℕ, ◌+◌, ◌≡◌, ◌<◌, ◌≤◌, ◌&&◌, ◌==◌, List, [], ◌∷◌, ◌++◌, Bool}}
+use Rattle.std.specs.Prelude.{false, not, length, map, slice_get, slice_set, Option, Some, None, nat_le, nat_lt, if◌then◌else◌, IsTrue}
+use Rattle.std.specs.Prelude.{IsFalse}
 use Rattle.tp_base.specs.Checks.{Check}
+use Rattle.tp_dag.specs.{State.is_running, declared.limits.TheConstants.{MAX_TASKS, MAX_INPUTS, MAX_OUTSIDE}}
+use Rattle.tp_part.specs.{Edges.{has_edge, new_edge, pass, places}, State.{PartState, Progress, place_in, IsOwn, IsReady, HasSentAll}}
+use Rattle.tp_part.specs.{State.AreDone, declared.edges.Edge.Edge}
+use Rattle.tp_base.specs.declared.refusal.Refusal.TheVariants as refusal
 use Rattle.tp_dag.specs.declared.entry.Stage.TheVariants as stage
-use Rattle.tp_dag.specs.declared.limits.TheConstants.{MAX_TASKS, MAX_INPUTS, MAX_OUTSIDE}
-use Rattle.tp_dag.specs.State.{is_running}
-use Rattle.tp_part.specs.declared.edges.Edge.{Edge}
-use Rattle.tp_part.specs.Edges.{has_edge, new_edge, pass, places}
-use Rattle.tp_part.specs.State.{PartState, Progress, place_in, IsOwn, IsReady, HasSentAll, AreDone}
 
 abbrev pub new_part : ℕ → ℕ → PartState
 new_part number parts = record {

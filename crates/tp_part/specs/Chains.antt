@@ -1,11 +1,7 @@
 -- The invariant of edges: those of a value are a chain.
-use Rattle.std.specs.Prelude.{ℕ, ◌≡◌, ◌≤◌, List, length, slice_get, Some, unwrap_or}
-use Rattle.std.specs.Ordering.{nat_cmp}
-use Rattle.std.specs.BTreeMap.{BTreeMap, get}
+use Rattle.std.specs.{BTreeMap.{BTreeMap, get}, Ordering.nat_cmp, Prelude.{ℕ, ◌≡◌, ◌≤◌, List, length, slice_get, Some, unwrap_or}}
 use Rattle.tp_dag.specs.declared.limits.TheConstants.{MAX_INPUTS}
-use Rattle.tp_part.specs.declared.edges.Edge.{Edge}
-use Rattle.tp_part.specs.declared.edges.Edges.TheInside.{Inside}
-use Rattle.tp_part.specs.Edges.{EdgeList, newest}
+use Rattle.tp_part.specs.{Edges.{EdgeList, newest}, declared.edges.{Edge.Edge, Edges.TheInside.Inside}}
 
 abbrev pub edges_of : Inside → EdgeList
 edges_of p = p.items.items

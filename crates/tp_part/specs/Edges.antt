@@ -1,7 +1,6 @@
 -- The edges of the graph that cross parts: which value goes where, and whether it was passed on.
-use Rattle.std.specs.Prelude.{ℕ, zero, suc, ◌==◌, ◌&&◌, List, [], ◌∷◌, Bool, true, false, map}
-use Rattle.std.specs.Prelude.{slice_get, Option, Some, None, if◌then◌else◌}
-use Rattle.std.specs.List.{list_any}
+use Rattle.std.specs.{List.list_any, Prelude.{ℕ, zero, suc, ◌==◌, ◌&&◌, List, [], ◌∷◌, Bool, true, false, map, slice_get, Option, Some}}
+use Rattle.std.specs.Prelude.{None, if◌then◌else◌}
 use Rattle.tp_part.specs.declared.edges.Edge.{Edge}
 
 abbrev pub EdgeList : Type 0

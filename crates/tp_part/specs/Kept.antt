@@ -1,14 +1,10 @@
 -- The invariant of a part: its own tasks are those of its pool, which wait for values that are yet to arrive, and there is room for
 -- messages.
-use Rattle.std.specs.Prelude.{ℕ, ◌+◌, ◌≡◌, ◌<◌, ◌≤◌, ◌==◌, ◌&&◌, List, Bool, not, length, map, IsTrue, IsFalse}
-use Rattle.std.specs.Prelude.{slice_get, Some, None}
+use Rattle.std.specs.Prelude.{ℕ, ◌+◌, ◌≡◌, ◌<◌, ◌≤◌, ◌==◌, ◌&&◌, List, Bool, not, length, map, IsTrue, IsFalse, slice_get, Some, None}
 use Rattle.std.specs.Vec.{vec_capacity}
+use Rattle.tp_dag.specs.{State.{PoolState, Entry, count_where}, declared.limits.TheConstants.{MAX_TASKS, MAX_INPUTS}}
+use Rattle.tp_part.specs.{State.{PartState, Progress}, declared.{edges.Edge.Edge, part.Part.TheInside.Inside}}
 use Rattle.tp_dag.specs.declared.entry.Stage.TheVariants as stage
-use Rattle.tp_dag.specs.declared.limits.TheConstants.{MAX_TASKS, MAX_INPUTS}
-use Rattle.tp_dag.specs.State.{PoolState, Entry, count_where}
-use Rattle.tp_part.specs.declared.edges.Edge.{Edge}
-use Rattle.tp_part.specs.declared.part.Part.TheInside.{Inside}
-use Rattle.tp_part.specs.State.{PartState, Progress}
 
 -- ---- what own tasks wait for
 -- an edge for whose value the own task at place k waits

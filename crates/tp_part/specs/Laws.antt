@@ -1,13 +1,11 @@
 -- The theorems about all parts of a graph together: for every graph, all owners, any number of parts, and messages in any order. A message
 -- may come once, again or never.
-use Rattle.std.specs.Prelude.{ℕ, zero, suc, ◌+◌, ◌*◌, ◌≡◌, ◌≤◌, ◌<◌, ◌⊎◌, ◌==◌, ◌&&◌, Bool, true, false, not, List, [], ◌∷◌, length}
-use Rattle.std.specs.Prelude.{slice_get, IsTrue, Option, Some, None, if◌then◌else◌}
-use Rattle.std.specs.List.{list_any}
+use Rattle.std.specs.{List.list_any, Prelude.{ℕ, zero, suc, ◌+◌, ◌*◌, ◌≡◌, ◌≤◌, ◌<◌, ◌⊎◌, ◌==◌, ◌&&◌, Bool, true, false, not, List, []}}
+use Rattle.std.specs.Prelude.{◌∷◌, length, slice_get, IsTrue, Option, Some, None, if◌then◌else◌}
 use Rattle.tp_base.specs.Checks.{first_refusal}
 use Rattle.tp_dag.specs.State.{count_where, count_below}
-use Rattle.tp_part.specs.State.{PartState}
 use Rattle.tp_part.specs.Calls.{new_part, task_checks, start_checks, next_checks, arrived_checks, with_task, Runs, Sends, IsWaiting, IsOver}
-use Rattle.tp_part.specs.Calls.{Ends, with_arrival}
+use Rattle.tp_part.specs.{Calls.{Ends, with_arrival}, State.PartState}
 
 -- ---- the graph
 -- A task: the part that owns it, its class, and the tasks that it reads.

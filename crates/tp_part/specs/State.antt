@@ -1,11 +1,9 @@
 -- A part of a graph: what contracts see of it, and when a task of it is ready.
-use Rattle.std.specs.Prelude.{ℕ, ◌+◌, ◌≡◌, ◌==◌, List, [], ◌∷◌, Bool, length, IsTrue}
-use Rattle.std.specs.Prelude.{slice_get, Option, Some, None, if◌then◌else◌}
-use Rattle.std.specs.Option.{option_map}
-use Rattle.tp_dag.specs.declared.entry.Stage.{Stage}
-use Rattle.tp_dag.specs.declared.entry.Stage.TheVariants as stage
-use Rattle.tp_dag.specs.State.{Input}
+use Rattle.std.specs.{Option.option_map, Prelude.{ℕ, ◌+◌, ◌≡◌, ◌==◌, List, [], ◌∷◌, Bool, length, IsTrue, slice_get, Option, Some, None}}
+use Rattle.std.specs.Prelude.{if◌then◌else◌}
+use Rattle.tp_dag.specs.{State.Input, declared.entry.Stage.Stage}
 use Rattle.tp_part.specs.declared.edges.Edge.{Edge}
+use Rattle.tp_dag.specs.declared.entry.Stage.TheVariants as stage
 
 -- How far an own task is.
 pub record Progress : Type 0 where

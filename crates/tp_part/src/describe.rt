@@ -1,10 +1,8 @@
 //! What `task` adds to a part: the places of own inputs, and edges. If memory runs out, edges that were added are taken away.
-ghost use Rattle.std.specs.Prelude.{◌≡◌, ◌≢◌, ◌≤◌, ◌+◌, ◌++◌, ℕ, length, slice_get, Some, IfOk, IfSome, IfNone, OnOk, OnErr, nat_lt};
-ghost use Rattle.std.specs.List.{list_all};
+ghost use Rattle.std.specs.{List.list_all, Prelude.{◌≡◌, ◌≢◌, ◌≤◌, ◌+◌, ◌++◌, ℕ, length, slice_get, Some, IfOk, IfSome, IfNone, OnOk}};
+ghost use Rattle.std.specs.Prelude.{OnErr, nat_lt};
 ghost use Rattle.tp_dag.specs.declared.limits.TheConstants.{MAX_INPUTS};
-ghost use Rattle.tp_part.specs.State.{place_in};
-ghost use Rattle.tp_part.specs.Calls.{own_places, edges_to, with_messages};
-ghost use Rattle.tp_part.specs.Kept.{Ascends};
+ghost use Rattle.tp_part.specs.{Calls.{own_places, edges_to, with_messages}, Kept.Ascends, State.place_in};
 
 use crate::edges::Edges;
 use std::alloc::{AllocError, Global};

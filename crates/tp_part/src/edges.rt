@@ -2,10 +2,7 @@
 ghost use Rattle.std.specs.Prelude.{◌≡◌, ◌==◌, ◌≤◌, ◌<◌, ◌+◌, ◌++◌, ◌∷◌, [], ℕ, length, take, OnOk, OnErr, slice_get, slice_set, Some};
 ghost use Rattle.std.specs.Prelude.{if◌then◌else◌, IfSome, IfNone, true, false};
 ghost use Rattle.tp_dag.specs.declared.limits.TheConstants.{MAX_INPUTS};
-ghost use Rattle.tp_part.specs.Edges.{newest, has_edge, new_edge, pass_one};
-ghost use Rattle.tp_part.specs.Chains.{head};
-ghost use Rattle.tp_part.specs.Calls.{is_read, has_arrived};
-ghost use Rattle.tp_part.specs.Kept.{AreAlike};
+ghost use Rattle.tp_part.specs.{Calls.{is_read, has_arrived}, Chains.head, Edges.{newest, has_edge, new_edge, pass_one}, Kept.AreAlike};
 
 use std::alloc::{AllocError, Global};
 use std::collections::BTreeMap;

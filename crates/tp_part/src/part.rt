@@ -2,11 +2,10 @@
 //! that lead to them from other parts and from them to other parts.
 ghost use Rattle.std.specs.Prelude.{◌≡◌, ◌⊎◌, ℕ, true, IfOk, IfErr, IfSome, IfNone, OnOk, OnErr, Ok, Err, Some, None, IsTrue, IsFalse};
 ghost use Rattle.tp_base.specs.Checks.{first_refusal};
+ghost use Rattle.tp_dag.specs.{Calls.IsDispatched, State.{IsReady, IsOver}};
 ghost use Rattle.tp_part.specs.Calls.{new_part, task_checks, start_checks, next_checks, done_checks, arrived_checks, MayDescribe};
 ghost use Rattle.tp_part.specs.Calls.{with_task, with_own, with_foreign, with_arrival, has_arrived, Runs, Sends, IsWaiting, Ends};
 ghost use Rattle.tp_part.specs.Calls.{IsOver as IsAtEnd};
-ghost use Rattle.tp_dag.specs.Calls.{IsDispatched};
-ghost use Rattle.tp_dag.specs.State.{IsReady, IsOver};
 ghost use Rattle.tp_dag.specs.declared.pool.Next.TheVariants as PoolNext;
 
 use crate::describe::{add_incoming, add_outgoing, all_below, place_of, places_of};

@@ -1,10 +1,7 @@
 //! A value is passed on along its edges: to own tasks that wait for it, or to the messages that are due.
-ghost use Rattle.std.specs.Prelude.{◌≡◌, ◌≤◌, ◌+◌, ◌++◌, length, false};
-ghost use Rattle.std.specs.Vec.{vec_capacity};
+ghost use Rattle.std.specs.{Prelude.{◌≡◌, ◌≤◌, ◌+◌, ◌++◌, length, false}, Vec.vec_capacity};
 ghost use Rattle.tp_dag.specs.Calls.{Awaits, Becomes, one_less};
-ghost use Rattle.tp_part.specs.Edges.{pass, places};
-ghost use Rattle.tp_part.specs.Calls.{has_arrived};
-ghost use Rattle.tp_part.specs.Kept.{AreAwaited, SameBut};
+ghost use Rattle.tp_part.specs.{Calls.has_arrived, Edges.{pass, places}, Kept.{AreAwaited, SameBut}};
 
 use crate::edges::Edges;
 use tp_dag::Pool;

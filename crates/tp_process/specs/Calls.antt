@@ -1,16 +1,11 @@
 -- What each call does to the state of one process in one epoch, and when it is refused. A refused call changes nothing.
-use Rattle.std.specs.Prelude.{ℕ, ◌+◌, ◌-◌, ◌*◌, ◌^◌, ◌==◌, ◌&&◌, ◌||◌, Bool, true, false, not, nat_lt, if◌then◌else◌, Option}
-use Rattle.std.specs.Prelude.{Some, None, Result, Ok, Err}
+use Rattle.std.specs.Prelude.{ℕ, ◌+◌, ◌-◌, ◌*◌, ◌^◌, ◌==◌, ◌&&◌, ◌||◌, Bool, true, false, not, nat_lt, if◌then◌else◌, Option, Some, None}
+use Rattle.std.specs.Prelude.{Result, Ok, Err}
 use Rattle.tp_base.specs.Tree.{parent}
-use Rattle.tp_process.specs.declared.control_message.Token.{Token}
-use Rattle.tp_process.specs.declared.control_message.Token.TheVariants.{Down, Up, Over}
-use Rattle.tp_process.specs.declared.control_message.ControlMessage.{ControlMessage}
-use Rattle.tp_process.specs.declared.outcome.Next.{Next}
-use Rattle.tp_process.specs.declared.outcome.Next.TheVariants.{Send, Again, Ended, Nothing}
-use Rattle.tp_process.specs.declared.outcome.Refusal.{Refusal}
+use Rattle.tp_process.specs.{State.{EpochState, new_state, read_state}, declared.control_message.ControlMessage.ControlMessage}
+use Rattle.tp_process.specs.declared.{control_message.Token.{Token, TheVariants.{Down, Up, Over}}, epoch_state.TheConstants.LIMIT}
+use Rattle.tp_process.specs.declared.outcome.{Next.{Next, TheVariants.{Send, Again, Ended, Nothing}}, Refusal.Refusal}
 use Rattle.tp_process.specs.declared.outcome.Refusal.TheVariants.{Inactive, Full, NotDue, Miscounted, Mismatched}
-use Rattle.tp_process.specs.State.{EpochState, new_state, read_state}
-use Rattle.tp_process.specs.declared.epoch_state.TheConstants.{LIMIT}
 
 -- the state at the beginning of an epoch
 abbrev pub blank : ℕ → ℕ → EpochState

@@ -2,14 +2,10 @@
 -- own, and the theorems about them.
 use Rattle.std.specs.Prelude.{ℕ, ◌+◌, ◌-◌, ◌*◌, ◌==◌, ◌&&◌, ◌≡◌, ◌<◌, ◌≤◌, ◌⊎◌, ◌^◌, List, [], ◌∷◌, ◌++◌, Bool, true, false, not, IsTrue}
 use Rattle.std.specs.Prelude.{IsFalse, length, nat_lt, if◌then◌else◌, Option, Some, None}
-use Rattle.tp_process.specs.declared.control_message.ControlMessage.{ControlMessage}
-use Rattle.tp_process.specs.declared.outcome.Refusal.{Refusal}
-use Rattle.tp_process.specs.declared.outcome.Refusal.TheVariants.{Full, NotYet, Late, NotEnded}
-use Rattle.tp_process.specs.State.{EpochState, ProcessState}
-use Rattle.tp_process.specs.declared.process.TheConstants.{MARK}
-use Rattle.tp_process.specs.Calls.{blank, closed, do_fit, moved, opened, received, sent, took}
+use Rattle.tp_process.specs.{Calls.{blank, closed, do_fit, moved, opened, received, sent, took}, State.{EpochState, ProcessState}}
 use Rattle.tp_process.specs.World.{World, Event, Does, Comes, Opens, Closes, Sends, Receives, Moves, posted, put, happens, after}
-use Rattle.tp_process.specs.World.{control_at, is_taken, is_useful}
+use Rattle.tp_process.specs.{World.{control_at, is_taken, is_useful}, declared.control_message.ControlMessage.ControlMessage}
+use Rattle.tp_process.specs.declared.{outcome.Refusal.{Refusal, TheVariants.{Full, NotYet, Late, NotEnded}}, process.TheConstants.MARK}
 
 -- a new process: its first epoch
 abbrev pub initial_process : ℕ → ℕ → ProcessState

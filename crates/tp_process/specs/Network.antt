@@ -1,12 +1,9 @@
 -- A network that brings each control message once, in any order: its state, its events, and the theorems about it.
-use Rattle.std.specs.Prelude.{ℕ, zero, suc, ◌+◌, ◌^◌, ◌≡◌, ◌<◌, ◌≤◌, List, [], ◌∷◌, Bool, true, false, nat_lt, if◌then◌else◌}
-use Rattle.std.specs.Prelude.{Option, Some, None}
-use Rattle.tp_process.specs.declared.control_message.ControlMessage.{ControlMessage}
-use Rattle.tp_process.specs.declared.outcome.Next.{Next}
-use Rattle.tp_process.specs.declared.outcome.Next.TheVariants.{Send}
-use Rattle.tp_process.specs.Calls.{moved}
-use Rattle.tp_process.specs.World.{Act, Moves, Does, came, is_step}
-use Rattle.tp_process.specs.Epochs.{Epochs, In, Reopens, advance, has_notified, initial, is_in_epoch, took_in, with_world, world_of}
+use Rattle.std.specs.Prelude.{ℕ, zero, suc, ◌+◌, ◌^◌, ◌≡◌, ◌<◌, ◌≤◌, List, [], ◌∷◌, Bool, true, false, nat_lt, if◌then◌else◌, Option, Some}
+use Rattle.std.specs.Prelude.{None}
+use Rattle.tp_process.specs.{Calls.moved, Epochs.{Epochs, In, Reopens, advance, has_notified, initial, is_in_epoch, took_in, with_world}}
+use Rattle.tp_process.specs.{Epochs.world_of, World.{Act, Moves, Does, came, is_step}}
+use Rattle.tp_process.specs.declared.{control_message.ControlMessage.ControlMessage, outcome.Next.{Next, TheVariants.Send}}
 
 -- a control message on its way, and the epoch in which it was sent
 pub record Carried : Type 0 where

@@ -1,13 +1,8 @@
 -- Which processes are open: those that `new` returned. Every call refuses any other.
 use Rattle.std.specs.Prelude.{ℕ, ◌==◌, ◌≡◌, Bool, true, false, nat_lt, if◌then◌else◌, List, Option, Some, Result, Ok, Err}
-use Rattle.tp_process.specs.declared.outcome.Next.{Next}
-use Rattle.tp_process.specs.declared.outcome.Refusal.{Refusal}
-use Rattle.tp_process.specs.declared.outcome.Refusal.TheVariants.{NotOpen, NoProcess}
-use Rattle.tp_process.specs.declared.process.Process.{Process}
-use Rattle.tp_process.specs.State.{ProcessState, new_state}
-use Rattle.tp_process.specs.declared.process.TheConstants.{MARK}
-use Rattle.tp_process.specs.Calls.{is_miscounted, moved, next_result}
-use Rattle.tp_process.specs.Epochs.{of_epoch, EpochEvent, epochs_after}
+use Rattle.tp_process.specs.{Calls.{is_miscounted, moved, next_result}, Epochs.{of_epoch, EpochEvent, epochs_after}, State.ProcessState}
+use Rattle.tp_process.specs.{State.new_state, declared.outcome.{Next.Next, Refusal.{Refusal, TheVariants.{NotOpen, NoProcess}}}}
+use Rattle.tp_process.specs.declared.process.{Process.Process, TheConstants.MARK}
 
 abbrev pub is_open : ProcessState → Bool
 is_open r = r.mark == MARK

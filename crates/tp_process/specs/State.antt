@@ -1,8 +1,7 @@
 -- The state of a process, and how it is stored: a C program can write any bytes, so a flag is a byte that is set if it
 -- is not 0.
 use Rattle.std.specs.Prelude.{ℕ, ◌==◌, Bool, not}
-use Rattle.tp_process.specs.declared.epoch_state.StoredState.{StoredState}
-use Rattle.tp_process.specs.declared.process.Process.{Process}
+use Rattle.tp_process.specs.declared.{epoch_state.StoredState.StoredState, process.Process.Process}
 
 -- what one process knows in one epoch; the fields are explained in src/epoch_state.rt
 pub record EpochState : Type 0 where

@@ -1,11 +1,9 @@
 -- All processes of one epoch together, the messages and control messages between them, and the theorems about them.
-use Rattle.std.specs.Prelude.{ℕ, zero, suc, ◌+◌, ◌-◌, ◌*◌, ◌^◌, ◌==◌, ◌&&◌, ◌≡◌, ◌<◌, ◌≤◌, ◌⊎◌, List, [], ◌∷◌, ◌++◌, Bool, true}
-use Rattle.std.specs.Prelude.{false, IsTrue, IsFalse, length, nat_lt, if◌then◌else◌, Option, Some, None}
-use Rattle.tp_process.specs.declared.control_message.ControlMessage.{ControlMessage}
-use Rattle.tp_process.specs.declared.outcome.Next.{Next}
-use Rattle.tp_process.specs.declared.outcome.Next.TheVariants.{Send, Again, Ended}
-use Rattle.tp_process.specs.State.{EpochState}
+use Rattle.std.specs.Prelude.{ℕ, zero, suc, ◌+◌, ◌-◌, ◌*◌, ◌^◌, ◌==◌, ◌&&◌, ◌≡◌, ◌<◌, ◌≤◌, ◌⊎◌, List, [], ◌∷◌, ◌++◌, Bool, true, false}
+use Rattle.std.specs.Prelude.{IsTrue, IsFalse, length, nat_lt, if◌then◌else◌, Option, Some, None}
 use Rattle.tp_process.specs.Calls.{blank, opened, closed, sent, can_send, received, can_receive, took, moved, is_due, is_for}
+use Rattle.tp_process.specs.{State.EpochState, declared.{control_message.ControlMessage.ControlMessage, outcome.Next.Next}}
+use Rattle.tp_process.specs.declared.outcome.Next.TheVariants.{Send, Again, Ended}
 
 pub record World : Type 0 where
   -- the processes, by number

@@ -1,13 +1,10 @@
 //! The state of one process in one epoch, as it is stored, and its calls: its counters, and the progress of the newest
 //! wave.
 
-ghost use Rattle.std.specs.Prelude.{◌≡◌, ◌+◌, ◌&&◌, nat_lt, not, OnErr};
-ghost use Rattle.tp_process.specs.declared.epoch_state.TheConstants.{LIMIT};
-ghost use Rattle.std.specs.Result.{result_err};
+ghost use Rattle.std.specs.{Prelude.{◌≡◌, ◌+◌, ◌&&◌, nat_lt, not, OnErr}, Result.result_err};
 ghost use Rattle.tp_process.specs.Calls.{acts, control, due, ends, gives, is_down_due, is_due, is_miscounted, judges, left_of, moved};
 ghost use Rattle.tp_process.specs.Calls.{next_result, notifies, opens, ready, right_of, takes, took, visits, take_refusal};
-ghost use Rattle.tp_process.specs.Epochs.{has_notified};
-ghost use Rattle.tp_process.specs.State.{is_set, new_state, read_state};
+ghost use Rattle.tp_process.specs.{Epochs.has_notified, State.{is_set, new_state, read_state}, declared.epoch_state.TheConstants.LIMIT};
 
 use crate::control_message::{ControlMessage, Token};
 use crate::outcome::{Next, Refusal};

@@ -1,11 +1,10 @@
 //! The theorems of the detector, each on a public function: of one epoch, and of all epochs together.
 
 ghost use Rattle.std.specs.Prelude.{◌≡◌, ◌≢◌};
-ghost use Rattle.tp_process.specs.World.{ControlMessagesLaw, EndedLaw, FewWavesLaw, GoesOnLaw, NeverEarlyLaw, OnceLaw, QuietLaw, SoonLaw};
 ghost use Rattle.tp_process.specs.Epochs.{AheadLaw, CallsLaw, ControlMessagesEpochLaw, EpochLaw, FewWavesEpochLaw, GoesOnEpochLaw, LagsLaw};
 ghost use Rattle.tp_process.specs.Epochs.{LeftEpochLaw, MessageLaw, NearLaw, NeverEarlyEpochLaw, NoneLateLaw, OnceEpochLaw, SoonEpochLaw};
-ghost use Rattle.tp_process.specs.Network.{AllEndLaw, HandedLaw, NeverLateLaw};
-ghost use Rattle.tp_process.specs.Opening.{CountedLaw, OpenCallsLaw, OpenLaw};
+ghost use Rattle.tp_process.specs.{Network.{AllEndLaw, HandedLaw, NeverLateLaw}, Opening.{CountedLaw, OpenCallsLaw, OpenLaw}};
+ghost use Rattle.tp_process.specs.World.{ControlMessagesLaw, EndedLaw, FewWavesLaw, GoesOnLaw, NeverEarlyLaw, OnceLaw, QuietLaw, SoonLaw};
 
 use crate::epoch_state::LIMIT;
 use crate::process::MARK;

@@ -1,13 +1,10 @@
 //! The process that a program owns: the detector's state in the present epoch, the number of the epoch, and a mark that
 //! says whether it is open. Any bytes are a valid `Process`, and every call is defined for them.
 
-ghost use Rattle.std.specs.Prelude.{◌≡◌, ◌&&◌, None, OnErr, nat_lt, if◌then◌else◌};
-ghost use Rattle.std.specs.Result.{result_err};
-ghost use Rattle.tp_process.specs.Calls.{close_refusal, closed, moved, open_refusal, opened};
-ghost use Rattle.tp_process.specs.Calls.{receive_refusal, send_refusal, sent, take_refusal};
-ghost use Rattle.tp_process.specs.Epochs.{with_state, of_epoch, received_in, reopen_refusal, reopened, took_in};
-ghost use Rattle.tp_process.specs.Opening.{checked, checked_in, if_open, is_open, new_process, next_of, unopened};
-ghost use Rattle.tp_process.specs.State.{read};
+ghost use Rattle.std.specs.{Prelude.{◌≡◌, ◌&&◌, None, OnErr, nat_lt, if◌then◌else◌}, Result.result_err};
+ghost use Rattle.tp_process.specs.Calls.{close_refusal, closed, moved, open_refusal, opened, receive_refusal, send_refusal, sent};
+ghost use Rattle.tp_process.specs.{Calls.take_refusal, Epochs.{with_state, of_epoch, received_in, reopen_refusal, reopened, took_in}};
+ghost use Rattle.tp_process.specs.{Opening.{checked, checked_in, if_open, is_open, new_process, next_of, unopened}, State.read};
 ghost use Rattle.tp_process.specs.declared.outcome.Refusal.TheVariants.{NotYet, Late};
 
 use crate::control_message::ControlMessage;

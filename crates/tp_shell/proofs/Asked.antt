@@ -1,12 +1,7 @@
 -- What a caller knows of a parse of the command line.
+use Rattle.clap.specs.{Faults.{fault_of, is_simple_and_free}, Kinds.{HasKind, IsAmong}, Values.kind_of, Words.{App, Text}}
+use Rattle.clap.specs.declared.error.{Error.Error, kind.ErrorKind.{ErrorKind, TheVariants.OutOfMemory}}
 use Rattle.std.proofs.Common.{◌≡◌, ◌≢◌, ◌∙◌, ap, subst, inl, inr, List, Option, Some, None, MatchOption, true}
-use Rattle.clap.specs.Faults.{fault_of, is_simple_and_free}
-use Rattle.clap.specs.Kinds.{HasKind, IsAmong}
-use Rattle.clap.specs.Values.{kind_of}
-use Rattle.clap.specs.Words.{App, Text}
-use Rattle.clap.specs.declared.error.Error.{Error}
-use Rattle.clap.specs.declared.error.kind.ErrorKind.{ErrorKind}
-use Rattle.clap.specs.declared.error.kind.ErrorKind.TheVariants.{OutOfMemory}
 use Rattle.tp_shell.specs.Command.{AreAtFault, AsksToBeShown, FailsAs, IsMetBy, IsToBeShown, IsWordsFault}
 use Rattle.tp_shell.specs.declared.words.WordsFault.{WordsFault}
 use Rattle.tp_shell.specs.declared.words.WordsFault.TheVariants as faults

@@ -1,9 +1,6 @@
 -- A number of 32 bits is the lesser of itself and the greatest of them.
-use Rattle.std.proofs.Common.{◌≡◌, ◌≤◌, ℕ, ap, arith, inl, inr, pos, refl, sym, false}
-use Rattle.std.proofs.lemmas.Bool.{cases_Bool}
-use Rattle.std.proofs.lemmas.Bool.Decides.{nat_tests}
-use Rattle.std.specs.Int.{int_min}
-use Rattle.std.specs.Prelude.{nat_lt}
+use Rattle.std.proofs.{Common.{◌≡◌, ◌≤◌, ℕ, ap, arith, inl, inr, pos, refl, sym, false}, lemmas.Bool.{cases_Bool, Decides.nat_tests}}
+use Rattle.std.specs.{Int.int_min, Prelude.nat_lt}
 
 at_least : (most : ℕ) → nat_lt most 4294967295 ≡ false → most ≤ 4294967295 → most ≡ 4294967295
 at_least most not_less le = grind (arith, nat_tests)

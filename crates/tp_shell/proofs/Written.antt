@@ -1,11 +1,8 @@
 -- What was written and printed.
 use Rattle.std.proofs.Common.{◌≡◌, ◌∙◌, ◌++◌, ◌+◌, ◌-◌, ◌<◌, ◌≤◌, ℕ, [], ◌∷◌, List, Option, Some, None, Result, Ok, Err, OnOk, ap, sym}
-use Rattle.std.proofs.Common.{add-one, arith, append_assoc, drop, get_or, length, length-drop, map, subst, suc, take}
-use Rattle.std.proofs.Math.Seq.{drop-cons, take-add, take-suc}
-use Rattle.std.proofs.lemmas.List.{append-nil, map-append, take-append-drop, take_all}
-use Rattle.std.proofs.lemmas.List.Folds.{concat-append}
-use Rattle.std.specs.Io.KnownBytes.{Appends, Keeps}
-use Rattle.std.specs.List.{concat}
+use Rattle.std.proofs.{Common.{add-one, arith, append_assoc, drop, get_or, length, length-drop, map, subst, suc, take}, Math.Seq.drop-cons}
+use Rattle.std.proofs.{Math.Seq.{take-add, take-suc}, lemmas.List.{append-nil, map-append, take-append-drop, take_all, Folds.concat-append}}
+use Rattle.std.specs.{Io.KnownBytes.{Appends, Keeps}, List.concat}
 use Rattle.tp_shell.specs.Streams.{IsBegunTo}
 
 -- what was appended remains after later writes

@@ -1,7 +1,6 @@
 -- The number of an exit status.
 use Rattle.std.specs.Prelude.{ℕ}
-use Rattle.tp_shell.specs.declared.status.Status.{Status}
-use Rattle.tp_shell.specs.declared.status.Status.TheVariants.{Done, Fault, Refused, Failed}
+use Rattle.tp_shell.specs.declared.status.Status.{Status, TheVariants.{Done, Fault, Refused, Failed}}
 
 abbrev pub code_of : Status → ℕ
 code_of Done = 0

@@ -1,6 +1,5 @@
 -- What a program reads, writes and prints, by the bytes of a reader or a writer before and after.
-use Rattle.std.specs.Prelude.{ℕ, ◌≡◌, ◌⊎◌, ◌++◌, List, Option, codes}
-use Rattle.std.specs.Io.KnownBytes.{Appends, Consumes, IsAtEnd}
+use Rattle.std.specs.{Io.KnownBytes.{Appends, Consumes, IsAtEnd}, Prelude.{ℕ, ◌≡◌, ◌⊎◌, ◌++◌, List, Option, codes}}
 
 -- These bytes were read, and they were all that there were.
 abbrev pub ReadsAll : Option (List ℕ) → Option (List ℕ) → List ℕ → Type 0

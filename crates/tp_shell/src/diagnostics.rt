@@ -1,7 +1,5 @@
 //! Diagnostics: where a program prints its error lines, and the faults that have such a line.
-ghost use Rattle.std.specs.Prelude.{◌≡◌, ℕ, List, IsTrue, OnOk, map};
-ghost use Rattle.std.specs.Io.KnownBytes.{Appends};
-ghost use Rattle.std.specs.List.{concat};
+ghost use Rattle.std.specs.{Io.KnownBytes.Appends, List.concat, Prelude.{◌≡◌, ℕ, List, IsTrue, OnOk, map}};
 ghost use Rattle.tp_shell.specs.Streams.{IsBegunTo};
 
 use crate::status::Status;

@@ -1,6 +1,5 @@
 //! The arguments of the command line, and what the environment asks for.
-ghost use Rattle.std.specs.Prelude.{◌≡◌, ◌≢◌, ℕ, List, ⊤, IfOk, codes, map};
-ghost use Rattle.std.specs.String.{string_bytes};
+ghost use Rattle.std.specs.{Prelude.{◌≡◌, ◌≢◌, ℕ, List, ⊤, IfOk, codes, map}, String.string_bytes};
 
 use crate::status::Status;
 use std::alloc::{AllocError, Global};

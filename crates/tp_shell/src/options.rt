@@ -1,8 +1,6 @@
 //! The options of a pool: its numbers of nodes and workers.
-ghost use Rattle.std.specs.Prelude.{◌≡◌, ◌≤◌, IfOk, List, Some, ℕ, false};
-ghost use Rattle.std.specs.Str.Parse.{IsNumeral, digits_value, without_leading_plus};
-ghost use Rattle.clap.specs.Words.{app_of, found_of, one_text, rows_of, rule_of};
-ghost use Rattle.clap.specs.declared.builder.command.Command.TheViews.{out-Command};
+ghost use Rattle.clap.specs.{Words.{app_of, found_of, one_text, rows_of, rule_of}, declared.builder.command.Command.TheViews.out-Command};
+ghost use Rattle.std.specs.{Prelude.{◌≡◌, ◌≤◌, IfOk, List, Some, ℕ, false}, Str.Parse.{IsNumeral, digits_value, without_leading_plus}};
 ghost use Rattle.tp_shell.specs.Command.{AreCountsIn, count_rule, with_count_rules};
 ghost use Rattle.tp_work.specs.Outcomes.{IsWithinLimits};
 

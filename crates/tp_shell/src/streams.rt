@@ -1,6 +1,5 @@
 //! Reading all of an input, and writing a text.
-ghost use Rattle.std.specs.Prelude.{◌≡◌, ℕ, List, MatchResult, OnOk, ⊤};
-ghost use Rattle.std.specs.Io.KnownBytes.{Appends};
+ghost use Rattle.std.specs.{Io.KnownBytes.Appends, Prelude.{◌≡◌, ℕ, List, MatchResult, OnOk, ⊤}};
 ghost use Rattle.tp_shell.specs.Streams.{ReadsAll};
 
 use std::alloc::Global;

@@ -1,11 +1,7 @@
 //! What happens if arguments make no request: help or the version is shown, or they are at fault.
-ghost use Rattle.std.specs.Prelude.{◌≡◌, ◌≢◌, ◌++◌, IfErr, IfOk, IfSome, OnOk, codes};
-ghost use Rattle.std.specs.Io.KnownBytes.{Appends};
-ghost use Rattle.std.specs.String.{string_bytes};
 ghost use Rattle.clap.specs.Values.{kind_of};
-ghost use Rattle.tp_shell.specs.Command.{IsMetBy, IsToBeShown};
-ghost use Rattle.tp_shell.specs.Streams.{HasShown};
-ghost use Rattle.tp_shell.specs.Texts.{HasShownText, HasTextOf, IsLineOf, words_line};
+ghost use Rattle.std.specs.{Io.KnownBytes.Appends, Prelude.{◌≡◌, ◌≢◌, ◌++◌, IfErr, IfOk, IfSome, OnOk, codes}, String.string_bytes};
+ghost use Rattle.tp_shell.specs.{Command.{IsMetBy, IsToBeShown}, Streams.HasShown, Texts.{HasShownText, HasTextOf, IsLineOf, words_line}};
 
 use crate::diagnostics::Diagnostics;
 use clap::Error;

@@ -1,39 +1,32 @@
 -- How a call on raw cells meets its contract: what it gets, and what it has to leave. Assumes `Logic`.
 -- docs/PROOFS-OF-CELLS.md explains such a proof step by step.
-use mathlib.Core.Path.{◌≡◌}
 use Prim.Native.Nat.{ℕ}
-use mathlib.Core.List.{List, [], ◌∷◌}
-use lib.Dec.{T}
-use seplogic.Ra.Ura.{Ura}
-use mir.Syntax.{Fn, Callee}
-use mir.Val.{Val}
-use base.Logic.{SProp, ent, emp, via, id⊢, emp∗}
+use Rattle.std.proofs.{alloc.Calls.Goes-blank, mem.Param.El, raw_atomic.Walks.{proved_at, leaves}}
+use Rattle.tp_slots.proofs.{CellSteps.{seen, borrow}, CellsMemory.Cr}
 use base.Fml.{ftrue, flft}
-use prog.Wp.{WpFn, Closed}
-use prog.Model.{Model}
-use types.Logic.{Logic, sem}
-use types.Kit.{Sq, ⋆, ‵, raw, ◌⊛◌, prop}
-use types.Kit.{◌$◌, ◌∵◌, !, qed, by, move, keep, drop, split, split3, fsplit, fsplit3, fjoin, fjoin3, feq_i, group, use0}
+use base.Logic.{SProp, ent, emp, via, id⊢, emp∗}
 use contract.Lifetimes.{Lfts, Shares, Outlives, AllOutlive}
 use contract.Running.{Running, MachineTables, tables}
-use denote.Exit.{yes, Last, left}
-use denote.RattleType.{Denots, Valss, flat, owns}
-use denote.Laws.{Are, Ises}
-use denote.Ref.{mut_vals}
 use denote.Builtin.{RefMutOf}
-use denote.Signature.{Slot, Signature, plain, types_at, type_at}
+use denote.Exit.{yes, Last, left}
+use denote.Laws.{Are, Ises}
 use denote.Param.Mute.{blank}
+use denote.RattleType.{Denots, Valss, flat, owns}
+use denote.Ref.{mut_vals}
+use denote.Signature.{Slot, Signature, plain, types_at, type_at}
 use denote.Steps.{nothing}
-use denote.Triple.End.{Kepts, Fins}
-use denote.Triple.Clauses.{Ended, Clauses, Lasts, at_exit, closing}
-use denote.Triple.Entry.{Args, Vals, Res, alive}
-use denote.Triple.Spec.{Meets}
+use denote.Triple.{Clauses.{Ended, Clauses, Lasts, at_exit, closing}, End.{Kepts, Fins}, Entry.{Args, Vals, Res, alive}, Spec.Meets}
 use denote.Triple.Walked.{Stays, stay_dropped, stay_ref, fits_of, has_of, walk_of, AllGo, Goes-ref}
-use Rattle.std.proofs.alloc.Calls.{Goes-blank}
-use Rattle.std.proofs.raw_atomic.Walks.{proved_at, leaves}
-use Rattle.std.proofs.mem.Param.{El}
-use Rattle.tp_slots.proofs.CellsMemory.{Cr}
-use Rattle.tp_slots.proofs.CellSteps.{seen, borrow}
+use lib.Dec.{T}
+use mathlib.Core.{List.{List, [], ◌∷◌}, Path.◌≡◌}
+use mir.Syntax.{Fn, Callee}
+use mir.Val.{Val}
+use prog.Model.{Model}
+use prog.Wp.{WpFn, Closed}
+use seplogic.Ra.Ura.{Ura}
+use types.Kit.{Sq, ⋆, ‵, raw, ◌⊛◌, prop, ◌$◌, ◌∵◌, !, qed, by, move, keep, drop, split, split3, fsplit, fsplit3, fjoin, fjoin3, feq_i}
+use types.Kit.{group, use0}
+use types.Logic.{Logic, sem}
 
 module _ {n : ℕ} where
   -- of none of these parameters has the call anything left when it returns

@@ -1,18 +1,15 @@
 -- Raw cells may cross threads as their values and their allocator may. Assumes `Logic`.
-use Rattle.std.specs.Prelude.{List, [], ◌∷◌, Option, Some, None}
-use mir.Syntax.{Ty}
+use Rattle.std.specs.{Prelude.{List, [], ◌∷◌, Option, Some, None}, declared.alloc.Allocator.Ghosts}
+use Rattle.tp_slots.specs.CellsOwnership.{cells_own, cells_lent}
+use base.Fml.{Fml, ftrue}
+use base.Fraction.{full_share}
 use base.Shift.{Keyless}
 use denote.Exit.{Exit, unchanged, leaves, hidden, under}
+use denote.Param.Send.{IsSend, IsSync, Quiet, Common, AllSend, Frees, part_keyless, owning_send, struct_send, struct_sync, sendable}
 use denote.RattleType.{RattleType}
 use denote.RawPtr.{Ptr, block_ptr, null_ptr, block_of, count_of, lies_at, room_for, in_block}
-use denote.Struct.Lending.{lent_at}
-use denote.Struct.Struct.{exits_of}
-use denote.Struct.Owning.{shape, fields, to}
-use denote.Param.Send.{IsSend, IsSync, Quiet, Common, AllSend, Frees, part_keyless, owning_send, struct_send, struct_sync, sendable}
-use base.Fraction.{full_share}
-use base.Fml.{Fml, ftrue}
-use Rattle.std.specs.declared.alloc.Allocator.{Ghosts}
-use Rattle.tp_slots.specs.CellsOwnership.{cells_own, cells_lent}
+use denote.Struct.{Lending.lent_at, Owning.{shape, fields, to}, Struct.exits_of}
+use mir.Syntax.{Ty}
 use Rattle.tp_slots.specs.contracts.cells.Cells as Cells
 use Rattle.tp_slots.specs.contracts.cells.Deed as Deed
 

@@ -1,28 +1,22 @@
 -- The layout of a block of cells. Assumes `Logic`.
-use mathlib.Core.Path.{◌≡◌, refl, sym, ap, ◌∙◌}
 use Prim.Native.Nat.{ℕ, zero, suc, ◌+◌, ◌*◌, ◌<◌, ◌^◌}
-use native.Mathlib.Nat.{zero-mul, suc-mul}
-use native.Mathlib.Omega.{arith}
-use mathlib.Core.List.{List, [], ◌∷◌}
-use seplogic.Ra.Ura.{Ura}
-use mir.Syntax.{Ty, Args, a_type, ty_array, dcons, dnil}
-use mir.Raw.{raw as bare}
-use prog.Memory.{size, align, capped}
-use prog.Capped.{capped_is}
-use prog.RawLaws.{size-raw, align-raw}
-use base.Logic.{ent, never, fst∗}
+use Rattle.std.{proofs.{alloc.Calls.Al, mem.Param.{El, R, elτ}}, specs.{Mem.type_size, Prelude.None}}
+use Rattle.tp_slots.specs.{Cells.empty_at, CellsOwnership.{cell_owns, cells_own, row_from}}
 use base.Fml.{froom}
-use types.Logic.{Logic, sem}
-use types.Kit.{‵, move, ◌⊛◌, ◌$◌, ◌∵◌, !, qed, by, keep, use1, split, frame, done}
-use denote.RattleType.{RattleType}
+use base.Logic.{ent, never, fst∗}
 use denote.Param.{param, bounded}
+use denote.RattleType.{RattleType}
 use denote.RawPtr.{Ptr, block_ptr, null_ptr, ◌+ₚ◌}
-use Rattle.std.specs.Prelude.{None}
-use Rattle.std.specs.Mem.{type_size}
-use Rattle.std.proofs.mem.Param.{El, R, elτ}
-use Rattle.std.proofs.alloc.Calls.{Al}
-use Rattle.tp_slots.specs.Cells.{empty_at}
-use Rattle.tp_slots.specs.CellsOwnership.{cell_owns, cells_own, row_from}
+use mathlib.Core.{List.{List, [], ◌∷◌}, Path.{◌≡◌, refl, sym, ap, ◌∙◌}}
+use mir.Raw.{raw as bare}
+use mir.Syntax.{Ty, Args, a_type, ty_array, dcons, dnil}
+use native.Mathlib.{Nat.{zero-mul, suc-mul}, Omega.arith}
+use prog.Capped.{capped_is}
+use prog.Memory.{size, align, capped}
+use prog.RawLaws.{size-raw, align-raw}
+use seplogic.Ra.Ura.{Ura}
+use types.Kit.{‵, move, ◌⊛◌, ◌$◌, ◌∵◌, !, qed, by, keep, use1, split, frame, done}
+use types.Logic.{Logic, sem}
 
 -- if the product fits a word, the count is zero or the size fits too
 pub uncapped : (i k : ℕ) → i * k < 2 ^ 64 → i * capped k ≡ i * k

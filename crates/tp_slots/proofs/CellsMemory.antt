@@ -1,36 +1,29 @@
 -- What the walks of the functions on raw cells share. Assumes `Logic`.
 --     cell_out, cell_in, cell_seen      one cell is taken out of the row, put back, or seen
-use mathlib.Core.Path.{◌≡◌, refl, ap}
 use Prim.Native.Nat.{ℕ, zero, suc, ◌<◌}
-use native.Mathlib.Omega.{arith}
-use mathlib.Core.List.{List, [], ◌∷◌, ◌++◌}
-use lib.ListN.{length, set, take, drop}
-use seplogic.Ra.Ura.{Ura}
-use base.Fraction.{full_share}
-use mir.Val.{Val, vstruct, vcons, vnil}
-use base.Logic.{ent, sep, emp, ex, guard, via, fst∗, snd∗, id⊢}
+use Rattle.std.{proofs.{RcSteps.{Good, word}, mem.Param.{El, R, el_x}}, specs.Prelude.{Option, Some, None}}
+use Rattle.tp_slots.specs.{Cells.cell_at, CellsOwnership.{cell_owns, cells_own, cell_lent, cells_lent}}
 use base.Fml.{Fml, Lft, ftrue, fat, fsep}
-use types.Logic.{Logic, sem}
-use types.Kit.{check, show, Item, Goal, Step, step, ‵, some, pick, ◌⊛◌, ◌$◌, ◌∵◌, !, qed, move, drop as skip, use1, use2, split, fsplit}
-use types.Kit.{fjoin, fpack, feq_i, done}
+use base.Fraction.{full_share}
+use base.Logic.{ent, sep, emp, ex, guard, via, fst∗, snd∗, id⊢}
+use borrow.Table.OneValue.{part_in, part_out}
+use denote.Laws.{Is, shows}
+use denote.Memory.{part_at}
+use denote.Param.{param, layout, Laws.{Laws, param_laws}}
 use denote.RattleType.{RattleType, Valss}
 use denote.RawPtr.{Ptr, RawPtr, ptr_val}
 use denote.Shadow.{makes_shadow}
 use denote.Steps.{nothing, peeks}
-use denote.Laws.{Is, shows}
-use denote.Param.{param, layout}
-use denote.Param.Laws.{Laws, param_laws}
-use denote.Memory.{part_at}
+use denote.Struct.{Owning.shape, Struct.{Shape, Struct, within}, Tuple.{Tuple, tuple_type}}
+use lib.ListN.{length, set, take, drop}
+use mathlib.Core.{List.{List, [], ◌∷◌, ◌++◌}, Path.{◌≡◌, refl, ap}}
+use mir.Val.{Val, vstruct, vcons, vnil}
+use native.Mathlib.Omega.{arith}
+use seplogic.Ra.Ura.{Ura}
+use types.Kit.{check, show, Item, Goal, Step, step, ‵, some, pick, ◌⊛◌, ◌$◌, ◌∵◌, !, qed, move, drop as skip, use1, use2, split, fsplit}
+use types.Kit.{fjoin, fpack, feq_i, done}
+use types.Logic.{Logic, sem}
 use denote.Struct.Declared as Declared
-use denote.Struct.Tuple.{Tuple, tuple_type}
-use borrow.Table.OneValue.{part_in, part_out}
-use denote.Struct.Struct.{Shape, Struct, within}
-use denote.Struct.Owning.{shape}
-use Rattle.std.specs.Prelude.{Option, Some, None}
-use Rattle.std.proofs.mem.Param.{El, R, el_x}
-use Rattle.std.proofs.RcSteps.{Good, word}
-use Rattle.tp_slots.specs.Cells.{cell_at}
-use Rattle.tp_slots.specs.CellsOwnership.{cell_owns, cells_own, cell_lent, cells_lent}
 use Rattle.tp_slots.specs.contracts.cells.Cells as C-type
 use Rattle.tp_slots.specs.contracts.cells.At as B-type
 

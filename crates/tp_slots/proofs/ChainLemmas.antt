@@ -1,15 +1,11 @@
 -- The changes of a linked list keep its invariant.
-use Rattle.std.proofs.Common.{◌≡◌, ◌≢◌, ℕ, zero, suc, ◌<◌, ◌≤◌, List, [], ◌∷◌, ◌++◌, length, Option, Some, None, is_some, refl, sym, ap, subst, ◌∙◌, inl, inr, arith, append_assoc}
-use Rattle.std.proofs.lemmas.Bool.{cases_eq}
-use Rattle.std.proofs.lemmas.Bool.Decides.{nat_tests}
-use Rattle.std.proofs.lemmas.List.{length-set, get_or-set_same, get_or-set_other}
+use Rattle.std.proofs.Common.{◌≡◌, ◌≢◌, ℕ, zero, suc, ◌<◌, ◌≤◌, List, [], ◌∷◌, ◌++◌, length, Option, Some, None, is_some, refl, sym, ap}
+use Rattle.std.proofs.{Common.{subst, ◌∙◌, inl, inr, arith, append_assoc}, lemmas.{Bool.{cases_eq, Decides.nat_tests}, List.length-set}}
+use Rattle.std.proofs.lemmas.List.{get_or-set_same, get_or-set_other}
+use Rattle.tp_slots.{proofs.Standing.{stands, stands-cons, stands-push}, specs.{Cells.{cell_at, IsFull}, Chains.{IsLink, next_in, item_in}}}
+use Rattle.tp_slots.specs.{Chains.{next_at, led_to, with_next, IsPath, IsBack, IsChain, KeepsOthers}, declared.chains.Chain.Chain}
+use Rattle.tp_slots.specs.declared.chains.{Link.Link, Slot.Slot}
 use denote.RawPtr.{Ptr, null_ptr}
-use Rattle.tp_slots.specs.Cells.{cell_at, IsFull}
-use Rattle.tp_slots.specs.Chains.{IsLink, next_in, item_in, next_at, led_to, with_next, IsPath, IsBack, IsChain, KeepsOthers}
-use Rattle.tp_slots.specs.declared.chains.Link.{Link}
-use Rattle.tp_slots.specs.declared.chains.Slot.{Slot}
-use Rattle.tp_slots.specs.declared.chains.Chain.{Chain}
-use Rattle.tp_slots.proofs.Standing.{stands, stands-cons, stands-push}
 
 once_more : (places : List ℕ) (x : ℕ) → ((q : ℕ) → stands q places ≤ 1) → stands x places ≡ 0 → (q : ℕ) → stands q (places ++ x ∷ []) ≤ 1
 once_more places x once none q = elim (cases_eq x q) [

@@ -1,17 +1,10 @@
 -- How several lists change.
 use Rattle.std.proofs.Common.{◌≡◌, ◌≢◌, ℕ, zero, suc, ◌+◌, ◌<◌, ◌≤◌, true, false, List, [], ◌∷◌, ◌++◌, length, get_or, set, Option, Some}
-use Rattle.std.proofs.Common.{None, is_some, refl, ap, subst, ◌∙◌, inl, inr, arith}
-use Rattle.std.proofs.lemmas.Bool.{cases_eq}
-use Rattle.std.proofs.lemmas.Bool.Decides.{nat_tests}
+use Rattle.std.proofs.{Common.{None, is_some, refl, ap, subst, ◌∙◌, inl, inr, arith}, lemmas.Bool.{cases_eq, Decides.nat_tests}}
+use Rattle.tp_slots.{proofs.Sound.{stands, stands-cons, stands-le-times}, specs.{Cells.cell_at, Chains.{IsLink, next_in, next_at, IsPath}}}
+use Rattle.tp_slots.specs.{Chains.{IsBack, IsChain, KeepsOthers}, Content.{times, with_last}, Lists.AreChains, declared.chains.Chain.Chain}
+use Rattle.tp_slots.specs.declared.chains.{Link.Link, Slot.Slot}
 use denote.RawPtr.{Ptr}
-use Rattle.tp_slots.specs.Cells.{cell_at}
-use Rattle.tp_slots.specs.Chains.{IsLink, next_in, next_at, IsPath, IsBack, IsChain, KeepsOthers}
-use Rattle.tp_slots.specs.declared.chains.Link.{Link}
-use Rattle.tp_slots.specs.declared.chains.Slot.{Slot}
-use Rattle.tp_slots.specs.declared.chains.Chain.{Chain}
-use Rattle.tp_slots.specs.Content.{times, with_last}
-use Rattle.tp_slots.proofs.Sound.{stands, stands-cons, stands-le-times}
-use Rattle.tp_slots.specs.Lists.{AreChains}
 
 two_lists : (rs : List (List ℕ)) (i k p : ℕ) → i ≢ k → stands p (get_or rs i []) + stands p (get_or rs k []) ≤ times p rs
 two_lists [] i k p ne = omega arith

@@ -1,22 +1,13 @@
 -- The addresses of the cells of a block, and how blocks are freed.
 use Rattle.std.proofs.Common.{◌≡◌, ℕ, zero, suc, ◌+◌, ◌*◌, ◌<◌, ◌≤◌, List, [], ◌∷◌, ◌++◌, length, take, drop, map as each, get_or, set}
-use Rattle.std.proofs.Common.{Option, None, inl, inr, refl, sym, ap, subst, ◌∙◌, arith, append_assoc, append-nil}
-use Rattle.std.proofs.lemmas.Bool.{cases_eq}
-use Rattle.std.proofs.lemmas.List.{get_or-set_same, get_or-set_other}
-use Rattle.std.proofs.Math.Seq.{map-set_same}
+use Rattle.std.proofs.{Common.{Option, None, inl, inr, refl, sym, ap, subst, ◌∙◌, arith, append_assoc, append-nil}, Math.Seq.map-set_same}
+use Rattle.std.{proofs.lemmas.{Bool.cases_eq, List.{get_or-set_same, get_or-set_other, length-append}}, specs.{List.All, Mem.type_size}}
+use Rattle.std.specs.declared.alloc.Global.{Global}
+use Rattle.tp_slots.{proofs.Keeping.{some_slot, located, decide_lt}, specs.Blocks.{IsBlock, rows_of, pointers_of, pointers_in, HoldsFirst}}
+use Rattle.tp_slots.specs.{Cells.{empty_at, cell_at, IsFull}, CellsOwnership.row_from, declared.{blocks.Block.Block, cells.At.At}}
+use Rattle.tp_slots.specs.declared.chains.Slot.{Slot}
 use denote.RattleType.{RattleType}
 use denote.RawPtr.{Ptr, block_ptr, null_ptr, ◌+ₚ◌}
-use Rattle.std.specs.Mem.{type_size}
-use Rattle.std.specs.List.{All}
-use Rattle.std.proofs.lemmas.List.{length-append}
-use Rattle.std.specs.declared.alloc.Global.{Global}
-use Rattle.tp_slots.specs.Cells.{empty_at, cell_at, IsFull}
-use Rattle.tp_slots.specs.Blocks.{IsBlock, rows_of, pointers_of, pointers_in, HoldsFirst}
-use Rattle.tp_slots.specs.declared.cells.At.{At}
-use Rattle.tp_slots.proofs.Keeping.{some_slot, located, decide_lt}
-use Rattle.tp_slots.specs.declared.blocks.Block.{Block}
-use Rattle.tp_slots.specs.CellsOwnership.{row_from}
-use Rattle.tp_slots.specs.declared.chains.Slot.{Slot}
 
 -- this many pointers, each s bytes after the one before
 abbrev pub pointers_from : ℕ → Ptr → ℕ → List Ptr

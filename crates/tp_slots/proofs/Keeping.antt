@@ -1,31 +1,17 @@
 -- How each call keeps the slots linked, counted and housed.
+use Rattle.slab.{proofs.SlabLemmas.Updates-set, specs.Slab.Slab}
 use Rattle.std.proofs.Common.{◌≡◌, ◌≢◌, ℕ, zero, suc, ◌+◌, ◌<◌, ◌≤◌, ◌⊎◌, true, List, [], ◌∷◌, length, get_or, set, map as each, replicate}
-use Rattle.std.proofs.Common.{Option, Some, None, is_some, refl, sym, ap, subst, ◌∙◌, inl, inr, arith}
-use Rattle.std.proofs.lemmas.Bool.{cases_eq}
-use Rattle.std.proofs.lemmas.Bool.Decides.{nat_tests}
-use Rattle.std.proofs.lemmas.List.{length-replicate, length-set, length-map, map-set, get_or-set_same, get_or-set_other}
-use Rattle.std.proofs.lemmas.List.Sums.{count_by-le-length}
-use Rattle.std.proofs.Math.ListN.{get_or-map}
-use Rattle.std.specs.FinMap as map
-use Rattle.std.specs.declared.alloc.Global.{Global}
-use denote.RawPtr.{Ptr, null_ptr}
-use Rattle.slab.specs.Slab.{Slab}
-use Rattle.slab.proofs.SlabLemmas.{Updates-set}
-use Rattle.tp_slots.specs.Cells.{cell_at}
-use Rattle.tp_slots.specs.Chains.{next_in, item_in, next_at, IsPath, IsChain}
-use Rattle.tp_slots.specs.declared.chains.Link.{Link}
-use Rattle.tp_slots.specs.declared.chains.Slot.{Slot}
-use Rattle.tp_slots.specs.declared.chains.Chain.{Chain}
-use Rattle.tp_slots.specs.declared.cells.At.{At}
-use Rattle.tp_slots.proofs.ChainLemmas.{full_inside}
-use Rattle.tp_slots.specs.Content.{item_at, IsTaken, with_item, without_item, IsSound}
-use Rattle.tp_slots.proofs.Sound.{stands, stands-cons, distinct_keys}
-use Rattle.tp_slots.proofs.SlabItems.{items_of, get-items_of, len-items_of, items_of-insert, items_of-remove}
-use Rattle.tp_slots.specs.Lists.{AreChains}
-use Rattle.tp_slots.specs.Blocks.{pointers_of, pointers_in, HoldsFirst}
+use Rattle.std.proofs.{Common.{Option, Some, None, is_some, refl, sym, ap, subst, ◌∙◌, inl, inr, arith}, Math.ListN.get_or-map}
+use Rattle.std.proofs.lemmas.{Bool.{cases_eq, Decides.nat_tests}, List.{length-replicate, length-set, length-map, map-set, get_or-set_same}}
+use Rattle.std.{proofs.lemmas.List.{get_or-set_other, Sums.count_by-le-length}, specs.declared.alloc.Global.Global}
+use Rattle.tp_slots.proofs.{ChainLemmas.full_inside, Chained.{KeepsLinks, chain_same, chains_same}, SlabItems.{items_of, get-items_of}}
+use Rattle.tp_slots.proofs.{SlabItems.{len-items_of, items_of-insert, items_of-remove}, Sound.{stands, stands-cons, distinct_keys}}
+use Rattle.tp_slots.specs.{Blocks.{pointers_of, pointers_in, HoldsFirst}, Cells.cell_at, Chains.{next_in, item_in, next_at, IsPath}}
+use Rattle.tp_slots.specs.{Chains.IsChain, Content.{item_at, IsTaken, with_item, without_item, IsSound}, Lists.AreChains}
 use Rattle.tp_slots.specs.RawSlots.{places_from, places_of, items_in, content_of, raw_content, IsLinked, IsCounted, IsHoused, IsRaw}
-use Rattle.tp_slots.specs.declared.blocks.Block.{Block}
-use Rattle.tp_slots.proofs.Chained.{KeepsLinks, chain_same, chains_same}
+use Rattle.tp_slots.specs.declared.{blocks.Block.Block, cells.At.At, chains.{Chain.Chain, Link.Link, Slot.Slot}}
+use denote.RawPtr.{Ptr, null_ptr}
+use Rattle.std.specs.FinMap as map
 
 full_row : (n q : ℕ) → q < n → get_or {A = Option ℕ} (replicate n (Some 0)) q None ≡ Some 0
 full_row zero q h = absurd (omega arith)

@@ -1,22 +1,16 @@
 -- How `SlabSlots` keeps its invariant.
+use Rattle.slab.specs.Slab.{Slab, slab_len, HasRoomFor, Updates, ContainsKey, with_value}
 use Rattle.std.proofs.Common.{◌≡◌, ℕ, suc, ◌+◌, ◌-◌, ◌<◌, ◌≤◌, ◌==◌, true, false, cond, List, length, get_or, [], Result, Ok, Err, IfErr}
 use Rattle.std.proofs.Common.{Option, Some, None, is_some, IfSome, refl, sym, ap, subst, ◌∙◌, inl, inr, arith, deque_len}
-use Rattle.std.proofs.lemmas.Bool.{cases_eq}
-use Rattle.std.proofs.lemmas.Bool.Decides.{nat_tests}
-use Rattle.std.specs.VecDeque.{deque_capacity}
+use Rattle.std.{proofs.lemmas.Bool.{cases_eq, Decides.nat_tests}, specs.{Cmp.nat_cmp_total, Result.IsErrAnd, VecDeque.deque_capacity}}
 use Rattle.std.specs.declared.collections.VecDeque.{VecDeque}
-use Rattle.std.specs.Cmp.{nat_cmp_total}
-use Rattle.std.specs.FinMap as map
-use Rattle.slab.specs.Slab.{Slab, slab_len, HasRoomFor, Updates, ContainsKey, with_value}
-use Rattle.std.specs.Result.{IsErrAnd}
-use Rattle.tp_base.specs.declared.refusal.Refusal.{Refusal}
-use Rattle.tp_base.specs.declared.refusal.Refusal.TheVariants.{NoMemory, StoreFull}
-use Rattle.tp_slots.specs.SlabSlots.{Roomy, places_of, content_of, EachHolds, IsKept}
-use Rattle.tp_slots.specs.Content.{Content, IsTaken, IsIdle, held_count, refusal_of_take, with_item, without_item, front, without_front}
-use Rattle.tp_slots.specs.Content.{with_last, IsSound}
+use Rattle.tp_base.specs.declared.refusal.Refusal.{Refusal, TheVariants.{NoMemory, StoreFull}}
 use Rattle.tp_slots.proofs.SlabItems.{items_of, get-items_of, len-items_of, items_of-insert, items_of-remove, items_of-with_value, items_at}
 use Rattle.tp_slots.proofs.Sound.{room_to_push, IsSound-with_item, IsSound-without_item, IsSound-with_ready, IsSound-without_next}
-use Rattle.tp_slots.proofs.Sound.{IsIdle-front}
+use Rattle.tp_slots.{proofs.Sound.IsIdle-front, specs.Content.{Content, IsTaken, IsIdle, held_count, refusal_of_take, with_item}}
+use Rattle.tp_slots.specs.{Content.{without_item, front, without_front, with_last, IsSound}, SlabSlots.{Roomy, places_of, content_of}}
+use Rattle.tp_slots.specs.SlabSlots.{EachHolds, IsKept}
+use Rattle.std.specs.FinMap as map
 
 module _ {T : Type 0} where
   len_rewritten : (s : Slab T) (key : ℕ) (v : T) → ContainsKey s key → slab_len (with_value s key v) ≡ slab_len s

@@ -1,39 +1,22 @@
 -- The slots after each call.
-use Rattle.std.proofs.Common.{◌≡◌, ◌≢◌, ℕ, zero, suc, ◌+◌, ◌*◌, ◌<◌, ◌≤◌, false, cond, List, [], ◌∷◌, ◌++◌, length, get_or, set, Option}
-use Rattle.std.proofs.Common.{Some, None, is_some, refl, sym, ap, subst, ◌∙◌, inl, inr, arith}
-use Rattle.std.proofs.lemmas.Bool.{cases_eq}
-use Rattle.std.proofs.lemmas.Bool.Decides.{nat_tests}
-use Rattle.std.specs.Ordering.{nat_cmp}
-use Rattle.std.specs.Cmp.{nat_cmp_total}
-use Rattle.std.specs.FinMap as map
-use Rattle.std.specs.declared.alloc.Global.{Global}
-use denote.RawPtr.{Ptr, null_ptr}
 use Rattle.slab.specs.Slab.{entries_from}
-use Rattle.tp_slots.specs.Cells.{cell_at, IsFull}
-use Rattle.tp_slots.specs.Chains.{next_in, item_in, next_at, IsChain, KeepsOthers}
-use Rattle.tp_slots.specs.ChainLends.{slot_with, holding, with_item_at, vacated, without_item_at}
-use Rattle.tp_slots.specs.declared.chains.Link.{Link}
-use Rattle.tp_slots.specs.declared.chains.Slot.{Slot}
-use Rattle.tp_slots.specs.declared.chains.Chain.{Chain}
-use Rattle.tp_slots.specs.declared.cells.At.{At}
-use Rattle.tp_slots.specs.Content.{Content, times, item_at, IsTaken, IsIdle, with_item, without_item, with_ready, with_last, front}
-use Rattle.tp_slots.specs.Content.{without_front, held_count, IsSound}
-use Rattle.tp_slots.proofs.Sound.{stands, stands-cons, stands-le-times, times-with_last, times-front, without_front-empty}
-use Rattle.tp_slots.proofs.Sound.{IsSound-with_item, IsSound-without_item, IsSound-with_ready, IsSound-without_next}
-use Rattle.tp_slots.specs.Lists.{AreChains}
-use Rattle.tp_slots.specs.Blocks.{pointers_of, pointers_in, HoldsFirst}
-use Rattle.tp_slots.specs.RawSlots.{items_in, content_of, IsLinked, IsHoused}
-use Rattle.tp_slots.specs.declared.blocks.Block.{Block}
-use Rattle.std.proofs.lemmas.List.{get_or-set_same, length-append, length-map, get_or_append_left}
-use Rattle.std.proofs.lemmas.List.Elements.{All-push}
-use Rattle.tp_slots.specs.Cells.{empty_at}
-use Rattle.tp_slots.specs.Chains.{IsPath, IsBack}
-use Rattle.tp_slots.proofs.Sound.{IsSound-nothing_held}
-use Rattle.tp_slots.specs.Blocks.{IsBlock, rows_of}
-use Rattle.tp_slots.proofs.Housed.{rows_pushed, rows_long}
-use Rattle.tp_slots.proofs.Chained.{KeepsLinks, others_kept, next_kept, chain_same, chains_same}
+use Rattle.std.proofs.Common.{◌≡◌, ◌≢◌, ℕ, zero, suc, ◌+◌, ◌*◌, ◌<◌, ◌≤◌, false, cond, List, [], ◌∷◌, ◌++◌, length, get_or, set, Option}
+use Rattle.std.proofs.{Common.{Some, None, is_some, refl, sym, ap, subst, ◌∙◌, inl, inr, arith}, lemmas.Bool.{cases_eq, Decides.nat_tests}}
+use Rattle.std.proofs.lemmas.List.{get_or-set_same, length-append, length-map, get_or_append_left, Elements.All-push}
+use Rattle.std.specs.{Cmp.nat_cmp_total, Ordering.nat_cmp, declared.alloc.Global.Global}
+use Rattle.tp_slots.proofs.{Chained.{KeepsLinks, others_kept, next_kept, chain_same, chains_same}, Housed.{rows_pushed, rows_long}}
 use Rattle.tp_slots.proofs.Keeping.{decide_lt, RawBy, raw_item, taken_slot, items_same, pointers_same, put_linked, put_tabled, put_first}
-use Rattle.tp_slots.proofs.Keeping.{put_pointers, content_put, content_cleared, length_put, put_links}
+use Rattle.tp_slots.proofs.{Keeping.{put_pointers, content_put, content_cleared, length_put, put_links}, Sound.{stands, stands-cons}}
+use Rattle.tp_slots.proofs.Sound.{stands-le-times, times-with_last, times-front, without_front-empty, IsSound-with_item}
+use Rattle.tp_slots.proofs.Sound.{IsSound-without_item, IsSound-with_ready, IsSound-without_next, IsSound-nothing_held}
+use Rattle.tp_slots.specs.{Blocks.{pointers_of, pointers_in, HoldsFirst, IsBlock, rows_of}, Cells.{cell_at, IsFull, empty_at}}
+use Rattle.tp_slots.specs.{ChainLends.{slot_with, holding, with_item_at, vacated, without_item_at}, Chains.{next_in, item_in, next_at}}
+use Rattle.tp_slots.specs.{Chains.{IsChain, KeepsOthers, IsPath, IsBack}, Content.{Content, times, item_at, IsTaken, IsIdle, with_item}}
+use Rattle.tp_slots.specs.{Content.{without_item, with_ready, with_last, front, without_front, held_count, IsSound}, Lists.AreChains}
+use Rattle.tp_slots.specs.{RawSlots.{items_in, content_of, IsLinked, IsHoused}, declared.{blocks.Block.Block, cells.At.At}}
+use Rattle.tp_slots.specs.declared.chains.{Chain.Chain, Link.Link, Slot.Slot}
+use denote.RawPtr.{Ptr, null_ptr}
+use Rattle.std.specs.FinMap as map
 
 -- no place is in more lists without the front
 fewer : (rs : List (List ℕ)) (p : ℕ) → times p (without_front rs) ≤ times p rs

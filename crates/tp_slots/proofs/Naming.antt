@@ -1,26 +1,18 @@
 -- How the commands keep `Tells`: what the names say of a state.
 use Rattle.std.proofs.Common.{◌≡◌, ◌≢◌, ℕ, zero, suc, ◌+◌, ◌<◌, ◌≤◌, ◌==◌, nat_lt, Bool, true, false, cond, List, [], ◌∷◌, ◌++◌, map}
 use Rattle.std.proofs.Common.{length, get_or, set, Option, Some, None, is_some, IsSome, count_by, refl, sym, ap, subst, ◌∙◌, inl, inr}
-use Rattle.std.proofs.Common.{arith}
-use Rattle.std.proofs.lemmas.Bool.{cases_eq, cases_lt}
-use Rattle.std.proofs.lemmas.Bool.Decides.{nat_tests}
-use Rattle.std.proofs.lemmas.List.{length-set, length-append, get_or-set_same, get_or-set_other, get_or_past}
-use Rattle.std.proofs.lemmas.List.Sums.{sum_by-cons, sum_by-append, sum_by-set}
-use Rattle.std.specs.Ordering.{nat_cmp, eq_by_cmp}
-use Rattle.std.specs.Cmp.{nat_cmp_total, unsigned_tied}
-use Rattle.std.specs.FinMap as map
-use Rattle.tp_slots.specs.Content.{Content, times, front, without_front, with_last, item_at, IsIdle, held_count, with_item, without_item}
-use Rattle.tp_slots.specs.Content.{with_ready, without_next, nothing_held}
-use Rattle.tp_slots.specs.Commands.{State, start, held, is_listed, is_full, reply_of, after}
+use Rattle.std.proofs.{Common.arith, lemmas.{Bool.{cases_eq, cases_lt, Decides.nat_tests}, List.{length-set, length-append}}}
+use Rattle.std.proofs.lemmas.List.{get_or-set_same, get_or-set_other, get_or_past, Sums.{sum_by-cons, sum_by-append, sum_by-set}}
+use Rattle.std.specs.{Cmp.{nat_cmp_total, unsigned_tied}, Ordering.{nat_cmp, eq_by_cmp}}
 use Rattle.tp_base.specs.declared.Refusal.TheVariants.{StoreFull}
-use Rattle.tp_slots.specs.declared.run.Command.TheVariants.{Take, PushReady, GiveBack}
-use Rattle.tp_slots.specs.declared.run.Reply.TheVariants.{Taken, Refused, Plain, Item}
-use Rattle.tp_slots.specs.Names.{name_at, place_of, Agrees, Tells}
-use Rattle.tp_slots.specs.declared.run.Standing.{Standing}
-use Rattle.tp_slots.specs.declared.run.Standing.TheVariants.{Gone, Held}
-use Rattle.tp_slots.proofs.PlaceLists.{each, same_each, front-each, front_none-each, without_front-each, with_last-each}
-use Rattle.tp_slots.proofs.Sound.{stands, stands-cons, times-with_last, times-front, length-without_front, without_front-empty}
-use Rattle.tp_slots.proofs.Sound.{get_inserted, get_removed}
+use Rattle.tp_slots.proofs.{PlaceLists.{each, same_each, front-each, front_none-each, without_front-each, with_last-each}, Sound.stands}
+use Rattle.tp_slots.proofs.Sound.{stands-cons, times-with_last, times-front, length-without_front, without_front-empty, get_inserted}
+use Rattle.tp_slots.{proofs.Sound.get_removed, specs.{Commands.{State, start, held, is_listed, is_full, reply_of, after}, Content.Content}}
+use Rattle.tp_slots.specs.Content.{times, front, without_front, with_last, item_at, IsIdle, held_count, with_item, without_item, with_ready}
+use Rattle.tp_slots.specs.{Content.{without_next, nothing_held}, Names.{name_at, place_of, Agrees, Tells}}
+use Rattle.tp_slots.specs.declared.run.{Command.TheVariants.{Take, PushReady, GiveBack}, Reply.TheVariants.{Taken, Refused, Plain, Item}}
+use Rattle.tp_slots.specs.declared.run.Standing.{Standing, TheVariants.{Gone, Held}}
+use Rattle.std.specs.FinMap as map
 
 module _ {X : Type 0} where
   pub get_or_push_other : (xs : List X) (x d : X) (j : ℕ) → j ≢ length xs → get_or (xs ++ x ∷ []) j d ≡ get_or xs j d

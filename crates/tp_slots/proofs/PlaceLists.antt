@@ -1,8 +1,7 @@
 -- The four lists with a function applied to each place.
 use Rattle.std.proofs.Common.{◌≡◌, ℕ, zero, suc, ◌<◌, List, [], ◌∷◌, ◌++◌, map, length, Some, None, refl, sym, ap, ◌∙◌, arith}
 use Rattle.std.proofs.lemmas.Bool.Decides.{nat_tests}
-use Rattle.tp_slots.specs.Content.{times, front, without_front, with_last}
-use Rattle.tp_slots.proofs.Sound.{stands, stands-cons}
+use Rattle.tp_slots.{proofs.Sound.{stands, stands-cons}, specs.Content.{times, front, without_front, with_last}}
 
 module _ {X : Type 0} where
   -- the lists, with f of each

@@ -1,12 +1,8 @@
 -- The blocks of slots, and the table of the addresses of slots.
 use Rattle.std.specs.Prelude.{◌≡◌, ℕ, ◌<◌, ◌≤◌, List, [], ◌∷◌, ◌++◌, map, length, Option, None, is_some, true}
-use denote.RawPtr.{Ptr}
 use Rattle.std.specs.declared.alloc.Global.{Global}
-use Rattle.tp_slots.specs.Cells.{cell_at}
-use Rattle.tp_slots.specs.declared.chains.Slot.{Slot}
-use Rattle.tp_slots.specs.declared.cells.At.{At}
-use Rattle.tp_slots.specs.declared.blocks.Block.{Block}
-use Rattle.tp_slots.specs.declared.blocks.TheConstants.{BLOCK}
+use Rattle.tp_slots.specs.{Cells.cell_at, declared.{blocks.{Block.Block, TheConstants.BLOCK}, cells.At.At, chains.Slot.Slot}}
+use denote.RawPtr.{Ptr}
 
 module _ {T : Type 0} where
   -- the right to free the block covers its number of cells, from its address on, and this allocator

@@ -1,16 +1,15 @@
 -- The memory that raw cells own and lend, for values of the row R.
-use Rattle.std.specs.Prelude.{ℕ, zero, suc, ◌*◌, ◌^◌, List, [], ◌∷◌, Option, Some, None}
-use base.Fraction.{full_share}
-use base.Fml.{Lft, Fml, ftrue, fsep, flt, feq}
-use mir.Syntax.{Ty, ty_array}
-use mir.Raw.{raw}
-use denote.RattleType.{RattleType}
-use denote.Memory.{lone}
-use denote.Sharing.{nothing, beside}
-use denote.RawPtr.{Ptr, lies_at, room_for, ◌+ₚ◌}
-use denote.Struct.Lending.{lent_at}
-use Rattle.std.specs.Mem.{type_size}
+use Rattle.std.specs.{Mem.type_size, Prelude.{ℕ, zero, suc, ◌*◌, ◌^◌, List, [], ◌∷◌, Option, Some, None}}
 use Rattle.tp_slots.specs.Cells.{empty_at}
+use base.Fml.{Lft, Fml, ftrue, fsep, flt, feq}
+use base.Fraction.{full_share}
+use denote.Memory.{lone}
+use denote.RattleType.{RattleType}
+use denote.RawPtr.{Ptr, lies_at, room_for, ◌+ₚ◌}
+use denote.Sharing.{nothing, beside}
+use denote.Struct.Lending.{lent_at}
+use mir.Raw.{raw}
+use mir.Syntax.{Ty, ty_array}
 
 module _ (R : RattleType) where
   -- one cell: its value, or the memory for one

@@ -1,13 +1,8 @@
 -- The slots after a `&mut` to an item has ended.
-use Rattle.std.specs.Prelude.{ℕ, List, slice_set, Option, Some, None}
-use Rattle.std.specs.Borrow.{Fml, RattleType, MutBor, Lends}
+use Rattle.std.specs.{Borrow.{Fml, RattleType, MutBor, Lends}, Prelude.{ℕ, List, slice_set, Option, Some, None}}
+use Rattle.tp_slots.specs.{Cells.cell_at, CellsLends.with_cells, contracts.cells.Cells.the_row as cells_row}
+use Rattle.tp_slots.specs.{contracts.chains.Slot.the_row as slot_row, declared.{cells.Cells.Cells, chains.Slot.Slot}}
 use denote.RawPtr.{Ptr}
-use Rattle.tp_slots.specs.Cells.{cell_at}
-use Rattle.tp_slots.specs.CellsLends.{with_cells}
-use Rattle.tp_slots.specs.declared.cells.Cells.{Cells}
-use Rattle.tp_slots.specs.declared.chains.Slot.{Slot}
-use Rattle.tp_slots.specs.contracts.cells.Cells.{the_row as cells_row}
-use Rattle.tp_slots.specs.contracts.chains.Slot.{the_row as slot_row}
 
 module _ {T : Type 0} where
   abbrev pub slot_with : Slot T → T → Slot T

@@ -1,10 +1,7 @@
 -- Linked lists of slots.
 use Rattle.std.specs.Prelude.{◌≡◌, ℕ, ◌≤◌, ◌==◌, List, [], ◌∷◌, ◌++◌, length, count_by, slice_set, Option, None, Some, is_some}
+use Rattle.tp_slots.specs.{Cells.{cell_at, IsFull}, declared.chains.{Chain.Chain, Link.Link, Slot.Slot}}
 use denote.RawPtr.{Ptr}
-use Rattle.tp_slots.specs.Cells.{cell_at, IsFull}
-use Rattle.tp_slots.specs.declared.chains.Link.{Link}
-use Rattle.tp_slots.specs.declared.chains.Slot.{Slot}
-use Rattle.tp_slots.specs.declared.chains.Chain.{Chain}
 
 module _ {T : Type 0} where
   -- the link has the address of its slot

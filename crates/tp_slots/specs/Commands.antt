@@ -1,13 +1,11 @@
 -- The replies of a run of commands. Items are numbered by their `Take` commands, from 0, so nothing here depends on places.
 use Rattle.std.specs.Prelude.{ℕ, ◌==◌, nat_lt, List, [], ◌∷◌, ◌++◌, length, count_by, slice_index_or, slice_set, Option, None, Some}
 use Rattle.std.specs.Prelude.{is_some, Bool, if◌then◌else◌}
-use Rattle.tp_base.specs.declared.limits.TheConstants.{CLASSES, MAX_LIVE_TASKS}
-use Rattle.tp_base.specs.declared.refusal.Refusal.TheVariants.{NoTask, WrongLife, BadSpec, StoreFull}
-use Rattle.tp_slots.specs.declared.run.Command.{Command}
-use Rattle.tp_slots.specs.declared.run.Command.TheVariants.{Take, PushReady, PopReady, Get, GiveBack}
-use Rattle.tp_slots.specs.declared.run.Reply.{Reply}
-use Rattle.tp_slots.specs.declared.run.Reply.TheVariants.{Taken, Refused, Plain, Next, Item}
-use Rattle.tp_slots.specs.Content.{times, front, without_front, with_last}
+use Rattle.tp_base.specs.declared.{limits.TheConstants.{CLASSES, MAX_LIVE_TASKS}, refusal.Refusal.TheVariants.{NoTask, WrongLife, BadSpec}}
+use Rattle.tp_base.specs.declared.refusal.Refusal.TheVariants.{StoreFull}
+use Rattle.tp_slots.specs.{Content.{times, front, without_front, with_last}, declared.run.Command.{Command, TheVariants.{Take, PushReady}}}
+use Rattle.tp_slots.specs.declared.run.{Command.TheVariants.{PopReady, Get, GiveBack}, Reply.{Reply, TheVariants.{Taken, Refused, Plain}}}
+use Rattle.tp_slots.specs.declared.run.Reply.TheVariants.{Next, Item}
 
 -- the item of each `Take`, or none if it was refused or given back; and the numbers in the four queues
 pub record State : Type 0 where

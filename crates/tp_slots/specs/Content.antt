@@ -1,12 +1,8 @@
 -- The content of slots: items at places, and the queues of ready places.
-use Rattle.std.specs.Prelude.{◌≡◌, ℕ, ◌+◌, ◌<◌, ◌≤◌, ◌==◌, List, [], ◌∷◌, ◌++◌, length, count_by, slice_set, slice_index_or, Option, None}
-use Rattle.std.specs.Prelude.{Some, IsSome, if◌then◌else◌, refl}
-use Rattle.std.specs.Ordering.{nat_cmp}
+use Rattle.std.specs.{Coded.{Coded, code_by, coded×, coded_list, coded_ℕ}, Ordering.nat_cmp, Prelude.{◌≡◌, ℕ, ◌+◌, ◌<◌, ◌≤◌, ◌==◌, List}}
+use Rattle.std.specs.Prelude.{[], ◌∷◌, ◌++◌, length, count_by, slice_set, slice_index_or, Option, None, Some, IsSome, if◌then◌else◌, refl}
+use Rattle.tp_base.specs.declared.{limits.TheConstants.MAX_LIVE_TASKS, refusal.Refusal.{Refusal, TheVariants.{NoMemory, StoreFull}}}
 use Rattle.std.specs.FinMap as map
-use Rattle.std.specs.Coded.{Coded, code_by, coded×, coded_list, coded_ℕ}
-use Rattle.tp_base.specs.declared.limits.TheConstants.{MAX_LIVE_TASKS}
-use Rattle.tp_base.specs.declared.refusal.Refusal.{Refusal}
-use Rattle.tp_base.specs.declared.refusal.Refusal.TheVariants.{NoMemory, StoreFull}
 
 -- the item at each taken place, and the queues of ready places, first to last
 pub record Content (T : Type 0) : Type 0 where

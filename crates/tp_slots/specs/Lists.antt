@@ -1,9 +1,7 @@
 -- Several linked lists of slots.
 use Rattle.std.specs.Prelude.{ℕ, List, [], ◌∷◌, Option}
+use Rattle.tp_slots.specs.{Chains.IsChain, declared.chains.{Chain.Chain, Slot.Slot}}
 use denote.RawPtr.{Ptr}
-use Rattle.tp_slots.specs.Chains.{IsChain}
-use Rattle.tp_slots.specs.declared.chains.Slot.{Slot}
-use Rattle.tp_slots.specs.declared.chains.Chain.{Chain}
 
 -- each list has the places at the same position of the second list
 abbrev pub AreChains : {T : Type 0} → List (Ptr × Option (Slot T)) → List (Chain T) → List (List ℕ) → Type 0

@@ -1,12 +1,8 @@
 -- How a run of commands maps the numbers of `Take` commands to places.
-use Rattle.std.specs.Prelude.{◌≡◌, ℕ, ◌≤◌, List, map, length, count_by, slice_index_or, Option, None, Some, is_some, IsSome, Bool, false}
-use Rattle.std.specs.Ordering.{nat_cmp}
-use Rattle.std.specs.BTreeMap.{get}
-use Rattle.tp_slots.specs.Content.{Content, times, item_at, held_count}
-use Rattle.tp_slots.specs.Commands.{State, held, is_listed}
-use Rattle.tp_slots.specs.declared.run.Standing.{Standing}
-use Rattle.tp_slots.specs.declared.run.Standing.TheVariants.{Gone, Held}
-use Rattle.tp_slots.specs.declared.run.Names.{Names}
+use Rattle.std.specs.{BTreeMap.get, Ordering.nat_cmp, Prelude.{◌≡◌, ℕ, ◌≤◌, List, map, length, count_by, slice_index_or, Option, None}}
+use Rattle.std.specs.Prelude.{Some, is_some, IsSome, Bool, false}
+use Rattle.tp_slots.specs.{Commands.{State, held, is_listed}, Content.{Content, times, item_at, held_count}, declared.run.Names.Names}
+use Rattle.tp_slots.specs.declared.run.Standing.{Standing, TheVariants.{Gone, Held}}
 
 abbrev pub name_at : List Standing → ℕ → Standing
 name_at names k = slice_index_or names k Gone

@@ -1,22 +1,12 @@
 -- How `RawSlots` keeps its content.
-use Rattle.std.specs.Prelude.{◌≡◌, ℕ, zero, suc, ◌+◌, ◌<◌, ◌≤◌, ◌==◌, List, [], ◌∷◌, map as each, length, count_by, Option, None, Some}
-use Rattle.std.specs.Ordering.{nat_cmp}
-use Rattle.std.specs.FinMap as map
-use Rattle.std.specs.List.{All}
-use Rattle.std.specs.declared.alloc.Global.{Global}
-use denote.RawPtr.{Ptr}
 use Rattle.slab.specs.Slab.{entries_from}
-use Rattle.tp_slots.specs.Content.{Content, times, IsSound}
-use Rattle.tp_slots.specs.Cells.{cell_at}
-use Rattle.tp_slots.specs.Chains.{item_in, next_at, IsChain}
-use Rattle.tp_slots.specs.declared.chains.Link.{Link}
-use Rattle.tp_slots.specs.declared.chains.Slot.{Slot}
-use Rattle.tp_slots.specs.declared.chains.Chain.{Chain}
-use Rattle.tp_slots.specs.declared.cells.At.{At}
-use Rattle.tp_slots.specs.Lists.{AreChains}
-use Rattle.tp_slots.specs.Blocks.{IsBlock, rows_of, pointers_of, HoldsFirst}
-use Rattle.tp_slots.specs.declared.blocks.Block.{Block}
-use Rattle.tp_slots.specs.declared.blocks.TheConstants.{BLOCKS}
+use Rattle.std.specs.{List.All, Ordering.nat_cmp, Prelude.{◌≡◌, ℕ, zero, suc, ◌+◌, ◌<◌, ◌≤◌, ◌==◌, List, [], ◌∷◌, map as each, length}}
+use Rattle.std.specs.{Prelude.{count_by, Option, None, Some}, declared.alloc.Global.Global}
+use Rattle.tp_slots.specs.{Blocks.{IsBlock, rows_of, pointers_of, HoldsFirst}, Cells.cell_at, Chains.{item_in, next_at, IsChain}}
+use Rattle.tp_slots.specs.{Content.{Content, times, IsSound}, Lists.AreChains, declared.blocks.{Block.Block, TheConstants.BLOCKS}}
+use Rattle.tp_slots.specs.declared.{cells.At.At, chains.{Chain.Chain, Link.Link, Slot.Slot}}
+use denote.RawPtr.{Ptr}
+use Rattle.std.specs.FinMap as map
 
 module _ {T : Type 0} where
   -- the places from this link on, up to this count

@@ -1,13 +1,10 @@
 -- How `SlabSlots` keeps its content.
-use Rattle.std.specs.Prelude.{ℕ, ◌+◌, ◌≤◌, List, map as each, refl}
-use Rattle.std.specs.FinMap as map
-use Rattle.std.specs.Coded.{Coded, code_by, coded×, coded_ℕ}
-use Rattle.std.specs.List.{All}
-use Rattle.std.specs.VecDeque.{deque_capacity}
-use Rattle.std.specs.declared.collections.VecDeque.{VecDeque}
 use Rattle.slab.specs.Slab.{Slab, entries, slab_len, HasRoomFor}
+use Rattle.std.specs.{Coded.{Coded, code_by, coded×, coded_ℕ}, List.All, Prelude.{ℕ, ◌+◌, ◌≤◌, List, map as each, refl}}
+use Rattle.std.specs.{VecDeque.deque_capacity, declared.collections.VecDeque.VecDeque}
 use Rattle.tp_base.specs.declared.limits.TheConstants.{MAX_LIVE_TASKS}
 use Rattle.tp_slots.specs.Content.{Content, content_code, IsSound}
+use Rattle.std.specs.FinMap as map
 
 -- the content, and how many more items fit before memory has to grow
 pub record Roomy (T : Type 0) : Type 0 where

@@ -1,12 +1,9 @@
 //! Blocks of slots, which are allocated one at a time and never move, and the table of their addresses.
-ghost use Rattle.std.specs.Prelude.{◌≡◌, ◌+◌, ◌<◌, ◌≤◌, ◌*◌, ℕ, List, [], ◌∷◌, ◌++◌, length, All, IsTrue, OnOk, OnErr, None};
-ghost use Rattle.std.specs.Vec.{vec_len, vec_capacity};
-ghost use Rattle.std.specs.Vec.Ownership.{FitsInBlock};
-ghost use denote.RawPtr.{Ptr, InBlock};
-ghost use Rattle.tp_slots.specs.Cells.{empty_at, cell_at};
-ghost use Rattle.tp_slots.specs.CellsOwnership.{row_from};
+ghost use Rattle.std.specs.{Prelude.{◌≡◌, ◌+◌, ◌<◌, ◌≤◌, ◌*◌, ℕ, List, [], ◌∷◌, ◌++◌, length, All, IsTrue, OnOk, OnErr, None}, Vec.vec_len};
+ghost use Rattle.std.specs.Vec.{vec_capacity, Ownership.FitsInBlock};
+ghost use Rattle.tp_slots.specs.{Blocks.{IsBlock, rows_of, pointers_in, HoldsFirst}, Cells.{empty_at, cell_at}, CellsOwnership.row_from};
 ghost use Rattle.tp_slots.specs.contracts.chains.Slot.{the_row};
-ghost use Rattle.tp_slots.specs.Blocks.{IsBlock, rows_of, pointers_in, HoldsFirst};
+ghost use denote.RawPtr.{Ptr, InBlock};
 
 use crate::{At, Cells, Deed, Slot, allocate, deallocate};
 use std::alloc::{AllocError, Global};

@@ -1,12 +1,9 @@
 //! Raw cells: each has a fixed address, and is empty or holds a value.
-ghost use Rattle.std.specs.Prelude.{◌≡◌, ℕ, ◌<◌, ◌*◌, ◌^◌, [], ◌++◌, List, Option, Some, None, length, take, drop, slice_set, IfOk, ⊤};
+ghost use Rattle.std.specs.{Borrow.sem, Mem.type_size, Prelude.{◌≡◌, ℕ, ◌<◌, ◌*◌, ◌^◌, [], ◌++◌, List, Option, Some, None, length, take}};
+ghost use Rattle.std.specs.{Prelude.{drop, slice_set, IfOk, ⊤}, Vec.Ownership.FitsInBlock};
+ghost use Rattle.tp_slots.specs.{Cells.{cell_at, IsFull, IsEmpty, empty_at}, CellsOwnership.{cells_own, cells_lent, deed_owns, row_from}};
 ghost use base.Fml.{ftrue};
-ghost use Rattle.std.specs.Borrow.{sem};
-ghost use Rattle.std.specs.Mem.{type_size};
 ghost use denote.RawPtr.{Ptr, InBlock, ◌+ₚ◌};
-ghost use Rattle.tp_slots.specs.Cells.{cell_at, IsFull, IsEmpty, empty_at};
-ghost use Rattle.std.specs.Vec.Ownership.{FitsInBlock};
-ghost use Rattle.tp_slots.specs.CellsOwnership.{cells_own, cells_lent, deed_owns, row_from};
 
 use std::alloc::{AllocError, Allocator};
 use std::marker::{Model, PhantomData, Send, Sync};

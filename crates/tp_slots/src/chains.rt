@@ -1,9 +1,7 @@
 //! Linked lists of slots: each slot has a pointer to the next, so that a list takes no memory of its own.
-ghost use Rattle.std.specs.Prelude.{◌≡◌, ◌==◌, ℕ, List, [], ◌∷◌, ◌++◌, count_by, MatchOption, IsSome, None, Some, ⊤};
-ghost use Rattle.std.specs.Borrow.{sem};
-ghost use Rattle.tp_slots.specs.Cells.{cell_at};
-ghost use Rattle.tp_slots.specs.ChainLends.{lends_slot_item, lends_item, with_item_at, without_item_at};
-ghost use Rattle.tp_slots.specs.Chains.{IsLink, item_in, with_next, IsChain, KeepsOthers};
+ghost use Rattle.std.specs.{Borrow.sem, Prelude.{◌≡◌, ◌==◌, ℕ, List, [], ◌∷◌, ◌++◌, count_by, MatchOption, IsSome, None, Some, ⊤}};
+ghost use Rattle.tp_slots.specs.{Cells.cell_at, ChainLends.{lends_slot_item, lends_item, with_item_at, without_item_at}, Chains.IsLink};
+ghost use Rattle.tp_slots.specs.Chains.{item_in, with_next, IsChain, KeepsOthers};
 
 use crate::cells::{At, Cells};
 use std::alloc::AllocError;

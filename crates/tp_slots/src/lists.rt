@@ -1,8 +1,6 @@
 //! The four queues of ready places, as linked lists of slots.
 ghost use Rattle.std.specs.Prelude.{◌≡◌, ℕ, ◌<◌, ◌≤◌, List, ◌∷◌, [], length, slice_index_or, MatchOption, IfSome, None, Some};
-ghost use Rattle.tp_slots.specs.Chains.{IsLink, KeepsOthers};
-ghost use Rattle.tp_slots.specs.Content.{times, front, without_front, with_last};
-ghost use Rattle.tp_slots.specs.Lists.{AreChains};
+ghost use Rattle.tp_slots.specs.{Chains.{IsLink, KeepsOthers}, Content.{times, front, without_front, with_last}, Lists.AreChains};
 
 use crate::{Cells, Chain, Link, Slot, append, take_front};
 

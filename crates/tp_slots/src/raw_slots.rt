@@ -28,8 +28,7 @@ pub struct RawSlots<T> {
 }
 
 impl<T> Model for RawSlots<T> {
-    ghost use Rattle.tp_slots.specs.SlabSlots.{Roomy, roomy_code};
-    ghost use Rattle.tp_slots.specs.RawSlots.{raw_content, IsRaw};
+    ghost use Rattle.tp_slots.specs.{RawSlots.{raw_content, IsRaw}, SlabSlots.{Roomy, roomy_code}};
 
     ghost Value = { Roomy T };
 

@@ -53,11 +53,8 @@ struct Names {
 }
 
 impl Names {
-    ghost use Rattle.std.specs.Prelude.{[], Some, None};
-    ghost use Rattle.std.specs.Ordering.{nat_cmp};
-    ghost use Rattle.std.specs.BTreeMap.{get};
-    ghost use Rattle.tp_slots.specs.Names.{name_at, Told};
-    ghost use Rattle.tp_slots.specs.Content.{nothing_held};
+    ghost use Rattle.std.specs.{BTreeMap.get, Ordering.nat_cmp, Prelude.{[], Some, None}};
+    ghost use Rattle.tp_slots.specs.{Content.nothing_held, Names.{name_at, Told}};
 
     fn new(alloc: Global) -> Self
         ensures { Told nothing_held result start }

@@ -1,8 +1,6 @@
 //! Simple slots over `slab` and four queues, with which the fast ones are compared.
-ghost use Rattle.std.specs.Prelude.{◌≡◌, ℕ, ◌≤◌, ◌<◌, OnOk, length, slice_index_or};
-ghost use Rattle.std.specs.VecDeque.{deque_len, deque_capacity};
-ghost use Rattle.tp_slots.specs.SlabSlots.{places_of, EachHolds};
-ghost use Rattle.tp_slots.specs.Content.{with_last, front, without_front};
+ghost use Rattle.std.specs.{Prelude.{◌≡◌, ℕ, ◌≤◌, ◌<◌, OnOk, length, slice_index_or}, VecDeque.{deque_len, deque_capacity}};
+ghost use Rattle.tp_slots.specs.{Content.{with_last, front, without_front}, SlabSlots.{places_of, EachHolds}};
 
 use crate::slots::{Place, Slots};
 use slab::Slab;

@@ -1,6 +1,5 @@
 //! The trait of all kinds of slots, with its contracts.
-ghost use Rattle.std.specs.Prelude.{◌≡◌, ℕ, ◌+◌, ◌<◌, ◌≤◌, None, Some, IsOk, IfOk, IfErr, IfSome, OnOk};
-ghost use Rattle.std.specs.Borrow.{sem, Lends};
+ghost use Rattle.std.specs.{Borrow.{sem, Lends}, Prelude.{◌≡◌, ℕ, ◌+◌, ◌<◌, ◌≤◌, None, Some, IsOk, IfOk, IfErr, IfSome, OnOk}};
 ghost use Rattle.tp_slots.specs.Content.{Content, nothing_held, item_at, IsTaken, IsIdle, held_count, refusal_of_take, with_item};
 ghost use Rattle.tp_slots.specs.Content.{without_item, with_ready, without_next, front};
 

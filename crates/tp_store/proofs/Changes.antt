@@ -1,49 +1,30 @@
 -- How a store's parts change with one task: it enters, gets an input, begins, is done.
 use Rattle.std.proofs.Common.{◌≡◌, ◌≢◌, ◌^◌, ℕ, zero, suc, ◌+◌, ◌-◌, ◌<◌, ◌≤◌, Bool, true, false, cond, List, [], ◌∷◌, ◌++◌, length, get_or}
-use Rattle.std.proofs.Common.{replicate, map, Option, Some, None, is_some}
-use Rattle.std.proofs.Common.{is_none, IfSome, IsSome, unwrap_or, count_by, set, vec_len, vec_capacity, inl, inr, refl, sym, ap, subst, ◌∙◌}
-use Rattle.std.proofs.Common.{arith}
-use Rattle.std.specs.Prelude.{nat_lt, if◌then◌else◌, ◌==◌, ◌||◌, not, MatchBool}
-use Rattle.std.specs.Option.{option_map, IsSomeAnd}
-use Rattle.std.specs.Cmp.{nat_cmp_total}
-use Rattle.std.specs.Ordering.{nat_cmp}
-use Rattle.std.specs.FinMap as finite
+use Rattle.std.proofs.Common.{replicate, map, Option, Some, None, is_some, is_none, IfSome, IsSome, unwrap_or, count_by, set, vec_len}
+use Rattle.std.proofs.{Common.{vec_capacity, inl, inr, refl, sym, ap, subst, ◌∙◌, arith}, lemmas.Bool.{cases_eq, Decides.nat_tests}}
+use Rattle.std.{proofs.lemmas.List.{length-set, get_or-replicate, Sums.{sum_by-cons, sum_by-set}}, specs.Cmp.nat_cmp_total}
+use Rattle.std.specs.{Option.{option_map, IsSomeAnd}, Ordering.nat_cmp, Prelude.{nat_lt, if◌then◌else◌, ◌==◌, ◌||◌, not, MatchBool}}
 use Rattle.std.specs.declared.vec.Vec.{Vec}
-use Rattle.std.proofs.lemmas.Bool.{cases_eq}
-use Rattle.std.proofs.lemmas.Bool.Decides.{nat_tests}
-use Rattle.std.proofs.lemmas.List.{length-set, get_or-replicate}
-use Rattle.std.proofs.lemmas.List.Sums.{sum_by-cons, sum_by-set}
-use Rattle.tp_base.specs.declared.ids.TaskId.{TaskId}
-use Rattle.tp_base.specs.declared.refusal.Refusal.TheVariants.{TaskKnown, WrongLife, SlotTaken}
-use Rattle.tp_base.specs.Table.{lookup}
-use Rattle.tp_slots.specs.Content as slots
-use Rattle.tp_slots.proofs.Sound.{get_inserted, IsSound-nothing_held, IsSound-with_item, IsSound-without_item, IsSound-without_next}
-use Rattle.tp_slots.proofs.Sound.{IsIdle-front, idle_with_item, idle_when_taken}
-use Rattle.tp_slots.proofs.Sound.{without_front-empty}
-use Rattle.tp_slots.proofs.PlaceLists.{front-each, front_none-each, without_front-each}
-use Rattle.tp_store.specs.Content.{Task, Content, fresh, with_value, begun, done, supplied, life_lacking, refusal_of_value}
-use Rattle.tp_store.specs.Content.{refusal_of_deliver, refusal_of_done, delivered_to, with_task}
-use Rattle.tp_store.specs.Content.{with_delivered, with_begun, with_done, changed_tasks, nothing_stored, task_of, life_of, values_of}
-use Rattle.tp_store.specs.Content.{unfinished, counts_of, is_waiting, is_ready}
-use Rattle.tp_store.specs.Content.{is_running, is_unfinished, has_begun}
-use Rattle.tp_store.specs.Items.{Item}
-use Rattle.tp_store.specs.Entries.{Entries, entry_at}
-use Rattle.tp_store.specs.Sound.{IsTask, IsSound, LacksSome, lacking, is_task}
-use Rattle.tp_store.specs.Kept.{one, task_under, Parts, number_of, number_at, tasks_of, content_of, with_listed, with_supplied}
-use Rattle.tp_store.specs.Kept.{moved_counts, IsCounted, IsKept, IsGrown, Leaves}
-use Rattle.tp_store.specs.declared.life.Life.{Life}
-use Rattle.tp_store.specs.declared.life.Life.TheVariants.{Waiting, Ready, Running, Done as Over}
-use Rattle.tp_store.specs.declared.life.Counts.{Counts}
-use Rattle.tp_store.specs.declared.life.Delivered.TheVariants.{Inserted, Filled}
-use Rattle.tp_store.specs.declared.index.Entry.{Entry}
-use Rattle.tp_store.specs.declared.index.Entry.TheVariants.{Live, Done}
-use Rattle.tp_store.proofs.Filling.{no_values, lacks_life, lacking_life, not_begun_life, waiting_life, IsTask-fresh}
+use Rattle.tp_base.specs.{Table.lookup, declared.{ids.TaskId.TaskId, refusal.Refusal.TheVariants.{TaskKnown, WrongLife, SlotTaken}}}
+use Rattle.tp_slots.proofs.{PlaceLists.{front-each, front_none-each, without_front-each}, Sound.{get_inserted, IsSound-nothing_held}}
+use Rattle.tp_slots.proofs.Sound.{IsSound-with_item, IsSound-without_item, IsSound-without_next, IsIdle-front, idle_with_item}
+use Rattle.tp_slots.proofs.Sound.{idle_when_taken, without_front-empty}
 use Rattle.tp_store.proofs.Contents.{same_number, task_here, NotReady, unknown, waiting, waits_not, ready_in, front_ready, IsSound-put}
-use Rattle.tp_store.proofs.Contents.{IsSound-begun, IsSound-done, counts-moved, moves}
-use Rattle.tp_store.proofs.Contents.{is_counted, some_counted, unfinished_life, waiting_unfinished}
-use Rattle.tp_store.proofs.Keeping.{room_under, get-tasks_of, tasks-put, numbers_same, none_listed, item_here, item_there, gone_here}
-use Rattle.tp_store.proofs.Keeping.{gone_there, listed_items, listed_sound}
-use Rattle.tp_store.proofs.Keeping.{listed_lists, at_item, seen, seen_live, few_live, live_held, nothing_there, content_same, IsKept-grown}
+use Rattle.tp_store.proofs.Contents.{IsSound-begun, IsSound-done, counts-moved, moves, is_counted, some_counted, unfinished_life}
+use Rattle.tp_store.proofs.{Contents.waiting_unfinished, Filling.{no_values, lacks_life, lacking_life, not_begun_life, waiting_life}}
+use Rattle.tp_store.proofs.{Filling.IsTask-fresh, Keeping.{room_under, get-tasks_of, tasks-put, numbers_same, none_listed, item_here}}
+use Rattle.tp_store.proofs.Keeping.{item_there, gone_here, gone_there, listed_items, listed_sound, listed_lists, at_item, seen, seen_live}
+use Rattle.tp_store.{proofs.Keeping.{few_live, live_held, nothing_there, content_same, IsKept-grown}, specs.Content.{Task, Content, fresh}}
+use Rattle.tp_store.specs.Content.{with_value, begun, done, supplied, life_lacking, refusal_of_value, refusal_of_deliver, refusal_of_done}
+use Rattle.tp_store.specs.Content.{delivered_to, with_task, with_delivered, with_begun, with_done, changed_tasks, nothing_stored, task_of}
+use Rattle.tp_store.specs.Content.{life_of, values_of, unfinished, counts_of, is_waiting, is_ready, is_running, is_unfinished, has_begun}
+use Rattle.tp_store.specs.{Entries.{Entries, entry_at}, Items.Item, Kept.{one, task_under, Parts, number_of, number_at, tasks_of}}
+use Rattle.tp_store.specs.{Kept.{content_of, with_listed, with_supplied, moved_counts, IsCounted, IsKept, IsGrown, Leaves}, Sound.IsTask}
+use Rattle.tp_store.specs.{Sound.{IsSound, LacksSome, lacking, is_task}, declared.index.Entry.{Entry, TheVariants.{Live, Done}}}
+use Rattle.tp_store.specs.declared.life.{Counts.Counts, Delivered.TheVariants.{Inserted, Filled}, Life.{Life, TheVariants.{Waiting, Ready}}}
+use Rattle.tp_store.specs.declared.life.Life.TheVariants.{Running, Done as Over}
+use Rattle.std.specs.FinMap as finite
+use Rattle.tp_slots.specs.Content as slots
 
 abbrev pub item : {V : Type 0} → TaskId → Task V → Item V
 item t x = record { number = t; task = x }

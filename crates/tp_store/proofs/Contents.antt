@@ -1,33 +1,19 @@
 -- How the changes of a store's content keep it sound, and how its counts move.
 use Rattle.std.proofs.Common.{◌≡◌, ◌≢◌, ℕ, zero, suc, ◌+◌, ◌<◌, ◌≤◌, ◌==◌, Bool, true, false, cond, List, [], ◌∷◌, ◌++◌, length, get_or}
-use Rattle.std.proofs.Common.{set, Option, Some, None, is_some, unwrap_or}
-use Rattle.std.proofs.Common.{count_by, refl, sym, ap, subst, ◌∙◌, inl, inr, arith}
-use Rattle.std.specs.Prelude.{nat_lt, ◌&&◌, not, if◌then◌else◌}
-use Rattle.std.specs.Option.{option_map}
-use Rattle.std.specs.Ordering.{nat_cmp, is_lt, is_eq}
-use Rattle.std.specs.declared.cmp.Ordering.{Ordering}
-use Rattle.std.specs.declared.cmp.Ordering.TheVariants.{Less, Equal, Greater}
-use Rattle.std.specs.Cmp.{unsigned_tied}
-use Rattle.std.specs.FinMap as finite
-use Rattle.std.specs.FinMap.Entries.{find, is_sorted, below_all}
-use Rattle.std.proofs.Math.Dec.{T}
-use Rattle.std.proofs.lemmas.Bool.{cases_eq}
-use Rattle.std.proofs.lemmas.Bool.Decides.{nat_tests}
-use Rattle.std.proofs.lemmas.List.{length-set, get_or-set_same, get_or-set_other}
-use Rattle.std.proofs.lemmas.List.Sums.{sum_by-cons, sum_by-append}
+use Rattle.std.proofs.Common.{set, Option, Some, None, is_some, unwrap_or, count_by, refl, sym, ap, subst, ◌∙◌, inl, inr, arith}
+use Rattle.std.proofs.{Math.Dec.T, lemmas.{Bool.{cases_eq, Decides.nat_tests}, List.{length-set, get_or-set_same, get_or-set_other}}}
+use Rattle.std.{proofs.lemmas.List.Sums.{sum_by-cons, sum_by-append}, specs.{Cmp.unsigned_tied, FinMap.Entries.{find, is_sorted}}}
+use Rattle.std.specs.{FinMap.Entries.below_all, Option.option_map, Ordering.{nat_cmp, is_lt, is_eq}, Prelude.{nat_lt, ◌&&◌, not}}
+use Rattle.std.specs.{Prelude.if◌then◌else◌, declared.cmp.Ordering.{Ordering, TheVariants.{Less, Equal, Greater}}}
 use Rattle.tp_base.specs.declared.ids.TaskId.{TaskId}
-use Rattle.tp_slots.specs.Content.{front, without_front, with_last}
-use Rattle.tp_slots.proofs.Sound.{get_inserted}
-use Rattle.tp_store.specs.Content.{Task, Content, task_of, life_of, stage, NoneGoesBack, supplied, life_lacking, fresh, begun, done}
-use Rattle.tp_store.specs.Content.{changed_tasks, with_task, with_inserted, with_delivered}
-use Rattle.tp_store.specs.Content.{with_begun, with_done, count_lives, unfinished, counts_of, is_unfinished, is_waiting, is_ready}
-use Rattle.tp_store.specs.Content.{is_running, is_done, has_begun}
-use Rattle.tp_store.specs.Kept.{one, moved_counts, IsCounted}
-use Rattle.tp_store.specs.declared.life.Counts.{Counts}
-use Rattle.tp_store.proofs.Counting.{one_if, later_sorted, passing, passing-cons, passing-insert}
-use Rattle.tp_store.specs.Sound.{IsTask, IsSound, is_task, times_ready, times_done}
-use Rattle.tp_store.specs.declared.life.Life.{Life}
+use Rattle.tp_slots.{proofs.Sound.get_inserted, specs.Content.{front, without_front, with_last}}
+use Rattle.tp_store.{proofs.Counting.{one_if, later_sorted, passing, passing-cons, passing-insert}, specs.Content.{Task, Content, task_of}}
+use Rattle.tp_store.specs.Content.{life_of, stage, NoneGoesBack, supplied, life_lacking, fresh, begun, done, changed_tasks, with_task}
+use Rattle.tp_store.specs.Content.{with_inserted, with_delivered, with_begun, with_done, count_lives, unfinished, counts_of, is_unfinished}
+use Rattle.tp_store.specs.{Content.{is_waiting, is_ready, is_running, is_done, has_begun}, Kept.{one, moved_counts, IsCounted}}
+use Rattle.tp_store.specs.{Sound.{IsTask, IsSound, is_task, times_ready, times_done}, declared.life.{Counts.Counts, Life.Life}}
 use Rattle.tp_store.specs.declared.life.Life.TheVariants.{Waiting, Ready, Running, Done}
+use Rattle.std.specs.FinMap as finite
 
 -- ---- the lists
 module _ {X : Type 0} where

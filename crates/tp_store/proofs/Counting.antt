@@ -1,18 +1,11 @@
 -- How the number of a finite map's values that pass a test moves.
 use Rattle.std.proofs.Common.{◌≡◌, ℕ, suc, ◌+◌, Bool, true, false, cond, List, [], ◌∷◌, length, Option, Some, None, is_some, count_by, refl}
-use Rattle.std.proofs.Common.{sym, ap, ◌∙◌, arith}
-use Rattle.std.specs.Prelude.{◌&&◌}
-use Rattle.std.proofs.Math.Dec.{T}
-use Rattle.std.proofs.lemmas.List.Sums.{sum_by-cons}
-use Rattle.std.specs.Ordering.{nat_cmp, is_eq}
+use Rattle.std.{proofs.{Common.{sym, ap, ◌∙◌, arith}, Math.Dec.T, lemmas.List.Sums.sum_by-cons}, specs.Cmp.nat_cmp_total}
+use Rattle.std.specs.{FinMap.Entries.{put, find, is_sorted, by_order, length-put}, Ordering.{nat_cmp, is_eq}, Prelude.◌&&◌}
 use Rattle.std.specs.declared.cmp.Ordering.TheVariants.{Less, Equal, Greater}
-use Rattle.std.specs.Cmp.{nat_cmp_total}
-use Rattle.std.specs.FinMap as map
 use Rattle.tp_store.specs.Content.{Task, Content, unfinished, counts_of, is_waiting, is_ready, is_running, is_unfinished}
-use Rattle.tp_store.specs.declared.life.Counts.{Counts}
-use Rattle.tp_store.specs.declared.life.Life.{Life}
-use Rattle.tp_store.specs.declared.life.Life.TheVariants.{Waiting, Ready, Running, Done}
-use Rattle.std.specs.FinMap.Entries.{put, find, is_sorted, by_order, length-put}
+use Rattle.tp_store.specs.declared.life.{Counts.Counts, Life.{Life, TheVariants.{Waiting, Ready, Running, Done}}}
+use Rattle.std.specs.FinMap as map
 
 pub later_sorted : (a b : Bool) → T (a && b) → T b
 later_sorted true b h = h

@@ -1,17 +1,12 @@
 -- How a task's item keeps its invariant.
-use Rattle.std.proofs.Common.{◌≡◌, ℕ, zero, suc, ◌+◌, ◌-◌, ◌<◌, ◌≤◌, Bool, true, false, cond, List, [], length, take, set, get_or, map}
-use Rattle.std.proofs.Common.{replicate, insert, Option, Some, None, is_some}
-use Rattle.std.proofs.Common.{is_none, count_by, refl, sym, ap, ◌∙◌, arith, ◌∷◌, add-one}
-use Rattle.std.proofs.lemmas.List.{take-replicate, length-take-le, length-replicate, length-set, get_or-take}
-use Rattle.std.proofs.lemmas.List.Edits.{length-insert}
-use Rattle.std.proofs.lemmas.List.Sums.{sum_by-set, sum_by-cons}
-use Rattle.std.proofs.Math.Seq.{take-set-lt}
 use Rattle.smallvec.specs.SmallVec.{SmallVec, small_vec_len, HasRoomFor}
-use Rattle.tp_store.specs.Content.{Task, fresh, with_value, has_begun, is_waiting, life_lacking, supplied}
-use Rattle.tp_store.specs.Sound.{IsTask, LacksSome, lacking}
-use Rattle.tp_store.specs.Items.{count_set, spread, slots_of, IsFilled}
-use Rattle.tp_store.specs.declared.life.Life.{Life}
-use Rattle.tp_store.specs.declared.life.Life.TheVariants.{Waiting, Ready, Running, Done}
+use Rattle.std.proofs.Common.{◌≡◌, ℕ, zero, suc, ◌+◌, ◌-◌, ◌<◌, ◌≤◌, Bool, true, false, cond, List, [], length, take, set, get_or, map}
+use Rattle.std.proofs.Common.{replicate, insert, Option, Some, None, is_some, is_none, count_by, refl, sym, ap, ◌∙◌, arith, ◌∷◌, add-one}
+use Rattle.std.proofs.{Math.Seq.take-set-lt, lemmas.List.{take-replicate, length-take-le, length-replicate, length-set, get_or-take}}
+use Rattle.std.proofs.lemmas.List.{Edits.length-insert, Sums.{sum_by-set, sum_by-cons}}
+use Rattle.tp_store.specs.{Content.{Task, fresh, with_value, has_begun, is_waiting, life_lacking, supplied}, Items.{count_set, spread}}
+use Rattle.tp_store.specs.{Items.{slots_of, IsFilled}, Sound.{IsTask, LacksSome, lacking}, declared.life.Life.{Life, TheVariants.Waiting}}
+use Rattle.tp_store.specs.declared.life.Life.TheVariants.{Ready, Running, Done}
 
 -- ---- Flags and values as the slots of a task
 -- ---- flags

@@ -1,36 +1,19 @@
 -- The content that the slots and the index represent, what they say of one task, and how a change of one task changes it.
 use Rattle.std.proofs.Common.{◌≡◌, ◌≢◌, ℕ, zero, suc, ◌<◌, ◌==◌, ◌^◌, Bool, true, false, cond, List, length, map, Option, Some, None}
-use Rattle.std.proofs.Common.{IsSome, unwrap_or, IfSome, refl, sym, ap, subst, ◌∙◌}
-use Rattle.std.proofs.Common.{inl, inr, arith, ◌≤◌, [], ◌∷◌, get_or, count_by, ◌+◌, is_some, MatchOption, Result, Ok, Err, OnOk, IfErr}
-use Rattle.std.proofs.Common.{OnErr}
-use Rattle.std.specs.Prelude.{nat_lt, if◌then◌else◌}
-use Rattle.std.specs.Option.{option_map, IsSomeAnd, IsSome}
-use Rattle.std.specs.Ordering.{nat_cmp}
-use Rattle.std.specs.Cmp.{nat_cmp_total}
+use Rattle.std.proofs.Common.{IsSome, unwrap_or, IfSome, refl, sym, ap, subst, ◌∙◌, inl, inr, arith, ◌≤◌, [], ◌∷◌, get_or, count_by, ◌+◌}
+use Rattle.std.proofs.{Common.{is_some, MatchOption, Result, Ok, Err, OnOk, IfErr, OnErr}, lemmas.Bool.{cases_eq, Decides.nat_tests}}
+use Rattle.std.{proofs.lemmas.List.Sums.sum_by-cons, specs.{Cmp.nat_cmp_total, Option.{option_map, IsSomeAnd, IsSome}, Ordering.nat_cmp}}
+use Rattle.std.specs.{Prelude.{nat_lt, if◌then◌else◌}, Result.IsErrAnd, declared.vec.Vec.Vec}
+use Rattle.tp_base.specs.{Table.lookup, declared.{ids.TaskId.TaskId, refusal.Refusal.{Refusal, TheVariants.{TaskKnown, StoreFull}}}}
+use Rattle.tp_base.specs.declared.refusal.Refusal.TheVariants.{NoMemory}
+use Rattle.tp_slots.proofs.{PlaceLists.{same_each, with_last-each}, Sound.{get_inserted, get_removed, IsSound-with_ready}}
+use Rattle.tp_store.{proofs.{Contents.is_itself, Counting.unfinished_counted}, specs.Content.{Task, with_value, Content, task_of}}
+use Rattle.tp_store.specs.Content.{unfinished, refusal_of_new, refusal_of_insert, refusal_of_deliver, refusal_of_value, counts_of}
+use Rattle.tp_store.specs.{Content.NoneGoesBack, Entries.{Entries, entry_at}, Items.Item, Kept.{task_under, with_found, tasks_below}}
+use Rattle.tp_store.specs.{Kept.{tasks_of, number_of, number_at, Parts, content_of, IsKept, IsGrown}, Sound.{is_task, times_ready}}
+use Rattle.tp_store.specs.declared.{index.Entry.{Entry, TheVariants.{Live, Done}}, life.Life.TheVariants.Done as over}
 use Rattle.std.specs.FinMap as finite
-use Rattle.std.proofs.lemmas.Bool.{cases_eq}
-use Rattle.std.proofs.lemmas.Bool.Decides.{nat_tests}
-use Rattle.tp_base.specs.Table.{lookup}
 use Rattle.tp_slots.specs.Content as slots
-use Rattle.tp_slots.proofs.Sound.{get_inserted, get_removed, IsSound-with_ready}
-use Rattle.tp_slots.proofs.PlaceLists.{same_each, with_last-each}
-use Rattle.tp_store.specs.Content.{Task, with_value, Content, task_of, unfinished, refusal_of_new, refusal_of_insert, refusal_of_deliver}
-use Rattle.tp_store.specs.Content.{refusal_of_value, counts_of, NoneGoesBack}
-use Rattle.tp_store.specs.Items.{Item}
-use Rattle.tp_store.specs.Entries.{Entries, entry_at}
-use Rattle.tp_store.specs.Kept.{task_under, with_found, tasks_below, tasks_of, number_of, number_at, Parts, content_of, IsKept, IsGrown}
-use Rattle.tp_store.specs.declared.index.Entry.{Entry}
-use Rattle.tp_store.specs.declared.index.Entry.TheVariants.{Live, Done}
-use Rattle.std.proofs.lemmas.List.Sums.{sum_by-cons}
-use Rattle.tp_base.specs.declared.ids.TaskId.{TaskId}
-use Rattle.tp_store.specs.Sound.{is_task, times_ready}
-use Rattle.tp_store.proofs.Contents.{is_itself}
-use Rattle.tp_base.specs.declared.refusal.Refusal.{Refusal}
-use Rattle.tp_base.specs.declared.refusal.Refusal.TheVariants.{TaskKnown, StoreFull, NoMemory}
-use Rattle.tp_store.specs.declared.life.Life.TheVariants.{Done as over}
-use Rattle.tp_store.proofs.Counting.{unfinished_counted}
-use Rattle.std.specs.Result.{IsErrAnd}
-use Rattle.std.specs.declared.vec.Vec.{Vec}
 
 -- there is room for each entry
 pub room_under : (index : Entries) (t : ℕ) (e : Entry) → entry_at index t ≡ Some e → IsSome (lookup index t)

@@ -1,12 +1,8 @@
 -- How proofs distinguish the contents of stores.
-use Rattle.std.specs.Prelude.{ℕ, Option, List, refl}
-use Rattle.std.specs.Ordering.{nat_cmp}
-use Rattle.std.specs.FinMap as map
-use Rattle.std.specs.Coded.{Coded, code_by, coded×, coded_ℕ, coded_list, coded_option}
+use Rattle.std.specs.{Coded.{Coded, code_by, coded×, coded_ℕ, coded_list, coded_option}, Ordering.nat_cmp, Prelude.{ℕ, Option, List, refl}}
 use Rattle.tp_base.specs.declared.ids.TaskId.{TaskId}
-use Rattle.tp_store.specs.Content.{Task, Content}
-use Rattle.tp_store.specs.declared.life.Life.{Life}
-use Rattle.tp_store.specs.contracts.life.Life.{the_row}
+use Rattle.tp_store.specs.{Content.{Task, Content}, contracts.life.Life.the_row, declared.life.Life.Life}
+use Rattle.std.specs.FinMap as map
 
 abbrev pub number_code : Coded TaskId
 number_code = code_by ℕ coded_ℕ (λ t. t.0) (λ n. record { 0 = n }) (λ _. refl)

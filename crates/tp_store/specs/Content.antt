@@ -1,21 +1,13 @@
 -- The content of a store: its tasks, the ready queues, and the results.
-use Rattle.std.specs.Prelude.{ℕ, zero, suc, ◌-◌, ◌≤◌, ◌==◌, ◌||◌, Bool, true, false, not, List, [], ◌∷◌, ◌++◌, count_by, replicate}
-use Rattle.std.specs.Prelude.{slice_index_or, slice_set, Option, None, Some, is_some}
-use Rattle.std.specs.Prelude.{unwrap_or, if◌then◌else◌}
-use Rattle.std.specs.Option.{option_map}
-use Rattle.std.specs.Ordering.{nat_cmp}
-use Rattle.std.specs.FinMap as map
-use Rattle.tp_base.specs.declared.limits.TheConstants.{MAX_LIVE_TASKS}
-use Rattle.tp_base.specs.declared.ids.TaskId.{TaskId}
-use Rattle.tp_base.specs.Checks.{Check, first_refusal}
-use Rattle.tp_base.specs.declared.refusal.Refusal.{Refusal}
-use Rattle.tp_base.specs.declared.refusal.Refusal.TheVariants.{TaskKnown, NoTask, WrongLife, SlotTaken, StoreFull}
+use Rattle.std.specs.{Option.option_map, Ordering.nat_cmp, Prelude.{ℕ, zero, suc, ◌-◌, ◌≤◌, ◌==◌, ◌||◌, Bool, true, false, not, List, []}}
+use Rattle.std.specs.Prelude.{◌∷◌, ◌++◌, count_by, replicate, slice_index_or, slice_set, Option, None, Some, is_some, unwrap_or}
+use Rattle.std.specs.Prelude.{if◌then◌else◌}
+use Rattle.tp_base.specs.{Checks.{Check, first_refusal}, declared.{ids.TaskId.TaskId, limits.TheConstants.MAX_LIVE_TASKS}}
+use Rattle.tp_base.specs.declared.refusal.Refusal.{Refusal, TheVariants.{TaskKnown, NoTask, WrongLife, SlotTaken, StoreFull}}
 use Rattle.tp_slots.specs.Content.{without_front, with_last}
-use Rattle.tp_store.specs.declared.life.Life.{Life}
+use Rattle.tp_store.specs.declared.life.{Counts.Counts, Delivered.{Delivered, TheVariants.{Inserted, Filled}}, Life.Life}
 use Rattle.tp_store.specs.declared.life.Life.TheVariants.{Waiting, Ready, Running, Done}
-use Rattle.tp_store.specs.declared.life.Counts.{Counts}
-use Rattle.tp_store.specs.declared.life.Delivered.{Delivered}
-use Rattle.tp_store.specs.declared.life.Delivered.TheVariants.{Inserted, Filled}
+use Rattle.std.specs.FinMap as map
 
 -- the state of a task: its life, how many inputs it takes, its class, and the value of each input slot. A task that has begun has
 -- no values any more.

@@ -1,7 +1,6 @@
 -- The entries of a store by task number.
 use Rattle.std.specs.Prelude.{◌^◌, ℕ, nat_lt, Option, None, unwrap_or, if◌then◌else◌}
-use Rattle.tp_base.specs.declared.table.Table.{Table}
-use Rattle.tp_base.specs.Table.{lookup}
+use Rattle.tp_base.specs.{Table.lookup, declared.table.Table.Table}
 use Rattle.tp_store.specs.declared.index.Entry.{Entry}
 
 -- for each number an entry, or only room for one

@@ -1,10 +1,8 @@
 -- How a store keeps the tasks that are not done.
-use Rattle.std.specs.Prelude.{◌≡◌, ℕ, ◌+◌, Bool, true, false, List, [], ◌∷◌, take, Option, None, Some, if◌then◌else◌}
 use Rattle.smallvec.specs.SmallVec.{SmallVec, small_vec_len, HasRoomFor}
+use Rattle.std.specs.Prelude.{◌≡◌, ℕ, ◌+◌, Bool, true, false, List, [], ◌∷◌, take, Option, None, Some, if◌then◌else◌}
 use Rattle.tp_base.specs.declared.ids.TaskId.{TaskId}
-use Rattle.tp_store.specs.Content.{Task, has_begun}
-use Rattle.tp_store.specs.Sound.{IsTask, lacking}
-use Rattle.tp_store.specs.declared.life.Life.{Life}
+use Rattle.tp_store.specs.{Content.{Task, has_begun}, Sound.{IsTask, lacking}, declared.life.Life.Life}
 
 -- a task's number with its state
 pub record Item (V : Type 0) : Type 0 where

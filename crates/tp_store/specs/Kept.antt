@@ -1,23 +1,12 @@
 -- The invariant of a store: how its slots, entries and results represent its content.
-use Rattle.std.specs.Prelude.{◌≡◌, ℕ, zero, suc, ◌+◌, ◌-◌, ◌^◌, ◌≤◌, ◌==◌, Bool, [], map as each, Option, None, Some, unwrap_or, vec_len}
-use Rattle.std.specs.Prelude.{vec_capacity, if◌then◌else◌}
-use Rattle.std.specs.Option.{option_map, IsSomeAnd}
-use Rattle.std.specs.Ordering.{nat_cmp}
+use Rattle.std.specs.{Option.{option_map, IsSomeAnd}, Ordering.nat_cmp, Prelude.{◌≡◌, ℕ, zero, suc, ◌+◌, ◌-◌, ◌^◌, ◌≤◌, ◌==◌, Bool, []}}
+use Rattle.std.specs.{Prelude.{map as each, Option, None, Some, unwrap_or, vec_len, vec_capacity, if◌then◌else◌}, declared.vec.Vec.Vec}
+use Rattle.tp_base.specs.{Table.lookup, declared.{ids.TaskId.TaskId, limits.TheConstants.MAX_LIVE_TASKS}}
+use Rattle.tp_store.specs.{Content.{Task, Content, with_value, is_waiting, is_ready, is_running, unfinished, counts_of}, Entries.Entries}
+use Rattle.tp_store.specs.{Entries.entry_at, Items.Item, Sound.IsSound, declared.index.Entry.{Entry, TheVariants.{Live, Done}}}
+use Rattle.tp_store.specs.declared.life.{Counts.Counts, Life.{Life, TheVariants.Done as is_over}}
 use Rattle.std.specs.FinMap as map
-use Rattle.std.specs.declared.vec.Vec.{Vec}
-use Rattle.tp_base.specs.declared.limits.TheConstants.{MAX_LIVE_TASKS}
-use Rattle.tp_base.specs.declared.ids.TaskId.{TaskId}
-use Rattle.tp_base.specs.Table.{lookup}
 use Rattle.tp_slots.specs.Content as slots
-use Rattle.tp_store.specs.Content.{Task, Content, with_value, is_waiting, is_ready, is_running, unfinished, counts_of}
-use Rattle.tp_store.specs.Items.{Item}
-use Rattle.tp_store.specs.Entries.{Entries, entry_at}
-use Rattle.tp_store.specs.Sound.{IsSound}
-use Rattle.tp_store.specs.declared.life.Life.{Life}
-use Rattle.tp_store.specs.declared.life.Life.TheVariants.{Done as is_over}
-use Rattle.tp_store.specs.declared.life.Counts.{Counts}
-use Rattle.tp_store.specs.declared.index.Entry.{Entry}
-use Rattle.tp_store.specs.declared.index.Entry.TheVariants.{Live, Done}
 
 -- how much one task adds to the count of these lives, if there is one
 abbrev pub one : (Life → Bool) → Option Life → ℕ

@@ -1,12 +1,8 @@
 -- The invariant of the content of every store.
-use Rattle.std.specs.Prelude.{◌≡◌, ℕ, ◌<◌, ◌≤◌, ◌==◌, ◌&&◌, Bool, false, [], length, count_by, slice_index_or, is_none, unwrap_or}
-use Rattle.std.specs.Prelude.{MatchBool, MatchOption, if◌then◌else◌}
-use Rattle.std.specs.Option.{option_map}
-use Rattle.tp_base.specs.declared.limits.TheConstants.{CLASSES, MAX_INPUTS}
-use Rattle.tp_base.specs.declared.ids.TaskId.{TaskId}
-use Rattle.tp_store.specs.Content.{Task, Content, task_of, is_ready, is_done, has_begun}
-use Rattle.tp_store.specs.declared.life.Life.{Life}
-use Rattle.tp_store.specs.declared.life.Life.TheVariants.{Waiting}
+use Rattle.std.specs.{Option.option_map, Prelude.{◌≡◌, ℕ, ◌<◌, ◌≤◌, ◌==◌, ◌&&◌, Bool, false, [], length, count_by, slice_index_or, is_none}}
+use Rattle.std.specs.Prelude.{unwrap_or, MatchBool, MatchOption, if◌then◌else◌}
+use Rattle.tp_base.specs.declared.{ids.TaskId.TaskId, limits.TheConstants.{CLASSES, MAX_INPUTS}}
+use Rattle.tp_store.specs.{Content.{Task, Content, task_of, is_ready, is_done, has_begun}, declared.life.Life.{Life, TheVariants.Waiting}}
 
 -- how many inputs a task of this life lacks
 abbrev pub lacking : Life → ℕ

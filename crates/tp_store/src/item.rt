@@ -1,9 +1,8 @@
 //! A task that is not done, with the inputs that have arrived.
+ghost use Rattle.smallvec.specs.SmallVec.{small_vec_len, HasRoomFor};
 ghost use Rattle.std.specs.Prelude.{◌≡◌, ◌<◌, ◌≤◌, [], length, map, insert, Some, None, is_some, slice_index_or, true, false, MatchOption};
 ghost use Rattle.std.specs.Prelude.{IsOk, IfOk, IfErr};
-ghost use Rattle.smallvec.specs.SmallVec.{small_vec_len, HasRoomFor};
-ghost use Rattle.tp_store.specs.Items.{count_set};
-ghost use Rattle.tp_store.specs.Content.{fresh, with_value, begun, is_waiting, has_begun, refusal_of_value};
+ghost use Rattle.tp_store.specs.{Content.{fresh, with_value, begun, is_waiting, has_begun, refusal_of_value}, Items.count_set};
 
 use crate::life::Life;
 use smallvec::SmallVec;

@@ -1,7 +1,6 @@
 //! The life of a task, from waiting to done, and the counts of tasks by life.
 ghost use Rattle.std.specs.Prelude.{◌≡◌, ◌+◌, ◌≤◌};
-ghost use Rattle.tp_store.specs.Content.{life_lacking, supplied, is_waiting, is_ready, is_running};
-ghost use Rattle.tp_store.specs.Kept.{one};
+ghost use Rattle.tp_store.specs.{Content.{life_lacking, supplied, is_waiting, is_ready, is_running}, Kept.one};
 
 use tp_base::MAX_LIVE_TASKS;
 

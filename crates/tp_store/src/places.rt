@@ -1,9 +1,7 @@
 //! The operations of a store on the items in its slots.
-ghost use Rattle.std.specs.Prelude.{◌≡◌, ◌<◌, None, Some, IfSome, map, slice_index_or, true};
-ghost use Rattle.std.specs.Mem.{FitsInMemory};
+ghost use Rattle.std.specs.{Mem.FitsInMemory, Prelude.{◌≡◌, ◌<◌, None, Some, IfSome, map, slice_index_or, true}};
 ghost use Rattle.tp_slots.specs.Content.{item_at, IsTaken, IsIdle, with_item};
-ghost use Rattle.tp_store.specs.Content.{is_waiting, with_value, begun};
-ghost use Rattle.tp_store.specs.Kept.{with_listed, with_supplied, moved_counts, IsCounted};
+ghost use Rattle.tp_store.specs.{Content.{is_waiting, with_value, begun}, Kept.{with_listed, with_supplied, moved_counts, IsCounted}};
 ghost use Rattle.tp_store.specs.contracts.item.TaskItem.{the_row};
 
 use crate::item::TaskItem;

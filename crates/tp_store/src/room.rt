@@ -1,13 +1,10 @@
 //! The insertion of a new task, and the memory that is reserved for it.
-ghost use Rattle.std.specs.Prelude.{◌≡◌, ◌<◌, ◌≤◌, ◌+◌, None, Some, IsSome, IsTrue, IsOk, OnOk, OnErr, IfOk, IfErr, unwrap_or, vec_len};
-ghost use Rattle.std.specs.Prelude.{vec_capacity};
-ghost use Rattle.std.specs.Mem.{FitsInMemory};
+ghost use Rattle.std.specs.{Mem.FitsInMemory, Prelude.{◌≡◌, ◌<◌, ◌≤◌, ◌+◌, None, Some, IsSome, IsTrue, IsOk, OnOk, OnErr, IfOk, IfErr}};
+ghost use Rattle.std.specs.Prelude.{unwrap_or, vec_len, vec_capacity};
 ghost use Rattle.tp_base.specs.Table.{lookup, has_place};
 ghost use Rattle.tp_slots.specs.Content.{held_count, refusal_of_take};
-ghost use Rattle.tp_store.specs.Content.{fresh, with_task, unfinished, refusal_of_new};
-ghost use Rattle.tp_store.specs.Entries.{entry_at};
-ghost use Rattle.tp_store.specs.Kept.{parts_of, content_of, IsKept, IsGrown, Leaves};
-ghost use Rattle.tp_store.specs.contracts.item.TaskItem.{the_row};
+ghost use Rattle.tp_store.specs.{Content.{fresh, with_task, unfinished, refusal_of_new}, Entries.entry_at, Kept.{parts_of, content_of}};
+ghost use Rattle.tp_store.specs.{Kept.{IsKept, IsGrown, Leaves}, contracts.item.TaskItem.the_row};
 
 use crate::index::{Entry, Index, make_room, set_entry};
 use crate::item::TaskItem;

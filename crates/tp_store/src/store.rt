@@ -1,7 +1,6 @@
 //! The store of a node's tasks, with its calls.
-ghost use Rattle.std.specs.Prelude.{◌≡◌, ◌≢◌, ℕ, ◌+◌, ◌<◌, ◌≤◌, None, Some, is_some, IsOk, IfOk, IfErr, IfSome, OnOk, OnErr, MatchOption};
-ghost use Rattle.std.specs.Prelude.{unwrap_or, map, IsSome};
-ghost use Rattle.std.specs.Option.{option_map};
+ghost use Rattle.std.specs.{Option.option_map, Prelude.{◌≡◌, ◌≢◌, ℕ, ◌+◌, ◌<◌, ◌≤◌, None, Some, is_some, IsOk, IfOk, IfErr, IfSome, OnOk}};
+ghost use Rattle.std.specs.Prelude.{OnErr, MatchOption, unwrap_or, map, IsSome};
 ghost use Rattle.tp_slots.specs.Content.{front};
 
 use crate::index::{Entry, Index, entry_of, set_entry};
@@ -43,8 +42,7 @@ pub struct TaskStore<S: Slots<TaskItem<V>>, V> {
 }
 
 impl<S: Slots<TaskItem<V>>, V> Model for TaskStore<S, V> {
-    ghost use Rattle.tp_store.specs.Content.{Content};
-    ghost use Rattle.tp_store.specs.Codes.{content_code};
+    ghost use Rattle.tp_store.specs.{Codes.content_code, Content.Content};
 
     ghost Value = { Content V };
 
@@ -59,8 +57,7 @@ impl<S: Slots<TaskItem<V>>, V> Model for TaskStore<S, V> {
 
 impl<S: Slots<TaskItem<V>>, V> TaskStore<S, V> {
     ghost use Rattle.tp_store.specs.Content.{nothing_stored, task_of, life_of, values_of, unfinished, counts_of, refusal_of_new};
-    ghost use Rattle.tp_store.specs.Content.{refusal_of_insert, refusal_of_deliver};
-    ghost use Rattle.tp_store.specs.Sound.{IsSound};
+    ghost use Rattle.tp_store.specs.{Content.{refusal_of_insert, refusal_of_deliver}, Sound.IsSound};
 
     /// Returns a store without tasks. It allocates nothing.
     pub fn new(alloc: Global) -> Self
@@ -182,9 +179,8 @@ impl<S: Slots<TaskItem<V>> + Drop, V: Drop> TaskStore<S, V> {
 
 impl<S: Slots<TaskItem<V>>, V: MadeWith<Global> + Drop> TaskStore<S, V> {
     ghost use Rattle.tp_store.specs.Content.{task_of, life_of, values_of, unfinished, refusal_of_new, refusal_of_insert};
-    ghost use Rattle.tp_store.specs.Content.{refusal_of_deliver, refusal_of_done};
-    ghost use Rattle.tp_store.specs.Content.{with_inserted, with_delivered, with_begun, with_done, delivered_to, inserted_by, NoneGoesBack};
-    ghost use Rattle.tp_store.specs.Sound.{IsSound};
+    ghost use Rattle.tp_store.specs.Content.{refusal_of_deliver, refusal_of_done, with_inserted, with_delivered, with_begun, with_done};
+    ghost use Rattle.tp_store.specs.{Content.{delivered_to, inserted_by, NoneGoesBack}, Sound.IsSound};
 
     /// Inserts a task without inputs, which is ready at once. Its class is 0 to 3.
     ///

@@ -1,25 +1,17 @@
 -- The calls of a team: for which reasons each is refused, in their order, and what it does.
-use Rattle.std.specs.Prelude.{ℕ, ◌+◌, ◌-◌, ◌≡◌, ◌≤◌, ◌<◌, ◌==◌, ◌&&◌, ◌||◌, ◌⊎◌, ◌↔◌, List, [], ◌∷◌, Bool, true, false, length}
-use Rattle.std.specs.Prelude.{Option, Some, None, IsTrue, IsSome, IfSome, IfNone, nat_lt, nat_le, if◌then◌else◌}
-use Rattle.std.specs.Option.{is_some}
+use Rattle.std.specs.{Option.is_some, Prelude.{ℕ, ◌+◌, ◌-◌, ◌≡◌, ◌≤◌, ◌<◌, ◌==◌, ◌&&◌, ◌||◌, ◌⊎◌, ◌↔◌, List, [], ◌∷◌, Bool, true, false}}
+use Rattle.std.specs.Prelude.{length, Option, Some, None, IsTrue, IsSome, IfSome, IfNone, nat_lt, nat_le, if◌then◌else◌}
 use Rattle.tp_base.specs.declared.refusal.Refusal.{Refusal}
+use Rattle.tp_dag.specs.{Calls.{IsDispatched, IsReported}, Describing.{Graph, IsFirstFault}, State.{PoolState, running_tasks}}
+use Rattle.tp_team.specs.State.{in_turns, left, signalled_by, HasReady, HasFinished, HasEnded, Settles}
+use Rattle.tp_team.specs.declared.{limits.TheConstants.MAX_THREADS, refusal.{Fault.Fault, TeamRefusal.TeamRefusal}, state.State.State}
+use Rattle.tp_team.specs.declared.turn.{Arrival.Arrival, Reply.Reply, Turn.Turn}
 use Rattle.tp_base.specs.declared.refusal.Refusal.TheVariants as refusal
 use Rattle.tp_base.specs.Checks as base
-use Rattle.tp_dag.specs.State.{PoolState, running_tasks}
 use Rattle.tp_dag.specs.Calls as dag
 use Rattle.tp_dag.specs.Describing as graph
-use Rattle.tp_dag.specs.Describing.{Graph, IsFirstFault}
-use Rattle.tp_dag.specs.Calls.{IsDispatched, IsReported}
-use Rattle.tp_team.specs.declared.limits.TheConstants.{MAX_THREADS}
-use Rattle.tp_team.specs.declared.refusal.TeamRefusal.{TeamRefusal}
 use Rattle.tp_team.specs.declared.refusal.TeamRefusal.TheVariants as team
-use Rattle.tp_team.specs.declared.refusal.Fault.{Fault}
-use Rattle.tp_team.specs.declared.turn.Arrival.{Arrival}
-use Rattle.tp_team.specs.declared.turn.Turn.{Turn}
 use Rattle.tp_team.specs.declared.turn.Turn.TheVariants as turn
-use Rattle.tp_team.specs.declared.turn.Reply.{Reply}
-use Rattle.tp_team.specs.declared.state.State.{State}
-use Rattle.tp_team.specs.State.{in_turns, left, signalled_by, HasReady, HasFinished, HasEnded, Settles}
 
 -- ---- checks: a call is refused for the first one that is true
 abbrev pub Check : Type 0

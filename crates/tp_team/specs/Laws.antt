@@ -1,19 +1,13 @@
 -- What follows from the contracts: a team is never stuck, it knows how many turns have not returned, it loses no wake-up, and it
 -- dispatches each task of a run once.
-use Rattle.std.specs.Prelude.{ℕ, ◌+◌, ◌≡◌, ◌≤◌, ◌==◌, List, [], ◌∷◌, Bool, false, Option, Some, IsTrue, IsFalse, slice_get}
-use Rattle.std.specs.Prelude.{if◌then◌else◌}
-use Rattle.tp_dag.specs.declared.entry.Stage.TheVariants as stage
-use Rattle.tp_dag.specs.State.{Entry, IsAt}
-use Rattle.tp_dag.specs.Calls.{Becomes, one_more, one_less, with_spawned}
-use Rattle.tp_dag.specs.Describing.{Graph}
-use Rattle.tp_team.specs.declared.turn.Arrival.{Arrival}
-use Rattle.tp_team.specs.declared.turn.Arrival.TheVariants as arrival
+use Rattle.std.specs.Prelude.{ℕ, ◌+◌, ◌≡◌, ◌≤◌, ◌==◌, List, [], ◌∷◌, Bool, false, Option, Some, IsTrue, IsFalse, slice_get, if◌then◌else◌}
+use Rattle.tp_dag.specs.{Calls.{Becomes, one_more, one_less, with_spawned}, Describing.Graph, State.{Entry, IsAt}}
+use Rattle.tp_team.specs.{Calls.{TakesTurn, Starts, Stops, Changes, opened, repeated, with_graph, with_pool}, State.{HasReady, HasEnded}}
+use Rattle.tp_team.specs.{State.{LosesNoWakeUp, Settles, in_turns}, declared.{state.State.State, turn.{Arrival.Arrival, Reply.Reply}}}
 use Rattle.tp_team.specs.declared.turn.Turn.{Turn}
+use Rattle.tp_dag.specs.declared.entry.Stage.TheVariants as stage
+use Rattle.tp_team.specs.declared.turn.Arrival.TheVariants as arrival
 use Rattle.tp_team.specs.declared.turn.Turn.TheVariants as turn
-use Rattle.tp_team.specs.declared.turn.Reply.{Reply}
-use Rattle.tp_team.specs.declared.state.State.{State}
-use Rattle.tp_team.specs.State.{HasReady, HasEnded, LosesNoWakeUp, Settles, in_turns}
-use Rattle.tp_team.specs.Calls.{TakesTurn, Starts, Stops, Changes, opened, repeated, with_graph, with_pool}
 
 -- A run is on and has not ended, no task runs, and no task waits for an input from outside.
 pub record IsIdle (a : State) : Type 0 where

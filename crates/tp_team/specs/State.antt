@@ -1,11 +1,8 @@
 -- A team: which threads wait, when it has ended, when a sleeping thread has to be signalled, and what holds between any two calls.
 use Rattle.std.specs.Prelude.{ℕ, ◌+◌, ◌-◌, ◌≡◌, ◌≤◌, ◌==◌, ◌&&◌, ◌↔◌, ◌⊎◌, Bool, true, false, IsTrue, IsSome, nat_lt, if◌then◌else◌}
 use Rattle.tp_dag.specs.State.{IsReady, IsOver}
-use Rattle.tp_team.specs.declared.limits.TheConstants.{MAX_THREADS}
-use Rattle.tp_team.specs.declared.turn.Arrival.{Arrival}
+use Rattle.tp_team.specs.declared.{limits.TheConstants.MAX_THREADS, state.State.State, turn.Arrival.Arrival, waiting.Waiting.Waiting}
 use Rattle.tp_team.specs.declared.turn.Arrival.TheVariants as arrival
-use Rattle.tp_team.specs.declared.waiting.Waiting.{Waiting}
-use Rattle.tp_team.specs.declared.state.State.{State}
 
 -- ---- threads in turns that have not returned
 abbrev pub in_turns : Waiting → ℕ

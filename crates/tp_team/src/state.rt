@@ -1,14 +1,12 @@
 //! A team's parts, and the steps that its calls are made of. Between two steps a wake-up may be missing.
-ghost use Rattle.std.specs.Prelude.{◌&&◌, ◌==◌, ◌≡◌, ◌≤◌, ◌<◌, ◌+◌, ◌↔◌, ◌⊎◌, ◌∷◌, [], ℕ, IsTrue, length};
-ghost use Rattle.std.specs.Prelude.{IsSome, IfSome, IfNone, IfOk, IfErr, OnOk, OnErr, Some, None, Ok, Err};
+ghost use Rattle.std.specs.Prelude.{◌&&◌, ◌==◌, ◌≡◌, ◌≤◌, ◌<◌, ◌+◌, ◌↔◌, ◌⊎◌, ◌∷◌, [], ℕ, IsTrue, length, IsSome, IfSome, IfNone, IfOk};
+ghost use Rattle.std.specs.Prelude.{IfErr, OnOk, OnErr, Some, None, Ok, Err};
 ghost use Rattle.tp_base.specs.declared.refusal.Refusal.TheVariants as refusal;
 ghost use Rattle.tp_dag.specs.Calls as dag;
 ghost use Rattle.tp_team.specs.declared.refusal.TeamRefusal.TheVariants as team;
-ghost use Rattle.tp_team.specs.declared.limits.TheConstants.{MAX_THREADS};
-ghost use Rattle.tp_team.specs.declared.state.State.{State};
-ghost use Rattle.tp_team.specs.State.{in_turns, HasEnded, HasFinished, HasReady, Settles, LosesNoWakeUp};
-ghost use Rattle.tp_team.specs.Calls.{first, of_pool, fault_check, again_checks, spawn_checks, start_checks, with_pool};
-ghost use Rattle.tp_team.specs.Calls.{Reports, Decides, HasToWait, stopped_by, may_spin};
+ghost use Rattle.tp_team.specs.Calls.{first, of_pool, fault_check, again_checks, spawn_checks, start_checks, with_pool, Reports, Decides};
+ghost use Rattle.tp_team.specs.{Calls.{HasToWait, stopped_by, may_spin}, State.{in_turns, HasEnded, HasFinished, HasReady, Settles}};
+ghost use Rattle.tp_team.specs.{State.LosesNoWakeUp, declared.{limits.TheConstants.MAX_THREADS, state.State.State}};
 ghost use Rattle.tp_team.specs.Calls as of_calls;
 
 use crate::limits::MAX_THREADS;

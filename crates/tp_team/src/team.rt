@@ -1,17 +1,14 @@
 //! The team: its calls. Each is made under one lock of the caller.
-ghost use Rattle.std.specs.Prelude.{◌≡◌, ◌≤◌, ◌<◌, ◌+◌, ◌-◌, ◌⊎◌, ℕ, length, Ok, Err, Some, None, IsTrue, true, false};
-ghost use Rattle.std.specs.Prelude.{IfOk, OnOk, OnErr, IfErr, IfSome};
+ghost use Rattle.std.specs.Prelude.{◌≡◌, ◌≤◌, ◌<◌, ◌+◌, ◌-◌, ◌⊎◌, ℕ, length, Ok, Err, Some, None, IsTrue, true, false, IfOk, OnOk, OnErr};
+ghost use Rattle.std.specs.Prelude.{IfErr, IfSome};
 ghost use Rattle.tp_base.specs.declared.refusal.Refusal.TheVariants as refusal;
 ghost use Rattle.tp_dag.specs.State.{is_traced, ready_tasks, unfinished_tasks};
 ghost use Rattle.tp_dag.specs.Calls as dag;
-ghost use Rattle.tp_dag.specs.Calls.{Becomes, one_more, one_less};
-ghost use Rattle.tp_dag.specs.Describing.{fault_of};
+ghost use Rattle.tp_dag.specs.{Calls.{Becomes, one_more, one_less}, Describing.fault_of};
 ghost use Rattle.tp_team.specs.declared.refusal.TeamRefusal.TheVariants as team;
-ghost use Rattle.tp_team.specs.State.{LosesNoWakeUp, Settles};
-ghost use Rattle.tp_team.specs.Calls.{first, of_pool, fault_check, describe_checks, record_checks, start_checks, again_checks, reset_checks};
-ghost use Rattle.tp_team.specs.Calls.{spawn_checks, IsGraphRefusal};
-ghost use Rattle.tp_team.specs.Calls.{opened, Changes, with_pool, with_graph, repeated, Starts, Stops, TakesTurn};
-ghost use Rattle.tp_team.specs.Laws.{NeverStuck};
+ghost use Rattle.tp_team.specs.Calls.{first, of_pool, fault_check, describe_checks, record_checks, start_checks, again_checks};
+ghost use Rattle.tp_team.specs.Calls.{reset_checks, spawn_checks, IsGraphRefusal, opened, Changes, with_pool, with_graph, repeated, Starts};
+ghost use Rattle.tp_team.specs.{Calls.{Stops, TakesTurn}, Laws.NeverStuck, State.{LosesNoWakeUp, Settles}};
 
 use crate::refusal::{Fault, TeamRefusal};
 use crate::state::State;
@@ -29,8 +26,7 @@ pub struct Team {
 }
 
 impl Model for Team {
-    ghost use Rattle.tp_team.specs.declared.state.State.{State};
-    ghost use Rattle.tp_team.specs.State.{LosesNoWakeUp};
+    ghost use Rattle.tp_team.specs.{State.LosesNoWakeUp, declared.state.State.State};
 
     ghost Value = { State };
 

@@ -1,8 +1,7 @@
 //! How many threads are in turns that have not returned.
 ghost use Rattle.std.specs.Prelude.{◌≡◌, ◌+◌, ◌-◌, ◌≤◌, ◌<◌};
+ghost use Rattle.tp_team.specs.{State.{in_turns, left, needed, signalled_by}, declared.limits.TheConstants.MAX_THREADS};
 ghost use Rattle.tp_team.specs.declared.waiting.Waiting.{Waiting};
-ghost use Rattle.tp_team.specs.declared.limits.TheConstants.{MAX_THREADS};
-ghost use Rattle.tp_team.specs.State.{in_turns, left, needed, signalled_by};
 
 use crate::limits::MAX_THREADS;
 use crate::turn::Arrival;

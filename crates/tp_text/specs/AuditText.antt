@@ -1,26 +1,14 @@
 -- The reply to a trace: the account of a sound one, or the line that reports the first fault. The grammar is in Trace.
 use Rattle.std.specs.Prelude.{ℕ, ◌+◌, ◌≡◌, ◌≢◌, ◌≤◌, ◌++◌, ◌⊎◌, List, [], ◌∷◌, Bool, true, false, Option, Some, None, length, codes}
 use Rattle.std.specs.Prelude.{decimal}
+use Rattle.tp_base.specs.{Refusals.{number_of, name_of}, declared.Step.{Step, TheVariants.{Insert, Judge, Reopen}}}
 use Rattle.tp_base.specs.declared.limits.TheConstants.{MAX_STEPS}
-use Rattle.tp_base.specs.declared.Step.{Step}
-use Rattle.tp_base.specs.declared.Step.TheVariants.{Insert, Judge, Reopen}
-use Rattle.tp_base.specs.Refusals.{number_of, name_of}
-use Rattle.tp_wave.specs.Steps.{count, is_done, is_recv, is_send}
-use Rattle.tp_wave.specs.Sums.{judgement}
-use Rattle.tp_wave.specs.Generations.{present, generation}
-use Rattle.tp_core.specs.Accepted.{Accepted, refusal}
-use Rattle.tp_core.specs.Generations.{AreRuns}
-use Rattle.tp_text.specs.declared.account.Account.{Account}
-use Rattle.tp_text.specs.declared.auditor.Flaw.{Flaw}
+use Rattle.tp_core.specs.{Accepted.{Accepted, refusal}, Generations.AreRuns}
+use Rattle.tp_text.specs.{Spelling.line, Trace.{IsTrace, HasTraceFaultAt}, declared.{account.Account.Account, auditor.Flaw.Flaw}}
+use Rattle.tp_text.specs.declared.{traced.TraceLine.{TraceLine, TheVariants.{Plain, Judged}}, verdict.Verdict.{Verdict, TheVariants.Sound}}
+use Rattle.tp_text.specs.declared.{verdict.Verdict.TheVariants.Refused, version.Version.{Version, TheVariants.{One, Two}}}
+use Rattle.tp_wave.specs.{Generations.{present, generation}, Steps.{count, is_done, is_recv, is_send}, Sums.judgement}
 use Rattle.tp_text.specs.declared.auditor.Flaw.TheVariants as flaws
-use Rattle.tp_text.specs.declared.traced.TraceLine.{TraceLine}
-use Rattle.tp_text.specs.declared.traced.TraceLine.TheVariants.{Plain, Judged}
-use Rattle.tp_text.specs.declared.version.Version.{Version}
-use Rattle.tp_text.specs.declared.version.Version.TheVariants.{One, Two}
-use Rattle.tp_text.specs.declared.verdict.Verdict.{Verdict}
-use Rattle.tp_text.specs.declared.verdict.Verdict.TheVariants.{Sound, Refused}
-use Rattle.tp_text.specs.Spelling.{line}
-use Rattle.tp_text.specs.Trace.{IsTrace, HasTraceFaultAt}
 
 abbrev pub step_in : TraceLine → Step
 step_in (Plain s) = s

@@ -1,19 +1,12 @@
 -- What is known of an auditor that took the lines of a trace one by one.
 use Rattle.std.specs.Prelude.{ℕ, ◌+◌, ◌≡◌, ◌++◌, List, Option, Some, None, length}
 use Rattle.tp_base.specs.declared.Step.{Step}
-use Rattle.tp_core.specs.declared.Reply.{Reply}
-use Rattle.tp_core.specs.Accepted.{judged}
-use Rattle.tp_text.specs.declared.auditor.Auditor.{Auditor}
-use Rattle.tp_text.specs.declared.auditor.Flaw.{Flaw}
-use Rattle.tp_text.specs.declared.recount.Recounted.{Recounted}
-use Rattle.tp_text.specs.declared.recount.Recounted.TheVariants as recounts
-use Rattle.tp_text.specs.declared.traced.TraceLine.{TraceLine}
-use Rattle.tp_text.specs.declared.traced.TraceLine.TheVariants.{Plain, Judged}
-use Rattle.tp_text.specs.declared.verdict.Verdict.TheVariants.{Refused}
+use Rattle.tp_core.specs.{Accepted.judged, declared.Reply.Reply}
+use Rattle.tp_text.specs.{AuditText.{steps_in, taken, account, IsAuditText, IsSound}, Reading.{syntax_text, AreUpToFlaw, LacksHead}}
+use Rattle.tp_text.specs.{Trace.{BreaksOff, IsTrace}, declared.{auditor.{Auditor.Auditor, Flaw.Flaw}, recount.Recounted.Recounted}}
+use Rattle.tp_text.specs.declared.{traced.TraceLine.{TraceLine, TheVariants.{Plain, Judged}}, verdict.Verdict.TheVariants.Refused}
 use Rattle.tp_text.specs.declared.version.Version.{Version}
-use Rattle.tp_text.specs.AuditText.{steps_in, taken, account, IsAuditText, IsSound}
-use Rattle.tp_text.specs.Reading.{syntax_text, AreUpToFlaw, LacksHead}
-use Rattle.tp_text.specs.Trace.{BreaksOff, IsTrace}
+use Rattle.tp_text.specs.declared.recount.Recounted.TheVariants as recounts
 
 -- The lines are sound, and the auditor took and counted their steps.
 pub record AreTaken (n : ℕ) (lines : List TraceLine) (a : Auditor) : Type 0 where

@@ -1,12 +1,9 @@
 -- What the line `ended W` in the reply to a script says about the pool.
 use Rattle.std.specs.Prelude.{ℕ, ◌≡◌, List, ◌∷◌, ◌++◌, Ok}
 use Rattle.tp_base.specs.declared.Step.{Step}
-use Rattle.tp_wave.specs.Sums.{visited_at}
-use Rattle.tp_wave.specs.Generations.{present, generation}
-use Rattle.tp_core.specs.declared.Reply.TheVariants.{Over}
-use Rattle.tp_core.specs.Accepted.{answer, after_all}
-use Rattle.tp_core.specs.NeverEarly.{IsOverFrom}
+use Rattle.tp_core.specs.{Accepted.{answer, after_all}, NeverEarly.IsOverFrom, declared.Reply.TheVariants.Over}
 use Rattle.tp_text.specs.SimText.{fresh}
+use Rattle.tp_wave.specs.{Generations.{present, generation}, Sums.visited_at}
 
 -- After these steps, the reply to the next step is `ended W`.
 abbrev pub IsAnsweredEnded : ℕ → List Step → Step → ℕ → Type 0

@@ -1,14 +1,8 @@
 -- What is known of a tracer that followed steps one by one.
-use Rattle.std.specs.Prelude.{ℕ, ◌≡◌, ◌<◌, ◌≤◌, List, IsTrue, length}
-use Rattle.std.specs.List.{slice_index_or}
-use Rattle.tp_base.specs.declared.limits.TheConstants.{MAX_NODES, MAX_STEPS}
-use Rattle.tp_base.specs.declared.Step.{Step}
-use Rattle.tp_base.specs.declared.Step.TheVariants.{Send, Recv}
-use Rattle.tp_wave.specs.Control.{is_control, IsControlStep}
-use Rattle.tp_wave.specs.Cut.{DoTwoTell}
-use Rattle.tp_wave.specs.Steps.{count, is_send_of, is_recv_at}
-use Rattle.tp_wave.specs.Wave.{Follows}
+use Rattle.std.specs.{List.slice_index_or, Prelude.{ℕ, ◌≡◌, ◌<◌, ◌≤◌, List, IsTrue, length}}
+use Rattle.tp_base.specs.declared.{Step.{Step, TheVariants.{Send, Recv}}, limits.TheConstants.{MAX_NODES, MAX_STEPS}}
 use Rattle.tp_text.specs.declared.tracer.Tracer.{Tracer}
+use Rattle.tp_wave.specs.{Control.{is_control, IsControlStep}, Cut.DoTwoTell, Steps.{count, is_send_of, is_recv_at}, Wave.Follows}
 
 -- The wave is in the state to which these steps on n nodes led, and the messages of each node were counted.
 pub record HasFollowed (n : ℕ) (steps : List Step) (t : Tracer) : Type 0 where

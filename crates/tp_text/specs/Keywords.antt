@@ -1,12 +1,9 @@
 -- The keywords of the grammar, and the step that a keyword and numbers spell.
-use Rattle.std.specs.Prelude.{ℕ, ◌≡◌, ◌≢◌, List, codes}
-use Rattle.std.specs.List.{All}
+use Rattle.std.specs.{List.All, Prelude.{ℕ, ◌≡◌, ◌≢◌, List, codes}}
 use Rattle.tp_base.specs.declared.Step.{Step}
-use Rattle.tp_text.specs.declared.version.Version.{Version}
-use Rattle.tp_text.specs.Spelling.{word_of, numbers_of, IsNumber, IsSpelled}
-use Rattle.tp_text.specs.declared.keyword.Keyword.{Keyword}
-use Rattle.tp_text.specs.declared.keyword.Keyword.TheVariants.{Insert, Supply, Begin, Done, Open, Close, Ready, Send, Recv, End, Start}
-use Rattle.tp_text.specs.declared.keyword.Keyword.TheVariants.{Down, Give, Up, Judge, Reopen}
+use Rattle.tp_text.specs.{Spelling.{word_of, numbers_of, IsNumber, IsSpelled}, declared.keyword.Keyword.{Keyword, TheVariants.Insert}}
+use Rattle.tp_text.specs.declared.keyword.Keyword.TheVariants.{Supply, Begin, Done, Open, Close, Ready, Send, Recv, End, Start, Down, Give}
+use Rattle.tp_text.specs.declared.{keyword.Keyword.TheVariants.{Up, Judge, Reopen}, version.Version.Version}
 
 abbrev pub keyword_text : Keyword → List ℕ
 keyword_text Insert = codes "insert"

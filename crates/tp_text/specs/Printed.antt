@@ -1,8 +1,6 @@
 -- The numbers of nodes, in a list.
-use Rattle.std.specs.Prelude.{ℕ, List}
-use Rattle.std.specs.List.{slice_index_or}
-use Rattle.tp_core.specs.declared.NodeNumbers.{NodeNumbers}
-use Rattle.tp_core.specs.Accepted.{no_numbers}
+use Rattle.std.specs.{List.slice_index_or, Prelude.{ℕ, List}}
+use Rattle.tp_core.specs.{Accepted.no_numbers, declared.NodeNumbers.NodeNumbers}
 
 -- those of node i, or zeros after the end of the list
 abbrev pub listed : List NodeNumbers → ℕ → NodeNumbers

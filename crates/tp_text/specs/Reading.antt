@@ -2,15 +2,10 @@
 use Rattle.std.specs.Prelude.{ℕ, ◌+◌, ◌≡◌, ◌<◌, ◌++◌, ◌⊎◌, List, ◌∷◌, codes, decimal, length, reverse}
 use Rattle.tp_base.specs.declared.Step.{Step}
 use Rattle.tp_core.specs.Generations.{AreRuns}
-use Rattle.tp_text.specs.declared.auditor.Flaw.{Flaw}
-use Rattle.tp_text.specs.declared.reading.Reading.{Reading}
+use Rattle.tp_text.specs.{AuditText.{flaw_line, steps_in, IsAuditText, IsFlaw, IsSound}, Spelling.line, Trace.{trace, BeginsWithFormat}}
+use Rattle.tp_text.specs.{Trace.{BeginsWithLine, IsTrace, LacksNodes}, declared.{auditor.Flaw.Flaw, reading.Reading.Reading}}
+use Rattle.tp_text.specs.declared.{traced.TraceLine.TraceLine, verdict.Verdict.TheVariants.Refused, version.Version.Version}
 use Rattle.tp_text.specs.declared.reading.Reading.TheVariants as readings
-use Rattle.tp_text.specs.declared.traced.TraceLine.{TraceLine}
-use Rattle.tp_text.specs.declared.verdict.Verdict.TheVariants.{Refused}
-use Rattle.tp_text.specs.declared.version.Version.{Version}
-use Rattle.tp_text.specs.AuditText.{flaw_line, steps_in, IsAuditText, IsFlaw, IsSound}
-use Rattle.tp_text.specs.Spelling.{line}
-use Rattle.tp_text.specs.Trace.{trace, BeginsWithFormat, BeginsWithLine, IsTrace, LacksNodes}
 
 -- ---- a sound trace
 

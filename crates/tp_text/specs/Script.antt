@@ -1,12 +1,8 @@
 -- The grammar of scripts: a version line, which only version 2 has; a line for the number of nodes; and a line for each
 -- step.
-use Rattle.std.specs.Prelude.{ℕ, ◌+◌, ◌≡◌, ◌≢◌, ◌≤◌, ◌++◌, ◌⊎◌, List, [], ◌∷◌, length, codes}
-use Rattle.std.specs.List.{All, flat_map}
-use Rattle.tp_base.specs.declared.Step.{Step}
-use Rattle.tp_base.specs.declared.limits.TheConstants.{MAX_NODES}
-use Rattle.tp_text.specs.declared.version.Version.{Version}
-use Rattle.tp_text.specs.declared.version.Version.TheVariants.{One, Two}
-use Rattle.tp_text.specs.Spelling.{spaced, line, spelling, IsSpelled}
+use Rattle.std.specs.{List.{All, flat_map}, Prelude.{ℕ, ◌+◌, ◌≡◌, ◌≢◌, ◌≤◌, ◌++◌, ◌⊎◌, List, [], ◌∷◌, length, codes}}
+use Rattle.tp_base.specs.declared.{Step.Step, limits.TheConstants.MAX_NODES}
+use Rattle.tp_text.specs.{Spelling.{spaced, line, spelling, IsSpelled}, declared.version.Version.{Version, TheVariants.{One, Two}}}
 
 -- the version line, with which a script of version 2 begins; one of version 1 has none
 abbrev pub version_lines : Version → List ℕ

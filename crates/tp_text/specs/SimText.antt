@@ -1,20 +1,10 @@
 -- The reply to a script: a line for each step and the closing lines, or the line that reports the first fault.
-use Rattle.std.specs.Prelude.{ℕ, zero, suc, ◌≡◌, ◌++◌, List, [], length, codes, decimal, Result, Ok, Err, if◌then◌else◌}
-use Rattle.std.specs.List.{flat_map}
-use Rattle.tp_base.specs.declared.Refusal.{Refusal}
-use Rattle.tp_base.specs.declared.Step.{Step}
-use Rattle.tp_base.specs.Refusals.{number_of, name_of}
-use Rattle.tp_base.specs.Totals.{total}
-use Rattle.tp_core.specs.declared.NodeNumbers.{NodeNumbers}
-use Rattle.tp_core.specs.declared.Reply.{Reply}
-use Rattle.tp_core.specs.declared.Reply.TheVariants.{Plain, WaveSums, Not, Over, Opened}
-use Rattle.tp_core.specs.World.{is_quiet}
-use Rattle.tp_core.specs.Accepted.{Accepted, world_of, numbers_at, answers, after_all}
+use Rattle.std.specs.{List.flat_map, Prelude.{ℕ, zero, suc, ◌≡◌, ◌++◌, List, [], length, codes, decimal, Result, Ok, Err, if◌then◌else◌}}
+use Rattle.tp_base.specs.{Refusals.{number_of, name_of}, Totals.total, declared.{Refusal.Refusal, Step.Step}}
+use Rattle.tp_core.specs.{Accepted.{Accepted, world_of, numbers_at, answers, after_all}, World.is_quiet, declared.NodeNumbers.NodeNumbers}
+use Rattle.tp_core.specs.declared.Reply.{Reply, TheVariants.{Plain, WaveSums, Not, Over, Opened}}
+use Rattle.tp_text.specs.{Script.{IsScript, HasFaultAt}, Spelling.line, declared.verdict.Verdict.{Verdict, TheVariants.{Sound, Refused}}}
 use Rattle.tp_text.specs.declared.version.Version.{Version}
-use Rattle.tp_text.specs.declared.verdict.Verdict.{Verdict}
-use Rattle.tp_text.specs.declared.verdict.Verdict.TheVariants.{Sound, Refused}
-use Rattle.tp_text.specs.Spelling.{line}
-use Rattle.tp_text.specs.Script.{IsScript, HasFaultAt}
 
 -- the line of the reply to a step
 abbrev pub answer_line : Result Reply Refusal → List ℕ

@@ -1,12 +1,8 @@
 -- How steps are spelled: each in one way.
-use Rattle.std.specs.Prelude.{ℕ, ◌≡◌, ◌<◌, ◌≤◌, ◌++◌, List, [], ◌∷◌, codes, decimal}
-use Rattle.std.specs.List.{All}
-use Rattle.tp_base.specs.declared.Generation.{Generation}
-use Rattle.tp_base.specs.declared.Step.{Step}
-use Rattle.tp_base.specs.declared.Step.TheVariants.{Insert, Supply, Begin, Done, ActionOpen, ActionClose, Ready, Send, Recv, MessageEnd}
-use Rattle.tp_base.specs.declared.Step.TheVariants.{Start, Down, Give, Up, Judge, Reopen}
-use Rattle.tp_text.specs.declared.version.Version.{Version}
-use Rattle.tp_text.specs.declared.version.Version.TheVariants.{One, Two}
+use Rattle.std.specs.{List.All, Prelude.{ℕ, ◌≡◌, ◌<◌, ◌≤◌, ◌++◌, List, [], ◌∷◌, codes, decimal}}
+use Rattle.tp_base.specs.declared.{Generation.Generation, Step.{Step, TheVariants.{Insert, Supply, Begin, Done, ActionOpen, ActionClose}}}
+use Rattle.tp_base.specs.declared.Step.TheVariants.{Ready, Send, Recv, MessageEnd, Start, Down, Give, Up, Judge, Reopen}
+use Rattle.tp_text.specs.declared.version.Version.{Version, TheVariants.{One, Two}}
 
 -- A number is spelled in decimal, without a leading zero, in at most six digits.
 abbrev pub IsNumber : ℕ → Type 0

@@ -1,14 +1,10 @@
 -- The grammar of traces: a format line, a line for the number of nodes, then a line for each step. The line of a
 -- judgement also has its claim.
-use Rattle.std.specs.Prelude.{ℕ, ◌+◌, ◌≡◌, ◌≢◌, ◌≤◌, ◌++◌, ◌⊎◌, List, [], ◌∷◌, Option, Some, None, length, codes}
-use Rattle.std.specs.List.{All}
+use Rattle.std.specs.{List.All, Prelude.{ℕ, ◌+◌, ◌≡◌, ◌≢◌, ◌≤◌, ◌++◌, ◌⊎◌, List, [], ◌∷◌, Option, Some, None, length, codes}}
+use Rattle.tp_text.specs.{Script.{nodes_line, step_line, IsNodeCount, LacksNodesBehind}, Spelling.{spaced, line, IsNumber, IsSpelled}}
+use Rattle.tp_text.specs.declared.{traced.TraceLine.{TraceLine, TheVariants.{Plain, Judged}}, version.Version.{Version, TheVariants.One}}
+use Rattle.tp_text.specs.declared.version.Version.TheVariants.{Two}
 use Rattle.tp_base.specs.declared.Step.TheVariants as steps
-use Rattle.tp_text.specs.declared.traced.TraceLine.{TraceLine}
-use Rattle.tp_text.specs.declared.traced.TraceLine.TheVariants.{Plain, Judged}
-use Rattle.tp_text.specs.declared.version.Version.{Version}
-use Rattle.tp_text.specs.declared.version.Version.TheVariants.{One, Two}
-use Rattle.tp_text.specs.Script.{nodes_line, step_line, IsNodeCount, LacksNodesBehind}
-use Rattle.tp_text.specs.Spelling.{spaced, line, IsNumber, IsSpelled}
 
 -- the format line
 abbrev pub format_line : Version → List ℕ

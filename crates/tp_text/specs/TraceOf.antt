@@ -1,20 +1,9 @@
 -- The trace of a list of steps.
-use Rattle.std.specs.Prelude.{ℕ, ◌≡◌, ◌≤◌, List, [], ◌∷◌, length, if◌then◌else◌}
-use Rattle.std.specs.List.{All}
-use Rattle.tp_base.specs.declared.limits.TheConstants.{MAX_STEPS}
-use Rattle.tp_base.specs.declared.Step.{Step}
-use Rattle.tp_base.specs.declared.Step.TheVariants.{Judge}
-use Rattle.tp_wave.specs.Steps.{any, is_reopen}
-use Rattle.tp_wave.specs.Sums.{judgement}
-use Rattle.tp_wave.specs.Generations.{present, InEach}
-use Rattle.tp_wave.specs.Machine.{History, steps_of, IsRun}
-use Rattle.tp_text.specs.declared.traced.TraceLine.{TraceLine}
-use Rattle.tp_text.specs.declared.traced.TraceLine.TheVariants.{Plain, Judged}
-use Rattle.tp_text.specs.declared.version.Version.{Version}
-use Rattle.tp_text.specs.declared.version.Version.TheVariants.{One, Two}
-use Rattle.tp_text.specs.AuditText.{steps_in, AreJustified}
-use Rattle.tp_text.specs.Spelling.{IsSpelled}
-use Rattle.tp_text.specs.Trace.{IsTrace}
+use Rattle.std.specs.{List.All, Prelude.{ℕ, ◌≡◌, ◌≤◌, List, [], ◌∷◌, length, if◌then◌else◌}}
+use Rattle.tp_base.specs.declared.{Step.{Step, TheVariants.Judge}, limits.TheConstants.MAX_STEPS}
+use Rattle.tp_text.specs.{AuditText.{steps_in, AreJustified}, Spelling.IsSpelled, Trace.IsTrace, declared.traced.TraceLine.TraceLine}
+use Rattle.tp_text.specs.declared.{traced.TraceLine.TheVariants.{Plain, Judged}, version.Version.{Version, TheVariants.{One, Two}}}
+use Rattle.tp_wave.specs.{Generations.{present, InEach}, Machine.{History, steps_of, IsRun}, Steps.{any, is_reopen}, Sums.judgement}
 
 -- the line of a step: a judgement line claims the judgement over the steps before it in its generation
 abbrev pub line_of : ℕ → List Step → Step → TraceLine

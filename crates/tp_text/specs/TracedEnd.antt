@@ -1,13 +1,9 @@
 -- What a sound trace says about the end of the pool.
 use Rattle.std.specs.Prelude.{ℕ, ◌≡◌, List, ◌∷◌, ◌++◌, IsTrue, Some, None}
-use Rattle.tp_wave.specs.Steps.{any, is_reopen}
-use Rattle.tp_wave.specs.Sums.{visited_at}
-use Rattle.tp_wave.specs.Generations.{present}
 use Rattle.tp_base.specs.declared.Step.TheVariants.{Reopen}
 use Rattle.tp_core.specs.NeverEarly.{IsOverFrom}
-use Rattle.tp_text.specs.declared.traced.TraceLine.{TraceLine}
-use Rattle.tp_text.specs.declared.traced.TraceLine.TheVariants.{Plain, Judged}
-use Rattle.tp_text.specs.AuditText.{steps_in, IsSound, account}
+use Rattle.tp_text.specs.{AuditText.{steps_in, IsSound, account}, declared.traced.TraceLine.{TraceLine, TheVariants.{Plain, Judged}}}
+use Rattle.tp_wave.specs.{Generations.present, Steps.{any, is_reopen}, Sums.visited_at}
 
 -- If the reply is `ended W`, nothing of the present generation was left from the end of wave W on, which is its visit
 -- to the root, and each task that any line of that generation inserts had run once by then.

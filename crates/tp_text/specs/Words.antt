@@ -1,6 +1,5 @@
 -- Words and numbers at the front of a text.
-use Rattle.std.specs.Prelude.{ℕ, ◌≤◌, ◌≡◌, ◌≢◌, ◌++◌, List, [], ◌∷◌}
-use Rattle.std.specs.List.{All}
+use Rattle.std.specs.{List.All, Prelude.{ℕ, ◌≤◌, ◌≡◌, ◌≢◌, ◌++◌, List, [], ◌∷◌}}
 use Rattle.tp_text.specs.declared.words.Operands.{Operands}
 use Rattle.tp_text.specs.declared.words.Operands.TheVariants as operands
 

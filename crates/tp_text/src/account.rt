@@ -1,12 +1,8 @@
 //! The account of a trace: the sums over its lines, and the lines that `audit` writes for them.
 ghost use Rattle.std.specs.Prelude.{◌≡◌, ◌≢◌, ◌<◌, ◌++◌, ◌∷◌, [], ℕ, List, length, codes, decimal, OnOk};
-ghost use Rattle.tp_base.specs.declared.Step.{Step};
-ghost use Rattle.tp_base.specs.declared.Step.TheVariants.{Judge};
-ghost use Rattle.tp_base.specs.declared.limits.TheConstants.{MAX_STEPS};
-ghost use Rattle.tp_text.specs.AuditText.{account, end_words, generation_lines, step_in, summary, IsJustified};
-ghost use Rattle.tp_text.specs.Spelling.{line};
-ghost use Rattle.tp_text.specs.declared.version.Version.{Version};
-ghost use Rattle.tp_text.specs.Trace.{IsWritten};
+ghost use Rattle.tp_base.specs.declared.{Step.{Step, TheVariants.Judge}, limits.TheConstants.MAX_STEPS};
+ghost use Rattle.tp_text.specs.{AuditText.{account, end_words, generation_lines, step_in, summary, IsJustified}, Spelling.line};
+ghost use Rattle.tp_text.specs.{Trace.IsWritten, declared.version.Version.Version};
 
 use crate::printing::push_count;
 use crate::traced::TraceLine;

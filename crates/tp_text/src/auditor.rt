@@ -2,9 +2,7 @@
 ghost use Rattle.std.specs.Prelude.{◌≡◌, ◌+◌, ◌≤◌, ◌++◌, ◌∷◌, [], ℕ, List, length, reverse, take, is_some, ◌↔◌, IfErr, IfOk, IsTrue, OnOk};
 ghost use Rattle.std.specs.Prelude.{MatchOption};
 ghost use Rattle.tp_base.specs.declared.limits.TheConstants.{MAX_NODES};
-ghost use Rattle.tp_text.specs.AuditText.{flaw_line, summary};
-ghost use Rattle.tp_text.specs.Auditing.{IsTold, Knows};
-ghost use Rattle.tp_text.specs.Trace.{IsWritten};
+ghost use Rattle.tp_text.specs.{AuditText.{flaw_line, summary}, Auditing.{IsTold, Knows}, Trace.IsWritten};
 ghost use Rattle.tp_text.specs.declared.version.Version.{Version};
 
 use crate::account::Account;

@@ -1,6 +1,5 @@
 //! Reading a whole text, within limits of bytes and reads.
-ghost use Rattle.std.specs.Prelude.{◌≡◌, ◌+◌, ◌≤◌, ℕ, List, length, IfOk, IsErrOf};
-ghost use Rattle.std.specs.Io.KnownBytes.{Consumes, IsAtEnd};
+ghost use Rattle.std.specs.{Io.KnownBytes.{Consumes, IsAtEnd}, Prelude.{◌≡◌, ◌+◌, ◌≤◌, ℕ, List, length, IfOk, IsErrOf}};
 ghost use Rattle.tp_text.specs.Input.{ReadsAll};
 
 use crate::fault::TextFault;

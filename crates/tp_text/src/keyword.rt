@@ -1,7 +1,6 @@
 //! The keywords with which the lines of steps begin.
 ghost use Rattle.std.specs.Prelude.{◌≡◌, ◌≢◌, MatchOption};
-ghost use Rattle.tp_text.specs.Keywords.{keyword_text};
-ghost use Rattle.tp_text.specs.declared.keyword.Keyword.{Keyword};
+ghost use Rattle.tp_text.specs.{Keywords.keyword_text, declared.keyword.Keyword.Keyword};
 
 /// The first word of a step's line.
 #[derive(Clone, Copy)]

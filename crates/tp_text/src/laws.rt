@@ -1,10 +1,6 @@
 //! Laws of scripts and traces: calls whose postcondition is a theorem.
-ghost use Rattle.tp_text.specs.AuditText.{AuditsAreDetermined};
-ghost use Rattle.tp_text.specs.Reading.{ReadingsAreDetermined};
-ghost use Rattle.tp_text.specs.Script.{ScriptsAreDetermined};
-ghost use Rattle.tp_text.specs.SimText.{TextsAreDetermined};
-ghost use Rattle.tp_text.specs.Trace.{TracesAreDetermined};
-ghost use Rattle.tp_text.specs.TraceOf.{RunsOfOneGeneration, TracesAreReadBack};
+ghost use Rattle.tp_text.specs.{AuditText.AuditsAreDetermined, Reading.ReadingsAreDetermined, Script.ScriptsAreDetermined};
+ghost use Rattle.tp_text.specs.{SimText.TextsAreDetermined, Trace.TracesAreDetermined, TraceOf.{RunsOfOneGeneration, TracesAreReadBack}};
 
 /// States that bytes are the script of at most one version, number of nodes and list of steps.
 #[tactic(auto, using(crate::proofs::Readings::scripts_determined))]

@@ -1,8 +1,7 @@
 //! The number at the front of a text.
 ghost use Rattle.std.specs.Prelude.{◌≡◌, ◌≢◌, ◌<◌, ◌≤◌, ◌↔◌, ◌++◌, ℕ, List, length, slice_index, take, decimal, IsTrue, MatchOption};
 ghost use Rattle.std.specs.Str.Parse.{digits_value};
-ghost use Rattle.tp_text.specs.Spelling.{IsNumber};
-ghost use Rattle.tp_text.specs.Words.{IsDigit, BeginsWithout};
+ghost use Rattle.tp_text.specs.{Spelling.IsNumber, Words.{IsDigit, BeginsWithout}};
 
 /// Returns the number of digits at the front, at most seven, and their value. Digits after the seventh are not read.
 fn leading_digits(text: &[u8]) -> (usize, u32)

@@ -1,13 +1,10 @@
 //! The parser of scripts and traces, line by line.
 ghost use Rattle.std.specs.Prelude.{◌≡◌, ◌≢◌, ◌≤◌, ◌++◌, ◌∷◌, [], ℕ, List, codes, Option, MatchOption};
 ghost use Rattle.tp_base.specs.declared.Step.{Step};
-ghost use Rattle.tp_text.specs.declared.keyword.Keyword.{Keyword};
-ghost use Rattle.tp_text.specs.Keywords.{keyword_text, Names, NamesNone};
-ghost use Rattle.tp_text.specs.Spelling.{spaced, word_of, numbers_of, IsSpelled};
-ghost use Rattle.tp_text.specs.Script.{nodes_line, step_line, version_lines, IsNodeCount, BeginsWithNodes, BeginsWithStep};
-ghost use Rattle.tp_text.specs.Script.{BeginsWithVersion};
-ghost use Rattle.tp_text.specs.Trace.{format_line, trace_line, words, AreWords, BeginsWithFormat, BeginsWithLine, IsWritten};
-ghost use Rattle.tp_text.specs.Words.{numbers_in};
+ghost use Rattle.tp_text.specs.{Keywords.{keyword_text, Names, NamesNone}, Script.{nodes_line, step_line, version_lines, IsNodeCount}};
+ghost use Rattle.tp_text.specs.{Script.{BeginsWithNodes, BeginsWithStep, BeginsWithVersion}, Spelling.{spaced, word_of, numbers_of}};
+ghost use Rattle.tp_text.specs.{Spelling.IsSpelled, Trace.{format_line, trace_line, words, AreWords, BeginsWithFormat, BeginsWithLine}};
+ghost use Rattle.tp_text.specs.{Trace.IsWritten, Words.numbers_in, declared.keyword.Keyword.Keyword};
 
 use crate::keyword::{Keyword, keyword_of};
 use crate::step_lines::FIRST;

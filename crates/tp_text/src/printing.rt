@@ -1,10 +1,7 @@
 //! The lines of a reply: for a step, for the closing numbers, and for a syntax error.
 ghost use Rattle.std.specs.Prelude.{◌≡◌, ◌++◌, ◌+◌, ◌^◌, ◌<◌, ◌≤◌, ℕ, length, decimal, codes, if◌then◌else◌, OnOk, IfOk, Err};
-ghost use Rattle.tp_base.specs.declared.limits.TheConstants.{MAX_NODES};
-ghost use Rattle.tp_base.specs.Totals.{total};
-ghost use Rattle.tp_text.specs.Printed.{listed};
-ghost use Rattle.tp_text.specs.Spelling.{line};
-ghost use Rattle.tp_text.specs.SimText.{answer_line, counts, node_line, node_lines, closing};
+ghost use Rattle.tp_base.specs.{Totals.total, declared.limits.TheConstants.MAX_NODES};
+ghost use Rattle.tp_text.specs.{Printed.listed, SimText.{answer_line, counts, node_line, node_lines, closing}, Spelling.line};
 
 use itoa::Buffer;
 use std::alloc::{AllocError, Global};

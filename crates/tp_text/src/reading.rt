@@ -1,13 +1,7 @@
 //! Reading a trace: the steps of a sound one, or those before the first faulty line.
-ghost use Rattle.std.specs.Prelude.{◌≡◌, ◌+◌, ◌≤◌, ℕ, List, length, IfErr, IfOk, IsErrOf};
-ghost use Rattle.std.specs.Io.KnownBytes.{Consumes};
-ghost use Rattle.tp_text.specs.Auditing.{Knows};
-ghost use Rattle.tp_text.specs.Input.{ReadsAll};
-ghost use Rattle.tp_text.specs.Reading.{HasRuns, IsReading, TellsNextLine};
-ghost use Rattle.tp_text.specs.Trace.{IsTrace};
-ghost use Rattle.tp_text.specs.TracedEnd.{ReopenedIsOver};
-ghost use Rattle.tp_text.specs.declared.traced.TraceLine.{TraceLine};
-ghost use Rattle.tp_text.specs.declared.input.TheConstants.{MAX_TEXT};
+ghost use Rattle.std.specs.{Io.KnownBytes.Consumes, Prelude.{◌≡◌, ◌+◌, ◌≤◌, ℕ, List, length, IfErr, IfOk, IsErrOf}};
+ghost use Rattle.tp_text.specs.{Auditing.Knows, Input.ReadsAll, Reading.{HasRuns, IsReading, TellsNextLine}, Trace.IsTrace};
+ghost use Rattle.tp_text.specs.{TracedEnd.ReopenedIsOver, declared.{input.TheConstants.MAX_TEXT, traced.TraceLine.TraceLine}};
 
 use crate::auditor::Auditor;
 use crate::fault::TextFault;

@@ -1,12 +1,7 @@
 //! The audit of a trace: the account of a sound one, or the line that reports the first fault.
-ghost use Rattle.std.specs.Prelude.{◌≡◌, ◌≢◌, ◌+◌, ◌≤◌, ℕ, List, length, IfOk, IfErr, IsErrOf};
-ghost use Rattle.std.specs.Io.KnownBytes.{Consumes, Appends};
-ghost use Rattle.tp_text.specs.AuditText.{IsAuditText};
-ghost use Rattle.tp_text.specs.Auditing.{IsRecounted};
-ghost use Rattle.tp_text.specs.Input.{ReadsAll};
-ghost use Rattle.tp_text.specs.TracedEnd.{EndedIsOver, NotEndedClaimsNoEnd, ReopenedIsOver};
-ghost use Rattle.tp_text.specs.declared.verdict.Verdict.{Verdict};
-ghost use Rattle.tp_text.specs.declared.input.TheConstants.{MAX_TEXT};
+ghost use Rattle.std.specs.{Io.KnownBytes.{Consumes, Appends}, Prelude.{◌≡◌, ◌≢◌, ◌+◌, ◌≤◌, ℕ, List, length, IfOk, IfErr, IsErrOf}};
+ghost use Rattle.tp_text.specs.{AuditText.IsAuditText, Auditing.IsRecounted, Input.ReadsAll, TracedEnd.{EndedIsOver, NotEndedClaimsNoEnd}};
+ghost use Rattle.tp_text.specs.{TracedEnd.ReopenedIsOver, declared.{input.TheConstants.MAX_TEXT, verdict.Verdict.Verdict}};
 
 use crate::auditor::Auditor;
 use crate::fault::TextFault;

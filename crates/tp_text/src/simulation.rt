@@ -1,12 +1,8 @@
 //! The replies to the steps of a script.
-ghost use Rattle.std.specs.Prelude.{◌≡◌, ◌≢◌, ◌+◌, ◌≤◌, ◌++◌, ℕ, List, length, codes, decimal, IfOk, OnOk, IfErr, IsErrOf};
-ghost use Rattle.std.specs.Io.KnownBytes.{Consumes, Appends};
-ghost use Rattle.tp_text.specs.Ended.{EndedIsNeverEarly};
-ghost use Rattle.tp_text.specs.Input.{ReadsAll};
-ghost use Rattle.tp_text.specs.Spelling.{line};
-ghost use Rattle.tp_text.specs.SimText.{IsSimText};
-ghost use Rattle.tp_text.specs.declared.verdict.Verdict.{Verdict};
-ghost use Rattle.tp_text.specs.declared.input.TheConstants.{MAX_TEXT};
+ghost use Rattle.std.specs.{Io.KnownBytes.{Consumes, Appends}, Prelude.{◌≡◌, ◌≢◌, ◌+◌, ◌≤◌, ◌++◌, ℕ, List, length, codes, decimal, IfOk}};
+ghost use Rattle.std.specs.Prelude.{OnOk, IfErr, IsErrOf};
+ghost use Rattle.tp_text.specs.{Ended.EndedIsNeverEarly, Input.ReadsAll, SimText.IsSimText, Spelling.line};
+ghost use Rattle.tp_text.specs.declared.{input.TheConstants.MAX_TEXT, verdict.Verdict.Verdict};
 
 use crate::fault::TextFault;
 use crate::input::read_text;

@@ -1,10 +1,7 @@
 //! The printer of a trace's lines. Which lines a history has is not decided here.
-ghost use Rattle.std.specs.Prelude.{◌≡◌, ◌++◌, ◌↔◌, ◌∷◌, [], IsTrue, OnOk};
-ghost use Rattle.std.specs.List.{All};
-ghost use Rattle.tp_text.specs.Script.{step_line};
-ghost use Rattle.tp_text.specs.Spelling.{generation_number, line, spaced, TellsGeneration, IsNumber, IsSpelled};
-ghost use Rattle.tp_text.specs.Trace.{format_line, trace, trace_line};
-ghost use Rattle.tp_text.specs.Words.{numbers_in};
+ghost use Rattle.std.specs.{List.All, Prelude.{◌≡◌, ◌++◌, ◌↔◌, ◌∷◌, [], IsTrue, OnOk}};
+ghost use Rattle.tp_text.specs.{Script.step_line, Spelling.{generation_number, line, spaced, TellsGeneration, IsNumber, IsSpelled}};
+ghost use Rattle.tp_text.specs.{Trace.{format_line, trace, trace_line}, Words.numbers_in};
 
 use crate::printing::push_count;
 use crate::traced::TraceLine;

@@ -1,11 +1,8 @@
 //! The tracer, which finds the line of each step of a run. Printing is not here.
 ghost use Rattle.std.specs.Prelude.{◌≡◌, ◌≤◌, ◌∷◌, [], ℕ, List};
-ghost use Rattle.tp_base.specs.declared.limits.TheConstants.{MAX_NODES};
-ghost use Rattle.tp_base.specs.declared.Step.{Step};
-ghost use Rattle.tp_wave.specs.Sums.{judgement};
-ghost use Rattle.tp_wave.specs.Generations.{present};
-ghost use Rattle.tp_text.specs.TraceOf.{line_of};
-ghost use Rattle.tp_text.specs.Following.{HasFollowed, MayFollow};
+ghost use Rattle.tp_base.specs.declared.{Step.Step, limits.TheConstants.MAX_NODES};
+ghost use Rattle.tp_text.specs.{Following.{HasFollowed, MayFollow}, TraceOf.line_of};
+ghost use Rattle.tp_wave.specs.{Generations.present, Sums.judgement};
 
 use crate::traced::TraceLine;
 use tp_base::{MAX_NODES, NodeId, Step};

@@ -1,14 +1,9 @@
 //! Printing the trace of a history, or of a list of steps.
-ghost use Rattle.std.specs.Prelude.{◌≡◌, ◌≤◌, ◌<◌, ◌↔◌, ◌⊎◌, ℕ, List, Some, length, reverse, slice_get, IfErr, IfOk, IsTrue};
-ghost use Rattle.std.specs.List.{All};
-ghost use Rattle.tp_base.specs.declared.Step.{Step};
-ghost use Rattle.tp_base.specs.declared.limits.TheConstants.{MAX_NODES, MAX_STEPS};
+ghost use Rattle.std.specs.{List.All, Prelude.{◌≡◌, ◌≤◌, ◌<◌, ◌↔◌, ◌⊎◌, ℕ, List, Some, length, reverse, slice_get, IfErr, IfOk, IsTrue}};
+ghost use Rattle.tp_base.specs.declared.{Step.Step, limits.TheConstants.{MAX_NODES, MAX_STEPS}};
 ghost use Rattle.tp_core.specs.Generations.{AreRuns};
-ghost use Rattle.tp_wave.specs.Generations.{InEach};
-ghost use Rattle.tp_wave.specs.Machine.{steps_of, IsRun};
-ghost use Rattle.tp_text.specs.Spelling.{IsSpelled};
-ghost use Rattle.tp_text.specs.Trace.{trace};
-ghost use Rattle.tp_text.specs.TraceOf.{lines_of, version_of, IsTraceOf, CanBeTraced, AreStepsOfRuns};
+ghost use Rattle.tp_text.specs.{Spelling.IsSpelled, Trace.trace, TraceOf.{lines_of, version_of, IsTraceOf, CanBeTraced, AreStepsOfRuns}};
+ghost use Rattle.tp_wave.specs.{Generations.InEach, Machine.{steps_of, IsRun}};
 
 use crate::step_lines::{has_line, push_head, push_line};
 use crate::tracer::Tracer;

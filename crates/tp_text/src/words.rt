@@ -1,8 +1,6 @@
 //! The words and numbers at the front of a text.
-ghost use Rattle.std.specs.Prelude.{◌≡◌, ◌≢◌, ◌≤◌, ◌++◌, ◌∷◌, ℕ, List, length, decimal, MatchOption};
-ghost use Rattle.std.specs.List.{All};
-ghost use Rattle.tp_text.specs.Spelling.{IsNumber, spaced};
-ghost use Rattle.tp_text.specs.Words.{IsWordByte, IsDigit, BeginsWithout, Splits, numbers_in};
+ghost use Rattle.std.specs.{List.All, Prelude.{◌≡◌, ◌≢◌, ◌≤◌, ◌++◌, ◌∷◌, ℕ, List, length, decimal, MatchOption}};
+ghost use Rattle.tp_text.specs.{Spelling.{IsNumber, spaced}, Words.{IsWordByte, IsDigit, BeginsWithout, Splits, numbers_in}};
 
 use crate::number::leading_number;
 

@@ -1,8 +1,6 @@
 -- The sums of a wave fit 32 bits.
 use Rattle.std.proofs.Common.{ℕ, zero, suc, ◌+◌, ◌*◌, ◌≡◌, ◌<◌, ◌≤◌, List, [], ◌∷◌, Bool, true, false, cond, length, ap, arith}
-use Rattle.std.specs.List.{count_by}
-use Rattle.std.specs.Prelude.{slice_index_or}
-use Rattle.std.proofs.lemmas.List.Sums.{count_by-le-length, sum_by-cons}
+use Rattle.std.{proofs.lemmas.List.Sums.{count_by-le-length, sum_by-cons}, specs.{List.count_by, Prelude.slice_index_or}}
 use Rattle.tp_base.specs.declared.limits.TheConstants.{MAX_MESSAGES}
 
 abbrev one_if : Bool → ℕ

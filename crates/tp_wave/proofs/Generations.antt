@@ -1,26 +1,14 @@
 -- The theorems about generations, carried over from those about one.
-use Rattle.std.proofs.Common.{◌≡◌, ℕ, suc, ◌+◌, ◌*◌, ◌<◌, ◌≤◌, true, false, cond, [], ◌∷◌, ◌++◌, length, refl, ap, inl, inr}
-use Rattle.std.proofs.Common.{arith, IsTrue, IsFalse}
-use Rattle.std.proofs.Props.{props}
-use Rattle.std.proofs.lemmas.Bool.{cases_Bool, both_ways}
+use Rattle.std.proofs.Common.{◌≡◌, ℕ, suc, ◌+◌, ◌*◌, ◌<◌, ◌≤◌, true, false, cond, [], ◌∷◌, ◌++◌, length, refl, ap, inl, inr, arith, IsTrue}
+use Rattle.std.proofs.{Common.IsFalse, Props.props, lemmas.{Bool.{cases_Bool, both_ways}, List.Elements.{All-nil, All-cons}}}
 use Rattle.std.specs.List.{All}
-use Rattle.std.proofs.lemmas.List.Elements.{All-nil, All-cons}
-use Rattle.tp_base.specs.History.{Event}
-use Rattle.tp_base.specs.declared.Step.{Step}
-use Rattle.tp_base.specs.declared.Step.TheVariants.{Send}
-use Rattle.tp_wave.specs.Steps.{count, is_reopen}
-use Rattle.tp_wave.specs.Sums.{is_ended}
-use Rattle.tp_wave.specs.Control.{is_control}
-use Rattle.tp_wave.specs.Machine.{History, step_of, steps_of, IsNext, IsRun}
-use Rattle.tp_wave.specs.Cut.{IsQuietHistory}
-use Rattle.tp_wave.specs.Generations.{present, present_events, generation, IsOfGeneration, MayReopen, GoesOn, MayCome, AreRuns, InEach}
-use Rattle.tp_wave.specs.Generations.{ended_generations, IsEndedRun, EndedGenerationsLaw, GenerationsLaw, IsNeverEarly, NeverEarlyInEachLaw}
-use Rattle.tp_wave.specs.Generations.{ReopeningLaw, OverLaw, PresentLaw, FewGenerationsLaw}
-use Rattle.tp_wave.specs.Settling.{IsSoonJudged, SoonInEachLaw}
-use Rattle.tp_wave.proofs.Props.{IsNext-prop}
-use Rattle.tp_wave.proofs.Runs.{quiet_step}
-use Rattle.tp_wave.proofs.Judged.{judged_law, never_early_law}
-use Rattle.tp_wave.proofs.Settling.{seven_events, soon_law}
+use Rattle.tp_base.specs.{History.Event, declared.Step.{Step, TheVariants.Send}}
+use Rattle.tp_wave.proofs.{Judged.{judged_law, never_early_law}, Props.IsNext-prop, Runs.quiet_step, Settling.{seven_events, soon_law}}
+use Rattle.tp_wave.specs.{Control.is_control, Cut.IsQuietHistory, Generations.{present, present_events, generation, IsOfGeneration}}
+use Rattle.tp_wave.specs.Generations.{MayReopen, GoesOn, MayCome, AreRuns, InEach, ended_generations, IsEndedRun, EndedGenerationsLaw}
+use Rattle.tp_wave.specs.Generations.{GenerationsLaw, IsNeverEarly, NeverEarlyInEachLaw, ReopeningLaw, OverLaw, PresentLaw}
+use Rattle.tp_wave.specs.{Generations.FewGenerationsLaw, Machine.{History, step_of, steps_of, IsNext, IsRun}, Settling.IsSoonJudged}
+use Rattle.tp_wave.specs.{Settling.SoonInEachLaw, Steps.{count, is_reopen}, Sums.is_ended}
 
 -- the present events after one more event
 pub present-reopened : (e : Event) (past : History) → IsTrue (is_reopen (step_of e)) → present_events (e ∷ past) ≡ []

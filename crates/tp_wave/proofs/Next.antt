@@ -1,13 +1,7 @@
 -- From the arrays of a `Wave`: a node may give if all nodes are reached and the sums of all higher ones were taken.
-use Rattle.std.proofs.Common.{◌≡◌, ℕ, ◌+◌, ◌*◌, ◌<◌, List, true, false, sym, ◌∙◌, arith, IsTrue}
-use Rattle.std.specs.Prelude.{slice_index_or}
-use Rattle.tp_base.specs.declared.NodeId.{NodeId}
-use Rattle.tp_base.specs.declared.Step.{Step}
-use Rattle.tp_base.specs.declared.Step.TheVariants.{Give}
-use Rattle.tp_wave.specs.Steps.{is_up}
-use Rattle.tp_wave.specs.Control.{in_wave, IsDue}
-use Rattle.tp_wave.specs.Wave.{Stands}
-use Rattle.tp_wave.specs.declared.wave.Wave.{Wave}
+use Rattle.std.{proofs.Common.{◌≡◌, ℕ, ◌+◌, ◌*◌, ◌<◌, List, true, false, sym, ◌∙◌, arith, IsTrue}, specs.Prelude.slice_index_or}
+use Rattle.tp_base.specs.declared.{NodeId.NodeId, Step.{Step, TheVariants.Give}}
+use Rattle.tp_wave.specs.{Control.{in_wave, IsDue}, Steps.is_up, Wave.Stands, declared.wave.Wave.Wave}
 
 module _ (n : ℕ) (steps : List Step) (w : Wave) (s : Stands n false steps w) (some' : 0 < w.nodes) where
   inside : (i : ℕ) → i < w.nodes → i < n

@@ -1,28 +1,17 @@
 -- Once nothing is left, fewer than 9n events are lawful, and one is until the end was judged. A run whose end was judged
 -- has at least seven events.
-use Rattle.std.proofs.Common.{◌≡◌, ◌≢◌, ℕ, zero, suc, ◌+◌, ◌-◌, ◌*◌, ◌<◌, ◌≤◌, Bool, true, false, cond, eqb, leb, not, ◌||◌, ◌&&◌}
-use Rattle.std.proofs.Common.{List, [], ◌∷◌, ◌++◌, Some, None, length, refl, sym, ap, ◌∙◌, ◌⊎◌, inl, inr, arith}
-use Rattle.std.proofs.Common.{IsTrue, IsFalse, is_some, length-append}
-use Rattle.std.proofs.lemmas.Bool.{cases_eq, cases_Bool, eq-eqb, ne_eqb, or_cases, or_parts, or_right, not-true, eqb-true, both_ways}
-use Rattle.std.proofs.lemmas.Bool.{le-leb, leb-true, cases_lt, and_parts}
-use Rattle.tp_base.specs.History.{Event}
-use Rattle.tp_base.specs.declared.NodeId.{NodeId}
-use Rattle.tp_base.specs.declared.Step.{Step}
-use Rattle.tp_base.specs.declared.Step.TheVariants.{Start, Down, Give, Up, Judge}
-use Rattle.tp_wave.specs.Steps.{before, count, any, is_start, is_down, is_give, is_up, is_judge}
-use Rattle.tp_base.specs.Totals.{total}
-use Rattle.tp_wave.specs.Sums.{waves, earlier, four_equal, judgement, is_ended}
-use Rattle.tp_base.specs.Tree.{parent}
-use Rattle.tp_wave.specs.Control.{in_wave, has_ended, is_reached, is_control, IsDue, IsControlStep, AreLawfulWaves}
-use Rattle.tp_wave.specs.Machine.{History, steps_of, pending_after, pending_at, IsRun}
-use Rattle.tp_wave.specs.Cut.{IsQuietHistory}
-use Rattle.tp_wave.specs.Settling.{SoonLaw, ComesNext, GoesOnLaw}
-use Rattle.tp_base.proofs.Totals.{total_one-changes, total-zero}
-use Rattle.tp_wave.proofs.Positions.{before-all, before-append, length-steps_of}
-use Rattle.tp_wave.proofs.Visits.{lawful_waves, judged_ended, ended_given, all_given, newest-here, newest-past}
-use Rattle.tp_wave.proofs.Given.{none_reached, waves-earlier}
-use Rattle.tp_wave.proofs.Runs.{quiet_step, quiet_law}
-use Rattle.tp_wave.proofs.Judged.{judged_law, newest_settled}
+use Rattle.std.proofs.Common.{◌≡◌, ◌≢◌, ℕ, zero, suc, ◌+◌, ◌-◌, ◌*◌, ◌<◌, ◌≤◌, Bool, true, false, cond, eqb, leb, not, ◌||◌, ◌&&◌, List, []}
+use Rattle.std.proofs.Common.{◌∷◌, ◌++◌, Some, None, length, refl, sym, ap, ◌∙◌, ◌⊎◌, inl, inr, arith, IsTrue, IsFalse, is_some}
+use Rattle.std.proofs.{Common.length-append, lemmas.Bool.{cases_eq, cases_Bool, eq-eqb, ne_eqb, or_cases, or_parts, or_right, not-true}}
+use Rattle.std.proofs.lemmas.Bool.{eqb-true, both_ways, le-leb, leb-true, cases_lt, and_parts}
+use Rattle.tp_base.{proofs.Totals.{total_one-changes, total-zero}, specs.{History.Event, Totals.total, Tree.parent, declared.NodeId.NodeId}}
+use Rattle.tp_base.specs.declared.Step.{Step, TheVariants.{Start, Down, Give, Up, Judge}}
+use Rattle.tp_wave.proofs.{Given.{none_reached, waves-earlier}, Judged.{judged_law, newest_settled}, Positions.{before-all, before-append}}
+use Rattle.tp_wave.proofs.{Positions.length-steps_of, Runs.{quiet_step, quiet_law}, Visits.{lawful_waves, judged_ended, ended_given}}
+use Rattle.tp_wave.{proofs.Visits.{all_given, newest-here, newest-past}, specs.Control.{in_wave, has_ended, is_reached, is_control, IsDue}}
+use Rattle.tp_wave.specs.{Control.{IsControlStep, AreLawfulWaves}, Cut.IsQuietHistory, Machine.{History, steps_of, pending_after}}
+use Rattle.tp_wave.specs.{Machine.{pending_at, IsRun}, Settling.{SoonLaw, ComesNext, GoesOnLaw}, Steps.{before, count, any, is_start}}
+use Rattle.tp_wave.specs.{Steps.{is_down, is_give, is_up, is_judge}, Sums.{waves, earlier, four_equal, judgement, is_ended}}
 
 -- ---- the marks of a wave: each node reached, each that gave, each whose sums were taken, and the judgement
 abbrev one : Bool → ℕ

@@ -1,14 +1,9 @@
 -- Generations. A pool whose end was judged can be reopened: its state is then the initial one, and only the list of
 -- steps goes on. So each theorem about a pool is about one generation: the events since the newest reopening.
-use Rattle.std.specs.Prelude.{ℕ, ◌+◌, ◌*◌, ◌≡◌, ◌≤◌, List, [], ◌∷◌, ◌++◌, length, Bool, IsTrue, IsFalse, Some, if◌then◌else◌}
-use Rattle.std.specs.List.{All}
-use Rattle.tp_base.specs.History.{Event}
-use Rattle.tp_base.specs.declared.Step.{Step}
-use Rattle.tp_base.specs.declared.Step.TheVariants.{Send, Recv, MessageEnd}
-use Rattle.tp_wave.specs.Steps.{before, count, is_judge, is_reopen}
-use Rattle.tp_wave.specs.Sums.{judgement, is_ended, visited_at}
-use Rattle.tp_wave.specs.Machine.{History, node_beside, step_of, steps_of, IsNext, IsRun}
-use Rattle.tp_wave.specs.Cut.{IsQuietHistory}
+use Rattle.std.specs.{List.All, Prelude.{ℕ, ◌+◌, ◌*◌, ◌≡◌, ◌≤◌, List, [], ◌∷◌, ◌++◌, length, Bool, IsTrue, IsFalse, Some, if◌then◌else◌}}
+use Rattle.tp_base.specs.{History.Event, declared.Step.{Step, TheVariants.{Send, Recv, MessageEnd}}}
+use Rattle.tp_wave.specs.{Cut.IsQuietHistory, Machine.{History, node_beside, step_of, steps_of, IsNext, IsRun}, Steps.{before, count}}
+use Rattle.tp_wave.specs.{Steps.{is_judge, is_reopen}, Sums.{judgement, is_ended, visited_at}}
 
 -- the elements since the newest one that passes the test, or all if none does
 abbrev pub since : {A : Type 0} → (A → Bool) → List A → List A

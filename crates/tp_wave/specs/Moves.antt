@@ -1,12 +1,8 @@
 -- The postconditions of a call for the step that it makes. They hold for every list of steps, newest first, that led
 -- the waves to their present state.
 use Rattle.std.specs.Prelude.{ℕ, ◌≡◌, Bool, List, ◌∷◌, Option}
-use Rattle.tp_base.specs.Checks.{first_refusal}
-use Rattle.tp_base.specs.declared.Refusal.{Refusal}
-use Rattle.tp_base.specs.declared.Step.{Step}
-use Rattle.tp_wave.specs.ControlChecks.{control_refusal, wave_checks}
-use Rattle.tp_wave.specs.Wave.{Follows, Stands}
-use Rattle.tp_wave.specs.declared.wave.Wave.{Wave}
+use Rattle.tp_base.specs.{Checks.first_refusal, declared.{Refusal.Refusal, Step.Step}}
+use Rattle.tp_wave.specs.{ControlChecks.{control_refusal, wave_checks}, Wave.{Follows, Stands}, declared.wave.Wave.Wave}
 
 -- If each node gave what it had counted, the step is refused exactly as the table of checks requires
 -- (`control_refusal`).

@@ -1,11 +1,8 @@
 -- How many steps are lawful once nothing is left, and that one is until the end is judged.
 use Rattle.std.specs.Prelude.{ℕ, ◌+◌, ◌*◌, ◌≡◌, ◌<◌, ◌≤◌, ◌++◌, length, IsTrue, IsFalse}
 use Rattle.tp_base.specs.History.{Event}
-use Rattle.tp_wave.specs.Sums.{waves, is_ended}
-use Rattle.tp_wave.specs.Control.{is_control}
-use Rattle.tp_wave.specs.Machine.{History, step_of, steps_of, IsNext, IsRun}
-use Rattle.tp_wave.specs.Cut.{IsQuietHistory}
-use Rattle.tp_wave.specs.Generations.{AreRuns, InEach}
+use Rattle.tp_wave.specs.{Control.is_control, Cut.IsQuietHistory, Generations.{AreRuns, InEach}, Machine.{History, step_of, steps_of}}
+use Rattle.tp_wave.specs.{Machine.{IsNext, IsRun}, Sums.{waves, is_ended}}
 
 -- Once nothing is left, every sequence of lawful events has fewer than 9n events on n nodes and starts at most two
 -- waves.

@@ -1,6 +1,5 @@
 -- If there is one node, each task runs there.
-use Rattle.std.specs.Prelude.{◌≡◌, ◌<◌, ℕ}
-use Rattle.std.proofs.Common.{arith}
+use Rattle.std.{proofs.Common.arith, specs.Prelude.{◌≡◌, ◌<◌, ℕ}}
 use Rattle.tp_graph.specs.Graphs.{IsLawful, TaskGraph}
 
 -- the target of each feed runs at node 0

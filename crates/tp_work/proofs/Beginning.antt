@@ -1,19 +1,12 @@
 -- Tasks of a node that begin in a row, described by their work.
 use Rattle.std.proofs.Common.{◌≡◌, ◌≤◌, ℕ, List, [], ◌∷◌, ◌++◌, Option, Some, None, length, take, drop, refl, sym, ap, subst, ◌∙◌, arith}
-use Rattle.std.proofs.Common.{append-nil}
-use Rattle.std.specs.Prelude.{MatchOption, reverse}
-use Rattle.std.specs.List.{All}
-use Rattle.std.specs.Option.{option_to_list}
-use Rattle.std.proofs.lemmas.List.{length-reverse, reverse-append, reverse-reverse}
-use Rattle.std.proofs.lemmas.List.Elements.{All-cons, All-nil, All-tail}
-use Rattle.std.proofs.Math.Seq.{take-append_seam}
+use Rattle.std.proofs.{Common.append-nil, Math.Seq.take-append_seam, lemmas.List.{length-reverse, reverse-append, reverse-reverse}}
+use Rattle.std.{proofs.lemmas.List.Elements.{All-cons, All-nil, All-tail}, specs.{List.All, Option.option_to_list, Prelude.MatchOption}}
+use Rattle.std.specs.Prelude.{reverse}
 use Rattle.tp_base.specs.History.{Event}
-use Rattle.tp_board.specs.Calls.{Appends}
-use Rattle.tp_board.specs.States.{BoardState}
+use Rattle.tp_board.specs.{Calls.Appends, States.BoardState}
 use Rattle.tp_graph.specs.Carried.{Begun}
-use Rattle.tp_node.specs.Begins.{next_task}
-use Rattle.tp_node.specs.Calls.{Begins, Rests}
-use Rattle.tp_node.specs.Nodes.{NodeState}
+use Rattle.tp_node.specs.{Begins.next_task, Calls.{Begins, Rests}, Nodes.NodeState}
 use Rattle.tp_work.specs.RunQueues.{BeginsEach, RunQueueState, IsRunQueue}
 
 -- no event, and then some

@@ -1,12 +1,8 @@
 -- The sums over consecutive nodes.
-use Rattle.std.proofs.Common.{◌≡◌, ℕ, ◌+◌, List, [], ◌∷◌, length, map, refl, sym, ap, subst, ◌∙◌}
-use Rattle.std.specs.Prelude.{sum_by}
-use Rattle.std.specs.List.{All, flat_map}
-use Rattle.std.proofs.lemmas.List.{get_or-map, length-append, length-map}
-use Rattle.std.proofs.lemmas.List.Sums.{sum_by-cons}
+use Rattle.std.proofs.{Common.{◌≡◌, ℕ, ◌+◌, List, [], ◌∷◌, length, map, refl, sym, ap, subst, ◌∙◌}, lemmas.List.{get_or-map, length-append}}
+use Rattle.std.{proofs.lemmas.List.{length-map, Sums.sum_by-cons}, specs.{List.{All, flat_map}, Prelude.sum_by}}
 use Rattle.tp_board.specs.Numbers.{ShareNumbers}
-use Rattle.tp_node.specs.Nodes.{NodeState, counted_of}
-use Rattle.tp_node.proofs.Gathering.{results_of}
+use Rattle.tp_node.{proofs.Gathering.results_of, specs.Nodes.{NodeState, counted_of}}
 
 module _ {G : Type 0} where
   -- the number of tasks done is the number of results

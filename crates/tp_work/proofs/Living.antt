@@ -1,18 +1,11 @@
 -- The stages that events lead tasks to.
 use Rattle.std.proofs.Common.{◌≡◌, ℕ, zero, suc, ◌+◌, ◌-◌, ◌<◌, ◌↔◌, List, [], ◌∷◌, ◌++◌, length, reverse, Bool, true, false, Option, Some}
-use Rattle.std.proofs.Common.{None, IsTrue, IsFalse, MatchOption, slice_set, slice_get}
-use Rattle.std.proofs.Common.{slice_index_or, refl, sym, ap, subst, ◌∙◌, inl, inr, arith, length-append, get_or, drop, take}
-use Rattle.std.specs.List.{All}
-use Rattle.std.proofs.Math.Seq.{drop-cons}
-use Rattle.std.proofs.lemmas.Bool.{cases_Bool, cases_eq, cases_lt, eq-eqb, ne_eqb}
-use Rattle.std.proofs.lemmas.Bool.Decides.{nat_tests}
-use Rattle.std.proofs.lemmas.List.{get_or-reverse, get_or-set_same, get_or-set_other, get_or_default, get_or_past, take-append-drop}
-use Rattle.std.proofs.lemmas.Option.{get_or_from_slice_get}
-use Rattle.tp_base.specs.History.{Event}
-use Rattle.tp_base.specs.declared.step.Step.{Step}
-use Rattle.tp_wave.specs.Machine.{steps_of}
-use Rattle.tp_base.specs.declared.step.Step.TheVariants.{Reopen}
-use Rattle.tp_wave.specs.Steps.{any, is_reopen}
+use Rattle.std.proofs.Common.{None, IsTrue, IsFalse, MatchOption, slice_set, slice_get, slice_index_or, refl, sym, ap, subst, ◌∙◌, inl, inr}
+use Rattle.std.proofs.{Common.{arith, length-append, get_or, drop, take}, Math.Seq.drop-cons, lemmas.Bool.{cases_Bool, cases_eq, cases_lt}}
+use Rattle.std.proofs.lemmas.{Bool.{eq-eqb, ne_eqb, Decides.nat_tests}, List.{get_or-reverse, get_or-set_same, get_or-set_other}}
+use Rattle.std.{proofs.lemmas.{List.{get_or_default, get_or_past, take-append-drop}, Option.get_or_from_slice_get}, specs.List.All}
+use Rattle.tp_base.specs.{History.Event, declared.step.Step.{Step, TheVariants.Reopen}}
+use Rattle.tp_wave.specs.{Machine.steps_of, Steps.{any, is_reopen}}
 use Rattle.tp_work.specs.Lives.{AreStages, LivesOnce, first_moments, life, moment_of, moments, stage, with_moment}
 
 -- ---- events in the order of time

@@ -1,17 +1,11 @@
 -- Marks for results.
 use Rattle.std.proofs.Common.{◌≡◌, ℕ, ◌+◌, ◌<◌, ◌≤◌, ◌↔◌, ◌==◌, List, Bool, true, false, length, filter, take, drop, get_or, IsTrue, sym}
-use Rattle.std.proofs.Common.{subst, ap, ◌∙◌, inl, inr, arith, length-append}
-use Rattle.std.specs.List.{All, count_by}
-use Rattle.std.proofs.lemmas.Bool.{cases_lt, eq-eqb}
-use Rattle.std.proofs.lemmas.Bool.Decides.{nat_tests}
-use Rattle.std.proofs.lemmas.List.{take-append-drop, get_or_past, get_or_default}
-use Rattle.std.proofs.lemmas.List.Elements.{filter-append}
-use Rattle.std.proofs.lemmas.List.Sums.{count_by_more_yes, length-filter}
+use Rattle.std.proofs.{Common.{subst, ap, ◌∙◌, inl, inr, arith, length-append}, lemmas.Bool.{cases_lt, eq-eqb, Decides.nat_tests}}
+use Rattle.std.proofs.lemmas.List.{take-append-drop, get_or_past, get_or_default, Elements.filter-append, Sums.count_by_more_yes}
+use Rattle.std.{proofs.lemmas.List.Sums.length-filter, specs.{List.{All, count_by}, Prelude.ℤ}}
 use Rattle.tp_base.specs.declared.ids.TaskId.{TaskId}
-use Rattle.tp_graph.specs.Serial.{Results}
+use Rattle.tp_graph.specs.{Found.{HasEachOnce, times}, Serial.Results}
 use Rattle.tp_work.specs.Outcomes.{AreMarks, is_marked}
-use Rattle.tp_graph.specs.Found.{HasEachOnce, times}
-use Rattle.std.specs.Prelude.{ℤ}
 
 count_by-take : {X : Type 0} (p : X → Bool) (xs : List X) (i : ℕ) → count_by p (take i xs) ≤ count_by p xs
 count_by-take p xs i =

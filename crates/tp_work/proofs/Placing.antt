@@ -1,15 +1,10 @@
 -- Parts that are at their places, and their sums.
 use Rattle.std.proofs.Common.{◌≡◌, ℕ, zero, suc, ◌+◌, ◌-◌, ◌*◌, ◌<◌, ◌≤◌, List, [], ◌∷◌, ◌++◌, length, map, get_or, take, refl, sym, ap}
-use Rattle.std.proofs.Common.{◌∙◌, add-zero, zero-mul, suc-mul, arith, length-append, append-nil}
-use Rattle.std.specs.Prelude.{sum_by}
-use Rattle.std.specs.List.{All, flat_map, range_with_len}
-use Rattle.std.proofs.lemmas.Grind.{flat_map-append, take_at_read}
-use Rattle.std.proofs.lemmas.List.{map-append}
-use Rattle.std.proofs.lemmas.List.FromFn.{length-map-range_with_len}
-use Rattle.std.proofs.lemmas.List.Sums.{sum_by-append, sum_by-cons}
-use Rattle.tp_board.proofs.Links.{length-links_of}
-use Rattle.tp_board.specs.Numbers.{first_links, first_numbers, first_shares, links_of}
+use Rattle.std.proofs.{Common.{◌∙◌, add-zero, zero-mul, suc-mul, arith, length-append, append-nil}, lemmas.Grind.flat_map-append}
+use Rattle.std.proofs.lemmas.{Grind.take_at_read, List.{map-append, FromFn.length-map-range_with_len, Sums.{sum_by-append, sum_by-cons}}}
+use Rattle.std.specs.{List.{All, flat_map, range_with_len}, Prelude.sum_by}
 use Rattle.tp_base.specs.Totals.{total}
+use Rattle.tp_board.{proofs.Links.length-links_of, specs.Numbers.{first_links, first_numbers, first_shares, links_of}}
 
 -- ---- numbers in a row
 range_from : (a n : ℕ) → range_with_len a (suc n) ≡ range_with_len a n ++ (a + n) ∷ []

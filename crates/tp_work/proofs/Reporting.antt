@@ -1,34 +1,18 @@
 -- What a report shows of a pool whose nodes are at their places.
-use Rattle.std.proofs.Common.{◌≡◌, ◌≤◌, ◌*◌, ◌↔◌, ℕ, List, [], ◌∷◌, Bool, true, false, Option, None, Some, Result, Ok, Err, IfOk, IfErr, OnOk, MatchResult}
-use Rattle.std.proofs.Common.{IfSome, IsFalse, IsTrue, MatchOption, length, refl, sym, ap, subst, ◌∙◌, inl, inr, arith}
-use Rattle.std.proofs.lemmas.Bool.{cases_Bool}
-use Rattle.std.proofs.lemmas.List.Sums.{count_by-le-length}
-use Rattle.std.specs.Option.{option_or, unwrap_or}
+use Rattle.std.proofs.Common.{◌≡◌, ◌≤◌, ◌*◌, ◌↔◌, ℕ, List, [], ◌∷◌, Bool, true, false, Option, None, Some, Result, Ok, Err, IfOk, IfErr}
+use Rattle.std.proofs.Common.{OnOk, MatchResult, IfSome, IsFalse, IsTrue, MatchOption, length, refl, sym, ap, subst, ◌∙◌, inl, inr, arith}
+use Rattle.std.{proofs.lemmas.{Bool.cases_Bool, List.Sums.count_by-le-length}, specs.{List.range_with_len, Option.{option_or, unwrap_or}}}
 use Rattle.std.specs.Prelude.{sum_by, if◌then◌else◌}
-use Rattle.tp_base.specs.declared.refusal.Refusal.{Refusal}
-use Rattle.tp_base.specs.declared.refusal.Refusal.TheVariants.{Missing, NoMemory}
-use Rattle.tp_board.specs.Numbers.{is_done, is_send}
-use Rattle.tp_board.specs.States.{BoardState, with_fault}
-use Rattle.tp_graph.specs.Graphs.{TaskGraph}
-use Rattle.tp_graph.specs.Left.{AreResults}
-use Rattle.tp_node.specs.Locals.{pending_here}
-use Rattle.tp_node.specs.Nodes.{NodeState}
-use Rattle.tp_node.specs.PoolLinks.{PoolLinkState}
-use Rattle.tp_wave.proofs.Generations.{present-goes_on, present_run, steps-present}
-use Rattle.tp_wave.specs.Generations.{present, present_events}
-use Rattle.tp_wave.specs.Machine.{History, IsRun, pending_at, steps_of}
-use Rattle.tp_wave.specs.Steps.{any, count, is_reopen}
-use Rattle.tp_base.specs.Totals.{total}
-use Rattle.tp_wave.specs.Sums.{is_ended}
-use Rattle.tp_work.proofs.Gathering.{sum_by-map}
-use Rattle.tp_work.proofs.Placing.{sum_by-same, total-range}
-use Rattle.tp_work.specs.Lives.{generations}
-use Rattle.tp_work.specs.Outcomes.{HasEnded, IsAnswer, IsDoneOnce, IsFaultBy, IsFaultOf, IsOutcome, IsUngathered, Lacks}
-use Rattle.tp_work.specs.Places.{AreInOrder, AreOf, IsWhole}
-use Rattle.tp_work.specs.Reports.{AreOfTheRun, IsEnd, IsGathered, IsOfItsRun, IsOver, IsReport, IsReportOf, told_of_end}
-use Rattle.tp_work.specs.declared.config.Fault.{Fault}
-use Rattle.tp_work.specs.declared.gathered.Report.{Report}
-use Rattle.std.specs.List.{range_with_len}
+use Rattle.tp_base.specs.{Totals.total, declared.refusal.Refusal.{Refusal, TheVariants.{Missing, NoMemory}}}
+use Rattle.tp_board.specs.{Numbers.{is_done, is_send}, States.{BoardState, with_fault}}
+use Rattle.tp_graph.specs.{Graphs.TaskGraph, Left.AreResults}
+use Rattle.tp_node.specs.{Locals.pending_here, Nodes.NodeState, PoolLinks.PoolLinkState}
+use Rattle.tp_wave.{proofs.Generations.{present-goes_on, present_run, steps-present}, specs.Generations.{present, present_events}}
+use Rattle.tp_wave.specs.{Machine.{History, IsRun, pending_at, steps_of}, Steps.{any, count, is_reopen}, Sums.is_ended}
+use Rattle.tp_work.{proofs.{Gathering.sum_by-map, Placing.{sum_by-same, total-range}}, specs.{Lives.generations, Outcomes.HasEnded}}
+use Rattle.tp_work.specs.{Outcomes.{IsAnswer, IsDoneOnce, IsFaultBy, IsFaultOf, IsOutcome, IsUngathered, Lacks}, Places.{AreInOrder, AreOf}}
+use Rattle.tp_work.specs.{Places.IsWhole, Reports.{AreOfTheRun, IsEnd, IsGathered, IsOfItsRun, IsOver, IsReport, IsReportOf, told_of_end}}
+use Rattle.tp_work.specs.declared.{config.Fault.Fault, gathered.Report.Report}
 
 module _ {G : Type 0} where
   -- what is pending at the nodes is what is pending in the run

@@ -1,37 +1,19 @@
 -- Rounds compared with the events of their generations.
 use Rattle.std.proofs.Common.{◌≡◌, ◌∙◌, ◌+◌, ◌<◌, ◌≤◌, ◌⊎◌, ℕ, true, false, List, [], ◌∷◌, ◌++◌, length, map, reverse, Option, Some, None}
-use Rattle.std.proofs.Common.{IfErr, IfOk, IfSome, IsTrue, MatchOption, MatchResult, OnOk, Result, Ok, Err, refl, sym, ap, subst, inl, inr, arith, get_or, vec_len}
-use Rattle.std.specs.List.{All, AllZip}
-use Rattle.std.specs.List.{range_with_len}
-use Rattle.std.specs.Prelude.{nat_lt}
-use Rattle.std.proofs.lemmas.Bool.{cases_lt}
-use Rattle.std.proofs.lemmas.Bool.Decides.{nat_tests}
-use Rattle.std.proofs.lemmas.List.{get_or-map, get_or_default, length-map, map-append, same_lists}
-use Rattle.std.proofs.lemmas.Simd.{map-map}
-use Rattle.std.proofs.lemmas.List.Elements.{All-cons, All-head, All-map, All-nil, All-push, All-tail}
-use Rattle.tp_base.specs.declared.limits.TheConstants.{MAX_STEPS}
-use Rattle.tp_base.specs.declared.refusal.Refusal.{Refusal}
-use Rattle.tp_base.specs.declared.refusal.Refusal.TheVariants.{HistoryFull, Missing, NoMemory}
+use Rattle.std.proofs.Common.{IfErr, IfOk, IfSome, IsTrue, MatchOption, MatchResult, OnOk, Result, Ok, Err, refl, sym, ap, subst, inl, inr}
+use Rattle.std.proofs.{Common.{arith, get_or, vec_len}, lemmas.{Bool.{cases_lt, Decides.nat_tests}, List.{get_or-map, get_or_default}}}
+use Rattle.std.proofs.lemmas.List.{length-map, map-append, same_lists, Elements.{All-cons, All-head, All-map, All-nil, All-push, All-tail}}
+use Rattle.std.{proofs.lemmas.Simd.map-map, specs.{List.{All, AllZip, range_with_len}, Prelude.nat_lt}}
+use Rattle.tp_base.specs.declared.{limits.TheConstants.MAX_STEPS, refusal.Refusal.{Refusal, TheVariants.{HistoryFull, Missing, NoMemory}}}
 use Rattle.tp_board.specs.States.{BoardState, full_check}
 use Rattle.tp_graph.specs.Graphs.{TaskGraph}
-use Rattle.tp_node.specs.Calls.{AnswersWithBoth}
-use Rattle.tp_node.specs.Nodes.{NodeState, anew}
-use Rattle.tp_node.specs.PoolLinks.{PoolLinkState}
-use Rattle.tp_wave.proofs.Generations.{ended_generations_law, steps-present}
-use Rattle.tp_wave.specs.Generations.{AreRuns, ended_generations, present, present_events}
-use Rattle.tp_wave.specs.Machine.{History, steps_of}
-use Rattle.tp_wave.specs.Sums.{is_ended}
-use Rattle.tp_work.proofs.CountedTotals.{count-done, length-once}
-use Rattle.tp_work.proofs.Walking.{reverse-cons}
-use Rattle.tp_work.specs.Lives.{LivesInEach, LivesOnce, generations, sent_in}
-use Rattle.tp_work.specs.Outcomes.{IsAnswer, IsFaultOf, IsUngathered, Lacks}
-use Rattle.tp_work.specs.Places.{IsWhole}
-use Rattle.tp_work.specs.Reports.{IsReport, IsReportOf}
-use Rattle.tp_work.specs.Series.{IsKept, IsNotReopened, IsRound, IsSeries, IsSeriesFault, IsSeriesLack, with_messages}
-use Rattle.tp_work.specs.declared.config.Fault.{Fault}
-use Rattle.tp_work.specs.declared.gathered.Report.{Report}
-use Rattle.tp_work.specs.declared.series.Round.{Round}
-use Rattle.tp_work.specs.declared.series.Series.{Series}
+use Rattle.tp_node.specs.{Calls.AnswersWithBoth, Nodes.{NodeState, anew}, PoolLinks.PoolLinkState}
+use Rattle.tp_wave.{proofs.Generations.{ended_generations_law, steps-present}, specs.Generations.{AreRuns, ended_generations, present}}
+use Rattle.tp_wave.specs.{Generations.present_events, Machine.{History, steps_of}, Sums.is_ended}
+use Rattle.tp_work.{proofs.{CountedTotals.{count-done, length-once}, Walking.reverse-cons}, specs.Lives.{LivesInEach, LivesOnce}}
+use Rattle.tp_work.specs.{Lives.{generations, sent_in}, Outcomes.{IsAnswer, IsFaultOf, IsUngathered, Lacks}, Places.IsWhole}
+use Rattle.tp_work.specs.{Reports.{IsReport, IsReportOf}, Series.{IsKept, IsNotReopened, IsRound, IsSeries, IsSeriesFault, IsSeriesLack}}
+use Rattle.tp_work.specs.{Series.with_messages, declared.{config.Fault.Fault, gathered.Report.Report, series.{Round.Round, Series.Series}}}
 
 -- ---- lists
 All-reverse : {X : Type 0} (P : X → Type 0) (xs : List X) → All P xs → All P (reverse xs)

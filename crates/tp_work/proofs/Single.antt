@@ -1,25 +1,15 @@
 -- A series of one generation is a run.
-use Rattle.std.proofs.Common.{◌≡◌, ◌≤◌, ◌<◌, ℕ, List, [], ◌∷◌, ◌++◌, Option, None, Some, MatchOption, length, reverse, refl, sym, ap, subst, ◌∙◌, inl, inr, arith}
-use Rattle.std.proofs.lemmas.Bool.{cases_Bool}
-use Rattle.std.proofs.lemmas.List.{length-append, length-reverse, nil_from_length}
-use Rattle.std.proofs.lemmas.List.Elements.{All-cons, All-nil}
-use Rattle.std.proofs.lemmas.Slice.Zip.{AllZip-long}
-use Rattle.std.specs.List.{All, AllZip}
+use Rattle.std.proofs.Common.{◌≡◌, ◌≤◌, ◌<◌, ℕ, List, [], ◌∷◌, ◌++◌, Option, None, Some, MatchOption, length, reverse, refl, sym, ap, subst}
+use Rattle.std.proofs.{Common.{◌∙◌, inl, inr, arith}, lemmas.{Bool.cases_Bool, List.{length-append, length-reverse, nil_from_length}}}
+use Rattle.std.{proofs.lemmas.{List.Elements.{All-cons, All-nil}, Slice.Zip.AllZip-long}, specs.List.{All, AllZip}}
 use Rattle.tp_base.specs.declared.refusal.Refusal.{Refusal}
 use Rattle.tp_graph.specs.Graphs.{TaskGraph}
-use Rattle.tp_wave.proofs.Generations.{present-goes_on, present_run}
-use Rattle.tp_wave.specs.Generations.{ended_generations, present_events}
-use Rattle.tp_wave.specs.Machine.{History, IsRun, steps_of}
-use Rattle.tp_wave.specs.Steps.{is_reopen}
-use Rattle.tp_work.proofs.Reporting.{why_weaker}
-use Rattle.tp_work.specs.Lives.{LivesOnce, generations}
-use Rattle.tp_work.specs.Outcomes.{HasEnded, IsAnswer, IsDoneOnce, IsFault, IsLack, IsOutcome, IsUngathered, Lacks}
-use Rattle.tp_work.specs.Reports.{IsReport}
-use Rattle.tp_work.specs.Series.{IsDoneOnceInEach, IsRound, IsSeries, IsSeriesFault, IsSeriesLack, StopsAfter}
-use Rattle.tp_work.specs.declared.config.Fault.{Fault}
-use Rattle.tp_work.specs.declared.gathered.Report.{Report}
-use Rattle.tp_work.specs.declared.series.Round.{Round}
-use Rattle.tp_work.specs.declared.series.Series.{Series}
+use Rattle.tp_wave.{proofs.Generations.{present-goes_on, present_run}, specs.Generations.{ended_generations, present_events}}
+use Rattle.tp_wave.specs.{Machine.{History, IsRun, steps_of}, Steps.is_reopen}
+use Rattle.tp_work.{proofs.Reporting.why_weaker, specs.{Lives.{LivesOnce, generations}, Outcomes.{HasEnded, IsAnswer, IsDoneOnce, IsFault}}}
+use Rattle.tp_work.specs.{Outcomes.{IsLack, IsOutcome, IsUngathered, Lacks}, Reports.IsReport, Series.{IsDoneOnceInEach, IsRound, IsSeries}}
+use Rattle.tp_work.specs.{Series.{IsSeriesFault, IsSeriesLack, StopsAfter}, declared.{config.Fault.Fault, gathered.Report.Report}}
+use Rattle.tp_work.specs.declared.series.{Round.Round, Series.Series}
 
 -- If no generation ended, the present one has all events.
 all_present : (h : History) → length (ended_generations h) ≡ 0 → present_events h ≡ h

@@ -1,26 +1,16 @@
 -- Lives that are followed through all generations.
 use Rattle.std.proofs.Common.{◌≡◌, ℕ, ◌+◌, ◌-◌, ◌<◌, ◌≤◌, ◌↔◌, List, [], ◌∷◌, ◌++◌, append_assoc, length, map, reverse, Bool, true, false}
-use Rattle.std.proofs.Common.{cond, IsTrue, IsFalse}
-use Rattle.std.proofs.Common.{refl, sym, ap, subst, ◌∙◌, inl, inr, arith, take, Some, slice_get}
+use Rattle.std.proofs.Common.{cond, IsTrue, IsFalse, refl, sym, ap, subst, ◌∙◌, inl, inr, arith, take, Some, slice_get}
+use Rattle.std.proofs.lemmas.{Bool.{cases_Bool, cases_lt}, List.{get_or_past, reverse-append, Elements.{All-cons, All-head, All-tail}}}
 use Rattle.std.specs.List.{All}
-use Rattle.std.proofs.lemmas.Bool.{cases_Bool, cases_lt}
-use Rattle.std.proofs.lemmas.List.{get_or_past, reverse-append}
-use Rattle.std.proofs.lemmas.List.Elements.{All-cons, All-head, All-tail}
-use Rattle.tp_base.specs.History.{Event}
-use Rattle.tp_base.specs.declared.ids.Generation.{Generation}
-use Rattle.tp_base.specs.declared.ids.MessageId.{MessageId}
-use Rattle.tp_base.specs.declared.ids.NodeId.{NodeId}
-use Rattle.tp_base.specs.declared.step.Step.{Step}
+use Rattle.tp_base.specs.{History.Event, declared.{ids.{Generation.Generation, MessageId.MessageId, NodeId.NodeId}, step.Step.Step}}
 use Rattle.tp_base.specs.declared.step.Step.TheVariants.{Reopen, Send}
-use Rattle.tp_wave.specs.Generations.{ended_generations, generation, present_events}
-use Rattle.tp_wave.specs.Machine.{History, step_of, steps_of}
-use Rattle.tp_wave.specs.Steps.{any, is_reopen, is_send}
-use Rattle.tp_wave.proofs.Generations.{length-present, present-goes_on, present-reopened}
-use Rattle.tp_wave.proofs.Given.{count-le}
-use Rattle.tp_wave.proofs.Positions.{length-steps_of}
+use Rattle.tp_wave.proofs.{Generations.{length-present, present-goes_on, present-reopened}, Given.count-le, Positions.length-steps_of}
+use Rattle.tp_wave.specs.{Generations.{ended_generations, generation, present_events}, Machine.{History, step_of, steps_of}, Steps.any}
+use Rattle.tp_wave.specs.Steps.{is_reopen, is_send}
+use Rattle.tp_work.proofs.Living.{Told, lives_if_over, no_life_on, oldest, over_if_lives, stages-next, through, with_moment-append}
 use Rattle.tp_work.specs.Lives.{AreStages, IsFollowed, LivesInEach, LivesOnce, first_moments, generations, life, moment_of, moments}
 use Rattle.tp_work.specs.Lives.{sent_in, with_moment}
-use Rattle.tp_work.proofs.Living.{Told, lives_if_over, no_life_on, oldest, over_if_lives, stages-next, through, with_moment-append}
 
 -- ---- generations
 ended-reopened : (e : Event) (past : History) → IsTrue (is_reopen (step_of e))

@@ -1,8 +1,6 @@
 -- The places of the parts of a pool.
-use Rattle.std.specs.Prelude.{ℕ, ◌+◌, ◌-◌, ◌*◌, ◌≡◌, List, length, map, nat_lt, if◌then◌else◌}
-use Rattle.std.specs.List.{All, range_with_len}
-use Rattle.tp_node.specs.Nodes.{NodeState}
-use Rattle.tp_node.specs.PoolLinks.{PoolLinkState}
+use Rattle.std.specs.{List.{All, range_with_len}, Prelude.{ℕ, ◌+◌, ◌-◌, ◌*◌, ◌≡◌, List, length, map, nat_lt, if◌then◌else◌}}
+use Rattle.tp_node.specs.{Nodes.NodeState, PoolLinks.PoolLinkState}
 
 -- the place of the link from one node to another of n, by sender and then by receiver
 abbrev pub link_place : ℕ → ℕ → ℕ → ℕ

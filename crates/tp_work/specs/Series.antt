@@ -1,23 +1,11 @@
 -- A series: the generations of a pool that is reopened and run again.
-use Rattle.std.specs.Prelude.{ℕ, ◌+◌, ◌*◌, ◌≡◌, ◌<◌, ◌⊎◌, List, [], IsTrue, length, reverse, vec_len}
-use Rattle.std.specs.List.{All, AllZip}
-use Rattle.tp_base.specs.declared.limits.TheConstants.{MAX_STEPS}
-use Rattle.tp_base.specs.declared.refusal.Refusal.{Refusal}
-use Rattle.tp_base.specs.declared.refusal.Refusal.TheVariants.{HistoryFull, Missing, NoMemory}
+use Rattle.std.specs.{List.{All, AllZip}, Prelude.{ℕ, ◌+◌, ◌*◌, ◌≡◌, ◌<◌, ◌⊎◌, List, [], IsTrue, length, reverse, vec_len}}
+use Rattle.tp_base.specs.declared.{limits.TheConstants.MAX_STEPS, refusal.Refusal.{Refusal, TheVariants.{HistoryFull, Missing, NoMemory}}}
 use Rattle.tp_board.specs.Numbers.{is_done}
-use Rattle.tp_graph.specs.Graphs.{TaskGraph}
-use Rattle.tp_graph.specs.Left.{AreResults}
-use Rattle.tp_wave.specs.Generations.{AreRuns, present_events}
-use Rattle.tp_wave.specs.Machine.{History, steps_of}
-use Rattle.tp_wave.specs.Steps.{count}
-use Rattle.tp_wave.specs.Sums.{is_ended}
-use Rattle.tp_work.specs.Lives.{LivesInEach, LivesOnce, generations, sent_in}
-use Rattle.tp_work.specs.Outcomes.{HasEnded, IsFaultBy, Lacks}
-use Rattle.tp_graph.specs.Found.{HasEachOnce}
-use Rattle.tp_work.specs.declared.config.Fault.{Fault}
-use Rattle.tp_work.specs.declared.gathered.Report.{Report}
-use Rattle.tp_work.specs.declared.series.Round.{Round}
-use Rattle.tp_work.specs.declared.series.Series.{Series}
+use Rattle.tp_graph.specs.{Found.HasEachOnce, Graphs.TaskGraph, Left.AreResults}
+use Rattle.tp_wave.specs.{Generations.{AreRuns, present_events}, Machine.{History, steps_of}, Steps.count, Sums.is_ended}
+use Rattle.tp_work.specs.{Lives.{LivesInEach, LivesOnce, generations, sent_in}, Outcomes.{HasEnded, IsFaultBy, Lacks}}
+use Rattle.tp_work.specs.declared.{config.Fault.Fault, gathered.Report.Report, series.{Round.Round, Series.Series}}
 
 -- A round, compared with the events of its generation: termination was detected on n nodes and announced to each, each
 -- task of the graph lived once, has a value and has one result, which is what is left of that value, and no other task

@@ -2,8 +2,7 @@
 ghost use Rattle.std.specs.Prelude.{◌≡◌, ◌≤◌, ◌<◌, ◌+◌, [], IfErr, IfOk, OnOk, vec_capacity, vec_len};
 ghost use Rattle.tp_base.specs.declared.refusal.Refusal.TheVariants.{NoMemory, NoNode};
 ghost use Rattle.tp_work.specs.Places as places;
-ghost use Rattle.tp_work.specs.Places.{AreInOrder, AreLinksInOrder, AreOf};
-ghost use Rattle.tp_work.specs.Outcomes.{IsMisplaced};
+ghost use Rattle.tp_work.specs.{Outcomes.IsMisplaced, Places.{AreInOrder, AreLinksInOrder, AreOf}};
 
 use crate::backoff::{lock_between_naps, lock_contended, lock_with_backoff};
 use crate::hints::{KnownHints, NodeHints};

@@ -1,12 +1,10 @@
 //! The run queue of a node: begun tasks that wait for a worker, and how many of the ready ones begin at a time.
-ghost use Rattle.std.specs.Prelude.{◌≡◌, ◌≢◌, ◌⊎◌, ◌+◌, ◌-◌, ◌++◌, ◌*◌, ◌/◌, ◌<◌, ◌≤◌, [], None, Some, IfErr, IfNone, IsFalse, IsOk, IsTrue};
-ghost use Rattle.std.specs.Prelude.{MatchOption, OnErr, OnOk, length, max, min, reverse, vec_capacity, vec_len};
-ghost use Rattle.std.specs.Option.{option_to_list};
+ghost use Rattle.std.specs.{Option.option_to_list, Prelude.{◌≡◌, ◌≢◌, ◌⊎◌, ◌+◌, ◌-◌, ◌++◌, ◌*◌, ◌/◌, ◌<◌, ◌≤◌, [], None, Some, IfErr}};
+ghost use Rattle.std.specs.Prelude.{IfNone, IsFalse, IsOk, IsTrue, MatchOption, OnErr, OnOk, length, max, min, reverse, vec_capacity};
+ghost use Rattle.std.specs.Prelude.{vec_len};
 ghost use Rattle.tp_base.specs.declared.refusal.Refusal.TheVariants.{NoMemory};
-ghost use Rattle.tp_board.specs.Calls.{Appends};
-ghost use Rattle.tp_board.specs.States.{AnswersBy};
-ghost use Rattle.tp_node.specs.Begins.{next_task, ready_count};
-ghost use Rattle.tp_node.specs.Refused.{begin_checks};
+ghost use Rattle.tp_board.specs.{Calls.Appends, States.AnswersBy};
+ghost use Rattle.tp_node.specs.{Begins.{next_task, ready_count}, Refused.begin_checks};
 ghost use Rattle.tp_work.specs.RunQueues.{BeginsEach};
 
 use std::alloc::Global;

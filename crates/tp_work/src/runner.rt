@@ -1,17 +1,11 @@
 //! Runs one generation of a pool: starts the workers, waits for them, and takes the pool out of its locks.
-ghost use Rattle.std.specs.Prelude.{◌≡◌, ◌≢◌, ◌≤◌, ◌↔◌, ◌*◌, ◌-◌, length, vec_len, IfErr, IfOk, IfSome, IsTrue, MatchOption, MatchResult};
-ghost use Rattle.std.specs.Prelude.{Err, IsOk, None, OnOk, Some};
-ghost use Rattle.std.specs.Option.{unwrap_or};
-ghost use Rattle.tp_base.specs.declared.limits.TheConstants.{MAX_STEPS};
-ghost use Rattle.tp_base.specs.declared.refusal.Refusal.TheVariants.{Missing, NoMemory, Stranger};
+ghost use Rattle.std.specs.{Option.unwrap_or, Prelude.{◌≡◌, ◌≢◌, ◌≤◌, ◌↔◌, ◌*◌, ◌-◌, length, vec_len, IfErr, IfOk, IfSome, IsTrue}};
+ghost use Rattle.std.specs.Prelude.{MatchOption, MatchResult, Err, IsOk, None, OnOk, Some};
+ghost use Rattle.tp_base.specs.declared.{limits.TheConstants.MAX_STEPS, refusal.Refusal.TheVariants.{Missing, NoMemory, Stranger}};
 ghost use Rattle.tp_board.specs.States.{with_fault};
-ghost use Rattle.tp_wave.specs.Generations.{present};
-ghost use Rattle.tp_wave.specs.Machine.{steps_of};
-ghost use Rattle.tp_wave.specs.Sums.{is_ended};
-ghost use Rattle.tp_work.specs.Lives.{generations};
-ghost use Rattle.tp_work.specs.Outcomes.{IsMisplaced, IsUngathered, IsWithinLimits};
-ghost use Rattle.tp_work.specs.Places.{IsWhole};
-ghost use Rattle.tp_work.specs.Reports.{IsEnd, IsReportOf, told_of_end};
+ghost use Rattle.tp_wave.specs.{Generations.present, Machine.steps_of, Sums.is_ended};
+ghost use Rattle.tp_work.specs.{Lives.generations, Outcomes.{IsMisplaced, IsUngathered, IsWithinLimits}, Places.IsWhole, Reports.IsEnd};
+ghost use Rattle.tp_work.specs.Reports.{IsReportOf, told_of_end};
 
 use crate::config::{Config, Fault};
 use crate::failed_task::FailedTask;

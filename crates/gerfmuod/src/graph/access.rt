@@ -1,7 +1,6 @@
 //! The accesses of a task as C passes them.
-ghost use Rattle.std.specs.Prelude.{◌≡◌, ℕ, map, OnOk};
-ghost use Rattle.std.specs.List.{list_all};
 ghost use Rattle.gerfmuod.specs.Part.{access_of, is_access};
+ghost use Rattle.std.specs.{List.list_all, Prelude.{◌≡◌, ℕ, map, OnOk}};
 
 use std::alloc::AllocError;
 use tp_flow::{Access, Handle, Mode};

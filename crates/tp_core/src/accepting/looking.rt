@@ -1,6 +1,5 @@
 //! Looking at a core: what runs or is open at a node, and who may make a step. Nothing here changes the core.
-ghost use Rattle.std.specs.Prelude.{◌≡◌};
-ghost use Rattle.std.specs.Option.{option_map};
+ghost use Rattle.std.specs.{Option.option_map, Prelude.◌≡◌};
 ghost use Rattle.tp_core.specs.Makers.{runs_tasks};
 
 use super::Core;
@@ -24,11 +23,9 @@ pub enum Maker {
 }
 
 impl Core {
-    ghost use Rattle.tp_wave.specs.Generations.{present};
-    ghost use Rattle.tp_wave.specs.Sums.{is_ended};
-    ghost use Rattle.tp_core.specs.Accepted.{world_of};
-    ghost use Rattle.tp_core.specs.World.{Opening, Named, OfMessage, is_open};
-    ghost use Rattle.tp_core.specs.Makers.{home_if_known, is_maker, is_running_at, made_at};
+    ghost use Rattle.tp_core.specs.{Accepted.world_of, Makers.{home_if_known, is_maker, is_running_at, made_at}, World.{Opening, Named}};
+    ghost use Rattle.tp_core.specs.World.{OfMessage, is_open};
+    ghost use Rattle.tp_wave.specs.{Generations.present, Sums.is_ended};
 
     /// Returns whether termination of the present generation was detected.
     pub fn is_ended(&self) -> bool

@@ -1,12 +1,9 @@
 //! Settling: taking control steps until termination is detected.
 ghost use Rattle.std.specs.Prelude.{◌≡◌, ◌≢◌, ◌≤◌, ◌<◌, ◌+◌, ◌*◌, Err, OnOk, IfErr, length, reverse, vec_len, vec_capacity};
-ghost use Rattle.tp_base.specs.declared.limits.TheConstants.{MAX_STEPS};
-ghost use Rattle.tp_base.specs.Checks.{first_refusal};
-ghost use Rattle.tp_wave.specs.Wave.{nodes_of};
-ghost use Rattle.tp_core.specs.Accepted.{IsRefusedFor};
-ghost use Rattle.tp_core.specs.Kept.{GrowsFrugally, HasPieces};
-ghost use Rattle.tp_core.specs.Settled.{ends_before, rooms_check};
+ghost use Rattle.tp_base.specs.{Checks.first_refusal, declared.limits.TheConstants.MAX_STEPS};
+ghost use Rattle.tp_core.specs.{Accepted.IsRefusedFor, Kept.{GrowsFrugally, HasPieces}, Settled.{ends_before, rooms_check}};
 ghost use Rattle.tp_core.specs.ToTheEnd.{AreTaken, IsTaken, MaySettle};
+ghost use Rattle.tp_wave.specs.Wave.{nodes_of};
 
 use super::control::advance;
 use super::{Core, PIECE};
@@ -15,9 +12,7 @@ use tp_base::{MAX_STEPS, Refusal, Step};
 use tp_wave::Wave;
 
 impl Core {
-    ghost use Rattle.tp_core.specs.Generations.{InEach};
-    ghost use Rattle.tp_core.specs.NeverEarly.{IsNeverEarly};
-    ghost use Rattle.tp_core.specs.Settled.{Settles};
+    ghost use Rattle.tp_core.specs.{Generations.InEach, NeverEarly.IsNeverEarly, Settled.Settles};
 
     /// Takes control steps until termination is detected, if the pool is quiet. Returns the number of the wave at whose
     /// end the pool had terminated, and the number of steps taken: at most nine per node, which start at most two

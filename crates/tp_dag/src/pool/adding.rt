@@ -1,13 +1,11 @@
 //! The calls that describe the graph: tasks, their inputs, and inputs from outside.
 ghost use Rattle.std.specs.Prelude.{◌&&◌, ◌==◌, ◌≡◌, ◌<◌, ◌+◌, ◌-◌, ◌⊎◌, length, IfOk, IfErr, IfSome, IfNone, OnOk, OnErr, false, Ok, Err};
 ghost use Rattle.std.specs.Prelude.{Some, None};
-ghost use Rattle.tp_base.specs.declared.limits.TheConstants.{MAX_STEPS};
-ghost use Rattle.tp_base.specs.Checks.{first_refusal};
+ghost use Rattle.tp_base.specs.{Checks.first_refusal, declared.limits.TheConstants.MAX_STEPS};
 ghost use Rattle.tp_dag.specs.declared.entry.Stage.TheVariants as stage;
-ghost use Rattle.tp_dag.specs.declared.limits.TheConstants.{MAX_INPUTS, MAX_TASKS, MAX_OUTSIDE};
-ghost use Rattle.tp_dag.specs.State.{is_ready_now};
 ghost use Rattle.tp_dag.specs.Calls.{task_checks, input_checks, outside_checks, release_checks, with_task, with_input, MayHaveInput};
-ghost use Rattle.tp_dag.specs.Calls.{Becomes, one_more, one_less, MayWait, Awaits};
+ghost use Rattle.tp_dag.specs.{Calls.{Becomes, one_more, one_less, MayWait, Awaits}, State.is_ready_now};
+ghost use Rattle.tp_dag.specs.declared.limits.TheConstants.{MAX_INPUTS, MAX_TASKS, MAX_OUTSIDE};
 
 use crate::entry::{both, either, is_fresh, one_if, refuse_if};
 use crate::limits::{MAX_INPUTS, MAX_OUTSIDE, MAX_TASKS};

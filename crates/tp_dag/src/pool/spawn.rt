@@ -1,6 +1,5 @@
 //! The call that adds a task with its inputs, all or nothing. `task` is the same without inputs.
-ghost use Rattle.std.specs.Prelude.{◌≡◌, ◌⊎◌, length, IfOk, IfErr, IfSome, IfNone, OnErr, Err, Some, nat_lt};
-ghost use Rattle.std.specs.List.{list_all};
+ghost use Rattle.std.specs.{List.list_all, Prelude.{◌≡◌, ◌⊎◌, length, IfOk, IfErr, IfSome, IfNone, OnErr, Err, Some, nat_lt}};
 ghost use Rattle.tp_base.specs.Checks.{first_refusal};
 ghost use Rattle.tp_dag.specs.Calls.{spawn_checks, with_spawned, MaySpawn};
 

@@ -1,12 +1,9 @@
 //! Beginning several ready tasks at once.
 ghost use Rattle.std.specs.Prelude.{◌≡◌, ◌≤◌, ◌<◌, [], ◌∷◌, None, Some, min, IfErr, IfOk, IfSome, IsOk, MatchOption, OnErr};
-ghost use Rattle.tp_board.specs.Calls.{Appends};
-ghost use Rattle.tp_board.specs.States.{AnswersBy, IsPastPiece, full_check};
-ghost use Rattle.tp_node.specs.Begins.{BeginsSome, ready_count};
-ghost use Rattle.tp_node.specs.Calls.{Begins};
+ghost use Rattle.tp_board.specs.{Calls.Appends, States.{AnswersBy, IsPastPiece, full_check}};
+ghost use Rattle.tp_node.specs.{Begins.{BeginsSome, ready_count}, Calls.Begins};
 ghost use Rattle.tp_slots.specs.Content.{front};
-ghost use Rattle.tp_store.specs.Content.{life_of};
-ghost use Rattle.tp_store.specs.Sound.{IsSound};
+ghost use Rattle.tp_store.specs.{Content.life_of, Sound.IsSound};
 ghost use Rattle.tp_store.specs.declared.life.Life.TheVariants as lives;
 
 use crate::node::Node;

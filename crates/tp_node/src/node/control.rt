@@ -1,9 +1,7 @@
 //! The control turn of a node.
 ghost use Rattle.std.specs.Prelude.{◌≡◌, [], ◌∷◌, IfErr, IfNone, IfOk, IfSome, OnErr, OnOk};
-ghost use Rattle.tp_board.specs.States.{AnswersBy, IsAtPiece, full_check};
-ghost use Rattle.tp_board.specs.Calls.{Appends};
+ghost use Rattle.tp_board.specs.{Calls.Appends, States.{AnswersBy, IsAtPiece, full_check}, Turns.{IsMade, control_event, ends}};
 ghost use Rattle.tp_node.specs.Turns.{turn_of};
-ghost use Rattle.tp_board.specs.Turns.{IsMade, control_event, ends};
 
 use crate::node::Node;
 use tp_base::Refusal;

@@ -24,8 +24,7 @@ pub(crate) struct UnsharedNode<G: Graph> {
 
 impl<G: Graph> Model for UnsharedNode<G> {
     ghost use Rattle.std.specs.Prelude.{◌≡◌};
-    ghost use Rattle.tp_node.specs.Locals.{first_state, pending_here};
-    ghost use Rattle.tp_node.specs.Nodes.{NodeState, first_node, node_code};
+    ghost use Rattle.tp_node.specs.{Locals.{first_state, pending_here}, Nodes.{NodeState, first_node, node_code}};
 
     ghost Value = { NodeState G };
 

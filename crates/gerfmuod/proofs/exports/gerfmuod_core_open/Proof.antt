@@ -1,13 +1,10 @@
 -- The proof of `gerfmuod_core_open`: it moves a new core into the memory.
-use Rattle.gerfmuod.proofs.Borrowing.{[], ◌∷◌, refl, full_share, sem, ◌$◌, !, done, move, keep, use2, ‵, enter, of_opd, init, stop}
-use Rattle.gerfmuod.proofs.Borrowing.{no_more, and_then, assigns, returns, alloc_all, pass_all, free_all, look_at, get, through, sets}
-use Rattle.gerfmuod.proofs.Borrowing.{block_ptr, lies_at, part_in, values, allocator, numbers, makes, opens, frames, suffices, sep, fact}
-use Rattle.gerfmuod.proofs.Borrowing.{◌≡◌, u32, u32_laws, owned, Is, uint_Makes, w32, nothing, fjoin, frame, says, core_row, opened}
-use Rattle.gerfmuod.proofs.Borrowing.{opening}
-use Rattle.gerfmuod.proofs.slot.CoreSlot.TheLaws.{the_row_laws}
-use Rattle.gerfmuod.proofs.exports.gerfmuod_core_open.Statement.{statement}
+use Rattle.gerfmuod.proofs.Borrowing.{[], ◌∷◌, refl, full_share, sem, ◌$◌, !, done, move, keep, use2, ‵, enter, of_opd, init, stop, no_more}
+use Rattle.gerfmuod.proofs.Borrowing.{and_then, assigns, returns, alloc_all, pass_all, free_all, look_at, get, through, sets, block_ptr}
+use Rattle.gerfmuod.proofs.Borrowing.{lies_at, part_in, values, allocator, numbers, makes, opens, frames, suffices, sep, fact, ◌≡◌, u32}
+use Rattle.gerfmuod.proofs.Borrowing.{u32_laws, owned, Is, uint_Makes, w32, nothing, fjoin, frame, says, core_row, opened, opening}
+use Rattle.gerfmuod.proofs.{exports.gerfmuod_core_open.Statement.statement, slot.CoreSlot.{TheLaws.the_row_laws, open.Met.met}}
 use Rattle.gerfmuod.proofs.exports.gerfmuod_core_open.Code as code
-use Rattle.gerfmuod.proofs.slot.CoreSlot.open.Met.{met}
 use Rattle.gerfmuod.proofs.calls.opening.Met as refusal
 
 pub gerfmuod_core_open_spec : {M : Type 1} → statement M

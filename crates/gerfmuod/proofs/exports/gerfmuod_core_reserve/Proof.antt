@@ -1,9 +1,8 @@
 -- The proof of `gerfmuod_core_reserve`: it passes its arguments on with a borrow of the core.
 use Rattle.gerfmuod.proofs.Borrowing.{[], ◌∷◌, refl, full_share, vptr, ◌$◌, !, done, enter, alloc_all, pass_all, free_all, exported, lent}
 use Rattle.gerfmuod.proofs.Borrowing.{values, takes, reads, hands_on, frames, numbers, IsReserveCall, core_row, u32_laws}
-use Rattle.gerfmuod.proofs.exports.gerfmuod_core_reserve.Statement.{statement}
+use Rattle.gerfmuod.proofs.{calls.reserved.Met.met, exports.gerfmuod_core_reserve.Statement.statement}
 use Rattle.gerfmuod.proofs.exports.gerfmuod_core_reserve.Code as code
-use Rattle.gerfmuod.proofs.calls.reserved.Met.{met}
 
 pub gerfmuod_core_reserve_spec : {M : Type 1} → statement M
 gerfmuod_core_reserve_spec 𝓤 𝓛 𝓜 𝓡 wired =

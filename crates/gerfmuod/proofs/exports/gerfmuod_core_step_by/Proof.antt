@@ -1,9 +1,8 @@
 -- The proof of `gerfmuod_core_step_by`: it passes its arguments on with a borrow of the core.
 use Rattle.gerfmuod.proofs.Borrowing.{[], ◌∷◌, refl, full_share, vptr, ◌$◌, !, done, enter, alloc_all, pass_all, free_all, exported, lent}
 use Rattle.gerfmuod.proofs.Borrowing.{values, takes, reads, hands_on, frames, numbers, raw_step, IsByCall, core_row, result_laws}
-use Rattle.gerfmuod.proofs.exports.gerfmuod_core_step_by.Statement.{statement}
+use Rattle.gerfmuod.proofs.{calls.answered_by.Met.met, exports.gerfmuod_core_step_by.Statement.statement}
 use Rattle.gerfmuod.proofs.exports.gerfmuod_core_step_by.Code as code
-use Rattle.gerfmuod.proofs.calls.answered_by.Met.{met}
 
 pub gerfmuod_core_step_by_spec : {M : Type 1} → statement M
 gerfmuod_core_step_by_spec 𝓤 𝓛 𝓜 𝓡 wired =

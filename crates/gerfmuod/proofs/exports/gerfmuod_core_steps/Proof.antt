@@ -2,10 +2,9 @@
 use Rattle.gerfmuod.proofs.Borrowing.{[], ◌∷◌, refl, full_share, vptr, ◌$◌, !, done, enter, alloc_all, pass_all, free_all, exported, lent}
 use Rattle.gerfmuod.proofs.Borrowing.{values, takes, hands_on, frames, from, fld, hop, agg, whole, sub, addr, stop, no_more, and_then}
 use Rattle.gerfmuod.proofs.Borrowing.{look_in_at, get, get_in, sets, buffer, slice, result_row, IsStepsCall, core_row, usize_laws}
+use Rattle.gerfmuod.proofs.{batch.steps.Met.met, exports.gerfmuod_core_steps.Statement.statement}
 use Rattle.gerfmuod.specs.contracts.raw_step.RawStep.{the_row as raw_row}
-use Rattle.gerfmuod.proofs.exports.gerfmuod_core_steps.Statement.{statement}
 use Rattle.gerfmuod.proofs.exports.gerfmuod_core_steps.Code as code
-use Rattle.gerfmuod.proofs.batch.steps.Met.{met}
 
 pub gerfmuod_core_steps_spec : {M : Type 1} → statement M
 gerfmuod_core_steps_spec 𝓤 𝓛 𝓜 𝓡 wired =

@@ -2,9 +2,8 @@
 use Rattle.gerfmuod.proofs.Borrowing.{[], ◌∷◌, refl, full_share, vptr, ◌$◌, !, done, enter, alloc_all, pass_all, free_all, exported, lent}
 use Rattle.gerfmuod.proofs.Borrowing.{values, takes, hands_on, frames, from, fld, hop, agg, whole, sub, addr, stop, no_more, and_then}
 use Rattle.gerfmuod.proofs.Borrowing.{look_in_at, get, get_in, sets, buffer, allocator, u8, IsTraceCall, core_row, written_laws}
-use Rattle.gerfmuod.proofs.exports.gerfmuod_core_trace.Statement.{statement}
+use Rattle.gerfmuod.proofs.{exports.gerfmuod_core_trace.Statement.statement, text.traced.Met.met}
 use Rattle.gerfmuod.proofs.exports.gerfmuod_core_trace.Code as code
-use Rattle.gerfmuod.proofs.text.traced.Met.{met}
 
 pub gerfmuod_core_trace_spec : {M : Type 1} → statement M
 gerfmuod_core_trace_spec 𝓤 𝓛 𝓜 𝓡 wired =

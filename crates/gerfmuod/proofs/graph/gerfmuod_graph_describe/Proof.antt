@@ -1,10 +1,8 @@
 -- The proof of `gerfmuod_graph_describe`: it passes its arguments on with a borrow of the graph.
 use Rattle.gerfmuod.proofs.Borrowing.{[], ◌∷◌, refl, full_share, vptr, ◌$◌, !, done, enter, alloc_all, pass_all, free_all, exported, lent}
 use Rattle.gerfmuod.proofs.Borrowing.{values, takes, reads, hands_on, frames, none, slice, u8, u32, IsDescribeCall, graph_row}
-use Rattle.gerfmuod.proofs.Borrowing.{graph_result_laws}
-use Rattle.gerfmuod.proofs.graph.gerfmuod_graph_describe.Statement.{statement}
+use Rattle.gerfmuod.proofs.{Borrowing.graph_result_laws, graph.{calls.describe.Met.met, gerfmuod_graph_describe.Statement.statement}}
 use Rattle.gerfmuod.proofs.graph.gerfmuod_graph_describe.Code as code
-use Rattle.gerfmuod.proofs.graph.calls.describe.Met.{met}
 
 pub gerfmuod_graph_describe_spec : {M : Type 1} → statement M
 gerfmuod_graph_describe_spec 𝓤 𝓛 𝓜 𝓡 wired =

@@ -1,12 +1,10 @@
 -- The proof of `gerfmuod_graph_open`: it moves a new graph into the memory.
-use Rattle.gerfmuod.proofs.Borrowing.{[], ◌∷◌, refl, full_share, sem, ◌$◌, !, done, move, keep, use2, ‵, enter, of_opd, init, stop}
-use Rattle.gerfmuod.proofs.Borrowing.{no_more, and_then, assigns, returns, alloc_all, pass_all, free_all, look_at, get, through, sets}
-use Rattle.gerfmuod.proofs.Borrowing.{block_ptr, lies_at, part_in, values, allocator, numbers, makes, opens, frames, suffices, vunit, unit}
-use Rattle.gerfmuod.proofs.Borrowing.{unit_lit, feq_i, List, Val, graph_row, opened_graph}
-use Rattle.gerfmuod.proofs.graph.slot.GraphSlot.TheLaws.{the_row_laws}
-use Rattle.gerfmuod.proofs.graph.gerfmuod_graph_open.Statement.{statement}
+use Rattle.gerfmuod.proofs.Borrowing.{[], ◌∷◌, refl, full_share, sem, ◌$◌, !, done, move, keep, use2, ‵, enter, of_opd, init, stop, no_more}
+use Rattle.gerfmuod.proofs.Borrowing.{and_then, assigns, returns, alloc_all, pass_all, free_all, look_at, get, through, sets, block_ptr}
+use Rattle.gerfmuod.proofs.Borrowing.{lies_at, part_in, values, allocator, numbers, makes, opens, frames, suffices, vunit, unit, unit_lit}
+use Rattle.gerfmuod.proofs.{Borrowing.{feq_i, List, Val, graph_row, opened_graph}, graph.gerfmuod_graph_open.Statement.statement}
+use Rattle.gerfmuod.proofs.graph.slot.GraphSlot.{TheLaws.the_row_laws, open.Met.met}
 use Rattle.gerfmuod.proofs.graph.gerfmuod_graph_open.Code as code
-use Rattle.gerfmuod.proofs.graph.slot.GraphSlot.open.Met.{met}
 
 pub gerfmuod_graph_open_spec : {M : Type 1} → statement M
 gerfmuod_graph_open_spec 𝓤 𝓛 𝓜 𝓡 wired =

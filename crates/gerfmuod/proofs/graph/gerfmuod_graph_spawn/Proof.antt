@@ -1,9 +1,8 @@
 -- The proof of `gerfmuod_graph_spawn`: it passes its arguments on with a borrow of the graph.
 use Rattle.gerfmuod.proofs.Borrowing.{[], ◌∷◌, refl, full_share, vptr, ◌$◌, !, done, enter, alloc_all, pass_all, free_all, exported, lent}
 use Rattle.gerfmuod.proofs.Borrowing.{values, takes, reads, hands_on, frames, listed, u32, IsSpawnCall, graph_row, graph_result_laws}
-use Rattle.gerfmuod.proofs.graph.gerfmuod_graph_spawn.Statement.{statement}
+use Rattle.gerfmuod.proofs.graph.{calls.spawn.Met.met, gerfmuod_graph_spawn.Statement.statement}
 use Rattle.gerfmuod.proofs.graph.gerfmuod_graph_spawn.Code as code
-use Rattle.gerfmuod.proofs.graph.calls.spawn.Met.{met}
 
 pub gerfmuod_graph_spawn_spec : {M : Type 1} → statement M
 gerfmuod_graph_spawn_spec 𝓤 𝓛 𝓜 𝓡 wired =

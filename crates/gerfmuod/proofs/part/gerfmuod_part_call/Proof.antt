@@ -1,9 +1,8 @@
 -- The proof of `gerfmuod_part_call`: it passes its arguments on with a borrow of the part.
 use Rattle.gerfmuod.proofs.Borrowing.{[], ◌∷◌, refl, full_share, vptr, ◌$◌, !, done, enter, alloc_all, pass_all, free_all, exported, lent}
 use Rattle.gerfmuod.proofs.Borrowing.{values, takes, reads, hands_on, frames, numbers, IsPartCall, part_row, graph_result_laws}
-use Rattle.gerfmuod.proofs.part.gerfmuod_part_call.Statement.{statement}
+use Rattle.gerfmuod.proofs.part.{calls.call.Met.met, gerfmuod_part_call.Statement.statement}
 use Rattle.gerfmuod.proofs.part.gerfmuod_part_call.Code as code
-use Rattle.gerfmuod.proofs.part.calls.call.Met.{met}
 
 pub gerfmuod_part_call_spec : {M : Type 1} → statement M
 gerfmuod_part_call_spec 𝓤 𝓛 𝓜 𝓡 wired =

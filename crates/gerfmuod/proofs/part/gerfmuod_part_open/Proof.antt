@@ -1,12 +1,10 @@
 -- The proof of `gerfmuod_part_open`: it moves a new part into the memory.
-use Rattle.gerfmuod.proofs.Borrowing.{[], ◌∷◌, refl, full_share, sem, ◌$◌, !, done, move, keep, use2, ‵, enter, of_opd, init, stop}
-use Rattle.gerfmuod.proofs.Borrowing.{no_more, and_then, assigns, returns, alloc_all, pass_all, free_all, look_at, get, through, sets}
-use Rattle.gerfmuod.proofs.Borrowing.{block_ptr, lies_at, part_in, values, allocator, numbers, makes, opens, frames, suffices, vunit, unit}
-use Rattle.gerfmuod.proofs.Borrowing.{unit_lit, feq_i, List, Val, part_row, opened_part}
-use Rattle.gerfmuod.proofs.part.slot.PartSlot.TheLaws.{the_row_laws}
-use Rattle.gerfmuod.proofs.part.gerfmuod_part_open.Statement.{statement}
+use Rattle.gerfmuod.proofs.Borrowing.{[], ◌∷◌, refl, full_share, sem, ◌$◌, !, done, move, keep, use2, ‵, enter, of_opd, init, stop, no_more}
+use Rattle.gerfmuod.proofs.Borrowing.{and_then, assigns, returns, alloc_all, pass_all, free_all, look_at, get, through, sets, block_ptr}
+use Rattle.gerfmuod.proofs.Borrowing.{lies_at, part_in, values, allocator, numbers, makes, opens, frames, suffices, vunit, unit, unit_lit}
+use Rattle.gerfmuod.proofs.{Borrowing.{feq_i, List, Val, part_row, opened_part}, part.gerfmuod_part_open.Statement.statement}
+use Rattle.gerfmuod.proofs.part.slot.PartSlot.{TheLaws.the_row_laws, open.Met.met}
 use Rattle.gerfmuod.proofs.part.gerfmuod_part_open.Code as code
-use Rattle.gerfmuod.proofs.part.slot.PartSlot.open.Met.{met}
 
 pub gerfmuod_part_open_spec : {M : Type 1} → statement M
 gerfmuod_part_open_spec 𝓤 𝓛 𝓜 𝓡 wired =

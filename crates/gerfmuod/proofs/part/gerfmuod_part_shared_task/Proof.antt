@@ -1,10 +1,9 @@
 -- The proof of `gerfmuod_part_shared_task`: it passes its arguments on with a borrow of the part.
 use Rattle.gerfmuod.proofs.Borrowing.{[], ◌∷◌, refl, full_share, vptr, ◌$◌, !, done, enter, alloc_all, pass_all, free_all, exported, lent}
 use Rattle.gerfmuod.proofs.Borrowing.{values, takes, reads, hands_on, frames, listed, IsSharedTaskCall, part_row, graph_result_laws}
+use Rattle.gerfmuod.proofs.part.{calls.shared_task.Met.met, gerfmuod_part_shared_task.Statement.statement}
 use Rattle.gerfmuod.specs.contracts.graph.access.RawAccess.{the_row as access_row}
-use Rattle.gerfmuod.proofs.part.gerfmuod_part_shared_task.Statement.{statement}
 use Rattle.gerfmuod.proofs.part.gerfmuod_part_shared_task.Code as code
-use Rattle.gerfmuod.proofs.part.calls.shared_task.Met.{met}
 
 pub gerfmuod_part_shared_task_spec : {M : Type 1} → statement M
 gerfmuod_part_shared_task_spec 𝓤 𝓛 𝓜 𝓡 wired =

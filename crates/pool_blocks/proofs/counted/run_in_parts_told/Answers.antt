@@ -1,7 +1,5 @@
+use Rattle.pool_blocks.specs.{Faults.IsPartFault, Runs.HasRunInParts, Stencils.after}
 use Rattle.std.proofs.Common.{◌≡◌, MatchResult, subst}
-use Rattle.pool_blocks.specs.Stencils.{after}
-use Rattle.pool_blocks.specs.Faults.{IsPartFault}
-use Rattle.pool_blocks.specs.Runs.{HasRunInParts}
 use Rattle.pool_blocks.proofs.counted.run_in_parts_told.Goals as goal
 
 pub returns : goal.returns

@@ -1,9 +1,6 @@
-use Rattle.std.proofs.Common.{◌≡◌, ◌*◌, ◌∙◌, ap, length, subst}
-use Rattle.std.proofs.lemmas.Option.{IfSome_then}
-use Rattle.pool_blocks.proofs.Cuts.{none_then}
+use Rattle.pool_blocks.{proofs.{Cuts.none_then, GridCuts.{is_grid, no_blocks, no_grid}}, specs.Grids.{are_whole_rows, blocks_of}}
 use Rattle.pool_blocks.specs.Stencils.{AreNoSteps, AreSteps}
-use Rattle.pool_blocks.proofs.GridCuts.{is_grid, no_blocks, no_grid}
-use Rattle.pool_blocks.specs.Grids.{are_whole_rows, blocks_of}
+use Rattle.std.proofs.{Common.{◌≡◌, ◌*◌, ◌∙◌, ap, length, subst}, lemmas.Option.IfSome_then}
 use Rattle.pool_blocks.proofs.grid.grid_in_blocks.Goals as goal
 
 pub returns-in_default-clause-refused : goal.returns-in_default-clause-refused

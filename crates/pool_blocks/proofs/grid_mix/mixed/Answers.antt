@@ -1,7 +1,5 @@
-use Rattle.std.proofs.Common.{sym, subst, pos, FitsSigned, w64}
-use Rattle.std.specs.Int.{int_div_euclid}
-use Rattle.pool_blocks.specs.Sums.{sum-is, times-is, wide-is}
-use Rattle.pool_blocks.specs.GridLaws.{mixed-fits}
+use Rattle.pool_blocks.specs.{GridLaws.mixed-fits, Sums.{sum-is, times-is, wide-is}}
+use Rattle.std.{proofs.Common.{sym, subst, pos, FitsSigned, w64}, specs.Int.int_div_euclid}
 use Rattle.pool_blocks.proofs.grid_mix.mixed.Goals as goal
 
 pub eighth-requires : goal.eighth-requires

@@ -1,9 +1,6 @@
-use Rattle.std.proofs.Common.{◌∙◌, ◌+◌, ◌++◌, ◌∷◌, [], ℕ, ℤ, ap, sym, arith, w64}
-use Rattle.std.proofs.lemmas.Int.{to_z-of_z}
+use Rattle.pool_blocks.specs.{Grids.cell_after, ListLaws.list-more, Lists.list_of}
+use Rattle.std.proofs.{Common.{◌∙◌, ◌+◌, ◌++◌, ◌∷◌, [], ℕ, ℤ, ap, sym, arith, w64}, lemmas.Int.to_z-of_z}
 use Rattle.tp_graph.proofs.Fits.{fit-push}
-use Rattle.pool_blocks.specs.ListLaws.{list-more}
-use Rattle.pool_blocks.specs.Lists.{list_of}
-use Rattle.pool_blocks.specs.Grids.{cell_after}
 use Rattle.pool_blocks.proofs.grid_mix.sweep.Goals as goal
 
 pub loop-e-preserved : goal.loop-e-preserved

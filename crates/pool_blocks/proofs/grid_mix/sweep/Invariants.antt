@@ -1,7 +1,6 @@
+use Rattle.pool_blocks.specs.{Grids.cell_after, Lists.list_of}
 use Rattle.std.proofs.Common.{◌≡◌, ◌+◌, true, vec_len, vec_capacity}
 use Rattle.tp_graph.specs.Values.{all_fit}
-use Rattle.pool_blocks.specs.Lists.{list_of}
-use Rattle.pool_blocks.specs.Grids.{cell_after}
 use Rattle.pool_blocks.proofs.grid_mix.sweep.Given as goal
 
 abbrev pub invariant-loop-e : goal.invariant-loop-e

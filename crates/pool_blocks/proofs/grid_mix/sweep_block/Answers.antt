@@ -1,7 +1,5 @@
-use Rattle.std.proofs.Common.{◌≡◌, ◌∙◌, ◌+◌, ◌++◌, ap, length, take}
-use Rattle.std.proofs.lemmas.Result.{IfOk-weaker}
-use Rattle.pool_blocks.specs.Lists.{list_of}
-use Rattle.pool_blocks.specs.Grids.{cell_after, last_row, swept_between}
+use Rattle.pool_blocks.specs.{Grids.{cell_after, last_row, swept_between}, Lists.list_of}
+use Rattle.std.proofs.{Common.{◌≡◌, ◌∙◌, ◌+◌, ◌++◌, ap, length, take}, lemmas.Result.IfOk-weaker}
 use Rattle.pool_blocks.proofs.grid_mix.sweep_block.Goals as goal
 
 pub returns : goal.returns

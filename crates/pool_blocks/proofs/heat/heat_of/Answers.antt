@@ -1,7 +1,5 @@
-use Rattle.std.proofs.Common.{length}
-use Rattle.std.proofs.lemmas.Option.{IfSome_then}
-use Rattle.pool_blocks.proofs.Cuts.{none_then}
-use Rattle.pool_blocks.proofs.RodCuts.{no_rod}
+use Rattle.pool_blocks.proofs.{Cuts.none_then, RodCuts.no_rod}
+use Rattle.std.proofs.{Common.length, lemmas.Option.IfSome_then}
 use Rattle.pool_blocks.proofs.heat.heat_of.Goals as goal
 
 pub returns-clause-right : goal.returns-clause-right

@@ -1,7 +1,6 @@
-use Rattle.std.proofs.Common.{◌≡◌, ◌≢◌, ◌<◌, ◌+◌, ℕ, Some, All}
-use Rattle.tp_graph.specs.Graphs.{TaskGraph}
-use Rattle.tp_graph.specs.Left.{AreKept}
 use Rattle.pool_blocks.specs.Joined.{KeepsFrom, numbers_from}
+use Rattle.std.proofs.Common.{◌≡◌, ◌≢◌, ◌<◌, ◌+◌, ℕ, Some, All}
+use Rattle.tp_graph.specs.{Graphs.TaskGraph, Left.AreKept}
 use Rattle.pool_blocks.proofs.joining.joined.Given as goal
 
 abbrev pub invariant-loop-i : goal.invariant-loop-i

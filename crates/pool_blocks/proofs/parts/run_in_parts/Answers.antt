@@ -1,11 +1,6 @@
-use Rattle.std.proofs.Common.{◌≡◌, ◌≤◌, ◌-◌, ◌∙◌, ap, arith, inl, length, rules, subst, sym, true}
-use Rattle.std.proofs.lemmas.Result.{err_from_is_err_and}
-use Rattle.pool_blocks.proofs.Blocks.{after-length}
-use Rattle.pool_blocks.specs.Stencils.{AreSteps, after}
-use Rattle.pool_blocks.proofs.Planned.{part_more}
-use Rattle.pool_blocks.proofs.Refused.{are_steps, part_fault, part_run}
-use Rattle.pool_blocks.specs.RunEvents.{TakeSteps}
-use Rattle.pool_blocks.specs.Runs.{HasRunInParts}
+use Rattle.pool_blocks.proofs.{Blocks.after-length, Planned.part_more, Refused.{are_steps, part_fault, part_run}}
+use Rattle.pool_blocks.specs.{RunEvents.TakeSteps, Runs.HasRunInParts, Stencils.{AreSteps, after}}
+use Rattle.std.proofs.{Common.{◌≡◌, ◌≤◌, ◌-◌, ◌∙◌, ap, arith, inl, length, rules, subst, sym, true}, lemmas.Result.err_from_is_err_and}
 use Rattle.pool_blocks.proofs.parts.run_in_parts.Goals as goal
 
 pub run_part-requires-clause-taken : goal.run_part-requires-clause-taken

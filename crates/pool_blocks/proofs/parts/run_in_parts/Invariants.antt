@@ -1,6 +1,5 @@
+use Rattle.pool_blocks.specs.{Runs.HasRunInParts, Stencils.after}
 use Rattle.std.proofs.Common.{◌≡◌, ◌≤◌, ◌-◌}
-use Rattle.pool_blocks.specs.Stencils.{after}
-use Rattle.pool_blocks.specs.Runs.{HasRunInParts}
 use Rattle.pool_blocks.proofs.parts.run_in_parts.Given as goal
 
 abbrev pub invariant-loop-left : goal.invariant-loop-left

@@ -1,8 +1,6 @@
+use Rattle.pool_blocks.{proofs.Refused.{are_not_none, match_weaker}, specs.{Faults.IsLentFault, Runs.HasRun, Stencils.{after, block_graph}}}
+use Rattle.pool_blocks.specs.Stencils.{blocks_of}
 use Rattle.std.proofs.Common.{◌≡◌, ◌∙◌, ap, length, subst}
-use Rattle.pool_blocks.specs.Stencils.{after, block_graph, blocks_of}
-use Rattle.pool_blocks.proofs.Refused.{are_not_none, match_weaker}
-use Rattle.pool_blocks.specs.Faults.{IsLentFault}
-use Rattle.pool_blocks.specs.Runs.{HasRun}
 use Rattle.pool_blocks.proofs.parts.run_part.Goals as goal
 
 pub unreachable-requires : goal.unreachable-requires

@@ -1,12 +1,6 @@
-use Rattle.std.proofs.Common.{subst, sym}
-use Rattle.std.proofs.lemmas.Result.{IfErr-weaker}
-use Rattle.tp_graph.proofs.Left.{right_kept}
-use Rattle.tp_graph.specs.Graphs.{TaskGraph}
-use Rattle.tp_graph.specs.Left.{AreKept}
-use Rattle.tp_graph.specs.Serial.{AreRight, AreValues, IsSerialRefusal}
-use Rattle.pool_blocks.proofs.Lacking.{all_there, only_memory}
-use Rattle.pool_blocks.proofs.Valued.{never_failed}
-use Rattle.pool_blocks.specs.Stencils.{block_graph}
+use Rattle.pool_blocks.{proofs.{Lacking.{all_there, only_memory}, Valued.never_failed}, specs.Stencils.block_graph}
+use Rattle.std.proofs.{Common.{subst, sym}, lemmas.Result.IfErr-weaker}
+use Rattle.tp_graph.{proofs.Left.right_kept, specs.{Graphs.TaskGraph, Left.AreKept, Serial.{AreRight, AreValues, IsSerialRefusal}}}
 use Rattle.pool_blocks.proofs.result.cells_by_one.Goals as goal
 
 pub cells_of-requires : goal.cells_of-requires

@@ -1,7 +1,5 @@
-use Rattle.std.proofs.Common.{◌≡◌, ◌*◌, ap, ◌∙◌}
-use Rattle.std.proofs.lemmas.Result.{IfOk-weaker}
-use Rattle.pool_blocks.proofs.Blocks.{last_kept, last_numbers}
-use Rattle.pool_blocks.specs.Stencils.{block_graph}
+use Rattle.pool_blocks.{proofs.Blocks.{last_kept, last_numbers}, specs.Stencils.block_graph}
+use Rattle.std.proofs.{Common.{◌≡◌, ◌*◌, ap, ◌∙◌}, lemmas.Result.IfOk-weaker}
 use Rattle.pool_blocks.proofs.result.cells_of.Goals as goal
 
 pub returns-clause-made : goal.returns-clause-made

@@ -1,6 +1,5 @@
-use Rattle.std.proofs.Common.{ℤ, arith, w64, to_z, of_z}
-use Rattle.std.proofs.lemmas.Int.{to_z-of_z}
 use Rattle.pool_blocks.proofs.Sweeps.{swept_more}
+use Rattle.std.proofs.{Common.{ℤ, arith, w64, to_z, of_z}, lemmas.Int.to_z-of_z}
 use Rattle.pool_blocks.proofs.rod_mix.sweep.Goals as goal
 
 pub loop-i-preserved : goal.loop-i-preserved

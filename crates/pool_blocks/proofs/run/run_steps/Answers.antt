@@ -1,11 +1,7 @@
+use Rattle.pool_blocks.{proofs.Refused.cells_refused, specs.Stencils.block_graph}
 use Rattle.std.proofs.Common.{subst, sym}
-use Rattle.tp_graph.proofs.Left.{results_kept}
-use Rattle.tp_graph.specs.Graphs.{TaskGraph}
-use Rattle.tp_graph.specs.Left.{AreKept, AreResults}
-use Rattle.pool_blocks.specs.Stencils.{block_graph}
-use Rattle.pool_blocks.proofs.Refused.{cells_refused}
+use Rattle.tp_graph.{proofs.Left.results_kept, specs.{Found.HasEachOnce, Graphs.TaskGraph, Left.{AreKept, AreResults}}}
 use Rattle.tp_work.specs.Outcomes.{IsFault, IsOutcome}
-use Rattle.tp_graph.specs.Found.{HasEachOnce}
 use Rattle.pool_blocks.proofs.run.run_steps.Goals as goal
 
 pub cells_of-requires : goal.cells_of-requires

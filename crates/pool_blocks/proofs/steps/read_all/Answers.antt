@@ -1,7 +1,5 @@
-use Rattle.std.proofs.Common.{◌∙◌, ap, pos, sym, take, arith}
-use Rattle.std.proofs.lemmas.List.{take_all, take_more}
-use Rattle.tp_graph.proofs.Fits.{fit-push}
-use Rattle.tp_graph.specs.Values.{all_fit}
+use Rattle.std.proofs.{Common.{◌∙◌, ap, pos, sym, take, arith}, lemmas.List.{take_all, take_more}}
+use Rattle.tp_graph.{proofs.Fits.fit-push, specs.Values.all_fit}
 use Rattle.pool_blocks.proofs.steps.read_all.Goals as goal
 
 pub loop-i-preserved : goal.loop-i-preserved

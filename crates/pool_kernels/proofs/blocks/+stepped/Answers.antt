@@ -1,8 +1,7 @@
+use Rattle.pool_blocks.specs.Lists.{at}
+use Rattle.pool_kernels.{proofs.PairedRows.{within_first, within_next}, specs.Digits.{digit, without}}
 use Rattle.std.proofs.Common.{◌≡◌, ◌+◌, ◌-◌, ◌*◌, ◌^◌, ℤ, List, Option, MatchResult, Some, suc, ap, sym, ◌∙◌, subst, arith}
 use Rattle.tp_graph.specs.Values.{IsRefusal}
-use Rattle.pool_blocks.specs.Lists.{at}
-use Rattle.pool_kernels.specs.Digits.{digit, without}
-use Rattle.pool_kernels.proofs.PairedRows.{within_first, within_next}
 use Rattle.pool_kernels.proofs.blocks.+stepped.Goals as goal
 
 pub returns-then-steps-eq0 : goal.returns-then-steps-eq0

@@ -1,6 +1,5 @@
-use Rattle.std.proofs.Common.{◌≡◌, ◌<◌, ◌≤◌, ⊎_elim, subst, arith}
-use Rattle.std.proofs.lemmas.Bool.{cases_lt}
 use Rattle.pool_kernels.specs.Plans.{IsConnected}
+use Rattle.std.proofs.{Common.{◌≡◌, ◌<◌, ◌≤◌, ⊎_elim, subst, arith}, lemmas.Bool.cases_lt}
 use Rattle.pool_kernels.proofs.check.check_plan.Goals as goal
 
 pub returns-in-Err-clause-refused : goal.returns-in-Err-clause-refused

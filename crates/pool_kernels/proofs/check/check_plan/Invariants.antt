@@ -1,6 +1,5 @@
+use Rattle.pool_kernels.specs.{Marks.AreMarks, Plans.{IsConnected, IsPlaced}}
 use Rattle.std.proofs.Common.{◌<◌, ℕ}
-use Rattle.pool_kernels.specs.Marks.{AreMarks}
-use Rattle.pool_kernels.specs.Plans.{IsConnected, IsPlaced}
 use Rattle.pool_kernels.proofs.check.check_plan.Given as goal
 
 abbrev pub invariant-loop-task : goal.invariant-loop-task

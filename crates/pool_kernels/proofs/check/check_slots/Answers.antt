@@ -1,7 +1,5 @@
-use Rattle.std.proofs.Common.{◌≡◌, ◌<◌, ◌≤◌, true, false, sym, ◌∙◌, ⊎_elim, subst, arith}
-use Rattle.std.proofs.lemmas.Bool.{cases_lt}
-use Rattle.pool_kernels.specs.Marks.{mark_at}
-use Rattle.pool_kernels.specs.Plans.{IsFed}
+use Rattle.pool_kernels.specs.{Marks.mark_at, Plans.IsFed}
+use Rattle.std.proofs.{Common.{◌≡◌, ◌<◌, ◌≤◌, true, false, sym, ◌∙◌, ⊎_elim, subst, arith}, lemmas.Bool.cases_lt}
 use Rattle.pool_kernels.proofs.check.check_slots.Goals as goal
 
 pub returns-then-not-taken-task-clause-refused : goal.returns-then-not-taken-task-clause-refused

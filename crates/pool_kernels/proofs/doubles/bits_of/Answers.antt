@@ -1,6 +1,4 @@
-use Rattle.std.proofs.Common.{◌≡◌, ap, sym, ◌∙◌, subst, T, from_bits, w64, of_z, to_z}
-use Rattle.std.proofs.lemmas.Int.{of_z-to_z}
-use Rattle.std.specs.Float.{binary64}
+use Rattle.std.{proofs.{Common.{◌≡◌, ap, sym, ◌∙◌, subst, T, from_bits, w64, of_z, to_z}, lemmas.Int.of_z-to_z}, specs.Float.binary64}
 use lib.Ieee.Bits.{of_bits-to_bits}
 use Rattle.pool_kernels.proofs.doubles.bits_of.Goals as goal
 

@@ -1,11 +1,8 @@
-use Rattle.std.proofs.Common.{◌≡◌, ◌<◌, ◌+◌, ◌∙◌, true, false, ap, sym, subst, arith, rules}
-use Rattle.std.proofs.lemmas.List.{get_or_read}
-use Rattle.pool_kernels.proofs.Counted.{outputs_more, outputs_same, seen_more, seen_same, seen_wide}
-use Rattle.pool_kernels.proofs.More.{rank_more, rank_same}
-use Rattle.pool_kernels.specs.Grids.{Relation}
-use Rattle.pool_kernels.specs.Kinds.{AreSeen}
-use Rattle.pool_kernels.proofs.kinds.add_column.Goals as goal
+use Rattle.pool_kernels.proofs.{Counted.{outputs_more, outputs_same, seen_more, seen_same, seen_wide}, More.{rank_more, rank_same}}
 use Rattle.pool_kernels.proofs.kinds.add_column.Goals.{then-relates+else-slot-ge-MAX_INPUTS+in_ok-push, else-relates}
+use Rattle.pool_kernels.specs.{Grids.Relation, Kinds.AreSeen}
+use Rattle.std.proofs.{Common.{◌≡◌, ◌<◌, ◌+◌, ◌∙◌, true, false, ap, sym, subst, arith, rules}, lemmas.List.get_or_read}
+use Rattle.pool_kernels.proofs.kinds.add_column.Goals as goal
 
 pub returns-then-slot-ge-MAX_INPUTS-clause-refused : goal.returns-then-slot-ge-MAX_INPUTS-clause-refused
 returns-then-slot-ge-MAX_INPUTS-clause-refused g c =

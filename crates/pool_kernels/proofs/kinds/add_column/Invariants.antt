@@ -1,6 +1,5 @@
+use Rattle.pool_kernels.specs.{Kinds.{AreSeen, outputs_to}, Ranks.rank}
 use Rattle.std.proofs.Common.{◌≡◌, ◌≤◌, ◌++◌}
-use Rattle.pool_kernels.specs.Kinds.{AreSeen, outputs_to}
-use Rattle.pool_kernels.specs.Ranks.{rank}
 use Rattle.pool_kernels.proofs.kinds.add_column.Given as goal
 
 abbrev pub invariant-loop-to : goal.invariant-loop-to

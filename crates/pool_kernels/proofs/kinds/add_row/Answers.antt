@@ -1,7 +1,5 @@
+use Rattle.pool_kernels.{proofs.Counted.{arities_more, spans_more}, specs.{Grids.Relation, Kinds.{AreSeen, AreSpans}}}
 use Rattle.std.proofs.Common.{◌≡◌, ◌+◌, ◌*◌, ◌++◌, ◌∙◌, ap, refl, subst, arith, rules}
-use Rattle.pool_kernels.proofs.Counted.{arities_more, spans_more}
-use Rattle.pool_kernels.specs.Grids.{Relation}
-use Rattle.pool_kernels.specs.Kinds.{AreSeen, AreSpans}
 use Rattle.pool_kernels.proofs.kinds.add_row.Goals as goal
 
 pub loop-from-preserved : goal.loop-from-preserved

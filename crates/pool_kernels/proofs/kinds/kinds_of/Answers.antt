@@ -1,8 +1,5 @@
-use Rattle.std.proofs.Common.{◌+◌, sym, subst, arith}
-use Rattle.std.proofs.lemmas.Result.{err_from_is_err_and}
-use Rattle.pool_kernels.proofs.Events.{row_fault}
-use Rattle.pool_kernels.specs.Grids.{Relation}
-use Rattle.pool_kernels.specs.Kinds.{IsRowFault}
+use Rattle.pool_kernels.{proofs.Events.row_fault, specs.{Grids.Relation, Kinds.IsRowFault}}
+use Rattle.std.proofs.{Common.{◌+◌, sym, subst, arith}, lemmas.Result.err_from_is_err_and}
 use Rattle.pool_kernels.proofs.kinds.kinds_of.Goals as goal
 
 pub returns-in_err-add_row-clause-refused : goal.returns-in_err-add_row-clause-refused

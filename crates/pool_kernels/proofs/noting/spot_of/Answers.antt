@@ -1,7 +1,5 @@
-use Rattle.std.proofs.Common.{◌<◌, ◌/◌, ◌%◌, ◌-◌, arith, refl}
-use Rattle.std.proofs.lemmas.Nat.{div_below, mod_below}
-use Rattle.pool_kernels.proofs.Counted.{kind_within}
-use Rattle.pool_kernels.proofs.Noted.{spot_is}
+use Rattle.pool_kernels.proofs.{Counted.kind_within, Noted.spot_is}
+use Rattle.std.proofs.{Common.{◌<◌, ◌/◌, ◌%◌, ◌-◌, arith, refl}, lemmas.Nat.{div_below, mod_below}}
 use Rattle.pool_kernels.proofs.noting.spot_of.Goals as goal
 
 pub arity_of-requires-clause-long : goal.arity_of-requires-clause-long

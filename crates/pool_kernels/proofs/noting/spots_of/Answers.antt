@@ -1,8 +1,5 @@
+use Rattle.pool_kernels.{proofs.{Events.events_more, Noted.spots_more}, specs.{Events.events_below, Tables.AreSpots}}
 use Rattle.std.proofs.Common.{◌≡◌, ◌≤◌, ◌<◌, ◌*◌, subst, arith, rules}
-use Rattle.pool_kernels.proofs.Events.{events_more}
-use Rattle.pool_kernels.proofs.Noted.{spots_more}
-use Rattle.pool_kernels.specs.Events.{events_below}
-use Rattle.pool_kernels.specs.Tables.{AreSpots}
 use Rattle.pool_kernels.proofs.noting.spots_of.Goals as goal
 
 pub loop-task-preserved : goal.loop-task-preserved

@@ -1,8 +1,5 @@
+use Rattle.pool_kernels.specs.{Events.events_below, Grids.Relation, Kinds.AreKinds, Tables.AreSpots}
 use Rattle.std.proofs.Common.{◌≡◌, ◌≤◌, ◌*◌, vec_len, vec_capacity}
-use Rattle.pool_kernels.specs.Events.{events_below}
-use Rattle.pool_kernels.specs.Grids.{Relation}
-use Rattle.pool_kernels.specs.Kinds.{AreKinds}
-use Rattle.pool_kernels.specs.Tables.{AreSpots}
 use Rattle.pool_kernels.proofs.noting.spots_of.Given as goal
 
 abbrev pub invariant-loop-task : goal.invariant-loop-task

@@ -1,9 +1,6 @@
-use Rattle.std.proofs.Common.{subst}
-use Rattle.tp_graph.proofs.Left.{results_kept}
-use Rattle.tp_graph.specs.Found.{HasEachOnce}
-use Rattle.tp_graph.specs.Graphs.{TaskGraph}
-use Rattle.tp_graph.specs.Left.{AreKept}
 use Rattle.pool_kernels.specs.Kernels.{kernel_graph}
+use Rattle.std.proofs.Common.{subst}
+use Rattle.tp_graph.{proofs.Left.results_kept, specs.{Found.HasEachOnce, Graphs.TaskGraph, Left.AreKept}}
 use Rattle.pool_kernels.proofs.run.run_grid.Goals as goal
 
 pub last_row-requires-clause-once : goal.last_row-requires-clause-once

@@ -1,6 +1,4 @@
-use Rattle.std.proofs.Common.{◌≡◌, ◌≤◌, ◌<◌, ◌+◌, ◌-◌, ◌*◌, ◌^◌, ap, ◌∙◌, ⊎_elim, arith, rules}
-use Rattle.std.proofs.Math.Pow.{pow_mono}
-use Rattle.std.proofs.lemmas.Bool.{cases_lt}
+use Rattle.std.proofs.{Common.{◌≡◌, ◌≤◌, ◌<◌, ◌+◌, ◌-◌, ◌*◌, ◌^◌, ap, ◌∙◌, ⊎_elim, arith, rules}, Math.Pow.pow_mono, lemmas.Bool.cases_lt}
 use Rattle.std.proofs.lemmas.Nat.{pow-add}
 use Rattle.prefix.proofs.sums.rows_for.Goals as goal
 

@@ -1,8 +1,6 @@
+use Rattle.pool_kernels.specs.{Kernels.kernel_graph, Patterns.relates, Stirrings.stir_rule}
 use Rattle.std.proofs.Common.{◌*◌}
 use Rattle.tp_graph.proofs.Left.{results_kept}
-use Rattle.pool_kernels.specs.Kernels.{kernel_graph}
-use Rattle.pool_kernels.specs.Stirrings.{stir_rule}
-use Rattle.pool_kernels.specs.Patterns.{relates}
 use Rattle.samples.proofs.patterns.run_watched.Goals as goal
 
 pub last_row-requires-clause-once : goal.last_row-requires-clause-once

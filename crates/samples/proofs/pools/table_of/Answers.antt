@@ -1,6 +1,5 @@
+use Rattle.pool_samples.{proofs.Keeping.any_keeps, specs.Any.any_graph}
 use Rattle.tp_graph.proofs.Left.{results_right}
-use Rattle.pool_samples.proofs.Keeping.{any_keeps}
-use Rattle.pool_samples.specs.Any.{any_graph}
 use Rattle.samples.proofs.pools.table_of.Goals as goal
 
 pub print_table-requires : goal.print_table-requires

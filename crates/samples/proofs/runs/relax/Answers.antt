@@ -1,7 +1,5 @@
+use Rattle.pool_blocks.specs.{Grids.{block_relaxed, relaxed}, Runs.HasRunInParts, Stencils.after}
 use Rattle.std.proofs.Common.{◌∙◌, ap, subst}
-use Rattle.pool_blocks.specs.Grids.{block_relaxed, relaxed}
-use Rattle.pool_blocks.specs.Runs.{HasRunInParts}
-use Rattle.pool_blocks.specs.Stencils.{after}
 use Rattle.samples.proofs.runs.relax.Goals as goal
 
 pub returns : goal.returns

@@ -1,5 +1,4 @@
-use Rattle.std.proofs.Common.{◌≡◌, vec_len}
-use Rattle.std.specs.List.{All}
+use Rattle.std.{proofs.Common.{◌≡◌, vec_len}, specs.List.All}
 use Rattle.tp_base.specs.Pieces.{IsBlank}
 use Rattle.tp_base.proofs.history.push_blank.Given as goal
 

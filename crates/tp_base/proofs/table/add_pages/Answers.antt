@@ -1,6 +1,5 @@
 use Rattle.std.proofs.Common.{◌∙◌, ap, arith}
-use Rattle.tp_base.specs.Pages.{place}
-use Rattle.tp_base.proofs.Pages.{empty_whole, place_more, whole_more}
+use Rattle.tp_base.{proofs.Pages.{empty_whole, place_more, whole_more}, specs.Pages.place}
 use Rattle.tp_base.proofs.table.add_pages.Goals as goal
 
 pub loop-preserved : goal.loop-preserved

@@ -1,5 +1,4 @@
-use Rattle.std.proofs.Common.{◌/◌, ◌%◌, Some, refl, arith}
-use Rattle.std.specs.Vec.{with_item}
+use Rattle.std.{proofs.Common.{◌/◌, ◌%◌, Some, refl, arith}, specs.Vec.with_item}
 use Rattle.tp_base.proofs.Pages.{page_at, put_keeps, put_value, row_there, whole_at, whole_set}
 use Rattle.tp_base.proofs.table.put_near.Goals as goal
 

@@ -1,9 +1,6 @@
-use Rattle.std.proofs.Common.{ap, ◌∙◌, arith}
-use Rattle.std.proofs.lemmas.Grind.{common_steps}
-use Rattle.tp_wave.specs.Generations.{present_events}
-use Rattle.tp_wave.specs.Machine.{pending_at}
-use Rattle.tp_board.specs.States.{BoardState}
-use Rattle.tp_board.proofs.Boards.{agree_last}
+use Rattle.std.proofs.{Common.{ap, ◌∙◌, arith}, lemmas.Grind.common_steps}
+use Rattle.tp_board.{proofs.Boards.agree_last, specs.States.BoardState}
+use Rattle.tp_wave.specs.{Generations.present_events, Machine.pending_at}
 use Rattle.tp_board.proofs.books.gather.Goals as goal
 
 pub loop-next-preserved : goal.loop-next-preserved

@@ -1,8 +1,6 @@
-use Rattle.std.specs.Prelude.{◌≡◌, ◌+◌, ◌*◌, ◌≤◌, vec_len, sum_by}
-use Rattle.std.specs.List.{All}
-use Rattle.tp_wave.specs.Generations.{present_events}
-use Rattle.tp_wave.specs.Machine.{pending_at}
+use Rattle.std.specs.{List.All, Prelude.{◌≡◌, ◌+◌, ◌*◌, ◌≤◌, vec_len, sum_by}}
 use Rattle.tp_board.specs.Numbers.{ShareNumbers}
+use Rattle.tp_wave.specs.{Generations.present_events, Machine.pending_at}
 use Rattle.tp_board.proofs.books.gather.Given as goal
 
 abbrev pub invariant-loop-next : goal.invariant-loop-next

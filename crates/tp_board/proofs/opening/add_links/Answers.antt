@@ -1,8 +1,7 @@
 use Rattle.std.proofs.Common.{◌≡◌, ◌∷◌, [], length, length-append, append_assoc, ap, ◌∙◌, arith}
-use Rattle.tp_board.specs.Numbers.{empty_link, links_of}
-use Rattle.tp_board.proofs.Links.{few_links, length-links_of, links_of-next, links_of-same}
+use Rattle.tp_board.proofs.{Links.{few_links, length-links_of, links_of-next, links_of-same}, opening.add_links.Goals.then-to-from}
+use Rattle.tp_board.{proofs.opening.add_links.Goals.else-to-from, specs.Numbers.{empty_link, links_of}}
 use Rattle.tp_board.proofs.opening.add_links.Goals as goal
-use Rattle.tp_board.proofs.opening.add_links.Goals.{then-to-from, else-to-from}
 
 pub split_off-share-requires-clause-has_parts : goal.split_off-share-requires-clause-has_parts
 split_off-share-requires-clause-has_parts g c =

@@ -1,6 +1,5 @@
 use Rattle.std.proofs.Common.{◌-◌, ◌++◌, length, length-append, ap, ◌∙◌, sym, arith}
-use Rattle.tp_board.specs.Numbers.{links_of}
-use Rattle.tp_board.proofs.Links.{first_links-next, length-links_of, times_next}
+use Rattle.tp_board.{proofs.Links.{first_links-next, length-links_of, times_next}, specs.Numbers.links_of}
 use Rattle.tp_board.proofs.opening.open_links.Goals as goal
 
 pub loop-from-preserved : goal.loop-from-preserved

@@ -1,7 +1,5 @@
-use Rattle.std.specs.Prelude.{◌≡◌, ◌+◌, ◌-◌, ◌*◌, vec_capacity, vec_len}
-use Rattle.std.specs.List.{flat_map, range_with_len}
-use Rattle.tp_board.specs.Names.{under_parts}
-use Rattle.tp_board.specs.Numbers.{links_of}
+use Rattle.std.specs.{List.{flat_map, range_with_len}, Prelude.{◌≡◌, ◌+◌, ◌-◌, ◌*◌, vec_capacity, vec_len}}
+use Rattle.tp_board.specs.{Names.under_parts, Numbers.links_of}
 use Rattle.tp_board.proofs.opening.open_links.Given as goal
 
 abbrev pub invariant-loop-from : goal.invariant-loop-from

@@ -1,11 +1,9 @@
-use Rattle.std.proofs.Common.{◌≡◌, ◌<◌, ◌+◌, ◌∙◌, [], ◌∷◌, ap, sym, subst, length, arith, rules, refl}
-use Rattle.std.specs.Prelude.{slice_index}
+use Rattle.std.proofs.{Common.{◌≡◌, ◌<◌, ◌+◌, ◌∙◌, [], ◌∷◌, ap, sym, subst, length, arith, rules, refl}, lemmas.Grind.common_steps}
+use Rattle.std.{proofs.lemmas.List.Elements.{All-rest, All-head, All-same, All-nil, All-push}, specs.Prelude.slice_index}
 use Rattle.std.specs.Vec.Iter.{into_iter_items}
-use Rattle.std.proofs.lemmas.List.Elements.{All-rest, All-head, All-same, All-nil, All-push}
-use Rattle.std.proofs.lemmas.Grind.{common_steps}
 use Rattle.tp_base.specs.Totals.{total}
-use Rattle.tp_board.specs.Numbers.{ShareNumbers, PendingNumber}
-use Rattle.tp_board.proofs.Again.{none_open, one_more, at_most_one, length-more, parts-joined}
+use Rattle.tp_board.{proofs.Again.{none_open, one_more, at_most_one, length-more, parts-joined}, specs.Numbers.ShareNumbers}
+use Rattle.tp_board.specs.Numbers.{PendingNumber}
 use Rattle.tp_board.proofs.reopened_ledgers.open_each.Goals as goal
 
 pub loop-next-init : goal.loop-next-init

@@ -1,9 +1,6 @@
-use Rattle.std.specs.Prelude.{◌≡◌, ◌≤◌, ◌<◌, ℕ, MatchOption, map, length, slice_index, vec_capacity}
-use Rattle.std.specs.List.{All}
-use Rattle.std.specs.Vec.Iter.{into_iter_items}
+use Rattle.std.specs.{List.All, Prelude.{◌≡◌, ◌≤◌, ◌<◌, ℕ, MatchOption, map, length, slice_index, vec_capacity}, Vec.Iter.into_iter_items}
 use Rattle.tp_base.specs.Totals.{total}
-use Rattle.tp_board.specs.Numbers.{ShareNumbers, PendingNumber}
-use Rattle.tp_board.specs.Reopening.{opened_again}
+use Rattle.tp_board.specs.{Numbers.{ShareNumbers, PendingNumber}, Reopening.opened_again}
 use Rattle.tp_board.proofs.reopened_ledgers.open_each.Given as goal
 
 abbrev pub invariant-loop-next : goal.invariant-loop-next

@@ -1,7 +1,5 @@
-use Rattle.std.proofs.Common.{◌≡◌, ◌<◌, ◌-◌, ◌∙◌, ap, length, arith, rules}
+use Rattle.std.proofs.{Common.{◌≡◌, ◌<◌, ◌-◌, ◌∙◌, ap, length, arith, rules}, lemmas.{Grind.common_steps, List.Elements.All-rest}}
 use Rattle.std.specs.Vec.Iter.{into_iter_items}
-use Rattle.std.proofs.lemmas.List.Elements.{All-rest}
-use Rattle.std.proofs.lemmas.Grind.{common_steps}
 use Rattle.tp_board.specs.Numbers.{PendingNumber, PartNumbers, empty_parts}
 use Rattle.tp_board.proofs.reopened_ledgers.share_out.Goals as goal
 

@@ -1,8 +1,5 @@
-use Rattle.std.specs.Prelude.{◌≡◌, ◌<◌, map, length, vec_capacity}
-use Rattle.std.specs.List.{All}
-use Rattle.std.specs.Vec.Iter.{into_iter_items}
-use Rattle.tp_board.specs.Numbers.{PendingNumber, empty_parts}
-use Rattle.tp_board.specs.Reopening.{with_numbers}
+use Rattle.std.specs.{List.All, Prelude.{◌≡◌, ◌<◌, map, length, vec_capacity}, Vec.Iter.into_iter_items}
+use Rattle.tp_board.specs.{Numbers.{PendingNumber, empty_parts}, Reopening.with_numbers}
 use Rattle.tp_board.proofs.reopened_ledgers.share_out.Given as goal
 
 abbrev pub invariant-loop-pending : goal.invariant-loop-pending

@@ -1,5 +1,4 @@
-use Rattle.tp_board.specs.Judgements.{is_over}
-use Rattle.tp_board.proofs.Turns.{judge_tried}
+use Rattle.tp_board.{proofs.Turns.judge_tried, specs.Judgements.is_over}
 use Rattle.tp_board.proofs.turn.judge.Goals as goal
 
 pub returns : goal.returns

@@ -1,10 +1,7 @@
-use Rattle.std.proofs.Common.{Err, ap, sym, ◌∙◌}
-use Rattle.std.proofs.lemmas.Result.{err_from_is_err_and}
-use Rattle.tp_board.specs.States.{BoardState}
-use Rattle.tp_board.proofs.Turns.{at_error, at_first, at_root, then_next, unchanged}
+use Rattle.std.proofs.{Common.{Err, ap, sym, ◌∙◌}, lemmas.Result.err_from_is_err_and}
+use Rattle.tp_board.{proofs.Turns.{at_error, at_first, at_root, then_next, unchanged}, specs.States.BoardState}
+use Rattle.tp_wave.specs.{Generations.present_events, Machine.pending_at}
 use Rattle.tp_board.proofs.turn.lead.Goals as goal
-use Rattle.tp_wave.specs.Generations.{present_events}
-use Rattle.tp_wave.specs.Machine.{pending_at}
 
 pub returns-in_err-turn : goal.returns-in_err-turn
 returns-in_err-turn g c =

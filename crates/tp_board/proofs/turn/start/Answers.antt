@@ -1,8 +1,7 @@
 use Rattle.std.proofs.Common.{◌≡◌, arith, subst, ◌<◌}
 use Rattle.tp_board.proofs.Turns.{start_tried, start_active}
+use Rattle.tp_wave.specs.{Generations.present_events, Machine.pending_at}
 use Rattle.tp_board.proofs.turn.start.Goals as goal
-use Rattle.tp_wave.specs.Generations.{present_events}
-use Rattle.tp_wave.specs.Machine.{pending_at}
 
 pub returns-then-pending-gt0 : goal.returns-then-pending-gt0
 returns-then-pending-gt0 g c = start_active _ _ _ (subst (λ p. 0 < p) c.requires.pending c.if-pending-gt0.true)

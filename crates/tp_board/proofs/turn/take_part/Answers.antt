@@ -1,5 +1,4 @@
-use Rattle.std.proofs.Common.{Err, ap, ◌∙◌}
-use Rattle.std.proofs.lemmas.Result.{err_from_is_err_and}
+use Rattle.std.proofs.{Common.{Err, ap, ◌∙◌}, lemmas.Result.err_from_is_err_and}
 use Rattle.tp_board.proofs.Turns.{at_error, at_first, then_next}
 use Rattle.tp_board.proofs.turn.take_part.Goals as goal
 

@@ -1,6 +1,5 @@
-use Rattle.std.proofs.Common.{inl, map}
-use Rattle.std.proofs.lemmas.Result.{IfErr-weaker, IfOk-weaker}
 use Rattle.clap.specs.Values.{kind_of}
+use Rattle.std.proofs.{Common.{inl, map}, lemmas.Result.{IfErr-weaker, IfOk-weaker}}
 use Rattle.tp_cli.proofs.Ending.{answered_pools, answered_run, answered_shown, answered_text, both, pools_fault, run_fault, text_met}
 use Rattle.tp_cli.proofs.Ending.{words_met}
 use Rattle.tp_cli.proofs.cli.answer_words.Goals as goal

@@ -1,7 +1,5 @@
-use Rattle.std.proofs.Common.{rules, ap, ap₂, codes, false, ◌||◌, ◌≡◌, ◌∙◌}
-use Rattle.std.proofs.lemmas.Result.{IfOk-weaker}
-use Rattle.clap.specs.Words.{app_of, new_app, with_rule}
-use Rattle.clap.specs.declared.builder.command.Command.TheViews.{out-Command}
+use Rattle.clap.specs.{Words.{app_of, new_app, with_rule}, declared.builder.command.Command.TheViews.out-Command}
+use Rattle.std.proofs.{Common.{rules, ap, ap₂, codes, false, ◌||◌, ◌≡◌, ◌∙◌}, lemmas.Result.IfOk-weaker}
 use Rattle.tp_shell.specs.Command.{with_count_rules}
 use Rattle.tp_cli.proofs.command.run_command.Goals as goal
 

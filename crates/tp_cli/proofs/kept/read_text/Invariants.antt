@@ -1,5 +1,4 @@
-use Rattle.std.proofs.Common.{◌≤◌, length}
-use Rattle.std.specs.Io.KnownBytes.{Consumes}
+use Rattle.std.{proofs.Common.{◌≤◌, length}, specs.Io.KnownBytes.Consumes}
 use Rattle.tp_text.specs.declared.input.TheConstants.{MAX_TEXT}
 use Rattle.tp_cli.proofs.kept.read_text.Given as goal
 

@@ -1,8 +1,6 @@
-use Rattle.std.proofs.Common.{◌<◌, ◌≤◌, arith, inl, length, map, refl, rules, subst, sym}
-use Rattle.std.proofs.lemmas.List.{get_or-map, length-map}
+use Rattle.std.proofs.{Common.{◌<◌, ◌≤◌, arith, inl, length, map, refl, rules, subst, sym}, lemmas.List.{get_or-map, length-map}}
 use Rattle.tp_base.specs.declared.limits.TheConstants.{MAX_POOLS}
-use Rattle.tp_cli.proofs.Several.{all_named, one_registered, refused_word}
-use Rattle.tp_cli.specs.Pools.{IsWordsFault}
+use Rattle.tp_cli.{proofs.Several.{all_named, one_registered, refused_word}, specs.Pools.IsWordsFault}
 use Rattle.tp_cli.proofs.pools.registry_of.Goals as goal
 
 pub returns-in-Err : goal.returns-in-Err

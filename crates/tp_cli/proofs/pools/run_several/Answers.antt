@@ -1,9 +1,6 @@
-use Rattle.std.proofs.Common.{◌≡◌, ◌∙◌, ap, map, refl}
-use Rattle.std.specs.List.{list_all}
-use Rattle.std.specs.Result.{is_ok}
 use Rattle.clap.proofs.TakesLemmas.{passed_up}
-use Rattle.tp_cli.proofs.Several.{named_may, words_in_vain}
-use Rattle.tp_cli.specs.Pools.{lines_from, status_of_pools}
+use Rattle.std.{proofs.Common.{◌≡◌, ◌∙◌, ap, map, refl}, specs.{List.list_all, Result.is_ok}}
+use Rattle.tp_cli.{proofs.Several.{named_may, words_in_vain}, specs.Pools.{lines_from, status_of_pools}}
 use Rattle.tp_cli.proofs.pools.run_several.Goals as goal
 
 pub returns-in_err-registry-clause-why : goal.returns-in_err-registry-clause-why

@@ -1,5 +1,4 @@
-use Rattle.std.proofs.Common.{◌∙◌, ◌<◌, ◌≤◌, arith, length, map, sym}
-use Rattle.std.proofs.lemmas.List.{get_or-map, length-map}
+use Rattle.std.proofs.{Common.{◌∙◌, ◌<◌, ◌≤◌, arith, length, map, sym}, lemmas.List.{get_or-map, length-map}}
 use Rattle.tp_cli.proofs.Several.{line_more, lines_done}
 use Rattle.tp_cli.proofs.pools.text_of_pools.Goals as goal
 

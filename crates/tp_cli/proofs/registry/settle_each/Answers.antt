@@ -1,10 +1,9 @@
 use Rattle.std.proofs.Common.{rules, arith, ◌≡◌, ◌∙◌, ◌∷◌, ◌<◌, ◌+◌, true, false, List, Result, ap, ap₂, length, slice_set, sym, subst}
 use Rattle.std.proofs.lemmas.List.{set-get_or}
 use Rattle.tp_cli.proofs.Settling.{AreSettledBelow, all_settled, ends, none_lacks, stays}
-use Rattle.tp_cli.specs.Registry.{Entered, Pools, after, is_waiting}
-use Rattle.tp_cli.specs.declared.entry.Standing.{Standing}
-use Rattle.tp_cli.proofs.registry.settle_each.Goals as goal
 use Rattle.tp_cli.proofs.registry.settle_each.Goals.{then-is_waiting+in-Some, then-is_waiting+in_default, else-is_waiting}
+use Rattle.tp_cli.specs.{Registry.{Entered, Pools, after, is_waiting}, declared.entry.Standing.Standing}
+use Rattle.tp_cli.proofs.registry.settle_each.Goals as goal
 
 pub loop-entry-preserved : goal.loop-entry-preserved
 loop-entry-preserved g c =

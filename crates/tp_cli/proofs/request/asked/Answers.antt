@@ -1,9 +1,6 @@
+use Rattle.clap.specs.{Words.{found_of, rows_of}, declared.parser.matches.ArgMatches.TheViews.out-ArgMatches}
 use Rattle.std.proofs.Common.{subst, sym, IfOk, MatchOption}
-use Rattle.clap.specs.Words.{found_of, rows_of}
-use Rattle.clap.specs.declared.parser.matches.ArgMatches.TheViews.{out-ArgMatches}
-use Rattle.tp_cli.proofs.Asked.{found_as}
-use Rattle.tp_cli.specs.Asked.{IsMadeBy}
-use Rattle.tp_cli.specs.Command.{IsNeither}
+use Rattle.tp_cli.{proofs.Asked.found_as, specs.{Asked.IsMadeBy, Command.IsNeither}}
 use Rattle.tp_cli.proofs.request.asked.Goals as goal
 
 pub returns-in-Some : goal.returns-in-Some

@@ -1,9 +1,6 @@
-use Rattle.std.proofs.Common.{◌≡◌, ◌∙◌, ap, codes, subst, sym, Some}
-use Rattle.std.proofs.lemmas.Result.{IfOk-weaker}
-use Rattle.clap.proofs.WalkLemmas.{first_value-rows}
-use Rattle.clap.specs.Words.{found_of, rows_of}
-use Rattle.tp_cli.proofs.Asked.{asked_as, pools_unnamed, run_unnamed}
-use Rattle.tp_cli.specs.Asked.{IsMadeBy}
+use Rattle.clap.{proofs.WalkLemmas.first_value-rows, specs.Words.{found_of, rows_of}}
+use Rattle.std.proofs.{Common.{◌≡◌, ◌∙◌, ap, codes, subst, sym, Some}, lemmas.Result.IfOk-weaker}
+use Rattle.tp_cli.{proofs.Asked.{asked_as, pools_unnamed, run_unnamed}, specs.Asked.IsMadeBy}
 use Rattle.tp_cli.proofs.request.asked_of.Goals as goal
 
 pub returns-in-run : goal.returns-in-run

@@ -1,6 +1,5 @@
+use Rattle.clap.{proofs.WalkLemmas.one_text-rows, specs.Words.found_of}
 use Rattle.std.proofs.Common.{◌≡◌, ◌∙◌, codes, false, refl, true}
-use Rattle.clap.proofs.WalkLemmas.{one_text-rows}
-use Rattle.clap.specs.Words.{found_of}
 use Rattle.tp_cli.proofs.request.form_of.Goals as goal
 
 pub returns-then-get_flag : goal.returns-then-get_flag

@@ -1,6 +1,5 @@
+use Rattle.clap.{proofs.WalkLemmas.one_text-rows, specs.Words.found_of}
 use Rattle.std.proofs.Common.{◌∙◌, codes}
-use Rattle.clap.proofs.WalkLemmas.{one_text-rows}
-use Rattle.clap.specs.Words.{found_of}
 use Rattle.tp_cli.proofs.request.plan_of.Goals as goal
 
 pub returns-clause-generations : goal.returns-clause-generations

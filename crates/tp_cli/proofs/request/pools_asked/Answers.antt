@@ -1,6 +1,5 @@
+use Rattle.clap.{proofs.WalkLemmas.raw_values-rows, specs.Words.{all_of, found_of, rows_of}}
 use Rattle.std.proofs.Common.{rules, ◌≡◌, ◌∙◌, ap, codes, map, refl, sym, Some}
-use Rattle.clap.proofs.WalkLemmas.{raw_values-rows}
-use Rattle.clap.specs.Words.{all_of, found_of, rows_of}
 use Rattle.tp_cli.proofs.request.pools_asked.Goals as goal
 
 pub returns-in_default : goal.returns-in_default

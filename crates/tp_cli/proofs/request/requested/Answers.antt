@@ -1,9 +1,6 @@
+use Rattle.clap.{proofs.TakesLemmas.passed_up, specs.{Words.app_of, declared.error.kind.ErrorKind.TheVariants.MissingSubcommand}}
 use Rattle.std.proofs.Common.{inr, map, refl}
-use Rattle.clap.proofs.TakesLemmas.{passed_up}
-use Rattle.clap.specs.Words.{app_of}
-use Rattle.clap.specs.declared.error.kind.ErrorKind.TheVariants.{MissingSubcommand}
-use Rattle.tp_cli.proofs.Asked.{neither_asked, request_asked, some_asked}
-use Rattle.tp_cli.specs.Command.{AsksForNothing, tp_app}
+use Rattle.tp_cli.{proofs.Asked.{neither_asked, request_asked, some_asked}, specs.Command.{AsksForNothing, tp_app}}
 use Rattle.tp_shell.proofs.Asked.{fails_as, none_asked}
 use Rattle.tp_cli.proofs.request.requested.Goals as goal
 

@@ -1,6 +1,5 @@
+use Rattle.clap.{proofs.WalkLemmas.first_value-rows, specs.Words.{found_of, rows_of}}
 use Rattle.std.proofs.Common.{◌∙◌, codes, refl, sym}
-use Rattle.clap.proofs.WalkLemmas.{first_value-rows}
-use Rattle.clap.specs.Words.{found_of, rows_of}
 use Rattle.tp_cli.proofs.request.run_asked.Goals as goal
 
 pub returns : goal.returns

@@ -1,5 +1,4 @@
-use Rattle.std.proofs.Common.{ap}
-use Rattle.std.specs.Option.{option_map}
+use Rattle.std.{proofs.Common.ap, specs.Option.option_map}
 use Rattle.tp_cli.proofs.run.is_opened.Goals as goal
 
 pub returns-in-Err : goal.returns-in-Err

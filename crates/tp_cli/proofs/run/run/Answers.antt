@@ -1,9 +1,7 @@
-use Rattle.std.proofs.Common.{rules, ◌≡◌, Err, IfErr, refl, subst, sym}
-use Rattle.std.proofs.lemmas.Result.{IfErr-weaker, IfOk-weaker}
+use Rattle.std.proofs.{Common.{rules, ◌≡◌, Err, IfErr, refl, subst, sym}, lemmas.Result.{IfErr-weaker, IfOk-weaker}}
 use Rattle.std.specs.Option.{option_map}
 use Rattle.tp_base.specs.declared.refusal.Refusal.TheVariants.{BadSpec}
-use Rattle.tp_cli.proofs.Ending.{names_none}
-use Rattle.tp_cli.specs.Runs.{IsRunFault, IsTextOf}
+use Rattle.tp_cli.{proofs.Ending.names_none, specs.Runs.{IsRunFault, IsTextOf}}
 use Rattle.tp_cli.specs.declared.fault.Fault.TheVariants as faults
 use Rattle.tp_cli.proofs.run.run.Goals as goal
 

@@ -1,11 +1,7 @@
-use Rattle.std.proofs.Common.{IfOk, subst, sym}
-use Rattle.std.proofs.lemmas.Result.{IfOk-weaker}
-use Rattle.tp_cli.proofs.Counted.{tasks-outcome}
-use Rattle.tp_cli.proofs.Printed.{printed_table}
-use Rattle.tp_cli.specs.Runs.{IsPrintOf}
+use Rattle.pool_samples.{proofs.Keeping.any_keeps, specs.Any.any_graph}
+use Rattle.std.proofs.{Common.{IfOk, subst, sym}, lemmas.Result.IfOk-weaker}
+use Rattle.tp_cli.{proofs.{Counted.tasks-outcome, Printed.printed_table}, specs.Runs.IsPrintOf}
 use Rattle.tp_graph.proofs.Left.{results_right}
-use Rattle.pool_samples.proofs.Keeping.{any_keeps}
-use Rattle.pool_samples.specs.Any.{any_graph}
 use Rattle.tp_text.proofs.Readings.Unique.Traces.Lines.{run_in_each}
 use Rattle.tp_cli.proofs.run.text_of_outcome.Goals as goal
 

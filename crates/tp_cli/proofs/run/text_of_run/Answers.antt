@@ -1,5 +1,4 @@
-use Rattle.std.proofs.Common.{◌≤◌, arith, inl, inr}
-use Rattle.std.proofs.lemmas.Result.{MatchResult-weaker}
+use Rattle.std.proofs.{Common.{◌≤◌, arith, inl, inr}, lemmas.Result.MatchResult-weaker}
 use Rattle.tp_cli.proofs.run.text_of_run.Goals as goal
 
 pub returns-then-plan-eq1 : goal.returns-then-plan-eq1

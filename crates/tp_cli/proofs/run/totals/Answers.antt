@@ -1,8 +1,5 @@
-use Rattle.std.proofs.Common.{◌≡◌, ◌∙◌, decimal, sym}
-use Rattle.std.proofs.lemmas.Result.{IfOk-weaker}
-use Rattle.std.specs.String.{string_bytes}
-use Rattle.tp_cli.proofs.Printed.{three_lines}
-use Rattle.tp_cli.specs.Runs.{totals_text}
+use Rattle.std.{proofs.{Common.{◌≡◌, ◌∙◌, decimal, sym}, lemmas.Result.IfOk-weaker}, specs.String.string_bytes}
+use Rattle.tp_cli.{proofs.Printed.three_lines, specs.Runs.totals_text}
 use Rattle.tp_cli.proofs.run.totals.Goals as goal
 
 pub returns : goal.returns

@@ -1,9 +1,7 @@
-use Rattle.std.proofs.Common.{◌≡◌, ◌∙◌, ap, subst, List, Result, length}
-use Rattle.tp_cli.specs.Registry.{AreRunAnswers, AreSettled}
 use Rattle.pool_samples.specs.declared.any.AnyGraph.{AnyGraph}
-use Rattle.tp_cli.proofs.Ranked.{are_run, length-graphs_to_run}
-use Rattle.tp_work.specs.declared.config.Fault.{Fault}
-use Rattle.tp_work.specs.declared.config.Outcome.{Outcome}
+use Rattle.std.proofs.Common.{◌≡◌, ◌∙◌, ap, subst, List, Result, length}
+use Rattle.tp_cli.{proofs.Ranked.{are_run, length-graphs_to_run}, specs.Registry.{AreRunAnswers, AreSettled}}
+use Rattle.tp_work.specs.declared.config.{Fault.Fault, Outcome.Outcome}
 use Rattle.tp_cli.proofs.runs.run_pools.Goals as goal
 
 pub settle-requires : goal.settle-requires

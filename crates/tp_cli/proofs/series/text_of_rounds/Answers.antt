@@ -1,9 +1,6 @@
-use Rattle.std.proofs.Common.{◌≡◌, ◌∙◌, Some, ap, sym}
-use Rattle.std.proofs.lemmas.Option.{slice_get-get_or}
-use Rattle.std.specs.Prelude.{slice_get}
 use Rattle.clap.proofs.TakesLemmas.{passed_up}
-use Rattle.tp_cli.proofs.Rounds.{round_more, rounds_done}
-use Rattle.tp_cli.specs.Runs.{rounds_text}
+use Rattle.std.{proofs.{Common.{◌≡◌, ◌∙◌, Some, ap, sym}, lemmas.Option.slice_get-get_or}, specs.Prelude.slice_get}
+use Rattle.tp_cli.{proofs.Rounds.{round_more, rounds_done}, specs.Runs.rounds_text}
 use Rattle.tp_cli.proofs.series.text_of_rounds.Goals as goal
 
 pub returns-in_err-push_round-clause-none : goal.returns-in_err-push_round-clause-none

@@ -1,9 +1,6 @@
-use Rattle.std.proofs.Common.{IfOk, subst, sym}
-use Rattle.std.proofs.lemmas.Result.{IfErr-weaker, IfOk-weaker}
-use Rattle.std.specs.List.{All}
-use Rattle.tp_cli.proofs.Rounds.{each_of, in_each, printed_rounds, untold_rounds}
-use Rattle.tp_cli.specs.Runs.{IsPrintOfSeries, IsRoundOf}
 use Rattle.pool_samples.specs.Any.{any_graph}
+use Rattle.std.{proofs.{Common.{IfOk, subst, sym}, lemmas.Result.{IfErr-weaker, IfOk-weaker}}, specs.List.All}
+use Rattle.tp_cli.{proofs.Rounds.{each_of, in_each, printed_rounds, untold_rounds}, specs.Runs.{IsPrintOfSeries, IsRoundOf}}
 use Rattle.tp_cli.proofs.series.text_of_series.Goals as goal
 
 pub text_of_rounds-requires : goal.text_of_rounds-requires

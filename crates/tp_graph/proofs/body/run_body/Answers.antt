@@ -1,6 +1,5 @@
 use Rattle.std.proofs.Common.{◌≡◌, Some, MatchResult, List, ℤ, Option, sym, subst}
-use Rattle.tp_graph.specs.Values.{IsRefusal}
-use Rattle.tp_graph.proofs.Valued.{value_made}
+use Rattle.tp_graph.{proofs.Valued.value_made, specs.Values.IsRefusal}
 use Rattle.tp_graph.proofs.body.run_body.Goals as goal
 
 pub returns : goal.returns

@@ -1,5 +1,4 @@
-use Rattle.std.proofs.Common.{ℤ, List, rules}
-use Rattle.std.proofs.lemmas.List.Sorted.{IsNonDecreasingBy-from_sort_by_key}
+use Rattle.std.proofs.{Common.{ℤ, List, rules}, lemmas.List.Sorted.IsNonDecreasingBy-from_sort_by_key}
 use Rattle.tp_base.specs.declared.TaskId.{TaskId}
 use Rattle.tp_graph.proofs.Ordered.{are_left, are_values, in_order_of}
 use Rattle.tp_graph.proofs.found.in_order.Goals as goal

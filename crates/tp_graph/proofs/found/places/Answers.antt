@@ -1,7 +1,6 @@
 use Rattle.std.proofs.Common.{◌+◌, subst, arith, rules}
-use Rattle.tp_graph.proofs.Placed.{ArePlacesTo, noted, passed, all_noted}
+use Rattle.tp_graph.proofs.{Placed.{ArePlacesTo, noted, passed, all_noted}, found.places.Goals.{then-task-len, else-task-len}}
 use Rattle.tp_graph.proofs.found.places.Goals as goal
-use Rattle.tp_graph.proofs.found.places.Goals.{then-task-len, else-task-len}
 
 pub loop-k-preserved : goal.loop-k-preserved
 loop-k-preserved c =

@@ -1,7 +1,6 @@
 use Rattle.std.proofs.Common.{◌∙◌, ap, map}
 use Rattle.tp_board.specs.Numbers.{LinkNumbers, ShareNumbers}
-use Rattle.tp_node.specs.Nodes.{first_node}
-use Rattle.tp_node.specs.PoolLinks.{empty_pool_link}
+use Rattle.tp_node.specs.{Nodes.first_node, PoolLinks.empty_pool_link}
 use Rattle.tp_node.proofs.pool.open_pool.Goals as goal
 
 pub open_parts-requires-clause-first : goal.open_parts-requires-clause-first

@@ -1,5 +1,4 @@
-use Rattle.std.specs.Prelude.{◌≡◌, [], take}
-use Rattle.std.specs.List.{All}
+use Rattle.std.specs.{List.All, Prelude.{◌≡◌, [], take}}
 use Rattle.tp_node.proofs.reopening.audit_links.Given as goal
 
 abbrev pub invariant-loop-pool_link : goal.invariant-loop-pool_link

@@ -1,6 +1,5 @@
-use Rattle.std.proofs.Common.{◌≡◌, ◌∷◌, ◌++◌, [], suc, sym, ap, ◌∙◌, arith, length, map}
+use Rattle.std.proofs.{Common.{◌≡◌, ◌∷◌, ◌++◌, [], suc, sym, ap, ◌∙◌, arith, length, map}, lemmas.List.Elements.All-rest}
 use Rattle.std.specs.Vec.Iter.{into_iter_items}
-use Rattle.std.proofs.lemmas.List.Elements.{All-rest}
 use Rattle.tp_node.specs.Nodes.{IsOfPool, NodeState}
 use Rattle.tp_node.proofs.reopening.put_together.Goals as goal
 

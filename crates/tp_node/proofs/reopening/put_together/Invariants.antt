@@ -1,6 +1,4 @@
-use Rattle.std.specs.Prelude.{◌≡◌, ◌+◌, ◌≤◌, length, map, vec_capacity, vec_len}
-use Rattle.std.specs.List.{All}
-use Rattle.std.specs.Vec.Iter.{into_iter_items}
+use Rattle.std.specs.{List.All, Prelude.{◌≡◌, ◌+◌, ◌≤◌, length, map, vec_capacity, vec_len}, Vec.Iter.into_iter_items}
 use Rattle.tp_node.specs.Nodes.{IsOfPool}
 use Rattle.tp_node.proofs.reopening.put_together.Given as goal
 

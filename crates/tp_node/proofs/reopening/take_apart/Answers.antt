@@ -1,13 +1,8 @@
 use Rattle.std.proofs.Common.{rules, suc, List, ◌≡◌, ◌+◌, ◌∷◌, [], ◌∙◌, ap, arith, length, sym, subst, vec_len}
-use Rattle.std.specs.Prelude.{sum_by}
-use Rattle.std.specs.List.{All}
-use Rattle.std.specs.Vec.Iter.{into_iter_items}
-use Rattle.std.proofs.lemmas.Iterator.Adapters.{YieldsList-from_vec}
-use Rattle.std.proofs.lemmas.Iterator.Consumers.{YieldsList-end}
-use Rattle.std.proofs.lemmas.List.Elements.{All-append, All-cons, All-nil}
-use Rattle.std.proofs.lemmas.List.Sums.{sum_by-cons}
-use Rattle.tp_node.specs.Nodes.{IsOfPool, NodeState, anew}
-use Rattle.tp_node.proofs.Gathering.{All-of_map, mapped-more, results-more, results_of, right-more}
+use Rattle.std.proofs.lemmas.{Iterator.{Adapters.YieldsList-from_vec, Consumers.YieldsList-end}, List.Elements.{All-append, All-cons}}
+use Rattle.std.{proofs.lemmas.List.{Elements.All-nil, Sums.sum_by-cons}, specs.{List.All, Prelude.sum_by, Vec.Iter.into_iter_items}}
+use Rattle.tp_node.{proofs.Gathering.{All-of_map, mapped-more, results-more, results_of, right-more}, specs.Nodes.{IsOfPool, NodeState}}
+use Rattle.tp_node.specs.Nodes.{anew}
 use Rattle.tp_node.proofs.reopening.take_apart.Goals as goal
 
 pub put_behind-requires : goal.put_behind-requires

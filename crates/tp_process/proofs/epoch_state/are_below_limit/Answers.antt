@@ -1,7 +1,6 @@
 -- Two numbers are below a power of two exactly if their bitwise "or" is.
-use Rattle.std.proofs.Common.{◌≡◌, ℕ, ◌&&◌, ltb, sym, ◌∙◌, inl, inr, arith, bit_or}
-use Rattle.std.proofs.lemmas.Bool.{cases_lt, lt-ltb, le-ltb, ltb-true, and_parts, false_from_ne_true}
-use Rattle.std.proofs.lemmas.Nat.{le_or_l, le_or_r, or_lt}
+use Rattle.std.proofs.{Common.{◌≡◌, ℕ, ◌&&◌, ltb, sym, ◌∙◌, inl, inr, arith, bit_or}, lemmas.Bool.{cases_lt, lt-ltb, le-ltb, ltb-true}}
+use Rattle.std.proofs.lemmas.{Bool.{and_parts, false_from_ne_true}, Nat.{le_or_l, le_or_r, or_lt}}
 use Rattle.tp_process.specs.declared.epoch_state.TheConstants.{LIMIT}
 use Rattle.tp_process.proofs.epoch_state.are_below_limit.Goals as goal
 

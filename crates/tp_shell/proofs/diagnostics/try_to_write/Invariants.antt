@@ -1,6 +1,4 @@
-use Rattle.std.specs.Prelude.{map, take}
-use Rattle.std.specs.Io.KnownBytes.{Appends}
-use Rattle.std.specs.List.{concat}
+use Rattle.std.specs.{Io.KnownBytes.Appends, List.concat, Prelude.{map, take}}
 use Rattle.tp_shell.proofs.diagnostics.try_to_write.Given as goal
 
 abbrev pub invariant-loop-part : goal.invariant-loop-part

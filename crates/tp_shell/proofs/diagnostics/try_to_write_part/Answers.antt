@@ -1,7 +1,6 @@
 use Rattle.std.proofs.Common.{◌+◌}
-use Rattle.tp_shell.proofs.Written.{appends_kept, begun_to, fits_more, written_more}
+use Rattle.tp_shell.proofs.{Written.{appends_kept, begun_to, fits_more, written_more}, diagnostics.try_to_write_part.Goals.{in-Ok, in-Err}}
 use Rattle.tp_shell.proofs.diagnostics.try_to_write_part.Goals as goal
-use Rattle.tp_shell.proofs.diagnostics.try_to_write_part.Goals.{in-Ok, in-Err}
 
 pub returns-in-Ok-eq0-clause-begun : goal.returns-in-Ok-eq0-clause-begun
 returns-in-Ok-eq0-clause-begun g c =

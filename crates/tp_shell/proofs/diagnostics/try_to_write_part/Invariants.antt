@@ -1,5 +1,4 @@
-use Rattle.std.proofs.Common.{◌≤◌, length, take}
-use Rattle.std.specs.Io.KnownBytes.{Appends}
+use Rattle.std.{proofs.Common.{◌≤◌, length, take}, specs.Io.KnownBytes.Appends}
 use Rattle.tp_shell.proofs.diagnostics.try_to_write_part.Given as goal
 
 abbrev pub invariant-loop : goal.invariant-loop

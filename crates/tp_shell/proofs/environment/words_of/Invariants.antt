@@ -1,5 +1,4 @@
-use Rattle.std.specs.Prelude.{◌≡◌, map, take}
-use Rattle.std.specs.String.{string_bytes}
+use Rattle.std.specs.{Prelude.{◌≡◌, map, take}, String.string_bytes}
 use Rattle.tp_shell.proofs.environment.words_of.Given as goal
 
 abbrev pub invariant-loop-argument : goal.invariant-loop-argument

@@ -1,6 +1,5 @@
+use Rattle.clap.{proofs.WalkLemmas.one_text-rows, specs.Words.found_of}
 use Rattle.std.proofs.Common.{◌∙◌, codes}
-use Rattle.clap.proofs.WalkLemmas.{one_text-rows}
-use Rattle.clap.specs.Words.{found_of}
 use Rattle.tp_shell.proofs.options.config_of.Goals as goal
 
 pub returns-clause-asked : goal.returns-clause-asked

@@ -1,8 +1,6 @@
-use Rattle.std.proofs.Common.{rules, ◌≡◌, ◌≤◌, ◌∙◌, ap, ap₂, pos}
-use Rattle.std.specs.Int.{int_max, int_min}
-use Rattle.std.specs.Range.{range_inclusive_end, range_inclusive_start}
-use Rattle.clap.specs.Words.{signed_between}
-use Rattle.clap.specs.declared.builder.value_parser.ValueParser.TheVariants.{Signed}
+use Rattle.clap.specs.{Words.signed_between, declared.builder.value_parser.ValueParser.TheVariants.Signed}
+use Rattle.std.{proofs.Common.{rules, ◌≡◌, ◌≤◌, ◌∙◌, ap, ap₂, pos}, specs.{Int.{int_max, int_min}, Range.range_inclusive_end}}
+use Rattle.std.specs.Range.{range_inclusive_start}
 use Rattle.tp_shell.proofs.Bounded.{lesser}
 use Rattle.tp_shell.proofs.options.count_option.Goals as goal
 

@@ -1,6 +1,5 @@
-use Rattle.std.proofs.Common.{rules, ap, ap₂, codes, false, ◌||◌, ◌≡◌, ◌∙◌}
-use Rattle.std.proofs.lemmas.Result.{IfOk-weaker}
 use Rattle.clap.specs.Words.{rule_of, with_rule}
+use Rattle.std.proofs.{Common.{rules, ap, ap₂, codes, false, ◌||◌, ◌≡◌, ◌∙◌}, lemmas.Result.IfOk-weaker}
 use Rattle.tp_base.specs.declared.limits.TheConstants.{MAX_NODES, MAX_WORKERS}
 use Rattle.tp_shell.specs.Command.{count_rule}
 use Rattle.tp_shell.proofs.options.with_counts.Goals as goal

@@ -1,5 +1,4 @@
-use Rattle.std.proofs.Common.{rules}
-use Rattle.std.specs.Io.KnownBytes.{Appends}
+use Rattle.std.{proofs.Common.rules, specs.Io.KnownBytes.Appends}
 use Rattle.tp_shell.proofs.Written.{appends_kept, on_ok}
 use Rattle.tp_shell.proofs.streams.write_text.Goals as goal
 

@@ -1,7 +1,5 @@
-use Rattle.std.proofs.Common.{ap, ◌∙◌, arith}
-use Rattle.std.proofs.lemmas.List.{length-set}
-use Rattle.tp_slots.proofs.CellsMemory.{full_within}
-use Rattle.tp_slots.proofs.Housed.{full_at, emptied_pointers, emptied_gone, emptied_kept, all_gone}
+use Rattle.std.proofs.{Common.{ap, ◌∙◌, arith}, lemmas.List.length-set}
+use Rattle.tp_slots.proofs.{CellsMemory.full_within, Housed.{full_at, emptied_pointers, emptied_gone, emptied_kept, all_gone}}
 use Rattle.tp_slots.proofs.blocks.empty_cells.Goals as goal
 
 pub read-requires : goal.read-requires

@@ -1,9 +1,6 @@
-use Rattle.std.proofs.Common.{◌≡◌, ◌++◌, ap, ◌∙◌, arith}
-use Rattle.std.specs.Mem.{type_size}
+use Rattle.std.{proofs.Common.{◌≡◌, ◌++◌, ap, ◌∙◌, arith}, specs.Mem.type_size}
+use Rattle.tp_slots.{proofs.Housed.{pointers_from, row_pointers}, specs.{Blocks.pointers_in, contracts.blocks.list_cells.T-row}}
 use Rattle.tp_slots.specs.contracts.chains.Slot.{the_row}
-use Rattle.tp_slots.specs.Blocks.{pointers_in}
-use Rattle.tp_slots.specs.contracts.blocks.list_cells.{T-row}
-use Rattle.tp_slots.proofs.Housed.{pointers_from, row_pointers}
 use Rattle.tp_slots.proofs.blocks.list_cells.Goals as goal
 
 pub returns : goal.returns

@@ -1,29 +1,25 @@
 -- `allocate` creates a row of empty cells. Before: a `&` to the allocator. The raw call takes its token and gives room for an
 -- array, and the right to free it. The room is cut into empty cells, next to each other, and the right goes into the deed; if the
 -- allocation fails, nothing is owned but the refusal. Assumes `Logic`.
-use Rattle.tp_slots.proofs.CellWords.{◌≡◌, refl, sym, ap, subst, ℕ, ◌*◌, ◌<◌, ◌^◌, arith, List, [], ◌∷◌, ◌++◌, true, false, lit<, Fn}
-use Rattle.tp_slots.proofs.CellWords.{Body, w64, ty_array, inst_fn, Val, vptr, vint, vstruct, vcons, vnil, Env, Wp, after_seq, at_return}
-use Rattle.tp_slots.proofs.CellWords.{tables, id⊢, Fml, Incl-trans, ftrue, fsep, flft, ◌⊑◌, Sq, prop, ‵, raw, ◌⊛◌, later, any_q, at_ret}
-use Rattle.tp_slots.proofs.CellWords.{◌$◌, !, by, move, keep, use1, use2, use3, split, join, await, fsplit, fjoin, feq_i, flt_i, After}
-use Rattle.tp_slots.proofs.CellWords.{whole, agg, live, vrt, in_variant, stop, fld, bin, lit, size_word, align_word, of_opd, switches_on}
-use Rattle.tp_slots.proofs.CellWords.{and_then, no_more, first, exec, returns, alloc_all, pass_all, free_all, look_at, get, get_in}
-use Rattle.tp_slots.proofs.CellWords.{get_tag, is, sets, sets_last, lands_as, env, RattleType, layout, Ptr, block_ptr, InBlock, after}
-use Rattle.tp_slots.proofs.CellWords.{word, word-Good, as_written, El, R, elτ, Option, IfOk, Ok, Err, empty_at, cells_own, row_from}
-use Rattle.tp_slots.proofs.CellWords.{align, capped, capped_fits, Is, owned, Struct, Struct-Makes, Tuple, calls_at, framed, FitsInBlock}
-use Rattle.tp_slots.proofs.CellWords.{Al, Answer-typed, Takes, at_takes, Answered, Takes-goes, Takes-gives, answers, head, arm_body}
-use Rattle.tp_slots.proofs.CellWords.{ok_of, err_of}
+use Rattle.std.proofs.RcSteps.{Good, first_Good}
+use Rattle.tp_slots.proofs.{CellCalls.takes_all, CellSteps.{enters, asked_beside, told, owner_made, mark_put}, CellWords.{◌≡◌, refl, sym}}
+use Rattle.tp_slots.proofs.CellWords.{ap, subst, ℕ, ◌*◌, ◌<◌, ◌^◌, arith, List, [], ◌∷◌, ◌++◌, true, false, lit<, Fn, Body, w64, ty_array}
+use Rattle.tp_slots.proofs.CellWords.{inst_fn, Val, vptr, vint, vstruct, vcons, vnil, Env, Wp, after_seq, at_return, tables, id⊢, Fml}
+use Rattle.tp_slots.proofs.CellWords.{Incl-trans, ftrue, fsep, flft, ◌⊑◌, Sq, prop, ‵, raw, ◌⊛◌, later, any_q, at_ret, ◌$◌, !, by, move}
+use Rattle.tp_slots.proofs.CellWords.{keep, use1, use2, use3, split, join, await, fsplit, fjoin, feq_i, flt_i, After, whole, agg, live, vrt}
+use Rattle.tp_slots.proofs.CellWords.{in_variant, stop, fld, bin, lit, size_word, align_word, of_opd, switches_on, and_then, no_more, first}
+use Rattle.tp_slots.proofs.CellWords.{exec, returns, alloc_all, pass_all, free_all, look_at, get, get_in, get_tag, is, sets, sets_last}
+use Rattle.tp_slots.proofs.CellWords.{lands_as, env, RattleType, layout, Ptr, block_ptr, InBlock, after, word, word-Good, as_written, El, R}
+use Rattle.tp_slots.proofs.CellWords.{elτ, Option, IfOk, Ok, Err, empty_at, cells_own, row_from, align, capped, capped_fits, Is, owned}
+use Rattle.tp_slots.proofs.CellWords.{Struct, Struct-Makes, Tuple, calls_at, framed, FitsInBlock, Al, Answer-typed, Takes, at_takes}
+use Rattle.tp_slots.proofs.{CellWords.{Answered, Takes-goes, Takes-gives, answers, head, arm_body, ok_of, err_of}, CellsLeases.uncapped}
+use Rattle.tp_slots.proofs.{CellsLeases.{block_ty, block_size, block_align, args, P, sz, of_room, pointers_from, row_is}, CellsMemory.Cr}
+use Rattle.tp_slots.proofs.{CellsMemory.{Bs, mark, word_made, three_val, three_of}, cells.allocate.Statement.statement}
+use Rattle.tp_slots.specs.contracts.cells.allocate.{ended, clauses, Key.name as #self}
 use denote.Struct.Declared as Declared
 use Rattle.std.specs.contracts.result.Result as RS
 use Rattle.std.specs.contracts.alloc.AllocError as AE
-use Rattle.std.proofs.RcSteps.{Good, first_Good}
-use Rattle.tp_slots.proofs.CellsLeases.{uncapped, block_ty, block_size, block_align, args, P, sz, of_room, pointers_from, row_is}
-use Rattle.tp_slots.proofs.CellsMemory.{Cr, Bs, mark, word_made, three_val, three_of}
-use Rattle.tp_slots.proofs.CellSteps.{enters, asked_beside, told, owner_made, mark_put}
-use Rattle.tp_slots.proofs.CellCalls.{takes_all}
 use Rattle.tp_slots.specs.contracts.cells.Deed as D-type
-use Rattle.tp_slots.specs.contracts.cells.allocate.{ended, clauses}
-use Rattle.tp_slots.specs.contracts.cells.allocate.Key.{name as #self}
-use Rattle.tp_slots.proofs.cells.allocate.Statement.{statement}
 use Rattle.tp_slots.proofs.cells.allocate.Code as code
 
 pub allocate_spec : {M : Type 1} → statement M

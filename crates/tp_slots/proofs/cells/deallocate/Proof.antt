@@ -1,25 +1,21 @@
 -- `deallocate` frees a block. Before: a `&` to the allocator, all cells of the block, each empty, and the deed, which has the
 -- right to free it. The cells are joined to room for one array; the raw call takes that room and the right, and returns the
 -- token. Assumes `Logic`.
-use Rattle.tp_slots.proofs.CellWords.{◌≡◌, refl, sym, ap, subst, ◌∙◌, ℕ, ◌*◌, ◌<◌, ◌^◌, arith, List, [], ◌∷◌, ◌++◌, Fn, w64, ty_array}
-use Rattle.tp_slots.proofs.CellWords.{inst_fn, Val, vptr, vint, vunit, tables, id⊢, Fml, Incl-trans, ftrue, fsep, froom, flft, ◌⊑◌, ‵}
-use Rattle.tp_slots.proofs.CellWords.{raw, ◌⊛◌, later, given, at_ret, ◌$◌, !, by, move, keep, use1, split, join, group, rewrite, await}
-use Rattle.tp_slots.proofs.CellWords.{learn, fsplit, feq_i, feq_l, flt_l, whole, sub, stop, fld, bin, unit_lit, size_word, align_word}
-use Rattle.tp_slots.proofs.CellWords.{of_opd, and_then, no_more, first, blocks, exec, returns, alloc_all, pass_all, free_all, look_at}
-use Rattle.tp_slots.proofs.CellWords.{get, get_in, is, sets, lands_last, env, Ptr, ptr_val, in_a_block, nothing, after, word, word-Good}
-use Rattle.tp_slots.proofs.CellWords.{as_raw, El, R, elτ, empty_at, cells_own, row_from, align, capped, capped_fits, calls_at_last}
-use Rattle.tp_slots.proofs.CellWords.{framed, Al, token, Gives, at_gives, Gives-goes, Gives-Gives}
+use Rattle.tp_slots.proofs.{CellCalls.takes_all, CellSteps.{address_is, owner_is, enters, asked_beside}, CellWords.{◌≡◌, refl, sym, ap}}
+use Rattle.tp_slots.proofs.CellWords.{subst, ◌∙◌, ℕ, ◌*◌, ◌<◌, ◌^◌, arith, List, [], ◌∷◌, ◌++◌, Fn, w64, ty_array, inst_fn, Val, vptr, vint}
+use Rattle.tp_slots.proofs.CellWords.{vunit, tables, id⊢, Fml, Incl-trans, ftrue, fsep, froom, flft, ◌⊑◌, ‵, raw, ◌⊛◌, later, given, at_ret}
+use Rattle.tp_slots.proofs.CellWords.{◌$◌, !, by, move, keep, use1, split, join, group, rewrite, await, learn, fsplit, feq_i, feq_l, flt_l}
+use Rattle.tp_slots.proofs.CellWords.{whole, sub, stop, fld, bin, unit_lit, size_word, align_word, of_opd, and_then, no_more, first, blocks}
+use Rattle.tp_slots.proofs.CellWords.{exec, returns, alloc_all, pass_all, free_all, look_at, get, get_in, is, sets, lands_last, env, Ptr}
+use Rattle.tp_slots.proofs.CellWords.{ptr_val, in_a_block, nothing, after, word, word-Good, as_raw, El, R, elτ, empty_at, cells_own}
+use Rattle.tp_slots.proofs.CellWords.{row_from, align, capped, capped_fits, calls_at_last, framed, Al, token, Gives, at_gives, Gives-goes}
+use Rattle.tp_slots.proofs.{CellWords.Gives-Gives, CellsLeases.{uncapped, block_ty, block_size, block_align, args, sz, to_room, no_block}}
+use Rattle.tp_slots.{proofs.{CellsMemory.{Cell, mark}, cells.deallocate.Statement.statement}, specs.contracts.cells.deallocate.ended}
+use Rattle.tp_slots.specs.contracts.cells.deallocate.{clauses, Key.name as #self}
 use lib.Dec.{T}
 use mir.Raw.{raw as bare}
 use mir.Syntax.{ty_unit}
 use mir.Val.{has_ty, WT}
-use Rattle.tp_slots.proofs.CellsLeases.{uncapped, block_ty, block_size, block_align, args, sz, to_room, no_block}
-use Rattle.tp_slots.proofs.CellsMemory.{Cell, mark}
-use Rattle.tp_slots.proofs.CellSteps.{address_is, owner_is, enters, asked_beside}
-use Rattle.tp_slots.proofs.CellCalls.{takes_all}
-use Rattle.tp_slots.specs.contracts.cells.deallocate.{ended, clauses}
-use Rattle.tp_slots.specs.contracts.cells.deallocate.Key.{name as #self}
-use Rattle.tp_slots.proofs.cells.deallocate.Statement.{statement}
 use Rattle.tp_slots.proofs.cells.deallocate.Code as code
 
 pub deallocate_spec : {M : Type 1} → statement M

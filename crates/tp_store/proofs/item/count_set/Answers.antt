@@ -1,7 +1,6 @@
 use Rattle.std.proofs.Common.{false, arith}
-use Rattle.tp_store.proofs.Filling.{count_set-take_more}
+use Rattle.tp_store.proofs.{Filling.count_set-take_more, item.count_set.Goals.{then-is_set, else-is_set}}
 use Rattle.tp_store.proofs.item.count_set.Goals as goal
-use Rattle.tp_store.proofs.item.count_set.Goals.{then-is_set, else-is_set}
 
 pub loop-is_set-preserved : goal.loop-is_set-preserved
 loop-is_set-preserved c =

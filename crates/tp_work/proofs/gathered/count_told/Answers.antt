@@ -1,5 +1,4 @@
-use Rattle.std.proofs.Common.{arith}
-use Rattle.std.proofs.lemmas.Grind.{common_steps}
+use Rattle.std.proofs.{Common.arith, lemmas.Grind.common_steps}
 use Rattle.tp_work.proofs.gathered.count_told.Goals as goal
 
 pub loop-node-preserved : goal.loop-node-preserved

@@ -1,5 +1,4 @@
-use Rattle.std.specs.Prelude.{◌≡◌, ◌≤◌, take}
-use Rattle.std.specs.List.{count_by}
+use Rattle.std.specs.{List.count_by, Prelude.{◌≡◌, ◌≤◌, take}}
 use Rattle.tp_work.proofs.gathered.count_told.Given as goal
 
 abbrev pub invariant-loop-node : goal.invariant-loop-node

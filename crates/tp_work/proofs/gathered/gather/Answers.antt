@@ -1,11 +1,7 @@
-use Rattle.std.proofs.Common.{rules, List, ◌≡◌, ap, sym, subst, ◌∙◌, length}
-use Rattle.std.specs.Prelude.{sum_by}
-use Rattle.std.specs.List.{All, count_by}
+use Rattle.std.{proofs.Common.{rules, List, ◌≡◌, ap, sym, subst, ◌∙◌, length}, specs.{List.{All, count_by}, Prelude.sum_by}}
 use Rattle.tp_board.specs.Numbers.{LinkNumbers, ShareNumbers}
-use Rattle.tp_node.specs.Nodes.{NodeState, counted_of}
-use Rattle.tp_node.specs.PoolLinks.{link_of}
-use Rattle.tp_wave.specs.Generations.{present_events}
-use Rattle.tp_wave.specs.Machine.{pending_at}
+use Rattle.tp_node.specs.{Nodes.{NodeState, counted_of}, PoolLinks.link_of}
+use Rattle.tp_wave.specs.{Generations.present_events, Machine.pending_at}
 use Rattle.tp_work.proofs.Gathering.{All-of_map, done_by, sum_by-map}
 use Rattle.tp_work.proofs.gathered.gather.Goals as goal
 

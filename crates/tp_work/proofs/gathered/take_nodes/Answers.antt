@@ -1,12 +1,7 @@
 use Rattle.std.proofs.Common.{rules, suc, ◌≡◌, ◌+◌, ◌∙◌, refl, ap, arith, length, length-append, vec_len, sym, subst}
-use Rattle.std.specs.Prelude.{List, sum_by}
-use Rattle.std.specs.List.{All}
-use Rattle.std.specs.Vec.Iter.{into_iter_items}
-use Rattle.std.proofs.lemmas.Iterator.Adapters.{YieldsList-from_vec}
-use Rattle.std.proofs.lemmas.Iterator.Consumers.{YieldsList-end}
-use Rattle.std.proofs.lemmas.List.Sums.{sum_by-cons}
-use Rattle.tp_node.specs.Nodes.{NodeState, counted_of}
-use Rattle.tp_node.proofs.Gathering.{mapped-more, results-more, results_of, right-more}
+use Rattle.std.{proofs.lemmas.{Iterator.{Adapters.YieldsList-from_vec, Consumers.YieldsList-end}, List.Sums.sum_by-cons}, specs.List.All}
+use Rattle.std.specs.{Prelude.{List, sum_by}, Vec.Iter.into_iter_items}
+use Rattle.tp_node.{proofs.Gathering.{mapped-more, results-more, results_of, right-more}, specs.Nodes.{NodeState, counted_of}}
 use Rattle.tp_work.proofs.Gathering.{All-of_map}
 use Rattle.tp_work.proofs.gathered.take_nodes.Goals as goal
 

@@ -1,10 +1,8 @@
 use Rattle.std.proofs.Common.{rules, ◌≡◌, ◌∙◌, ◌+◌, ◌-◌, ◌<◌, ℕ, length, map, refl, sym, ap, subst, arith, take, vec_len}
 use Rattle.std.proofs.lemmas.List.{length-drop, length-map, length-reverse}
 use Rattle.tp_base.specs.History.{Event}
-use Rattle.tp_wave.specs.Generations.{ended_generations}
-use Rattle.tp_wave.specs.Machine.{History}
-use Rattle.tp_work.proofs.Living.{oldest, oldest-all, oldest_next, through}
-use Rattle.tp_work.proofs.Walking.{ended-before, sent-few, stages-tell-all}
+use Rattle.tp_wave.specs.{Generations.ended_generations, Machine.History}
+use Rattle.tp_work.proofs.{Living.{oldest, oldest-all, oldest_next, through}, Walking.{ended-before, sent-few, stages-tell-all}}
 use Rattle.tp_work.specs.Lives.{IsFollowed, LivesInEach, sent_in}
 use Rattle.tp_work.proofs.lives.follow_all.Goals as goal
 

@@ -1,6 +1,5 @@
 use Rattle.std.specs.Prelude.{◌≡◌, vec_capacity}
-use Rattle.tp_work.proofs.Living.{oldest}
-use Rattle.tp_work.specs.Lives.{IsFollowed}
+use Rattle.tp_work.{proofs.Living.oldest, specs.Lives.IsFollowed}
 use Rattle.tp_work.proofs.lives.follow_all.Given as goal
 
 abbrev pub invariant-loop-place : goal.invariant-loop-place

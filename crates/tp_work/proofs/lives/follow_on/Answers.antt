@@ -1,8 +1,7 @@
 use Rattle.std.proofs.Common.{◌≡◌, ◌∙◌, ◌+◌, IsFalse, IsTrue, cond, refl, sym, subst}
-use Rattle.tp_wave.specs.Machine.{step_of}
-use Rattle.tp_wave.specs.Steps.{is_reopen, is_send}
-use Rattle.tp_work.proofs.Living.{Told}
-use Rattle.tp_work.proofs.Walking.{followed-on, followed-reopened, goes_on_unless, no_life-on, no_life-reopened, sends_not_unless}
+use Rattle.tp_wave.specs.{Machine.step_of, Steps.{is_reopen, is_send}}
+use Rattle.tp_work.proofs.{Living.Told, Walking.{followed-on, followed-reopened, goes_on_unless, no_life-on, no_life-reopened}}
+use Rattle.tp_work.proofs.Walking.{sends_not_unless}
 use Rattle.tp_work.proofs.lives.follow_on.Goals as goal
 
 pub returns-then-not-all_over-clause-no : goal.returns-then-not-all_over-clause-no

@@ -1,5 +1,4 @@
-use Rattle.std.specs.Prelude.{◌≡◌, map, take}
-use Rattle.std.specs.List.{All, range_with_len}
+use Rattle.std.specs.{List.{All, range_with_len}, Prelude.{◌≡◌, map, take}}
 use Rattle.tp_work.proofs.locks.check_nodes.Given as goal
 
 abbrev pub invariant-loop-place : goal.invariant-loop-place

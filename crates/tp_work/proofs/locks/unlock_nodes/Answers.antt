@@ -1,8 +1,5 @@
-use Rattle.std.proofs.Common.{rules, suc, ◌≡◌, ◌∙◌, ap, sym, arith, length, vec_len}
-use Rattle.std.specs.Vec.Iter.{into_iter_items}
-use Rattle.std.proofs.lemmas.List.{length-map}
-use Rattle.std.proofs.lemmas.Iterator.Adapters.{YieldsList-from_vec}
-use Rattle.std.proofs.lemmas.Iterator.Consumers.{YieldsList-end}
+use Rattle.std.proofs.{Common.{rules, suc, ◌≡◌, ◌∙◌, ap, sym, arith, length, vec_len}, lemmas.Iterator.Adapters.YieldsList-from_vec}
+use Rattle.std.{proofs.lemmas.{Iterator.Consumers.YieldsList-end, List.length-map}, specs.Vec.Iter.into_iter_items}
 use Rattle.tp_work.proofs.locks.unlock_nodes.Goals as goal
 
 pub push_reserved-requires : goal.push_reserved-requires

@@ -1,5 +1,4 @@
-use Rattle.std.specs.Prelude.{◌≡◌, ◌≤◌, ◌+◌, length, vec_capacity, vec_len}
-use Rattle.std.specs.Vec.Iter.{into_iter_items}
+use Rattle.std.specs.{Prelude.{◌≡◌, ◌≤◌, ◌+◌, length, vec_capacity, vec_len}, Vec.Iter.into_iter_items}
 use Rattle.tp_work.proofs.locks.unlock_nodes.Given as goal
 
 abbrev pub invariant-loop-node_slot : goal.invariant-loop-node_slot

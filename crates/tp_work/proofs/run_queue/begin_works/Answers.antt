@@ -1,6 +1,5 @@
 use Rattle.std.proofs.Common.{sym, subst, arith}
-use Rattle.tp_work.specs.RunQueues.{BeginsEach}
-use Rattle.tp_work.proofs.Beginning.{then_one, then_rests}
+use Rattle.tp_work.{proofs.Beginning.{then_one, then_rests}, specs.RunQueues.BeginsEach}
 use Rattle.tp_work.proofs.run_queue.begin_works.Goals as goal
 
 pub returns-in-Ok-None-clause-begun : goal.returns-in-Ok-None-clause-begun

@@ -1,8 +1,5 @@
-use Rattle.std.proofs.Common.{◌≡◌, ◌∙◌, ap, subst, sym}
-use Rattle.std.specs.Prelude.{Option, Some}
-use Rattle.std.specs.Option.{option_or, unwrap_or}
-use Rattle.tp_base.specs.declared.refusal.Refusal.{Refusal}
-use Rattle.tp_base.specs.declared.refusal.Refusal.TheVariants.{Missing}
+use Rattle.std.{proofs.Common.{◌≡◌, ◌∙◌, ap, subst, sym}, specs.{Option.{option_or, unwrap_or}, Prelude.{Option, Some}}}
+use Rattle.tp_base.specs.declared.refusal.Refusal.{Refusal, TheVariants.Missing}
 use Rattle.tp_board.specs.States.{BoardState}
 use Rattle.tp_work.proofs.Reporting.{first_or}
 use Rattle.tp_work.proofs.runner.fault_or_missing.Goals as goal

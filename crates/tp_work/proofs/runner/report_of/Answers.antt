@@ -1,6 +1,5 @@
 use Rattle.std.proofs.Common.{ℕ, sym, subst}
-use Rattle.tp_work.proofs.Reporting.{is_report}
-use Rattle.tp_work.specs.Reports.{IsReportOf}
+use Rattle.tp_work.{proofs.Reporting.is_report, specs.Reports.IsReportOf}
 use Rattle.tp_work.proofs.runner.report_of.Goals as goal
 
 pub returns-in-Ok-clause-report : goal.returns-in-Ok-clause-report

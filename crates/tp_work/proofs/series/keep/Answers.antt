@@ -1,21 +1,11 @@
-use Rattle.std.proofs.Common.{rules, ◌≡◌, ◌∙◌, ◌<◌, ◌∷◌, [], ℕ, sym, ap, subst, inr, length}
-use Rattle.std.specs.Prelude.{MatchOption, vec_len}
-use Rattle.std.specs.List.{All}
-use Rattle.std.proofs.lemmas.List.{length-append}
-use Rattle.std.proofs.lemmas.List.Elements.{All-push}
-use Rattle.std.proofs.lemmas.Option.{MatchOption-at_none}
-use Rattle.std.proofs.lemmas.Result.{IfErr-weaker, IfOk-weaker, on_ok_weaker}
-use Rattle.tp_graph.specs.Found.{HasEachOnce}
-use Rattle.tp_graph.specs.Serial.{Results}
+use Rattle.std.proofs.{Common.{rules, ◌≡◌, ◌∙◌, ◌<◌, ◌∷◌, [], ℕ, sym, ap, subst, inr, length}, lemmas.List.length-append}
+use Rattle.std.proofs.lemmas.{List.Elements.All-push, Option.MatchOption-at_none, Result.{IfErr-weaker, IfOk-weaker, on_ok_weaker}}
+use Rattle.std.specs.{List.All, Prelude.{MatchOption, vec_len}}
+use Rattle.tp_graph.specs.{Found.HasEachOnce, Serial.Results}
 use Rattle.tp_node.specs.declared.pool.Pool.{Pool}
-use Rattle.tp_wave.specs.Generations.{present_events}
-use Rattle.tp_wave.specs.Machine.{History}
-use Rattle.tp_work.proofs.Reporting.{lack_by_check}
-use Rattle.tp_work.proofs.Rounds.{at_none, fault_of_lack, missing_or_memory, series_fault}
-use Rattle.tp_work.specs.Lives.{generations}
-use Rattle.tp_work.specs.Outcomes.{Lacks}
-use Rattle.tp_work.specs.Series.{IsKept}
-use Rattle.tp_work.specs.declared.series.Round.{Round}
+use Rattle.tp_wave.specs.{Generations.present_events, Machine.History}
+use Rattle.tp_work.proofs.{Reporting.lack_by_check, Rounds.{at_none, fault_of_lack, missing_or_memory, series_fault}}
+use Rattle.tp_work.specs.{Lives.generations, Outcomes.Lacks, Series.IsKept, declared.series.Round.Round}
 use Rattle.tp_work.proofs.series.keep.Goals as goal
 
 pub returns-clause-nodes : goal.returns-clause-nodes

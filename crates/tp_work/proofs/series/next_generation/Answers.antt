@@ -1,6 +1,5 @@
 use Rattle.std.proofs.Common.{length, arith}
-use Rattle.tp_work.proofs.Rounds.{at_some, series_fault}
-use Rattle.tp_work.specs.Outcomes.{IsAnswer}
+use Rattle.tp_work.{proofs.Rounds.{at_some, series_fault}, specs.Outcomes.IsAnswer}
 use Rattle.tp_work.proofs.series.next_generation.Goals as goal
 
 pub returns-in-Err-clause-fault : goal.returns-in-Err-clause-fault

@@ -1,17 +1,10 @@
-use Rattle.std.proofs.Common.{◌∙◌, ◌<◌, ◌≤◌, ◌≡◌, Err, Ok, sym, ap, subst, arith, inl, length}
-use Rattle.std.proofs.lemmas.Result.{IfErr-weaker}
-use Rattle.tp_base.specs.declared.limits.TheConstants.{MAX_STEPS}
-use Rattle.tp_base.specs.declared.refusal.Refusal.TheVariants.{HistoryFull}
+use Rattle.std.proofs.{Common.{◌∙◌, ◌<◌, ◌≤◌, ◌≡◌, Err, Ok, sym, ap, subst, arith, inl, length}, lemmas.Result.IfErr-weaker}
+use Rattle.tp_base.specs.declared.{limits.TheConstants.MAX_STEPS, refusal.Refusal.TheVariants.HistoryFull}
 use Rattle.tp_node.specs.declared.pool.Pool.{Pool}
-use Rattle.tp_wave.specs.Generations.{present_events}
-use Rattle.tp_wave.specs.Machine.{History}
-use Rattle.tp_work.proofs.Reporting.{ended_of_over}
-use Rattle.tp_work.proofs.Rounds.{at_none, fault_weaker, full_refusal, full_refused, not_reopened, refused_by, series_fault, whole-reopened}
-use Rattle.tp_work.specs.Lives.{generations}
-use Rattle.tp_work.specs.Outcomes.{IsFaultOf}
-use Rattle.tp_work.specs.Places.{IsWhole}
-use Rattle.tp_work.specs.Reports.{told_of_end}
-use Rattle.tp_work.specs.Series.{IsNotReopened}
+use Rattle.tp_wave.specs.{Generations.present_events, Machine.History}
+use Rattle.tp_work.proofs.{Reporting.ended_of_over, Rounds.{at_none, fault_weaker, full_refusal, full_refused, not_reopened, refused_by}}
+use Rattle.tp_work.{proofs.Rounds.{series_fault, whole-reopened}, specs.{Lives.generations, Outcomes.IsFaultOf, Places.IsWhole}}
+use Rattle.tp_work.specs.{Reports.told_of_end, Series.IsNotReopened}
 use Rattle.tp_work.proofs.series.reopen.Goals as goal
 
 pub keep-requires-clause-whole : goal.keep-requires-clause-whole

@@ -1,7 +1,5 @@
-use Rattle.std.proofs.Common.{ℕ, ◌∙◌, ◌*◌, ◌<◌, ap, sym, subst}
-use Rattle.std.proofs.lemmas.Result.{IfErr-weaker}
-use Rattle.tp_work.proofs.Rounds.{both_ok}
-use Rattle.tp_work.specs.Series.{AddsKept, IsSeriesFault}
+use Rattle.std.proofs.{Common.{ℕ, ◌∙◌, ◌*◌, ◌<◌, ap, sym, subst}, lemmas.Result.IfErr-weaker}
+use Rattle.tp_work.{proofs.Rounds.both_ok, specs.Series.{AddsKept, IsSeriesFault}}
 use Rattle.tp_work.proofs.series.run_and_reopen.Goals as goal
 
 pub returns-in-Ok-clause-kept : goal.returns-in-Ok-clause-kept

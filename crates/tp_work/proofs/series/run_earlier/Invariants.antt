@@ -1,5 +1,4 @@
-use Rattle.std.specs.Prelude.{◌≡◌, ◌+◌, ◌-◌, ◌*◌, vec_capacity, vec_len}
-use Rattle.std.specs.List.{All}
+use Rattle.std.specs.{List.All, Prelude.{◌≡◌, ◌+◌, ◌-◌, ◌*◌, vec_capacity, vec_len}}
 use Rattle.tp_work.specs.Series.{IsKept}
 use Rattle.tp_work.proofs.series.run_earlier.Given as goal
 

@@ -1,7 +1,5 @@
 use Rattle.std.proofs.lemmas.Result.{IfErr-weaker}
-use Rattle.tp_work.proofs.Rounds.{at_none, made_is, made_or_lack, match_err, match_ok}
-use Rattle.tp_work.specs.Outcomes.{Lacks}
-use Rattle.tp_work.specs.Series.{IsDoneOnceInEach}
+use Rattle.tp_work.{proofs.Rounds.{at_none, made_is, made_or_lack, match_err, match_ok}, specs.{Outcomes.Lacks, Series.IsDoneOnceInEach}}
 use Rattle.tp_work.proofs.series.sent_of.Goals as goal
 
 pub returns-in-None-clause-once : goal.returns-in-None-clause-once

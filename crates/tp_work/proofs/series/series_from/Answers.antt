@@ -1,10 +1,7 @@
-use Rattle.std.proofs.Common.{rules, ◌≡◌, ◌∙◌, ◌+◌, ℕ, IsTrue, length, map, refl, reverse, ap, subst, vec_len}
-use Rattle.std.proofs.lemmas.List.{length-map, length-reverse}
-use Rattle.tp_work.proofs.Rounds.{is_series}
-use Rattle.tp_work.specs.Lives.{LivesInEach, generations, sent_in}
+use Rattle.std.proofs.{Common.{rules, ◌≡◌, ◌∙◌, ◌+◌, ℕ, IsTrue, length, map, refl, reverse, ap, subst, vec_len}, lemmas.List.length-map}
+use Rattle.std.proofs.lemmas.List.{length-reverse}
 use Rattle.tp_graph.specs.Found.{HasEachOnce}
-use Rattle.tp_work.specs.Series.{IsKept}
-use Rattle.tp_work.specs.declared.series.Round.{Round}
+use Rattle.tp_work.{proofs.Rounds.is_series, specs.{Lives.{LivesInEach, generations, sent_in}, Series.IsKept, declared.series.Round.Round}}
 use Rattle.tp_work.proofs.series.series_from.Goals as goal
 
 pub told_rounds-requires-clause-sent : goal.told_rounds-requires-clause-sent

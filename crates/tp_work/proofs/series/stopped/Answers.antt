@@ -1,8 +1,6 @@
-use Rattle.std.proofs.Common.{◌≡◌, subst, sym}
-use Rattle.std.specs.Prelude.{length}
+use Rattle.std.{proofs.Common.{◌≡◌, subst, sym}, specs.Prelude.length}
 use Rattle.tp_base.specs.declared.refusal.Refusal.{Refusal}
-use Rattle.tp_work.specs.Outcomes.{IsAnswer}
-use Rattle.tp_work.proofs.Rounds.{fault_weaker}
+use Rattle.tp_work.{proofs.Rounds.fault_weaker, specs.Outcomes.IsAnswer}
 use Rattle.tp_work.proofs.series.stopped.Goals as goal
 
 pub returns : goal.returns

@@ -1,6 +1,5 @@
 use Rattle.std.proofs.Common.{◌≡◌, ℕ, subst}
-use Rattle.tp_work.specs.Outcomes.{IsFaultOf}
-use Rattle.tp_work.proofs.Rounds.{fault_of_gathered}
+use Rattle.tp_work.{proofs.Rounds.fault_of_gathered, specs.Outcomes.IsFaultOf}
 use Rattle.tp_work.proofs.series.stopped_for.Goals as goal
 
 pub returns : goal.returns

@@ -1,6 +1,5 @@
 use Rattle.std.specs.Prelude.{ℕ, ◌≡◌, ◌<◌, ◌≤◌, length, slice_index, slice_index_or}
-use Rattle.tp_work.specs.Series.{with_messages}
-use Rattle.tp_work.specs.declared.series.Round.{Round}
+use Rattle.tp_work.specs.{Series.with_messages, declared.series.Round.Round}
 use Rattle.tp_work.proofs.series.tell.Given as goal
 
 abbrev pub invariant-loop-place : goal.invariant-loop-place

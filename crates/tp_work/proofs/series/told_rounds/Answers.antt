@@ -1,11 +1,6 @@
-use Rattle.std.proofs.Common.{rules, ◌≡◌, ◌∙◌, ◌+◌, [], ◌∷◌, length, map, sym, ap, subst, arith, vec_len}
-use Rattle.std.specs.List.{All}
-use Rattle.std.specs.Vec.{with_items}
-use Rattle.std.proofs.lemmas.List.{length-append, with_items_is}
-use Rattle.std.proofs.lemmas.List.Elements.{All-push}
-use Rattle.tp_work.proofs.Rounds.{kept-told, messages-told}
-use Rattle.tp_work.specs.Series.{IsKept}
-use Rattle.tp_work.specs.declared.series.Round.{Round}
+use Rattle.std.proofs.{Common.{rules, ◌≡◌, ◌∙◌, ◌+◌, [], ◌∷◌, length, map, sym, ap, subst, arith, vec_len}, lemmas.List.length-append}
+use Rattle.std.{proofs.lemmas.List.{with_items_is, Elements.All-push}, specs.{List.All, Vec.with_items}}
+use Rattle.tp_work.{proofs.Rounds.{kept-told, messages-told}, specs.{Series.IsKept, declared.series.Round.Round}}
 use Rattle.tp_work.proofs.series.told_rounds.Goals as goal
 
 pub returns-clause-kept : goal.returns-clause-kept

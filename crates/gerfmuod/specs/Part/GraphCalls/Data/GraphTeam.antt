@@ -2,8 +2,7 @@
 -- result is, and what it does. What a call does to the team is in the contracts of `tp_team`.
 pub mod Words
 pub use Words.*
-use Rattle.gerfmuod.specs.declared.graph.slot.GraphSlot.TheInside.{Inside}
-use Rattle.gerfmuod.specs.declared.graph.slot.TheConstants.{MARK}
+use Rattle.gerfmuod.specs.declared.graph.slot.{GraphSlot.TheInside.Inside, TheConstants.MARK}
 
 -- A graph in the caller's memory: whether it is open, and which tasks accessed its data handles.
 pub record GraphState : Type 0 where

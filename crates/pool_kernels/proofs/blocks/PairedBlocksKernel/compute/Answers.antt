@@ -1,8 +1,7 @@
+use Rattle.pool_blocks.specs.Lists.{at}
+use Rattle.pool_kernels.{proofs.PairedRows.pair_of_two, specs.Digits.digit}
 use Rattle.std.proofs.Common.{◌≡◌, ◌-◌, ℤ, List, Option, MatchResult, Some, get_or, ap, sym, ◌∙◌, subst}
 use Rattle.tp_graph.specs.Values.{IsRefusal}
-use Rattle.pool_blocks.specs.Lists.{at}
-use Rattle.pool_kernels.specs.Digits.{digit}
-use Rattle.pool_kernels.proofs.PairedRows.{pair_of_two}
 use Rattle.pool_kernels.proofs.blocks.PairedBlocksKernel.compute.Goals as goal
 
 pub returns-in-len2 : goal.returns-in-len2

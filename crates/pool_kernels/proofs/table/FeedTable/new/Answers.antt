@@ -1,10 +1,6 @@
-use Rattle.std.proofs.Common.{◌≡◌, ◌≤◌, ◌+◌, ◌-◌, min, sym, subst, arith, rules}
-use Rattle.std.proofs.lemmas.Result.{err_from_is_err_and}
-use Rattle.pool_kernels.proofs.Events.{rows_fault}
-use Rattle.pool_kernels.proofs.Noted.{kinds_are, none_wide}
-use Rattle.pool_kernels.specs.Faults.{IsTableFault}
-use Rattle.pool_kernels.specs.Grids.{Relation}
+use Rattle.pool_kernels.{proofs.{Events.rows_fault, Noted.{kinds_are, none_wide}}, specs.{Faults.IsTableFault, Grids.Relation}}
 use Rattle.pool_kernels.specs.Kinds.{IsRowsFault}
+use Rattle.std.proofs.{Common.{◌≡◌, ◌≤◌, ◌+◌, ◌-◌, min, sym, subst, arith, rules}, lemmas.Result.err_from_is_err_and}
 use Rattle.pool_kernels.proofs.table.FeedTable.new.Goals as goal
 
 pub returns-in_err-kinds-clause-refused : goal.returns-in_err-kinds-clause-refused

@@ -1,6 +1,5 @@
-use Rattle.pool_samples.specs.Products.{product_graph}
 use Rattle.pool_samples.proofs.Keeping.{◌≡◌, ◌/◌, ◌%◌, ℕ, ℤ, List, [], ◌∷◌, Some, length, sym, ap, ◌∙◌, arith, rules, take_at, outcome}
-use Rattle.pool_samples.proofs.Keeping.{tile, added, tile_added, one_item}
+use Rattle.pool_samples.{proofs.Keeping.{tile, added, tile_added, one_item}, specs.Products.product_graph}
 use Rattle.pool_samples.proofs.product.ProductGraph.body.Goals as goal
 
 -- the result of the rule on one input is the sum of the two lists that the call gets

@@ -1,7 +1,5 @@
-use Rattle.std.proofs.Common.{◌++◌, ◌∙◌, Some, reverse, slice_get, sym, ap}
-use Rattle.std.proofs.lemmas.List.{reverse-reverse}
-use Rattle.tp_base.specs.History.{Recorded}
-use Rattle.tp_base.specs.Pieces.{joined}
+use Rattle.std.proofs.{Common.{◌++◌, ◌∙◌, Some, reverse, slice_get, sym, ap}, lemmas.List.reverse-reverse}
+use Rattle.tp_base.specs.{History.Recorded, Pieces.joined}
 use Rattle.tp_base.proofs.history.History.at.Goals as goal
 
 pub returns-in-Some : goal.returns-in-Some

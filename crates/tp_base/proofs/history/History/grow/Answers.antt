@@ -1,6 +1,5 @@
 use Rattle.std.proofs.Common.{length, ap, arith, rules}
-use Rattle.tp_base.specs.History.{Recorded}
-use Rattle.tp_base.proofs.Pieces.{counted}
+use Rattle.tp_base.{proofs.Pieces.counted, specs.History.Recorded}
 use Rattle.tp_base.proofs.history.History.grow.Goals as goal
 
 pub add_pieces-requires-clause-few : goal.add_pieces-requires-clause-few

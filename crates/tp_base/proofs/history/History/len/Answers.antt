@@ -1,6 +1,5 @@
 use Rattle.std.proofs.Common.{length, ap, arith}
-use Rattle.tp_base.specs.History.{Recorded}
-use Rattle.tp_base.proofs.Pieces.{counted}
+use Rattle.tp_base.{proofs.Pieces.counted, specs.History.Recorded}
 use Rattle.tp_base.proofs.history.History.len.Goals as goal
 
 pub returns : goal.returns

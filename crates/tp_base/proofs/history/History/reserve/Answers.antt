@@ -1,7 +1,5 @@
 use Rattle.std.proofs.Common.{◌∙◌, ◌++◌, ◌+◌, ◌%◌, length, reverse, sym, ap, rules}
-use Rattle.tp_base.specs.History.{Recorded}
-use Rattle.tp_base.specs.Pieces.{joined}
-use Rattle.tp_base.proofs.Pieces.{whole_pieces}
+use Rattle.tp_base.{proofs.Pieces.whole_pieces, specs.{History.Recorded, Pieces.joined}}
 use Rattle.tp_base.proofs.history.History.reserve.Goals as goal
 
 pub returns-then-additional-self-clause-keeps : goal.returns-then-additional-self-clause-keeps

@@ -1,7 +1,5 @@
 use Rattle.std.proofs.Common.{ap, rules, tests}
-use Rattle.tp_board.specs.States.{BoardState}
-use Rattle.tp_board.proofs.Further.{plain_follows, within_more}
-use Rattle.tp_board.proofs.Naming.{plain_few, plain_kind}
+use Rattle.tp_board.{proofs.{Further.{plain_follows, within_more}, Naming.{plain_few, plain_kind}}, specs.States.BoardState}
 use Rattle.tp_board.proofs.board.Board.append.Goals as goal
 
 pub add-requires-clause-few : goal.add-requires-clause-few

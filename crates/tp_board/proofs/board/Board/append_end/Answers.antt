@@ -1,7 +1,6 @@
 use Rattle.std.proofs.Common.{ap, arith}
 use Rattle.tp_base.specs.declared.step.Step.TheVariants.{MessageEnd}
-use Rattle.tp_board.specs.States.{BoardState}
-use Rattle.tp_board.proofs.Further.{end_follows, few_generations, within_more}
+use Rattle.tp_board.{proofs.Further.{end_follows, few_generations, within_more}, specs.States.BoardState}
 use Rattle.tp_board.proofs.board.Board.append_end.Goals as goal
 
 pub add-requires-clause-few : goal.add-requires-clause-few

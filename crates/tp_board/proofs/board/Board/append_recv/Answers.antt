@@ -1,7 +1,6 @@
 use Rattle.std.proofs.Common.{ap, arith}
 use Rattle.tp_base.specs.declared.step.Step.TheVariants.{Recv}
-use Rattle.tp_board.specs.States.{BoardState}
-use Rattle.tp_board.proofs.Further.{few_generations, recv_follows, within_more}
+use Rattle.tp_board.{proofs.Further.{few_generations, recv_follows, within_more}, specs.States.BoardState}
 use Rattle.tp_board.proofs.board.Board.append_recv.Goals as goal
 
 pub add-requires-clause-few : goal.add-requires-clause-few

@@ -1,7 +1,6 @@
 use Rattle.std.proofs.Common.{ap, ◌∙◌, arith, rules, tests}
 use Rattle.tp_base.specs.declared.step.Step.TheVariants.{Send}
-use Rattle.tp_board.specs.States.{BoardState}
-use Rattle.tp_board.proofs.Further.{few_generations, send_follows, within_more}
+use Rattle.tp_board.{proofs.Further.{few_generations, send_follows, within_more}, specs.States.BoardState}
 use Rattle.tp_board.proofs.board.Board.append_send.Goals as goal
 
 pub add_send-requires-clause-few : goal.add_send-requires-clause-few

@@ -1,10 +1,6 @@
-use Rattle.std.proofs.Common.{◌≡◌, ◌∙◌, ap, get_or, set, arith}
-use Rattle.std.proofs.lemmas.List.{set-get_or, take_all}
-use Rattle.std.proofs.lemmas.List.Elements.{All-more}
-use Rattle.tp_board.specs.Numbers.{ShareNumbers}
-use Rattle.tp_board.specs.States.{BoardState}
-use Rattle.tp_wave.specs.Generations.{present_events}
-use Rattle.tp_wave.specs.Machine.{pending_at}
+use Rattle.std.proofs.{Common.{◌≡◌, ◌∙◌, ap, get_or, set, arith}, lemmas.List.{set-get_or, take_all, Elements.All-more}}
+use Rattle.tp_board.specs.{Numbers.ShareNumbers, States.BoardState}
+use Rattle.tp_wave.specs.{Generations.present_events, Machine.pending_at}
 use Rattle.tp_board.proofs.board.Board.audit_each.Goals as goal
 
 pub loop-next-preserved : goal.loop-next-preserved

@@ -1,5 +1,4 @@
-use Rattle.std.proofs.Common.{◌≡◌, take}
-use Rattle.std.specs.List.{All}
+use Rattle.std.{proofs.Common.{◌≡◌, take}, specs.List.All}
 use Rattle.tp_board.specs.Numbers.{ShareNumbers}
 use Rattle.tp_board.proofs.board.Board.audit_each.Given as goal
 

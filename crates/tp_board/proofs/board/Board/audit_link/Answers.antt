@@ -1,7 +1,6 @@
 use Rattle.std.proofs.Common.{arith}
+use Rattle.tp_board.proofs.{Counting.under_way-le, Further.told}
 use Rattle.tp_wave.specs.Generations.{present_events}
-use Rattle.tp_board.proofs.Counting.{under_way-le}
-use Rattle.tp_board.proofs.Further.{told}
 use Rattle.tp_board.proofs.board.Board.audit_link.Goals as goal
 
 pub returns-clause-under : goal.returns-clause-under

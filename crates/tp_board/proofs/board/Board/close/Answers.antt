@@ -1,7 +1,6 @@
 use Rattle.std.proofs.Common.{◌∙◌, sym, arith}
-use Rattle.tp_wave.specs.Generations.{present}
-use Rattle.tp_wave.specs.Machine.{steps_of}
 use Rattle.tp_board.proofs.Further.{ended_told, quiet_out, told}
+use Rattle.tp_wave.specs.{Generations.present, Machine.steps_of}
 use Rattle.tp_board.proofs.board.Board.close.Goals as goal
 
 pub overflow_sub-result : goal.overflow_sub-result

@@ -1,7 +1,6 @@
 use Rattle.std.proofs.Common.{sym, ◌∙◌}
-use Rattle.tp_wave.specs.Generations.{present}
-use Rattle.tp_wave.specs.Machine.{steps_of}
 use Rattle.tp_board.proofs.Routing.{any_to}
+use Rattle.tp_wave.specs.{Generations.present, Machine.steps_of}
 use Rattle.tp_board.proofs.board.Board.gave.Goals as goal
 
 pub returns-clause-to : goal.returns-clause-to

@@ -1,16 +1,9 @@
-use Rattle.std.proofs.Common.{◌≡◌, Option, Result, Ok, Err, ap, sym, refl, ◌∙◌, arith, rules, tests}
+use Rattle.std.proofs.{Common.{◌≡◌, Option, Result, Ok, Err, ap, sym, refl, ◌∙◌, arith, rules, tests}, lemmas.Result.err_from_is_err_and}
 use Rattle.std.specs.Result.{result_err}
-use Rattle.std.proofs.lemmas.Result.{err_from_is_err_and}
-use Rattle.tp_base.specs.declared.refusal.Refusal.{Refusal}
-use Rattle.tp_base.specs.declared.refusal.Refusal.TheVariants.{NotIdle}
-use Rattle.tp_base.specs.declared.step.Step.TheVariants.{Give}
-use Rattle.tp_base.specs.declared.Sums.{Sums}
-use Rattle.tp_wave.specs.Generations.{present_events}
-use Rattle.tp_wave.specs.Machine.{pending_at, steps_of}
-use Rattle.tp_board.specs.States.{BoardState}
-use Rattle.tp_board.specs.declared.counts.NodeCounts.{NodeCounts}
-use Rattle.tp_board.proofs.Further.{sums_now, wave_follows}
-use Rattle.tp_board.proofs.Answering.{passed, refused, visit_rest, when_active, when_idle}
+use Rattle.tp_base.specs.declared.{Sums.Sums, refusal.Refusal.{Refusal, TheVariants.NotIdle}, step.Step.TheVariants.Give}
+use Rattle.tp_board.proofs.{Answering.{passed, refused, visit_rest, when_active, when_idle}, Further.{sums_now, wave_follows}}
+use Rattle.tp_board.specs.{States.BoardState, declared.counts.NodeCounts.NodeCounts}
+use Rattle.tp_wave.specs.{Generations.present_events, Machine.{pending_at, steps_of}}
 use Rattle.tp_board.proofs.board.Board.give.Goals as goal
 
 pub returns-in_err-sums-clause-refusal : goal.returns-in_err-sums-clause-refusal

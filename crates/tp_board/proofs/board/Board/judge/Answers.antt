@@ -1,16 +1,9 @@
-use Rattle.std.proofs.Common.{Bool, List, [], ◌∷◌, Err, ap, refl, sym, ◌∙◌}
-use Rattle.std.specs.Prelude.{if◌then◌else◌}
-use Rattle.std.specs.Result.{result_err}
-use Rattle.std.proofs.lemmas.Result.{err_from_is_err_and}
-use Rattle.tp_base.specs.declared.step.Step.TheVariants.{Judge}
-use Rattle.tp_base.specs.Checks.{Check}
-use Rattle.tp_board.specs.States.{BoardState, full_check}
-use Rattle.tp_wave.specs.Generations.{present_events}
-use Rattle.tp_wave.specs.Machine.{steps_of}
-use Rattle.tp_wave.proofs.Generations.{steps-present}
-use Rattle.tp_wave.proofs.Judged.{two_tell_law}
-use Rattle.tp_board.proofs.Answering.{passed, passed_ok, refused}
-use Rattle.tp_board.proofs.Further.{judged_ended, judged_number, judged_over, not_ended, quiet_judged, wave_follows}
+use Rattle.std.proofs.{Common.{Bool, List, [], ◌∷◌, Err, ap, refl, sym, ◌∙◌}, lemmas.Result.err_from_is_err_and}
+use Rattle.std.specs.{Prelude.if◌then◌else◌, Result.result_err}
+use Rattle.tp_base.specs.{Checks.Check, declared.step.Step.TheVariants.Judge}
+use Rattle.tp_board.proofs.{Answering.{passed, passed_ok, refused}, Further.{judged_ended, judged_number, judged_over, not_ended}}
+use Rattle.tp_board.{proofs.Further.{quiet_judged, wave_follows}, specs.States.{BoardState, full_check}}
+use Rattle.tp_wave.{proofs.{Generations.steps-present, Judged.two_tell_law}, specs.{Generations.present_events, Machine.steps_of}}
 use Rattle.tp_board.proofs.board.Board.judge.Goals as goal
 
 pub returns-in_err-ended_with-clause-refusal : goal.returns-in_err-ended_with-clause-refusal

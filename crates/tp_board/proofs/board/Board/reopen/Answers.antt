@@ -1,15 +1,8 @@
 use Rattle.std.proofs.Common.{ℕ, ◌≡◌, List, [], ◌∷◌, ◌++◌, ap, arith, drop, length, map, refl, sym, subst, take, ◌∙◌, IsTrue}
-use Rattle.std.proofs.Math.Seq.{take-append_seam}
-use Rattle.std.proofs.lemmas.List.Elements.{All-cons, All-nil, All-same}
-use Rattle.std.specs.List.{All}
-use Rattle.tp_board.specs.Numbers.{ShareNumbers, first_numbers}
-use Rattle.tp_board.specs.Reopening.{begun_anew}
+use Rattle.std.{proofs.{Math.Seq.take-append_seam, lemmas.List.Elements.{All-cons, All-nil, All-same}}, specs.List.All}
+use Rattle.tp_board.{proofs.Further.{reopened, told}, specs.{Numbers.{ShareNumbers, first_numbers}, Reopening.begun_anew}}
 use Rattle.tp_board.specs.States.{BoardState}
-use Rattle.tp_board.proofs.Further.{reopened, told}
-use Rattle.tp_wave.specs.Generations.{present}
-use Rattle.tp_wave.specs.Machine.{steps_of}
-use Rattle.tp_wave.specs.Sums.{is_ended}
-use Rattle.tp_wave.specs.Wave.{Follows}
+use Rattle.tp_wave.specs.{Generations.present, Machine.steps_of, Sums.is_ended, Wave.Follows}
 use Rattle.tp_board.proofs.board.Board.reopen.Goals as goal
 
 -- a list that was borrowed and came back unchanged

@@ -1,12 +1,7 @@
-use Rattle.std.proofs.Common.{List, [], ◌∷◌, Result, Ok, Err, ap, refl, sym, ◌∙◌, rules, tests}
+use Rattle.std.proofs.{Common.{List, [], ◌∷◌, Result, Ok, Err, ap, refl, sym, ◌∙◌, rules, tests}, lemmas.Result.err_from_is_err_and}
 use Rattle.std.specs.Result.{result_err}
-use Rattle.std.proofs.lemmas.Result.{err_from_is_err_and}
-use Rattle.tp_base.specs.declared.refusal.Refusal.{Refusal}
-use Rattle.tp_base.specs.declared.step.Step.TheVariants.{Up}
-use Rattle.tp_base.specs.Checks.{Check}
-use Rattle.tp_board.specs.States.{BoardState, full_check}
-use Rattle.tp_board.proofs.Answering.{passed, refused}
-use Rattle.tp_board.proofs.Further.{wave_follows}
+use Rattle.tp_base.specs.{Checks.Check, declared.{refusal.Refusal.Refusal, step.Step.TheVariants.Up}}
+use Rattle.tp_board.{proofs.{Answering.{passed, refused}, Further.wave_follows}, specs.States.{BoardState, full_check}}
 use Rattle.tp_board.proofs.board.Board.up.Goals as goal
 
 pub returns-in_err-up-clause-refusal : goal.returns-in_err-up-clause-refusal

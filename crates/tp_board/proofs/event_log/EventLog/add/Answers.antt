@@ -1,8 +1,6 @@
 use Rattle.std.proofs.Common.{refl, arith}
-use Rattle.tp_board.specs.States.{BoardState}
-use Rattle.tp_wave.specs.Generations.{present_events}
-use Rattle.tp_wave.proofs.Generations.{length-present}
-use Rattle.tp_board.proofs.Answering.{full}
+use Rattle.tp_board.{proofs.Answering.full, specs.States.BoardState}
+use Rattle.tp_wave.{proofs.Generations.length-present, specs.Generations.present_events}
 use Rattle.tp_board.proofs.event_log.EventLog.add.Goals as goal
 
 pub follow-requires-clause-few : goal.follow-requires-clause-few

@@ -1,12 +1,8 @@
 use Rattle.std.proofs.Common.{◌≤◌, ◌<◌, ap, ◌∙◌, refl, arith}
-use Rattle.tp_wave.specs.Generations.{generation, present, present_events}
-use Rattle.tp_wave.specs.Steps.{count}
-use Rattle.tp_wave.specs.Machine.{steps_of}
-use Rattle.tp_wave.proofs.Generations.{length-present}
-use Rattle.tp_board.specs.Numbers.{is_send}
+use Rattle.tp_board.{proofs.{Counting.count_present-le, Routing.{fresh, event_log_send, event_log_sends}}, specs.Numbers.is_send}
 use Rattle.tp_board.specs.States.{BoardState}
-use Rattle.tp_board.proofs.Counting.{count_present-le}
-use Rattle.tp_board.proofs.Routing.{fresh, event_log_send, event_log_sends}
+use Rattle.tp_wave.{proofs.Generations.length-present, specs.{Generations.{generation, present, present_events}, Machine.steps_of}}
+use Rattle.tp_wave.specs.Steps.{count}
 use Rattle.tp_board.proofs.event_log.EventLog.add_send.Goals as goal
 
 pub overflow_cast-message : goal.overflow_cast-message

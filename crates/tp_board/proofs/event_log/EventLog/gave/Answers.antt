@@ -1,9 +1,6 @@
-use Rattle.std.proofs.Common.{ap, ◌∙◌, reverse}
-use Rattle.std.specs.Prelude.{slice_get}
-use Rattle.tp_wave.specs.Generations.{present}
-use Rattle.tp_wave.specs.Machine.{steps_of}
-use Rattle.tp_board.specs.Routes.{is_route}
-use Rattle.tp_board.proofs.Routing.{gave_by}
+use Rattle.std.{proofs.Common.{ap, ◌∙◌, reverse}, specs.Prelude.slice_get}
+use Rattle.tp_board.{proofs.Routing.gave_by, specs.Routes.is_route}
+use Rattle.tp_wave.specs.{Generations.present, Machine.steps_of}
 use Rattle.tp_board.proofs.event_log.EventLog.gave.Goals as goal
 
 pub returns : goal.returns

@@ -1,6 +1,5 @@
 use Rattle.std.proofs.Common.{inr, arith, rules}
-use Rattle.tp_board.proofs.Answering.{each_error}
-use Rattle.tp_board.proofs.Routing.{event_log_sends, past_messages}
+use Rattle.tp_board.proofs.{Answering.each_error, Routing.{event_log_sends, past_messages}}
 use Rattle.tp_board.proofs.event_log.EventLog.reserve.Goals as goal
 
 pub invariant_of-self-2 : goal.invariant_of-self-2

@@ -1,7 +1,5 @@
 use Rattle.std.proofs.Common.{rules, ◌≡◌, Result, Err, IfErr, subst, sym}
-use Rattle.tp_base.specs.declared.ids.PoolId.{PoolId}
-use Rattle.tp_base.specs.declared.refusal.Refusal.{Refusal}
-use Rattle.tp_base.specs.declared.refusal.Refusal.TheVariants.{BadSpec}
+use Rattle.tp_base.specs.declared.{ids.PoolId.PoolId, refusal.Refusal.{Refusal, TheVariants.BadSpec}}
 use Rattle.tp_cli.specs.Registry.{IsUnregistered}
 use Rattle.tp_cli.proofs.registry.Registry.register.Goals as goal
 

@@ -1,6 +1,5 @@
 use Rattle.std.proofs.Common.{subst, sym}
-use Rattle.tp_cli.proofs.Ending.{unanswered}
-use Rattle.tp_cli.specs.Texts.{IsTextTo}
+use Rattle.tp_cli.{proofs.Ending.unanswered, specs.Texts.IsTextTo}
 use Rattle.tp_cli.proofs.text.TextKind.answer.Goals as goal
 
 pub returns-in-Script-clause-why : goal.returns-in-Script-clause-why

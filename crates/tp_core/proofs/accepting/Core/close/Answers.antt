@@ -1,6 +1,5 @@
-use Rattle.tp_core.proofs.accepting.Core.close.Goals.{After-make_room}
 use Rattle.tp_core.proofs.Lemmas.{arith, refl, ◌∙◌, ActionClose, Named, present, MayCome, IsLawful, accepted, places_next, agree_next}
-use Rattle.tp_core.proofs.Lemmas.{numbers_written, MayClose, may_close, named_closed}
+use Rattle.tp_core.proofs.{Lemmas.{numbers_written, MayClose, may_close, named_closed}, accepting.Core.close.Goals.After-make_room}
 use Rattle.tp_core.proofs.accepting.Core.close.Goals as goal
 
 may : (c : After-make_room) → MayClose c.self.inside c.args.node.0 (Named c.args.action.0)

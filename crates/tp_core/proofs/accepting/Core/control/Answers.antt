@@ -1,6 +1,5 @@
-use Rattle.tp_core.proofs.accepting.Core.control.Goals.{After-make_room}
 use Rattle.tp_core.proofs.Lemmas.{◌≡◌, None, accepted, arith, common_steps, err_from_is_err_and, refusal_of, sym, MayCome, agree_control}
-use Rattle.tp_core.proofs.Lemmas.{by_wave, exact, no_room, taken, waves_of}
+use Rattle.tp_core.proofs.{Lemmas.{by_wave, exact, no_room, taken, waves_of}, accepting.Core.control.Goals.After-make_room}
 use Rattle.tp_core.proofs.accepting.Core.control.Goals as goal
 
 none : (c : After-make_room) → refusal_of c.self.inside.nodes (accepted c.self.inside).steps c.args.step ≡ None

@@ -1,7 +1,6 @@
-use Rattle.tp_core.proofs.accepting.Core.open.Goals.{After-make_room}
-use Rattle.tp_core.proofs.Lemmas.{◌<◌, arith, refl, ◌∙◌, nat_tests, err_from_is_err_and, ActionOpen, MAX_NODES, Named, any, is_action_beside}
-use Rattle.tp_core.proofs.Lemmas.{present, MayCome, IsLawful, accepted, asks, places_next, agree_next, numbers_written, zeros, small}
-use Rattle.tp_core.proofs.Lemmas.{named_opened, no_memory, no_room, taken}
+use Rattle.tp_core.proofs.Lemmas.{◌<◌, arith, refl, ◌∙◌, nat_tests, err_from_is_err_and, ActionOpen, MAX_NODES, Named, any}
+use Rattle.tp_core.proofs.Lemmas.{is_action_beside, present, MayCome, IsLawful, accepted, asks, places_next, agree_next, numbers_written}
+use Rattle.tp_core.proofs.{Lemmas.{zeros, small, named_opened, no_memory, no_room, taken}, accepting.Core.open.Goals.After-make_room}
 use Rattle.tp_core.proofs.accepting.Core.open.Goals as goal
 
 low : (c : After-make_room) → c.args.node.0 < MAX_NODES

@@ -1,8 +1,7 @@
 use Rattle.tp_core.specs.declared.posted.Stage.TheVariants as stage
-use Rattle.tp_core.proofs.accepting.Core.recv.Goals.{After-make_room}
 use Rattle.tp_core.proofs.Lemmas.{◌≡◌, Some, arith, refl, common_steps, err_from_is_err_and, Recv, lookup, present, generation, MayCome}
 use Rattle.tp_core.proofs.Lemmas.{IsLawful, accepted, lists_are_sets, places_next, agree_next, numbers_written, MayReceive, may_receive}
-use Rattle.tp_core.proofs.Lemmas.{small, received, message_received, taken, no_room}
+use Rattle.tp_core.proofs.{Lemmas.{small, received, message_received, taken, no_room}, accepting.Core.recv.Goals.After-make_room}
 use Rattle.tp_core.proofs.accepting.Core.recv.Goals as goal
 
 was : (c : After-make_room) → lookup c.self.inside.messages c.args.message.0 ≡ Some (record { to = c.args.node; stage = stage.UnderWay })

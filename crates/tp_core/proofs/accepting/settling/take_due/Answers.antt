@@ -1,6 +1,5 @@
-use Rattle.tp_core.proofs.accepting.settling.take_due.Goals.{After-next_step-step}
-use Rattle.tp_core.proofs.Lemmas.{◌≡◌, None, reverse, IsDue, nodes_of, refusal_of, present, due_passes, is_taken, one_taken, stands, told_as}
-use Rattle.tp_core.proofs.Lemmas.{told_reply}
+use Rattle.tp_core.proofs.Lemmas.{◌≡◌, None, reverse, IsDue, nodes_of, refusal_of, present, due_passes, is_taken, one_taken, stands}
+use Rattle.tp_core.proofs.{Lemmas.{told_as, told_reply}, accepting.settling.take_due.Goals.After-next_step-step}
 use Rattle.tp_core.proofs.accepting.settling.take_due.Goals as goal
 
 due : (c : After-next_step-step) → IsDue (nodes_of c.args.wave.now) (present (reverse c.args.steps.now.items)) c.next_step-step.result

@@ -1,5 +1,4 @@
-use Rattle.tp_dag.proofs.Lemmas.{◌∙◌, ◌+◌, arith, refl, ap, Task, Entry, one_more, room_set, seen_at, facts_set, becomes_at}
-use Rattle.tp_dag.proofs.Lemmas.{fresh_keeps}
+use Rattle.tp_dag.proofs.Lemmas.{◌∙◌, ◌+◌, arith, refl, ap, Task, Entry, one_more, room_set, seen_at, facts_set, becomes_at, fresh_keeps}
 use Rattle.tp_dag.proofs.pool.Pool.add_outside.Goals as goal
 
 pub invariant_of-self : goal.invariant_of-self

@@ -1,5 +1,4 @@
-use Rattle.std.proofs.Common.{w64}
-use Rattle.std.proofs.lemmas.Int.{to_z-of_z}
+use Rattle.std.proofs.{Common.w64, lemmas.Int.to_z-of_z}
 use Rattle.tp_graph.proofs.Fits.{fit-push, fits-word}
 use Rattle.tp_graph.proofs.builder.ValueBuilder.push_reserved.Goals as goal
 

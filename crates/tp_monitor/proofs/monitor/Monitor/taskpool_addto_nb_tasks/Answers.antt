@@ -1,10 +1,6 @@
-use Rattle.std.proofs.Common.{[], ◌∷◌}
-use Rattle.std.proofs.lemmas.Int.{to_z-of_z}
-use Rattle.std.proofs.lemmas.Result.{err_from_is_err_and}
-use Rattle.tp_base.specs.declared.Refusal.TheVariants.{NoTask, StoreFull}
-use Rattle.tp_base.specs.declared.limits.TheConstants.{MAX_LIVE_TASKS}
-use Rattle.tp_monitor.specs.Monitors.{change_checks, falls_below, passes}
-use Rattle.tp_monitor.proofs.Prefix.{first_refusal-append}
+use Rattle.std.proofs.{Common.{[], ◌∷◌}, lemmas.{Int.to_z-of_z, Result.err_from_is_err_and}}
+use Rattle.tp_base.specs.declared.{Refusal.TheVariants.{NoTask, StoreFull}, limits.TheConstants.MAX_LIVE_TASKS}
+use Rattle.tp_monitor.{proofs.Prefix.first_refusal-append, specs.Monitors.{change_checks, falls_below, passes}}
 use Rattle.tp_monitor.proofs.monitor.Monitor.taskpool_addto_nb_tasks.Goals as goal
 
 pub returns-in_err-check_change-clause-refused : goal.returns-in_err-check_change-clause-refused

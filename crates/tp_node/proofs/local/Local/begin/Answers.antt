@@ -1,10 +1,6 @@
-use Rattle.std.proofs.Common.{◌<◌, subst}
-use Rattle.std.specs.Prelude.{OnSome}
-use Rattle.tp_node.proofs.Idle.{begun_counts}
+use Rattle.std.{proofs.Common.{◌<◌, subst}, specs.Prelude.OnSome}
+use Rattle.tp_node.{proofs.Idle.begun_counts, specs.{Actions.open_count, Locals.{LocalState, pending_here, Numbers}}}
 use Rattle.tp_node.proofs.local.Local.begin.Goals as goal
-use Rattle.tp_node.specs.Actions.{open_count}
-use Rattle.tp_node.specs.Locals.{LocalState, pending_here}
-use Rattle.tp_node.specs.Locals.{Numbers}
 
 pub returns-clause-active : goal.returns-clause-active
 returns-clause-active c =

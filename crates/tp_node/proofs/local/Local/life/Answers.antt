@@ -1,10 +1,7 @@
-use Rattle.std.proofs.Common.{◌<◌, arith, subst}
-use Rattle.std.specs.Prelude.{IsTrue}
-use Rattle.tp_node.proofs.Idle.{live_counts}
-use Rattle.tp_node.proofs.local.Local.life.Goals as goal
-use Rattle.tp_node.specs.Locals.{LocalState, is_live, pending_here}
-use Rattle.tp_node.specs.Locals.{Numbers}
+use Rattle.std.{proofs.Common.{◌<◌, arith, subst}, specs.Prelude.IsTrue}
+use Rattle.tp_node.{proofs.Idle.live_counts, specs.Locals.{LocalState, is_live, pending_here, Numbers}}
 use Rattle.tp_store.specs.Content.{unfinished}
+use Rattle.tp_node.proofs.local.Local.life.Goals as goal
 
 pub returns-clause-active : goal.returns-clause-active
 returns-clause-active c live =

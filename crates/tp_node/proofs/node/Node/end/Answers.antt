@@ -1,8 +1,5 @@
-use Rattle.std.proofs.Common.{subst, sym}
-use Rattle.std.specs.Prelude.{IsTrue}
-use Rattle.tp_node.specs.Actions.{has_message}
-use Rattle.tp_node.specs.Nodes.{NodeState}
-use Rattle.tp_node.proofs.Brought.{open_counts}
+use Rattle.std.{proofs.Common.{subst, sym}, specs.Prelude.IsTrue}
+use Rattle.tp_node.{proofs.Brought.open_counts, specs.{Actions.has_message, Nodes.NodeState}}
 use Rattle.tp_node.proofs.node.Node.end.Goals as goal
 
 pub append_end-requires-clause-active : goal.append_end-requires-clause-active

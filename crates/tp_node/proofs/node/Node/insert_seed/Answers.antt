@@ -1,7 +1,6 @@
 use Rattle.std.proofs.Common.{◌≡◌, subst, sym}
 use Rattle.tp_base.specs.declared.step.Step.TheVariants.{Insert}
-use Rattle.tp_node.specs.Nodes.{NodeState, IsSeed, IsSeedOf, inserting, task_at}
-use Rattle.tp_node.proofs.Kept.{seed_keeps}
+use Rattle.tp_node.{proofs.Kept.seed_keeps, specs.Nodes.{NodeState, IsSeed, IsSeedOf, inserting, task_at}}
 use Rattle.tp_node.proofs.node.Node.insert_seed.Goals as goal
 
 pub invariant_of-self-2 : goal.invariant_of-self-2

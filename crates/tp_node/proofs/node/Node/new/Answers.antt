@@ -1,8 +1,5 @@
 use Rattle.std.proofs.Common.{arith, sym, ap, subst, ◌∙◌, length}
-use Rattle.tp_node.specs.Locals.{LocalState}
-use Rattle.tp_node.specs.Nodes.{AreHere, AreRightValues}
-use Rattle.tp_node.specs.Locals.{Numbers}
-use Rattle.tp_node.proofs.Kept.{here_at_first, right_at_first}
+use Rattle.tp_node.{proofs.Kept.{here_at_first, right_at_first}, specs.{Locals.{LocalState, Numbers}, Nodes.{AreHere, AreRightValues}}}
 use Rattle.tp_node.proofs.node.Node.new.Goals as goal
 
 pub invariant_of-result : goal.invariant_of-result

@@ -1,11 +1,8 @@
 use Rattle.std.proofs.Common.{◌≡◌, ap, subst, ◌∙◌, arith, rules}
-use Rattle.tp_node.specs.Nodes.{NodeState}
-use Rattle.tp_node.specs.Locals.{EachOnce}
-use Rattle.tp_node.proofs.Idle.{each_once}
-use Rattle.tp_node.proofs.node.Node.quiet_under.Goals as goal
+use Rattle.tp_node.{proofs.Idle.each_once, specs.{Locals.EachOnce, Nodes.NodeState}}
 use Rattle.tp_store.specs.Content.{unfinished}
-use Rattle.tp_wave.specs.Generations.{present_events}
-use Rattle.tp_wave.specs.Machine.{pending_at}
+use Rattle.tp_wave.specs.{Generations.present_events, Machine.pending_at}
+use Rattle.tp_node.proofs.node.Node.quiet_under.Goals as goal
 
 pub returns-clause-each_once : goal.returns-clause-each_once
 returns-clause-each_once g c =

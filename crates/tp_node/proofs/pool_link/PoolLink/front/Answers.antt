@@ -1,5 +1,4 @@
-use Rattle.std.proofs.Common.{ap, ◌∙◌}
-use Rattle.std.specs.Prelude.{slice_get}
+use Rattle.std.{proofs.Common.{ap, ◌∙◌}, specs.Prelude.slice_get}
 use Rattle.tp_node.specs.PoolLinks.{PoolLinkState}
 use Rattle.tp_node.proofs.pool_link.PoolLink.front.Goals as goal
 

@@ -1,7 +1,6 @@
 use Rattle.tp_part.proofs.Theorems.{◌≡◌, ◌∙◌, Some, ap, arith, refl, sym, slice_get_within, index_is, holds_next, runs_shown, waits_shown}
-use Rattle.tp_part.proofs.Theorems.{end_shown}
+use Rattle.tp_part.proofs.{Theorems.end_shown, part.Part.next.Goals.{in-Run, in-Wait, in-Finished}}
 use Rattle.tp_part.proofs.part.Part.next.Goals as goal
-use Rattle.tp_part.proofs.part.Part.next.Goals.{in-Run, in-Wait, in-Finished}
 
 pub index-requires-in-Run : goal.index-requires-in-Run
 index-requires-in-Run c = let d = c.next_of.ensures.run c.in-Run.place c.in-Run.is in

@@ -1,17 +1,13 @@
 -- `nth` moves an address along a row of cells. Before: the address, which owns nothing; it is in a block, and the distance to the
 -- cell fits a word. So the machine's sum of the two is defined, and it is the new address. Assumes `Logic`.
-use Rattle.tp_slots.proofs.CellWords.{◌≡◌, refl, sym, ap, ◌∙◌, ℕ, ◌+◌, ◌*◌, ◌<◌, ◌^◌, arith, [], ◌∷◌, ◌++◌, Fn, w64, inst_fn, vint}
-use Rattle.tp_slots.proofs.CellWords.{tables, id⊢, fact, ◌⊑◌, ‵, raw, ◌⊛◌, at_ret, ◌$◌, !, by, keep, use1, split, split3, rewrite, whole}
-use Rattle.tp_slots.proofs.CellWords.{sub, agg, stop, fld, bin, size_lit, of_opd, and_then, no_more, first, blocks, exec, returns}
-use Rattle.tp_slots.proofs.CellWords.{alloc_all, pass_all, free_all, look_at, take_at, give_at, get, get_in, sets, sets_last, env, Ptr}
-use Rattle.tp_slots.proofs.CellWords.{block_ptr, ◌+ₚ◌, InBlock, at_block, block_of, count_of, heard, after, word, word-Good, El, R, args}
 use Rattle.std.specs.Mem.{type_size}
-use Rattle.tp_slots.proofs.CellsMemory.{word_made}
-use Rattle.tp_slots.proofs.CellSteps.{address_is, kept_in, enters, told}
-use Rattle.tp_slots.proofs.CellCalls.{takes_all}
-use Rattle.tp_slots.specs.contracts.cells.At.nth.{ended, clauses}
-use Rattle.tp_slots.specs.contracts.cells.At.nth.Key.{name as #self}
-use Rattle.tp_slots.proofs.cells.At.nth.Statement.{statement}
+use Rattle.tp_slots.proofs.{CellCalls.takes_all, CellSteps.{address_is, kept_in, enters, told}, CellWords.{◌≡◌, refl, sym, ap, ◌∙◌, ℕ, ◌+◌}}
+use Rattle.tp_slots.proofs.CellWords.{◌*◌, ◌<◌, ◌^◌, arith, [], ◌∷◌, ◌++◌, Fn, w64, inst_fn, vint, tables, id⊢, fact, ◌⊑◌, ‵, raw, ◌⊛◌}
+use Rattle.tp_slots.proofs.CellWords.{at_ret, ◌$◌, !, by, keep, use1, split, split3, rewrite, whole, sub, agg, stop, fld, bin, size_lit}
+use Rattle.tp_slots.proofs.CellWords.{of_opd, and_then, no_more, first, blocks, exec, returns, alloc_all, pass_all, free_all, look_at}
+use Rattle.tp_slots.proofs.CellWords.{take_at, give_at, get, get_in, sets, sets_last, env, Ptr, block_ptr, ◌+ₚ◌, InBlock, at_block}
+use Rattle.tp_slots.proofs.{CellWords.{block_of, count_of, heard, after, word, word-Good, El, R, args}, CellsMemory.word_made}
+use Rattle.tp_slots.{proofs.cells.At.nth.Statement.statement, specs.contracts.cells.At.nth.{ended, clauses, Key.name as #self}}
 use Rattle.tp_slots.proofs.cells.At.nth.Code as code
 
 -- the machine adds the bytes to the count of the address

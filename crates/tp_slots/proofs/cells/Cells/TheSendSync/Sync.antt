@@ -1,7 +1,6 @@
-use denote.RattleType.{RattleType}
+use Rattle.tp_slots.{proofs.CellsCrossing.Cells-sync, specs.contracts.cells.Cells.the_row}
 use denote.Param.Send.{IsSync}
-use Rattle.tp_slots.proofs.CellsCrossing.{Cells-sync}
-use Rattle.tp_slots.specs.contracts.cells.Cells.{the_row}
+use denote.RattleType.{RattleType}
 
 pub sync : (R : RattleType) → IsSync R → IsSync (the_row R)
 sync = Cells-sync

@@ -1,18 +1,14 @@
 -- `get` returns a `&` to the value of a full cell. Before: a `&` to the cells, which borrows each of them. The one at
 -- the index is seen, so its address is in a block, and the borrowed cell has a `&` to its value; nothing is given back.
 -- Assumes `Logic`.
-use Rattle.tp_slots.proofs.CellWords.{◌≡◌, refl, List, [], ◌∷◌, ◌++◌, Fn, w64, inst_fn, Val, vptr, vint, tables, id⊢, ftrue, fsep, flft}
-use Rattle.tp_slots.proofs.CellWords.{◌⊑◌, ‵, ◌⊛◌, at_ret, ◌$◌, ◌∵◌, !, qed, by, done, move, keep, use1, split, join, rewrite, fsplit}
-use Rattle.tp_slots.proofs.CellWords.{fjoin, feq_i, skip, whole, sub, stop, hop, from, fld, addr, of_opd, first, blocks, exec, returns}
-use Rattle.tp_slots.proofs.CellWords.{alloc_all, pass_all, free_all, look_at, look_in_at, take_at, give_at, get, sets, sets_last, env}
-use Rattle.tp_slots.proofs.CellWords.{Ptr, null_ptr, in_a_block, lent_at, hide, unhide, after, word, word-Good, El, R, args, Some}
-use Rattle.tp_slots.proofs.CellWords.{cell_at, IsFull, cell_lent}
-use Rattle.tp_slots.proofs.CellsMemory.{Cell, full_within, cell_seen}
-use Rattle.tp_slots.proofs.CellSteps.{address_is, kept_in, enters, asked, told}
-use Rattle.tp_slots.proofs.CellCalls.{takes_all}
-use Rattle.tp_slots.specs.contracts.cells.Cells.get.{ended, clauses}
-use Rattle.tp_slots.specs.contracts.cells.Cells.get.Key.{name as #self}
-use Rattle.tp_slots.proofs.cells.Cells.get.Statement.{statement}
+use Rattle.tp_slots.proofs.{CellCalls.takes_all, CellSteps.{address_is, kept_in, enters, asked, told}, CellWords.{◌≡◌, refl, List, [], ◌∷◌}}
+use Rattle.tp_slots.proofs.CellWords.{◌++◌, Fn, w64, inst_fn, Val, vptr, vint, tables, id⊢, ftrue, fsep, flft, ◌⊑◌, ‵, ◌⊛◌, at_ret, ◌$◌}
+use Rattle.tp_slots.proofs.CellWords.{◌∵◌, !, qed, by, done, move, keep, use1, split, join, rewrite, fsplit, fjoin, feq_i, skip, whole, sub}
+use Rattle.tp_slots.proofs.CellWords.{stop, hop, from, fld, addr, of_opd, first, blocks, exec, returns, alloc_all, pass_all, free_all}
+use Rattle.tp_slots.proofs.CellWords.{look_at, look_in_at, take_at, give_at, get, sets, sets_last, env, Ptr, null_ptr, in_a_block, lent_at}
+use Rattle.tp_slots.proofs.CellWords.{hide, unhide, after, word, word-Good, El, R, args, Some, cell_at, IsFull, cell_lent}
+use Rattle.tp_slots.proofs.{CellsMemory.{Cell, full_within, cell_seen}, cells.Cells.get.Statement.statement}
+use Rattle.tp_slots.specs.contracts.cells.Cells.get.{ended, clauses, Key.name as #self}
 use Rattle.tp_slots.proofs.cells.Cells.get.Code as code
 
 pub get_spec : {M : Type 1} → statement M

@@ -2,19 +2,16 @@
 -- taken out, and its value is reborrowed under a new name; what is left waits for the value to be returned, and then
 -- the cells are whole again, with the last value in that cell. So the cells follow the reborrowed value, and nothing is
 -- given back now. Assumes `Logic`.
+use Rattle.tp_slots.proofs.{CellCalls.takes_all, CellSteps.{address_is, kept_in, enters, asked, told, cell_opened, Around, cell_returns}}
 use Rattle.tp_slots.proofs.CellWords.{◌≡◌, refl, [], ◌∷◌, ◌++◌, set, Fn, named, w64, inst_fn, vptr, vint, tables, full_share, never, id⊢}
 use Rattle.tp_slots.proofs.CellWords.{GName, Fml, ftrue, fsep, flft, sem, ◌⊑◌, ‵, raw, ◌⊛◌, some, later, at_ret, ◌$◌, !, by, move, keep}
 use Rattle.tp_slots.proofs.CellWords.{use1, split, split3, join, group, rewrite, await, pick, fsplit, fsplit3, fjoin3, whole, sub, stop}
 use Rattle.tp_slots.proofs.CellWords.{hop, from, fld, addr, of_opd, first, blocks, exec, returns, alloc_all, pass_all, free_all, look_at}
 use Rattle.tp_slots.proofs.CellWords.{look_in_at, take_at, give_at, get, sets, sets_last, env, Ptr, in_a_block, lies_at, MutBor, MutRef}
-use Rattle.tp_slots.proofs.CellWords.{after, word, word-Good, El, R, args, el_x, Some, cell_at, IsFull, with_cells}
+use Rattle.tp_slots.proofs.{CellWords.{after, word, word-Good, El, R, args, el_x, Some, cell_at, IsFull, with_cells}, CellsMemory.Cr}
+use Rattle.tp_slots.{proofs.{CellsMemory.full_within, cells.Cells.get_mut.Statement.statement}, specs.contracts.cells.Cells.get_mut.ended}
+use Rattle.tp_slots.specs.contracts.cells.Cells.get_mut.{clauses, Key.name as #self}
 use denote.Follow.{follows, Part, lends_Part}
-use Rattle.tp_slots.proofs.CellsMemory.{Cr, full_within}
-use Rattle.tp_slots.proofs.CellSteps.{address_is, kept_in, enters, asked, told, cell_opened, Around, cell_returns}
-use Rattle.tp_slots.proofs.CellCalls.{takes_all}
-use Rattle.tp_slots.specs.contracts.cells.Cells.get_mut.{ended, clauses}
-use Rattle.tp_slots.specs.contracts.cells.Cells.get_mut.Key.{name as #self}
-use Rattle.tp_slots.proofs.cells.Cells.get_mut.Statement.{statement}
 use Rattle.tp_slots.proofs.cells.Cells.get_mut.Code as code
 
 pub get_mut_spec : {M : Type 1} → statement M

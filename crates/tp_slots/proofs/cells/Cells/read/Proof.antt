@@ -1,17 +1,13 @@
 -- `read` moves the value out of a full cell. Before: the borrow of the cells. The raw read gives the value, and leaves the
 -- cell's room; so the cell goes back into the list empty, and the borrow is closed. Assumes `Logic`.
-use Rattle.tp_slots.proofs.CellWords.{◌≡◌, refl, sym, [], ◌∷◌, ◌++◌, set, Fn, w64, inst_fn, Val, vptr, vint, tables, full_share, never}
-use Rattle.tp_slots.proofs.CellWords.{id⊢, fat, froom, ◌⊑◌, ‵, ◌⊛◌, some, given, at_ret, ◌$◌, !, by, move, keep, use1, split, rewrite}
-use Rattle.tp_slots.proofs.CellWords.{pick, learn, whole, sub, stop, hop, from, fld, look, load, of_opd, first, blocks, exec, returns}
-use Rattle.tp_slots.proofs.CellWords.{alloc_all, pass_all, free_all, look_at, look_in_at, take_at, give_at, get, sets, sets_last, env}
-use Rattle.tp_slots.proofs.CellWords.{Ptr, in_a_block, lies_at, usize, plain, after, word, word-Good, as_raw, El, R, args, elτ, Good}
-use Rattle.tp_slots.proofs.CellWords.{Some, None, cell_at, IsFull, cell_owns, with_cells}
-use Rattle.tp_slots.proofs.CellsMemory.{Bs, full_within, value_out}
-use Rattle.tp_slots.proofs.CellSteps.{address_is, kept_in, enters, asked, told_both, cell_opened, cell_closed}
-use Rattle.tp_slots.proofs.CellCalls.{gives_back}
-use Rattle.tp_slots.specs.contracts.cells.Cells.read.{ended, clauses}
-use Rattle.tp_slots.specs.contracts.cells.Cells.read.Key.{name as #self}
-use Rattle.tp_slots.proofs.cells.Cells.read.Statement.{statement}
+use Rattle.tp_slots.proofs.{CellCalls.gives_back, CellSteps.{address_is, kept_in, enters, asked, told_both, cell_opened, cell_closed}}
+use Rattle.tp_slots.proofs.CellWords.{◌≡◌, refl, sym, [], ◌∷◌, ◌++◌, set, Fn, w64, inst_fn, Val, vptr, vint, tables, full_share, never, id⊢}
+use Rattle.tp_slots.proofs.CellWords.{fat, froom, ◌⊑◌, ‵, ◌⊛◌, some, given, at_ret, ◌$◌, !, by, move, keep, use1, split, rewrite, pick}
+use Rattle.tp_slots.proofs.CellWords.{learn, whole, sub, stop, hop, from, fld, look, load, of_opd, first, blocks, exec, returns, alloc_all}
+use Rattle.tp_slots.proofs.CellWords.{pass_all, free_all, look_at, look_in_at, take_at, give_at, get, sets, sets_last, env, Ptr, in_a_block}
+use Rattle.tp_slots.proofs.CellWords.{lies_at, usize, plain, after, word, word-Good, as_raw, El, R, args, elτ, Good, Some, None, cell_at}
+use Rattle.tp_slots.proofs.{CellWords.{IsFull, cell_owns, with_cells}, CellsMemory.{Bs, full_within, value_out}}
+use Rattle.tp_slots.{proofs.cells.Cells.read.Statement.statement, specs.contracts.cells.Cells.read.{ended, clauses, Key.name as #self}}
 use Rattle.tp_slots.proofs.cells.Cells.read.Code as code
 
 pub read_spec : {M : Type 1} → statement M

@@ -1,15 +1,13 @@
 -- A `&` to a deed holds nothing. Assumes `Logic`.
+use Rattle.std.specs.declared.alloc.Allocator.{Ghosts}
+use Rattle.tp_slots.proofs.cells.Deed.TheLaw.Statement.{statement}
+use denote.Param.{Laws.Laws, Shared.copy_shared}
 use denote.RattleType.{RattleType}
 use denote.RawPtr.{RawPtr}
-use denote.Param.Laws.{Laws}
-use denote.Param.Shared.{copy_shared}
 use denote.SharingLaws.{nothing_shr_laws}
-use denote.Struct.Laws.{field_copy}
-use denote.Struct.Lending.{of_Lends, Lends-nothing}
-use Rattle.std.specs.declared.alloc.Allocator.{Ghosts}
+use denote.Struct.{Laws.field_copy, Lending.{of_Lends, Lends-nothing}}
 use Rattle.std.specs.contracts.marker.PhantomData as marker
 use Rattle.tp_slots.specs.contracts.cells.Deed as C
-use Rattle.tp_slots.proofs.cells.Deed.TheLaw.Statement.{statement}
 
 pub shares : (K A : RattleType) (g : Ghosts A.Denot) (L : Laws K) (P : Laws A) → statement K A g L P
 shares K A g L P =

@@ -1,8 +1,5 @@
 use Rattle.std.proofs.Common.{ap, ◌∙◌}
-use Rattle.tp_slots.specs.Content.{without_next}
-use Rattle.tp_slots.proofs.Sound.{IsIdle-front}
-use Rattle.tp_slots.proofs.Keeping.{opened, settled, content_is}
-use Rattle.tp_slots.proofs.Moves.{popped}
+use Rattle.tp_slots.{proofs.{Keeping.{opened, settled, content_is}, Moves.popped, Sound.IsIdle-front}, specs.Content.without_next}
 use Rattle.tp_slots.proofs.raw_slots.RawSlotsSlots.pop_ready.Goals as goal
 
 pub invariant_of-self : goal.invariant_of-self

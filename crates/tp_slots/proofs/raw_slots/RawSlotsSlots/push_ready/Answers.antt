@@ -1,7 +1,5 @@
 use Rattle.std.proofs.Common.{◌<◌, length, ap, sym, ◌∙◌, arith}
-use Rattle.tp_slots.specs.Content.{with_ready}
-use Rattle.tp_slots.proofs.Keeping.{taken_raw, table_long, located, opened, settled, content_is}
-use Rattle.tp_slots.proofs.Moves.{pushed}
+use Rattle.tp_slots.{proofs.{Keeping.{taken_raw, table_long, located, opened, settled, content_is}, Moves.pushed}, specs.Content.with_ready}
 use Rattle.tp_slots.proofs.raw_slots.RawSlotsSlots.push_ready.Goals as goal
 
 pub index-at-requires : goal.index-at-requires

@@ -1,7 +1,6 @@
 use Rattle.std.proofs.Common.{◌≡◌, false}
-use Rattle.tp_slots.specs.Names.{name_at}
+use Rattle.tp_slots.{proofs.Naming.{idle_at, given_back, known, GiveBack_reply}, specs.Names.name_at}
 use Rattle.tp_slots.specs.declared.run.Standing.TheVariants.{Held}
-use Rattle.tp_slots.proofs.Naming.{idle_at, given_back, known, GiveBack_reply}
 use Rattle.tp_slots.proofs.run.Names.give_back.Goals as goal
 
 pub give_back-requires : goal.give_back-requires

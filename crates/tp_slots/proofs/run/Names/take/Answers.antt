@@ -1,9 +1,6 @@
 use Rattle.std.proofs.Common.{◌≡◌, ◌<◌, ◌++◌, ◌∷◌, [], List, false, subst, ap, sym, ◌∙◌, length, count_by, is_some, arith}
-use Rattle.tp_slots.specs.declared.run.Standing.{Standing}
-use Rattle.tp_slots.specs.declared.run.Standing.TheVariants.{Held, Gone}
-use Rattle.tp_slots.specs.declared.run.Reply.TheVariants.{Taken}
-use Rattle.tp_slots.proofs.Kept.{is_full_from}
-use Rattle.tp_slots.proofs.Naming.{taken, refused, elsewhere, Take_reply, Take_refused}
+use Rattle.tp_slots.proofs.{Kept.is_full_from, Naming.{taken, refused, elsewhere, Take_reply, Take_refused}}
+use Rattle.tp_slots.specs.declared.run.{Reply.TheVariants.Taken, Standing.{Standing, TheVariants.{Held, Gone}}}
 use Rattle.tp_slots.proofs.run.Names.take.Goals as goal
 
 pub returns-in_ok-insert-in-Ok-clause-reply : goal.returns-in_ok-insert-in-Ok-clause-reply

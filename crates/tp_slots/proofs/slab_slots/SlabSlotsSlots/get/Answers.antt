@@ -1,7 +1,5 @@
 use Rattle.std.proofs.Common.{ap, sym, ◌∙◌, arith, option_copied}
-use Rattle.tp_slots.specs.Content.{item_at}
-use Rattle.tp_slots.proofs.SlabItems.{get-items_of}
-use Rattle.tp_slots.proofs.Kept.{has_key}
+use Rattle.tp_slots.{proofs.{Kept.has_key, SlabItems.get-items_of}, specs.Content.item_at}
 use Rattle.tp_slots.proofs.slab_slots.SlabSlotsSlots.get.Goals as goal
 
 pub unwrap-requires : goal.unwrap-requires

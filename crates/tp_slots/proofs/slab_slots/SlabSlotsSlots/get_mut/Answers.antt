@@ -1,8 +1,6 @@
 use Rattle.std.proofs.Common.{refl, ap, sym, ◌∙◌}
-use Rattle.tp_slots.specs.Content.{item_at, with_item}
-use Rattle.tp_slots.specs.SlabSlots.{Roomy}
-use Rattle.tp_slots.proofs.SlabItems.{get-items_of}
-use Rattle.tp_slots.proofs.Kept.{has_key, IsKept-rewritten, with_value_roomy}
+use Rattle.tp_slots.{proofs.{Kept.{has_key, IsKept-rewritten, with_value_roomy}, SlabItems.get-items_of}, specs.Content.item_at}
+use Rattle.tp_slots.specs.{Content.with_item, SlabSlots.Roomy}
 use Rattle.tp_slots.proofs.slab_slots.SlabSlotsSlots.get_mut.Goals as goal
 
 pub index_mut-requires : goal.index_mut-requires

@@ -1,7 +1,5 @@
 use Rattle.std.proofs.Common.{ap, sym, ◌∙◌}
-use Rattle.tp_slots.specs.Content.{item_at, without_item}
-use Rattle.tp_slots.proofs.SlabItems.{get-items_of}
-use Rattle.tp_slots.proofs.Kept.{has_key, IsKept-removed, without_items}
+use Rattle.tp_slots.{proofs.{Kept.{has_key, IsKept-removed, without_items}, SlabItems.get-items_of}, specs.Content.{item_at, without_item}}
 use Rattle.tp_slots.proofs.slab_slots.SlabSlotsSlots.give_back.Goals as goal
 
 pub remove-requires : goal.remove-requires

@@ -1,5 +1,4 @@
-use Rattle.std.proofs.Common.{arith}
-use Rattle.std.proofs.lemmas.List.{length-map}
+use Rattle.std.proofs.{Common.arith, lemmas.List.length-map}
 use Rattle.tp_slots.proofs.Kept.{has_room, IsKept-pushed}
 use Rattle.tp_slots.proofs.slab_slots.SlabSlotsSlots.push_ready.Goals as goal
 

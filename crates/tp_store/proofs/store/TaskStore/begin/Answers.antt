@@ -1,9 +1,6 @@
 use Rattle.std.proofs.Common.{subst, ap, sym, rules, ◌∙◌, arith}
-use Rattle.tp_store.specs.Kept.{content_of, Leaves}
-use Rattle.tp_store.specs.Content.{unfinished, with_begun, NoneGoesBack}
-use Rattle.tp_store.specs.Sound.{IsSound}
-use Rattle.tp_store.proofs.Contents.{begun_goes_on}
-use Rattle.tp_store.proofs.Changes.{none_next, same_slots, can_begin, some_ready, begins, begun_all}
+use Rattle.tp_store.proofs.{Changes.{none_next, same_slots, can_begin, some_ready, begins, begun_all}, Contents.begun_goes_on}
+use Rattle.tp_store.specs.{Content.{unfinished, with_begun, NoneGoesBack}, Kept.{content_of, Leaves}, Sound.IsSound}
 use Rattle.tp_store.proofs.store.TaskStore.begin.Given as given
 use Rattle.tp_store.proofs.store.TaskStore.begin.Goals as goal
 

@@ -1,12 +1,9 @@
 use Rattle.std.proofs.Common.{◌≡◌, Some, None, unwrap_or, rules, refl, subst, ap, sym, ◌∙◌, arith}
 use Rattle.tp_base.specs.declared.refusal.Refusal.TheVariants.{NoMemory}
-use Rattle.tp_store.specs.Content.{unfinished, refusal_of_deliver, delivered_to, with_delivered, NoneGoesBack}
-use Rattle.tp_store.specs.Kept.{Leaves}
-use Rattle.tp_store.specs.declared.life.Delivered.TheVariants.{Filled}
-use Rattle.tp_store.specs.declared.index.Entry.TheVariants.{Done}
-use Rattle.tp_store.proofs.Contents.{delivered_goes_on}
-use Rattle.tp_store.proofs.Keeping.{seen, seen_live, known_refusal, accepts, refuses, not_some, on_err, goes_on}
-use Rattle.tp_store.proofs.Changes.{taken_there, can_supply, supplied_all, fills}
+use Rattle.tp_store.proofs.{Changes.{taken_there, can_supply, supplied_all, fills}, Contents.delivered_goes_on, Keeping.{seen, seen_live}}
+use Rattle.tp_store.{proofs.Keeping.{known_refusal, accepts, refuses, not_some, on_err, goes_on}, specs.Content.unfinished}
+use Rattle.tp_store.specs.{Content.{refusal_of_deliver, delivered_to, with_delivered, NoneGoesBack}, Kept.Leaves}
+use Rattle.tp_store.specs.declared.{index.Entry.TheVariants.Done, life.Delivered.TheVariants.Filled}
 use Rattle.tp_store.proofs.store.TaskStore.deliver.Given as given
 use Rattle.tp_store.proofs.store.TaskStore.deliver.Goals as goal
 

@@ -1,11 +1,7 @@
-use Rattle.std.proofs.Common.{◌<◌, ◌-◌, Some, None, subst, arith, ap, sym, refl, ◌∙◌}
-use Rattle.std.specs.Option.{option_map}
-use Rattle.tp_store.specs.Content.{unfinished, refusal_of_done, with_done, NoneGoesBack}
-use Rattle.tp_store.specs.Kept.{Leaves}
-use Rattle.tp_store.proofs.Contents.{done_goes_on}
+use Rattle.std.{proofs.Common.{◌<◌, ◌-◌, Some, None, subst, arith, ap, sym, refl, ◌∙◌}, specs.Option.option_map}
+use Rattle.tp_store.proofs.{Changes.{taken_there, life_there, can_finish, done_all, wrong_life}, Contents.done_goes_on, Keeping.seen}
+use Rattle.tp_store.specs.{Content.{unfinished, refusal_of_done, with_done, NoneGoesBack}, Kept.Leaves}
 use Rattle.tp_store.specs.declared.index.Entry.TheVariants.{Done}
-use Rattle.tp_store.proofs.Keeping.{seen}
-use Rattle.tp_store.proofs.Changes.{taken_there, life_there, can_finish, done_all, wrong_life}
 use Rattle.tp_store.proofs.store.TaskStore.done.Given as given
 use Rattle.tp_store.proofs.store.TaskStore.done.Goals as goal
 

@@ -1,9 +1,7 @@
 use Rattle.std.proofs.Common.{unwrap_or, subst, ap, sym, refl, ◌∙◌, rules, arith}
 use Rattle.tp_base.specs.declared.refusal.Refusal.TheVariants.{NoMemory}
-use Rattle.tp_store.specs.Content.{refusal_of_new, NoneGoesBack}
-use Rattle.tp_store.proofs.Contents.{inserted_goes_on}
-use Rattle.tp_store.proofs.Keeping.{accepts, refuses, insertable, nothing_there, on_err, no_ok, told}
-use Rattle.tp_store.proofs.Changes.{seen_made}
+use Rattle.tp_store.proofs.{Changes.seen_made, Contents.inserted_goes_on, Keeping.{accepts, refuses, insertable, nothing_there, on_err}}
+use Rattle.tp_store.{proofs.Keeping.{no_ok, told}, specs.Content.{refusal_of_new, NoneGoesBack}}
 use Rattle.tp_store.proofs.store.TaskStore.insert.Goals as goal
 
 -- ---- it was known, or there is no place for it

@@ -1,8 +1,5 @@
-use Rattle.std.proofs.Common.{Some, None, ap, sym, ◌∙◌}
-use Rattle.std.specs.Option.{option_map}
-use Rattle.tp_store.specs.declared.index.Entry.TheVariants.{Done}
-use Rattle.tp_store.proofs.Changes.{taken_there}
-use Rattle.tp_store.proofs.Keeping.{seen, seen_live}
+use Rattle.std.{proofs.Common.{Some, None, ap, sym, ◌∙◌}, specs.Option.option_map}
+use Rattle.tp_store.{proofs.{Changes.taken_there, Keeping.{seen, seen_live}}, specs.declared.index.Entry.TheVariants.Done}
 use Rattle.tp_store.proofs.store.TaskStore.life.Goals as goal
 
 pub returns-in-Some-Live-clause-life : goal.returns-in-Some-Live-clause-life

@@ -1,6 +1,5 @@
 use Rattle.std.proofs.Common.{ap, ◌∙◌}
-use Rattle.tp_store.specs.Content.{unfinished}
-use Rattle.tp_store.proofs.Changes.{IsKept-new, none_live, nothing_kept}
+use Rattle.tp_store.{proofs.Changes.{IsKept-new, none_live, nothing_kept}, specs.Content.unfinished}
 use Rattle.tp_store.proofs.store.TaskStore.new.Goals as goal
 
 pub invariant_of-result : goal.invariant_of-result

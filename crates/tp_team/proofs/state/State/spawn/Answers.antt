@@ -1,9 +1,8 @@
 use Rattle.tp_base.specs.declared.refusal.Refusal.TheVariants as refusal
 use Rattle.tp_team.specs.declared.refusal.TeamRefusal.TheVariants as team
 use Rattle.tp_dag.specs.Calls as dag
+use Rattle.tp_team.proofs.Lemmas.{◌≡◌, ℕ, Result, Err, sym, ◌∙◌, Refusal, TeamRefusal, of_pool, by_pool, err_same, own_clear, pool_exact}
 use Rattle.tp_team.specs.Calls.{has_finished}
-use Rattle.tp_team.proofs.Lemmas.{◌≡◌, ℕ, Result, Err, sym, ◌∙◌, Refusal, TeamRefusal, of_pool, by_pool, err_same, own_clear}
-use Rattle.tp_team.proofs.Lemmas.{pool_exact}
 use Rattle.tp_team.proofs.state.State.spawn.Goals as goal
 
 pub returns-in-Err-clause-checks : goal.returns-in-Err-clause-checks

@@ -1,9 +1,8 @@
 use Rattle.tp_dag.specs.Describing as graph
 use Rattle.tp_team.specs.declared.refusal.TeamRefusal.TheVariants as team
-use Rattle.tp_team.specs.Calls.{describe_checks}
-use Rattle.tp_team.proofs.Lemmas.{◌≡◌, ◌-◌, ℕ, List, Result, Err, IfSome, length, ap, subst, ◌∙◌, Refusal, PoolState, Graph}
-use Rattle.tp_team.proofs.Lemmas.{TeamRefusal, State, first, of_pool, IsGraphRefusal, by_pool, err_same_at, no_fault, graph_accepted}
-use Rattle.tp_team.proofs.Lemmas.{graph_exact, unstarted, accepted_unstarted, described_started}
+use Rattle.tp_team.proofs.Lemmas.{◌≡◌, ◌-◌, ℕ, List, Result, Err, IfSome, length, ap, subst, ◌∙◌, Refusal, PoolState, Graph, TeamRefusal}
+use Rattle.tp_team.proofs.Lemmas.{State, first, of_pool, IsGraphRefusal, by_pool, err_same_at, no_fault, graph_accepted, graph_exact}
+use Rattle.tp_team.{proofs.Lemmas.{unstarted, accepted_unstarted, described_started}, specs.Calls.describe_checks}
 use Rattle.tp_team.proofs.team.Team.describe.Goals as goal
 
 abbrev graph_of : List ℕ → List ℕ → List ℕ → Graph

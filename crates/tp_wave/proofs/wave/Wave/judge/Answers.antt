@@ -1,8 +1,5 @@
-use Rattle.std.proofs.Common.{◌∙◌, refl, sym, arith, IsTrue, IsFalse, rules}
-use Rattle.std.proofs.lemmas.Grind.{common_steps}
-use Rattle.tp_wave.specs.Sums.{is_ended, judgement}
-use Rattle.tp_wave.specs.Control.{has_ended}
-use Rattle.tp_wave.proofs.Given.{judged_following, over_after}
+use Rattle.std.proofs.{Common.{◌∙◌, refl, sym, arith, IsTrue, IsFalse, rules}, lemmas.Grind.common_steps}
+use Rattle.tp_wave.{proofs.Given.{judged_following, over_after}, specs.{Control.has_ended, Sums.{is_ended, judgement}}}
 use Rattle.tp_wave.proofs.wave.Wave.judge.Goals as goal
 
 pub returns-clause-answer : goal.returns-clause-answer

@@ -1,9 +1,6 @@
-use Rattle.std.proofs.Common.{◌++◌, ap, subst, ◌∙◌}
-use Rattle.std.specs.Prelude.{reverse}
-use Rattle.std.specs.Option.{option_to_list}
+use Rattle.std.{proofs.Common.{◌++◌, ap, subst, ◌∙◌}, specs.{Option.option_to_list, Prelude.reverse}}
 use Rattle.tp_node.specs.Nodes.{NodeState}
-use Rattle.tp_work.specs.RunQueues.{BeginsEach, RunQueueState}
-use Rattle.tp_work.proofs.Beginning.{begun_before, begun_first}
+use Rattle.tp_work.{proofs.Beginning.{begun_before, begun_first}, specs.RunQueues.{BeginsEach, RunQueueState}}
 use Rattle.tp_work.proofs.run_queue.RunQueue.begin.Goals as goal
 
 pub returns-then-share-gt1-clause-begun : goal.returns-then-share-gt1-clause-begun

@@ -1,5 +1,4 @@
-use Rattle.std.proofs.Common.{◌*◌, ◌≤◌, arith}
-use Rattle.std.proofs.Math.Nat.{mul-le-mul_left}
+use Rattle.std.proofs.{Common.{◌*◌, ◌≤◌, arith}, Math.Nat.mul-le-mul_left}
 use Rattle.tp_work.proofs.runner.Runner.run_workers.Goals as goal
 
 pub overflow_mul-all : goal.overflow_mul-all

@@ -1,8 +1,7 @@
 use Rattle.std.proofs.Common.{◌≡◌, arith, sym, ap, subst, ◌∙◌, length}
 use Rattle.tp_board.specs.Numbers.{ShareNumbers, first_numbers}
-use Rattle.tp_node.specs.Locals.{LocalState, Numbers}
-use Rattle.tp_node.specs.Nodes.{AreHere, AreRightValues, NodeState}
-use Rattle.tp_node.proofs.Kept.{here_at_first, right_at_first}
+use Rattle.tp_node.{proofs.Kept.{here_at_first, right_at_first}, specs.{Locals.{LocalState, Numbers}, Nodes.{AreHere, AreRightValues}}}
+use Rattle.tp_node.specs.Nodes.{NodeState}
 use Rattle.tp_node.proofs.node.unshared.UnsharedNode.with_shares.Goals as goal
 
 pub invariant_of-result : goal.invariant_of-result
