@@ -25,8 +25,6 @@ from .repository import text_of
 
 # a string, a character, a comment, a bracket or a mark, or a word
 PART = re.compile(r""""(?:\\.|[^"\\])*"|'(?:\\[^'\n]+|[^'\\\n])'|(?<!\S)(?://|--)[^\n]*|[(){}\[\],;]|[^\s(){}\[\],;"]+""")
-# names that a text takes from one place
-IMPORT = re.compile(r"^ *(?:ghost )?use (\S+)\.\{([^{}]*)\};?$", re.M)
 # a declaration of a hand-written proof
 DECLARED = re.compile(r"^(?:pub )?([\w-]+) : .*?(?=\n\n|\Z)", re.M | re.S)
 # how many mutants the gate has, and in how many crates: each of them costs a whole check more
@@ -45,7 +43,7 @@ def toolchain():
 @functools.lru_cache(maxsize=None)
 def meaning(text):
     """Returns a text without its comments, blanks and line breaks."""
-    text = IMPORT.sub(lambda use: "".join(f"use {use[1]} {name}\n" for name in use[2].split(",")), text)
+    text = visible.one_a_line(text)
     parts = " ".join(part for part in PART.findall(text) if not part.startswith(("//", "--")))
     # (the layout adds a last comma or semicolon, and a first bar, if a list is on several lines)
     return re.sub(r"[,;] (?=[)}\]])|(?<=\[ )\| ", "", parts)

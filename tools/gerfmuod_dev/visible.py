@@ -14,6 +14,8 @@ from .contracts import TYPE, Function, block_at, contracts_of, items_of, owner_o
 from .mutant_files import Fault
 from .repository import text_of
 
+# an import of several names: `use A.{B.x, C.{y, z}}`
+GROUP = re.compile(r"^( *(?:pub )?(?:ghost )?use )([^\s{]+)\.\{(.*)\}(;?)$", re.M)
 GHOST_IMPORT = re.compile(r"^ *(?:pub )?(?:ghost )?use Rattle\.(\w+)\.specs(?:\.([\w.]+?))?(?:\.\{([^}]*)\})?(?: as (\w+))?;?$", re.M)
 GHOST_PATH = re.compile(r"Rattle\.(\w+)\.specs\.([\w.]*\w)")
 IMPORT = re.compile(r"^ *(?:pub )?use (\w+)::(?:[\w:]*::)?(?:\{([^}]*)\}|(\w+));$", re.M)
@@ -37,6 +39,29 @@ class Part(NamedTuple):
     @property
     def crate(self):
         return self.path.split("/")[1]
+
+
+def paths_of(path, names):
+    """Returns the paths of what `PATH.{NAMES}` imports."""
+    found, places = [], [path]
+    for before, mark in re.findall(r"([^{},]*)([{},]|$)", names):
+        if mark == "{":
+            places.append(f"{places[-1]}.{before.strip().rstrip('.')}")
+        elif before.strip():
+            found.append(f"{places[-1]}.{before.strip()}")
+        if mark == "}":
+            places.pop()
+    return found
+
+
+def one_a_line(text):
+    """Returns a text in which each imported name has an import of its own."""
+
+    def lines(group):
+        parts = (whole.rpartition(".") for whole in paths_of(group[2], group[3]))
+        return "\n".join(f"{group[1]}{path}.{{{name}}}{group[4]}" for path, _, name in parts)
+
+    return GROUP.sub(lines, text)
 
 
 def listed(several, single=""):
@@ -91,11 +116,10 @@ def definitions(crate, file, names):
 
 def ghost_imports_in(text):
     """Returns what a text imports from specs, as pairs of a name and a part; a name that the text calls in full is empty."""
-    found = []
+    text, found = one_a_line(text), []
     for crate, file, several, alias in GHOST_IMPORT.findall(text):
-        # (a name in braces may begin with the path of its file)
-        for *path, name in (whole.split(".") for whole in listed(several, alias or file.split(".")[-1])):
-            found += [(name, part) for part in definitions(crate, ".".join(filter(None, [file, *path])), (name,))]
+        for name in listed(several, alias or file.split(".")[-1]):
+            found += [(name, part) for part in definitions(crate, file, (name,))]
     rest = GHOST_IMPORT.sub("", text)
     return found + [("", part) for crate, file in GHOST_PATH.findall(rest) for part in definitions(crate, file, ())]
 
