@@ -153,8 +153,9 @@ typedef struct gerfmuod_counters {
 
 /* The pool as a whole. */
 typedef struct gerfmuod_status {
-    uint32_t steps;      /* steps that were taken, of all generations */
-    uint32_t steps_left; /* steps that can still be reported, without those that are kept for gerfmuod_core_settle */
+    uint32_t steps;      /* steps that were taken, of all generations; without a list of them, 0 */
+    uint32_t steps_left; /* steps that can still be reported, without those that are kept for gerfmuod_core_settle; without
+                          * a list, always the number of those of a new core */
     uint32_t in_flight;  /* messages that were sent and not received */
     bool is_quiet;       /* no task is unfinished, no action is open, no message is in flight */
 } gerfmuod_status;
@@ -185,11 +186,18 @@ size_t gerfmuod_core_size(void);
  * core that is open: what it allocated would be lost. */
 GERFMUOD_CHECKED uint32_t gerfmuod_core_open(gerfmuod_core *core, uint32_t nodes);
 
+/* Opens a core as gerfmuod_core_open does, but one that keeps no list of its steps: it takes any number of them, and all that is
+ * proved holds of all of them. It has no trace, allocates nothing for steps, and never returns HISTORY_FULL. A step is refused as
+ * STORE_FULL, after the checks of its kind, if a counter of the generation is at its limit: 4,294,967,295 tasks and actions are
+ * left, or that many messages are in flight, or the node has sent or received 536,870,911 messages; a start, before its checks,
+ * after 1,048,577 waves, and gerfmuod_core_settle after 1,048,576; and a reopening of generation 4,294,967,295. */
+GERFMUOD_CHECKED uint32_t gerfmuod_core_open_unrecorded(gerfmuod_core *core, uint32_t nodes);
+
 /* Frees what the core allocated. It is then closed, and may be opened again. Returns 0, or the refusal, and nothing has
  * changed: NO_POOL, as for a core that is closed; BUSY. */
 uint32_t gerfmuod_core_close(gerfmuod_core *core);
 
-/* Begins anew with no steps, as a new core of the same nodes, and gives back the memory of the steps: for programs that
+/* Begins anew with no steps, as a new core of the same nodes and kind, and gives back the memory of the steps: for programs that
  * need no trace of the generations that ended. gerfmuod_core_reopen keeps them. Refused: NO_POOL; BUSY; WRONG_LIFE if
  * termination was not detected. */
 GERFMUOD_CHECKED uint32_t gerfmuod_core_restart(gerfmuod_core *core);
@@ -240,8 +248,8 @@ gerfmuod_status gerfmuod_core_status(const gerfmuod_core *core);
 GERFMUOD_CHECKED gerfmuod_settled gerfmuod_core_settle(gerfmuod_core *core);
 
 /* Writes the steps that were taken as a trace, which gerfmuod_audit and `tp audit` judge: 16 bytes, and at most 24 for
- * each step. If buffer_length is 0, returns the length only. NO_TEXT if a number above GERFMUOD_MAX_TRACED was used, or if the
- * core is closed or busy. */
+ * each step. If buffer_length is 0, returns the length only. NO_TEXT if a number above GERFMUOD_MAX_TRACED was used, if the
+ * core keeps no list of its steps, or if it is closed or busy. */
 GERFMUOD_CHECKED gerfmuod_written gerfmuod_core_trace(const gerfmuod_core *core, char *buffer, size_t buffer_length);
 
 /* Judges a trace as `tp audit` does, and writes the same text: WRITTEN or COMPLAINT. 256 bytes are enough. */

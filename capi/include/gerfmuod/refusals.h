@@ -52,6 +52,7 @@ enum gerfmuod_refusal {
     GERFMUOD_REFUSED_HISTORY_FULL = 16,   /* HistoryFull: there is no room for more steps, or a number would be above its limit */
     GERFMUOD_REFUSED_NO_MEMORY = 17,      /* NoMemory: an allocation failed */
     GERFMUOD_REFUSED_STRANGER = 19,       /* Stranger: the message is of another generation */
+    GERFMUOD_REFUSED_STORE_FULL = 23,     /* StoreFull: a counter of a core without a list of steps is at its limit */
     GERFMUOD_REFUSED_NO_POOL = 24,        /* NoPool: the core or the graph is not open */
     GERFMUOD_REFUSED_BAD_SPEC = 26,       /* BadSpec: no such step, maker, call or class, or nodes, inputs or arrays are invalid */
     GERFMUOD_REFUSED_BUSY = 28,           /* Busy: another call runs on the core, so the caller's lock is missing */

@@ -24,6 +24,7 @@ void __tsan_write_range(void *address, size_t size);
 #define GERFMUOD_TSAN_READ __tsan_read8((void *)(uintptr_t)core)
 #define GERFMUOD_TSAN_WRITE __tsan_write8(core)
 GERFMUOD_TSAN(uint32_t, WRITE, core_open, (gerfmuod_core *core, uint32_t nodes), (core, nodes))
+GERFMUOD_TSAN(uint32_t, WRITE, core_open_unrecorded, (gerfmuod_core *core, uint32_t nodes), (core, nodes))
 GERFMUOD_TSAN(uint32_t, WRITE, core_close, (gerfmuod_core *core), (core))
 GERFMUOD_TSAN(uint32_t, WRITE, core_restart, (gerfmuod_core *core), (core))
 GERFMUOD_TSAN(uint32_t, WRITE, core_reserve,
@@ -48,6 +49,7 @@ GERFMUOD_TSAN(gerfmuod_written, READ, core_trace,
               (core, buffer, buffer_length))
 
 #define gerfmuod_core_open gerfmuod_tsan_core_open
+#define gerfmuod_core_open_unrecorded gerfmuod_tsan_core_open_unrecorded
 #define gerfmuod_core_close gerfmuod_tsan_core_close
 #define gerfmuod_core_restart gerfmuod_tsan_core_restart
 #define gerfmuod_core_reserve gerfmuod_tsan_core_reserve

@@ -1,7 +1,8 @@
 /* judge.c: all calls of the proved core. Each region with tasks has one, with one node, from its first task after a barrier to the
  * next barrier: the implicit task of each thread is an action, which closes when that thread comes to the barrier.
  *
- * A core takes a limited number of steps. When it is full, what is left goes into a new one, which is not proved: see `renew`. */
+ * A core keeps no list of its steps, so it takes any number of them. Only the one whose trace is written does: when that one is full,
+ * its region is not judged until the next barrier. */
 #include "tool.h"
 #include <stdio.h>
 #include <stdlib.h>
@@ -40,20 +41,14 @@ static uint32_t seed(gerfmuod_core *core, region *r, task *t) {
 /* Opens the core of a region with the threads that have not come to the barrier and the tasks that are not done: the one place
  * that opens a core. Returns why it cannot. */
 static uint32_t open_with_rest(region *r) {
-    uint32_t refused = gerfmuod_core_open(&r->core, 1);
+    bool is_listed = *option.trace && !has_traced;
+    uint32_t refused = is_listed ? gerfmuod_core_open(&r->core, 1) : gerfmuod_core_open_unrecorded(&r->core, 1);
     r->is_open = !refused, r->epoch = ++epochs, r->numbers = 0;
     for (uint32_t n = 0; n < r->size && !refused; n++)
         if (!r->arrived[n]) refused = gerfmuod_core_action_open(&r->core, 0, n).refused;
     for (task *t = r->live.next; t != &r->live && !refused; t = t->next)
         if (t->is_inserted) refused = seed(&r->core, r, t);
     return refused ? refused : gerfmuod_core_ready(&r->core, 0).refused;
-}
-
-static void renew(region *r) {
-    gerfmuod_core_close(&r->core);
-    total.renewals++;
-    uint32_t refused = open_with_rest(r);
-    if (refused) stop_judging(r, refused);
 }
 
 void open_core(region *r) {
@@ -68,13 +63,8 @@ void judge(task *t, uint32_t kind, const task *maker, const char *what) {
     region *r = t->region;
     if (!r->is_open || r->is_broken || r->is_unjudged) return;
     uint32_t refused = take(&r->core, t, kind, maker).refused;
-    if (refused == GERFMUOD_REFUSED_HISTORY_FULL) {
-        renew(r);
-        if (r->is_unjudged) return;
-        if (kind == GERFMUOD_STEP_INSERT) t->number = r->numbers++, t->epoch = r->epoch; /* it is not among the rest */
-        refused = take(&r->core, t, kind, maker).refused;
-    }
-    if (refused == GERFMUOD_REFUSED_NO_MEMORY || refused == GERFMUOD_REFUSED_HISTORY_FULL) stop_judging(r, refused);
+    bool is_full = refused == GERFMUOD_REFUSED_HISTORY_FULL || refused == GERFMUOD_REFUSED_STORE_FULL;
+    if (is_full || refused == GERFMUOD_REFUSED_NO_MEMORY) stop_judging(r, refused);
     else if (refused) fault(r, t, what, refused);
 }
 

@@ -51,7 +51,6 @@ static void print_gaps(void) {
     };
     for (size_t n = 0; n < sizeof gaps / sizeof *gaps; n++)
         if (gaps[n].count) say("not judged, times %llu: %s", (unsigned long long)gaps[n].count, gaps[n].text);
-    if (total.renewals) say("full cores, each replaced by a new one with what was left: %llu", (unsigned long long)total.renewals);
 }
 
 static void say_count(char *text, uint64_t count, const char *what, const char *end) {

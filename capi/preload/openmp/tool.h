@@ -100,7 +100,7 @@ typedef struct worker { /* a thread */
 } worker;
 
 typedef struct totals {
-    uint64_t events, tasks, dependences, ends, faults, renewals, span, in_tasks, outside, serial, waiting;
+    uint64_t events, tasks, dependences, ends, faults, span, in_tasks, outside, serial, waiting;
     uint64_t unsent, unended, ordered, devices, orphans, unjudged, cancelled; /* what is not judged: see report.c */
     uint32_t threads;
 } totals;

@@ -1,6 +1,6 @@
-/* limits.c: cores at their limits. A core that is full still detects termination and has a trace, which is sound. Memory is
- * reserved for all steps that it can have, and once more when it is full. The calls that take a const core do not write to it:
- * here its memory is read-only. The others write to its first bytes alone. */
+/* limits.c: cores at their limits, with a list of steps and without. A core that is full still detects termination and has a
+ * trace, which is sound. Memory is reserved for all steps that it can have, and once more when it is full. The calls that take a
+ * const core do not write to it: here its memory is read-only. The others write to its first bytes alone. */
 #define _DEFAULT_SOURCE
 #include "../cases.h"
 #include <gerfmuod/core.h>
@@ -76,6 +76,54 @@ CASE(calls_that_only_read) {
     munmap(core, size);
 }
 
+/* Takes 1,200,000 steps with a core that keeps no list of them, and settles it. */
+static void settle_many(gerfmuod_core *core) {
+    const uint32_t room = GERFMUOD_MAX_STEPS - GERFMUOD_SETTLE_STEPS * 2;
+    char byte = 'x';
+    for (uint32_t task = 0; task < 400000; task++) {
+        assert_int_equal(gerfmuod_core_insert(core, task % 2, task, 0).refused, 0);
+        assert_int_equal(gerfmuod_core_begin(core, task).refused, 0);
+        assert_int_equal(gerfmuod_core_done(core, task).event, GERFMUOD_EVENT_NONE);
+    }
+    assert_int_equal(gerfmuod_core_insert(core, 0, 399999, 0).refused, GERFMUOD_REFUSED_TASK_KNOWN);
+    assert_true(gerfmuod_core_status(core).steps == 0 && gerfmuod_core_status(core).steps_left == room);
+    assert_true(gerfmuod_core_trace(core, &byte, 1).outcome == GERFMUOD_NO_TEXT && byte == 'x');
+    assert_int_equal(gerfmuod_core_settle(core).refused, GERFMUOD_REFUSED_NOT_IDLE);
+    assert_true(gerfmuod_core_ready(core, 1).refused == 0 && gerfmuod_core_ready(core, 0).event == GERFMUOD_EVENT_QUIET);
+    gerfmuod_settled settled = gerfmuod_core_settle(core);
+    assert_true(settled.refused == 0 && settled.wave == 1 && settled.steps == 12);
+}
+
+CASE(steps_without_a_list) {
+    gerfmuod_core core;
+    assert_int_equal(gerfmuod_core_open_unrecorded(&core, 9), GERFMUOD_REFUSED_BAD_SPEC);
+    assert_int_equal(gerfmuod_core_open_unrecorded(&core, 2), 0);
+    settle_many(&core);
+    assert_int_equal(gerfmuod_core_restart(&core), 0);
+    settle_many(&core);
+    assert_true(gerfmuod_core_reopen(&core).number == 2 && gerfmuod_core_close(&core) == 0);
+}
+
+/* One wave after the other while a message is in flight, until there is no room for another one. */
+CASE(waves_without_a_list) {
+    gerfmuod_core core;
+    uint32_t waves = 0;
+    assert_int_equal(gerfmuod_core_open_unrecorded(&core, 2), 0);
+    assert_int_equal(gerfmuod_core_send(&core, 0, 1, 7, GERFMUOD_FIRST_GENERATION).refused, 0);
+    assert_true(gerfmuod_core_ready(&core, 0).refused == 0 && gerfmuod_core_ready(&core, 1).refused == 0);
+    gerfmuod_step_result start = gerfmuod_core_start(&core);
+    for (; !start.refused; start = gerfmuod_core_start(&core), waves++) {
+        assert_true(gerfmuod_core_down(&core, 1).refused == 0 && gerfmuod_core_give(&core, 1).refused == 0);
+        assert_true(gerfmuod_core_up(&core, 1).refused == 0 && gerfmuod_core_give(&core, 0).number == waves + 1);
+        assert_int_equal(gerfmuod_core_judge(&core).event, GERFMUOD_EVENT_NOT_ENDED);
+    }
+    assert_true(start.refused == GERFMUOD_REFUSED_STORE_FULL && waves == GERFMUOD_MAX_STEPS + 1);
+    assert_int_equal(gerfmuod_core_receive(&core, 1, 7, GERFMUOD_FIRST_GENERATION).refused, 0);
+    assert_int_equal(gerfmuod_core_message_end(&core, 1, 7, GERFMUOD_FIRST_GENERATION).event, GERFMUOD_EVENT_QUIET);
+    assert_int_equal(gerfmuod_core_settle(&core).refused, GERFMUOD_REFUSED_STORE_FULL);
+    gerfmuod_core_close(&core);
+}
+
 /* The library uses the first gerfmuod_core_size() bytes of a core. */
 CASE(bytes_that_are_used) {
     gerfmuod_core core;
@@ -99,6 +147,7 @@ int main(void) {
         cmocka_unit_test(full_at_one_node),    cmocka_unit_test(full_in_a_wave),
         cmocka_unit_test(full_at_seven_nodes), cmocka_unit_test(full_at_eight_nodes_in_a_wave),
         cmocka_unit_test(calls_that_only_read), cmocka_unit_test(bytes_that_are_used),
+        cmocka_unit_test(steps_without_a_list), cmocka_unit_test(waves_without_a_list),
     };
     return RUN(cases);
 }

@@ -5,8 +5,9 @@ pub use Rattle.gerfmuod.proofs.answer.{Status.TheLaws.the_row_laws as status_law
 pub use Rattle.gerfmuod.proofs.answer.Written.TheLaws.{the_row_laws as written_laws}
 pub use Rattle.gerfmuod.{proofs.graph.answer.GraphResult.TheLaws.the_row_laws as graph_result_laws, specs.Calls.{IsByCall, IsClosed}}
 pub use Rattle.gerfmuod.specs.Calls.{IsCountersCall, IsRestartCall, IsSettleCall, IsStepCall, IsStepsCall, IsTraceCall, IsReserveCall}
-pub use Rattle.gerfmuod.specs.{Calls.{IsStatusCall, raw_step, CoreState, opened, opening}, Part.{GraphState, opened_graph, IsDescribeCall}}
-pub use Rattle.gerfmuod.specs.Part.{IsGraphCall, IsSpawnCall, IsTaskCall, IsPartCall, IsSharedTaskCall, IsTaskOfCall, PartView, opened_part}
+pub use Rattle.gerfmuod.specs.{Calls.{IsStatusCall, raw_step, CoreState, opened, opened_as, opening}, Part.{GraphState, opened_graph}}
+pub use Rattle.gerfmuod.specs.Part.{IsDescribeCall, IsGraphCall, IsSpawnCall, IsTaskCall, IsPartCall, IsSharedTaskCall, IsTaskOfCall}
+pub use Rattle.gerfmuod.specs.Part.{PartView, opened_part}
 pub use Rattle.gerfmuod.specs.contracts.{answer.StepResult.the_row as result_row, graph.slot.GraphSlot.the_row as graph_row}
 pub use Rattle.gerfmuod.specs.contracts.{part.slot.PartSlot.the_row as part_row, slot.CoreSlot.the_row as core_row}
 pub use Rattle.std.proofs.{Common.{◌≡◌, List, [], ◌∷◌, refl, ap, subst, ◌++◌, w32, MutBor, ℕ, zero, suc}, RcSteps.Good}

@@ -5,7 +5,7 @@ pub use Words.*
 -- ---- a core keeps room for settling, so settling is never refused for lack of it
 -- Until termination is detected, there is room for 9 steps for each node.
 abbrev pub HasRoom : Accepted → Type 0
-HasRoom a = IsFalse (is_ended a.nodes (present a.steps)) → length a.steps + 9 * a.nodes ≤ MAX_STEPS
+HasRoom a = IsFalse (is_ended a.nodes (present a.steps)) → list_length a + 9 * a.nodes ≤ MAX_STEPS
 
 ended_here : (n w : ℕ) (past : List Step) → judgement n past ≡ Some w → IsTrue (is_ended n (Judge ∷ past))
 ended_here n w past e = rw e refl
@@ -25,22 +25,28 @@ not_ended : (b : Bool) (more : List Check) → first_refusal ((b, Ended) ∷ mor
 not_ended true more e = cc
 not_ended false more e = refl
 
+list_grows : (r : Bool) (now more before : ℕ) → now ≡ more + before → (if r then now else 0) ≤ more + (if r then before else 0)
+list_grows true now more before e = omega (arith, e)
+list_grows false now more before e = omega arith
+
 pub kept_after_settling : (p : Inside) (r : Result (ℕ × ℕ) Refusal) (new : Accepted) → IsKept p → Settles p.core r new
     → IsKept (record p { core = new })
 kept_after_settling p (Ok answer) new k s =
     let is = s.1 in
     let open' = not_ended (is_ended p.core.nodes (present p.core.steps))
-    ((not (is_quiet (world_of p.core)), NotIdle) ∷ rooms_check (length p.core.steps) (9 * p.core.nodes)) s.0 in
+    ((not (is_quiet (world_of p.core)), NotIdle) ∷ settle_room p.core) s.0 in
     let room = k.room open' in
     let long : length new.steps ≡ answer.1 + length p.core.steps =
     rw (is.steps, is.counted) (length-append (Judge ∷ is.taken) p.core.steps) in
     let few = is.few in
+    let list : list_length new ≤ answer.1 + list_length p.core =
+    rw is.recorded (list_grows p.core.recorded (length new.steps) answer.1 (length p.core.steps) long) in
     record {
       nodes = k.nodes ∙ sym is.nodes;
       some_node = k.some_node;
       few_nodes = k.few_nodes;
       limit = k.limit;
-      within = omega (arith, room, long, few);
+      within = omega (arith, room, list, few);
       room = room_after_settling p.core new (Ok answer) s k.room;
       runs = rw (is.nodes, is.steps) is.run;
     }

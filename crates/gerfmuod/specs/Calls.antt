@@ -4,9 +4,9 @@ pub mod Writing
 pub use Writing.*
 
 -- ---- the room of a core. It keeps 9 steps for each node, which are enough for `settle`
--- the number of steps that can still be reported
+-- the number of steps that can still be reported; a core without a list of steps has always the same room
 abbrev pub room_of : Accepted → ℕ
-room_of a = MAX_STEPS - 9 * a.nodes - length a.steps
+room_of a = MAX_STEPS - 9 * a.nodes - list_length a
 
 abbrev pub is_full : Accepted → Bool
 is_full a = room_of a == 0
@@ -58,7 +58,7 @@ told o (Err r) new = refusal_told r
 -- If there is no room for the step, it is refused with the number of steps that were taken, and nothing changes. Else the
 -- core's result is returned.
 pub record AnswersInRoom (old : Accepted) (s : Step) (r : Result Reply Refusal) (new : Accepted) : Type 0 where
-  pub full : IsTrue (is_full old) → (r ≡ Err (HistoryFull (length old.steps))) × (new ≡ old)
+  pub full : IsTrue (is_full old) → (r ≡ Err (HistoryFull (list_length old))) × (new ≡ old)
   pub taken : IsFalse (is_full old) → Answers old s r new
 
 -- If there is no step, the call is refused and nothing changes.
@@ -106,10 +106,10 @@ counters refused n = record { refused = refused; pending = n.pending; sent = n.s
 abbrev pub counters_at : ℕ → Accepted → Counters
 counters_at i a = if nat_lt i a.nodes then counters 0 (numbers_at i a) else counters (number_of NoNode) no_numbers
 
--- The pool as a whole: the steps that were taken, the steps that can still be reported, the messages in flight, and
+-- The pool as a whole: the steps in the core's list, the steps that can still be reported, the messages in flight, and
 -- whether it is quiet.
 pub record IsStatus (a : Accepted) (answer : Status) : Type 0 where
-  pub steps : answer.steps ≡ length a.steps
+  pub steps : answer.steps ≡ list_length a
   pub steps_left : answer.steps_left ≡ room_of a
   pub in_flight : answer.in_flight ≡ length (world_of a).messages
   pub quiet : IsTrue answer.is_quiet ↔ IsQuiet (world_of a)
@@ -199,9 +199,10 @@ pub record IsClosed (old : CoreState) (refused : ℕ) (new : CoreState) : Type 0
   pub if_busy : old.use_is ≡ Busy → (refused ≡ 28) × (new ≡ old)
   pub if_open : old.use_is ≡ Open → (refused ≡ 0) × (new ≡ closed)
 
--- If termination was detected, the core is a new one of the same nodes; else the call is refused and nothing changes.
+-- If termination was detected, the core is a new one of the same nodes, with a list of its steps if it had one; else the call is
+-- refused and nothing changes.
 pub record IsRestarted (old : Accepted) (refused : ℕ) (new : Accepted) : Type 0 where
-  pub ended : IsTrue (is_ended old.nodes (present old.steps)) → (refused ≡ 0) × (new ≡ new_core old.nodes)
+  pub ended : IsTrue (is_ended old.nodes (present old.steps)) → (refused ≡ 0) × (new ≡ new_core_of old.recorded old.nodes)
   pub goes_on : IsFalse (is_ended old.nodes (present old.steps)) → (refused ≡ number_of WrongLife) × (new ≡ old)
 
 abbrev pub IsRestartCall : CoreState → ℕ → CoreState → Type 0

@@ -51,7 +51,7 @@ texts_of n =
     (of_pool n pool.Missing unused
     (of_pool n (pool.Stalled 0) unused
     (of_pool n pool.BodyFailed unused
-    (of_pool n pool.StoreFull unused
+    (of_pool n pool.StoreFull (codes "a counter of a core without a list of steps is at its limit")
     (of_pool n pool.NoPool (codes "the core or the graph is not open")
     (of_pool n pool.PoolKnown unused
     (of_pool n pool.BadSpec (codes "no such step, maker, call or class, or nodes, inputs or arrays are invalid")

@@ -1,8 +1,8 @@
 //! The exported functions on a core, which `gerfmuod/core.h` declares.
 ghost use Rattle.gerfmuod.specs.Calls.{IsByCall, IsClosed, IsCountersCall, IsRestartCall, IsSettleCall, IsStepCall, IsTraceCall};
-ghost use Rattle.gerfmuod.specs.Calls.{IsReserveCall, IsStepsCall, IsStatusCall, raw_step, CoreState, opened, opening};
+ghost use Rattle.gerfmuod.specs.Calls.{IsReserveCall, IsStepsCall, IsStatusCall, raw_step, CoreState, opened, opened_as, opening};
 ghost use Rattle.gerfmuod.specs.contracts.slot.CoreSlot.{the_row as slot_row};
-ghost use Rattle.std.specs.{Borrow.{full_share, sem}, Prelude.{◌≡◌, ◌≤◌}, Ptr.{lies_at, room_at}};
+ghost use Rattle.std.specs.{Borrow.{full_share, sem}, Prelude.{◌≡◌, ◌≤◌, false}, Ptr.{lies_at, room_at}};
 
 use crate::answer::{Counters, Settled, Status, StepResult, Written};
 use crate::batch;
@@ -39,6 +39,18 @@ pub unsafe extern "C" fn gerfmuod_core_open(alloc: Global, core: *mut u8, nodes:
     ensures* { sem 𝓛 (lies_at slot_row full_share core (opened nodes)) ∗ ⌜ result ≡ opening nodes ⌝ }
 {
     let made = CoreSlot::open(alloc, nodes);
+    (core as *mut CoreSlot).write(made);
+    opening(nodes)
+}
+
+/// Opens a core as `gerfmuod_core_open` does that keeps no list of its steps, so that it takes any number of them and has no
+/// trace. It is refused as 23, `StoreFull`, where `Core::step` says so, and not as 16, `HistoryFull`.
+#[unsafe(no_mangle)]
+pub unsafe extern "C" fn gerfmuod_core_open_unrecorded(alloc: Global, core: *mut u8, nodes: u32) -> u32
+    requires* { sem 𝓛 (room_at slot_row core) }
+    ensures* { sem 𝓛 (lies_at slot_row full_share core (opened_as false nodes)) ∗ ⌜ result ≡ opening nodes ⌝ }
+{
+    let made = CoreSlot::open_unrecorded(alloc, nodes);
     (core as *mut CoreSlot).write(made);
     opening(nodes)
 }

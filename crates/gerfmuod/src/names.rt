@@ -44,7 +44,7 @@ fn texts_of(number: u32) -> Option<(&'static str, &'static str)>
         20 "Missing" "no call of this library returns it"
         21 "Stalled" "no call of this library returns it"
         22 "BodyFailed" "no call of this library returns it"
-        23 "StoreFull" "no call of this library returns it"
+        23 "StoreFull" "a counter of a core without a list of steps is at its limit"
         24 "NoPool" "the core or the graph is not open"
         25 "PoolKnown" "no call of this library returns it"
         26 "BadSpec" "no such step, maker, call or class, or nodes, inputs or arrays are invalid"

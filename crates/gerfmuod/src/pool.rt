@@ -26,17 +26,17 @@ impl Model for CoreRoom {
 }
 
 impl CoreRoom {
-    ghost use Rattle.std.specs.Prelude.{◌≡◌, ◌≢◌, ◌≤◌, [], IfErr, reverse, length};
+    ghost use Rattle.std.specs.Prelude.{◌≡◌, ◌≢◌, ◌≤◌, IfErr, IsTrue, reverse, length};
     ghost use Rattle.gerfmuod.specs.Calls.{number_of, MAX_NODES, MAX_STEPS, world_of, AreRuns};
-    ghost use Rattle.gerfmuod.specs.Calls.{InEach, is_maker, IsNeverEarly, Settles, room_of, AnswersTo};
+    ghost use Rattle.gerfmuod.specs.Calls.{InEach, is_maker, IsNeverEarly, Settles, list_length, new_core_of, room_of, AnswersTo};
 
-    /// Returns a pool of the nodes 0 to `nodes` - 1, 1 to 8 of them. It allocates nothing.
-    pub(crate) fn new(alloc: Global, nodes: u32) -> CoreRoom
+    /// Returns a pool of the nodes 0 to `nodes` - 1, 1 to 8 of them, with a list of its steps or without. It allocates nothing.
+    pub(crate) fn new(alloc: Global, nodes: u32, recorded: bool) -> CoreRoom
         requires { (1 ≤ nodes) × (nodes ≤ MAX_NODES) }
-        ensures { result ≡ record { nodes = nodes; steps = [] } }
+        ensures { result ≡ new_core_of recorded nodes }
     {
         CoreRoom {
-            core: Core::new(alloc, nodes),
+            core: CoreRoom::core_of(alloc, nodes, recorded),
             nodes,
             limit: MAX_STEPS - 9 * nodes,
         }
@@ -57,9 +57,17 @@ impl CoreRoom {
         self.nodes
     }
 
-    /// Returns the steps that were taken, the oldest first. In each generation they are a run.
+    /// Returns whether the core keeps a list of its steps.
+    pub(crate) fn is_recorded(&self) -> bool
+        ensures { result ≡ self.now.recorded }
+    {
+        self.core.is_recorded()
+    }
+
+    /// Returns the list of steps, the oldest first; without one, none. In each generation the steps are a run.
     pub(crate) fn steps(&self) -> &[Step]
-        ensures steps { reverse result.now ≡ self.now.steps }
+        ensures steps { IsTrue self.now.recorded → reverse result.now ≡ self.now.steps }
+        ensures count { length result.now ≡ list_length self.now }
         ensures within { length result.now ≤ MAX_STEPS }
         ensures runs { AreRuns self.now.nodes self.now.steps }
     {
@@ -114,5 +122,17 @@ impl CoreRoom {
         ensures never_early { InEach (IsNeverEarly self.new.nodes) self.new.steps }
     {
         self.core.settle()
+    }
+
+    /// Returns a new core, with a list of its steps or without.
+    fn core_of(alloc: Global, nodes: u32, recorded: bool) -> Core
+        requires { (1 ≤ nodes) × (nodes ≤ MAX_NODES) }
+        ensures { result ≡ new_core_of recorded nodes }
+    {
+        if recorded {
+            Core::new(alloc, nodes)
+        } else {
+            Core::unrecorded(alloc, nodes)
+        }
     }
 }

@@ -1,6 +1,6 @@
 //! The content of a `gerfmuod_core`: a core, and a mark that says whether it is open and whether a call runs on it.
-ghost use Rattle.std.specs.Prelude.{◌≡◌, ◌≢◌, ◌↔◌, IsTrue, IsFalse};
-ghost use Rattle.gerfmuod.specs.Calls.{IsClosed, IsRestarted, can_be, opened, refusal_of, Busy, Open};
+ghost use Rattle.std.specs.Prelude.{◌≡◌, ◌≢◌, ◌↔◌, IsTrue, IsFalse, false};
+ghost use Rattle.gerfmuod.specs.Calls.{IsClosed, IsRestarted, can_be, opened, opened_as, refusal_of, Busy, Open};
 
 use crate::pool::CoreRoom;
 use std::alloc::Global;
@@ -53,11 +53,24 @@ impl CoreSlot {
     pub(crate) fn open(alloc: Global, nodes: u32) -> CoreSlot
         ensures { result ≡ opened nodes }
     {
+        CoreSlot::with_core(alloc, nodes, true)
+    }
+
+    /// Returns the same with a core that keeps no list of its steps.
+    pub(crate) fn open_unrecorded(alloc: Global, nodes: u32) -> CoreSlot
+        ensures { result ≡ opened_as false nodes }
+    {
+        CoreSlot::with_core(alloc, nodes, false)
+    }
+
+    fn with_core(alloc: Global, nodes: u32, recorded: bool) -> CoreSlot
+        ensures { result ≡ opened_as recorded nodes }
+    {
         can_be_sent::<CoreSlot>();
         let (mark, nodes) = if can_be(nodes) { (OPEN, nodes) } else { (0, 1) };
         CoreSlot {
             mark,
-            room: CoreRoom::new(alloc, nodes),
+            room: CoreRoom::new(alloc, nodes, recorded),
             alloc,
         }
     }
@@ -112,7 +125,7 @@ impl CoreSlot {
         if !self.room.core().is_ended() {
             return u32::from(Refusal::WrongLife.number());
         }
-        self.room = CoreRoom::new(self.alloc, self.room.nodes());
+        self.room = CoreRoom::new(self.alloc, self.room.nodes(), self.room.is_recorded());
         0
     }
 
@@ -124,7 +137,7 @@ impl CoreSlot {
             return u32::from(self.refusal());
         }
         self.mark = 0;
-        self.room = CoreRoom::new(self.alloc, 1);
+        self.room = CoreRoom::new(self.alloc, 1, true);
         0
     }
 }

@@ -93,11 +93,14 @@ pub extern "C" fn gerfmuod_audit(alloc: Global, text: &[u8], buffer: &mut [u8]) 
 }
 
 /// Writes the trace of the steps that a core has taken to the start of `buffer`; there is none if the core is not open, another
-/// call runs on it, or a number in a step is too great for a trace.
+/// call runs on it, it keeps no list of its steps, or a number in a step is too great for a trace.
 pub(crate) fn traced(slot: &mut CoreSlot, alloc: Global, buffer: &mut [u8]) -> Written
     ensures { IsTraceCall buffer.old slot.old (result, buffer.new) slot.new }
 {
     if !slot.is_open() {
+        return unwritten(NO_TEXT);
+    }
+    if !slot.room.is_recorded() {
         return unwritten(NO_TEXT);
     }
     match print_steps(alloc, slot.room.steps(), slot.room.nodes()) {

@@ -11,6 +11,6 @@ pub use Rattle.std.proofs.lemmas.{Bool.{lt-leb, Decides.nat_tests}, List.{length
 pub use Rattle.std.{proofs.lemmas.List.{drop-set-lt, drop-drop, drop_more, drop_all, length-set, take_min}, specs.Prelude.not}
 pub use Rattle.tp_base.specs.{Checks.{first_refusal, Check}, declared.Refusal.TheVariants.{Ended, NotIdle}}
 pub use Rattle.tp_core.{proofs.Lemmas.Keeping.Generations.{never_early_in_each, present-control}, specs.Accepted.{judged, reply_to}}
-pub use Rattle.tp_core.specs.{Accepted.with_step, Settled.rooms_check}
+pub use Rattle.tp_core.specs.{Accepted.{list_length, with_step}, Settled.settle_room}
 pub use Rattle.tp_text.proofs.Readings.Unique.Traces.{judged_wave, ended_over, not_ended_claims, reopened_over}
 pub use Rattle.tp_wave.specs.Sums.{judgement, until, visit, waves}

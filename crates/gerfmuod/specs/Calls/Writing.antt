@@ -26,11 +26,15 @@ IsAudited bytes old answer new =
     ⊎ (((MAX_TEXT < length bytes) × IsUnwritten 2 old answer new)
     ⊎ ((length bytes ≤ MAX_TEXT) × IsUnwritten 3 old answer new))
 
+-- The core has a list of its steps, which can be written.
+abbrev pub HasTrace : Accepted → Type 0
+HasTrace a = IsTrue a.recorded × CanBeTraced a.steps
+
 -- The trace of the accepted steps is written; or they have no trace; or the call is out of memory.
 abbrev pub IsTraced : Accepted → List ℕ → Written → List ℕ → Type 0
 IsTraced a old answer new =
-    (CanBeTraced a.steps × (text : List ℕ) × IsTraceOf a.nodes a.steps text × IsPut text 0 old answer new)
-    ⊎ (((¬ CanBeTraced a.steps) × IsUnwritten 5 old answer new)
+    (HasTrace a × (text : List ℕ) × IsTraceOf a.nodes a.steps text × IsPut text 0 old answer new)
+    ⊎ (((¬ HasTrace a) × IsUnwritten 5 old answer new)
     ⊎ IsUnwritten 3 old answer new)
 
 -- The text is written, if there is one.

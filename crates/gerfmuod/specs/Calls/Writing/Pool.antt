@@ -10,8 +10,8 @@ pub record IsKept (p : Inside) : Type 0 where
   pub some_node : 1 ≤ p.nodes
   pub few_nodes : p.nodes ≤ MAX_NODES
   pub limit : p.limit ≡ MAX_STEPS - 9 * p.nodes
-  pub within : length p.core.steps ≤ MAX_STEPS
-  pub room : IsFalse (is_ended p.core.nodes (present p.core.steps)) → length p.core.steps + 9 * p.core.nodes ≤ MAX_STEPS
+  pub within : list_length p.core ≤ MAX_STEPS
+  pub room : IsFalse (is_ended p.core.nodes (present p.core.steps)) → list_length p.core + 9 * p.core.nodes ≤ MAX_STEPS
   pub runs : AreRuns p.core.nodes p.core.steps
 
 -- The pool was quiet from the end of wave w on, and each task of the present generation had run once by then.

@@ -17,12 +17,18 @@ pub record CoreState : Type 0 where
 abbrev pub can_be : ℕ → Bool
 can_be n = nat_le 1 n && nat_le n 8
 
-abbrev pub new_core : ℕ → Accepted
-new_core n = record { nodes = n; steps = [] }
+abbrev pub new_core_of : (recorded : Bool) → ℕ → Accepted
+new_core_of recorded n = record { nodes = n; steps = []; recorded = recorded }
 
--- a new core of n nodes; it is not open if a pool cannot have n nodes
+abbrev pub new_core : ℕ → Accepted
+new_core n = new_core_of true n
+
+-- a new core of n nodes, with a list of its steps or without; it is not open if a pool cannot have n nodes
+abbrev pub opened_as : (recorded : Bool) → ℕ → CoreState
+opened_as recorded n = record { use_is = if can_be n then Open else Closed; core = new_core_of recorded (if can_be n then n else 1) }
+
 abbrev pub opened : ℕ → CoreState
-opened n = record { use_is = if can_be n then Open else Closed; core = new_core (if can_be n then n else 1) }
+opened n = opened_as true n
 
 abbrev pub opening : ℕ → ℕ
 opening n = if can_be n then 0 else number_of BadSpec

@@ -9,7 +9,7 @@ pub use Rattle.tp_base.specs.declared.{Refusal.TheVariants.WrongLife, Step.{Step
 pub use Rattle.tp_base.specs.declared.Step.TheVariants.{ActionClose, Ready, Send, Recv, MessageEnd, Start, Down, Give, Up, Judge, Reopen}
 pub use Rattle.tp_base.specs.declared.ids.{ActionId.ActionId, Generation.Generation, MessageId.MessageId, NodeId.NodeId, TaskId.TaskId}
 pub use Rattle.tp_base.specs.declared.limits.TheConstants.{MAX_NODES, MAX_STEPS}
-pub use Rattle.tp_core.specs.{Accepted.{Accepted, Answers, world_of, numbers_at, no_numbers}, Generations.{AreRuns, InEach}}
+pub use Rattle.tp_core.specs.{Accepted.{Accepted, Answers, list_length, world_of, numbers_at, no_numbers}, Generations.{AreRuns, InEach}}
 pub use Rattle.tp_core.specs.{Makers.is_maker, NeverEarly.{IsNeverEarly, IsOverFrom}, Settled.Settles, World.{is_quiet, IsQuiet}}
 pub use Rattle.tp_core.specs.declared.{Maker.{Maker, TheVariants.{Task, Action, Message, Opening, Thread}}, Reply.Reply}
 pub use Rattle.tp_core.specs.declared.{Reply.TheVariants.{Plain, WaveSums, Not, Over, Opened}, numbers.NodeNumbers.NodeNumbers}
