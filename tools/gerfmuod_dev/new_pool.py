@@ -54,8 +54,7 @@ def rename(folder, kind, new):
     """Gives the copied modules the new name of their crate, in each file that names it, and templates the names of their copies."""
     old, copied = KINDS[kind], r"\."
     if kind in PARTS:
-        modules = "|".join(os.path.splitext(os.path.basename(part))[0] for part in PARTS[kind].split())
-        copied = rf"\.(?:specs|proofs)\.(?:declared\.)?(?:{modules})\b"
+        copied = rf"\.(?:specs|proofs)\.(?:declared\.)?(?:{'|'.join(re.findall('/([A-Za-z_]+)', PARTS[kind]))})\b"
     for path in repository.files_in(folder):
         text = text_of(path)
         if kind in PARTS:
