@@ -4,7 +4,8 @@ import re
 
 import pytest
 
-from . import cli, contracts, docs, plots, proved, repository, running, shared_object
+from . import checks, cli, contracts, docs, plots, proved, repository, running, shared_object
+from .limits import second_model
 from .shipping import package
 
 CODE = repository.text_of(f"{repository.TOP}/tools/data/tests/code")
@@ -31,8 +32,10 @@ def test_faults_of_documents_are_found():
     assert docs.unknown_names("`make test` `make tea`, tools/dev docs, tools/dev tea, `docs/TEA.md`", {"docs"}) == ["docs/TEA.md", "tea"]
     wide = "x" * 121
     assert docs.wide_lines(f"a\n{wide}\n| {wide}\n```text\n{wide}\n```\n    {wide}\n[{wide}](a)\n{wide}") == [2, 9]
-    assert docs.wrong_counts("1<!-- files Makefile --> 2<!-- files crates.txt -->") == ["crates.txt"]
-    assert docs.unknown_blocks("`crates/chain/src/main.rt`:\n\n```rust\nno such line\n```\n") == ["no such line"]
+    assert docs.wrong_refusals("`26 BadSpec`, 26 `BadSpec`, 25 `BadSpec`; 2 `AGAIN`, 102 `NO_WORK`, 64 `NoThread`") == ["25 BadSpec", "102 NO_WORK"]
+    block = "```rust\nno such line\n```\n"
+    assert docs.unknown_blocks(f"`crates/chain/src/main.rt`:\n\n{block}", False) == docs.unknown_blocks(block) == ["no such line"]
+    assert docs.unknown_blocks(f"`tree.c`:\n\n{block}{block}", False) == []
     assert docs.headings_of("# A b\n## `C`, d\n# A b\n") == {"a-b", "c-d", "a-b-1"}
     assert [docs.exists("docs/GATE.md", link) for link in ("#the-gate", "#tea", "TEA.md")] == [True, False, False]
 
@@ -47,8 +50,16 @@ def test_the_readme_names_each_module():
     assert {*re.findall(r"`([a-z_]+)`", repository.text_of("tools/README.md"))} - {"gerfmuod_dev"} == modules
 
 
-def test_options_of_commands_in_documents_are_accepted():
-    form = re.compile(r"`tools/dev ([a-z][^`]* --(?!help)[^`]*)`|^    tools/dev ([a-z].*? --(?!help).*?)(?:  .*)?$", re.M)
+def test_tables_have_a_row_for_each_part_and_each_step():
+    rows = [f"| `{name}` | `{command}` |" for name, command in checks.PARTS.items()]
+    assert [row for row in rows if row not in repository.text_of("docs/GATE.md")] == []
+    steps = re.findall(r"^\| `([a-z]+)((?: [A-Z])*)` \|", repository.text_of("docs/TRACES.md").partition("## The result")[0], re.M)
+    counts = {(version, name): count for version, names in second_model.COUNTS_OF.items() for name, count in names.items() if name != "judge"}
+    assert {(name, len(words) // 2) for name, words in steps} == {(name, count) for (_, name), count in counts.items()}
+
+
+def test_commands_in_documents_are_accepted():
+    form = re.compile(r"`tools/dev ([a-z-]+\s(?!NAME|--help)[^`]*)`|^    tools/dev ([a-z-]+ .*?)(?:  .*)?$", re.M)
     for path in (path for path in docs.documents() if path != docs.OF_ITS_DAY):
         for command in form.findall(repository.text_of(path)):
             assert cli.parser_of_all().parse_args("".join(command).split())

@@ -15,6 +15,7 @@ import tempfile
 from dataclasses import dataclass
 
 from .. import docs, library, repository, running, shared_object
+from ..limits import terminal
 from ..running import short, write
 
 SONAME = shared_object.SONAME
@@ -22,10 +23,12 @@ SONAME = shared_object.SONAME
 USUAL = {"PREFIX": "/usr/gerfmuod", "LIBDIR": "/usr/gerfmuod/lib", "INCLUDEDIR": "/usr/gerfmuod/include"}
 OTHER = {"PREFIX": "/usr", "LIBDIR": "/usr/lib/x86_64-linux-gnu", "INCLUDEDIR": "/usr/include/gerfmuod", "MANDIR": "/srv/man"}
 LIST, DOCUMENTS = ("PREFIX", "/share/gerfmuod/installed"), ("PREFIX", "/share/doc/gerfmuod")
-# the sources that repeat the version, as a number or as a text; arguments, the last of which is completed, and how; lines of sh with the
+# the sources that repeat the version, as a number or as a text; lines that a tab completes, and what runs then; lines of sh with the
 # program that each needs and what it prints
 TABLES = repository.text_of(f"{repository.TOP}/tools/data/package/tables.json")
-COMPLETE = '. tools/completion.bash; COMP_WORDS=("$@"); COMP_CWORD=$(($# - 1)); _gerfmuod "$1" "${@: -1}"; echo "${COMPREPLY[@]}"'
+# the shells with an option and a first command, and a program that only completion runs: others are written to a file with their input
+SHELLS = {"bash": ("--norc", ":"), "zsh": ("-f", "autoload -U compinit; compinit -uD"), "fish": ("--no-config", ":")}
+COMPLETED = '#!/bin/sh\ncase "$*" in *--help | *--list) exec {} "$@" ;; esac\n{{ echo "$*"; [ -t 0 ] || cat; }} >> {}\n'
 # what a page of the manual has otherwise
 SIGN = re.compile(r"/?\*+/?|(Usage|Options|Examples):|gerfmuod[\w/]*\.h:")
 ALLOWED = ("PKG_CONFIG_ALLOW_SYSTEM_CFLAGS", "PKG_CONFIG_ALLOW_SYSTEM_LIBS", "PYTHONDONTWRITEBYTECODE")
@@ -150,11 +153,20 @@ def check_manual(tally, built, folder):
         tally.judge(not result.status and not missing, f"{path} lacks {missing[:5]}: {short(result.err)}")
 
 
-def check_completion(tally, built):
-    environment = {**os.environ, "PATH": f"{built}/bin:{os.environ['PATH']}"}
-    for line, expected in json.loads(TABLES)["completed"] if tally.has("bash", "its completion") else ():
-        result = running.run(["bash", "--norc", "-c", COMPLETE, "bash", *line.split(" ")], env=environment)
-        tally.judge(result.out.decode().split() == expected, f"{line}: completed as {short(result.out + result.err)}, not as {expected}")
+def check_completion(tally, built, folder):
+    """Types lines with a tab at each shell, in a folder with a file `goods`, and compares what then runs."""
+    lines, expected = zip(*json.loads(TABLES)["completed"])
+    write(f"{folder}/goods", "in it\n")
+    for program in ("tp", "samples"):
+        os.chmod(write(f"{folder}/{program}", COMPLETED.format(f"{built}/bin/{program}", f"{folder}/ran")), 0o755)
+    for shell, (option, first) in SHELLS.items():
+        if tally.has(shell, "its completion"):
+            write(f"{folder}/ran", "")
+            typed = [f"{first}; . {repository.TOP}/tools/completion.{shell}; cd {folder}", *(f"{line}\t" for line in lines), "exit\n"]
+            command = ["env", f"PATH={folder}:{os.environ['PATH']}", "setsid", "-c", shell, option, "-i"]
+            result = terminal.run_at_terminal(command, "\n".join(typed).encode(), is_typed=True)
+            ran = repository.text_of(f"{folder}/ran")
+            tally.judge(ran == "".join(f"{line}\n" for line in expected), f"{shell} completes {lines} as {ran}, {result.description(2000)}")
 
 
 def check_release(tally, built):
@@ -181,7 +193,9 @@ def run(options):
     if any(reasons) or options.sources:
         return None
     check_manual(tally, built_folder, f"{folder}/manual")
-    check_completion(tally, built_folder)
+    check_completion(tally, built_folder, tempfile.mkdtemp(dir=folder))
+    if not options.built:
+        docs.check_statements(tally, "built")
     for name, variables in (("usual", USUAL), ("other", OTHER)):
         tree = Tree(f"{folder}/{name}", variables, built_folder)
         if check(tally, tree.make("install"), "make install"):
