@@ -9,7 +9,6 @@
   line of sh behind it prints, which has to succeed (the rows `built` are a part of `tools/dev package`)
 - the table of docs/ARCHITECTURE.md has the groups of crates.txt, and the plots are drawn from what is stored (`tools/dev plot`)
 - the contracts, the tests, the mutants and the calls that documents cite are in the code (proved.py)
-- the runtime and the library's C code use no atomic operation: all shared state is behind locks
 """
 import glob
 import json
@@ -38,8 +37,6 @@ CONSTANT = re.compile(r"\{(\w+)::(\w+)\}")
 GENERATED, FENCED, OTHERS = r"<!-- bench \w+ -->\n.*?<!-- end of bench -->", r"^ *```.*?^ *```[^\n]*$", r"^(?:\||    |[^\n]*\]\()[^\n]*$"
 NOT_PROSE = re.compile(f"{GENERATED}|{FENCED}|{OTHERS}", re.S | re.M)
 MOST_COLUMNS, MOST_LINES = 120, 130
-ATOMIC = re.compile(r"\bsync::atomic\b|\batomic::|\bAtomic[A-Z]\w*|__atomic\w*|__sync_\w+|\b_Atomic\b|\bstdatomic\b|\batomic_\w+")
-COMMENT = re.compile(r"/\*.*?\*/|//[^\n]*", re.S)
 
 
 def documents():
@@ -133,15 +130,6 @@ def check_documents(tally, subcommands):
     print(f"{len(documents())} documents")
 
 
-def check_atomics(tally):
-    runtime = [path for path in glob.glob("crates/*/src/**/*.rt", recursive=True) if not path.startswith("crates/test_")]
-    library = [path for path in glob.glob("capi/[is]*/**", recursive=True) if path.endswith((".c", ".h", ".hpp"))]
-    for path in runtime + library:
-        found = [use[0] for use in ATOMIC.finditer(COMMENT.sub("", text_of(path)))]
-        tally.judge(not found, f"{path}: {', '.join(found)}: shared state has to be behind a lock")
-    print(f"{len(runtime)} files of the runtime and {len(library)} of the library's C code: no atomic operation")
-
-
 def run(options):
     tally = options.tally
     check_documents(tally, set(options.subcommands))
@@ -149,4 +137,3 @@ def run(options):
     plots.check_map(tally)
     plots.check(tally, [name for name in plots.PLOTS if name not in figures.PLOTS])
     proved.check(tally)
-    check_atomics(tally)

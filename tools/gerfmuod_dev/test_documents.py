@@ -1,12 +1,10 @@
 """Tests of the checks of documents and of the manual, by pytest: that each finds the fault that it is for."""
-import os
 import re
 
 import pytest
 
-from . import checks, cli, contracts, docs, plots, proved, repository, running, shared_object
+from . import cli, contracts, docs, plots, proved, repository, running, shared_object
 from .limits import second_model
-from .shipping import package
 
 CODE = repository.text_of(f"{repository.TOP}/tools/data/tests/code")
 
@@ -45,14 +43,7 @@ def test_dead_links_are_found(tmp_path):
     assert docs.dead_links(page) == ["page.md#b", "no.md", "no-file"]
 
 
-def test_the_readme_names_each_module():
-    modules = {os.path.splitext(name)[0] for name in os.listdir("tools/gerfmuod_dev") if not name.startswith("__")}
-    assert {*re.findall(r"`([a-z_]+)`", repository.text_of("tools/README.md"))} - {"gerfmuod_dev"} == modules
-
-
-def test_tables_have_a_row_for_each_part_and_each_step():
-    rows = [f"| `{name}` | `{command}` |" for name, command in checks.PARTS.items()]
-    assert [row for row in rows if row not in repository.text_of("docs/GATE.md")] == []
+def test_the_grammar_has_a_row_for_each_step():
     steps = re.findall(r"^\| `([a-z]+)((?: [A-Z])*)` \|", repository.text_of("docs/TRACES.md").partition("## The result")[0], re.M)
     counts = {(version, name): count for version, names in second_model.COUNTS_OF.items() for name, count in names.items() if name != "judge"}
     assert {(name, len(words) // 2) for name, words in steps} == {(name, count) for (_, name), count in counts.items()}
@@ -66,7 +57,6 @@ def test_commands_in_documents_are_accepted():
 
 
 @pytest.mark.parametrize("check, path, old, new", [
-    (package.check_version, "python/pyproject.toml", "version = ", "# version = "),
     (plots.check_map, plots.PAGE, "| tp_core |", "| tp_cores |"),
     (proved.check_memory, proved.OUT_OF_MEMORY, "`tp_base::Table::insert`", ""),
     (proved.check_names, "docs/TOUR.md", "`takes_sums_twice`", "`no_such_mutant`"),

@@ -1,6 +1,6 @@
 """Installs into temporary folders and checks what is there: `make test`. It fails if a program or the library is not of these sources.
 
-Compares the versions in the sources; what the pages of the manual have and the completion offers with what they are generated from; the
+Compares what the pages of the manual have and the completion offers with what they are generated from; the
 installed files with the list that `make uninstall` reads, their modes with the usual ones, and the links of the documents with them. Runs
 programs in C, C++, Fortran, Rust and Python over nothing but the installed files, by pkg-config and by CMake, shared and static. After
 `make uninstall` nothing is left. Then tools/release-test packs a release and tries it here. What is not installed is skipped, and counted.
@@ -23,8 +23,7 @@ SONAME = shared_object.SONAME
 USUAL = {"PREFIX": "/usr/gerfmuod", "LIBDIR": "/usr/gerfmuod/lib", "INCLUDEDIR": "/usr/gerfmuod/include"}
 OTHER = {"PREFIX": "/usr", "LIBDIR": "/usr/lib/x86_64-linux-gnu", "INCLUDEDIR": "/usr/include/gerfmuod", "MANDIR": "/srv/man"}
 LIST, DOCUMENTS = ("PREFIX", "/share/gerfmuod/installed"), ("PREFIX", "/share/doc/gerfmuod")
-# the sources that repeat the version, as a number or as a text; lines that a tab completes, and what runs then; lines of sh with the
-# program that each needs and what it prints
+# lines that a tab completes, and what runs then; lines of sh with the program that each needs and what it prints
 TABLES = repository.text_of(f"{repository.TOP}/tools/data/package/tables.json")
 # the shells with an option and a first command, and a program that only completion runs: others are written to a file with their input
 SHELLS = {"bash": ("--norc", ":"), "zsh": ("-f", "autoload -U compinit; compinit -uD"), "fish": ("--no-config", ":")}
@@ -126,13 +125,6 @@ def check_uninstall(tally, tree):
     tally.judge(not os.listdir(tree.destination), f"make uninstall leaves {os.listdir(tree.destination)}")
 
 
-def check_version(tally):
-    for path, pattern in json.loads(TABLES)["versions"]:
-        found = re.findall(pattern, repository.text_of(path))
-        expected = [str(repository.version_number())], [repository.version()]
-        tally.judge(found in expected, f"{path} has the version {found}, and {repository.VERSION} {expected}")
-
-
 def check_manual(tally, built, folder):
     """Has groff lay out each page, which then has all words of what `--help` prints, or of its header, except for headings and stars."""
     if not all([tally.has(command, "the manual") for command in ("help2man", "pandoc", "groff")]):
@@ -186,7 +178,6 @@ def arguments(parser):
 
 def run(options):
     tally, folder, built_folder = options.tally, options.temporary, options.built or repository.TOP
-    check_version(tally)
     reasons = [] if options.built else [library.reason_not_built(), *map(repository.reason_not_built, ("tp", "samples"))]
     if any(reasons):
         tally.fails(f"{next(filter(None, reasons))}: `make` and `make lib` build what is installed")
