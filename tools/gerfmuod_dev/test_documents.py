@@ -1,11 +1,10 @@
 """Tests of the checks of documents and of the manual, by pytest: that each finds the fault that it is for."""
-import os
 import re
 
 import pytest
 
 from . import cli, contracts, docs, plots, proved, repository, running, shared_object
-from .shipping import package
+from .limits import second_model
 
 CODE = repository.text_of(f"{repository.TOP}/tools/data/tests/code")
 
@@ -31,8 +30,10 @@ def test_faults_of_documents_are_found():
     assert docs.unknown_names("`make test` `make tea`, tools/dev docs, tools/dev tea, `docs/TEA.md`", {"docs"}) == ["docs/TEA.md", "tea"]
     wide = "x" * 121
     assert docs.wide_lines(f"a\n{wide}\n| {wide}\n```text\n{wide}\n```\n    {wide}\n[{wide}](a)\n{wide}") == [2, 9]
-    assert docs.wrong_counts("1<!-- files Makefile --> 2<!-- files crates.txt -->") == ["crates.txt"]
-    assert docs.unknown_blocks("`crates/chain/src/main.rt`:\n\n```rust\nno such line\n```\n") == ["no such line"]
+    assert docs.wrong_refusals("`26 BadSpec`, 26 `BadSpec`, 25 `BadSpec`; 2 `AGAIN`, 102 `NO_WORK`, 64 `NoThread`") == ["25 BadSpec", "102 NO_WORK"]
+    block = "```rust\nno such line\n```\n"
+    assert docs.unknown_blocks(f"`crates/chain/src/main.rt`:\n\n{block}", False) == docs.unknown_blocks(block) == ["no such line"]
+    assert docs.unknown_blocks(f"`tree.c`:\n\n{block}{block}", False) == []
     assert docs.headings_of("# A b\n## `C`, d\n# A b\n") == {"a-b", "c-d", "a-b-1"}
     assert [docs.exists("docs/GATE.md", link) for link in ("#the-gate", "#tea", "TEA.md")] == [True, False, False]
 
@@ -42,20 +43,20 @@ def test_dead_links_are_found(tmp_path):
     assert docs.dead_links(page) == ["page.md#b", "no.md", "no-file"]
 
 
-def test_the_readme_names_each_module():
-    modules = {os.path.splitext(name)[0] for name in os.listdir("tools/gerfmuod_dev") if not name.startswith("__")}
-    assert {*re.findall(r"`([a-z_]+)`", repository.text_of("tools/README.md"))} - {"gerfmuod_dev"} == modules
+def test_the_grammar_has_a_row_for_each_step():
+    steps = re.findall(r"^\| `([a-z]+)((?: [A-Z])*)` \|", repository.text_of("docs/TRACES.md").partition("## The result")[0], re.M)
+    counts = {(version, name): count for version, names in second_model.COUNTS_OF.items() for name, count in names.items() if name != "judge"}
+    assert {(name, len(words) // 2) for name, words in steps} == {(name, count) for (_, name), count in counts.items()}
 
 
-def test_options_of_commands_in_documents_are_accepted():
-    form = re.compile(r"`tools/dev ([a-z][^`]* --(?!help)[^`]*)`|^    tools/dev ([a-z].*? --(?!help).*?)(?:  .*)?$", re.M)
+def test_commands_in_documents_are_accepted():
+    form = re.compile(r"`tools/dev ([a-z-]+\s(?!NAME|--help)[^`]*)`|^    tools/dev ([a-z-]+ .*?)(?:  .*)?$", re.M)
     for path in (path for path in docs.documents() if path != docs.OF_ITS_DAY):
         for command in form.findall(repository.text_of(path)):
             assert cli.parser_of_all().parse_args("".join(command).split())
 
 
 @pytest.mark.parametrize("check, path, old, new", [
-    (package.check_version, "python/pyproject.toml", "version = ", "# version = "),
     (plots.check_map, plots.PAGE, "| tp_core |", "| tp_cores |"),
     (proved.check_memory, proved.OUT_OF_MEMORY, "`tp_base::Table::insert`", ""),
     (proved.check_names, "docs/TOUR.md", "`takes_sums_twice`", "`no_such_mutant`"),
