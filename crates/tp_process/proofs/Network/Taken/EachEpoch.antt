@@ -419,7 +419,8 @@ module _ (n e : ℕ) (w : Epochs) (x : World) (h : IsEpoch n e w x) (v : IsOver 
 
   -- The process of a useful event is in the epoch.
   module _ (q : ℕ) (g : Good n q x) where
-    receiver_there : (o : Option ControlMessage) → IsKnown n g.wave g.gifts x o → is_taken n x o ≡ true → is_receiver_in_epoch e w o ≡ true
+    receiver_there : (o : Option ControlMessage) → ((l : ControlMessage) → o ≡ Some l → KnownOf n g.wave g.gifts x l) → is_taken n x o ≡ true
+        → is_receiver_in_epoch e w o ≡ true
     receiver_there None k t = absurd (cc t)
     receiver_there (Some l) k t =
         let a = and_parts (ltb l.to n) (is_for l (x.at l.to) && is_due l.from l.wave l.token (x.at l.to)) t in
@@ -427,7 +428,7 @@ module _ (n e : ℕ) (w : Epochs) (x : World) (h : IsEpoch n e w x) (v : IsOver 
         let m : l.to < n = ltb-true l.to n a.0 in
         elim (in_or_notified l.to m) [
           | inl d ↦ eq-eqb (w.at l.to).epoch e d
-          | inr d ↦ absurd (cc (b.1, none_due n q x g l.to m (notified_over (x.at l.to) d) l.from l.wave l.token k.0))
+          | inr d ↦ absurd (cc (b.1, none_due n q x g l.to m (notified_over (x.at l.to) d) l.from l.wave l.token (k l refl).0))
         ]
 
     current_there : (event : Event) → is_useful n x event ≡ true → is_current e w event ≡ true
@@ -440,7 +441,7 @@ module _ (n e : ℕ) (w : Epochs) (x : World) (h : IsEpoch n e w x) (v : IsOver 
     current_there (Does i _) t = absurd (cc t)
     current_there (Comes k) t =
         subst (λ ls. is_receiver_in_epoch e w (control_at ls k) ≡ true) (sym h.controls)
-        (receiver_there (control_at x.controls k) (known_at n g.wave g.gifts x x.controls k g.inv.controls) t)
+        (receiver_there (control_at x.controls k) (g.inv.controls k) t)
 
     useful_there : (event : Event) → is_useful n x event ≡ true → is_progress n w (In e event) ≡ true
     useful_there event t =
