@@ -202,7 +202,7 @@ module _ (n : ℕ) (s : Network) (f : Follows n s) where
         | inl d ↦
             let more : events_of n e (In g (Does i a) ∷ f.all) ≡ Does i a ∷ events_of n e f.all
             = rw (eq-eqb g e d, eq-eqb ((epochs_after n f.all).at i).epoch g there) refl in
-            let mine : (w.at i).state ≡ x.at i = ap (λ (z : Epochs). (z.at i).state) f.same ∙ (epochs n f.all e).now i (there ∙ d) in
+            let mine : (w.at i).state ≡ x.at i = ap (λ (z : Epochs). (z.at i).state) f.same ∙ (epochs n e f.all).now i (there ∙ d) in
             let o = act_of n s x i a (sym mine) in
             subst (λ h. Balance e k (carried_after n s i a) (after n h)) (sym more)
             (omega (
@@ -305,7 +305,7 @@ module _ (n : ℕ) (s : Network) (f : Follows n s) where
             (λ events. Balance g m (without k s.carried) (after n events)) (λ b.
             let d : e ≡ g = eqb-true e g (and_parts (eqb e g) (is_current e (epochs_after n f.all) (Comes h.which)) b).0 in
             let lists : w.controls e ≡ x.controls
-            = ap (λ (z : Epochs). z.controls e) f.same ∙ ap (λ u. (epochs_after n f.all).controls u) d ∙ (epochs n f.all g).controls in
+            = ap (λ (z : Epochs). z.controls e) f.same ∙ ap (λ u. (epochs_after n f.all).controls u) d ∙ (epochs n g f.all).controls in
             subst (λ m2. Balance g m (without k s.carried) (came n x m2)) (sym (subst (λ ls. control_at ls h.which ≡ Some l) lists h.there))
             (came_balance n g m s.carried x (f.balance g m less) k c at d))
             (λ b. omega (arith, carried_less g m k s.carried c at, f.balance g m less));
@@ -410,9 +410,12 @@ never_late n j c events few there =
             | inr past ↦ absurd (omega (arith, late, same, beyond n f.all i past))
             | inl l ↦
                 let x : World = after n (events_of n e f.all) in
-                let over : (x.at i).over ≡ true = notified_over (x.at i) ((epochs n f.all e).left i (omega (arith, late, same))) in
+                let over : (x.at i).over ≡ true = notified_over (x.at i) ((epochs n e f.all).left i (omega (arith, late, same))) in
                 let done = all_taken n i (events_of n e f.all) l over in
                 let due : bit (eqb c.epoch e && eqb c.message.to i) ≡ 1 = rw (eq-eqb e e refl, eq-eqb i i refl) refl in
                 absurd (omega (arith, f.balance e i l, done.0, done.1, carried_less e i j s.carried c there, due))
           ]
     ]
+
+-- The theorems that `goes_on_each` names.
+pub ruleset in_each_epoch = (goes_on_epoch, lags, soon_epoch, once_epoch)

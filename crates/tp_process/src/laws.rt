@@ -88,7 +88,7 @@ pub fn near_epochs()
 
 /// Liveness in every epoch: after its termination, a useful event of it is possible until all processes in it can
 /// reopen.
-#[tactic(auto, using(crate::proofs::Network::goes_on_epoch, crate::proofs::Network::lags, crate::proofs::Network::soon_epoch, crate::proofs::Network::once_epoch))]
+#[tactic(auto, using(crate::proofs::Network::in_each_epoch))]
 pub fn goes_on_each()
     ensures goes_on { GoesOnEpochLaw }
     ensures lags { LagsLaw }

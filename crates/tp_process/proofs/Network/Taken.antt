@@ -14,7 +14,7 @@ sends_to k _ = 0
 
 pub posted_to : (k : ℕ) (next : Next) (ls : List ControlMessage) → sent_to k (posted next ls) ≡ sent_to k ls + sends_to k next
 posted_to k (Send l) ls =
-    elim (cases_Bool (eqb l.to k)) [ inl t ↦ rw t (omega arith) | inr t ↦ rw t (omega arith) ]
+    grind (arith, nat_tests)
 posted_to k _ ls = omega arith
 
 -- what p still has to send to process k in its newest wave and for the end (`owes`), and what its waves and the end
@@ -206,11 +206,11 @@ length_by n (l ∷ ls) t =
     (λ k off. rw (ne_eqb l.to k (λ e. off (sym e)))) in
     omega (arith, one, length_by n ls (λ k. t (suc k)))
 
-most_sent : (n w : ℕ) → 0 < n → total n (at_most_sent n w) ≡ (2 * w + 1) * (n - 1)
-most_sent n zero first =
+most_sent : (n w : ℕ) → total n (at_most_sent n w) ≡ (2 * w + 1) * (n - 1)
+most_sent n zero =
     let each : total n (at_most_sent n 0) ≡ total n inner = total-equal n _ _ (λ k l. grind (arith, nat_tests)) in
-    omega (arith, each, both n first, kids_all n)
-most_sent n (suc w) first =
+    omega (arith, each, inner_all n, kids_all n)
+most_sent n (suc w) =
     let each : total n (at_most_sent n (suc w)) ≡ total n (λ k. at_most_sent n w k + (kids_of n k + inner k))
     = total-equal n _ _ (λ k l. grind (arith, nat_tests)) in
     let two : 2 * suc w + 1 ≡ (2 * w + 1) + 2 = omega arith in
@@ -220,8 +220,9 @@ most_sent n (suc w) first =
       each,
       total_add n (at_most_sent n w) (λ k. kids_of n k + inner k),
       total_add n (kids_of n) inner,
-      both n first,
-      most_sent n w first,
+      inner_all n,
+      kids_all n,
+      most_sent n w,
     ) in
     parts ∙ sym (add-mul (2 * w + 1) 2 (n - 1)) ∙ ap (λ z. z * (n - 1)) (sym two)
 
@@ -232,13 +233,13 @@ few_control_messages n events l =
       arith,
       length_by n ls (slim_after n events).1,
       total-le n (λ k. sent_to k ls) (at_most_sent n ((after n events).at 0).wave) (λ k m. sent-le n k events m),
-      most_sent n ((after n events).at 0).wave l,
+      most_sent n ((after n events).at 0).wave,
     )
 
 pub few_control_messages_epoch : ControlMessagesEpochLaw
 few_control_messages_epoch n all l =
     let e : ℕ = ((epochs_after n all).at 0).epoch in
-    let h = epochs n all e in
+    let h = epochs n e all in
     subst (λ ls. length ls ≤ (2 * ((epochs_after n all).at 0).state.wave + 1) * (n - 1)) (sym h.controls)
     (subst (λ p. length (after n (events_of n e all)).controls ≤ (2 * p.wave + 1) * (n - 1)) (sym (h.now 0 refl))
     (few_control_messages n (events_of n e all) l))

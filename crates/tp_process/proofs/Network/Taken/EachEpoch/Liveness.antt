@@ -133,12 +133,9 @@ module _ (n q : ℕ) (x : World) (few : n ≤ 2 ^ 20) (v : Good n q x) (i : ℕ)
       let small : IsSmallGift n c v.gifts = gift_small n q v.wave v.floor v.gifts x v.inv c (λ z. t.given) in
       let waits : ((p.up_left && eqb c (2 * i + 1)) || (p.up_right && eqb c (2 * i + 2))) ≡ true
       = subst (λ m. ((p.up_left && eqb c (2 * m + 1)) || (p.up_right && eqb c (2 * m + 2))) ≡ true) (v.inv.each i l).number d in
-      and_from _ _
-      (and_from _ _
-      (and_from _ _ (and_from p.here (eqb u p.wave) here (eq-eqb u p.wave same))
-      (fits p.taken_sent s (omega (arith, a.0.child c waits, t.sent, small.sent))))
-      (fits p.taken_received r (omega (arith, a.1.child c waits, t.received, small.received))))
-      d
+      let f = fits p.taken_sent s (omega (arith, a.0.child c waits, t.sent, small.sent)) in
+      let g = fits p.taken_received r (omega (arith, a.1.child c waits, t.received, small.received)) in
+      and_from _ _ (and_from _ _ (and_from _ _ (and_from p.here (eqb u p.wave) here (eq-eqb u p.wave same)) f) g) d
 
   -- One that is not due was taken before.
   undue : (from u : ℕ) (c : Token) → Known n v.wave v.gifts x from u c → Path v.wave x.at from i u c
@@ -372,11 +369,8 @@ module _ (n q : ℕ) (x : World) (few : n ≤ 2 ^ 20) (quiet : IsQuiet n x) (v :
         | inl here ↦ wave_on open_yet n 0 (omega arith) l here
         | inr away ↦
             let p : EpochState = x.at 0 in
-            let starts : can_start p ≡ true =
-            and_from _ _
-            (and_from _ _
-            (and_from _ _ (and_from _ _ (eq-eqb p.number 0 (v.inv.each 0 l).number) (not_from_false p.over o)) (not_from_false p.here away))
-            (eq-eqb p.pending 0 (quiet.idle 0 l))) (fits p.wave 1 room) in
+            let starts : can_start p ≡ true
+            = grind (arith, nat_tests, (v.inv.each 0 l).number, o, away, quiet.idle 0 l, fits p.wave 1 room) in
             moves_on 0 l
             (subst DoesStep (sym (moves_are n q 0 x l v))
             (cond_both (can_start p) (opens (p.wave + 1) p) p (λ z. DoesStep (acts z))

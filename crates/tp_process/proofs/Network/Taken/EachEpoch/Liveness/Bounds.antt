@@ -23,12 +23,9 @@ pub total_add : (n : ℕ) (f g : ℕ → ℕ) → total n (λ j. f j + g j) ≡ 
 total_add zero f g = refl
 total_add (suc n) f g = omega (arith, total_add n f g)
 
-inner_all : (n : ℕ) → total (suc n) inner ≡ n
+pub inner_all : (n : ℕ) → total n inner ≡ n - 1
 inner_all zero = refl
-inner_all (suc n) =
-    let pick : Bool → ℕ = λ b. cond b 0 1 in
-    let one : inner (suc n) ≡ 1 = ap pick (ne_eqb (suc n) 0 (λ e. absurd (omega (arith, e)))) in
-    omega (arith, inner_all n, one)
+inner_all (suc n) = grind (arith, nat_tests, inner_all n)
 
 -- the number of children of process j
 abbrev pub kids_of : ℕ → ℕ → ℕ
@@ -43,12 +40,6 @@ kids_all n =
     (λ c m. omega (arith, size_past n c m))
     ∙ ap (λ z. z - 1) (size_all n)
 
-pub both : (n : ℕ) → 0 < n → total n (kids_of n) + total n inner ≡ 2 * (n - 1)
-both n first =
-    let e : n ≡ suc (n - 1) = omega (arith, first) in
-    let ones : total n inner ≡ n - 1 = subst (λ k. total k inner ≡ n - 1) (sym e) (inner_all (n - 1)) in
-    omega (arith, kids_all n, ones)
-
 -- the useful events of a wave at process j: it comes down, goes down to the children, comes back from them, and goes up
 abbrev pub wave_cost : ℕ → ℕ → ℕ
 wave_cost n j = inner j + (1 + (kids_of n j + kids_of n j))
@@ -62,7 +53,7 @@ wave_total n first =
       total_add n (kids_of n) (kids_of n),
       ones n,
       kids_all n,
-      both n first,
+      inner_all n,
       first,
     )
 
@@ -355,6 +346,7 @@ soon n later events l z =
       total_add n (wave_cost n) (λ j. inner j + kids_of n j),
       total_add n inner (kids_of n),
       wave_total n l,
-      both n l,
+      kids_all n,
+      inner_all n,
       budget-le n (v.0 + 2 - (at 0).wave) (omega (arith, v.1.inv.pace.past, v.1.inv.root.wave)),
     )

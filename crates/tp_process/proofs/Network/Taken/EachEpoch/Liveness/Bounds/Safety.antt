@@ -82,8 +82,9 @@ module _ (n q i : ℕ) (x : World) (l : i < n) (v : Good n q x) where
   good_message : (dl dr ol or : Bool) (to : ℕ) (c : Token)
       → ((y : World) → (Finished n v.wave x → Finished n v.wave y) → Known n v.wave v.gifts y (x.at i).number (x.at i).wave c)
       → Path v.wave (put i (owing (x.at i) dl dr (x.at i).over ol or) x.at) (x.at i).number to (x.at i).wave c
-      → (Posts n v.wave (control (x.at i) to c ∷ x.controls) i (x.at i) → Posts n v.wave (control (x.at i) to c ∷ x.controls) i
-      (owing (x.at i) dl dr (x.at i).over ol or))
+      → (Posts n v.wave (control (x.at i) to c ∷ x.controls) i (x.at i)
+      → ((a w : ℕ) → to ≡ a → (x.at i).wave ≡ w → Has (control (x.at i) to c ∷ x.controls) (control_of n i a w c))
+      → Posts n v.wave (control (x.at i) to c ∷ x.controls) i (owing (x.at i) dl dr (x.at i).over ol or))
       → IsGoodMove n q i x (record { state = owing (x.at i) dl dr (x.at i).over ol or; next = Send (control (x.at i) to c) })
   good_message dl dr ol or to c known_of way posts =
       let ls : List ControlMessage = control (x.at i) to c ∷ x.controls in
@@ -95,7 +96,8 @@ module _ (n q i : ℕ) (x : World) (l : i < n) (v : Good n q x) where
       good_owes dl dr (x.at i).over ol or ls (λ o. o) (λ o. inl o)
       (all_more (KnownOf n v.wave v.gifts (changed i p x.under_way ls x)) (control (x.at i) to c) x.controls
       (known_of (changed i p x.under_way ls x) still, way)) more
-      (posts (posts_more n v.wave x.controls ls i (x.at i) more (v.inv.posts i l)))
+      (posts (posts_more n v.wave x.controls ls i (x.at i) more (v.inv.posts i l))
+      (λ a w e f. record { which = 0; there = rw ((v.inv.each i l).number, (v.inv.each i l).processes, e, f) }))
 
 -- Process 0 judges the wave.
 module _ (n q : ℕ) (x : World) (l : 0 < n) (v : Good n q x) (c : CanGive (x.at 0)) where
@@ -124,6 +126,8 @@ module _ (n q i : ℕ) (x : World) (l : i < n) (v : Good n q x) where
   good_acts =
       let p : EpochState = x.at i in
       let hold : Holds n v.wave v.floor v.gifts x.at i p = v.inv.each i l in
+      let left : left_of p ≡ 2 * i + 1 = omega (arith, hold.number) in
+      let right : right_of p ≡ 2 * i + 2 = omega (arith, hold.number) in
       let down : (dl dr : Bool) (to : ℕ) → p.number ≡ parent to
       → Path v.wave (put i (owing p dl dr p.over p.over_left p.over_right) x.at) p.number to p.wave Down = λ dl dr to d.
       let new : EpochState = owing p dl dr p.over p.over_left p.over_right in (
@@ -131,35 +135,19 @@ module _ (n q i : ℕ) (x : World) (l : i < n) (v : Good n q x) where
         λ e. subst (λ j. (put i new x.at j).wave ≡ v.wave) (sym hold.number) (put_same (λ (z : EpochState). z.wave) i i new x.at refl ∙ e),
       ) in
       acts_cases p (IsGoodMove n q i x) (λ o t.
-      good_message n q i x l v p.down_left p.down_right false p.over_right (left_of p) Over (λ y still. still (v.inv.over i l o)) tt (λ had.
-      record {
-        down = had.down;
-        up = had.up;
-        over = λ f. (λ e m. (p.wave, record { which = 0; there = rw (hold.number, hold.processes) }), (had.over f).1);
-      }))
+      good_message n q i x l v p.down_left p.down_right false p.over_right (left_of p) Over (λ y still. still (v.inv.over i l o)) tt
+      (λ had new. record { down = had.down; up = had.up; over = λ f. (λ e m. (p.wave, new (2 * i + 1) p.wave left refl), (had.over f).1) }))
       (λ o t.
-      good_message n q i x l v p.down_left p.down_right p.over_left false (right_of p) Over (λ y still. still (v.inv.over i l o)) tt (λ had.
-      record {
-        down = had.down;
-        up = had.up;
-        over = λ f. ((had.over f).0, λ e m. (p.wave, record { which = 0; there = rw (hold.number, hold.processes) }));
-      }))
+      good_message n q i x l v p.down_left p.down_right p.over_left false (right_of p) Over (λ y still. still (v.inv.over i l o)) tt
+      (λ had new. record { down = had.down; up = had.up; over = λ f. ((had.over f).0, λ e m. (p.wave, new (2 * i + 2) p.wave right refl)) }))
       (λ o a b. good_same n q i x l v) (λ o h t.
       good_message n q i x l v false p.down_right p.over_left p.over_right (left_of p) Down (λ y still. hold.near)
-      (down false p.down_right (left_of p) (omega arith)) (λ had.
-      record {
-        down = λ f. (λ e m. record { which = 0; there = rw (hold.number, hold.processes, (hold.here h).wave) }, (had.down f).1);
-        up = had.up;
-        over = had.over;
-      }))
+      (down false p.down_right (left_of p) (omega arith)) (λ had new.
+      record { down = λ f. (λ e m. new (2 * i + 1) v.wave left (hold.here h).wave, (had.down f).1); up = had.up; over = had.over }))
       (λ o h t.
       good_message n q i x l v p.down_left false p.over_left p.over_right (right_of p) Down (λ y still. hold.near)
-      (down p.down_left false (right_of p) (omega arith)) (λ had.
-      record {
-        down = λ f. ((had.down f).0, λ e m. record { which = 0; there = rw (hold.number, hold.processes, (hold.here h).wave) });
-        up = had.up;
-        over = had.over;
-      }))
+      (down p.down_left false (right_of p) (omega arith)) (λ had new.
+      record { down = λ f. ((had.down f).0, λ e m. new (2 * i + 2) v.wave right (hold.here h).wave); up = had.up; over = had.over }))
       (λ c z t.
       let e : i ≡ 0 = is_root z in
       subst (λ k. IsGoodMove n q k x (record { state = ends (x.at k); next = Again })) (sym e)
