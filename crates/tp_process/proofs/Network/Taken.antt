@@ -14,7 +14,7 @@ sends_to k _ = 0
 
 pub posted_to : (k : ℕ) (next : Next) (ls : List ControlMessage) → sent_to k (posted next ls) ≡ sent_to k ls + sends_to k next
 posted_to k (Send l) ls =
-    elim (cases_Bool (eqb l.to k)) [ inl t ↦ rw t (omega arith) | inr t ↦ rw t (omega arith) ]
+    grind (arith, nat_tests)
 posted_to k _ ls = omega arith
 
 -- what p still has to send to process k in its newest wave and for the end (`owes`), and what its waves and the end
@@ -35,11 +35,6 @@ costs_to k p = cond (eqb (left_of p) k) (p.wave + 1) 0 + cond (eqb (right_of p) 
 abbrev pub Pays : ℕ → EpochState → EpochState → ℕ → Type 0
 Pays k p r d = owes k r + d + costs_to k p ≡ owes k p + costs_to k r
 
-opened_owes : (a b c lh rh : Bool) (dl dr w : ℕ) → (a ≡ true → lh ≡ true) → (b ≡ true → rh ≡ true)
-    → cond a (bit lh + dl) 0 + cond b (bit rh + dr) 0 + cond c 1 0 + 0 + (cond a (w + 1) 0 + cond b (w + 1) 0 + cond c w 0)
-    ≡ cond a (0 + dl) 0 + cond b (0 + dr) 0 + cond c 0 0 + (cond a (w + 1 + 1) 0 + cond b (w + 1 + 1) 0 + cond c (w + 1) 0)
-opened_owes a b c lh rh dl dr w f g = grind (arith, nat_tests)
-
 module _ (n k : ℕ) (p : EpochState) (l : k < n) (size : p.processes ≡ n) where
   has_left : eqb (left_of p) k ≡ true → ltb (left_of p) p.processes ≡ true
   has_left a = lt-ltb (left_of p) p.processes (omega (arith, eqb-true (left_of p) k a, l, size))
@@ -48,18 +43,10 @@ module _ (n k : ℕ) (p : EpochState) (l : k < n) (size : p.processes ≡ n) whe
   has_right a = lt-ltb (right_of p) p.processes (omega (arith, eqb-true (right_of p) k a, l, size))
 
   ends_pays : p.over ≡ false → Pays k p (ends p) 0
-  ends_pays o =
-      elim (cases_Bool (eqb (left_of p) k)) [
-        | inl a ↦ rw (o, a, ne_eqb (right_of p) k (λ e. absurd (omega (arith, e, eqb-true (left_of p) k a))), has_left a) (omega arith)
-        | inr a ↦
-            elim (cases_Bool (eqb (right_of p) k)) [ inl b ↦ rw (o, a, b, has_right b) (omega arith) | inr b ↦ rw (a, b) (omega arith) ]
-      ]
+  ends_pays o = grind (arith, nat_tests, has_left, has_right)
 
   opens_pays : p.here ≡ false → Pays k p (opens (p.wave + 1) p) 0
-  opens_pays h =
-      rw h
-      (opened_owes (eqb (left_of p) k) (eqb (right_of p) k) (is_child k p) (has p (left_of p)) (has p (right_of p))
-      (cond p.over (bit p.over_left) 1) (cond p.over (bit p.over_right) 1) p.wave has_left has_right)
+  opens_pays h = grind (arith, nat_tests, has_left, has_right)
 
   acts_pays : Pays k p (acts p).state (sends_to k (acts p).next)
   acts_pays =
@@ -211,37 +198,33 @@ all_taken n k events l over =
     )
 
 -- ==== The number of control messages that are sent in one epoch: at most 2(n - 1) for each wave, and n - 1 for the end.
-length_by : (n : ℕ) (ls : List ControlMessage) → AllOf n ls → length ls ≡ total n (λ k. sent_to k ls)
+length_by : (n : ℕ) (ls : List ControlMessage) → All (IsOf n) ls → length ls ≡ total n (λ k. sent_to k ls)
 length_by n [] t = sym (total-zero n)
 length_by n (l ∷ ls) t =
     let one : total n (λ k. sent_to k (l ∷ ls)) ≡ total n (λ k. sent_to k ls) + 1
-    = total_one-changes n l.to 1 (λ k. sent_to k ls) (λ k. sent_to k (l ∷ ls)) t.1 (rw (eq-eqb l.to l.to refl))
+    = total_one-changes n l.to 1 (λ k. sent_to k ls) (λ k. sent_to k (l ∷ ls)) (t 0 l refl).1 (rw (eq-eqb l.to l.to refl))
     (λ k off. rw (ne_eqb l.to k (λ e. off (sym e)))) in
-    omega (arith, one, length_by n ls t.2)
+    omega (arith, one, length_by n ls (λ k. t (suc k)))
 
-total_times : (n c : ℕ) (f : ℕ → ℕ) → total n (λ k. c * f k) ≡ c * total n f
-total_times zero c f = omega arith
-total_times (suc n) c f = rw (mul-add c (total n f) (f n)) (omega (arith, total_times n c f))
-
-times_bit : (b : Bool) (w : ℕ) → cond b w 0 ≡ w * bit b
-times_bit true w = omega arith
-times_bit false w = omega arith
-
-times_inner : (b : Bool) (w : ℕ) → cond b 0 w ≡ w * cond b 0 1
-times_inner true w = omega arith
-times_inner false w = omega arith
-
-most_sent : (n w : ℕ) → 0 < n → total n (at_most_sent n w) ≡ (2 * w + 1) * (n - 1)
-most_sent n w first =
-    let each : (k : ℕ) → k < n → at_most_sent n w k ≡ (w + 1) * inner k + w * kids_of n k = λ k l.
-    rw (mul-add w (bit (ltb (2 * k + 1) n)) (bit (ltb (2 * k + 2) n)))
-    (omega (arith, times_inner (eqb k 0) (w + 1), times_bit (ltb (2 * k + 1) n) w, times_bit (ltb (2 * k + 2) n) w)) in
-    let inners : total n inner ≡ n - 1 = omega (arith, both n first, kids_all n) in
-    let two : (w + 1) + w ≡ 2 * w + 1 = omega arith in
-    total-equal n _ _ each ∙ total_add n (λ k. (w + 1) * inner k) (λ k. w * kids_of n k)
-    ∙ ap (λ z. z + total n (λ k. w * kids_of n k)) (total_times n (w + 1) inner ∙ ap (λ z. (w + 1) * z) inners)
-    ∙ ap (λ z. (w + 1) * (n - 1) + z) (total_times n w (kids_of n) ∙ ap (λ z. w * z) (kids_all n))
-    ∙ sym (add-mul (w + 1) w (n - 1)) ∙ ap (λ z. z * (n - 1)) two
+most_sent : (n w : ℕ) → total n (at_most_sent n w) ≡ (2 * w + 1) * (n - 1)
+most_sent n zero =
+    let each : total n (at_most_sent n 0) ≡ total n inner = total-equal n _ _ (λ k l. grind (arith, nat_tests)) in
+    omega (arith, each, inner_all n, kids_all n)
+most_sent n (suc w) =
+    let each : total n (at_most_sent n (suc w)) ≡ total n (λ k. at_most_sent n w k + (kids_of n k + inner k))
+    = total-equal n _ _ (λ k l. grind (arith, nat_tests)) in
+    let two : 2 * suc w + 1 ≡ (2 * w + 1) + 2 = omega arith in
+    let parts : total n (at_most_sent n (suc w)) ≡ (2 * w + 1) * (n - 1) + 2 * (n - 1)
+    = omega (
+      arith,
+      each,
+      total_add n (at_most_sent n w) (λ k. kids_of n k + inner k),
+      total_add n (kids_of n) inner,
+      inner_all n,
+      kids_all n,
+      most_sent n w,
+    ) in
+    parts ∙ sym (add-mul (2 * w + 1) 2 (n - 1)) ∙ ap (λ z. z * (n - 1)) (sym two)
 
 pub few_control_messages : ControlMessagesLaw
 few_control_messages n events l =
@@ -250,13 +233,13 @@ few_control_messages n events l =
       arith,
       length_by n ls (slim_after n events).1,
       total-le n (λ k. sent_to k ls) (at_most_sent n ((after n events).at 0).wave) (λ k m. sent-le n k events m),
-      most_sent n ((after n events).at 0).wave l,
+      most_sent n ((after n events).at 0).wave,
     )
 
 pub few_control_messages_epoch : ControlMessagesEpochLaw
 few_control_messages_epoch n all l =
     let e : ℕ = ((epochs_after n all).at 0).epoch in
-    let h = epochs n all e in
+    let h = epochs n e all in
     subst (λ ls. length ls ≤ (2 * ((epochs_after n all).at 0).state.wave + 1) * (n - 1)) (sym h.controls)
     (subst (λ p. length (after n (events_of n e all)).controls ≤ (2 * p.wave + 1) * (n - 1)) (sym (h.now 0 refl))
     (few_control_messages n (events_of n e all) l))

@@ -7,12 +7,8 @@ pub use Invariant.*
 pub ready_cases : (p : EpochState) (P : EpochState → Type 0)
     → (p.number ≡ 0 → p.over ≡ false → p.here ≡ false → P (opens (p.wave + 1) p)) → P p → P (ready p)
 ready_cases p P start none =
-    cond_both (can_start p) (opens (p.wave + 1) p) p P (λ t.
-    let a = and_parts _ (do_fit p.wave 1) t in
-    let b = and_parts _ (eqb p.pending 0) a.0 in
-    let c = and_parts _ (not p.here) b.0 in
-    let d = and_parts (eqb p.number 0) (not p.over) c.0 in
-    start (eqb-true p.number 0 d.0) (not-true p.over d.1) (not-true p.here c.1)) (λ t. none)
+    cond_both (can_start p) (opens (p.wave + 1) p) p P
+    (λ t. start (grind (arith, nat_tests)) (grind (arith, nat_tests)) (grind (arith, nat_tests))) (λ t. none)
 
 -- The process can pass the wave up.
 pub record CanGive (p : EpochState) : Type 0 where
@@ -54,20 +50,10 @@ acts_cases p P tell_left tell_right told down_left down_right judge_end judge_on
     cond_both p.down_left _ _ P (down_left o h) (λ dl.
     cond_both p.down_right _ _ P (down_right o h) (λ dr.
     cond_both (can_give p) _ _ P (λ t.
-    let a = and_parts _ (do_fit p.taken_received p.received) t in
-    let b = and_parts _ (do_fit p.taken_sent p.sent) a.0 in
-    let c = and_parts _ (eqb p.pending 0) b.0 in
-    let d = and_parts (not p.up_left) (not p.up_right) c.0 in
-    let can : CanGive p =
-    record {
-      over = o;
-      here = h;
-      down_left = dl;
-      down_right = dr;
-      left = not-true p.up_left d.0;
-      right = not-true p.up_right d.1;
-      idle = eqb-true p.pending 0 c.1;
-    } in
+    let l : p.up_left ≡ false = grind (arith, nat_tests) in
+    let r : p.up_right ≡ false = grind (arith, nat_tests) in
+    let i : p.pending ≡ 0 = grind (arith, nat_tests) in
+    let can : CanGive p = record { over = o; here = h; down_left = dl; down_right = dr; left = l; right = r; idle = i } in
     cond_both (eqb p.number 0) _ _ P (λ z. cond_both (is_end p) _ _ P (judge_end can z) (judge_on can z)) (give can)) (λ t. none o))))
     (λ h. none o))
 
@@ -97,20 +83,15 @@ pub takes_cases : (from u : ℕ) (c : Token) (p : EpochState) (K : Token → Typ
     → ((s r : ℕ) → K (Up s r) → p.here ≡ true → u ≡ p.wave → p.up_right ≡ true → from ≡ right_of p → P (takes_right s r p))
     → (K Over → p.over ≡ false → P (ends p)) → (is_due from u c p ≡ false → P p) → P (takes from u c p)
 takes_cases from u Down p K P k down left right over none =
-    cond_both (is_down_due u p) (opens u p) p P
-    (λ d. let a = and_parts (not p.here) (eqb u (p.wave + 1)) d in down k (not-true p.here a.0) (eqb-true u (p.wave + 1) a.1)) none
+    cond_both (is_down_due u p) (opens u p) p P (λ d. down k (grind (arith, nat_tests)) (grind (arith, nat_tests))) none
 takes_cases from u (Up s r) p K P k down left right over none =
     cond_both (is_up_due u s r p) (cond (is_left from p) (takes_left s r p) (cond (is_right from p) (takes_right s r p) p)) p P (λ d.
-    let a = and_parts _ (do_fit p.taken_received r) d in
-    let b = and_parts _ (do_fit p.taken_sent s) a.0 in
-    let c = and_parts p.here (eqb u p.wave) b.0 in
-    cond_both (is_left from p) (takes_left s r p) (cond (is_right from p) (takes_right s r p) p) P (λ y.
-    let f = and_parts p.up_left (eqb from (left_of p)) y in
-    left s r k c.0 (eqb-true u p.wave c.1) f.0 (eqb-true from (left_of p) f.1)) (λ y.
-    cond_both (is_right from p) (takes_right s r p) p P (λ z.
-    let f = and_parts p.up_right (eqb from (right_of p)) z in
-    right s r k c.0 (eqb-true u p.wave c.1) f.0 (eqb-true from (right_of p) f.1)) (λ z. none (and_right _ _ (or_from _ _ y z)))))
-    (λ d. none (and_left _ _ d))
+    let here : p.here ≡ true = grind (arith, nat_tests) in
+    let same : u ≡ p.wave = grind (arith, nat_tests) in
+    cond_both (is_left from p) (takes_left s r p) (cond (is_right from p) (takes_right s r p) p) P
+    (λ y. left s r k here same (grind (arith, nat_tests)) (grind (arith, nat_tests))) (λ y.
+    cond_both (is_right from p) (takes_right s r p) p P (λ z. right s r k here same (grind (arith, nat_tests)) (grind (arith, nat_tests)))
+    (λ z. none (and_right _ _ (or_from _ _ y z))))) (λ d. none (and_left _ _ d))
 takes_cases from u Over p K P k down left right over none =
     cond_both p.over p (ends p) P (λ d. none (not_from_true p.over d)) (λ d. over k d)
 
@@ -173,7 +154,7 @@ module _ (n q w i : ℕ) (low : ℕ → ℕ) (g h : Gifts) (x : World) (l : i < 
       → Holds n w low h (put i new x.at) i new → (i ≡ 0 → IsRootStep (x.at i) new)
       → (HasGiven w new → (x.at 0).here ≡ true → low i ≤ (h.own i).sent) → (IsQuiet n x → IsQuiet n (changed i new under ls x))
       → (new.over ≡ true → ((x.at i).over ≡ true) ⊎ Finished n w (changed i new under ls x))
-      → (AllKnown n w h (changed i new under ls x) x.controls → AllKnown n w h (changed i new under ls x) ls)
+      → (All (KnownOf n w h (changed i new under ls x)) x.controls → All (KnownOf n w h (changed i new under ls x)) ls)
       → Pace n c w h (changed i new under ls x) → ((a : ControlMessage) → Has x.controls a → Has ls a)
       → Posts n w ls i new → IsSmall new → Inv n c w low h (changed i new under ls x)
   step c balance own root floor quiet over known_of pace more posts small =
@@ -228,7 +209,7 @@ module _ (n q w i : ℕ) (low : ℕ → ℕ) (g h : Gifts) (x : World) (l : i < 
   pub control_step : (ls : List ControlMessage) → Holds n w low h (put i new x.at) i new
       → (i ≡ 0 → IsRootStep (x.at i) new)
       → (HasGiven w new → (low i ≤ (h.own i).sent) × (h.own i ≡ mine new))
-      → (AllKnown n w h (changed i new x.under_way ls x) x.controls → AllKnown n w h (changed i new x.under_way ls x) ls)
+      → (All (KnownOf n w h (changed i new x.under_way ls x)) x.controls → All (KnownOf n w h (changed i new x.under_way ls x)) ls)
       → ((a : ControlMessage) → Has x.controls a → Has ls a) → Posts n w ls i new → Inv n q w low h (changed i new x.under_way ls x)
   control_step ls own root given known_of more posts =
       let quiet : IsQuiet n x → IsQuiet n (changed i new x.under_way ls x) = quiet_put n i x new ls (λ e. s.pending ∙ e) in
