@@ -13,7 +13,7 @@ pub use Rattle.std.proofs.{Common.{◌≡◌, List, [], ◌∷◌, refl, ap, sub
 pub use Rattle.std.{proofs.raw_atomic.Walks.proved, specs.contracts.alloc.Global.the_row as Z}
 pub use base.Fml.{Fml, GName, Share, ftrue, fsep, fat, flft, flent, fres, fbor, froom}
 pub use base.Fraction.{full_share}
-pub use base.Logic.{SProp, ent, sep, emp, ex, id⊢}
+pub use base.Logic.{SProp, ent, sep, ex, id⊢}
 pub use borrow.Table.OneValue.{part_in}
 pub use contract.Lifetimes.{Lfts, Shares, toks, lft_at}
 pub use contract.Monad.{fact, Fun}
@@ -24,7 +24,7 @@ pub use denote.Laws.{Is, shows, Are, Ises, Spells, Tells, Tellss, valss}
 pub use denote.Lend.{lends_ref, ref_back}
 pub use denote.Memory.{mem, lone}
 pub use denote.Param.{param, layout, Laws.{Laws, param_laws, of_field}, Shared.copy_shared}
-pub use denote.Plain.{uint_Makes, uint_vals, uint_Tells, uint_Lawful}
+pub use denote.Plain.{uint_Makes, uint_vals, uint_Tells}
 pub use denote.RattleType.{RattleType, owns, Denots, Valss, flat}
 pub use denote.RawPtr.{Ptr, lies_at, RawPtr, block_ptr, in_a_block, rawptr_vals, rawptr_Tells, rawptr_Lawful, room_at}
 pub use denote.Ref.{MutRef}
@@ -32,19 +32,19 @@ pub use denote.Signature.{plain, AllWithin, Slot, type_at, types_at, shr_slice_o
 pub use denote.Slice.{shr_slice_vals, shr_slice_Tells, mut_slice_vals, mut_slice_Tells}
 pub use denote.Steps.{peeks, nothing, owned, heard}
 pub use denote.Struct.{Field.{u32-field, usize-field}, Laws.{u32-laws, u32-copy, usize-laws, usize-copy}}
-pub use denote.Triple.{Call.{calls_at, calls_from}, Clauses.{lasts, Clauses, Ended, closing}, End.{Kepts, Fins, Outs, all, outs, lasts_of}}
-pub use denote.Triple.{Spec.{triple_of, Meets}, Statement.FmF, Table.{framed, Enters, enters}, Walked.{says, Stays, walk_of, stay_dropped}}
+pub use denote.Triple.{Call.calls_from, Clauses.{Clauses, Ended, closing}, End.{Kepts, Fins, Outs, all, outs, lasts_of}, Spec.Meets}
+pub use denote.Triple.{Statement.FmF, Table.{framed, Enters, enters}, Walked.{says, Stays, walk_of, stay_dropped}}
 pub use denote.Triple.Walked.{Goes-dropped, ends_at, gave_slice, Goes-gave_slice, AllGo, fits_of, has_of, Silent}
 pub use mir.Syntax.{Ty, named, Callee, Fn, Opd, Body as Code, seq, call, assign, return, place, copy, deref, rv_opd, addr_of}
-pub use mir.Val.{Val, vint, vptr, vunit}
+pub use mir.Val.{Val, vptr, vunit}
 pub use prog.Model.{Model}
 pub use prog.Wp.{WpFn, Calls, Closed, Env, Loops, spot_of}
 pub use seplogic.Ra.Ura.{Ura}
 pub use sound.WpLaws.{FmC}
-pub use types.ByLocal.{alloc_all, pass_all, free_all, look_at, get, through, sets, lands_as, look_in_at, get_in, AllTyped, at, set, cell}
-pub use types.Kit.{Item, Seq, mean, ‵, ◌$◌, ◌∵◌, !, qed, done, rewrite, show, raw, ◌⊛◌, some, later, prop, move, keep, drop, use1}
-pub use types.Kit.{use2, use3, updating, now, by, Sq, split, join, fsplit, pick, await, regoal, suffices, group, feq_i, feq_l, frame, fjoin}
-pub use types.Kit.{Post, runs, frees, at_ret, Step, step, nth, del}
+pub use types.ByLocal.{alloc_all, pass_all, free_all, look_at, get, through, sets, look_in_at, get_in, AllTyped, at, set, cell}
+pub use types.Kit.{Item, Seq, mean, ‵, ◌$◌, ◌∵◌, !, qed, done, rewrite, show, raw, ◌⊛◌, some, later, prop, move, keep, drop, use1, use2}
+pub use types.Kit.{use3, updating, now, by, Sq, split, join, fsplit, pick, await, regoal, suffices, group, feq_i, feq_l, frame, fjoin, Post}
+pub use types.Kit.{runs, frees, at_ret, Step, step, nth, del}
 pub use types.Logic.{Logic, sem}
 pub use types.Part.{whole, sub, agg}
 pub use types.Run.{enter, of_opd, addr, stop, no_more, and_then, returns, unit_lit, init, assigns, land, from, fld, hop, Opds}

@@ -4,7 +4,7 @@ pub use Rattle.gerfmuod.specs.{Meanings.texts_of, declared.answer.{Counters.Coun
 pub use Rattle.gerfmuod.specs.declared.{answer.{StepResult.StepResult, Written.Written}, raw_step.RawStep.RawStep}
 pub use Rattle.std.specs.Prelude.{ℕ, ◌==◌, nat_le, if◌then◌else◌, Option, Some, None, ◌≡◌, ◌&&◌, [], Bool, ◌≤◌, ◌+◌, ◌-◌, ◌*◌, IsFalse}
 pub use Rattle.std.specs.Prelude.{length, ◌<◌, ◌++◌, ◌⊎◌, List, drop, option_map, true, false, IsTrue, Result, Ok, Err, ◌||◌, ◌↔◌, nat_lt}
-pub use Rattle.std.specs.Prelude.{◌≢◌, ◌∷◌, take, OnSome, IfErr, IfOk, reverse}
+pub use Rattle.std.specs.Prelude.{◌≢◌, ◌∷◌, take}
 pub use Rattle.tp_base.specs.{Refusals.number_of, declared.Refusal.{Refusal, TheVariants.{NoPool, BadSpec, HistoryFull, NoNode, NoMemory}}}
 pub use Rattle.tp_base.specs.declared.{Refusal.TheVariants.WrongLife, Step.{Step, TheVariants.{Insert, Supply, Begin, Done, ActionOpen}}}
 pub use Rattle.tp_base.specs.declared.Step.TheVariants.{ActionClose, Ready, Send, Recv, MessageEnd, Start, Down, Give, Up, Judge, Reopen}

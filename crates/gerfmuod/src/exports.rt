@@ -75,14 +75,8 @@ pub unsafe extern "C" fn gerfmuod_core_step(
     ensures* { ∃ₛ (λ (new : CoreState). sem 𝓛 (lies_at slot_row full_share core new)
         ∗ ⌜ IsStepCall (raw_step kind first second third generation) old result new ⌝) }
 {
-    answered(
-        &mut *(core as *mut CoreSlot),
-        kind,
-        first,
-        second,
-        third,
-        generation,
-    )
+    let slot = &mut *(core as *mut CoreSlot);
+    answered(slot, kind, first, second, third, generation)
 }
 
 /// Takes steps in order, up to the first that is refused. Returns how many were taken. The result of each, and that of the refused
@@ -120,15 +114,9 @@ pub unsafe extern "C" fn gerfmuod_core_step_by(
     ensures* { ∃ₛ (λ (new : CoreState). sem 𝓛 (lies_at slot_row full_share core new)
         ∗ ⌜ IsByCall maker_kind maker (raw_step kind first second third generation) old result new ⌝) }
 {
+    let slot = &mut *(core as *mut CoreSlot);
     answered_by(
-        &mut *(core as *mut CoreSlot),
-        maker_kind,
-        maker,
-        kind,
-        first,
-        second,
-        third,
-        generation,
+        slot, maker_kind, maker, kind, first, second, third, generation,
     )
 }
 

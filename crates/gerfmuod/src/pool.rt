@@ -110,6 +110,7 @@ impl CoreRoom {
     }
 
     /// Takes control steps until termination is detected, as `Core::settle` does. There is always room for them.
+    #[tactic(auto, using(crate::proofs::Steps::kept_after_settling))]
     pub(crate) fn settle(&mut self) -> Result<(u32, u32), Refusal>
         ensures answers { Settles self.old result self.new }
         ensures has_room { IfErr result (λ r. number_of r ≢ 16) }
