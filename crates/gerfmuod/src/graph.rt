@@ -66,7 +66,7 @@ pub unsafe extern "C" fn gerfmuod_graph_spawn(
 }
 
 /// Adds one task of a class 0 to 3, which accesses data handles and awaits `outside` inputs from outside: all or nothing. It
-/// reads the tasks that `Flow::find` finds.
+/// reads the tasks that `Flow::find` finds. `NoMemory` also before other refusals.
 #[unsafe(no_mangle)]
 pub unsafe extern "C" fn gerfmuod_graph_task(
     graph: *mut u8,

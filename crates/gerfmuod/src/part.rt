@@ -51,6 +51,7 @@ pub unsafe extern "C" fn gerfmuod_part_task(
 }
 
 /// Describes one more task of the whole graph, which accesses data handles. It reads the tasks that `Flow::find` finds.
+/// `NoMemory` also before other refusals.
 #[unsafe(no_mangle)]
 pub unsafe extern "C" fn gerfmuod_part_shared_task(
     part: *mut u8,
