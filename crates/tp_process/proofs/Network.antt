@@ -24,25 +24,18 @@ abbrev carried_to : ℕ → ℕ → List Carried → ℕ
 carried_to e k [] = 0
 carried_to e k (c ∷ cs) = cond (eqb c.epoch e && eqb c.message.to k) (carried_to e k cs + 1) (carried_to e k cs)
 
-carried_same : (e f k : ℕ) (next : Next) (cs : List Carried) → f ≡ e
-    → carried_to e k (with_sent f next cs) ≡ carried_to e k cs + sends_to k next
-carried_same e f k (Send l) cs d =
-    elim (cases_Bool (eqb l.to k)) [ inl t ↦ rw (eq-eqb f e d, t) (omega arith) | inr t ↦ rw (eq-eqb f e d, t) (omega arith) ]
-carried_same e f k _ cs d = omega arith
-
-carried_apart : (e f k : ℕ) (next : Next) (cs : List Carried) → (f ≡ e → ⊥) → carried_to e k (with_sent f next cs) ≡ carried_to e k cs
-carried_apart e f k (Send l) cs off = rw (ne_eqb f e off) refl
-carried_apart e f k _ cs off = refl
+carried_more : (e f k : ℕ) (next : Next) (cs : List Carried)
+    → carried_to e k (with_sent f next cs) ≡ carried_to e k cs + cond (eqb f e) (sends_to k next) 0
+carried_more e f k (Send l) cs = grind (arith, nat_tests)
+carried_more e f k _ cs = grind (arith, nat_tests)
 
 carried_less : (e k j : ℕ) (cs : List Carried) (c : Carried) → carried_at cs j ≡ Some c
     → carried_to e k (without j cs) + bit (eqb c.epoch e && eqb c.message.to k) ≡ carried_to e k cs
 carried_less e k j [] c at = absurd (cc at)
 carried_less e k zero (d ∷ cs) c at =
     subst (λ (z : Carried). carried_to e k cs + bit (eqb z.epoch e && eqb z.message.to k) ≡ carried_to e k (d ∷ cs)) (some_same d c at)
-    (elim (cases_Bool (eqb d.epoch e && eqb d.message.to k)) [ inl t ↦ rw t (omega arith) | inr t ↦ rw t (omega arith) ])
-carried_less e k (suc j) (d ∷ cs) c at =
-    let less : carried_to e k (without j cs) + bit (eqb c.epoch e && eqb c.message.to k) ≡ carried_to e k cs = carried_less e k j cs c at in
-    elim (cases_Bool (eqb d.epoch e && eqb d.message.to k)) [ inl t ↦ rw t (omega (arith, less)) | inr t ↦ rw t (omega (arith, less)) ]
+    (grind (arith, nat_tests))
+carried_less e k (suc j) (d ∷ cs) c at = grind (arith, nat_tests, carried_less e k j cs c at)
 
 -- The control messages on their way to process k and those that it took are at most as many as were sent to it.
 abbrev Balance : ℕ → ℕ → List Carried → World → Type 0
@@ -76,7 +69,7 @@ pub record IsCarried (e : ℕ) (l : ControlMessage) (cs : List Carried) : Type 0
 -- A control message on its way was sent in its epoch; one that was sent is on its way or is never taken again.
 pub record Agree (n : ℕ) (controls : ℕ → List ControlMessage) (cs : List Carried) (all : List EpochEvent) : Type 0 where
   pub sent : (k : ℕ) (c : Carried) → carried_at cs k ≡ Some c → Has (controls c.epoch) c.message
-  pub posted : (e k : ℕ) (l : ControlMessage) → control_at (controls e) k ≡ Some l → IsCarried e l cs ⊎ Gone n e l all
+  pub posted : (e : ℕ) → All (λ l. IsCarried e l cs ⊎ Gone n e l all) (controls e)
 
 -- The network is in the state after these events of the epochs.
 pub record Follows (n : ℕ) (s : Network) : Type 0 where
@@ -131,33 +124,33 @@ act_of n s x i a same =
 -- One more control message was sent, in epoch e.
 after_next : (n e : ℕ) (next : Next) (controls : ℕ → List ControlMessage) (cs : List Carried) (all : List EpochEvent)
     → Agree n controls cs all → Agree n (put e (posted next (controls e)) controls) (with_sent e next cs) all
-after_next n e (Send l) controls cs all g = record { sent = sent_of; posted = posted_of } where
-  new : Carried
-  new = record { epoch = e; message = l }
+after_next n e (Send l) controls cs all g =
+    record {
+      sent = sent_of;
+      posted = λ f.
+          put_holds (λ f ls. All (kept f) ls) e f (l ∷ controls e) controls (λ d.
+          subst (λ f. All (kept f) (l ∷ controls e)) (sym d)
+          (all_more (kept e) l (controls e) (inl (record { which = 0; there = refl })) (older e))) (λ off. older f);
+    }
+  where
+    new : Carried
+    new = record { epoch = e; message = l }
 
-  sent_of : (k : ℕ) (c : Carried) → carried_at (new ∷ cs) k ≡ Some c → Has (put e (l ∷ controls e) controls c.epoch) c.message
-  sent_of zero c there =
-      subst (λ d. Has (put e (l ∷ controls e) controls d.epoch) d.message) (some_same new c there)
-      (subst (λ ls. Has ls l) (sym (put_here e (l ∷ controls e) controls)) (record { which = 0; there = refl }))
-  sent_of (suc k) c there =
-      put_holds (λ f ls. c.epoch ≡ f → Has ls c.message) e c.epoch (l ∷ controls e) controls (λ d r.
-      let h = g.sent k c there in
-      record { which = suc h.which; there = subst (λ f. control_at (controls f) h.which ≡ Some c.message) d h.there })
-      (λ off r. g.sent k c there) refl
+    sent_of : (k : ℕ) (c : Carried) → carried_at (new ∷ cs) k ≡ Some c → Has (put e (l ∷ controls e) controls c.epoch) c.message
+    sent_of zero c there =
+        subst (λ d. Has (put e (l ∷ controls e) controls d.epoch) d.message) (some_same new c there)
+        (subst (λ ls. Has ls l) (sym (put_here e (l ∷ controls e) controls)) (record { which = 0; there = refl }))
+    sent_of (suc k) c there =
+        put_holds (λ f ls. c.epoch ≡ f → Has ls c.message) e c.epoch (l ∷ controls e) controls (λ d r.
+        let h = g.sent k c there in
+        record { which = suc h.which; there = subst (λ f. control_at (controls f) h.which ≡ Some c.message) d h.there })
+        (λ off r. g.sent k c there) refl
 
-  older : (f k : ℕ) (m : ControlMessage) → control_at (controls f) k ≡ Some m → IsCarried f m (new ∷ cs) ⊎ Gone n f m all
-  older f k m there = elim (g.posted f k m there) [ inl h ↦ inl (record { which = suc h.which; there = h.there }) | inr off ↦ inr off ]
+    kept : ℕ → ControlMessage → Type 0
+    kept f m = IsCarried f m (new ∷ cs) ⊎ Gone n f m all
 
-  newest : (k : ℕ) (m : ControlMessage) → control_at (l ∷ controls e) k ≡ Some m → IsCarried e m (new ∷ cs) ⊎ Gone n e m all
-  newest zero m there =
-      inl (record { which = 0; there = ap (λ z. Some (record { epoch = e; message = z })) (some_same l m there) })
-  newest (suc k) m there = older e k m there
-
-  posted_of : (f k : ℕ) (m : ControlMessage) → control_at (put e (l ∷ controls e) controls f) k ≡ Some m
-      → IsCarried f m (new ∷ cs) ⊎ Gone n f m all
-  posted_of f k m =
-      put_holds (λ f ls. control_at ls k ≡ Some m → IsCarried f m (new ∷ cs) ⊎ Gone n f m all) e f (l ∷ controls e) controls
-      (λ d there. subst (λ z. IsCarried z m (new ∷ cs) ⊎ Gone n z m all) (sym d) (newest k m there)) (λ off there. older f k m there)
+    older : (f : ℕ) → All (kept f) (controls f)
+    older f k m there = elim (g.posted f k m there) [ inl h ↦ inl (record { which = suc h.which; there = h.there }) | inr off ↦ inr off ]
 after_next n e _ controls cs all g = subst (λ f. Agree n f cs all) (sym (put_id e controls)) g
 
 -- Removing one control message leaves all others on their way.
@@ -209,7 +202,8 @@ module _ (n : ℕ) (s : Network) (f : Follows n s) where
               arith,
               f.balance e k l,
               ap (carried_to e k) o.carried,
-              carried_same e g k o.next s.carried d,
+              carried_more e g k o.next s.carried,
+              ap (λ b. cond b (sends_to k o.next) 0) (eq-eqb g e d),
               ap (sent_to k) o.controls,
               posted_to k o.next x.controls,
               o.takes k,
@@ -218,7 +212,13 @@ module _ (n : ℕ) (s : Network) (f : Follows n s) where
             let more : events_of n e (In g (Does i a) ∷ f.all) ≡ events_of n e f.all = rw (ne_eqb g e off) refl in
             let o = act_of n s (world_of g w) i a refl in
             subst (λ h. Balance e k (carried_after n s i a) (after n h)) (sym more)
-            (omega (arith, f.balance e k l, ap (carried_to e k) o.carried, carried_apart e g k o.next s.carried off))
+            (omega (
+              arith,
+              f.balance e k l,
+              ap (carried_to e k) o.carried,
+              carried_more e g k o.next s.carried,
+              ap (λ b. cond b (sends_to k o.next) 0) (ne_eqb g e off),
+            ))
       ]
 
   acts_follow : (i : ℕ) (a : Act) → Follows n (network_step n s (Acts i a))
@@ -311,17 +311,13 @@ module _ (n : ℕ) (s : Network) (f : Follows n s) where
             (λ b. omega (arith, carried_less g m k s.carried c at, f.balance g m less));
       })
 
-flat : (b : Bool) (z : ℕ) → cond b z z ≡ z
-flat true z = refl
-flat false z = refl
-
 pub follows : (n : ℕ) → n ≤ 2 ^ 20 → (events : List NetworkEvent) → Follows n (network n events)
 follows n few [] =
     record {
       all = [];
       same = refl;
       lists = record { sent = λ k c there. absurd (cc there); posted = λ e k l there. absurd (cc there) };
-      balance = λ e k l. omega (arith, flat (eqb k 0) 0, flat (ltb (2 * k + 1) n) 0, flat (ltb (2 * k + 2) n) 0);
+      balance = λ e k l. grind (arith, nat_tests);
     }
 follows n few (Acts i a ∷ past) = acts_follow n (network n past) (follows n few past) i a
 follows n few (Restarts i ∷ past) = restarts_follow n (network n past) (follows n few past) i

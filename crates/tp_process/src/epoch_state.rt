@@ -17,7 +17,7 @@ pub(crate) const LIMIT: u64 = 1 << 43;
 /// 2i + 2.
 ///
 /// A flag is a byte, which is set if it is not 0: a C program may write any byte to it.
-#[derive(Clone, Copy, Debug, PartialEq, Eq)]
+#[derive(Clone, Copy, Debug, Default, PartialEq, Eq)]
 #[repr(C)]
 pub struct StoredState {
     pub(crate) number: u32,
@@ -57,21 +57,7 @@ impl StoredState {
             number,
             processes,
             pending: 1,
-            sent: 0,
-            received: 0,
-            wave: 0,
-            taken_sent: 0,
-            taken_received: 0,
-            last_received: 0,
-            known: 0,
-            here: 0,
-            down_left: 0,
-            down_right: 0,
-            up_left: 0,
-            up_right: 0,
-            over: 0,
-            over_left: 0,
-            over_right: 0,
+            ..StoredState::default()
         }
     }
 

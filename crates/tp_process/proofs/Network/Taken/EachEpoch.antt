@@ -346,8 +346,7 @@ handed_law n w c m =
     let l : ControlMessage = c.message in
     let x : World = world_of c.epoch w in
     in_epoch_as c.epoch l.to w (came n x (Some l)) (took l (x.at l.to))
-    (subst (λ b. (cond b (record x { at = put l.to (took l (x.at l.to)) x.at }) x).at l.to ≡ took l (x.at l.to)) (sym (lt-ltb l.to n m))
-    (put_here l.to (took l (x.at l.to)) x.at))
+    (rw (lt-ltb l.to n m) (put_here l.to (took l (x.at l.to)) x.at))
 
 pub calls : CallsLaw
 calls n w =
@@ -366,9 +365,7 @@ calls n w =
           (put_here e y.controls w.controls
           ∙ ap (λ b. (cond b (does n (world_of e w) i Moves) (world_of e w)).controls) (lt-ltb i n l));
       takes = λ e k l m there. rw there (handed_law n w (record { epoch = e; message = l }) m);
-      reopens = λ i l.
-          subst (λ b. (cond b (record w { at = put i (reopened (w.at i)) w.at }) w).at i ≡ reopened (w.at i)) (sym (lt-ltb i n l))
-          (put_here i (reopened (w.at i)) w.at);
+      reopens = λ i l. rw (lt-ltb i n l) (put_here i (reopened (w.at i)) w.at);
     }
 
 -- ==== Every process stays open.

@@ -19,32 +19,17 @@ spent_is_not_due from u Down p e = and_right (not p.here) (eqb u (p.wave + 1)) (
 spent_is_not_due from u (Up s r) p e = grind (arith, nat_tests)
 spent_is_not_due from u Over p e = not_from_true p.over e
 
--- A flag that only falls, and a number: if the test failed before, it fails after.
-still_none : (a b : Bool) (from m : ℕ) → (a ≡ false → b ≡ false) → (a && eqb from m) ≡ false → (b && eqb from m) ≡ false
-still_none a b from m f e = elim (and_cases a (eqb from m) e) [ inl t ↦ and_left b (eqb from m) (f t) | inr t ↦ and_right b (eqb from m) t ]
-
 -- What a process does later does not change that.
 module _ (from u : ℕ) (p : EpochState) where
   spent_opens : (c : Token) (w : ℕ) (h ul ur : Bool) → p.wave < w → Spent from u c p → SpentBy from u c p.number w h ul ur p.over
   spent_opens Down w h ul ur l e = omega (arith, e, l)
-  spent_opens (Up s r) w h ul ur l e = elim e [ inl less ↦ inl (omega (arith, less, l)) | inr rest ↦ inl (omega (arith, rest.0, l)) ]
+  spent_opens (Up s r) w h ul ur l e = grind (arith, nat_tests)
   spent_opens Over w h ul ur l e = e
 
   spent_fewer : (c : Token) (h ul ur : Bool) → (p.here ≡ false → h ≡ false) → (p.up_left ≡ false → ul ≡ false)
       → (p.up_right ≡ false → ur ≡ false) → Spent from u c p → SpentBy from u c p.number p.wave h ul ur p.over
   spent_fewer Down h ul ur f g k e = e
-  spent_fewer (Up s r) h ul ur f g k e =
-      elim e [
-        | inl less ↦ inl less
-        | inr rest ↦
-            inr (
-              rest.0,
-              elim rest.1 [
-                | inl away ↦ inl (f away)
-                | inr both ↦ inr (still_none p.up_left ul from _ g both.0, still_none p.up_right ur from _ k both.1)
-              ],
-            )
-      ]
+  spent_fewer (Up s r) h ul ur f g k e = grind (arith, nat_tests)
   spent_fewer Over h ul ur f g k e = e
 
   spent_ends : (c : Token) → Spent from u c p → Spent from u c (ends p)
@@ -266,10 +251,7 @@ none_due n q x v i l o from u Down t =
 none_due n q x v i l o from u (Up s r) t =
     let p : EpochState = x.at i in
     let z : IsThrough (x.at 0).wave p = through n q x v (v.inv.over i l o) i l in
-    elim (cases_Bool p.here) [
-      | inl h ↦ and_right _ _ (or_from _ _ (and_left _ _ (rw h at z.left)) (and_left _ _ (rw h at z.right)))
-      | inr h ↦ and_left _ _ (and_left _ _ (and_left _ _ (and_left _ _ h)))
-    ]
+    grind (arith, nat_tests, z.left, z.right)
 none_due n q x v i l o from u Over t = not_from_true (x.at i).over o
 
 module _ (n q : ℕ) (x : World) (few : n ≤ 2 ^ 20) (quiet : IsQuiet n x) (v : Good n q x) where

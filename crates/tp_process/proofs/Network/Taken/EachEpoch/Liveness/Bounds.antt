@@ -102,10 +102,7 @@ cost_put n q i at new d l same less =
 
 ends_cost : (w : ℕ) (p : EpochState) → p.over ≡ false → cost w (ends p) + inner p.number ≤ cost w p
 ends_cost w p o =
-    elim (cases_Bool (eqb p.wave w)) [
-      | inr off ↦ rw (o, off) (omega arith)
-      | inl e ↦ elim (cases_Bool p.here) [ inl h ↦ rw (o, e, h) (omega arith) | inr h ↦ rw (o, e, h) (omega arith) ]
-    ]
+    grind (arith, nat_tests)
 
 acts_cost : (w : ℕ) (p : EpochState) → (p.here ≡ true → p.wave ≡ w) → cost w (acts p).state + bit (is_step (acts p).next) ≤ cost w p
 acts_cost w p e =
@@ -255,10 +252,7 @@ soon_from n q (e ∷ later) events z v =
     let rest : useful n later events + costs n q x.at ≤ costs n q (after n events).at = soon_from n q later events z v in
     let calm = calm_after n q later events z v in
     let step : costs n q (happens n x e).at + bit (is_useful n x e) ≤ costs n q x.at = happens_cost n q x calm.0 calm.1 e in
-    elim (cases_Bool (is_useful n x e)) [
-      | inl t ↦ rw t (omega (arith, rest, step, ap bit t))
-      | inr f ↦ rw f (omega (arith, rest, step, ap bit f))
-    ]
+    grind (arith, nat_tests, rest, step)
 
 -- A process owes control messages only to its children, and waits only for theirs.
 abbrev pub Slim : EpochState → Type 0

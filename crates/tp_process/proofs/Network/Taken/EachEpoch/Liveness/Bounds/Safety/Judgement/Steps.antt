@@ -118,28 +118,29 @@ pub record IsCount (i : ℕ) (x z : World) : Type 0 where
   pub at : z.at ≡ put i new x.at
   pub controls : z.controls ≡ x.controls
 
+counts_put : (i : ℕ) (x : World) (new : EpochState) (under : ℕ → ℕ) → Recounts (x.at i) new
+    → IsCount i x (record x { at = put i new x.at; under_way = under })
+counts_put i x new under same = record { new = new; same = same; at = refl; controls = refl }
+
+counts_none : (i : ℕ) (x : World) → IsCount i x x
+counts_none i x = record { new = x.at i; same = refl; at = sym (put_id i x.at); controls = refl }
+
 pub does_counts : (n : ℕ) (x : World) (i : ℕ) (a : Act) → (a ≡ Moves) ⊎ IsCount i x (does n x i a)
 does_counts n x i Opens =
     let p : EpochState = x.at i in
-    inr (record {
-      new = opened p;
-      same = cond_both (not (eqb p.pending 0) && ltb p.pending LIMIT) _ p (Recounts p) (λ t. refl) (λ t. refl);
-      at = refl;
-      controls = refl;
-    })
-does_counts n x i Closes = inr (record { new = closed (x.at i); same = refl; at = refl; controls = refl })
+    inr (counts_put i x (opened p) x.under_way
+    (cond_both (not (eqb p.pending 0) && ltb p.pending LIMIT) _ p (Recounts p) (λ t. refl) (λ t. refl)))
+does_counts n x i Closes = inr (counts_put i x (closed (x.at i)) x.under_way refl)
 does_counts n x i (Sends j) =
     let p : EpochState = x.at i in
-    inr (cond_both (can_send p && ltb j n) (record x { at = put i (sent p) x.at; under_way = put j (x.under_way j + 1) x.under_way }) x
-    (IsCount i x) (λ t.
-    record { new = sent p; same = cond_both (can_send p) _ p (Recounts p) (λ t. refl) (λ t. refl); at = refl; controls = refl })
-    (λ t. record { new = p; same = refl; at = sym (put_id i x.at); controls = refl }))
+    let under : ℕ → ℕ = put j (x.under_way j + 1) x.under_way in
+    inr (cond_both (can_send p && ltb j n) _ x (IsCount i x)
+    (λ t. counts_put i x (sent p) under (cond_both (can_send p) _ p (Recounts p) (λ t. refl) (λ t. refl))) (λ t. counts_none i x))
 does_counts n x i Receives =
     let p : EpochState = x.at i in
-    inr (cond_both (can_receive p && ltb 0 (x.under_way i))
-    (record x { at = put i (received p) x.at; under_way = put i (x.under_way i - 1) x.under_way }) x (IsCount i x) (λ t.
-    record { new = received p; same = cond_both (can_receive p) _ p (Recounts p) (λ t. refl) (λ t. refl); at = refl; controls = refl })
-    (λ t. record { new = p; same = refl; at = sym (put_id i x.at); controls = refl }))
+    let under : ℕ → ℕ = put i (x.under_way i - 1) x.under_way in
+    inr (cond_both (can_receive p && ltb 0 (x.under_way i)) _ x (IsCount i x)
+    (λ t. counts_put i x (received p) under (cond_both (can_receive p) _ p (Recounts p) (λ t. refl) (λ t. refl))) (λ t. counts_none i x))
 does_counts n x i Moves = inl refl
 
 -- ==== One process changes, and the newest wave stays.
@@ -219,33 +220,6 @@ module _ (n q w i : ℕ) (low : ℕ → ℕ) (g h : Gifts) (x : World) (l : i < 
       (pace_kept n q w i g h x new ls l v.pace s.received s.known s.last (λ e. (root e).1) k.own (λ m y. (given y).1))
       more posts (record { sent = rw s.sent (v.small i l).sent; received = rw s.received (v.small i l).received })
 
--- A child that is not there adds nothing to the sums.
-nothing_taken : (b : Bool) (u : Counts) → (b ≡ false → u ≡ none) → (taken b u.sent ≡ 0) × (taken b u.received ≡ 0)
-nothing_taken true u z = (refl, refl)
-nothing_taken false u z = (ap (λ u. u.sent) (z refl), ap (λ u. u.received) (z refl))
-
--- what holds of a process when wave w comes
-pub opens_here : (n w i : ℕ) (low : ℕ → ℕ) (g : Gifts) (at : ℕ → EpochState) (p : EpochState) → p.number ≡ i → p.processes ≡ n → 0 < w
-    → ((c : ℕ) → n ≤ c → g.all c ≡ none) → Here n w g at i (opens w p)
-opens_here n w i low g at p number processes begun beyond =
-    let l : ltb (2 * p.number + 1) p.processes ≡ false → n ≤ 2 * i + 1
-    = λ f. omega (arith, ltb-false (2 * p.number + 1) p.processes f, number, processes) in
-    let r : ltb (2 * p.number + 2) p.processes ≡ false → n ≤ 2 * i + 2
-    = λ f. omega (arith, ltb-false (2 * p.number + 2) p.processes f, number, processes) in
-    let a = nothing_taken (ltb (2 * p.number + 1) p.processes) (g.all (2 * i + 1)) (λ f. beyond (2 * i + 1) (l f)) in
-    let b = nothing_taken (ltb (2 * p.number + 2) p.processes) (g.all (2 * i + 2)) (λ f. beyond (2 * i + 2) (r f)) in
-    record {
-      begun = begun;
-      wave = refl;
-      there = (
-        λ f. omega (arith, ltb-true (2 * p.number + 1) p.processes f, number, processes),
-        λ f. omega (arith, ltb-true (2 * p.number + 2) p.processes f, number, processes),
-      );
-      gave = (λ f m. absurd (omega (arith, l f)), λ f m. absurd (omega (arith, r f)));
-      sent = omega (arith, a.0, b.0);
-      received = omega (arith, a.1, b.1);
-    }
-
 -- A child whose flag a new wave, or the end, does not set is none of the n processes: anything holds of it.
 pub no_child : (n i : ℕ) (p : EpochState) (P : ℕ → Type 0) → p.number ≡ i → p.processes ≡ n
     → EachChild n i (has p (left_of p)) (has p (right_of p)) P
@@ -253,6 +227,24 @@ no_child n i p P number processes = (
   λ f m. absurd (omega (arith, ltb-false (2 * p.number + 1) p.processes f, number, processes)),
   λ f m. absurd (omega (arith, ltb-false (2 * p.number + 2) p.processes f, number, processes)),
 )
+
+-- what holds of a process when wave w comes
+pub opens_here : (n w i : ℕ) (low : ℕ → ℕ) (g : Gifts) (at : ℕ → EpochState) (p : EpochState) → p.number ≡ i → p.processes ≡ n → 0 < w
+    → ((c : ℕ) → n ≤ c → g.all c ≡ none) → Here n w g at i (opens w p)
+opens_here n w i low g at p number processes begun beyond =
+    let none_sent : (c : ℕ) → n ≤ c → (g.all c).sent ≡ 0 = λ c m. ap (λ u. u.sent) (beyond c m) in
+    let none_received : (c : ℕ) → n ≤ c → (g.all c).received ≡ 0 = λ c m. ap (λ u. u.received) (beyond c m) in
+    record {
+      begun = begun;
+      wave = refl;
+      there = (
+        λ f. omega (arith, ltb-true (2 * p.number + 1) p.processes f, number, processes),
+        λ f. omega (arith, ltb-true (2 * p.number + 2) p.processes f, number, processes),
+      );
+      gave = no_child n i p (λ c. HasGiven w (at c)) number processes;
+      sent = grind (arith, nat_tests, number, processes, none_sent (2 * i + 1), none_sent (2 * i + 2));
+      received = grind (arith, nat_tests, number, processes, none_received (2 * i + 1), none_received (2 * i + 2));
+    }
 
 -- p with the sums of a child; left and right say which children have not reported
 abbrev summed : ℕ → ℕ → Bool → Bool → EpochState → EpochState

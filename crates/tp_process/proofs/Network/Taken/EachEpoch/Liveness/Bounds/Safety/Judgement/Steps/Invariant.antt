@@ -272,12 +272,9 @@ deep_enough : (f n i : ℕ) → n ≤ i + f → size_to (suc f) n i ≡ size_to 
 unfolding size_to
 deep_enough zero n i l = rw (le-ltb i n (omega (arith, l)))
 deep_enough (suc f) n i l =
-    elim (cases_lt i n) [
-      | inl m ↦
-          rw (lt-ltb i n m)
-          (ap suc (omega (arith, deep_enough f n (2 * i + 1) (omega (arith, l)), deep_enough f n (2 * i + 2) (omega (arith, l)))))
-      | inr past ↦ rw (le-ltb i n past)
-    ]
+    let left : n ≤ 2 * i + 1 + f → size_to (suc f) n (2 * i + 1) ≡ size_to f n (2 * i + 1) = deep_enough f n (2 * i + 1) in
+    let right : n ≤ 2 * i + 2 + f → size_to (suc f) n (2 * i + 2) ≡ size_to f n (2 * i + 2) = deep_enough f n (2 * i + 2) in
+    grind (arith, nat_tests, left, right)
 
 pub size : ℕ → ℕ → ℕ
 size n i = size_to n n i
