@@ -44,7 +44,7 @@ def test_dead_links_are_found(tmp_path):
 
 
 def test_wrong_statements_are_found(monkeypatch):
-    rows = [["Makefile", "# {}", "echo make"], ["Makefile", "no {tp_base::MAX_NODES}"], ["Makefile", "", "exit 3"], ["Makefile", "{}", "echo no"]]
+    rows = [["Makefile", "# {}", "echo make"], ["Makefile", "no {tp_base::MAX_NODES}"], ["Makefile", "", "exit 3"], ["Makefile", "{}", "echo no such text"]]
     monkeypatch.setattr(docs.json, "loads", lambda _: {"first": "", "own": rows})
     docs.check_statements(tally := running.Tally(), "own")
     assert (tally.passed, tally.failed) == (1, 3)
