@@ -43,6 +43,13 @@ def test_dead_links_are_found(tmp_path):
     assert docs.dead_links(page) == ["page.md#b", "no.md", "no-file"]
 
 
+def test_wrong_statements_are_found(monkeypatch):
+    rows = [["Makefile", "# {}", "echo make"], ["Makefile", "no {tp_base::MAX_NODES}"], ["Makefile", "", "exit 3"], ["Makefile", "{}", "echo no such text"]]
+    monkeypatch.setattr(docs.json, "loads", lambda _: {"first": "", "own": rows})
+    docs.check_statements(tally := running.Tally(), "own")
+    assert (tally.passed, tally.failed) == (1, 3)
+
+
 def test_the_grammar_has_a_row_for_each_step():
     steps = re.findall(r"^\| `([a-z]+)((?: [A-Z])*)` \|", repository.text_of("docs/TRACES.md").partition("## The result")[0], re.M)
     counts = {(version, name): count for version, names in second_model.COUNTS_OF.items() for name, count in names.items() if name != "judge"}
