@@ -1,32 +1,64 @@
 -- What a core has accepted, and its reply to the next step.
-use Rattle.std.specs.{List.list_any, Prelude.{Bool, true, false, not, IsTrue, IsFalse, ℕ, ◌%◌, ◌||◌, ◌==◌, ◌≡◌, ◌<◌, ◌+◌, List, [], ◌∷◌}}
-use Rattle.std.specs.Prelude.{◌++◌, nat_le, is_some, length, Option, Some, None, Result, Ok, Err, if◌then◌else◌}
-use Rattle.tp_base.specs.{Checks.{Check, first_refusal}, Pages.is_beside, declared.Refusal.{Refusal, TheVariants.{HistoryFull, NoMemory}}}
-use Rattle.tp_base.specs.declared.{Step.{Step, TheVariants.{Insert, ActionOpen, Send, Give, Judge, Reopen}}, limits.TheConstants.MAX_STEPS}
-use Rattle.tp_core.specs.{Generations.{world_after, MayCome}, Run.world, StepChecks.checks, World.{World, pending}}
-use Rattle.tp_core.specs.declared.{accepting.TheConstants.PIECE, numbers.NodeNumbers.NodeNumbers, reply.Reply.{Reply, TheVariants.Plain}}
+use Rattle.std.specs.{List.list_any, Prelude.{Bool, true, false, not, IsTrue, IsFalse, ℕ, ◌%◌, ◌&&◌, ◌||◌, ◌==◌, ◌≡◌, ◌<◌, ◌+◌, List, []}}
+use Rattle.std.specs.Prelude.{◌∷◌, ◌++◌, nat_le, nat_lt, is_some, length, Option, Some, None, Result, Ok, Err, if◌then◌else◌}
+use Rattle.tp_base.specs.{Checks.{Check, first_refusal}, Pages.is_beside, declared.Refusal.{Refusal, TheVariants.{HistoryFull, NoMemory, StoreFull}}}
+use Rattle.tp_base.specs.declared.{Step.{Step, TheVariants.{Insert, ActionOpen, Send, Recv, Start, Give, Judge, Reopen}}, limits.TheConstants.{MAX_STEPS, MAX_MESSAGES}}
+use Rattle.tp_core.specs.{Generations.{world_after, MayCome}, Run.world, StepChecks.checks, World.{World, all_left, pending}}
+use Rattle.tp_core.specs.declared.{accepting.TheConstants.MAX_COUNT, taken.TheConstants.PIECE, numbers.NodeNumbers.NodeNumbers, reply.Reply.{Reply, TheVariants.Plain}}
 use Rattle.tp_core.specs.declared.reply.Reply.TheVariants.{WaveSums, Not, Over, Opened}
-use Rattle.tp_wave.specs.{Generations.{present, generation}, Steps.{any, count, is_send_of, is_recv_at}, Sums.{sums_of, judgement}}
+use Rattle.tp_wave.specs.{Generations.{present, generation}, Steps.{any, count, is_send_of, is_recv_at}, Sums.{sums_of, waves, judgement}}
 
--- the number of nodes, and the accepted steps, newest first
+-- The number of nodes, the accepted steps, newest first, and whether the core keeps a list of them. If it does not, only
+-- clauses see the steps.
 pub record Accepted : Type 0 where
   pub nodes : ℕ
   pub steps : List Step
+  pub recorded : Bool
 
 abbrev pub world_of : Accepted → World
 world_of a = world_after a.nodes a.steps
 
--- the check for lack of room, if `taken` steps were accepted
-abbrev pub room_check : ℕ → List Check
-room_check taken = (nat_le MAX_STEPS taken, HistoryFull taken) ∷ []
+-- A counter of a core without a list of steps is at its limit, so the core cannot take this step: the number of what is
+-- left, of messages in flight, of messages that the node has sent or received, of waves, or of generations. All but the
+-- last are counted in the present generation.
+abbrev pub is_at_limit : ℕ → List Step → Step → Bool
+is_at_limit n past (Insert i t k) = nat_le MAX_COUNT (all_left (world_after n past))
+is_at_limit n past (ActionOpen i a) = nat_le MAX_COUNT (all_left (world_after n past))
+is_at_limit n past (Send i j m g) =
+    nat_le MAX_MESSAGES (count (is_send_of i.0) (present past)) || nat_le MAX_COUNT (length (world_after n past).messages)
+is_at_limit n past (Recv j m g) =
+    nat_le MAX_MESSAGES (count (is_recv_at j.0) (present past)) || nat_le MAX_COUNT (all_left (world_after n past))
+is_at_limit n past Start = nat_lt MAX_STEPS (waves (present past))
+is_at_limit n past Reopen = nat_le MAX_COUNT (generation past)
+is_at_limit n past _ = false
+
+-- There is room for a step, if `taken` steps were accepted: in the list of steps, or, if there is none, in the counters.
+abbrev pub HasRoom : (recorded : Bool) → (taken : ℕ) → (limit : Bool) → Type 0
+HasRoom true taken limit = taken < MAX_STEPS
+HasRoom false taken limit = IsFalse limit
+
+-- the check for lack of room
+abbrev pub room_check : (recorded : Bool) → (taken : ℕ) → (limit : Bool) → List Check
+room_check true taken limit = (nat_le MAX_STEPS taken, HistoryFull taken) ∷ []
+room_check false taken limit = (limit, StoreFull) ∷ []
+
+-- Without a list, the check of the number of waves comes before all others.
+abbrev pub wave_check : Accepted → Step → List Check
+wave_check a Start = (not a.recorded && is_at_limit a.nodes a.steps Start, StoreFull) ∷ []
+wave_check a _ = []
 
 -- the first refusal that applies; the check for room is the last
 abbrev pub refusal : Accepted → Step → Option Refusal
-refusal a s = first_refusal (checks a.nodes a.steps s ++ room_check (length a.steps))
+refusal a s =
+    first_refusal (wave_check a s ++ (checks a.nodes a.steps s ++ room_check a.recorded (length a.steps) (is_at_limit a.nodes a.steps s)))
 
 -- The next step begins a piece of the list of steps, if `taken` steps were accepted.
-abbrev pub begins_piece : ℕ → Bool
-begins_piece taken = taken % PIECE == 0
+abbrev pub begins_piece : (recorded : Bool) → (taken : ℕ) → Bool
+begins_piece recorded taken = recorded && (taken % PIECE == 0)
+
+-- the number of steps in the list of a core, if it keeps one
+abbrev pub list_length : Accepted → ℕ
+list_length a = if a.recorded then length a.steps else 0
 
 -- The step inserts a task whose number is k or shares a page with k. The next two tests are the same for opening a
 -- named action and for sending a message.
@@ -52,7 +84,7 @@ keeps_more past _ = false
 
 -- The step may have to allocate.
 abbrev pub asks_memory : Accepted → Step → Bool
-asks_memory a s = keeps_more (present a.steps) s || begins_piece (length a.steps)
+asks_memory a s = keeps_more (present a.steps) s || begins_piece a.recorded (length a.steps)
 
 -- A call is refused with the first refusal that applies. If none does, it is refused with `NoMemory`, and only if it
 -- may have to allocate.
@@ -101,9 +133,18 @@ abbrev pub after_all : Accepted → List Step → Accepted
 after_all a [] = a
 after_all a (s ∷ later) = after_all (next a s) later
 
--- The step may come next, and there is room for it. The limit counts the steps of all generations.
+-- There is room for the step. The limit of a list counts the steps of all generations.
+abbrev pub IsInRoom : Accepted → Step → Type 0
+IsInRoom a s = HasRoom a.recorded (length a.steps) (is_at_limit a.nodes a.steps s)
+
+-- The step may come next, and there is room for it.
 abbrev pub IsAcceptable : Accepted → Step → Type 0
-IsAcceptable a s = MayCome a.nodes a.steps s × (length a.steps < MAX_STEPS)
+IsAcceptable a s = MayCome a.nodes a.steps s × IsInRoom a s
+
+-- There was room for each step.
+abbrev pub AreInRoom : Bool → ℕ → List Step → Type 0
+AreInRoom recorded n [] = Unit {0}
+AreInRoom recorded n (s ∷ past) = HasRoom recorded (length past) (is_at_limit n past s) × AreInRoom recorded n past
 
 -- The results of several steps, in order, and what is accepted after them. Each may be refused for lack of memory.
 abbrev pub AnswersAll : Accepted → List Step → List (Result Reply Refusal) → Accepted → Type 0
@@ -131,7 +172,7 @@ numbers_in i a = record {
 
 -- what was accepted in the present generation
 abbrev pub now_of : Accepted → Accepted
-now_of a = record { nodes = a.nodes; steps = present a.steps }
+now_of a = record { nodes = a.nodes; steps = present a.steps; recorded = true }
 
 -- the counters of node i in the present generation
 abbrev pub numbers_at : ℕ → Accepted → NodeNumbers

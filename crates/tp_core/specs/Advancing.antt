@@ -1,17 +1,18 @@
 -- The effect of a control step on the wave of a core, and the reply to it.
-use Rattle.std.specs.Prelude.{ℕ, ◌≡◌, ◌<◌, ◌≤◌, List, ◌∷◌, length, Option, Some, None, Result, Ok, Err}
-use Rattle.tp_base.specs.declared.{Refusal.Refusal, Step.Step, limits.TheConstants.{MAX_STEPS, MAX_NODES}}
+use Rattle.std.specs.Prelude.{ℕ, ◌≡◌, ◌<◌, ◌≤◌, List, ◌∷◌, true, Option, Some, None, Result, Ok, Err}
+use Rattle.tp_base.specs.declared.{Refusal.Refusal, Step.Step, limits.TheConstants.{MAX_MESSAGES, MAX_NODES}}
 use Rattle.tp_core.specs.{Accepted.reply_to, Kept.HasNumbers, Run.IsLawfulRun, StepChecks.refusal_of}
 use Rattle.tp_core.specs.declared.{numbers.NodeNumbers.NodeNumbers, reply.Reply.{Reply, TheVariants.Over}}
-use Rattle.tp_wave.specs.{Generations.present, Wave.Follows, declared.Wave.Wave}
+use Rattle.tp_wave.specs.{Generations.present, Steps.{count, is_send_of, is_recv_at}, Wave.Follows, declared.Wave.Wave}
 
 -- The steps on n nodes are a run in the present generation. The counters and the wave follow from them.
 pub record HasWaves (n : ℕ) (numbers : List NodeNumbers) (steps : List Step) (wave : Wave) : Type 0 where
   pub some_node : 0 < n
   pub few_nodes : n ≤ MAX_NODES
   pub is_run : IsLawfulRun n (present steps)
-  pub within : length steps ≤ MAX_STEPS
-  pub numbers_are : HasNumbers numbers (record { nodes = n; steps = present steps })
+  pub few_sent : (i : ℕ) → count (is_send_of i) (present steps) ≤ MAX_MESSAGES
+  pub few_received : (i : ℕ) → count (is_recv_at i) (present steps) ≤ MAX_MESSAGES
+  pub numbers_are : HasNumbers numbers (record { nodes = n; steps = present steps; recorded = true })
   pub follows : Follows n (present steps) wave
 
 -- The step is refused with the first refusal that applies. If none does, the reply is that to the step, and the wave

@@ -8,9 +8,12 @@ pub mod StepChecks
 pub mod NeverEarly
 pub mod Laws
 pub mod Accepted
+pub mod Capacity
+pub mod Taken
 pub mod Kept
 pub mod Reached
 pub mod Settled
 pub mod Advancing
 pub mod ToTheEnd
 pub mod Makers
+pub mod Left

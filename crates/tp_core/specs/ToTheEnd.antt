@@ -1,8 +1,8 @@
 -- The loop invariant of settling, in which control steps are taken until termination is detected.
 use Rattle.std.specs.{List.list_all, Prelude.{ℕ, ◌+◌, ◌*◌, ◌≡◌, ◌≤◌, List, ◌∷◌, ◌++◌, length, IsTrue, IsFalse, Option, Some, None}}
-use Rattle.tp_base.specs.declared.Step.{Step, TheVariants.Judge}
+use Rattle.tp_base.specs.declared.{Step.{Step, TheVariants.{Start, Judge}}, limits.TheConstants.MAX_STEPS}
 use Rattle.tp_core.specs.{Advancing.HasWaves, Run.{world, IsLawful, IsLawfulRun}, World.IsQuiet, declared.numbers.NodeNumbers.NodeNumbers}
-use Rattle.tp_wave.specs.{Control.is_control, Generations.present, Sums.{is_ended, judgement}, Wave.Follows, declared.Wave.Wave}
+use Rattle.tp_wave.specs.{Control.{IsDue, is_control}, Generations.present, Sums.{is_ended, judgement, waves}, Wave.Follows, declared.Wave.Wave}
 
 -- The steps on n nodes are a run after which the pool is quiet and termination was not detected. The counters and the
 -- wave follow from the steps.
@@ -10,6 +10,10 @@ pub record MaySettle (n : ℕ) (numbers : List NodeNumbers) (steps : List Step) 
   pub waves : HasWaves n numbers steps wave
   pub quiet : IsQuiet (world n (present steps))
   pub not_ended : IsFalse (is_ended n (present steps))
+
+-- If a wave may be started next, few enough were started.
+abbrev pub FewIfDue : ℕ → List Step → Type 0
+FewIfDue n steps = IsDue n (present steps) Start → waves (present steps) ≤ MAX_STEPS
 
 -- The report of a step: the wave with which it judged the pool to have terminated, or none if termination was not
 -- detected.

@@ -40,7 +40,7 @@ pub record IsSound (n : ℕ) (lines : List TraceLine) : Type 0 where
 
 -- a core on n nodes that has accepted the steps of these lines
 abbrev pub taken : ℕ → List TraceLine → Accepted
-taken n lines = record { nodes = n; steps = steps_in lines }
+taken n lines = record { nodes = n; steps = steps_in lines; recorded = true }
 
 -- After these lines this one is flawed: its step is refused; or it is a judgement line whose step is accepted, but
 -- whose claim is wrong.

@@ -46,7 +46,7 @@ closing a =
 
 -- a core on n nodes that has accepted nothing
 abbrev pub fresh : ℕ → Accepted
-fresh n = record { nodes = n; steps = [] }
+fresh n = record { nodes = n; steps = []; recorded = true }
 
 -- the line of the reply to each step, in order, and the closing lines
 abbrev pub report : ℕ → List Step → List ℕ

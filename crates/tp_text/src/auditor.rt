@@ -31,6 +31,8 @@ pub(crate) struct Auditor {
     account: Account,
     // the number and the flaw of the first flawed line
     flaw: Option<(u64, Flaw)>,
+    // the core keeps a list of its steps
+    ghost listed: { IsTrue core.recorded },
 }
 
 impl Auditor {

@@ -91,11 +91,11 @@ numbers_written {a} {xs} s kept lawful j v low at is = record { size = length-se
 
 -- The counters for a number that names no node are 0.
 pub outside : (n i : ℕ) (steps : List Step) → 0 < n → IsLawfulRun n steps → n ≤ i
-    → numbers_in i (record { nodes = n; steps = steps }) ≡ zeros
+    → numbers_in i (record { nodes = n; steps = steps; recorded = true }) ≡ zeros
 outside n i [] pos r h = ap (λ p. record { pending = p; sent = 0; received = 0 }) (grind (arith, nat_tests, open_at-openings i n))
 outside n i (s ∷ past) pos r h =
     let inside = node_inside n past s pos r.1 r.0 in
-    numbers_step (record { nodes = n; steps = past }) s i r.0 ∙ grind (arith, nat_tests, inside, outside n i past pos r.1 h)
+    numbers_step (record { nodes = n; steps = past; recorded = true }) s i r.0 ∙ grind (arith, nat_tests, inside, outside n i past pos r.1 h)
 
 -- ---- unfinished tasks and open actions
 left-with_life : (t : ℕ) (f : Life → Life) (l : Life) (xs : List Task) → life_in t xs ≡ Some l
@@ -126,27 +126,18 @@ under_step n past (Recv j m g) r = let e = length-without (is_message m.0 j.0) (
 under_step n past (s) r = refl
 
 -- ---- the whole invariant
-pub accepted_next : (c d : Inside) (s : Step) → d.nodes ≡ c.nodes → d.steps.items ≡ c.steps.items ++ s ∷ []
+pub accepted_next : (c d : Inside) {mid : Taken} (s : Step) → d.nodes ≡ c.nodes → IsSame c.steps mid → IsPushed mid s d.steps
     → accepted d ≡ with_step (accepted c) s
-accepted_next c d s nodes pushed = rw (nodes, pushed, reverse-append c.steps.items (s ∷ [])) refl
+accepted_next c d s nodes stay pushed = rw (nodes, pushed.steps, pushed.recorded, stay.steps, stay.recorded) refl
 
 -- A step other than a reopening stays in the present generation.
 pub generation-goes_on : (s : Step) (past : List Step) → IsFalse (is_reopen s) → generation (s ∷ past) ≡ generation past
 generation-goes_on s past on = rw on
 
--- the bounds on the room, after more steps
-pub reserved_next : (reserved old room : ℕ) → reserved ≤ old → old ≤ room → reserved ≤ room
-reserved_next reserved old room h more = omega (arith, h, more)
-
-pub frugal_next : (count now reserved old room : ℕ) → count ≤ now → IsFrugal count reserved old → GrowsFrugally count old room
-    → IsFrugal now reserved room
-frugal_next count now reserved old room l h grows = omega (arith, l, h, grows.1)
-
-pub agree_after : {c d : Inside} {mid : List Step} {room : ℕ} (s : Step) → IsKept c → MayCome c.nodes (accepted c).steps s
-    → IsFalse (is_reopen s) → length c.steps.items < MAX_STEPS
-    → HasPieces (length c.steps.items + 1) room → GrowsFrugally (length c.steps.items) (vec_capacity c.steps) room → d.reserved ≡ c.reserved
+pub agree_after : {c d : Inside} {mid : Taken} (s : Step) → IsKept c → MayCome c.nodes (accepted c).steps s
+    → IsFalse (is_reopen s) → IsInRoom (accepted c) s
     → d.nodes ≡ c.nodes → d.generation ≡ c.generation
-    → mid ≡ c.steps.items → d.steps.items ≡ mid ++ s ∷ [] → vec_capacity d.steps ≡ room
+    → IsSame c.steps mid → IsPushed mid s d.steps
     → HasNumbers d.numbers (with_step (now_of (accepted c)) s)
     → d.left ≡ pending_after s c.left → d.under ≡ under_way_after s c.under
     → HasTasks d.tasks (after s (world c.nodes (present (accepted c).steps))).tasks
@@ -156,23 +147,17 @@ pub agree_after : {c d : Inside} {mid : List Step} {room : ℕ} (s : Step) → I
     → HasPlaces (s ∷ present (accepted c).steps) d.tasks d.named d.messages
     → Follows c.nodes (s ∷ present (accepted c).steps) d.wave
     → IsKept d
-agree_after {c} {d} {mid} s agree comes on room pieces grows same_reserved nodes same_generation stay pushed capacity numbers left under
-    tasks actions messages places follows =
+agree_after {c} {d} {mid} s agree comes on room nodes same_generation stay pushed numbers left under tasks actions messages places follows =
     let lawful : IsLawful c.nodes (present (accepted c).steps) s = (comes.goes_on on).0 in
     let now : present (s ∷ (accepted c).steps) ≡ s ∷ present (accepted c).steps = present-goes_on s (accepted c).steps on in
-    subst (λ a. Agree a d) (sym (accepted_next c d s nodes (rw stay at pushed))) record {
+    subst (λ a. Agree a d) (sym (accepted_next c d s nodes stay pushed)) record {
       some_node = agree.some_node;
       few_nodes = agree.few_nodes;
       is_run = subst (λ (xs : List Step). IsLawfulRun c.nodes xs) (sym now) (lawful, agree.is_run);
       are_runs = (comes, agree.are_runs);
       generation_is = same_generation ∙ agree.generation_is ∙ sym (generation-goes_on s (accepted c).steps on);
-      within = rw (length-reverse c.steps.items) (omega arith);
-      pieces = rw (capacity, pushed, stay, length-append c.steps.items (s ∷ [])) pieces;
-      reserved = rw (capacity, same_reserved) (reserved_next c.reserved (vec_capacity c.steps) _ agree.reserved grows.0);
-      frugal = rw (capacity, same_reserved, pushed, stay, length-append c.steps.items (s ∷ []))
-          (frugal_next (length c.steps.items) (length c.steps.items + 1) c.reserved (vec_capacity c.steps) _ (omega arith) agree.frugal
-          grows);
-      numbers = subst (λ (xs : List Step). HasNumbers d.numbers (record { nodes = c.nodes; steps = xs })) (sym now) numbers;
+      in_room = (room, agree.in_room);
+      numbers = subst (λ (xs : List Step). HasNumbers d.numbers (record { nodes = c.nodes; steps = xs; recorded = true })) (sym now) numbers;
       left = subst (λ (xs : List Step). d.left ≡ all_left (world c.nodes xs)) (sym now) (left
           ∙ rw agree.left (sym (left_step c.nodes (present (accepted c).steps) s lawful)));
       under = subst (λ (xs : List Step). d.under ≡ length (world c.nodes xs).messages) (sym now) (under
@@ -186,11 +171,10 @@ agree_after {c} {d} {mid} s agree comes on room pieces grows same_reserved nodes
     }
 
 -- the invariant after a step of the pool
-pub agree_next : {c d : Inside} {mid : List Step} {room : ℕ} (s : Step) → IsKept c → MayCome c.nodes (accepted c).steps s
-    → IsFalse (is_reopen s) → length c.steps.items < MAX_STEPS
-    → HasPieces (length c.steps.items + 1) room → GrowsFrugally (length c.steps.items) (vec_capacity c.steps) room → d.reserved ≡ c.reserved
+pub agree_next : {c d : Inside} {mid : Taken} (s : Step) → IsKept c → MayCome c.nodes (accepted c).steps s
+    → IsFalse (is_reopen s) → IsInRoom (accepted c) s
     → is_control s ≡ false → d.nodes ≡ c.nodes
-    → d.generation ≡ c.generation → d.wave ≡ c.wave → mid ≡ c.steps.items → d.steps.items ≡ mid ++ s ∷ [] → vec_capacity d.steps ≡ room
+    → d.generation ≡ c.generation → d.wave ≡ c.wave → IsSame c.steps mid → IsPushed mid s d.steps
     → HasNumbers d.numbers (with_step (now_of (accepted c)) s)
     → d.left ≡ pending_after s c.left → d.under ≡ under_way_after s c.under
     → HasTasks d.tasks (after s (world c.nodes (present (accepted c).steps))).tasks
@@ -199,10 +183,8 @@ pub agree_next : {c d : Inside} {mid : List Step} {room : ℕ} (s : Step) → Is
     (after s (world c.nodes (present (accepted c).steps))).numbers
     → HasPlaces (s ∷ present (accepted c).steps) d.tasks d.named d.messages
     → IsKept d
-agree_next {c} {d} s agree comes on room pieces grows same_reserved pool nodes same_generation wave stay pushed capacity numbers left
-    under tasks actions messages places =
-    agree_after s agree comes on room pieces grows same_reserved nodes same_generation stay pushed capacity numbers left under tasks
-    actions messages places
+agree_next {c} {d} s agree comes on room pool nodes same_generation wave stay pushed numbers left under tasks actions messages places =
+    agree_after s agree comes on room nodes same_generation stay pushed numbers left under tasks actions messages places
     (rw wave (pool_step c.nodes (present (accepted c).steps) s c.wave pool agree.wave))
 
 -- ==== The steps that a core accepts are runs, and in each run two of the four counters decide whether all are equal.
@@ -312,33 +294,116 @@ fewer_actions i (x ∷ xs) = grind (arith, fewer_actions i xs)
 pending-le-left : (i : ℕ) (w : World) → pending i w ≤ all_left w
 pending-le-left i w = let tasks = fewer_tasks i w.tasks in let actions = fewer_actions i w.actions in omega arith
 
--- upper bounds of the counters
-pub record AreSmall (x : NodeNumbers) (all under_way : ℕ) : Type 0 where
-  pub pending : x.pending ≤ all
-  pub left : all ≤ MAX_STEPS + MAX_NODES
-  pub sent : x.sent ≤ MAX_STEPS
-  pub received : x.received ≤ MAX_STEPS
-  pub under : under_way ≤ MAX_STEPS
+-- With a list of steps, the counters are below their limits.
+listed_left : {c : Inside} → IsKept c → length (accepted c).steps < MAX_STEPS → c.left < MAX_COUNT
+listed_left {c} agree few =
+    let bound = left_bound c.nodes (present (accepted c).steps) in let fewer = length-present (accepted c).steps in
+    let nodes = agree.few_nodes in rw agree.left (omega arith)
 
-pub small : {c : Inside} → IsKept c → (i : ℕ) → i < MAX_NODES → AreSmall (slice_index_or c.numbers i zeros) c.left c.under
-small {c} agree i low =
-    let steps = present (accepted c).steps in
-    let w = world c.nodes steps in
-    let within : length steps ≤ MAX_STEPS = let all = agree.within in let fewer = length-present (accepted c).steps in omega arith in
-    let few = agree.few_nodes in
-    record {
-      pending = rw (agree.numbers.each i zeros low, agree.left) (pending-le-left i w);
-      left = rw agree.left (let bound = left_bound c.nodes steps in omega arith);
-      sent = rw (agree.numbers.each i zeros low) (let bound = count_bound (is_send_of i) steps in omega arith);
-      received = rw (agree.numbers.each i zeros low) (let bound = count_bound (is_recv_at i) steps in omega arith);
-      under = rw agree.under (let bound = messages_bound c.nodes steps in omega arith);
-    }
+-- If there is room for a step that counts what is left, the counter is below its limit.
+left_fits : {c : Inside} (r b : Bool) → IsKept c → b ≡ nat_le MAX_COUNT c.left → HasRoom r (length (accepted c).steps) b → c.left < MAX_COUNT
+left_fits {c} true b agree is room = listed_left agree room
+left_fits {c} false b agree is room = grind (arith, nat_tests, is, room)
+
+pub left_below : {c : Inside} (b : Bool) → IsKept c → b ≡ nat_le MAX_COUNT c.left → HasRoom c.steps.recorded (length c.steps.steps) b
+    → c.left < MAX_COUNT
+left_below {c} b agree is room = left_fits c.steps.recorded b agree is room
+
+pub pending_small : {c : Inside} → IsKept c → (i : ℕ) → i < MAX_NODES → (slice_index_or c.numbers i zeros).pending ≤ c.left
+pending_small {c} agree i low =
+    rw (agree.numbers.each i zeros low, agree.left) (pending-le-left i (world c.nodes (present (accepted c).steps)))
+
+-- If there is room for a step that counts messages of a node, both counters are below their limits.
+messages_fit : (r b : Bool) (taken messages count : ℕ) → (taken < MAX_STEPS → (messages < MAX_MESSAGES) × (count < MAX_COUNT))
+    → b ≡ (nat_le MAX_MESSAGES messages || nat_le MAX_COUNT count) → HasRoom r taken b → (messages < MAX_MESSAGES) × (count < MAX_COUNT)
+messages_fit true b taken messages count listed is room = listed room
+messages_fit false b taken messages count listed is room = grind (arith, nat_tests, is, room)
+
+pub sent_limit : {c : Inside} → IsKept c → (from to : NodeId) (m : MessageId) (g : Generation) → from.0 < MAX_NODES
+    → (nat_le MAX_MESSAGES (slice_index_or c.numbers from.0 zeros).sent || nat_le MAX_COUNT c.under)
+    ≡ is_at_limit c.nodes c.steps.steps (Send from to m g)
+sent_limit {c} agree from to m g low = rw (agree.numbers.each from.0 zeros low, agree.under) refl
+
+pub sent_below : {c : Inside} (b : Bool) → IsKept c → (i : ℕ) → i < MAX_NODES
+    → b ≡ (nat_le MAX_MESSAGES (slice_index_or c.numbers i zeros).sent || nat_le MAX_COUNT c.under)
+    → HasRoom c.steps.recorded (length c.steps.steps) b → ((slice_index_or c.numbers i zeros).sent < MAX_MESSAGES) × (c.under < MAX_COUNT)
+sent_below {c} b agree i low =
+    messages_fit c.steps.recorded b (length c.steps.steps) _ _ (λ few.
+    let steps = present (accepted c).steps in let fewer = length-present (accepted c).steps in (
+      rw (agree.numbers.each i zeros low) (let bound = count_bound (is_send_of i) steps in omega arith),
+      rw agree.under (let bound = messages_bound c.nodes steps in omega arith),
+    ))
+
+pub received_limit : {c : Inside} → IsKept c → (to : NodeId) (m : MessageId) (g : Generation) → to.0 < MAX_NODES
+    → (nat_le MAX_MESSAGES (slice_index_or c.numbers to.0 zeros).received || nat_le MAX_COUNT c.left)
+    ≡ is_at_limit c.nodes c.steps.steps (Recv to m g)
+received_limit {c} agree to m g low = rw (agree.numbers.each to.0 zeros low, agree.left) refl
+
+pub received_below : {c : Inside} (b : Bool) → IsKept c → (i : ℕ) → i < MAX_NODES
+    → b ≡ (nat_le MAX_MESSAGES (slice_index_or c.numbers i zeros).received || nat_le MAX_COUNT c.left)
+    → HasRoom c.steps.recorded (length c.steps.steps) b → ((slice_index_or c.numbers i zeros).received < MAX_MESSAGES) × (c.left < MAX_COUNT)
+received_below {c} b agree i low =
+    messages_fit c.steps.recorded b (length c.steps.steps) _ _ (λ few.
+    let steps = present (accepted c).steps in let fewer = length-present (accepted c).steps in (
+      rw (agree.numbers.each i zeros low) (let bound = count_bound (is_recv_at i) steps in omega arith),
+      listed_left agree few,
+    ))
+
+-- If there is room for a reopening, the number of the generation is below its limit.
+generation_fits : {c : Inside} (r b : Bool) → IsKept c → b ≡ nat_le MAX_COUNT c.generation → HasRoom r (length (accepted c).steps) b
+    → c.generation < MAX_COUNT
+generation_fits {c} true b agree is room =
+    let bound = count_bound is_reopen (accepted c).steps in rw agree.generation_is (omega (arith, room, bound))
+generation_fits {c} false b agree is room = grind (arith, nat_tests, is, room)
+
+pub generation_below : {c : Inside} (b : Bool) → IsKept c → b ≡ nat_le MAX_COUNT c.generation
+    → HasRoom c.steps.recorded (length c.steps.steps) b → c.generation < MAX_COUNT
+generation_below {c} b agree is room = generation_fits c.steps.recorded b agree is room
+
+-- ---- in a core with room for each step, no node has sent or received too many messages, and few waves were started
+abbrev HasFew : ℕ → List Step → Type 0
+HasFew i steps =
+    (count (is_send_of i) (present steps) ≤ MAX_MESSAGES) × (count (is_recv_at i) (present steps) ≤ MAX_MESSAGES)
+
+few_in_list : (r : Bool) (n i : ℕ) (steps : List Step) → AreInRoom r n steps → r ≡ true → length steps ≤ MAX_STEPS
+few_in_list r n i [] h e = zero-le
+few_in_list true n i (s ∷ past) h e = omega (arith, h.0)
+few_in_list false n i (s ∷ past) h e = cc
+
+few_after : (n i : ℕ) (past : List Step) (s : Step) → IsFalse (is_at_limit n past s) → HasFew i past → HasFew i (s ∷ past)
+few_after n i past (Send a b m g) h few = grind (arith, nat_tests, h, few)
+few_after n i past (Recv j m g) h few = grind (arith, nat_tests, h, few)
+few_after n i past Reopen h few = (zero-le, zero-le)
+few_after n i past (s) h few = few
+
+few_unlisted : (n i : ℕ) (steps : List Step) → AreInRoom false n steps → HasFew i steps
+few_unlisted n i [] h = (zero-le, zero-le)
+few_unlisted n i (s ∷ past) h = few_after n i past s h.0 (few_unlisted n i past h.1)
+
+pub waves_few : {c : Inside} {old : Accepted} → IsKept c → accepted c ≡ old
+    → IsFalse (not c.steps.recorded && nat_lt MAX_STEPS (waves (present c.steps.steps))) → waves (present old.steps) ≤ MAX_STEPS
+waves_few {c} agree is told =
+    subst (λ (a : Accepted). waves (present a.steps) ≤ MAX_STEPS) is (by_kind c.steps.recorded agree.in_room told)
+  where
+    by_kind : (r : Bool) → AreInRoom r c.nodes c.steps.steps → IsFalse (not r && nat_lt MAX_STEPS (waves (present c.steps.steps)))
+        → waves (present c.steps.steps) ≤ MAX_STEPS
+    by_kind true h e =
+        let few = few_in_list true c.nodes 0 c.steps.steps h refl in let fewer = length-present c.steps.steps in
+        let counted = count_bound is_start (present c.steps.steps) in omega arith
+    by_kind false h e = grind (arith, nat_tests, e)
+
+pub few_messages : (r : Bool) (n i : ℕ) (steps : List Step) → AreInRoom r n steps → HasFew i steps
+few_messages true n i steps h =
+    let few = few_in_list true n i steps h refl in let fewer = length-present steps in
+    let sent = count_bound (is_send_of i) (present steps) in let received = count_bound (is_recv_at i) (present steps) in
+    (omega arith, omega arith)
+few_messages false n i steps h = few_unlisted n i steps h
 
 lowered : {c : Inside} → IsKept c → (i : ℕ) → i < MAX_NODES → 0 < pending i (world_of (accepted c))
     → (1 ≤ (slice_index_or c.numbers i zeros).pending) × (1 ≤ c.left)
 lowered {c} agree i low active =
     let here : 1 ≤ (slice_index_or c.numbers i zeros).pending = rw (agree.numbers.each i zeros low) active in
-    let bound = (small agree i low).pending in (here, omega arith)
+    let bound = pending_small agree i low in (here, omega arith)
 
 -- A running task can be done: the counters that this lowers are above 0.
 pub record MayEnd (c : Inside) (i : ℕ) : Type 0 where
@@ -470,26 +535,23 @@ first_actions n opening named messages opened no_name no_message = record { are_
     now i (Named a) = let none = no_name a in grind (arith, none)
     now i (OfMessage m) = let none = no_message m in grind (arith, none)
 
-first_numbers : (i n : ℕ) → opened_below n i ≡ numbers_in i (record { nodes = n; steps = [] })
+first_numbers : (i n : ℕ) → opened_below n i ≡ numbers_in i (record { nodes = n; steps = []; recorded = true })
 first_numbers i n = ap (λ p. record { pending = p; sent = 0; received = 0 }) (grind (arith, open_at-openings i n))
 
-pub first_kept : {c : Inside} → 0 < c.nodes → c.nodes ≤ MAX_NODES → c.steps.items ≡ [] → vec_capacity c.steps ≡ 0 → c.reserved ≡ 0
+pub first_kept : {c : Inside} → 0 < c.nodes → c.nodes ≤ MAX_NODES → c.steps.steps ≡ []
     → c.generation ≡ 1
     → AreOpened c.nodes c.numbers c.opening → c.left ≡ c.nodes → c.under ≡ 0
     → ((k : ℕ) → lookup c.named k ≡ None) → ((k : ℕ) → lookup c.tasks k ≡ None) → ((k : ℕ) → lookup c.messages k ≡ None)
     → Follows c.nodes [] c.wave → IsKept c
-first_kept {c} some few empty none none_reserved first opened left under no_name no_task no_message follows =
-    let nothing : accepted c ≡ record { nodes = c.nodes; steps = [] } = rw empty refl in
+first_kept {c} some few empty first opened left under no_name no_task no_message follows =
+    let nothing : accepted c ≡ record { nodes = c.nodes; steps = []; recorded = c.steps.recorded } = rw empty refl in
     subst (λ (a : Accepted). Agree a c) (sym nothing) (record {
       some_node = some;
       few_nodes = few;
       is_run = tt;
       are_runs = tt;
       generation_is = first;
-      within = zero-le;
-      pieces = subst (λ (xs : List Step). HasPieces (length xs) (vec_capacity c.steps)) (sym empty) zero-le;
-      reserved = omega (arith, none_reserved);
-      frugal = omega (arith, none);
+      in_room = tt;
       numbers = record { size = opened.size; each = λ i d h. opened.each i d h ∙ first_numbers i c.nodes };
       left = left ∙ sym (length-openings c.nodes) ∙ omega arith;
       under = under;
@@ -501,28 +563,20 @@ first_kept {c} some few empty none none_reserved first opened left under no_name
     })
 
 -- after a reopening: everything is as in a new core, except that the list of steps and the generation go on
-pub reopened_kept : {c d : Inside} {mid : List Step} {room : ℕ} → IsKept c → MayCome c.nodes (accepted c).steps Reopen
-    → length c.steps.items < MAX_STEPS
-    → HasPieces (length c.steps.items + 1) room → GrowsFrugally (length c.steps.items) (vec_capacity c.steps) room → d.reserved ≡ c.reserved
-    → d.nodes ≡ c.nodes
-    → d.generation ≡ c.generation + 1 → mid ≡ c.steps.items → d.steps.items ≡ mid ++ Reopen ∷ [] → vec_capacity d.steps ≡ room
+pub reopened_kept : {c d : Inside} {mid : Taken} → IsKept c → MayCome c.nodes (accepted c).steps Reopen
+    → IsInRoom (accepted c) Reopen → d.nodes ≡ c.nodes
+    → d.generation ≡ c.generation + 1 → IsSame c.steps mid → IsPushed mid Reopen d.steps
     → AreOpened c.nodes d.numbers d.opening → d.left ≡ c.nodes → d.under ≡ 0
     → ((k : ℕ) → lookup d.named k ≡ None) → ((k : ℕ) → lookup d.tasks k ≡ None) → ((k : ℕ) → lookup d.messages k ≡ None)
     → Follows c.nodes [] d.wave → IsKept d
-reopened_kept {c} {d} {mid} agree comes room pieces grows same_reserved nodes next stay pushed capacity opened left under no_name
-    no_task no_message follows =
-    subst (λ (a : Accepted). Agree a d) (sym (accepted_next c d Reopen nodes (rw stay at pushed))) record {
+reopened_kept {c} {d} {mid} agree comes room nodes next stay pushed opened left under no_name no_task no_message follows =
+    subst (λ (a : Accepted). Agree a d) (sym (accepted_next c d Reopen nodes stay pushed)) record {
       some_node = agree.some_node;
       few_nodes = agree.few_nodes;
       is_run = tt;
       are_runs = (comes, agree.are_runs);
       generation_is = next ∙ ap (λ k. k + 1) agree.generation_is;
-      within = rw (length-reverse c.steps.items) (omega arith);
-      pieces = rw (capacity, pushed, stay, length-append c.steps.items (Reopen ∷ [])) pieces;
-      reserved = rw (capacity, same_reserved) (reserved_next c.reserved (vec_capacity c.steps) _ agree.reserved grows.0);
-      frugal = rw (capacity, same_reserved, pushed, stay, length-append c.steps.items (Reopen ∷ []))
-          (frugal_next (length c.steps.items) (length c.steps.items + 1) c.reserved (vec_capacity c.steps) _ (omega arith) agree.frugal
-          grows);
+      in_room = (room, agree.in_room);
       numbers = record { size = opened.size; each = λ i e h. opened.each i e h ∙ first_numbers i c.nodes };
       left = left ∙ sym (length-openings c.nodes) ∙ omega arith;
       under = under;

@@ -1,10 +1,10 @@
 //! Taking a control step, one of the five steps of a wave.
-ghost use Rattle.std.specs.Prelude.{◌≡◌, ℕ, List, IsTrue};
-ghost use Rattle.tp_base.specs.declared.Step.{Step};
-ghost use Rattle.tp_wave.specs.Control.{is_control};
+ghost use Rattle.std.specs.Prelude.{◌≡◌, ◌≤◌, ℕ, List, IsTrue};
+ghost use Rattle.tp_base.specs.declared.{Step.Step, limits.TheConstants.MAX_STEPS};
+ghost use Rattle.tp_wave.specs.{Control.is_control, Generations.present, Steps.is_start, Sums.waves, Wave.started};
 ghost use Rattle.tp_core.specs.Advancing.{Advances, HasWaves};
 
-use super::{Core, make_room};
+use super::Core;
 use crate::numbers::NodeNumbers;
 use crate::reply::Reply;
 use tp_base::{MAX_NODES, NodeId, Refusal, Step};
@@ -13,16 +13,27 @@ use tp_wave::Wave;
 impl Core {
     ghost use Rattle.tp_core.specs.Accepted.{Answers};
 
+    // Starts a wave.
+    pub(super) fn start(&mut self) -> Result<Reply, Refusal>
+        ensures { Answers self.old Step.Start result self.new }
+    {
+        if self.steps.is_out_of_waves() {
+            return Err(Refusal::StoreFull);
+        }
+        self.control(Step::Start)
+    }
+
     // The step is tried on a copy of the wave, because room for it is reserved last.
     pub(super) fn control(&mut self, step: Step) -> Result<Reply, Refusal>
-        requires { IsTrue (is_control step) }
+        requires control { IsTrue (is_control step) }
+        requires few { IsTrue (is_start step) → waves (present self.old.steps) ≤ MAX_STEPS }
         ensures { Answers self.old step result self.new }
     {
         let mut wave = self.wave;
         let reply = advance(&mut wave, &self.numbers, step)?;
-        make_room(&mut self.steps)?;
+        self.steps.make_room(false)?;
         self.wave = wave;
-        self.steps.push_reserved(step);
+        self.steps.push(step);
         Ok(reply)
     }
 }
@@ -34,6 +45,7 @@ pub(super) fn advance(
     step: Step,
 ) -> Result<Reply, Refusal>
     requires control { IsTrue (is_control step) }
+    requires few { IsTrue (is_start step) → started wave.old ≤ MAX_STEPS }
     requires waves { (n : ℕ) × (steps : List Step) × HasWaves n numbers.now steps wave.old }
     ensures { (n : ℕ) (steps : List Step) → HasWaves n numbers.now steps wave.old → Advances n steps step result wave.new }
 {

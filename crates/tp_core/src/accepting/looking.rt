@@ -24,7 +24,7 @@ pub enum Maker {
 
 impl Core {
     ghost use Rattle.tp_core.specs.{Accepted.world_of, Makers.{home_if_known, is_maker, is_running_at, made_at}, World.{Opening, Named}};
-    ghost use Rattle.tp_core.specs.World.{OfMessage, is_open};
+    ghost use Rattle.tp_core.specs.{Left.{IsNextLeft, home_and_life}, World.{OfMessage, is_open, is_under_way}};
     ghost use Rattle.tp_wave.specs.{Generations.present, Sums.is_ended};
 
     /// Returns whether termination of the present generation was detected.
@@ -32,6 +32,38 @@ impl Core {
         ensures { result ≡ is_ended self.now.nodes (present self.now.steps) }
     {
         self.wave.is_over()
+    }
+
+    /// Returns the home and the life of a task, if it was inserted in this generation.
+    pub fn task(&self, task: TaskId) -> Option<(NodeId, Life)>
+        ensures { result ≡ home_and_life task.0 (world_of self.now) }
+    {
+        match self.tasks.get(task.0) {
+            Some(held) => Some((held.home, held.life)),
+            None => None,
+        }
+    }
+
+    /// Returns the task with the lowest number from `from` on and below `end` that is not done, if there is one. It looks up
+    /// each number, so it takes time in proportion to their number.
+    pub fn next_left(&self, from: u32, end: u32) -> Option<TaskId>
+        ensures { IsNextLeft from end (world_of self.now) result }
+    {
+        for number in from..end {
+            if let Some(held) = self.tasks.get(number) {
+                if held.life != Life::Done {
+                    return Some(TaskId(number));
+                }
+            }
+        }
+        None
+    }
+
+    /// Returns whether a message is in flight to a node.
+    pub fn is_in_flight(&self, node: NodeId, message: MessageId) -> bool
+        ensures { result ≡ is_under_way message.0 node.0 (world_of self.now) }
+    {
+        self.messages.get(message.0) == Some(Posted::new(node, Stage::UnderWay))
     }
 
     /// Returns the home of a task, if it was inserted in this generation.

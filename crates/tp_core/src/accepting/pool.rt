@@ -3,7 +3,7 @@
 ghost use Rattle.std.specs.Prelude.{◌≡◌};
 ghost use Rattle.tp_core.specs.Pool.{lacking as lacking_inputs};
 
-use super::{Core, make_room};
+use super::{Core, are_full, is_full};
 use crate::held::Held;
 use crate::life::Life;
 use crate::node_set::NodeSet;
@@ -32,12 +32,12 @@ impl Core {
         if self.numbers[home.0 as usize].pending == 0 {
             return Err(Refusal::Inactive);
         }
-        make_room(&mut self.steps)?;
+        self.steps.make_room(is_full(self.left))?;
         let life = lacking(inputs.get());
         self.tasks.insert(task.0, Held { home, life })?;
         self.numbers[home.0 as usize].pending += 1;
         self.left += 1;
-        self.steps.push_reserved(Step::Insert(home, task, inputs));
+        self.steps.push(Step::Insert(home, task, inputs));
         Ok(Reply::Plain)
     }
 
@@ -50,10 +50,10 @@ impl Core {
         let Life::Waiting(missing) = held.life else {
             return Err(Refusal::WrongLife);
         };
-        make_room(&mut self.steps)?;
+        self.steps.make_room(false)?;
         let life = lacking(missing - 1);
         self.tasks.set(task.0, Held { life, ..held });
-        self.steps.push_reserved(Step::Supply(task));
+        self.steps.push(Step::Supply(task));
         Ok(Reply::Plain)
     }
 
@@ -67,10 +67,10 @@ impl Core {
         let Life::Ready = held.life else {
             return Err(Refusal::WrongLife);
         };
-        make_room(&mut self.steps)?;
+        self.steps.make_room(false)?;
         let life = Life::Running;
         self.tasks.set(task.0, Held { life, ..held });
-        self.steps.push_reserved(Step::Begin(task));
+        self.steps.push(Step::Begin(task));
         Ok(Reply::Plain)
     }
 
@@ -84,12 +84,12 @@ impl Core {
         let Life::Running = held.life else {
             return Err(Refusal::WrongLife);
         };
-        make_room(&mut self.steps)?;
+        self.steps.make_room(false)?;
         let life = Life::Done;
         self.tasks.set(task.0, Held { life, ..held });
         self.numbers[held.home.0 as usize].pending -= 1;
         self.left -= 1;
-        self.steps.push_reserved(Step::Done(task));
+        self.steps.push(Step::Done(task));
         Ok(Reply::Plain)
     }
 
@@ -106,11 +106,11 @@ impl Core {
         if self.numbers[node.0 as usize].pending == 0 {
             return Err(Refusal::Inactive);
         }
-        make_room(&mut self.steps)?;
+        self.steps.make_room(is_full(self.left))?;
         self.named.insert(action.0, nodes.with(node))?;
         self.numbers[node.0 as usize].pending += 1;
         self.left += 1;
-        self.steps.push_reserved(Step::ActionOpen(node, action));
+        self.steps.push(Step::ActionOpen(node, action));
         Ok(Reply::Plain)
     }
 
@@ -126,11 +126,11 @@ impl Core {
         if !nodes.has(node) {
             return Err(Refusal::NoAction);
         }
-        make_room(&mut self.steps)?;
+        self.steps.make_room(false)?;
         self.named.set(action.0, nodes.without(node));
         self.numbers[node.0 as usize].pending -= 1;
         self.left -= 1;
-        self.steps.push_reserved(Step::ActionClose(node, action));
+        self.steps.push(Step::ActionClose(node, action));
         Ok(Reply::Plain)
     }
 
@@ -143,11 +143,11 @@ impl Core {
         if !self.opening.has(node) {
             return Err(Refusal::NoAction);
         }
-        make_room(&mut self.steps)?;
+        self.steps.make_room(false)?;
         self.opening = self.opening.without(node);
         self.numbers[node.0 as usize].pending -= 1;
         self.left -= 1;
-        self.steps.push_reserved(Step::Ready(node));
+        self.steps.push(Step::Ready(node));
         Ok(Reply::Plain)
     }
 
@@ -175,13 +175,13 @@ impl Core {
         if self.numbers[from.0 as usize].pending == 0 {
             return Err(Refusal::Inactive);
         }
-        make_room(&mut self.steps)?;
+        let limit = are_full(self.numbers[from.0 as usize].sent, self.under);
+        self.steps.make_room(limit)?;
         let under_way = Posted::new(to, Stage::UnderWay);
         self.messages.insert(message.0, under_way)?;
         self.numbers[from.0 as usize].sent += 1;
         self.under += 1;
-        self.steps
-            .push_reserved(Step::Send(from, to, message, generation));
+        self.steps.push(Step::Send(from, to, message, generation));
         Ok(Reply::Plain)
     }
 
@@ -203,7 +203,8 @@ impl Core {
         if self.messages.get(message.0) != Some(under_way) {
             return Err(Refusal::NoMessage);
         }
-        make_room(&mut self.steps)?;
+        let limit = are_full(self.numbers[node.0 as usize].received, self.left);
+        self.steps.make_room(limit)?;
         let received = Posted::new(node, Stage::Received);
         self.messages.set(message.0, received);
         let numbers = &mut self.numbers[node.0 as usize];
@@ -211,8 +212,7 @@ impl Core {
         numbers.received += 1;
         self.left += 1;
         self.under -= 1;
-        self.steps
-            .push_reserved(Step::Recv(node, message, generation));
+        self.steps.push(Step::Recv(node, message, generation));
         Ok(Reply::Plain)
     }
 
@@ -234,13 +234,12 @@ impl Core {
         if self.messages.get(message.0) != Some(received) {
             return Err(Refusal::NoAction);
         }
-        make_room(&mut self.steps)?;
+        self.steps.make_room(false)?;
         let ended = Posted::new(node, Stage::Ended);
         self.messages.set(message.0, ended);
         self.numbers[node.0 as usize].pending -= 1;
         self.left -= 1;
-        self.steps
-            .push_reserved(Step::MessageEnd(node, message, generation));
+        self.steps.push(Step::MessageEnd(node, message, generation));
         Ok(Reply::Plain)
     }
 }

@@ -1,7 +1,7 @@
 //! Reopening the pool, which begins its next generation.
 ghost use Rattle.std.specs.Prelude.{◌≡◌};
 
-use super::{Core, make_room, opened};
+use super::{Core, is_full, opened};
 use crate::reply::Reply;
 use tp_base::{Generation, Refusal, Step};
 use tp_wave::Wave;
@@ -16,7 +16,7 @@ impl Core {
         if !self.wave.is_over() {
             return Err(Refusal::WrongLife);
         }
-        make_room(&mut self.steps)?;
+        self.steps.make_room(is_full(self.generation))?;
         let (numbers, opening) = opened(self.nodes);
         self.numbers = numbers;
         self.opening = opening;
@@ -27,7 +27,7 @@ impl Core {
         self.messages.clear();
         self.wave = Wave::new(self.nodes);
         self.generation += 1;
-        self.steps.push_reserved(Step::Reopen);
+        self.steps.push(Step::Reopen);
         Ok(Reply::Opened(Generation(self.generation)))
     }
 }

@@ -1,14 +1,14 @@
 //! Settling: taking control steps until termination is detected.
-ghost use Rattle.std.specs.Prelude.{◌≡◌, ◌≢◌, ◌≤◌, ◌<◌, ◌+◌, ◌*◌, Err, OnOk, IfErr, length, reverse, vec_len, vec_capacity};
-ghost use Rattle.tp_base.specs.{Checks.first_refusal, declared.limits.TheConstants.MAX_STEPS};
-ghost use Rattle.tp_core.specs.{Accepted.IsRefusedFor, Kept.{GrowsFrugally, HasPieces}, Settled.{ends_before, rooms_check}};
-ghost use Rattle.tp_core.specs.ToTheEnd.{AreTaken, IsTaken, MaySettle};
-ghost use Rattle.tp_wave.specs.Wave.{nodes_of};
+ghost use Rattle.std.specs.Prelude.{◌≡◌, ◌≤◌, ◌<◌, ◌+◌, ◌*◌};
+ghost use Rattle.tp_base.specs.declared.limits.TheConstants.{MAX_STEPS};
+ghost use Rattle.tp_core.specs.ToTheEnd.{AreTaken, FewIfDue, IsTaken, MaySettle};
+ghost use Rattle.tp_wave.specs.{Generations.present, Sums.waves, Wave.nodes_of};
 
+use super::Core;
 use super::control::advance;
-use super::{Core, PIECE};
 use crate::numbers::NodeNumbers;
-use tp_base::{MAX_STEPS, Refusal, Step};
+use crate::taken::TakenSteps;
+use tp_base::Refusal;
 use tp_wave::Wave;
 
 impl Core {
@@ -20,7 +20,8 @@ impl Core {
     ///
     /// Refused, without a change, with `Ended` if termination was detected before; `NotIdle` if a task is unfinished,
     /// an action is open or a message is in flight; `HistoryFull`, with the number of accepted steps, if nine more per
-    /// node would exceed 1,048,576; `NoMemory` if these need a new piece of 1,024 steps and the allocation fails.
+    /// node would exceed 1,048,576; `NoMemory` if these need a new piece of 1,024 steps and the allocation fails. A core
+    /// without a list of steps returns `StoreFull` in place of these two, if 1,048,576 waves were started in this generation.
     pub fn settle(&mut self) -> Result<(u32, u32), Refusal>
         // It is refused with the first refusal that applies, and otherwise takes the steps.
         ensures answers { Settles self.old result self.new }
@@ -41,46 +42,19 @@ impl Core {
         if !self.quiet() {
             return Err(Refusal::NotIdle);
         }
-        make_rooms(&mut self.steps, 9 * self.nodes as usize)?;
+        self.steps.make_rooms(9 * self.nodes as usize)?;
         Ok(take_to_end(&self.numbers, &mut self.steps, &mut self.wave))
     }
 }
 
-// Makes room for `more` steps. Refused with `HistoryFull` if there would be more than 1,048,576 steps, `NoMemory` if a
-// new piece cannot be allocated.
-fn make_rooms(steps: &mut Vec<Step>, more: usize) -> Result<(), Refusal>
-    requires full { length steps.old.items ≤ MAX_STEPS }
-    requires few { more ≤ PIECE }
-    requires pieces { HasPieces (length steps.old.items) (vec_capacity steps.old) }
-    ensures items { steps.new.items ≡ steps.old.items }
-    ensures room { OnOk result (length steps.old.items + more ≤ MAX_STEPS) }
-    ensures pieces { OnOk result (HasPieces (length steps.old.items + more) (vec_capacity steps.new)) }
-    ensures kept { HasPieces (length steps.old.items) (vec_capacity steps.new) }
-    ensures frugal { GrowsFrugally (length steps.old.items) (vec_capacity steps.old) (vec_capacity steps.new) }
-    // In pieces for which there is room, memory does not run out.
-    ensures ample { HasPieces (length steps.old.items + more) (vec_capacity steps.old) → result ≢ Err Refusal.NoMemory }
-    ensures err { IfErr result
-        (IsRefusedFor (first_refusal (rooms_check (length steps.old.items) more)) (ends_before (length steps.old.items) more)) }
-{
-    let taken = steps.len();
-    if taken + more > MAX_STEPS as usize {
-        return Err(Refusal::HistoryFull(taken as u32));
-    }
-    let end = (taken + (PIECE - 1)) / PIECE * PIECE;
-    if end < taken + more && steps.capacity() < end + PIECE {
-        steps.reserve_exact(taken.max(end + PIECE - taken))?;
-    }
-    Ok(())
-}
-
 // Takes the next control step until termination is detected. Returns the wave at whose end the pool had terminated, and
 // the number of steps taken.
-fn take_to_end(numbers: &[NodeNumbers; 8], steps: &mut Vec<Step>, wave: &mut Wave) -> (u32, u32)
-    requires settling { MaySettle (nodes_of wave.old) numbers.now (reverse steps.old.items) wave.old }
-    requires room { length steps.old.items + 9 * nodes_of wave.old ≤ vec_capacity steps.old }
-    requires few { length steps.old.items + 9 * nodes_of wave.old ≤ MAX_STEPS }
-    ensures taken { AreTaken (nodes_of wave.old) (reverse steps.old.items) (reverse steps.new.items) wave.new result.0 result.1 }
-    ensures capacity { vec_capacity steps.new ≡ vec_capacity steps.old }
+fn take_to_end(numbers: &[NodeNumbers; 8], steps: &mut TakenSteps, wave: &mut Wave) -> (u32, u32)
+    requires settling { MaySettle (nodes_of wave.old) numbers.now steps.old.steps wave.old }
+    requires room { 9 * nodes_of wave.old ≤ steps.old.room }
+    requires few { waves (present steps.old.steps) < MAX_STEPS }
+    ensures taken { AreTaken (nodes_of wave.old) steps.old.steps steps.new.steps wave.new result.0 result.1 }
+    ensures recorded { steps.new.recorded ≡ steps.old.recorded }
 {
     let mut count = 0;
     loop {
@@ -92,13 +66,15 @@ fn take_to_end(numbers: &[NodeNumbers; 8], steps: &mut Vec<Step>, wave: &mut Wav
 }
 
 // Takes the next control step. If it detects termination, returns the wave at whose end the pool had terminated.
-fn take_due(numbers: &[NodeNumbers; 8], steps: &mut Vec<Step>, wave: &mut Wave) -> Option<u32>
-    requires settling { MaySettle (nodes_of wave.old) numbers.now (reverse steps.old.items) wave.old }
-    requires room { vec_len steps.old < vec_capacity steps.old }
-    ensures taken { IsTaken (nodes_of wave.old) (reverse steps.old.items) (reverse steps.new.items) wave.new result }
-    ensures capacity { vec_capacity steps.new ≡ vec_capacity steps.old }
+fn take_due(numbers: &[NodeNumbers; 8], steps: &mut TakenSteps, wave: &mut Wave) -> Option<u32>
+    requires settling { MaySettle (nodes_of wave.old) numbers.now steps.old.steps wave.old }
+    requires room { 1 ≤ steps.old.room }
+    requires few { FewIfDue (nodes_of wave.old) steps.old.steps }
+    ensures taken { IsTaken (nodes_of wave.old) steps.old.steps steps.new.steps wave.new result }
+    ensures recorded { steps.new.recorded ≡ steps.old.recorded }
+    ensures room { steps.old.room ≤ steps.new.room + 1 }
 {
     let step = wave.next_step();
-    steps.push_reserved(step);
+    steps.push(step);
     advance(wave, numbers, step).unwrap().over()
 }

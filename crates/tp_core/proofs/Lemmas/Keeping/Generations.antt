@@ -24,11 +24,36 @@ first_of_both : (cs ds : List Check) → first_refusal (cs ++ ds) ≡ None → (
 first_of_both [] ds h = (refl, h)
 first_of_both (c ∷ cs) ds h = grind (arith, first_of_both cs ds)
 
-pub lawful_where_none : (a : Accepted) (s : Step) → refusal a s ≡ None → MayCome a.nodes a.steps s × (length a.steps < MAX_STEPS)
+-- ---- the checks for room
+abbrev room_of : Accepted → Step → List Check
+room_of a s = room_check a.recorded (length a.steps) (is_at_limit a.nodes a.steps s)
+
+in_room : (r : Bool) (taken : ℕ) (limit : Bool) → first_refusal (room_check r taken limit) ≡ None → HasRoom r taken limit
+in_room true taken limit h = grind (arith, nat_tests, h)
+in_room false limit taken h = grind (arith, nat_tests, h)
+
+room_passes : (r : Bool) (taken : ℕ) (limit : Bool) → HasRoom r taken limit → first_refusal (room_check r taken limit) ≡ None
+room_passes true taken limit h = grind (arith, nat_tests, h)
+room_passes false taken limit h = grind (arith, nat_tests, h)
+
+-- the check of the waves, which all steps but a start pass
+waves_pass : (a : Accepted) (s : Step) → IsFalse (is_start s) → wave_check a s ≡ []
+waves_pass a Start h = cc
+waves_pass a (s) h = refl
+
+start_passes : (r limit : Bool) (taken : ℕ) → HasRoom r taken limit → first_refusal ((not r && limit, StoreFull) ∷ []) ≡ None
+start_passes true limit taken h = refl
+start_passes false limit taken h = rw h refl
+
+pub wave_passes : (a : Accepted) (s : Step) → IsInRoom a s → first_refusal (wave_check a s) ≡ None
+wave_passes a Start h = start_passes a.recorded (is_at_limit a.nodes a.steps Start) (length a.steps) h
+wave_passes a (s) h = refl
+
+pub lawful_where_none : (a : Accepted) (s : Step) → refusal a s ≡ None → IsAcceptable a s
 lawful_where_none a s h =
-    let both = first_of_both (checks a.nodes a.steps s) (room_check (length a.steps)) h in
-    let room = both.1 in
-    (exact a.nodes a.steps s both.0, grind (arith, nat_tests, room))
+    let rest = first_of_both (wave_check a s) (checks a.nodes a.steps s ++ room_of a s) h in
+    let both = first_of_both (checks a.nodes a.steps s) (room_of a s) rest.1 in
+    (exact a.nodes a.steps s both.0, in_room a.recorded (length a.steps) (is_at_limit a.nodes a.steps s) both.1)
 
 none_on : (n : ℕ) (past : List Step) (s : Step) → IsFalse (is_reopen s) → IsLawfulHere n past s → refusal_of n past s ≡ None
 none_on n past Start f h = grind arith
@@ -49,10 +74,11 @@ first_of_joined : (cs ds : List Check) → first_refusal cs ≡ None → first_r
 first_of_joined [] ds h k = k
 first_of_joined (c ∷ cs) ds h k = grind (arith, first_of_joined cs ds)
 
-pub none_where_lawful : (a : Accepted) (s : Step) → MayCome a.nodes a.steps s → length a.steps < MAX_STEPS → refusal a s ≡ None
+pub none_where_lawful : (a : Accepted) (s : Step) → MayCome a.nodes a.steps s → IsInRoom a s → refusal a s ≡ None
 none_where_lawful a s h room =
-    first_of_joined (checks a.nodes a.steps s) (room_check (length a.steps)) (none_exact a.nodes a.steps s h)
-    (grind (arith, nat_tests, room))
+    first_of_joined (wave_check a s) (checks a.nodes a.steps s ++ room_of a s) (wave_passes a s room)
+    (first_of_joined (checks a.nodes a.steps s) (room_of a s) (none_exact a.nodes a.steps s h)
+    (room_passes a.recorded (length a.steps) (is_at_limit a.nodes a.steps s) room))
 
 pub checks_are_exact : (n : ℕ) (past : List Step) (s : Step) → (refusal_of n past s ≡ None) ↔ MayCome n past s
 checks_are_exact n past s = (exact n past s, none_exact n past s)
@@ -66,11 +92,19 @@ first_of_second : (cs ds : List Check) → first_refusal cs ≡ None → first_r
 first_of_second [] ds h = refl
 first_of_second (c ∷ cs) ds h = grind (arith, first_of_second cs ds)
 
-pub refused_for_room : (a : Accepted) (s : Step) → MayCome a.nodes a.steps s → refusal a s ≡ first_refusal (room_check (length a.steps))
-refused_for_room a s h = first_of_second (checks a.nodes a.steps s) (room_check (length a.steps)) (none_exact a.nodes a.steps s h)
+-- The step passes the check of the waves.
+abbrev pub PassesWaves : Accepted → Step → Type 0
+PassesWaves a s = first_refusal (wave_check a s) ≡ None
 
-pub refused_first : (a : Accepted) (s : Step) (r : Refusal) → refusal_of a.nodes a.steps s ≡ Some r → refusal a s ≡ Some r
-refused_first a s r h = first_of_first (checks a.nodes a.steps s) (room_check (length a.steps)) r h
+pub refused_for_room : (a : Accepted) (s : Step) → PassesWaves a s → MayCome a.nodes a.steps s → refusal a s ≡ first_refusal (room_of a s)
+refused_for_room a s w h =
+    first_of_second (wave_check a s) (checks a.nodes a.steps s ++ room_of a s) w
+    ∙ first_of_second (checks a.nodes a.steps s) (room_of a s) (none_exact a.nodes a.steps s h)
+
+pub refused_first : (a : Accepted) (s : Step) (r : Refusal) → PassesWaves a s → refusal_of a.nodes a.steps s ≡ Some r → refusal a s ≡ Some r
+refused_first a s r w h =
+    first_of_second (wave_check a s) (checks a.nodes a.steps s ++ room_of a s) w
+    ∙ first_of_first (checks a.nodes a.steps s) (room_of a s) r h
 
 -- If a node gives, the checks of the wave come first.
 pub give_refused : (n : ℕ) (past : List Step) (i : NodeId) (r : Refusal) → control_refusal n (present past) (Give i) ≡ Some r
@@ -79,24 +113,29 @@ give_refused n past i r h =
     first_of_first (control_checks n (present past) (Give i)) ((not (is_idle i.0 (world_after n past)), NotIdle) ∷ []) r h
 
 -- ==== The result of a step: it is taken if it is lawful and there is room, and otherwise refused.
+-- There is room for a step, if there was with the limit that the code computed.
+pub as_room : {c : Inside} (s : Step) (b : Bool) → IsKept c → b ≡ is_at_limit c.nodes c.steps.steps s
+    → HasRoom c.steps.recorded (length c.steps.steps) b → IsInRoom (accepted c) s
+as_room {c} s b agree e room = subst (λ (x : Bool). HasRoom c.steps.recorded (length c.steps.steps) x) e room
+
 -- a lawful step that is taken: `mid` is the list before it, `new` the list after it
-pub taken : {c : Inside} {old : Accepted} {mid new : List Step} {reply : Reply} (s : Step) → IsKept c → accepted c ≡ old
+pub taken : {c : Inside} {old : Accepted} {mid new : Taken} {reply : Reply} (s : Step) → IsKept c → accepted c ≡ old
     → MayCome c.nodes (accepted c).steps s
-    → length c.steps.items < MAX_STEPS → mid ≡ c.steps.items → new ≡ mid ++ s ∷ [] → reply ≡ reply_to c.nodes (accepted c).steps s
+    → IsInRoom (accepted c) s → IsSame c.steps mid → IsPushed mid s new → reply ≡ reply_to c.nodes (accepted c).steps s
     → (refusal old s ≡ None) × (reply ≡ reply_to old.nodes old.steps s)
-    × (record { nodes = c.nodes; steps = reverse new } ≡ with_step old s)
+    × (record { nodes = c.nodes; steps = new.steps; recorded = new.recorded } ≡ with_step old s)
 taken {c} {old} {mid} {new} {reply} s agree is lawful room stay pushed answer =
     subst (λ (a : Accepted). (refusal a s ≡ None) × (reply ≡ reply_to a.nodes a.steps s)
-    × (record { nodes = c.nodes; steps = reverse new } ≡ with_step a s)) is (
-      none_where_lawful (accepted c) s lawful (rw (length-reverse c.steps.items) room),
+    × (record { nodes = c.nodes; steps = new.steps; recorded = new.recorded } ≡ with_step a s)) is (
+      none_where_lawful (accepted c) s lawful room,
       answer,
-      rw (pushed, stay, reverse-append c.steps.items (s ∷ [])) refl,
+      rw (pushed.steps, pushed.recorded, stay.steps, stay.recorded) refl,
     )
 
 -- a step that fails a check of its own, such as one of the wave
-pub by_wave : {c : Inside} {old : Accepted} (s : Step) → IsKept c → accepted c ≡ old → (r : Refusal)
+pub by_wave : {c : Inside} {old : Accepted} (s : Step) → IsKept c → accepted c ≡ old → PassesWaves (accepted c) s → (r : Refusal)
     → Some r ≡ refusal_of c.nodes (accepted c).steps s → refusal old s ≡ Some r
-by_wave {c} {old} s agree is r refused = subst (λ (a : Accepted). refusal a s ≡ Some r) is (refused_first (accepted c) s r (sym refused))
+by_wave {c} {old} s agree is w r refused = subst (λ (a : Accepted). refusal a s ≡ Some r) is (refused_first (accepted c) s r w (sym refused))
 
 -- a lawful step for which no room could be made
 weaken : (first : Option Refusal) (b d : Bool) (r : Refusal) → IsRefusedFor first b r → IsRefusedFor first (d || b) r
@@ -104,34 +143,40 @@ weaken (Some f) b d r h = h
 weaken None b true r h = (h.0, refl)
 weaken None b false r h = h
 
-pub no_room : {c : Inside} {old : Accepted} {mid : List Step} (s : Step) → IsKept c → accepted c ≡ old
-    → MayCome c.nodes (accepted c).steps s → (r : Refusal)
-    → IsRefusedFor (first_refusal (room_check (length c.steps.items))) (begins_piece (length c.steps.items)) r → mid ≡ c.steps.items
-    → IsRefusedFor (refusal old s) (asks_memory old s) r × (record { nodes = c.nodes; steps = reverse mid } ≡ old)
-no_room {c} {old} s agree is lawful r told stay = (
+pub no_room : {c : Inside} {old : Accepted} {mid : Taken} {b : Bool} (s : Step) → IsKept c → accepted c ≡ old → PassesWaves (accepted c) s
+    → MayCome c.nodes (accepted c).steps s → b ≡ is_at_limit c.nodes c.steps.steps s → (r : Refusal)
+    → IsRefusedFor (first_refusal (room_check c.steps.recorded (length c.steps.steps) b)) (begins_piece c.steps.recorded (length c.steps.steps)) r
+    → IsSame c.steps mid
+    → IsRefusedFor (refusal old s) (asks_memory old s) r × (record { nodes = c.nodes; steps = mid.steps; recorded = mid.recorded } ≡ old)
+no_room {c} {old} s agree is w lawful same r told stay = (
   subst (λ (a : Accepted). IsRefusedFor (refusal a s) (asks_memory a s) r) is (
-      rw (refused_for_room (accepted c) s lawful, length-reverse c.steps.items)
-      (weaken (first_refusal (room_check (length c.steps.items))) (begins_piece (length c.steps.items))
-      (keeps_more (present (accepted c).steps) s) r told)
+      rw (refused_for_room (accepted c) s w lawful)
+      (weaken (first_refusal (room_of (accepted c) s)) (begins_piece c.steps.recorded (length c.steps.steps))
+      (keeps_more (present (accepted c).steps) s) r (rw same at told))
       ),
-  rw stay is,
+  rw (stay.steps, stay.recorded) is,
 )
 
 -- A lawful step passes all checks if there is room.
 pub for_nothing : {c : Inside} {old : Accepted} (s : Step) → IsKept c → accepted c ≡ old → MayCome c.nodes (accepted c).steps s
-    → length c.steps.items < MAX_STEPS
-    → refusal old s ≡ None
+    → IsInRoom (accepted c) s → refusal old s ≡ None
 for_nothing {c} {old} s agree is lawful room =
-    subst (λ (a : Accepted). refusal a s ≡ None) is (none_where_lawful (accepted c) s lawful (rw (length-reverse c.steps.items) room))
+    subst (λ (a : Accepted). refusal a s ≡ None) is (none_where_lawful (accepted c) s lawful room)
 
 -- a lawful step with room whose table could not grow
-pub no_memory : {c : Inside} {old : Accepted} {mid : List Step} (s : Step) → IsKept c → accepted c ≡ old
-    → MayCome c.nodes (accepted c).steps s → length c.steps.items < MAX_STEPS
-    → keeps_more (present (accepted c).steps) s ≡ true → (r : Refusal) → r ≡ NoMemory → mid ≡ c.steps.items
-    → IsRefusedFor (refusal old s) (asks_memory old s) r × (record { nodes = c.nodes; steps = reverse mid } ≡ old)
+pub no_memory : {c : Inside} {old : Accepted} {mid : Taken} (s : Step) → IsKept c → accepted c ≡ old
+    → MayCome c.nodes (accepted c).steps s → IsInRoom (accepted c) s
+    → keeps_more (present (accepted c).steps) s ≡ true → (r : Refusal) → r ≡ NoMemory → IsSame c.steps mid
+    → IsRefusedFor (refusal old s) (asks_memory old s) r × (record { nodes = c.nodes; steps = mid.steps; recorded = mid.recorded } ≡ old)
 no_memory {c} {old} s agree is lawful room keeps r memory stay =
     let asks : keeps_more (present old.steps) s ≡ true = subst (λ (a : Accepted). keeps_more (present a.steps) s ≡ true) is keeps in
-    (rw (for_nothing s agree is lawful room, asks) (memory, refl), rw stay is)
+    (rw (for_nothing s agree is lawful room, asks) (memory, refl), rw (stay.steps, stay.recorded) is)
+
+-- ==== The list of a core, if it keeps one.
+pub list_count : (r : Bool) (items steps : List Step) → (IsTrue r → reverse items ≡ steps) → (IsFalse r → items ≡ [])
+    → length items ≡ (if r then length steps else 0)
+list_count true items steps h k = sym (length-reverse items) ∙ ap length (h refl)
+list_count false items steps h k = ap length (k refl)
 
 -- ==== A list after a write at one index.
 
@@ -176,6 +221,10 @@ AnswersAll-next old mid new steps i rs r h before now =
 -- ---- what one result implies
 acceptable_where_lawful : (a : Accepted) (s : Step) → IsAcceptable a s → refusal a s ≡ None
 acceptable_where_lawful a s h = none_where_lawful a s h.0 h.1
+
+pub stays_recorded : (old new : Accepted) (s : Step) (r : Result Reply Refusal) → Answers old s r new → new.recorded ≡ old.recorded
+stays_recorded old new s (Ok reply) h = ap (λ (a : Accepted). a.recorded) h.2
+stays_recorded old new s (Err e) h = ap (λ (a : Accepted). a.recorded) h.1
 
 pub exact_answer : (old new : Accepted) (s : Step) (r : Result Reply Refusal) → Answers old s r new → r ≢ Err NoMemory → IsOk r
     ↔ IsAcceptable old s

@@ -24,8 +24,8 @@ invariant_of-self-2 c =
     let agree = c.self.invariant in
     let s = ActionClose c.args.node c.args.action in
     let at = (goal.at.invariant_of-self-2 c).After-make_room in
-    agree_next s agree (comes at) refl (c.in_ok-make_room.ensures.ok).0 c.in_ok-make_room.ensures.pieces c.make_room.ensures.frugal refl
-    refl refl refl refl c.make_room.ensures.items c.push_reserved.ensures.items c.push_reserved.ensures.capacity
+    agree_next s agree (comes at) refl (c.in_ok-make_room.ensures.ok).0 refl refl refl refl c.make_room.ensures.same
+    c.push.ensures.pushed
     (numbers_written s agree.numbers (lawful at) c.args.node.0 _ (may at).inside refl refl) refl refl agree.tasks
     (named_closed agree.actions _ c.args.node.0 c.args.action.0 _ (may at).once (may at).there c.set.ensures.puts
     (λ i. c.without.ensures i ∙ rw (← c.in-Some.ensures) refl))

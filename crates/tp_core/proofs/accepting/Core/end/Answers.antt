@@ -33,8 +33,8 @@ invariant_of-self-2 c =
     let agree = c.self.invariant in
     let s = MessageEnd c.args.node c.args.message c.args.generation in
     let at = (goal.at.invariant_of-self-2 c).After-make_room in
-    agree_next s agree (comes at) refl (c.in_ok-make_room.ensures.ok).0 c.in_ok-make_room.ensures.pieces c.make_room.ensures.frugal refl
-    refl refl refl refl c.make_room.ensures.items c.push_reserved.ensures.items c.push_reserved.ensures.capacity
+    agree_next s agree (comes at) refl (c.in_ok-make_room.ensures.ok).0 refl refl refl refl c.make_room.ensures.same
+    c.push.ensures.pushed
     (numbers_written s agree.numbers (lawful at) c.args.node.0 _ (may at).inside refl refl) refl refl agree.tasks
     (message_closed agree.actions _ c.args.message.0 c.args.node (may at).once (was at) (rw c.new-ended.ensures at c.set.ensures.puts))
     (message_ended agree.messages _ c.args.message.0 c.args.node (was at) (rw c.new-ended.ensures at c.set.ensures.puts))
@@ -45,11 +45,13 @@ returns-in_err-make_room c =
     let p = err_from_is_err_and c.from_residual.result c.from_residual.ensures.1 in
     rw (p.1, p.2)
     (no_room (MessageEnd c.args.node c.args.message c.args.generation) c.self.invariant c.self.view_is
-    (comes (goal.at.returns-in_err-make_room c).After-make_room) _ c.in_err-make_room.ensures.err
-    c.make_room.ensures.items)
+    refl
+    (comes (goal.at.returns-in_err-make_room c).After-make_room) refl _ c.in_err-make_room.ensures.err
+    c.make_room.ensures.same)
 
 pub returns : goal.returns
 returns c =
     taken (MessageEnd c.args.node c.args.message c.args.generation) c.self.invariant c.self.view_is
     (comes (goal.at.returns c).After-make_room)
-    (c.in_ok-make_room.ensures.ok).0 c.make_room.ensures.items c.push_reserved.ensures.items refl
+    (c.in_ok-make_room.ensures.ok).0 c.make_room.ensures.same
+    c.push.ensures.pushed refl

@@ -22,9 +22,8 @@ pub invariant_of-self-2 : goal.invariant_of-self-2
 invariant_of-self-2 c =
     let agree = c.self.invariant in
     let at = (goal.at.invariant_of-self-2 c).After-make_room in
-    agree_next (Ready c.args.node) agree (comes at) refl (c.in_ok-make_room.ensures.ok).0 c.in_ok-make_room.ensures.pieces
-    c.make_room.ensures.frugal refl refl refl refl refl c.make_room.ensures.items c.push_reserved.ensures.items
-    c.push_reserved.ensures.capacity
+    agree_next (Ready c.args.node) agree (comes at) refl (c.in_ok-make_room.ensures.ok).0 refl refl refl refl c.make_room.ensures.same
+    c.push.ensures.pushed
     (numbers_written (Ready c.args.node) agree.numbers (lawful at) c.args.node.0 _ (may at).inside refl refl) refl refl agree.tasks
     (opening_closed agree.actions _ c.args.node.0 (may at).once (may at).there c.without-self-inside.ensures)
     agree.messages
@@ -34,6 +33,6 @@ pub returns-in_err-make_room : goal.returns-in_err-make_room
 returns-in_err-make_room c =
     let p = err_from_is_err_and c.from_residual.result c.from_residual.ensures.1 in
     rw (p.1, p.2)
-    (no_room (Ready c.args.node) c.self.invariant c.self.view_is (comes (goal.at.returns-in_err-make_room c).After-make_room) _
-    c.in_err-make_room.ensures.err
-    c.make_room.ensures.items)
+    (no_room (Ready c.args.node) c.self.invariant c.self.view_is refl
+    (comes (goal.at.returns-in_err-make_room c).After-make_room) refl _ c.in_err-make_room.ensures.err
+    c.make_room.ensures.same)

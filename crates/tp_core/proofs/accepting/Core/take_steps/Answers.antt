@@ -1,5 +1,5 @@
 use Rattle.tp_core.proofs.accepting.Core.take_steps.Goals.{After-make_rooms, After-take_to_end}
-use Rattle.tp_core.proofs.Lemmas.{◌≡◌, true, false, None, reverse, refl, sym, subst, ◌∙◌, arith, IsTrue, IsFalse, nat_tests, length-reverse}
+use Rattle.tp_core.proofs.Lemmas.{◌≡◌, true, false, None, refl, sym, subst, ◌∙◌, arith, IsTrue, IsFalse, nat_tests, few_before}
 use Rattle.tp_core.proofs.Lemmas.{err_from_is_err_and, is_ended, is_quiet, Accepted, world_of, present, accepted, first_refusal, IsSettled}
 use Rattle.tp_core.proofs.Lemmas.{settle_checks, AreTaken, same_quiet, by_quiet, by_none, no_rooms, ready_there, agree_settled, settled}
 use Rattle.tp_core.proofs.accepting.Core.take_steps.Goals as goal
@@ -16,9 +16,9 @@ quiet c =
     (same_quiet c.quiet.result (world_of c.args.self.now) c.quiet.ensures ∙ told)
 
 taken : (c : After-take_to_end)
-    → AreTaken c.self.inside.nodes (accepted c.self.inside).steps (reverse c.take_to_end.new.steps.items) c.take_to_end.new.wave
+    → AreTaken c.self.inside.nodes (accepted c.self.inside).steps c.take_to_end.new.steps.steps c.take_to_end.new.wave
     c.take_to_end.result.0 c.take_to_end.result.1
-taken c = rw (c.self.invariant.wave.stands.nodes, c.make_rooms.ensures.items) at c.take_to_end.ensures.taken
+taken c = rw (c.self.invariant.wave.stands.nodes, c.make_rooms.ensures.same.steps) at c.take_to_end.ensures.taken
 
 pub returns-then-not-quiet : goal.returns-then-not-quiet
 returns-then-not-quiet c =
@@ -35,20 +35,25 @@ returns-in_err-make_rooms c =
     let at = (goal.at.returns-in_err-make_rooms c).After-make_rooms in
     let p = err_from_is_err_and c.from_residual.result c.from_residual.ensures.1 in
     rw (p.1, p.2)
-    (no_rooms c.self.inside c.make_rooms.new.steps.items _ c.self.view_is (not_ended at) (quiet at) c.in_err-make_rooms.ensures.err
-    c.make_rooms.ensures.items)
+    (no_rooms c.self.inside _ c.self.view_is (not_ended at) (quiet at) c.in_err-make_rooms.ensures.err c.make_rooms.ensures.same)
 
 pub take_to_end-requires-clause-settling : goal.take_to_end-requires-clause-settling
 take_to_end-requires-clause-settling c =
     let at = (goal.at.take_to_end-requires-clause-settling c).After-make_rooms in
-    ready_there c.self.inside c.make_rooms.new.steps.items c.self.invariant (not_ended at) (quiet at) c.make_rooms.ensures.items
+    ready_there c.self.inside c.self.invariant (not_ended at) (quiet at) c.make_rooms.ensures.same
+
+pub take_to_end-requires-clause-few : goal.take_to_end-requires-clause-few
+take_to_end-requires-clause-few c =
+    rw c.make_rooms.ensures.same.steps (few_before (accepted c.self.inside) (c.in_ok-make_rooms.ensures.ok).0 c.self.invariant.some_node)
+
+pub take_to_end-requires-clause-room : goal.take_to_end-requires-clause-room
+take_to_end-requires-clause-room c = rw c.self.invariant.wave.stands.nodes (c.in_ok-make_rooms.ensures.ok).1
 
 pub invariant_of-self-2 : goal.invariant_of-self-2
 invariant_of-self-2 c =
-    agree_settled c.take_to_end.new.steps c.take_to_end.new.wave c.self.invariant (taken (goal.at.invariant_of-self-2 c).After-take_to_end)
-    (rw (length-reverse c.self.inside.steps.items) c.in_ok-make_rooms.ensures.room)
-    (rw (length-reverse c.self.inside.steps.items, c.take_to_end.ensures.capacity) c.in_ok-make_rooms.ensures.pieces)
-    (rw c.take_to_end.ensures.capacity c.make_rooms.ensures.frugal)
+    agree_settled c.take_to_end.new.steps c.take_to_end.new.wave c.self.invariant (quiet (goal.at.invariant_of-self-2 c).After-make_rooms)
+    (taken (goal.at.invariant_of-self-2 c).After-take_to_end)
+    (c.take_to_end.ensures.recorded ∙ c.make_rooms.ensures.same.recorded) (c.in_ok-make_rooms.ensures.ok).0
 
 pub returns : goal.returns
 returns c =
@@ -56,9 +61,9 @@ returns c =
     let a = accepted c.self.inside in
     let end = taken (goal.at.returns c).After-take_to_end in
     subst (λ (x : Accepted). (first_refusal (settle_checks x) ≡ None)
-    × IsSettled x (record { nodes = c.self.inside.nodes; steps = reverse c.take_to_end.new.steps.items }) c.take_to_end.result.0
-    c.take_to_end.result.1)
+    × IsSettled x (record { nodes = c.self.inside.nodes; steps = c.take_to_end.new.steps.steps; recorded = c.take_to_end.new.steps.recorded })
+    c.take_to_end.result.0 c.take_to_end.result.1)
     c.self.view_is (
-      by_none a (not_ended at) (quiet at) (rw (length-reverse c.self.inside.steps.items) c.in_ok-make_rooms.ensures.room),
-      settled c.self.invariant (quiet at) end,
+      by_none a (not_ended at) (quiet at) (c.in_ok-make_rooms.ensures.ok).0,
+      rw (c.take_to_end.ensures.recorded, c.make_rooms.ensures.same.recorded) (settled c.self.invariant (quiet at) end),
     )

@@ -1,10 +1,9 @@
-use Rattle.tp_core.proofs.Lemmas.{arith, ap, sym, ◌∙◌, judged, present, started_law, length-present, two_told}
+use Rattle.tp_core.proofs.Lemmas.{ap, sym, ◌∙◌, judged, present, refl, two_told}
 use Rattle.tp_core.proofs.accepting.control.advance.Goals as goal
 
 pub start-requires : goal.start-requires
 start-requires c =
-    let h = c.requires.waves in
-    omega (arith, (started_law h.0 (present h.1) c.args.wave.now h.2.follows).1, length-present h.1, h.2.within)
+    c.requires.few (rw c.in-Start.is refl)
 
 pub returns-in-Some : goal.returns-in-Some
 returns-in-Some c n steps h =

@@ -1,11 +1,12 @@
-use Rattle.tp_core.proofs.Lemmas.{◌≡◌, ◌-◌, ◌*◌, reverse, vec_capacity, nodes_of, GoesOn}
+use Rattle.tp_core.proofs.Lemmas.{◌≡◌, ◌≤◌, ◌+◌, ◌-◌, ◌*◌, nodes_of, GoesOn}
 use Rattle.tp_core.proofs.accepting.settling.take_to_end.Given as goal
 
--- the steps taken so far, and the capacity, which stays the same
+-- the steps taken so far, and the room that is left
 abbrev pub invariant-loop-ended : goal.invariant-loop-ended
 invariant-loop-ended l = record {
-  goes_on : GoesOn (nodes_of l.fn.wave) l.fn.numbers (reverse l.fn.steps.items) (reverse l.steps.items) l.wave l.count;
-  room : vec_capacity l.steps ≡ vec_capacity l.fn.steps;
+  goes_on : GoesOn (nodes_of l.fn.wave) l.fn.numbers l.fn.steps.steps l.steps.steps l.wave l.count;
+  recorded : l.steps.recorded ≡ l.fn.steps.recorded;
+  room : l.fn.steps.room ≤ l.steps.room + l.count;
 }
 
 abbrev pub decreases-loop-ended : goal.decreases-loop-ended
