@@ -1,6 +1,6 @@
 use Rattle.std.{proofs.{Common.{◌≡◌, ap, sym, ◌∙◌, subst, T, from_bits, w64, of_z, to_z}, lemmas.Int.of_z-to_z}, specs.Float.binary64}
 use lib.Ieee.Bits.{of_bits-to_bits}
-use Rattle.pool_kernels.proofs.doubles.bits_of.Goals as goal
+use Rattle.pool_kernels.proofs.values.bits_of.Goals as goal
 
 pub returns : goal.returns
 returns c =

@@ -1,6 +1,6 @@
 use Rattle.std.proofs.Common.{◌+◌, ◌-◌, ◌^◌, ap, ◌∙◌, arith}
 use Rattle.pool_kernels.proofs.PairedRows.{last_row_paired}
-use Rattle.pool_kernels.proofs.pair_run.run_pairs.Goals as goal
+use Rattle.pool_kernels.proofs.transform.run_pairs.Goals as goal
 
 pub returns-in-Ok-clause-made : goal.returns-in-Ok-clause-made
 returns-in-Ok-clause-made g c =

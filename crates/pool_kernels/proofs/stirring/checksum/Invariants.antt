@@ -1,6 +1,6 @@
 use Rattle.std.proofs.Common.{◌≡◌, ◌<◌, take}
 use Rattle.pool_kernels.specs.Stirrings.{checksum}
-use Rattle.pool_kernels.proofs.row.checksum.Given as goal
+use Rattle.pool_kernels.proofs.stirring.checksum.Given as goal
 
 abbrev pub invariant-loop-number : goal.invariant-loop-number
 invariant-loop-number l = record {
