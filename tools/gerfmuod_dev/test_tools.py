@@ -127,7 +127,9 @@ def test_a_missing_toolchain_is_named_in_one_line(command, tmp_path):
 def test_a_new_pool_imports_what_it_has(kind, tmp_path, monkeypatch):
     monkeypatch.setattr(new_pool, "keep", lambda *_: None)
     monkeypatch.setattr(new_pool.subprocess, "run", lambda *_, **__: None)
-    new_pool.create(str(tmp_path), "mine", kind)
+    counts = [new_pool.create(str(tmp_path), name, kind) for name in ("mine", "two")]
+    assert counts[0] == counts[1] and all(new_pool.fault_of(str(tmp_path), name) for name in ("mine", "two", "data"))
+    assert new_pool.fault_of(".", "three")
     for path in repository.files_in(f"{tmp_path}/crates/mine"):
         text = visible.one_a_line(repository.text_of(path))
         assert all(os.path.exists(f"{tmp_path}/crates/mine/src/{name}.rt") for name in re.findall(r"^mod (\w+);", text, re.M)), path
