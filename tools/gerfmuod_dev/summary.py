@@ -65,8 +65,7 @@ def arguments(parser):
 def run(options):
     try:
         text = text_of(options.file)
-        found = event_format.faults(text, has_one_clock=False)
-        if found:
+        if found := event_format.faults(text, has_one_clock=False):
             sys.exit(f"{options.file}: {found[0]}")
         print("\n".join(summary(text)))
     except (OSError, UnicodeError, LookupError, TypeError) as error:
