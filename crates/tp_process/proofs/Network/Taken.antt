@@ -204,7 +204,8 @@ left-le z o w v s g c a b d e f = grind (arith, nat_tests)
 
 -- A process has taken all control messages that were sent to it but two, and all of them if it knows the end.
 pub few_left : (n k : ℕ) (events : List Event) → k < n
-    → sent_to k (after n events).controls + gap ((after n events).at k) ≤ reach ((after n events).at k) + cond ((after n events).at k).over 0 2
+    → sent_to k (after n events).controls + gap ((after n events).at k)
+    ≤ reach ((after n events).at k) + cond ((after n events).at k).over 0 2
 few_left n k events l =
     let x : World = after n events in
     let v = good_after n events in
