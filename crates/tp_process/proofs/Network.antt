@@ -19,11 +19,6 @@ late_gone : (n e : ℕ) (l : ControlMessage) (all : List EpochEvent) → e < ((e
 late_gone n e l all m later = and_left _ _ (ne_eqb _ e (λ d. omega (arith, d, late_stays n e l.to all later m)))
 
 -- ==== The control messages to a process: on their way, or taken.
--- the number of control messages of epoch e on their way to process k
-abbrev carried_to : ℕ → ℕ → List Carried → ℕ
-carried_to e k [] = 0
-carried_to e k (c ∷ cs) = cond (eqb c.epoch e && eqb c.message.to k) (carried_to e k cs + 1) (carried_to e k cs)
-
 carried_more : (e f k : ℕ) (next : Next) (cs : List Carried)
     → carried_to e k (with_sent f next cs) ≡ carried_to e k cs + cond (eqb f e) (sends_to k next) 0
 carried_more e f k (Send l) cs = grind (arith, nat_tests)
@@ -407,11 +402,20 @@ never_late n j c events few there =
             | inl l ↦
                 let x : World = after n (events_of n e f.all) in
                 let over : (x.at i).over ≡ true = notified_over (x.at i) ((epochs n e f.all).left i (omega (arith, late, same))) in
-                let done = all_taken n i (events_of n e f.all) l over in
                 let due : bit (eqb c.epoch e && eqb c.message.to i) ≡ 1 = rw (eq-eqb e e refl, eq-eqb i i refl) refl in
-                absurd (omega (arith, f.balance e i l, done.0, done.1, carried_less e i j s.carried c there, due))
+                let none : cond (x.at i).over 0 2 ≤ 0 = rw over (omega arith) in
+                let left = few_left n i (events_of n e f.all) l in
+                absurd (omega (arith, f.balance e i l, left, none, carried_less e i j s.carried c there, due))
           ]
     ]
+
+-- At most two control messages of an epoch are on their way to a process.
+pub few_carried : FewCarriedLaw
+few_carried n e k events few l =
+    let f = follows n few events in
+    let p : EpochState = (after n (events_of n e f.all)).at k in
+    let two : cond p.over 0 2 ≤ 2 = cond_both p.over 0 2 (λ z. z ≤ 2) (λ t. omega arith) (λ t. omega arith) in
+    omega (arith, f.balance e k l, few_left n k (events_of n e f.all) l, two)
 
 -- The theorems that `goes_on_each` names.
 pub ruleset in_each_epoch = (goes_on_epoch, lags, soon_epoch, once_epoch)

@@ -3,7 +3,7 @@
 ghost use Rattle.std.specs.Prelude.{◌≡◌, ◌≢◌};
 ghost use Rattle.tp_process.specs.Epochs.{AheadLaw, CallsLaw, ControlMessagesEpochLaw, EpochLaw, FewWavesEpochLaw, GoesOnEpochLaw, LagsLaw};
 ghost use Rattle.tp_process.specs.Epochs.{LeftEpochLaw, MessageLaw, NearLaw, NeverEarlyEpochLaw, NoneLateLaw, OnceEpochLaw, SoonEpochLaw};
-ghost use Rattle.tp_process.specs.{Network.{AllEndLaw, HandedLaw, NeverLateLaw}, Opening.{CountedLaw, OpenCallsLaw, OpenLaw}};
+ghost use Rattle.tp_process.specs.{Network.{AllEndLaw, FewCarriedLaw, HandedLaw, NeverLateLaw}, Opening.{CountedLaw, OpenCallsLaw, OpenLaw}};
 ghost use Rattle.tp_process.specs.World.{ControlMessagesLaw, EndedLaw, FewWavesLaw, GoesOnLaw, NeverEarlyLaw, OnceLaw, QuietLaw, SoonLaw};
 
 use crate::epoch_state::LIMIT;
@@ -115,4 +115,11 @@ pub fn all_end()
 #[tactic(auto, using(crate::proofs::Network::never_late))]
 pub fn never_late()
     ensures { NeverLateLaw }
+{}
+
+/// Over such a network, at most two control messages of an epoch are on their way to a process, or kept by it until it
+/// reopens.
+#[tactic(auto, using(crate::proofs::Network::few_carried))]
+pub fn few_carried()
+    ensures { FewCarriedLaw }
 {}

@@ -63,7 +63,8 @@ keeps_epoch n e i w x y2 x2 h here same only_y only_x =
           (elim (cases_eq j i) [ inl k ↦ rw k same.at | inr off ↦ only_y j off ∙ h.now j d ∙ sym (only_x j off) ]);
       before = λ j m. only_x j (λ d. absurd (omega (arith, m, ap (λ k. (w.at k).epoch) d, here))) ∙ h.before j m;
       left = λ j m.
-          subst (λ p. has_notified p ≡ true) (sym (only_x j (λ d. absurd (omega (arith, m, ap (λ k. (w.at k).epoch) d, here))))) (h.left j m);
+          subst (λ p. has_notified p ≡ true) (sym (only_x j (λ d. absurd (omega (arith, m, ap (λ k. (w.at k).epoch) d, here)))))
+          (h.left j m);
       under_way = put_here e y2.under_way w.under_way ∙ same.under_way;
       controls = put_here e y2.controls w.controls ∙ same.controls;
     }
@@ -402,8 +403,8 @@ module _ (n e : ℕ) (w : Epochs) (x : World) (h : IsEpoch n e w x) (v : IsOver 
 
   -- The process of a useful event is in the epoch.
   module _ (q : ℕ) (g : Good n q x) where
-    receiver_there : (o : Option ControlMessage) → ((l : ControlMessage) → o ≡ Some l → KnownOf n g.wave g.gifts x l) → is_taken n x o ≡ true
-        → is_receiver_in_epoch e w o ≡ true
+    receiver_there : (o : Option ControlMessage) → ((l : ControlMessage) → o ≡ Some l → KnownOf n g.wave g.gifts x l)
+        → is_taken n x o ≡ true → is_receiver_in_epoch e w o ≡ true
     receiver_there None k t = absurd (cc t)
     receiver_there (Some l) k t =
         let a = and_parts (ltb l.to n) (is_for l (x.at l.to) && is_due l.from l.wave l.token (x.at l.to)) t in

@@ -6,7 +6,7 @@ pub use Safety.*
 abbrev pub bit : Bool → ℕ
 bit b = cond b 1 0
 
-bit-le : (b : Bool) → bit b ≤ 1
+pub bit-le : (b : Bool) → bit b ≤ 1
 bit-le true = omega arith
 bit-le false = omega arith
 
@@ -78,19 +78,6 @@ budget n (suc r) = budget n r + total n (wave_cost n)
 abbrev costs : ℕ → ℕ → (ℕ → EpochState) → ℕ
 costs n q at = total n (λ i. cost (at 0).wave (at i)) + budget n (q + 2 - (at 0).wave)
 
--- A sum changes by the change of one part.
-pub total_put : {A : Type 0} (n i : ℕ) (new : A) (at : ℕ → A) (f : A → ℕ) → i < n
-    → total n (λ j. f (put i new at j)) + f (at i) ≡ total n (λ j. f (at j)) + f new
-total_put zero i new at f l = absurd (omega arith)
-total_put (suc n) i new at f l =
-    elim (cases_eq i n) [
-      | inl e ↦
-          let rest : total n (λ j. f (put i new at j)) ≡ total n (λ j. f (at j))
-          = total-equal n _ _ (λ j m. ap f (put_other i j new at (λ d. absurd (omega (arith, d, e, m))))) in
-          rw (e, eq-eqb n n refl) (omega (arith, rw e at rest))
-      | inr off ↦ rw (ne_eqb n i (λ d. off (sym d))) (omega (arith, total_put n i new at f (omega (arith, off))))
-    ]
-
 cost_put : (n q i : ℕ) (at : ℕ → EpochState) (new : EpochState) (d : ℕ) → i < n → (put i new at 0).wave ≡ (at 0).wave
     → cost (at 0).wave new + d ≤ cost (at 0).wave (at i) → costs n q (put i new at) + d ≤ costs n q at
 cost_put n q i at new d l same less =
@@ -159,7 +146,8 @@ module _ (n q : ℕ) (x : World) (v : Good n q x) where
       (root_stays i (acts (x.at i)).state (λ e. acts_wave (x.at i) ∙ rw e))
       (acts_cost (x.at 0).wave (x.at i) (newest i l))
 
-  came_cost : (o : Option ControlMessage) → ((a : ControlMessage) → o ≡ Some a → KnownOf n v.wave v.gifts x a) → costs n q (came n x o).at + bit (is_taken n x o) ≤ costs n q x.at
+  came_cost : (o : Option ControlMessage) → ((a : ControlMessage) → o ≡ Some a → KnownOf n v.wave v.gifts x a)
+      → costs n q (came n x o).at + bit (is_taken n x o) ≤ costs n q x.at
   came_cost None t = omega arith
   came_cost (Some a) t =
       let p : EpochState = x.at a.to in
@@ -229,9 +217,10 @@ module _ (n q : ℕ) (x : World) (quiet : IsQuiet n x) (v : Good n q x) where
       elim (does_counts n x i a) [
         | inl e ↦ absurd (cc e)
         | inr c ↦
-            subst (λ f. costs n q f + 0 ≤ costs n q x.at) (sym c.at) (subst (λ z. costs n q (put i z x.at) + 0 ≤ costs n q x.at) (sym c.same)
-            (cost_put n q i x.at (recount c.new.pending c.new.sent c.new.received (x.at i)) 0 l
-            (root_stays n q x v i (recount c.new.pending c.new.sent c.new.received (x.at i)) (λ e. ap (λ j. (x.at j).wave) e)) (omega arith)))
+            let new : EpochState = recount c.new.pending c.new.sent c.new.received (x.at i) in
+            subst (λ f. costs n q f + 0 ≤ costs n q x.at) (sym c.at)
+            (subst (λ z. costs n q (put i z x.at) + 0 ≤ costs n q x.at) (sym c.same)
+            (cost_put n q i x.at new 0 l (root_stays n q x v i new (λ e. ap (λ j. (x.at j).wave) e)) (omega arith)))
       ]
 
   useless : (i : ℕ) (a : Act) → ltb i n ≡ false → is_useful n x (Does i a) ≡ false

@@ -139,7 +139,8 @@ module _ (n q i : ℕ) (x : World) (l : i < n) (v : Good n q x) where
       (λ had new. record { down = had.down; up = had.up; over = λ f. (λ e m. (p.wave, new (2 * i + 1) p.wave left refl), (had.over f).1) }))
       (λ o t.
       good_message n q i x l v p.down_left p.down_right p.over_left false (right_of p) Over (λ y still. still (v.inv.over i l o)) tt
-      (λ had new. record { down = had.down; up = had.up; over = λ f. ((had.over f).0, λ e m. (p.wave, new (2 * i + 2) p.wave right refl)) }))
+      (λ had new.
+      record { down = had.down; up = had.up; over = λ f. ((had.over f).0, λ e m. (p.wave, new (2 * i + 2) p.wave right refl)) }))
       (λ o a b. good_same n q i x l v) (λ o h t.
       good_message n q i x l v false p.down_right p.over_left p.over_right (left_of p) Down (λ y still. hold.near)
       (down false p.down_right (left_of p) (omega arith)) (λ had new.
@@ -178,8 +179,9 @@ module _ (n q i : ℕ) (x : World) (l : i < n) (v : Good n q x) where
       let known : (x.at 0).known ≡ true = grind (arith, nat_tests, s) in
       elim (cases_Bool (x.at 0).here) [
         | inl here ↦
-            let less = no_less n q v.wave v.floor v.gifts x first v.inv here (grind (arith, nat_tests, s)) (grind (arith, nat_tests, s, here))
-            (grind (arith, nat_tests, s, here)) known in
+            let left : (x.at 0).up_left ≡ false = grind (arith, nat_tests, s, here) in
+            let right : (x.at 0).up_right ≡ false = grind (arith, nat_tests, s, here) in
+            let less = no_less n q v.wave v.floor v.gifts x first v.inv here (grind (arith, nat_tests, s)) left right known in
             grind (arith, nat_tests, s, here, less)
         | inr away ↦
             let hold : Holds n v.wave v.floor v.gifts x.at 0 (x.at 0) = v.inv.each 0 first in

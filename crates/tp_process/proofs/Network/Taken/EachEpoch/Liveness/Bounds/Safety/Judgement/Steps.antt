@@ -400,11 +400,9 @@ module _ (n q i : ℕ) (x : World) (l : i < n) (v : Good n q x) where
       let active : (x.at i).pending ≡ 0 → ⊥ = eqb-false (x.at i).pending 0 (not-true _ a.0) in
       let new : EpochState = record (x.at i) { sent = (x.at i).sent + 1 } in
       let under : ℕ → ℕ = put j (x.under_way j + 1) x.under_way in
-      let more : total n (λ k. (put i new x.at k).sent) ≡ total n (λ k. (x.at k).sent) + 1
-      = total_more-put n i 1 new x.at (λ z. z.sent) l refl in
-      let same : total n (λ k. (put i new x.at k).received) ≡ total n (λ k. (x.at k).received)
-      = total_same-put n i new x.at (λ z. z.received) refl in
-      let one : total n under ≡ total n x.under_way + 1 = total_more-put n j 1 (x.under_way j + 1) x.under_way (λ z. z) m refl in
+      let more = total_put n i new x.at (λ z. z.sent) l in
+      let same = total_put n i new x.at (λ z. z.received) l in
+      let one = total_put n j (x.under_way j + 1) x.under_way (λ z. z) m in
       rw t
       (count v.wave (x.at i).pending ((x.at i).sent + 1) (x.at i).received under (omega arith) (omega arith) (λ e f. f)
       (omega (arith, more, same, one, v.inv.balance)) (λ z. absurd (active (z.idle i l)))
@@ -416,14 +414,12 @@ module _ (n q i : ℕ) (x : World) (l : i < n) (v : Good n q x) where
   good_receives t some =
       let new : EpochState = record (x.at i) { pending = (x.at i).pending + 1; received = (x.at i).received + 1 } in
       let under : ℕ → ℕ = put i (x.under_way i - 1) x.under_way in
-      let same : total n (λ k. (put i new x.at k).sent) ≡ total n (λ k. (x.at k).sent) = total_same-put n i new x.at (λ z. z.sent) refl in
-      let more : total n (λ k. (put i new x.at k).received) ≡ total n (λ k. (x.at k).received) + 1
-      = total_more-put n i 1 new x.at (λ z. z.received) l refl in
-      let one : total n x.under_way ≡ total n under + 1
-      = total_one-changes n i 1 under x.under_way l (rw (eq-eqb i i refl) (omega arith)) (λ j off. rw (ne_eqb j i off)) in
+      let same = total_put n i new x.at (λ z. z.sent) l in
+      let more = total_put n i new x.at (λ z. z.received) l in
+      let one = total_put n i (x.under_way i - 1) x.under_way (λ z. z) l in
       rw t
       (count v.wave ((x.at i).pending + 1) (x.at i).sent ((x.at i).received + 1) under (omega arith) (omega arith)
       (λ e f. absurd (omega (arith, e)))
-      (omega (arith, more, same, one, v.inv.balance)) (λ z. absurd (omega (arith, some, z.none_under_way i l)))
+      (omega (arith, more, same, one, some, v.inv.balance)) (λ z. absurd (omega (arith, some, z.none_under_way i l)))
       (newest_pace n v.wave v.gifts (changed i new under x.controls x)) (v.inv.small i l).sent
       (omega (arith, ltb-true (x.at i).received LIMIT (and_parts (ltb (x.at i).pending LIMIT) (ltb (x.at i).received LIMIT) t).1)))

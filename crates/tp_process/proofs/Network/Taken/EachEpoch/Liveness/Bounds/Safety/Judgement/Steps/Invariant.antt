@@ -24,11 +24,18 @@ total_same-put n i x at f e =
     total-equal n (λ j. f (put i x at j)) (λ j. f (at j)) (λ j l.
     put_holds (λ j y. f y ≡ f (at j)) i j x at (λ d. rw d e) (λ off. refl))
 
--- and grows by k if that number grows by k.
-pub total_more-put : {A : Type 0} (n i k : ℕ) (x : A) (at : ℕ → A) (f : A → ℕ) → i < n → f x ≡ f (at i) + k
-    → total n (λ j. f (put i x at j)) ≡ total n (λ j. f (at j)) + k
-total_more-put n i k x at f l e =
-    total_one-changes n i k (λ j. f (at j)) (λ j. f (put i x at j)) l (rw (eq-eqb i i refl) e) (λ j off. rw (ne_eqb j i off))
+-- and changes by the change of that number.
+pub total_put : {A : Type 0} (n i : ℕ) (new : A) (at : ℕ → A) (f : A → ℕ) → i < n
+    → total n (λ j. f (put i new at j)) + f (at i) ≡ total n (λ j. f (at j)) + f new
+total_put zero i new at f l = absurd (omega arith)
+total_put (suc n) i new at f l =
+    elim (cases_eq i n) [
+      | inl e ↦
+          let rest : total n (λ j. f (put i new at j)) ≡ total n (λ j. f (at j))
+          = total-equal n _ _ (λ j m. ap f (put_other i j new at (λ d. absurd (omega (arith, d, e, m))))) in
+          rw (e, eq-eqb n n refl) (omega (arith, rw e at rest))
+      | inr off ↦ rw (ne_eqb n i (λ d. off (sym d))) (omega (arith, total_put n i new at f (omega (arith, off))))
+    ]
 
 pub put_keeps : {A : Type 0} (P : A → Type 0) (i j : ℕ) (x : A) (f : ℕ → A) → (P (f i) → P x) → P (f j) → P (put i x f j)
 put_keeps P i j x f step old = put_holds (λ k y. P y) i j x f (λ e. step (subst (λ z. P (f z)) e old)) (λ off. old)

@@ -16,7 +16,8 @@ pub use Rattle.tp_process.specs.Epochs.{NoneLateLaw, MessageLaw, AheadLaw, advan
 pub use Rattle.tp_process.specs.Epochs.{progress_count, SoonEpochLaw, FewWavesEpochLaw, OnceEpochLaw, ControlMessagesEpochLaw, is_taken_in}
 pub use Rattle.tp_process.specs.Network.{HandedLaw, AllEndLaw, Carried, IsStill, Network, NetworkEvent, Acts, Restarts, Arrives, arrived}
 pub use Rattle.tp_process.specs.Network.{carried_after, carried_at, handed, is_early, network, network_step, with_sent, without}
-pub use Rattle.tp_process.specs.{Network.NeverLateLaw, Opening.{AreOpenCalls, CountedLaw, OpenCallsLaw, OpenLaw, is_open}, State.EpochState}
+pub use Rattle.tp_process.specs.{Network.{FewCarriedLaw, NeverLateLaw, carried_to}, Opening.{AreOpenCalls, CountedLaw, OpenCallsLaw}}
+pub use Rattle.tp_process.specs.{Opening.{OpenLaw, is_open}, State.EpochState}
 pub use Rattle.tp_process.specs.{State.ProcessState, World.{put, World, IsQuiet, control_at, posted, does, came, happens, after, beginning}}
 pub use Rattle.tp_process.specs.World.{Act, Event, Opens, Closes, Sends, Receives, Moves, Does, Comes, NeverEarlyLaw, EndedLaw, QuietLaw}
 pub use Rattle.tp_process.specs.World.{FewWavesLaw, is_step, is_taken, is_useful, useful, SoonLaw, ControlMessagesLaw, OnceLaw, GoesOnLaw}
