@@ -164,8 +164,7 @@ def run(options):
     if not options.draw:
         asked = {*(options.measurements or MEASUREMENTS), *(FRONT if "front" in options.measurements else [])}
         names = [name for name in MEASUREMENTS if name in asked]
-        missing = [path for path in dict.fromkeys(path for name in names for path in PROGRAMS[name]) if not os.path.isfile(path)]
-        if missing:
+        if missing := [path for path in dict.fromkeys(path for name in names for path in PROGRAMS[name]) if not os.path.isfile(path)]:
             sys.exit(f"missing: {' '.join(missing)}: `make` and `make lib` build them")
         status = measure_all(options, names, options.temporary)
     if options.draw or options.write:
