@@ -1,12 +1,10 @@
 """Compares the documents with the code and with each other.
 
 - each relative link of README.md, CONTRIBUTING.md, CHANGELOG.md, bench/README.md and docs leads to a file, and to a heading if it
-  names one; each path of the repository, each subcommand of `tools/dev` and each target of `make` that a document names exists
-- a line has at most 120 columns, except in tables, in code, and with a link; README.md has at most 130 lines
-- each block of code is part of the file in a folder that the line above it names; in the guides each names one
-- the number before the name of a refusal, or of what a call returns, is its own
-- the rows `sources` of tools/data/statements.json: a page has a text, in which {CRATE::NAME} is a constant of that crate, and {} what the
-  line of sh behind it prints, which has to succeed (the rows `built` are a part of `tools/dev package`)
+  names one; each block of code is part of the file in a folder that the line above it names; in the guides each names one
+- the rows `sources` of tools/data/statements.json: a page has a text, in which {} is what the line of sh behind it prints, which has to
+  succeed. They compare constants and formulas, and find names of paths, commands, calls and refusals that are not there, long lines, and
+  atomic operations: all shared state is behind locks. (The rows `built` are a part of `tools/dev package`)
 - the table of docs/ARCHITECTURE.md has the groups of crates.txt, and the plots are drawn from what is stored (`tools/dev plot`)
 - the contracts, the tests, the mutants and the calls that documents cite are in the code (proved.py)
 """
@@ -21,22 +19,11 @@ from .bench import figures
 from .repository import text_of
 
 GUIDE = "docs/RUNNING-A-POOL.md", "docs/PROVING-A-POOL.md", "docs/YOUR-BODIES.md"
-# what documents name that is of its day, of the toolchain, or written by a build
-OF_ITS_DAY, ELSEWHERE = "CHANGELOG.md", ("docs/ANSWERS.md", "crates/*/out", "crates/*/out/mutants.json")
+OF_ITS_DAY = "CHANGELOG.md"
 BLOCK = re.compile(r"(?:`([^`\n]+)`:\n\n)?```(\w+)\n(.*?\n)```\n", re.S)
 CODE = re.compile(r"^ *```.*?^ *```[^\n]*$|`[^`\n]*`", re.S | re.M)
 LINK = re.compile(r'\]\(<?([^()\s>]+)>?(?:\s+"[^"]*")?\)|^ *\[[^\]\n]+\]: *(\S+)|\b(?:src|srcset|href)="([^"]+)"', re.M)
 URL = re.compile(r"[a-z][a-z0-9+.-]*:|//", re.I)
-# a path of the repository, which may have NAME, CRATE or FILE for any name
-NAMED = re.compile(r"`((?:crates|capi|docs|tools|python|bench)/[\w./*-]+)`", re.A)
-# a refusal in a document, and what has their numbers
-REFUSAL = re.compile(r"\b(\d+) `?([A-Z][A-Z_]+|[A-Z][a-z]\w+)`")
-NUMBERED = re.compile(r"(?:_REFUSED|_PROCESS|Refusal:)[_:](\w+)(?:\(_\))? =>? (\d+)(?:,? +/\* (\w+):)?")
-NUMBERS = "crates/tp_base/src/refusal.rt", "capi/include/gerfmuod/refusals.h", "capi/include/gerfmuod/process.h"
-CONSTANT = re.compile(r"\{(\w+)::(\w+)\}")
-GENERATED, FENCED, OTHERS = r"<!-- bench \w+ -->\n.*?<!-- end of bench -->", r"^ *```.*?^ *```[^\n]*$", r"^(?:\||    |[^\n]*\]\()[^\n]*$"
-NOT_PROSE = re.compile(f"{GENERATED}|{FENCED}|{OTHERS}", re.S | re.M)
-MOST_COLUMNS, MOST_LINES = 120, 130
 
 
 def documents():
@@ -66,37 +53,11 @@ def dead_links(path):
     return [link for link in links if not URL.match(link) and not exists(path, link)]
 
 
-def unknown_names(text, subcommands):
-    targets = set(re.findall(r"^([a-z]+):", text_of("Makefile"), re.M))
-    commands = set(re.findall(r"tools/dev ([a-z][a-z-]*)", text)) - subcommands
-    commands |= set(re.findall(r"(?:`|^    )make ([a-z]+)", text, re.M)) - targets
-    paths = {re.sub("NAME|CRATE|FILE", "*", path) for path in NAMED.findall(text)}
-    return sorted({*commands, *(path for path in paths if not glob.glob(path))}.difference(ELSEWHERE))
-
-
-def wide_lines(text):
-    prose = NOT_PROSE.sub(lambda found: "\n" * found[0].count("\n"), text)
-    return [number for number, line in enumerate(prose.split("\n"), 1) if len(line) > MOST_COLUMNS]
-
-
-def wrong_refusals(text):
-    found = [row for path in NUMBERS for row in NUMBERED.findall(text_of(path))]
-    numbers = {name: number for one, number, other in found for name in (one, other)}
-    return [f"{number} {name}" for number, name in REFUSAL.findall(text) if numbers.get(name) != number]
-
-
 def unknown_blocks(text, is_guide=True):
     """Returns the first lines of the blocks of a page that are not in the files that it names; one of a guide has to name a file."""
     blocks = [block.groups() for block in BLOCK.finditer(text)]
     named = [(path, code) for path, kind, code in blocks if "/" in (path or "") or is_guide and (path or kind != "text")]
     return [code.split("\n")[0] for path, code in named if not (path and code in text_of(path, ""))]
-
-
-def value_of(found):
-    """Returns a constant of a crate as documents write it."""
-    texts = map(text_of, repository.files_in(f"crates/{found[1]}/src"))
-    value, = (number for text in texts for number in re.findall(rf"\bconst {found[2]}: \w+ = ([\d_]+);", text))
-    return f"{int(value):,}"
 
 
 def check_statements(tally, kind):
@@ -107,32 +68,27 @@ def check_statements(tally, kind):
         if needed and not tally.has(needed, f"{page}: {text}"):
             continue
         result = running.run(["sh", "-ec", table["first"] + line])
-        text = CONSTANT.sub(value_of, text).replace("{}", result.out.decode().strip())
+        text = text.replace("{}", result.out.decode().strip())
         is_there = " ".join(text.split()) in " ".join(text_of(page).split())
         reason = f"{line}: {running.short(result.out)}, {result.description(2000)}"
         tally.judge(is_there and not result.status, f"{page}{'' if is_there else f' lacks {text!r}'}: {reason}")
 
 
-def check_documents(tally, subcommands):
+def check_documents(tally):
     for path in documents():
         text = text_of(path)
         faults = {
             "there is no": dead_links(path),
-            "nothing has the name": [] if path == OF_ITS_DAY else unknown_names(text, subcommands),
-            "another refusal:": wrong_refusals(text),
-            f"over {MOST_COLUMNS} columns: line": wide_lines(text),
             "not in the code:": unknown_blocks(text, path in GUIDE),
         }
         for fault, places in faults.items():
             tally.judge(not places, f"{path}: {fault} {', '.join(map(str, places))}")
-    lines = text_of("README.md").count("\n")
-    tally.judge(lines <= MOST_LINES, f"README.md: {lines} lines, of at most {MOST_LINES}")
     print(f"{len(documents())} documents")
 
 
 def run(options):
     tally = options.tally
-    check_documents(tally, set(options.subcommands))
+    check_documents(tally)
     check_statements(tally, "sources")
     plots.check_map(tally)
     plots.check(tally, [name for name in plots.PLOTS if name not in figures.PLOTS])

@@ -4,7 +4,6 @@ import re
 import pytest
 
 from . import cli, contracts, docs, plots, proved, repository, running, shared_object
-from .limits import second_model
 
 CODE = repository.text_of(f"{repository.TOP}/tools/data/tests/code")
 
@@ -27,10 +26,6 @@ def test_citations_are_compared_with_the_code():
 
 
 def test_faults_of_documents_are_found():
-    assert docs.unknown_names("`make test` `make tea`, tools/dev docs, tools/dev tea, `docs/TEA.md`", {"docs"}) == ["docs/TEA.md", "tea"]
-    wide = "x" * 121
-    assert docs.wide_lines(f"a\n{wide}\n| {wide}\n```text\n{wide}\n```\n    {wide}\n[{wide}](a)\n{wide}") == [2, 9]
-    assert docs.wrong_refusals("`26 BadSpec`, 26 `BadSpec`, 25 `BadSpec`; 2 `AGAIN`, 102 `NO_WORK`, 64 `NoThread`") == ["25 BadSpec", "102 NO_WORK"]
     block = "```rust\nno such line\n```\n"
     assert docs.unknown_blocks(f"`crates/chain/src/main.rt`:\n\n{block}", False) == docs.unknown_blocks(block) == ["no such line"]
     assert docs.unknown_blocks(f"`tree.c`:\n\n{block}{block}", False) == []
@@ -44,16 +39,10 @@ def test_dead_links_are_found(tmp_path):
 
 
 def test_wrong_statements_are_found(monkeypatch):
-    rows = [["Makefile", "# {}", "echo make"], ["Makefile", "no {tp_base::MAX_NODES}"], ["Makefile", "", "exit 3"], ["Makefile", "{}", "echo no such text"]]
+    rows = [["Makefile", "# {}", "echo make"], ["Makefile", "no such text"], ["Makefile", "", "exit 3"], ["Makefile", "{}", "echo no such text"]]
     monkeypatch.setattr(docs.json, "loads", lambda _: {"first": "", "own": rows})
     docs.check_statements(tally := running.Tally(), "own")
     assert (tally.passed, tally.failed) == (1, 3)
-
-
-def test_the_grammar_has_a_row_for_each_step():
-    steps = re.findall(r"^\| `([a-z]+)((?: [A-Z])*)` \|", repository.text_of("docs/TRACES.md").partition("## The result")[0], re.M)
-    counts = {(version, name): count for version, names in second_model.COUNTS_OF.items() for name, count in names.items() if name != "judge"}
-    assert {(name, len(words) // 2) for name, words in steps} == {(name, count) for (_, name), count in counts.items()}
 
 
 def test_commands_in_documents_are_accepted():
