@@ -2,7 +2,8 @@
 pub mod Keeping
 pub use Keeping.*
 
--- ==== Control steps change nothing but the wave and the list of steps; in a quiet pool the next one can be taken; and the result of `settle`.
+-- ==== Control steps change nothing but the wave and the list of steps; in a quiet pool the next one can be taken; and the result of
+-- `settle`.
 
 -- ---- the world and the counters stay the same
 pub world_stays : (s : Step) (w : World) → IsTrue (is_control s) → after s w ≡ w

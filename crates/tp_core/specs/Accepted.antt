@@ -1,10 +1,13 @@
 -- What a core has accepted, and its reply to the next step.
 use Rattle.std.specs.{List.list_any, Prelude.{Bool, true, false, not, IsTrue, IsFalse, ℕ, ◌%◌, ◌&&◌, ◌||◌, ◌==◌, ◌≡◌, ◌<◌, ◌+◌, List, []}}
 use Rattle.std.specs.Prelude.{◌∷◌, ◌++◌, nat_le, nat_lt, is_some, length, Option, Some, None, Result, Ok, Err, if◌then◌else◌}
-use Rattle.tp_base.specs.{Checks.{Check, first_refusal}, Pages.is_beside, declared.Refusal.{Refusal, TheVariants.{HistoryFull, NoMemory, StoreFull}}}
-use Rattle.tp_base.specs.declared.{Step.{Step, TheVariants.{Insert, ActionOpen, Send, Recv, Start, Give, Judge, Reopen}}, limits.TheConstants.{MAX_STEPS, MAX_MESSAGES}}
+use Rattle.tp_base.specs.{Checks.{Check, first_refusal}, Pages.is_beside}
+use Rattle.tp_base.specs.declared.Refusal.{Refusal, TheVariants.{HistoryFull, NoMemory, StoreFull}}
+use Rattle.tp_base.specs.declared.Step.{Step, TheVariants.{Insert, ActionOpen, Send, Recv, Start, Give, Judge, Reopen}}
+use Rattle.tp_base.specs.declared.limits.TheConstants.{MAX_STEPS, MAX_MESSAGES}
 use Rattle.tp_core.specs.{Generations.{world_after, MayCome}, Run.world, StepChecks.checks, World.{World, all_left, pending}}
-use Rattle.tp_core.specs.declared.{accepting.TheConstants.MAX_COUNT, taken.TheConstants.PIECE, numbers.NodeNumbers.NodeNumbers, reply.Reply.{Reply, TheVariants.Plain}}
+use Rattle.tp_core.specs.declared.{accepting.TheConstants.MAX_COUNT, taken.TheConstants.PIECE, numbers.NodeNumbers.NodeNumbers}
+use Rattle.tp_core.specs.declared.reply.Reply.{Reply, TheVariants.Plain}
 use Rattle.tp_core.specs.declared.reply.Reply.TheVariants.{WaveSums, Not, Over, Opened}
 use Rattle.tp_wave.specs.{Generations.{present, generation}, Steps.{any, count, is_send_of, is_recv_at}, Sums.{sums_of, waves, judgement}}
 

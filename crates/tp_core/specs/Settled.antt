@@ -1,7 +1,9 @@
 -- The result of `settle`, which takes control steps until termination is detected.
-use Rattle.std.specs.{List.list_all, Prelude.{ℕ, ◌+◌, ◌-◌, ◌*◌, ◌/◌, ◌≡◌, ◌≤◌, List, [], ◌∷◌, ◌++◌, ◌&&◌, Bool, true, false, not, nat_le, nat_lt}}
+use Rattle.std.specs.List.{list_all}
+use Rattle.std.specs.Prelude.{ℕ, ◌+◌, ◌-◌, ◌*◌, ◌/◌, ◌≡◌, ◌≤◌, List, [], ◌∷◌, ◌++◌, ◌&&◌, Bool, true, false, not, nat_le, nat_lt}
 use Rattle.std.specs.Prelude.{length, IsTrue, None, Some, Result, Ok, Err}
-use Rattle.tp_base.specs.{Checks.{Check, first_refusal}, declared.{Refusal.{Refusal, TheVariants.{Ended, NotIdle, HistoryFull, StoreFull}}, Step.Step}}
+use Rattle.tp_base.specs.Checks.{Check, first_refusal}
+use Rattle.tp_base.specs.declared.{Refusal.{Refusal, TheVariants.{Ended, NotIdle, HistoryFull, StoreFull}}, Step.Step}
 use Rattle.tp_base.specs.declared.{Step.TheVariants.Judge, limits.TheConstants.MAX_STEPS}
 use Rattle.tp_core.specs.{Accepted.{Accepted, IsRefusedFor, world_of}, Generations.AreRuns, World.is_quiet}
 use Rattle.tp_core.specs.declared.taken.TheConstants.{PIECE}

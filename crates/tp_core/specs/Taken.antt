@@ -1,5 +1,6 @@
 -- The steps that a core has taken: what its contracts see, and how the list of them grows.
-use Rattle.std.specs.Prelude.{ℕ, ◌≡◌, ◌-◌, ◌*◌, ◌/◌, ◌≤◌, List, [], ◌∷◌, Bool, IsTrue, IsFalse, if◌then◌else◌, length, min, reverse, vec_capacity}
+use Rattle.std.specs.Prelude.{ℕ, ◌≡◌, ◌-◌, ◌*◌, ◌/◌, ◌≤◌, List, [], ◌∷◌, Bool, IsTrue, IsFalse, if◌then◌else◌, length, min, reverse}
+use Rattle.std.specs.Prelude.{vec_capacity}
 use Rattle.tp_base.specs.declared.{Step.Step, limits.TheConstants.MAX_STEPS}
 use Rattle.tp_core.specs.Capacity.{HasPieces, IsFrugal}
 use Rattle.tp_core.specs.declared.{accepting.TheConstants.MAX_COUNT, taken.{TheConstants.PIECE, TakenSteps.TheInside.Inside}}

@@ -2,7 +2,8 @@
 use Rattle.std.specs.{List.list_all, Prelude.{ℕ, ◌+◌, ◌*◌, ◌≡◌, ◌≤◌, List, ◌∷◌, ◌++◌, length, IsTrue, IsFalse, Option, Some, None}}
 use Rattle.tp_base.specs.declared.{Step.{Step, TheVariants.{Start, Judge}}, limits.TheConstants.MAX_STEPS}
 use Rattle.tp_core.specs.{Advancing.HasWaves, Run.{world, IsLawful, IsLawfulRun}, World.IsQuiet, declared.numbers.NodeNumbers.NodeNumbers}
-use Rattle.tp_wave.specs.{Control.{IsDue, is_control}, Generations.present, Sums.{is_ended, judgement, waves}, Wave.Follows, declared.Wave.Wave}
+use Rattle.tp_wave.specs.{Control.{IsDue, is_control}, Generations.present, Sums.{is_ended, judgement, waves}, Wave.Follows}
+use Rattle.tp_wave.specs.declared.Wave.{Wave}
 
 -- The steps on n nodes are a run after which the pool is quiet and termination was not detected. The counters and the
 -- wave follow from the steps.

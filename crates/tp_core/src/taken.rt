@@ -1,6 +1,6 @@
 //! The steps that a core has taken: a list of them, or only what a core without a list has to know.
-ghost use Rattle.std.specs.Prelude.{◌≡◌, ◌≤◌, ◌<◌, ◌+◌, ◌-◌, ◌*◌, ◌/◌, ◌∷◌, ℕ, List, IfErr, IfOk, OnErr, OnOk, IsOk, IsTrue, IsFalse, length, max};
-ghost use Rattle.std.specs.Prelude.{min, nat_lt, vec_capacity};
+ghost use Rattle.std.specs.Prelude.{◌≡◌, ◌≤◌, ◌<◌, ◌+◌, ◌-◌, ◌*◌, ◌/◌, ◌∷◌, ℕ, List, IfErr, IfOk, OnErr, OnOk, IsOk, IsTrue, IsFalse};
+ghost use Rattle.std.specs.Prelude.{length, max, min, nat_lt, vec_capacity};
 ghost use Rattle.tp_base.specs.declared.{Step.Step, limits.TheConstants.MAX_STEPS};
 ghost use Rattle.tp_core.specs.{Capacity.{HasPieces, end_reserved}, declared.accepting.TheConstants.MAX_COUNT};
 ghost use Rattle.tp_wave.specs.{Generations.present, Sums.waves as waves_of};
@@ -42,7 +42,8 @@ impl Model for TakenSteps {
 impl TakenSteps {
     ghost use Rattle.std.specs.Prelude.{◌&&◌, None, [], reverse, not, true};
     ghost use Rattle.tp_base.specs.Checks.{first_refusal};
-    ghost use Rattle.tp_core.specs.{Accepted.{HasRoom, IsRefusedFor, begins_piece, room_check}, Settled.{ends_before, rooms_check}, Taken.{IsPushed, IsSame}};
+    ghost use Rattle.tp_core.specs.{Accepted.{HasRoom, IsRefusedFor, begins_piece, room_check}, Taken.{IsPushed, IsSame}};
+    ghost use Rattle.tp_core.specs.Settled.{ends_before, rooms_check};
 
     /// Returns no steps. It allocates nothing.
     pub fn new(alloc: Global, recorded: bool) -> TakenSteps
@@ -126,7 +127,8 @@ impl TakenSteps {
     pub fn make_rooms(&mut self, more: usize) -> Result<(), Refusal>
         requires few { more ≤ PIECE }
         ensures same { IsSame self.old self.new }
-        ensures ok { OnOk result ((first_refusal (rooms_check self.old.recorded (length self.old.steps) more (waves_of (present self.old.steps))) ≡ None)
+        ensures ok { OnOk result
+            ((first_refusal (rooms_check self.old.recorded (length self.old.steps) more (waves_of (present self.old.steps))) ≡ None)
             × (more ≤ self.new.room)) }
         ensures err { IfErr result
             (IsRefusedFor (first_refusal (rooms_check self.old.recorded (length self.old.steps) more (waves_of (present self.old.steps))))
@@ -238,7 +240,8 @@ fn reserve_room(list: &mut Vec<Step>, more: usize) -> Result<u32, AllocError>
 
 // Returns the number of waves after a step, or the largest number.
 fn waves_with(waves: u32, step: Step) -> u32
-    ensures { (past : List Step) → waves ≡ min (waves_of (present past)) MAX_COUNT → result ≡ min (waves_of (present (step ∷ past))) MAX_COUNT }
+    ensures { (past : List Step) → waves ≡ min (waves_of (present past)) MAX_COUNT
+        → result ≡ min (waves_of (present (step ∷ past))) MAX_COUNT }
 {
     match step {
         Step::Start => waves.saturating_add(1),

@@ -1,5 +1,6 @@
 -- The reply to a script: a line for each step and the closing lines, or the line that reports the first fault.
-use Rattle.std.specs.{List.flat_map, Prelude.{ℕ, zero, suc, ◌≡◌, ◌++◌, List, [], length, codes, decimal, Result, Ok, Err, if◌then◌else◌}}
+use Rattle.std.specs.{List.flat_map, Prelude.{ℕ, zero, suc, ◌≡◌, ◌++◌, List, [], true, length, codes, decimal, Result, Ok, Err}}
+use Rattle.std.specs.Prelude.{if◌then◌else◌}
 use Rattle.tp_base.specs.{Refusals.{number_of, name_of}, Totals.total, declared.{Refusal.Refusal, Step.Step}}
 use Rattle.tp_core.specs.{Accepted.{Accepted, world_of, numbers_at, answers, after_all}, World.is_quiet, declared.NodeNumbers.NodeNumbers}
 use Rattle.tp_core.specs.declared.Reply.{Reply, TheVariants.{Plain, WaveSums, Not, Over, Opened}}

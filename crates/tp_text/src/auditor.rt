@@ -2,7 +2,7 @@
 ghost use Rattle.std.specs.Prelude.{◌≡◌, ◌+◌, ◌≤◌, ◌++◌, ◌∷◌, [], ℕ, List, length, reverse, take, is_some, ◌↔◌, IfErr, IfOk, IsTrue, OnOk};
 ghost use Rattle.std.specs.Prelude.{MatchOption};
 ghost use Rattle.tp_base.specs.declared.limits.TheConstants.{MAX_NODES};
-ghost use Rattle.tp_text.specs.{AuditText.{flaw_line, summary}, Auditing.{IsTold, Knows}, Trace.IsWritten};
+ghost use Rattle.tp_text.specs.{AuditText.{flaw_line, summary}, Trace.IsWritten};
 ghost use Rattle.tp_text.specs.declared.version.Version.{Version};
 
 use crate::account::Account;
@@ -36,6 +36,8 @@ pub(crate) struct Auditor {
 }
 
 impl Auditor {
+    ghost use Rattle.tp_text.specs.Auditing.{IsTold, Knows};
+
     /// Returns an auditor of `nodes` nodes, 1 to 8, which has taken no line. It allocates nothing.
     pub(crate) fn new(alloc: Global, nodes: u32) -> Auditor
         requires { (1 ≤ nodes) × (nodes ≤ MAX_NODES) }
@@ -65,10 +67,21 @@ impl Auditor {
         }
         match answer {
             Err(refusal) => self.flaw = Some((number, Flaw::Refused(refusal))),
-            Ok(reply) if is_told(line, reply) => self.account = self.account.with(line),
+            Ok(reply) if Auditor::is_told(line, reply) => self.account = self.account.with(line),
             Ok(_) => self.flaw = Some((number, Flaw::Unjustified)),
         }
         Ok(())
+    }
+
+    /// Returns whether a line claims nothing, or exactly what the core replied to its step.
+    fn is_told(line: TraceLine, reply: Reply) -> bool
+        ensures { IsTrue result ↔ IsTold line reply }
+    {
+        match line {
+            TraceLine::Plain(_) => true,
+            TraceLine::Judged(None) => reply == Reply::Not,
+            TraceLine::Judged(Some(wave)) => reply == Reply::Over(wave),
+        }
     }
 
     /// Returns whether a line was flawed.
@@ -113,17 +126,6 @@ impl Auditor {
                 Ok((Verdict::Refused, out))
             }
         }
-    }
-}
-
-/// Returns whether a line claims nothing, or exactly what the core replied to its step.
-fn is_told(line: TraceLine, reply: Reply) -> bool
-    ensures { IsTrue result ↔ IsTold line reply }
-{
-    match line {
-        TraceLine::Plain(_) => true,
-        TraceLine::Judged(None) => reply == Reply::Not,
-        TraceLine::Judged(Some(wave)) => reply == Reply::Over(wave),
     }
 }
 

@@ -95,7 +95,8 @@ pub outside : (n i : ℕ) (steps : List Step) → 0 < n → IsLawfulRun n steps 
 outside n i [] pos r h = ap (λ p. record { pending = p; sent = 0; received = 0 }) (grind (arith, nat_tests, open_at-openings i n))
 outside n i (s ∷ past) pos r h =
     let inside = node_inside n past s pos r.1 r.0 in
-    numbers_step (record { nodes = n; steps = past; recorded = true }) s i r.0 ∙ grind (arith, nat_tests, inside, outside n i past pos r.1 h)
+    numbers_step (record { nodes = n; steps = past; recorded = true }) s i r.0 ∙ grind (arith, nat_tests, inside, outside n i past pos
+    r.1 h)
 
 -- ---- unfinished tasks and open actions
 left-with_life : (t : ℕ) (f : Life → Life) (l : Life) (xs : List Task) → life_in t xs ≡ Some l
@@ -157,7 +158,8 @@ agree_after {c} {d} {mid} s agree comes on room nodes same_generation stay pushe
       are_runs = (comes, agree.are_runs);
       generation_is = same_generation ∙ agree.generation_is ∙ sym (generation-goes_on s (accepted c).steps on);
       in_room = (room, agree.in_room);
-      numbers = subst (λ (xs : List Step). HasNumbers d.numbers (record { nodes = c.nodes; steps = xs; recorded = true })) (sym now) numbers;
+      numbers = subst (λ (xs : List Step). HasNumbers d.numbers (record { nodes = c.nodes; steps = xs; recorded = true })) (sym now)
+      numbers;
       left = subst (λ (xs : List Step). d.left ≡ all_left (world c.nodes xs)) (sym now) (left
           ∙ rw agree.left (sym (left_step c.nodes (present (accepted c).steps) s lawful)));
       under = subst (λ (xs : List Step). d.under ≡ length (world c.nodes xs).messages) (sym now) (under
@@ -301,7 +303,8 @@ listed_left {c} agree few =
     let nodes = agree.few_nodes in rw agree.left (omega arith)
 
 -- If there is room for a step that counts what is left, the counter is below its limit.
-left_fits : {c : Inside} (r b : Bool) → IsKept c → b ≡ nat_le MAX_COUNT c.left → HasRoom r (length (accepted c).steps) b → c.left < MAX_COUNT
+left_fits : {c : Inside} (r b : Bool) → IsKept c → b ≡ nat_le MAX_COUNT c.left → HasRoom r (length (accepted c).steps) b → c.left <
+    MAX_COUNT
 left_fits {c} true b agree is room = listed_left agree room
 left_fits {c} false b agree is room = grind (arith, nat_tests, is, room)
 
@@ -341,7 +344,8 @@ received_limit {c} agree to m g low = rw (agree.numbers.each to.0 zeros low, agr
 
 pub received_below : {c : Inside} (b : Bool) → IsKept c → (i : ℕ) → i < MAX_NODES
     → b ≡ (nat_le MAX_MESSAGES (slice_index_or c.numbers i zeros).received || nat_le MAX_COUNT c.left)
-    → HasRoom c.steps.recorded (length c.steps.steps) b → ((slice_index_or c.numbers i zeros).received < MAX_MESSAGES) × (c.left < MAX_COUNT)
+    → HasRoom c.steps.recorded (length c.steps.steps) b → ((slice_index_or c.numbers i zeros).received < MAX_MESSAGES) × (c.left <
+    MAX_COUNT)
 received_below {c} b agree i low =
     messages_fit c.steps.recorded b (length c.steps.steps) _ _ (λ few.
     let steps = present (accepted c).steps in let fewer = length-present (accepted c).steps in (
@@ -461,7 +465,8 @@ may_receive {c} agree i m below was =
       under = rw agree.under (some_message (is_message m i.0) (world_of (accepted c)).messages there);
     }
 
--- ==== The places of numbers in the tables of a core; the type invariant of a new core and of a reopened one; and why the counters show whether
+-- ==== The places of numbers in the tables of a core; the type invariant of a new core and of a reopened one; and why the counters show
+-- whether
 -- the world is quiet.
 
 -- The new table has each place of the old one.

@@ -135,7 +135,8 @@ taken {c} {old} {mid} {new} {reply} s agree is lawful room stay pushed answer =
 -- a step that fails a check of its own, such as one of the wave
 pub by_wave : {c : Inside} {old : Accepted} (s : Step) → IsKept c → accepted c ≡ old → PassesWaves (accepted c) s → (r : Refusal)
     → Some r ≡ refusal_of c.nodes (accepted c).steps s → refusal old s ≡ Some r
-by_wave {c} {old} s agree is w r refused = subst (λ (a : Accepted). refusal a s ≡ Some r) is (refused_first (accepted c) s r w (sym refused))
+by_wave {c} {old} s agree is w r refused = subst (λ (a : Accepted). refusal a s ≡ Some r) is (refused_first (accepted c) s r w (sym
+    refused))
 
 -- a lawful step for which no room could be made
 weaken : (first : Option Refusal) (b d : Bool) (r : Refusal) → IsRefusedFor first b r → IsRefusedFor first (d || b) r
@@ -145,7 +146,8 @@ weaken None b false r h = h
 
 pub no_room : {c : Inside} {old : Accepted} {mid : Taken} {b : Bool} (s : Step) → IsKept c → accepted c ≡ old → PassesWaves (accepted c) s
     → MayCome c.nodes (accepted c).steps s → b ≡ is_at_limit c.nodes c.steps.steps s → (r : Refusal)
-    → IsRefusedFor (first_refusal (room_check c.steps.recorded (length c.steps.steps) b)) (begins_piece c.steps.recorded (length c.steps.steps)) r
+    → IsRefusedFor (first_refusal (room_check c.steps.recorded (length c.steps.steps) b)) (begins_piece c.steps.recorded (length
+    c.steps.steps)) r
     → IsSame c.steps mid
     → IsRefusedFor (refusal old s) (asks_memory old s) r × (record { nodes = c.nodes; steps = mid.steps; recorded = mid.recorded } ≡ old)
 no_room {c} {old} s agree is w lawful same r told stay = (
@@ -256,7 +258,8 @@ runs_are_determined old new (s ∷ later) (r ∷ rs) all ample =
 runs_are_determined old new [] (r ∷ rs) all ample = absurd all
 runs_are_determined old new (s ∷ later) [] all ample = absurd all
 
--- ==== In a generation each task is inserted, begun and done at most once; the detector is never early; and control steps lead from a quiet world
+-- ==== In a generation each task is inserted, begun and done at most once; the detector is never early; and control steps lead from a
+-- quiet world
 -- to the detection of termination.
 
 life-with_life : (t u : ℕ) (f : Life → Life) (xs : List Task)

@@ -1,4 +1,5 @@
-use Rattle.tp_core.proofs.Lemmas.{◌≡◌, None, accepted, arith, common_steps, err_from_is_err_and, refusal_of, sym, MayCome, agree_control, as_room, passes, free, starts_fit, false}
+use Rattle.tp_core.proofs.Lemmas.{◌≡◌, None, accepted, arith, common_steps, err_from_is_err_and, refusal_of, sym, MayCome, agree_control}
+use Rattle.tp_core.proofs.Lemmas.{as_room, passes, free, starts_fit, false}
 use Rattle.tp_core.proofs.{Lemmas.{by_wave, exact, no_room, taken, waves_of}, accepting.Core.control.Goals.After-make_room}
 use Rattle.tp_core.proofs.accepting.Core.control.Goals as goal
 
@@ -17,7 +18,8 @@ advance-requires-clause-waves c = (c.self.inside.nodes, (accepted c.self.inside)
 
 pub returns-in_err-reply : goal.returns-in_err-reply
 returns-in_err-reply c =
-    let first = by_wave c.args.step c.self.invariant c.self.view_is (passes c.self.invariant c.self.view_is c.args.step c.requires.control c.requires.few)
+    let first = by_wave c.args.step c.self.invariant c.self.view_is (passes c.self.invariant c.self.view_is c.args.step
+    c.requires.control c.requires.few)
     c.in_err-reply.field-0.0
     (sym (c.in_err-reply.ensures c.self.inside.nodes (accepted c.self.inside).steps (waves_of c.self.invariant))) in
     grind (arith, common_steps, first)
@@ -26,7 +28,8 @@ pub returns-in_err-make_room : goal.returns-in_err-make_room
 returns-in_err-make_room c =
     let p = err_from_is_err_and c.from_residual-in_err-make_room.result c.from_residual-in_err-make_room.ensures.1 in
     rw (p.1, p.2)
-    (no_room c.args.step c.self.invariant c.self.view_is (passes c.self.invariant c.self.view_is c.args.step c.requires.control c.requires.few)
+    (no_room c.args.step c.self.invariant c.self.view_is (passes c.self.invariant c.self.view_is c.args.step c.requires.control
+    c.requires.few)
     (comes (goal.at.returns-in_err-make_room c).After-make_room)
     (sym (free c.self.invariant c.self.view_is c.args.step c.requires.control c.requires.few)) _
     c.in_err-make_room.ensures.err c.make_room.ensures.same)

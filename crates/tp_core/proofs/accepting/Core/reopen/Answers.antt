@@ -1,6 +1,7 @@
 use Rattle.tp_core.proofs.accepting.Core.reopen.Goals.{After-make_room}
 use Rattle.tp_core.proofs.Lemmas.{◌≡◌, true, refl, ap, sym, ◌+◌, ◌∙◌, arith, IsTrue, nat_tests, Reopen, is_ended, present}
-use Rattle.tp_core.proofs.Lemmas.{MayCome, accepted, Opened, is_at_limit, as_room, generation_below, nat_le, MAX_COUNT, reopened_kept, taken}
+use Rattle.tp_core.proofs.Lemmas.{MayCome, accepted, Opened, is_at_limit, as_room, generation_below, nat_le, MAX_COUNT, reopened_kept}
+use Rattle.tp_core.proofs.Lemmas.{taken}
 use Rattle.tp_core.proofs.accepting.Core.reopen.Goals as goal
 
 ended : (c : After-make_room) → IsTrue (is_ended c.self.inside.nodes (present (accepted c.self.inside).steps))
@@ -17,15 +18,19 @@ comes c = record { reopens = λ f. ended c; goes_on = λ f. cc }
 
 pub overflow_add-self : goal.overflow_add-self
 overflow_add-self c =
-    let below = generation_below c.is_full.result c.self.invariant c.is_full.ensures (c.in_ok-make_room.ensures.ok).0 in omega (arith, below)
+    let below = generation_below c.is_full.result c.self.invariant c.is_full.ensures (c.in_ok-make_room.ensures.ok).0 in omega (arith,
+    below)
 
 pub invariant_of-self-2 : goal.invariant_of-self-2
 invariant_of-self-2 c =
-    reopened_kept c.self.invariant (comes (goal.at.invariant_of-self-2 c).After-make_room) (as_room Reopen c.is_full.result c.self.invariant (limit (goal.at.invariant_of-self-2 c).After-make_room) (c.in_ok-make_room.ensures.ok).0) refl refl c.make_room.ensures.same
+    reopened_kept c.self.invariant (comes (goal.at.invariant_of-self-2 c).After-make_room) (as_room Reopen c.is_full.result
+    c.self.invariant (limit (goal.at.invariant_of-self-2 c).After-make_room) (c.in_ok-make_room.ensures.ok).0) refl refl
+    c.make_room.ensures.same
     c.push.ensures.pushed c.opened.ensures refl refl c.clear.ensures
     c.clear-2.ensures c.clear-3.ensures c.new-self-inside.ensures.follows
 
 pub returns : goal.returns
 returns c =
-    taken Reopen c.self.invariant c.self.view_is (comes (goal.at.returns c).After-make_room) (as_room Reopen c.is_full.result c.self.invariant (limit (goal.at.returns c).After-make_room) (c.in_ok-make_room.ensures.ok).0) c.make_room.ensures.same
+    taken Reopen c.self.invariant c.self.view_is (comes (goal.at.returns c).After-make_room) (as_room Reopen c.is_full.result
+    c.self.invariant (limit (goal.at.returns c).After-make_room) (c.in_ok-make_room.ensures.ok).0) c.make_room.ensures.same
     c.push.ensures.pushed (ap (λ k. Opened (record { 0 = k + 1 })) c.self.invariant.generation_is)

@@ -18,8 +18,7 @@ returns-in-Ok-clause-ok c =
     λ v n lines knows written number.
     let taken = none_found n lines c.args.self.now c.args.self.now.flaw c.if-is_some.ensures knows in
     found_none _ _ _ c.args.self.now.flaw c.if-is_some.ensures
-    (taken_more v n lines c.args.line c.args.self.now
-    (record { core = c.step-answer.new.self; account = c.with-self.result; flaw = c.args.self.now.flaw }) c.in-Ok.reply taken written
+    (taken_more v n lines c.args.line c.args.self.now _ c.in-Ok.reply taken written
     (said_as _ _ _ _ _ _ c.step.ensures c.in-Ok.is c.step-answer.ensures.answers) (c.if-is_told.ensures.0 (search rules))
     c.with-self.ensures)
 
