@@ -55,7 +55,7 @@ def test_commands_in_documents_are_accepted():
 @pytest.mark.parametrize("check, path, old, new", [
     (plots.check_map, plots.PAGE, "| tp_core |", "| tp_cores |"),
     (proved.check_memory, proved.OUT_OF_MEMORY, "`tp_base::Table::insert`", ""),
-    (proved.check_names, "docs/TOUR.md", "`takes_sums_of_any_wave`", "`no_such_mutant`"),
+    (proved.check_names, "docs/TOUR.md", "`takes_sums_twice`", "`no_such_mutant`"),
     (proved.check_names, "docs/measurements/mutants-killed-by-tests.md", "`faults_of_writing`", "`no_such_test`"),
 ])
 def test_a_changed_text_is_a_failure(monkeypatch, check, path, old, new):
