@@ -7,7 +7,8 @@ from pathlib import Path
 from gerfmuod import _library
 
 HEADERS = Path(__file__).resolve().parents[2] / "capi" / "include" / "gerfmuod"
-TEXT = re.sub(r"/\*.*?\*/", "", "".join((HEADERS / f"{name}.h").read_text() for name in ("team", "graph", "process", "refusals")), flags=re.S)
+NAMES = ("team", "graph", "process", "refusals")
+TEXT = re.sub(r"/\*.*?\*/", "", "".join((HEADERS / f"{name}.h").read_text() for name in NAMES), flags=re.S)
 PROTOTYPE = re.compile(r"^([\w ]+?[ *]+)(gerfmuod_\w+)\(([^()]*(?:\([^()]*\)[^()]*)*)\);", re.M)
 NUMBERS = {"uint32_t": ctypes.c_uint32, "uint64_t": ctypes.c_uint64, "size_t": ctypes.c_size_t, "void": None}
 NUMBERS["gerfmuod_graph_result"] = _library.GraphResult

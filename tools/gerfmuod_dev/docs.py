@@ -14,7 +14,7 @@ import os
 import re
 from urllib.parse import unquote
 
-from . import plots, proved, repository, running
+from . import plots, proved, running
 from .bench import figures
 from .repository import text_of
 

@@ -39,8 +39,8 @@ def test_dead_links_are_found(tmp_path):
 
 
 def test_wrong_statements_are_found(monkeypatch):
-    rows = [["Makefile", "# {}", "echo make"], ["Makefile", "no such text"], ["Makefile", "", "exit 3"], ["Makefile", "{}", "echo no such text"]]
-    monkeypatch.setattr(docs.json, "loads", lambda _: {"first": "", "own": rows})
+    rows = [["# {}", "echo make"], ["no such text"], ["", "exit 3"], ["{}", "echo no such text"]]
+    monkeypatch.setattr(docs.json, "loads", lambda _: {"first": "", "own": [["Makefile", *row] for row in rows]})
     docs.check_statements(tally := running.Tally(), "own")
     assert (tally.passed, tally.failed) == (1, 3)
 

@@ -126,7 +126,10 @@ def compare_outputs(tally, folder):
             reason = error
         tally.judge(not reason, reason)
     for source, needed in peers.left_out.items():
-        tally.skips(f"bench/peers/{source}", needed) if needed else tally.fails(f"bench/peers/{source} is left out")
+        if needed:
+            tally.skips(f"bench/peers/{source}", needed)
+        else:
+            tally.fails(f"bench/peers/{source} is left out")
     return None
 
 
