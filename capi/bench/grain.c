@@ -3,6 +3,7 @@
  *   grain [--profile FILE] SHAPE TASKS ITERATIONS ROUNDS WAY..     shapes.h describes the SHAPEs; a WAY is
  *     T       a team of T threads
  *     Tt      the same, and the team is traced
+ *     PxT     P parts of T threads each, every part with columns that lie next to each other
  *     loop    the bodies in sequence
  *     omp:T   OpenMP's tasks with `depend`     (built with -fopenmp)
  *
@@ -13,6 +14,7 @@
 #include "../examples/profiled.h"
 #include "shapes.h"
 #include "../examples/timing.h"
+#include <gerfmuod/parts.h>
 
 static int body(void *context, uint32_t task) {
     (void)context;
@@ -25,6 +27,15 @@ static void by_team(uint32_t threads, int is_traced) {
     need(gerfmuod_team_describe(team, task_count, NULL, offsets, inputs, NULL), "describe");
     need(gerfmuod_team_run(team, threads, body, NULL), "run");
     close_team(team);
+}
+
+static void in_parts(uint32_t count, uint32_t threads, uint32_t width) {
+    gerfmuod_parts *parts;
+    need(gerfmuod_parts_open(&parts, count), "open");
+    for (uint32_t t = 0; t < task_count; t++)
+        need(gerfmuod_parts_task(parts, t % width * count / width, 0, inputs + offsets[t], offsets[t + 1] - offsets[t], NULL), "task");
+    need(gerfmuod_parts_run(parts, threads, body, NULL), "run");
+    gerfmuod_parts_close(parts);
 }
 
 #ifdef _OPENMP
@@ -57,10 +68,13 @@ static void by_openmp(int threads) {
 }
 #endif
 
+static uint32_t width; /* of the graph */
+
 static void go(const char *way) {
-    unsigned threads;
+    unsigned threads, parts;
     char end = 0;
-    if (sscanf(way, "%u%c", &threads, &end) > 0) by_team(threads, end == 't');
+    if (sscanf(way, "%ux%u", &parts, &threads) == 2) in_parts(parts, threads, width);
+    else if (sscanf(way, "%u%c", &threads, &end) > 0) by_team(threads, end == 't');
     else if (!strcmp(way, "loop"))
         for (uint32_t t = 0; t < task_count; t++) run_shape_task(t);
 #ifdef _OPENMP
@@ -77,6 +91,7 @@ int main(int argc, char **argv) {
     size_t units = task_count = (uint32_t)atol(argv[2]);
     iterations = atol(argv[3]);
     if (!draw_shape(argv[1])) return 1;
+    width = shape_width(argv[1]);
     measure((struct measured){clear_shape, go, all_ran, &units}, argv[4], argv + 5, argc - 5);
     write_profile();
     free(offsets), free(inputs), free(has_ended);

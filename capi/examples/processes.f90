@@ -26,6 +26,7 @@ program processes
   if (ended /= n) error stop 'the end was not detected'
   do i = 0, n - 1
     if (.not. gerfmuod_process_knows_end(p(i))) error stop 'a process does not know the end'
+    if (index(gerfmuod_process_text(p(i)), 'knows the end') == 0) error stop 'a text that is wrong'
   end do
   if (gerfmuod_process_finish_work(p(0)) /= gerfmuod_refused_no_work) error stop 'work without work'
   print '(i0, a, i0, a, i0, a)', ended, ' processes know the end, after ', p(0)%wave, ' waves and ', last, ' control messages'

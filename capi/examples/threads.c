@@ -7,7 +7,8 @@
  * In each epoch, process 0 begins a tree of tasks: a task above the leaves sends three tasks to random threads, as messages.
  * Each thread ends the epoch when the detector reports its end, and begins the next one at once. Afterwards each task must
  * have run in each epoch. The others are faulty variants: early finishes the work of a message when it comes and runs the task
- * later; uncounted does not count what it sends. The exit status is 1 if tasks are missing, 2 if the run does not end. */
+ * later; uncounted does not count what it sends. The exit status is 1 if tasks are missing, 2 if the run does not end, and
+ * 9 if a call is refused, as Miscounted. */
 #define _POSIX_C_SOURCE 200809L
 #include <gerfmuod/process.h>
 #include <inttypes.h>
@@ -127,6 +128,7 @@ static void run_epoch(worker *w) {
     for (;;) {
         uint32_t next = ask_detector(w);
         if (next == GERFMUOD_PROCESS_ENDED) return;
+        if (next > GERFMUOD_PROCESS_ENDED) must(next); /* 0 to 3 are no refusals */
         if (receive(w->process.number, next == GERFMUOD_PROCESS_NOTHING && !w->backlog.count, &i)) {
             take(w, &i);
         } else if (w->backlog.count) {

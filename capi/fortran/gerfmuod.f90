@@ -327,13 +327,19 @@ module gerfmuod
       type(c_ptr) :: text
     end function
 
+    function process_text_in_c(process) bind(c, name='gerfmuod_process_text') result(text)
+      import :: c_ptr, gerfmuod_process
+      type(gerfmuod_process), intent(in) :: process
+      type(c_ptr) :: text
+    end function
+
     function length_in_c(text) bind(c, name='strlen') result(length)
       import :: c_ptr, c_size_t
       type(c_ptr), value :: text
       integer(c_size_t) :: length
     end function
   end interface
-  private :: text_in_c, length_in_c
+  private :: text_in_c, process_text_in_c, length_in_c, text_at
 
 contains
 
@@ -341,10 +347,21 @@ contains
   function gerfmuod_refusal_text(refused) result(text)
     integer(c_int32_t), intent(in) :: refused
     character(:), allocatable :: text
+    text = text_at(text_in_c(refused))
+  end function
+
+  ! Returns a line about a process, for a program that hangs.
+  function gerfmuod_process_text(process) result(text)
+    type(gerfmuod_process), intent(in) :: process
+    character(:), allocatable :: text
+    text = text_at(process_text_in_c(process))
+  end function
+
+  function text_at(pointer) result(text)
+    type(c_ptr), intent(in) :: pointer
+    character(:), allocatable :: text
     character(kind=c_char), pointer :: letters(:)
-    type(c_ptr) :: pointer
     integer :: i
-    pointer = text_in_c(refused)
     call c_f_pointer(pointer, letters, [length_in_c(pointer)])
     allocate (character(size(letters)) :: text)
     do i = 1, size(letters)

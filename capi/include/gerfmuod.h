@@ -2,7 +2,8 @@
  *
  * A program may include only what it uses: gerfmuod/core.h for the detector of a task runtime, gerfmuod/process.h for that of a
  * distributed program, gerfmuod/team.h for a task graph on threads, and gerfmuod/graph.h for one with threads of its own;
- * gerfmuod/part.h for a task graph over several processes. gerfmuod/mpi.h, which has the latter over MPI, is not among these.
+ * gerfmuod/parts.h for one whose threads are in groups that share no lock, gerfmuod/part.h for one over several processes.
+ * gerfmuod/mpi.h, which has the latter over MPI, is not among these.
  */
 #ifndef GERFMUOD_ALL_H
 #define GERFMUOD_ALL_H
@@ -10,6 +11,7 @@
 #include "gerfmuod/core.h"
 #include "gerfmuod/graph.h"
 #include "gerfmuod/part.h"
+#include "gerfmuod/parts.h"
 #include "gerfmuod/process.h"
 #include "gerfmuod/refusals.h"
 #include "gerfmuod/team.h"

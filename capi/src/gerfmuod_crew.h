@@ -5,9 +5,8 @@
 #ifndef GERFMUOD_CREW_H
 #define GERFMUOD_CREW_H
 
-#include <pthread.h>
-#include <stdbool.h>
-#include <stdint.h>
+#include "gerfmuod_lock.h"
+
 #include <stdlib.h>
 #include <time.h>
 
@@ -38,16 +37,6 @@ struct crew {
     void (*act)(void *argument);
     void *argument;
 };
-
-static inline void pause_for(uint32_t pauses) {
-    for (; pauses > 0; pauses--) {
-#if defined(__x86_64__) || defined(__i386__)
-        __builtin_ia32_pause();
-#elif defined(__aarch64__)
-        __asm__ volatile("yield");
-#endif
-    }
-}
 
 /* Releases the lock for a moment, if there is a poll left. Returns whether there was. */
 static bool crew_poll(struct crew *crew, uint32_t *polls) {

@@ -7,17 +7,13 @@
 #ifndef GERFMUOD_PROFILE_H
 #define GERFMUOD_PROFILE_H
 #include <gerfmuod/graph.h>
+#include "gerfmuod_lock.h"
 
 #include <inttypes.h>
-#include <pthread.h>
-#include <stdbool.h>
 #include <stdio.h>
 #include <stdlib.h>
 #include <string.h>
 #include <time.h>
-
-/* A team that does not record has to be as fast as without this file: what is rare is not inlined. */
-#define NOINLINE __attribute__((noinline))
 
 /* What ticks are; NO_CLOCK of a team that does not record. */
 enum clock { NO_CLOCK, NANOSECONDS, COUNTER };

@@ -8,18 +8,8 @@
 #endif
 #include <gerfmuod/team.h>
 #include "gerfmuod_crew.h"
+#include "gerfmuod_lock.h"
 #include "gerfmuod_profile.h"
-
-#include <sched.h>
-#include <unistd.h>
-
-/* The pauses of the processor between the polls of a thread in one turn before it sleeps: 20 to 100 microseconds. They grow. */
-enum { SPINS = 2000, FIRST_POLL = 16, MOST_POLL = 128 };
-
-/* How often a contended lock is retried before the thread blocks, and the pauses of the processor before the first retry and,
- * doubled each time, at most: up to 60 microseconds in all (docs/measurements/details.md). A turn mostly holds the lock for less
- * than half a microsecond; blocking and being woken costs more. */
-enum { TRIES = 12, FIRST_PAUSES = 4, MOST_PAUSES = 128 };
 
 struct gerfmuod_team {
     gerfmuod_graph graph;
@@ -34,17 +24,10 @@ struct gerfmuod_team {
     struct profile *profile; /* NULL unless the team records */
 };
 
-/* Retries the lock, and blocks in the end. With more threads than processors the one that holds it may not be running, and a
- * thread that retries would keep it from that: so a thread remembers how it was when it last contended for a lock. */
+/* A thread remembers whether there were more threads than processors when it last waited for a lock. */
 static NOINLINE void acquire_contended(gerfmuod_team *team) {
     static __thread bool is_crowded;
-    bool has_lock = false;
-    for (uint32_t tries = is_crowded ? 0 : TRIES, pauses = FIRST_PAUSES; tries > 0 && !has_lock; tries--) {
-        pause_for(pauses);
-        has_lock = !pthread_mutex_trylock(&team->lock);
-        if (pauses < MOST_PAUSES) pauses *= 2;
-    }
-    if (!has_lock) pthread_mutex_lock(&team->lock);
+    acquire_after_pauses(&team->lock, is_crowded);
     is_crowded = team->threads > team->processors;
 }
 
@@ -72,15 +55,6 @@ static gerfmuod_graph_result ask_alone(gerfmuod_team *team, uint32_t call, uint3
     gerfmuod_graph_result answer = ask(team, call, first, 0);
     release(team);
     return answer;
-}
-
-static uint32_t processors(void) {
-#ifdef __linux__
-    cpu_set_t set;
-    if (sched_getaffinity(0, sizeof set, &set) == 0) return (uint32_t)CPU_COUNT(&set);
-#endif
-    long online = sysconf(_SC_NPROCESSORS_ONLN);
-    return online > 0 ? (uint32_t)online : 1;
 }
 
 static uint32_t open_team(gerfmuod_team **opened, bool is_traced) {
@@ -172,16 +146,9 @@ uint32_t gerfmuod_team_release(gerfmuod_team *team, uint32_t task) { return ask_
 /* Releases the lock, pauses, and takes it when it is free, or when no pauses are left. Returns how many are. */
 static uint32_t spin(gerfmuod_team *team, uint32_t polls) {
     release(team);
-    while (polls > 0) {
-        uint32_t pauses = SPINS - polls + FIRST_POLL; /* as many as there were, and the first ones */
-        if (pauses > MOST_POLL) pauses = MOST_POLL;
-        if (pauses > polls) pauses = polls;
-        pause_for(pauses);
-        polls -= pauses;
-        if (!pthread_mutex_trylock(&team->lock)) return polls;
-    }
-    acquire(team);
-    return 0;
+    polls = poll_lock(&team->lock, polls);
+    if (!polls) acquire(team);
+    return polls;
 }
 
 gerfmuod_graph_result gerfmuod_team_turn(gerfmuod_team *team, uint32_t done) {

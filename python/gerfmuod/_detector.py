@@ -134,16 +134,13 @@ class Detector:
     @property
     def epoch(self) -> int:
         """The number of epochs that ended here."""
-        return self._read("epoch")
+        with self._lock:
+            return int(library.gerfmuod_process_epoch(self._process))
 
     def __str__(self) -> str:
-        """Returns a line for a program that hangs: its open work, its counts, and the newest wave that came here."""
-        pending, sent, received, wave = map(self._read, ("pending", "sent", "received", "wave"))
-        return f"epoch {self.epoch}: {pending} pieces of work open, {sent} messages sent, {received} received, wave {wave}"
-
-    def _read(self, name: str) -> int:
+        """Returns a line for a program that hangs: its open work, its counts, the newest wave, and what it waits for."""
         with self._lock:
-            return int(getattr(library, f"gerfmuod_process_{name}")(self._process))
+            return bytes(library.gerfmuod_process_text(self._process)).decode()
 
     def _call(self, name: str, *arguments: int) -> None:
         with self._lock:

@@ -86,7 +86,8 @@ def _declare(library: ctypes.CDLL) -> ctypes.CDLL:
         "gerfmuod_process_take": (u32, [process, control]),
         "gerfmuod_process_next": (u32, [process, control]),
         "gerfmuod_process_reopen": (u32, [process]),
-        **{f"gerfmuod_process_{name}": (u64, [process]) for name in ("epoch", "pending", "sent", "received", "wave")},
+        "gerfmuod_process_epoch": (u64, [process]),
+        "gerfmuod_process_text": (ctypes.c_char_p, [process]),
         "fdopen": (ctypes.c_void_p, [ctypes.c_int, ctypes.c_char_p]),  # of the C library
         "fclose": (ctypes.c_int, [ctypes.c_void_p]),
     }

@@ -89,7 +89,8 @@ class Misuse(unittest.TestCase):
         detector.finish()
         self.refused("NoWork", detector.sent)
         self.refused("NoWork", detector.add)
-        self.assertEqual(str(detector), "epoch 0: 0 pieces of work open, 0 messages sent, 0 received, wave 0")
+        self.assertEqual(str(detector), "process 0 of 2, epoch 0: 0 pieces of work open, 0 messages sent, 0 received, wave 0; "
+                                        "gerfmuod_process_next is due, which has a control message for process 1")
 
     def test_a_piece_of_work_that_raises_is_finished(self):
         detector = Detector(0, 1, lambda to, control: None)

@@ -14,6 +14,7 @@ import tempfile
 import threading
 import time
 import unittest
+import unittest.mock
 import weakref
 
 from gerfmuod import Pool, Refused, Task, read, update, write
@@ -136,6 +137,13 @@ class Order(Case):
             pool.task(ended.append, number, priority=number)
         pool.run(1)
         self.assertEqual(ended, [0, 1, 2, 3])
+
+    def test_the_default_is_a_thread_for_each_processor(self):
+        barrier, pool = threading.Barrier(3), Pool()
+        for _ in range(3):
+            pool.task(barrier.wait, 60)
+        with unittest.mock.patch("gerfmuod._pool._processors", lambda: 3):
+            pool.run()
 
     def test_tasks_run_on_several_threads(self):
         pool, meeting = Pool(), threading.Barrier(3)

@@ -61,8 +61,7 @@ class Browser:
     def receive(self):
         """Returns the next message of the browser."""
         while b"\0" not in self.rest:
-            read = self.source.read1(1 << 16)
-            if not read:
+            if not (read := self.source.read1(1 << 16)):
                 raise EOFError("Chromium has ended")
             self.rest += read
         text, _, self.rest = self.rest.partition(b"\0")

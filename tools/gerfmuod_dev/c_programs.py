@@ -137,8 +137,7 @@ def run_kind(tally, build, program, kind):
     if options and own and not build.can_link(*options):
         tally.skips(program.source, f"{C[0]} with {options[0]}")
         return
-    path = build.compiled(tally, program, *options) if own or small else None
-    if not path:
+    if not (path := build.compiled(tally, program, *options) if own or small else None):
         return
     for run in own:
         judge(tally, [path, *run.arguments], run)
@@ -153,8 +152,7 @@ def run_kind(tally, build, program, kind):
 def run_programs(tally, build, own):
     """Compiles those of the programs whose libraries are here, and does their runs; skips the others, once for each library."""
     for option, package in PACKAGES.items():
-        lacking = [program for program in own if option in program.options and not build.can_link(option)]
-        if lacking:
+        if lacking := [program for program in own if option in program.options and not build.can_link(option)]:
             tally.skips(f"{len(lacking)} programs, such as {lacking[0].source}", package)
         own = [program for program in own if program not in lacking]
     for program in own:

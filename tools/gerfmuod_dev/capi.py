@@ -3,8 +3,8 @@
 First each compiler on this machine checks the headers as C99, C11, C++98 to C++17, with and without ThreadSanitizer, and the
 programs in C and C++, with all warnings on. If lib/libgerfmuod.a is there and was built from these sources (`make lib` builds it), it
 compares the names that the archive and the shared object define with what the headers declare. Then it runs the programs of the
-first part of tools/data/capi.json. The table that damages.c prints is compared with docs/OTHER-RUNTIMES.md, whose first program
-runs, too. The programs of capi/mpi run if mpicc and mpirun are installed. It skips what is not installed, and counts that.
+first part of tools/data/capi.json. The table that damages.c prints is compared with docs/OTHER-RUNTIMES.md. The programs of capi/mpi
+run if mpicc and mpirun are installed. It skips what is not installed, and counts that.
 
 With --full only the fuzz runs, in its long form. With --bench it runs no program, but measures and prints what a step costs:
 instructions, which valgrind counts at two numbers of steps, memory, nanoseconds, locks, and the depth of the stack.
@@ -14,9 +14,9 @@ import shutil
 import sys
 
 from . import library, mpi, repository, shared_object
-from .c_programs import Build, Program, Run, check_sources, judge, output_of, programs, run_programs, start
+from .c_programs import Build, Program, check_sources, output_of, programs, run_programs, start
 from .repository import text_of
-from .running import Tally, instructions, write
+from .running import Tally, instructions
 
 STEPS = 999_999
 PAGE = "docs/OTHER-RUNTIMES.md"
@@ -35,13 +35,11 @@ def check_symbols(tally):
 
 
 def check_page(tally, build):
-    """Compares the table that damages.c prints with that of the page, and runs the page's program."""
+    """Compares the table that damages.c prints with that of the page."""
     path = build.compiled(tally, Program("examples/damages.c"))
     table = start([path]).out.decode() if path else ""
     tally.judge(table and table in text_of(PAGE), f"damages.c fails, or {PAGE} has another table than\n{table}")
-    source = write(f"{build.folder}/first.c", re.search(r"^```c\n(#include .*?)^```$", text_of(PAGE), re.S | re.M)[1])
-    judge(tally, [build.compiled(tally, Program(source))], Run([], 0, "Ok: the call was not refused"))
-    print(f"{PAGE}: its table, which damages.c prints, and its program")
+    print(f"{PAGE}: its table, which damages.c prints")
 
 
 def bench(build):

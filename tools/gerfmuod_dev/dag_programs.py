@@ -77,8 +77,7 @@ def run_profiles(tally, build, is_full):
     check_texts(tally, build, folder)
     count = check_profiles(tally, folder)
     for program, options, arguments_of, output in own:
-        path = build.compiled(tally, program, *options) if build.can_link(*options) else None
-        if path:
+        if path := build.compiled(tally, program, *options) if build.can_link(*options) else None:
             judge(tally, [path, *arguments_of], Run([], 0, output))
             count += check_profiles(tally, folder)
     tally.judge(count >= 2 * PROFILED, f"only {count} profiles were checked")
@@ -96,8 +95,7 @@ def run_python(tally, build, counts):
     over_mpi = [row for row in rows if row[2].startswith("mpirun")]
     rows = [[*about, re.sub("-n [0-9]+", f"-n {count}", line), output] for count in counts for *about, line, output in over_mpi] or rows
     for modules, packages, line, output in rows:
-        python = next((python for python in filter(None, pythons) if succeeds([python, "-c", f"import {modules}"])), None)
-        if not python:
+        if not (python := next((python for python in filter(None, pythons) if succeeds([python, "-c", f"import {modules}"])), None)):
             tally.skips(line, packages)
         elif tally.has(line.split()[0], line):
             judge(tally, re.sub(r"python3(?= )", python, line).split(), Run([], 0, output), env=environment)

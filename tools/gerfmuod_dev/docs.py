@@ -1,38 +1,29 @@
 """Compares the documents with the code and with each other.
 
 - each relative link of README.md, CONTRIBUTING.md, CHANGELOG.md, bench/README.md and docs leads to a file, and to a heading if it
-  names one; each path of the repository, each subcommand of `tools/dev` and each target of `make` that a document names exists
-- a line has at most 120 columns, except in tables, in code, and with a link; README.md has at most 130 lines
-- each block of code in RUNNING-A-POOL.md, PROVING-A-POOL.md and YOUR-BODIES.md is part of the file that the line above it names
-- a count in a document, such as `23<!-- files crates/gerfmuod/proofs/**/Proof.antt -->`, is the number of these files
+  names one; each block of code is part of the file in a folder that the line above it names; in the guides each names one
+- the rows `sources` of tools/data/statements.json: a page has a text, in which {} is what the line of sh behind it prints, which has to
+  succeed. They compare constants and formulas, and find names of paths, commands, calls and refusals that are not there, long lines, and
+  atomic operations: all shared state is behind locks. (The rows `built` are a part of `tools/dev package`)
 - the table of docs/ARCHITECTURE.md has the groups of crates.txt, and the plots are drawn from what is stored (`tools/dev plot`)
 - the contracts, the tests, the mutants and the calls that documents cite are in the code (proved.py)
-- the runtime and the library's C code use no atomic operation: all shared state is behind locks
 """
 import glob
+import json
 import os
 import re
 from urllib.parse import unquote
 
-from . import plots, proved
+from . import plots, proved, running
 from .bench import figures
 from .repository import text_of
 
 GUIDE = "docs/RUNNING-A-POOL.md", "docs/PROVING-A-POOL.md", "docs/YOUR-BODIES.md"
-# what documents name that is of its day, of the toolchain, or written by a build
-OF_ITS_DAY, ELSEWHERE = "CHANGELOG.md", ("docs/ANSWERS.md", "crates/*/out")
+OF_ITS_DAY = "CHANGELOG.md"
 BLOCK = re.compile(r"(?:`([^`\n]+)`:\n\n)?```(\w+)\n(.*?\n)```\n", re.S)
 CODE = re.compile(r"^ *```.*?^ *```[^\n]*$|`[^`\n]*`", re.S | re.M)
 LINK = re.compile(r'\]\(<?([^()\s>]+)>?(?:\s+"[^"]*")?\)|^ *\[[^\]\n]+\]: *(\S+)|\b(?:src|srcset|href)="([^"]+)"', re.M)
 URL = re.compile(r"[a-z][a-z0-9+.-]*:|//", re.I)
-# a path of the repository, unless it has NAME or CRATE for any name
-NAMED = re.compile(r"`((?:crates|capi|docs|tools|python|bench)/(?:(?!NAME|CRATE)[\w./*-])+)`", re.A)
-COUNT = re.compile(r"(\d+)<!-- files (\S+) -->")
-GENERATED, FENCED, OTHERS = r"<!-- bench \w+ -->\n.*?<!-- end of bench -->", r"^ *```.*?^ *```[^\n]*$", r"^(?:\||    |[^\n]*\]\()[^\n]*$"
-NOT_PROSE = re.compile(f"{GENERATED}|{FENCED}|{OTHERS}", re.S | re.M)
-MOST_COLUMNS, MOST_LINES = 120, 130
-ATOMIC = re.compile(r"\bsync::atomic\b|\batomic::|\bAtomic[A-Z]\w*|__atomic\w*|__sync_\w+|\b_Atomic\b|\bstdatomic\b|\batomic_\w+")
-COMMENT = re.compile(r"/\*.*?\*/|//[^\n]*", re.S)
 
 
 def documents():
@@ -62,59 +53,43 @@ def dead_links(path):
     return [link for link in links if not URL.match(link) and not exists(path, link)]
 
 
-def unknown_names(text, subcommands):
-    targets = set(re.findall(r"^([a-z]+):", text_of("Makefile"), re.M))
-    commands = set(re.findall(r"tools/dev ([a-z][a-z-]*)", text)) - subcommands
-    commands |= set(re.findall(r"(?:`|^    )make ([a-z]+)", text, re.M)) - targets
-    paths = {path for path in NAMED.findall(text) if not glob.glob(path)}
-    return sorted({*commands, *paths}.difference(ELSEWHERE))
-
-
-def wide_lines(text):
-    prose = NOT_PROSE.sub(lambda found: "\n" * found[0].count("\n"), text)
-    return [number for number, line in enumerate(prose.split("\n"), 1) if len(line) > MOST_COLUMNS]
-
-
-def wrong_counts(text):
-    return [pattern for number, pattern in COUNT.findall(text) if len(glob.glob(pattern, recursive=True)) != int(number)]
-
-
-def unknown_blocks(text):
-    """Returns the first lines of the blocks of a page of the guide that are not in the files that it names."""
+def unknown_blocks(text, is_guide=True):
+    """Returns the first lines of the blocks of a page that are not in the files that it names; one of a guide has to name a file."""
     blocks = [block.groups() for block in BLOCK.finditer(text)]
-    return [code.split("\n")[0] for path, kind, code in blocks if (path or kind != "text") and not (path and code in text_of(path, ""))]
+    named = [(path, code) for path, kind, code in blocks if "/" in (path or "") or is_guide and (path or kind != "text")]
+    return [code.split("\n")[0] for path, code in named if not (path and code in text_of(path, ""))]
 
 
-def check_documents(tally, subcommands):
+def check_statements(tally, kind):
+    """Judges the rows of a kind: a page, a text, a line of sh, and what has to be installed for that; the last two may be left out."""
+    table = json.loads(text_of("tools/data/statements.json"))
+    for page, text, *more in table[kind]:
+        line, needed = (*more, "", "")[:2]
+        if needed and not tally.has(needed, f"{page}: {text}"):
+            continue
+        result = running.run(["sh", "-ec", table["first"] + line])
+        text = text.replace("{}", result.out.decode().strip())
+        is_there = " ".join(text.split()) in " ".join(text_of(page).split())
+        reason = f"{line}: {running.short(result.out)}, {result.description(2000)}"
+        tally.judge(is_there and not result.status, f"{page}{'' if is_there else f' lacks {text!r}'}: {reason}")
+
+
+def check_documents(tally):
     for path in documents():
         text = text_of(path)
         faults = {
             "there is no": dead_links(path),
-            "nothing has the name": [] if path == OF_ITS_DAY else unknown_names(text, subcommands),
-            "another number of files": wrong_counts(text),
-            f"over {MOST_COLUMNS} columns: line": wide_lines(text),
-            "not in the code:": unknown_blocks(text) if path in GUIDE else [],
+            "not in the code:": unknown_blocks(text, path in GUIDE),
         }
         for fault, places in faults.items():
             tally.judge(not places, f"{path}: {fault} {', '.join(map(str, places))}")
-    lines = text_of("README.md").count("\n")
-    tally.judge(lines <= MOST_LINES, f"README.md: {lines} lines, of at most {MOST_LINES}")
     print(f"{len(documents())} documents")
-
-
-def check_atomics(tally):
-    runtime = [path for path in glob.glob("crates/*/src/**/*.rt", recursive=True) if not path.startswith("crates/test_")]
-    library = [path for path in glob.glob("capi/[is]*/**", recursive=True) if path.endswith((".c", ".h", ".hpp"))]
-    for path in runtime + library:
-        found = [use[0] for use in ATOMIC.finditer(COMMENT.sub("", text_of(path)))]
-        tally.judge(not found, f"{path}: {', '.join(found)}: shared state has to be behind a lock")
-    print(f"{len(runtime)} files of the runtime and {len(library)} of the library's C code: no atomic operation")
 
 
 def run(options):
     tally = options.tally
-    check_documents(tally, set(options.subcommands))
+    check_documents(tally)
+    check_statements(tally, "sources")
     plots.check_map(tally)
     plots.check(tally, [name for name in plots.PLOTS if name not in figures.PLOTS])
     proved.check(tally)
-    check_atomics(tally)

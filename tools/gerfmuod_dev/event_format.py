@@ -76,8 +76,7 @@ def field_faults(event):
     keys, arguments = event.keys() - {"ph"}, event.get("args")
     if not required <= keys <= required | possible:
         yield f"missing {sorted(required - keys)}, unknown {sorted(keys - required - possible)}: {event}"
-    invalid = [key for key in keys & VALID.keys() if not VALID[key](event[key])]
-    if invalid:
+    if invalid := [key for key in keys & VALID.keys() if not VALID[key](event[key])]:
         yield f"{invalid} not valid: {event}"
     if event["ph"] == "C" and not (isinstance(arguments, dict) and arguments and all(map(is_time, arguments.values()))):
         yield f"a counter without numbers: {event}"

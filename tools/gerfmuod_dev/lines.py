@@ -28,8 +28,7 @@ ROW = "{:<14}" + "{:>13,}" * (len(KINDS) + 1)
 def lines_of(crate):
     counts = dict.fromkeys(KINDS, 0)
     for path in repository.files_in(f"crates/{crate}"):
-        kind = next((kind for kind, pattern in KINDS.items() if re.match(pattern, path.split("/", 2)[2])), None)
-        if kind:
+        if kind := next((kind for kind, pattern in KINDS.items() if re.match(pattern, path.split("/", 2)[2])), None):
             is_test = crate.startswith("test_") and kind not in ("mutants", "data")
             counts["tests" if is_test else kind] += text_of(path).count("\n")
     return counts

@@ -98,8 +98,7 @@ def mutants_of(crate):
     folder = f"crates/{crate}/must-fail"
     edits = [path for path in files_in(folder) if path.endswith(".edit")]
     mutants = [parse_edit(path[len(folder) + 1:-len(".edit")], text_of(path)) for path in edits] + [*file_of(crate).mutants]
-    twice = [name for name, count in collections.Counter(mutant.name for mutant in mutants).items() if count > 1]
-    if twice:
+    if twice := [name for name, count in collections.Counter(mutant.name for mutant in mutants).items() if count > 1]:
         raise Fault(f"{crate}: two mutants have one name: {' '.join(twice)}")
     return {mutant.name: mutant for mutant in mutants}
 

@@ -95,8 +95,7 @@ def killer_of(crate, message):
         return ""
     proof = re.search(r"\./proofs/(\S+)/\w+\.antt:\d+:\d+: \w+: (?:.* depend on )?`([^`]+)`", message)
     # (the prover's line may be cut off)
-    place = proof or re.search(r"(src/\S+\.rt):\d+:\d+: .*\(`([^`]+)", message)
-    if not place:
+    if not (place := proof or re.search(r"(src/\S+\.rt):\d+:\d+: .*\(`([^`]+)", message)):
         return re.sub(r"^refused, as it must be:? ?", "", message)
     goals = goals_with(place[2], text_of(f"crates/{crate}/proofs/{place[1]}/Answers.antt", "")) if proof else []
     return ", ".join([place[1], place[2]] + ([] if place[2] in goals else [f"for {goal}" for goal in goals]))
@@ -141,8 +140,7 @@ class Verdicts:
 
     def record(self):
         killers = {name: killer_of(self.crate.name, message) for name, message in self.messages.items()}
-        is_well = not self.left and all(killers.values())
-        if is_well:
+        if is_well := not self.left and all(killers.values()):
             mutant_files.write(self.crate.name, killers, {"of": digest(self.crate), "by": toolchain(), "on": f"{datetime.date.today()}"})
         result = f"{len(self.keys)} mutants killed" if is_well else "NOT EACH of its mutants was killed by a clause"
         print(f"{self.crate.name}: {result}", flush=True)
@@ -235,8 +233,7 @@ def run(options):
         return print_stale(options.tally, crates)
     wanted = list(dict.fromkeys(options.redigest or options.names))
     faults = [f"no mutants: {name}" for name in wanted if name not in crates or not faults_of(name) and not mutants_of(name)]
-    faults = faults or [fault for name in wanted or crates for fault in faults_of(name)]
-    if faults:
+    if faults := faults or [fault for name in wanted or crates for fault in faults_of(name)]:
         print("\n".join(faults))
         return 1
     having = [crate for crate in crates.values() if mutants_of(crate.name)]

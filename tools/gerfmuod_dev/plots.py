@@ -161,7 +161,6 @@ def arguments(parser):
 
 
 def run(options):
-    unknown = [name for name in options.names if name not in PLOTS]
-    if unknown:
+    if unknown := [name for name in options.names if name not in PLOTS]:
         options.parser.error(f"no plot: {' '.join(unknown)}")
     return 1 if write(options.names or PLOTS) else 0

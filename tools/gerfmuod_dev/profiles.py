@@ -79,6 +79,8 @@ def run_faults(profile, case, text):
         yield f"the counters end at {last}, the bodies are {bodies}"
     if (about["bodies"], about["lost_bodies"], len(slices)) != (count, 0, count):
         yield f"{len(slices)} slices, and the file says {about}"
+    if nanoseconds(about["bodies_us"]) != sum(nanoseconds(event["dur"]) for event in slices):
+        yield f"the bodies took {about['bodies_us']} us by the file, and another time by their slices"
     tasks = collections.Counter(event.get("args", {}).get("task") for event in slices)
     if case.has_numbers and tasks != dict.fromkeys(range(case.tasks), case.times):
         yield f"the tasks are {tasks}"

@@ -51,8 +51,7 @@ def run(options):
         runs += 1
         pool, (nodes, workers) = generator.choice(POOLS), (8, 8) if runs % 2 else (generator.randint(1, 8), generator.randint(1, 8))
         run_of_pool = [pool, "--nodes", str(nodes), "--workers", str(workers)]
-        fault = fault_of(options.tp, run_of_pool, expected[pool])
-        if fault:
+        if fault := fault_of(options.tp, run_of_pool, expected[pool]):
             print(f"run {runs}, {' '.join(run_of_pool)}: {fault}", file=sys.stderr)
             return 1
     print(f"{runs} runs, all alike, and each trace sound and ended")

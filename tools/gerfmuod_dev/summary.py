@@ -19,8 +19,7 @@ Row = collections.namedtuple("Row", "name tasks parts time")
 
 def rows_of_slices(profile, elapsed):
     about, processes, time = profile.about, profile.processes, elapsed
-    is_by_node = "workers" in about
-    if is_by_node:
+    if is_by_node := "workers" in about:
         time *= about["workers"] * about["nodes"] / max(1, len(processes))
         names = {(pid, 0): name for pid, name in processes.items()}
     else:
@@ -65,8 +64,7 @@ def arguments(parser):
 def run(options):
     try:
         text = text_of(options.file)
-        found = event_format.faults(text, has_one_clock=False)
-        if found:
+        if found := event_format.faults(text, has_one_clock=False):
             sys.exit(f"{options.file}: {found[0]}")
         print("\n".join(summary(text)))
     except (OSError, UnicodeError, LookupError, TypeError) as error:

@@ -1,11 +1,9 @@
 """Tests of the checks of documents and of the manual, by pytest: that each finds the fault that it is for."""
-import os
 import re
 
 import pytest
 
 from . import cli, contracts, docs, plots, proved, repository, running, shared_object
-from .shipping import package
 
 CODE = repository.text_of(f"{repository.TOP}/tools/data/tests/code")
 
@@ -28,11 +26,9 @@ def test_citations_are_compared_with_the_code():
 
 
 def test_faults_of_documents_are_found():
-    assert docs.unknown_names("`make test` `make tea`, tools/dev docs, tools/dev tea, `docs/TEA.md`", {"docs"}) == ["docs/TEA.md", "tea"]
-    wide = "x" * 121
-    assert docs.wide_lines(f"a\n{wide}\n| {wide}\n```text\n{wide}\n```\n    {wide}\n[{wide}](a)\n{wide}") == [2, 9]
-    assert docs.wrong_counts("1<!-- files Makefile --> 2<!-- files crates.txt -->") == ["crates.txt"]
-    assert docs.unknown_blocks("`crates/chain/src/main.rt`:\n\n```rust\nno such line\n```\n") == ["no such line"]
+    block = "```rust\nno such line\n```\n"
+    assert docs.unknown_blocks(f"`crates/chain/src/main.rt`:\n\n{block}", False) == docs.unknown_blocks(block) == ["no such line"]
+    assert docs.unknown_blocks(f"`tree.c`:\n\n{block}{block}", False) == []
     assert docs.headings_of("# A b\n## `C`, d\n# A b\n") == {"a-b", "c-d", "a-b-1"}
     assert [docs.exists("docs/GATE.md", link) for link in ("#the-gate", "#tea", "TEA.md")] == [True, False, False]
 
@@ -42,20 +38,21 @@ def test_dead_links_are_found(tmp_path):
     assert docs.dead_links(page) == ["page.md#b", "no.md", "no-file"]
 
 
-def test_the_readme_names_each_module():
-    modules = {os.path.splitext(name)[0] for name in os.listdir("tools/gerfmuod_dev") if not name.startswith("__")}
-    assert {*re.findall(r"`([a-z_]+)`", repository.text_of("tools/README.md"))} - {"gerfmuod_dev"} == modules
+def test_wrong_statements_are_found(monkeypatch):
+    rows = [["# {}", "echo make"], ["no such text"], ["", "exit 3"], ["{}", "echo no such text"]]
+    monkeypatch.setattr(docs.json, "loads", lambda _: {"first": "", "own": [["Makefile", *row] for row in rows]})
+    docs.check_statements(tally := running.Tally(), "own")
+    assert (tally.passed, tally.failed) == (1, 3)
 
 
-def test_options_of_commands_in_documents_are_accepted():
-    form = re.compile(r"`tools/dev ([a-z][^`]* --(?!help)[^`]*)`|^    tools/dev ([a-z].*? --(?!help).*?)(?:  .*)?$", re.M)
+def test_commands_in_documents_are_accepted():
+    form = re.compile(r"`tools/dev ([a-z-]+\s(?!NAME|--help)[^`]*)`|^    tools/dev ([a-z-]+ .*?)(?:  .*)?$", re.M)
     for path in (path for path in docs.documents() if path != docs.OF_ITS_DAY):
         for command in form.findall(repository.text_of(path)):
             assert cli.parser_of_all().parse_args("".join(command).split())
 
 
 @pytest.mark.parametrize("check, path, old, new", [
-    (package.check_version, "python/pyproject.toml", "version = ", "# version = "),
     (plots.check_map, plots.PAGE, "| tp_core |", "| tp_cores |"),
     (proved.check_memory, proved.OUT_OF_MEMORY, "`tp_base::Table::insert`", ""),
     (proved.check_names, "docs/TOUR.md", "`takes_sums_twice`", "`no_such_mutant`"),

@@ -8,7 +8,8 @@ import sys
 
 import pytest
 
-from . import checks, contracts, event_format, mutant_files, mutants, pages, plots, repository, running, summary, together, tries
+from . import checks, contracts, event_format, mutant_files, mutants, new_pool, pages, plots, repository, running, summary, together
+from . import tries, visible
 from .limits import memory, second_model, terminal, texts
 
 EVENTS = {"0-draw-a-run-as-events", "0-draw-two-generations-as-events", "0-draw-a-run-that-has-not-ended-as-events"}
@@ -120,6 +121,22 @@ def test_a_missing_toolchain_is_named_in_one_line(command, tmp_path):
         os.symlink(shutil.which(name), tmp_path / name)
     result = running.run([sys.executable, "tools/dev", *command.split()], env={"PATH": str(tmp_path)})
     assert result.status == 1 and re.fullmatch(rb"rt is not on the path: .*README.md.*\n", result.err), result
+
+
+@pytest.mark.parametrize("kind", new_pool.KINDS)
+def test_a_new_pool_imports_what_it_has(kind, tmp_path, monkeypatch):
+    monkeypatch.setattr(new_pool, "keep", lambda *_: None)
+    monkeypatch.setattr(new_pool.subprocess, "run", lambda *_, **__: None)
+    counts = [new_pool.create(str(tmp_path), name, kind) for name in ("mine", "two")]
+    assert counts[0] == counts[1] and all(new_pool.fault_of(str(tmp_path), name) for name in ("mine", "two", "data"))
+    assert new_pool.fault_of(".", "three")
+    for path in repository.files_in(f"{tmp_path}/crates/mine"):
+        text = visible.one_a_line(repository.text_of(path))
+        assert all(os.path.exists(f"{tmp_path}/crates/mine/src/{name}.rt") for name in re.findall(r"^mod (\w+);", text, re.M)), path
+        for crate, file, name in re.findall(r"\bRattle\.(\w+)\.((?:specs|proofs)\.[A-Z]\w+)\.\{([^}]*)\}", text):
+            own, of_crate = (repository.text_of(f"{tmp_path}/crates/{of}/{file.replace('.', '/')}.antt", "") for of in ("mine", crate))
+            is_known = crate not in (*repository.crates(), "mine") or name in of_crate.split()
+            assert is_known and (crate == "mine" or not own), (path, crate, file, name)
 
 
 def test_compilers_and_options_are_those_of_the_environment():

@@ -113,7 +113,7 @@ enum {
     GERFMUOD_EVENT_NOT_ENDED = 2,  /* the sums of the last two waves do not show termination */
     GERFMUOD_EVENT_ENDED = 3,      /* the pool had terminated when the wave of this number ended */
     GERFMUOD_EVENT_REOPENED = 4,   /* the generation of this number begins */
-    GERFMUOD_EVENT_QUIET = 5       /* it was the end of the last thing that was left: gerfmuod_core_settle detects the end now */
+    GERFMUOD_EVENT_QUIET = 5       /* this step ended the last outstanding work: gerfmuod_core_settle detects the end now */
 };
 
 /* What makes a step, for the calls whose names end in _by. */

@@ -69,6 +69,7 @@ class Detector {
     // Begins the next epoch, after ended() returned true, with one piece of work open. Throws Refused: NotEnded, CountFull.
     void reopen() { check(gerfmuod_process_reopen(&process)); }
 
+    // The state. gerfmuod_process_text(&detector.state()) says what the process waits for, if the program hangs.
     const gerfmuod_process &state() const { return process; }
 
   private:

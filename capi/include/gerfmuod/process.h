@@ -203,6 +203,10 @@ uint64_t gerfmuod_process_sent(const gerfmuod_process *process);
 uint64_t gerfmuod_process_received(const gerfmuod_process *process);
 uint64_t gerfmuod_process_wave(const gerfmuod_process *process);
 
+/* Returns a line for a program that hangs: the number and the counts of the process, and what it waits for, or that a call of
+ * gerfmuod_process_next is due. It is valid until this thread calls gerfmuod_process_text again. Tested, not proved. */
+const char *gerfmuod_process_text(const gerfmuod_process *process);
+
 /* With ThreadSanitizer, each call above first reports that it reads or writes the process. */
 #if defined(__SANITIZE_THREAD__)
 #include "tsan.h"

@@ -89,6 +89,7 @@ GERFMUOD_TSAN(uint64_t, READ, process_pending, (const gerfmuod_process *process)
 GERFMUOD_TSAN(uint64_t, READ, process_sent, (const gerfmuod_process *process), (process))
 GERFMUOD_TSAN(uint64_t, READ, process_received, (const gerfmuod_process *process), (process))
 GERFMUOD_TSAN(uint64_t, READ, process_wave, (const gerfmuod_process *process), (process))
+GERFMUOD_TSAN(const char *, READ, process_text, (const gerfmuod_process *process), (process))
 
 #define gerfmuod_process_init gerfmuod_tsan_process_init
 #define gerfmuod_process_add_work gerfmuod_tsan_process_add_work
@@ -108,6 +109,7 @@ GERFMUOD_TSAN(uint64_t, READ, process_wave, (const gerfmuod_process *process), (
 #define gerfmuod_process_sent gerfmuod_tsan_process_sent
 #define gerfmuod_process_received gerfmuod_tsan_process_received
 #define gerfmuod_process_wave gerfmuod_tsan_process_wave
+#define gerfmuod_process_text gerfmuod_tsan_process_text
 #undef GERFMUOD_TSAN_READ
 #undef GERFMUOD_TSAN_WRITE
 #endif

@@ -1,68 +1,118 @@
-/* unlocked.c: two threads make calls on one core and one process, one of them with or without the mutex that protects both.
+/* unlocked.c: two threads make a call each on one core or process, with or without the mutex that protects it.
  *
- *   unlocked step|settle|read|work|fields [unlocked]     built with -fsanitize=thread
+ *   unlocked CALL.. [unlocked]     built with -fsanitize=thread
  *
- * ThreadSanitizer reports the missing mutex as a data race, although the library is compiled without it: see gerfmuod/tsan.h.
- * The threads take turns by a counter that orders nothing else, so their calls never overlap, and nothing else is wrong. */
+ * ThreadSanitizer reports the missing mutex as a data race, although the library is compiled without it: see gerfmuod/tsan.h. A call that
+ * writes meets one that only reads, and a call that only reads one that writes, so that each has to be reported as what it is. The second
+ * thread waits for a counter that orders nothing else, so the calls never overlap, and nothing else is wrong. */
 #include <gerfmuod/core.h>
 #include <gerfmuod/process.h>
 #include <pthread.h>
 #include <stdio.h>
 #include <string.h>
 
-enum { TURNS = 1000 };
-
 static gerfmuod_core core;
 static gerfmuod_process process;
+static gerfmuod_control_message message;
+static gerfmuod_step step = {GERFMUOD_STEP_READY, 0, 0, 0, 0};
+static gerfmuod_step_result result;
+static char text[99];
 static pthread_mutex_t lock = PTHREAD_MUTEX_INITIALIZER;
-static uint32_t turns;
-static uint32_t refused, quiet;
+static uint32_t calls_made;
+static volatile uint64_t returned[2]; /* so that no compiler leaves out a read */
 
-static void wait_for_turn(uint32_t own) {
-    while (__atomic_load_n(&turns, __ATOMIC_RELAXED) % 2 != own) continue;
-}
+/* The name of a call, whether it writes, and its result, which does not matter. */
+#define CALLS(X)                                                                                         \
+    X(core_open, true, gerfmuod_core_open(&core, 1))                                                     \
+    X(core_close, true, gerfmuod_core_close(&core))                                                      \
+    X(core_restart, true, gerfmuod_core_restart(&core))                                                  \
+    X(core_reserve, true, gerfmuod_core_reserve(&core, 9, 9, 9))                                         \
+    X(core_settle, true, gerfmuod_core_settle(&core).refused)                                            \
+    X(core_step, true, gerfmuod_core_step(&core, GERFMUOD_STEP_READY, 0, 0, 0, 0).refused)               \
+    X(core_steps, true, gerfmuod_core_steps(&core, &step, 1, &result, 1))                                \
+    X(core_step_by, true, gerfmuod_core_insert_by(&core, GERFMUOD_BY_OPENING, 0, 0, 1, 0).refused)       \
+    X(core_counters, false, gerfmuod_core_counters(&core, 0).pending)                                    \
+    X(core_status, false, gerfmuod_core_status(&core).steps)                                             \
+    X(core_trace, false, gerfmuod_core_trace(&core, text, sizeof text).outcome)                          \
+    X(process_init, true, gerfmuod_process_init(&process, 0, 1))                                         \
+    X(process_add_work, true, gerfmuod_process_add_work(&process))                                       \
+    X(process_finish_work, true, gerfmuod_process_finish_work(&process))                                 \
+    X(process_count_sent, true, gerfmuod_process_count_sent(&process))                                   \
+    X(process_count_received, true, gerfmuod_process_count_received(&process, 0))                        \
+    X(process_outgoing_message_start, true, gerfmuod_process_outgoing_message_start(&process))           \
+    X(process_incoming_message_start, true, gerfmuod_process_incoming_message_start(&process, 0))        \
+    X(process_incoming_message_end, true, gerfmuod_process_incoming_message_end(&process))               \
+    X(process_take, true, gerfmuod_process_take(&process, &message))                                     \
+    X(process_next, true, gerfmuod_process_next(&process, &message))                                     \
+    X(process_reopen, true, gerfmuod_process_reopen(&process))                                           \
+    X(process_is_open, false, gerfmuod_process_is_open(&process))                                        \
+    X(process_knows_end, false, gerfmuod_process_knows_end(&process))                                    \
+    X(process_epoch, false, gerfmuod_process_epoch(&process))                                            \
+    X(process_pending, false, gerfmuod_process_pending(&process))                                        \
+    X(process_sent, false, gerfmuod_process_sent(&process))                                              \
+    X(process_received, false, gerfmuod_process_received(&process))                                      \
+    X(process_wave, false, gerfmuod_process_wave(&process))                                              \
+    X(process_fields, false, process.pending) /* the program's own read of a field that the library writes */
 
-static void end_turn(void) { __atomic_fetch_add(&turns, 1, __ATOMIC_RELAXED); }
+enum call {
+#define NAME(name, writes, expression) name,
+    CALLS(NAME) COUNT
+};
+static const char *const names[] = {
+#define TEXT(name, writes, expression) #name,
+    CALLS(TEXT)
+};
+static const bool does_write[] = {
+#define WRITES(name, writes, expression) writes,
+    CALLS(WRITES)
+};
 
-/* Inserts tasks and runs them, and counts messages of the process, always with the mutex. */
-static void *report(void *unused) {
-    for (uint32_t task = 0; task < TURNS; task++) {
-        wait_for_turn(0);
-        pthread_mutex_lock(&lock);
-        refused += gerfmuod_core_insert(&core, 0, task, 0).refused != 0;
-        refused += gerfmuod_core_begin(&core, task).refused != 0;
-        refused += gerfmuod_core_done(&core, task).refused != 0;
-        refused += gerfmuod_process_count_sent(&process) != 0;
-        pthread_mutex_unlock(&lock);
-        end_turn();
+static uint64_t make(enum call call) {
+    switch (call) {
+#define CASE(name, writes, expression) \
+    case name: return expression;
+        CALLS(CASE)
+    case COUNT: break;
     }
-    return unused;
+    return 0;
 }
 
-static void call(char kind) {
-    if (kind == 's') refused += gerfmuod_core_ready(&core, 0).refused == 0; /* the opening is over */
-    else if (kind == 'q') quiet += gerfmuod_core_settle(&core).refused == 0;
-    else if (kind == 'w') refused += gerfmuod_process_add_work(&process) != 0;
-    else if (kind == 'f') quiet += process.pending != 1; /* the program's own read of a field that the library writes */
-    else quiet += gerfmuod_core_status(&core).is_quiet;
+static enum call other_of(enum call call) {
+    if (call < process_init) return does_write[call] ? core_status : core_step;
+    return does_write[call] ? process_pending : process_add_work;
+}
+
+static void *make_other(void *call) {
+    pthread_mutex_lock(&lock);
+    returned[1] = make(other_of(*(enum call *)call));
+    pthread_mutex_unlock(&lock);
+    __atomic_store_n(&calls_made, 1, __ATOMIC_RELAXED);
+    return NULL;
+}
+
+static bool try_call(enum call call, bool is_locked) {
+    pthread_t thread;
+    calls_made = 0;
+    if (gerfmuod_core_open(&core, 1) || gerfmuod_process_init(&process, 0, 1)) return false;
+    if (pthread_create(&thread, NULL, make_other, &call)) return false;
+    while (!__atomic_load_n(&calls_made, __ATOMIC_RELAXED)) continue;
+    if (is_locked) pthread_mutex_lock(&lock);
+    returned[0] = make(call);
+    if (is_locked) pthread_mutex_unlock(&lock);
+    pthread_join(thread, NULL);
+    (void)gerfmuod_core_close(&core);
+    return true;
 }
 
 int main(int argc, char **argv) {
-    pthread_t thread;
-    bool is_locked = argc == 2;
-    char kind = argc < 2 ? 0 : !strcmp(argv[1], "settle") ? 'q' : argv[1][0]; /* s, q, r, w or f */
-    if (!kind || gerfmuod_core_open(&core, 1) || gerfmuod_process_init(&process, 0, 1)) return 2;
-    if (gerfmuod_core_action_open(&core, 0, 0).refused || gerfmuod_core_ready(&core, 0).refused) return 2;
-    if (pthread_create(&thread, NULL, report, NULL)) return 2;
-    for (uint32_t k = 0; k < TURNS; k++) {
-        wait_for_turn(1);
-        if (is_locked) pthread_mutex_lock(&lock);
-        call(kind);
-        if (is_locked) pthread_mutex_unlock(&lock);
-        end_turn();
+    bool is_locked = strcmp(argv[argc - 1], "unlocked") != 0;
+    int tried = 0;
+    for (int k = 1; k < argc - !is_locked; k++) {
+        enum call call = 0;
+        while (call < COUNT && strcmp(names[call], argv[k]) != 0) call++;
+        if (call == COUNT || !try_call(call, is_locked)) return 2;
+        tried++;
     }
-    pthread_join(thread, NULL);
-    printf("%u steps, %u not as they should be\n", gerfmuod_core_status(&core).steps, refused + quiet);
-    gerfmuod_core_close(&core);
-    return refused + quiet != 0;
+    printf("%d of %d calls\n", tried, COUNT);
+    return 0;
 }

@@ -4,17 +4,18 @@
  *                                              it accesses, or calls an update a read
  *
  * The value of a handle is a number. A body reads the handles of its accesses as it begins, and writes them as it ends, and remembers a
- * sum of what it read. Half of the programs run on turns of threads that this program plays, which begin and end bodies in any order;
- * the others on a team of up to four threads, where a race is one for ThreadSanitizer. Some tasks are added in the run, by a task that
- * is the first one. The exit status is 1 at the first value or sum that differs. */
+ * sum of what it read. A third of the programs runs on turns of threads that this program plays, which begin and end bodies in any order;
+ * a third on a team of up to four threads, where a race is one for ThreadSanitizer; a third in up to six parts of up to two threads. Some
+ * tasks are added in the run, by a task that is the first one, but not in parts. The exit status is 1 at the first value or sum that
+ * differs. */
 #include "../random.h"
-#include <gerfmuod/team.h>
+#include <gerfmuod/parts.h>
 #include <stdbool.h>
 #include <stdio.h>
 #include <stdlib.h>
 #include <string.h>
 
-enum { MOST_TASKS = 48, MOST_HANDLES = 6, MOST_ACCESSES = 4, MOST_THREADS = 4 };
+enum { MOST_TASKS = 48, MOST_HANDLES = 6, MOST_ACCESSES = 4, MOST_THREADS = 4, MOST_PARTS = 6 };
 
 struct task {
     gerfmuod_access named[MOST_ACCESSES]; /* what the graph knows */
@@ -136,13 +137,34 @@ static void run(void) {
     gerfmuod_team_close(team);
 }
 
+/* ---- parts */
+static int body_in_parts(void *context, uint32_t t) {
+    (void)context;
+    begin(&found, t), end(&found, t);
+    __atomic_fetch_add(&found.ran, 1, __ATOMIC_RELAXED);
+    return 0;
+}
+
+static void run_in_parts(void) {
+    gerfmuod_parts *parts;
+    uint32_t count = 1 + below(MOST_PARTS);
+    need(!gerfmuod_parts_open(&parts, count), "open");
+    for (uint32_t h = 0, number = 1; h < handles; h++) need(!gerfmuod_parts_handle(parts, &number) && number == h, "handle");
+    for (uint32_t t = 0, number = 1; t < tasks; t++)
+        need(!gerfmuod_parts_task_on(parts, below(count), below(4), task[t].named, task[t].count, &number) && number == t, "task");
+    if (below(2)) gerfmuod_parts_bind(parts);
+    need(!gerfmuod_parts_run(parts, 1 + below(2), body_in_parts, NULL), "run");
+    gerfmuod_parts_close(parts);
+}
+
 int main(int argc, char **argv) {
     uint32_t programs = argc > 1 ? (uint32_t)atoi(argv[1]) : 1000, all = 0;
     seed = argc > 2 ? strtoull(argv[2], NULL, 10) * 2 + 1 : seed;
     fault = argc > 3 ? argv[3][0] : 0;
     for (uint32_t p = 0; p < programs; p++) {
         make_program();
-        if (p % 2 && !fault) run();
+        if (p % 3 == 1 && !fault) run();
+        else if (p % 3 == 2 && !fault) run_in_parts();
         else play();
         all += tasks;
         if (found.ran == tasks && !memcmp(found.values, expected.values, sizeof found.values) &&

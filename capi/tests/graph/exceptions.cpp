@@ -27,6 +27,23 @@ static bool sums() {
     return total == 385 && pool.size() == 11 && pool.trace().rfind("trace 1\nnodes 1\n", 0) == 0 && !pool.failed();
 }
 
+// Two bodies that run at a time throw, the second one once the first one's exception is known: run() throws the first one.
+static bool throws_the_first() {
+    Pool pool;
+    int thrown = 0;
+    Task second = pool.task([&] {
+        while (!pool.failed()) std::this_thread::yield();
+        throw 2;
+    });
+    Task first = pool.task([] { throw 1; });
+    try {
+        pool.run(2);
+    } catch (int number) {
+        thrown = number;
+    }
+    return thrown == 1 && pool.failed() == first && first != second;
+}
+
 static int calls = 0;
 static void count_call() { calls++; }
 
@@ -294,6 +311,7 @@ int main() {
         {"waits", waits},
         {"repeats", repeats},
         {"keeps_the_exception", keeps_the_exception},
+        {"throws_the_first", throws_the_first},
         {"records", records},
         {"resets", resets},
         {"ends_with_its_pool", ends_with_its_pool},

@@ -12,9 +12,9 @@ pub use Rattle.gerfmuod.specs.contracts.{answer.StepResult.the_row as result_row
 pub use Rattle.gerfmuod.specs.contracts.{part.slot.PartSlot.the_row as part_row, slot.CoreSlot.the_row as core_row}
 pub use Rattle.std.proofs.{Common.{◌≡◌, List, [], ◌∷◌, refl, ap, subst, ◌++◌, w32, MutBor, ℕ, zero, suc}, RcSteps.Good}
 pub use Rattle.std.{proofs.raw_atomic.Walks.proved, specs.contracts.alloc.Global.the_row as Z}
-pub use base.Fml.{Fml, GName, ftrue, fsep, fat, flft, flent, fres, fbor, froom}
+pub use base.Fml.{Fml, GName, Share, ftrue, fsep, fat, flft, flent, fres, fbor, froom}
 pub use base.Fraction.{full_share}
-pub use base.Logic.{SProp, ent, sep, emp, ex, id⊢}
+pub use base.Logic.{SProp, ent, sep, ex, id⊢}
 pub use borrow.Table.OneValue.{part_in}
 pub use contract.Lifetimes.{Lfts, Shares, toks, lft_at}
 pub use contract.Monad.{fact, Fun}
@@ -25,7 +25,7 @@ pub use denote.Laws.{Is, shows, Are, Ises, Spells, Tells, Tellss, valss}
 pub use denote.Lend.{lends_ref, ref_back}
 pub use denote.Memory.{mem, lone}
 pub use denote.Param.{param, layout, Laws.{Laws, param_laws, of_field}, Shared.copy_shared}
-pub use denote.Plain.{uint_Makes, uint_vals, uint_Tells, uint_Lawful}
+pub use denote.Plain.{uint_Makes, uint_vals, uint_Tells}
 pub use denote.RattleType.{RattleType, owns, Denots, Valss, flat}
 pub use denote.RawPtr.{Ptr, lies_at, RawPtr, block_ptr, in_a_block, rawptr_vals, rawptr_Tells, rawptr_Lawful, room_at}
 pub use denote.Ref.{MutRef}
@@ -33,19 +33,19 @@ pub use denote.Signature.{plain, AllWithin, Slot, type_at, types_at, shr_slice_o
 pub use denote.Slice.{shr_slice_vals, shr_slice_Tells, mut_slice_vals, mut_slice_Tells}
 pub use denote.Steps.{peeks, nothing, owned, heard}
 pub use denote.Struct.{Field.{u32-field, usize-field}, Laws.{u32-laws, u32-copy, usize-laws, usize-copy}}
-pub use denote.Triple.{Call.{calls_at, calls_from}, Clauses.{lasts, Clauses, Ended, closing}, End.{Kepts, Fins, Outs, all, outs, lasts_of}}
-pub use denote.Triple.{Spec.{triple_of, Meets}, Statement.FmF, Table.{framed, Enters, enters}, Walked.{says, Stays, walk_of, stay_dropped}}
+pub use denote.Triple.{Call.calls_from, Clauses.{Clauses, Ended, closing}, End.{Kepts, Fins, Outs, all, outs, lasts_of}, Spec.Meets}
+pub use denote.Triple.{Statement.FmF, Table.{framed, Enters, enters}, Walked.{says, Stays, walk_of, stay_dropped}}
 pub use denote.Triple.Walked.{Goes-dropped, ends_at, gave_slice, Goes-gave_slice, AllGo, fits_of, has_of, Silent}
 pub use mir.Syntax.{Ty, named, Callee, Fn, Opd, Body as Code, seq, call, assign, return, place, copy, deref, rv_opd, addr_of}
-pub use mir.Val.{Val, vint, vptr, vunit}
+pub use mir.Val.{Val, vptr, vunit}
 pub use prog.Model.{Model}
 pub use prog.Wp.{WpFn, Calls, Closed, Env, Loops, spot_of}
 pub use seplogic.Ra.Ura.{Ura}
 pub use sound.WpLaws.{FmC}
-pub use types.ByLocal.{alloc_all, pass_all, free_all, look_at, get, through, sets, lands_as, look_in_at, get_in, AllTyped, at, set, cell}
-pub use types.Kit.{Item, Seq, mean, ‵, ◌$◌, ◌∵◌, !, qed, done, rewrite, show, raw, ◌⊛◌, some, later, prop, move, keep, drop, use0, use1}
-pub use types.Kit.{use2, use3, updating, now, by, Sq, split, join, fsplit, pick, await, regoal, suffices, group, feq_i, feq_l, frame, fjoin}
-pub use types.Kit.{Post, runs, frees, at_ret, Step, step, nth, del}
+pub use types.ByLocal.{alloc_all, pass_all, free_all, look_at, get, through, sets, look_in_at, get_in, AllTyped, at, set, cell}
+pub use types.Kit.{Item, Seq, mean, ‵, ◌$◌, ◌∵◌, !, qed, done, rewrite, show, raw, ◌⊛◌, some, later, prop, move, keep, drop, use1, use2}
+pub use types.Kit.{use3, updating, now, by, Sq, split, join, fsplit, pick, await, regoal, suffices, group, feq_i, feq_l, frame, fjoin, Post}
+pub use types.Kit.{runs, frees, at_ret, Step, step, nth, del}
 pub use types.Logic.{Logic, sem}
 pub use types.Part.{whole, sub, agg}
 pub use types.Run.{enter, of_opd, addr, stop, no_more, and_then, returns, unit_lit, init, assigns, land, from, fld, hop, Opds}
@@ -148,20 +148,21 @@ module _ (R A : RattleType) {M : Type 1} {𝓤 : Ura M} (𝓛 : Logic 𝓤) (b o
   Lies P = raw (ex 𝓤 (λ (x : R.Denot). sep 𝓤 (sem 𝓛 (lies_at R full_share (block_ptr b o) x)) (fact 𝓤 (P x))))
 
   -- what the callee gives: the lifetime and the other tokens, the result, the borrow's last value, and what is left of the other parameters
-  abbrev pub Returns : {Ws : Type 0} → ℕ → GName → SProp 𝓤 → (Ws → R.Denot) → (Ws → Fml) → (A.Denot → Ws → R.Denot → Type 0) → Val → Item 𝓤
-  Returns {Ws} α γ I new Rest Told v =
-      later (some (λ (u : A.Denot). ((‵ (flft (α ∷ []) full_share) ⊛ raw I) ⊛ ‵ (A.own_val u (v ∷ []))) ⊛ some (λ (ws : Ws).
-      ‵ (fsep (fsep (fres γ (R.coded.code (new ws))) (fbor (α ∷ []) (Body (mem R) b o γ))) (Rest ws)) ⊛ raw (fact 𝓤 (Told u ws (new ws))))))
+  abbrev pub Returns : {Ws : Type 0} → List ℕ → Share → GName → SProp 𝓤 → (Ws → R.Denot) → (Ws → Fml) → (A.Denot → Ws → R.Denot → Type 0)
+      → Val → Item 𝓤
+  Returns {Ws} κ q γ I new Rest Told v =
+      later (some (λ (u : A.Denot). ((‵ (flft κ q) ⊛ raw I) ⊛ ‵ (A.own_val u (v ∷ []))) ⊛ some (λ (ws : Ws).
+      ‵ (fsep (fsep (fres γ (R.coded.code (new ws))) (fbor κ (Body (mem R) b o γ))) (Rest ws)) ⊛ raw (fact 𝓤 (Told u ws (new ws))))))
 
   module _ (laws : Laws A) {Ws : Type 0} (n : R.Denot) (I J : SProp 𝓤) (vs : List Val) (new : Ws → R.Denot) (Rest : Ws → Fml)
       (Told : A.Denot → Ws → R.Denot → Type 0) (Q : Val → SProp 𝓤)
       (ends : (u : A.Denot) (ws : Ws) (v : Val)
       → ent 𝓤 (mean 𝓛 (‵ (A.own_val u (v ∷ [])) ⊛ raw I ⊛ Lies (Told u ws) ⊛ ‵ (Rest ws))) (Q v)) where
     -- The lifetime ends, and the value is there again.
-    given_back : (α : ℕ) (γ : GName) (v : Val) (P : SProp 𝓤) → ent 𝓤 P (mean 𝓛 (Returns α γ I new Rest Told v))
+    given_back : (α : ℕ) (γ : GName) (v : Val) (P : SProp 𝓤) → ent 𝓤 P (mean 𝓛 (Returns (α ∷ []) full_share γ I new Rest Told v))
         → ent 𝓤 (sep 𝓤 P (mean 𝓛 (Claim α γ))) (Typed 𝓛 (layout A) Q v)
     given_back α γ v P is =
-        qed 𝓛 (raw P ∷ Claim α γ ∷ []) ∵ updating ! $ use1 𝓛 (Returns α γ I new Rest Told v) is $
+        qed 𝓛 (raw P ∷ Claim α γ ∷ []) ∵ updating ! $ use1 𝓛 (Returns (α ∷ []) full_share γ I new Rest Told v) is $
         await ! tt $ pick ! (λ u. split ! $ split ! $ split ! $ lft_end ! tt $
         -- [the lifetime has ended; the other tokens; the result; the callee's postcondition; the lender's claim]
         move ! (3 ∷ []) $ pick ! (λ ws. split ! $ move ! (1 ∷ []) $ heard ! _ (λ told. fsplit ! $ fsplit ! $
@@ -176,7 +177,7 @@ module _ (R A : RattleType) {M : Type 1} {𝓤 : Ura M} (𝓛 : Logic 𝓤) (b o
     -- The value is lent for a new lifetime, which ends when the callee has returned.
     pub borrows : (C : Fun 𝓤) → FmF 𝓤 C → Enters 𝓤 𝓛.H C
         → ((α : ℕ) (γ : GName) → ent 𝓤 (mean 𝓛 (((‵ (flft (α ∷ []) full_share) ⊛ raw I) ⊛ (Lent α n γ ⊛ raw J)) ⊛ ‵ ftrue))
-        (C vs (λ v. mean 𝓛 (Returns α γ I new Rest Told v))))
+        (C vs (λ v. mean 𝓛 (Returns (α ∷ []) full_share γ I new Rest Told v))))
         → ent 𝓤 (mean 𝓛 (‵ (lies_at R full_share (block_ptr b o) n) ⊛ raw J ⊛ raw I)) (C vs (Typed 𝓛 (layout A) Q))
     borrows C fm into met =
         qed 𝓛 (‵ (lies_at R full_share (block_ptr b o) n) ∷ raw J ∷ raw I ∷ []) ∵ suffices ! _ (into vs (Typed 𝓛 (layout A) Q)) $
@@ -185,7 +186,7 @@ module _ (R A : RattleType) {M : Type 1} {𝓤 : Ura M} (𝓛 : Logic 𝓤) (b o
         await ! tt $ pick ! (λ γ. split ! $
         -- [the borrow; the lender's claim; the lifetime's token; the other parameters; the other tokens]
         move ! (0 ∷ 3 ∷ []) $ join ! $ move ! (2 ∷ 3 ∷ []) $ join ! $ join ! $ nothing ! $ move ! (1 ∷ 0 ∷ []) $ join ! $
-        let given : Val → SProp 𝓤 = λ v. mean 𝓛 (Returns α γ I new Rest Told v) in
+        let given : Val → SProp 𝓤 = λ v. mean 𝓛 (Returns (α ∷ []) full_share γ I new Rest Told v) in
         use1 𝓛 (raw (C vs given)) (met α γ) $ now ! $
         by ! (fm vs given (Typed 𝓛 (layout A) Q) (mean 𝓛 (Claim α γ)) (λ v. given_back α γ v (given v) (id⊢ 𝓤 _)))))
 
@@ -198,6 +199,12 @@ cells (s ∷ ss) κs = (lone (type_at s κs).mir, 0) ∷ cells ss κs
 abbrev pub nums : {l : ℕ} → ℕ → List (Slot l)
 nums zero = []
 nums (suc k) = plain (λ _. u32) ∷ nums k
+
+-- what is picked at the contract of a callee that borrows a value of R: the lifetimes, their shares, and the arguments with their machine
+-- values
+abbrev pub Picked : {l : ℕ} → RattleType → List (Slot l) → Type 0
+Picked {l} R ss = (x : (κs : Lfts (suc l)) × Shares (suc l) × Unit {0} × (MutBor R.Denot × Denots (types_at ss κs.1))
+    × (List Val × Valss (types_at ss κs.1))) × Unit {0}
 
 module _ {M : Type 1} {𝓤 : Ura M} (𝓛 : Logic 𝓤) (l : ℕ) where
   -- What the callee leaves of the parameters is what its caller has of them at the exit.
@@ -285,23 +292,6 @@ module _ {M : Type 1} {𝓤 : Ura M} (𝓛 : Logic 𝓤) (l : ℕ) where
   numbers zero = none
   numbers (suc k) = number (numbers k)
 
-  -- nothing is had of k numbers
-  abbrev pub no_lasts : (k : ℕ) (κs : Lfts l) (a : Denots (types_at (nums k) κs)) → Fins κs (nums k) (all yes (nums k)) a
-  no_lasts zero κs a = tt
-  no_lasts (suc k) κs a = (tt, no_lasts k κs a.1)
-
-  pub no_fits : (k : ℕ) (κs : Lfts l) (a : Denots (types_at (nums k) κs))
-      → fits_of κs (nums k) (all yes (nums k)) (numbers k).stays a (no_lasts k κs a)
-  no_fits zero κs a = tt
-  no_fits (suc k) κs a = (tt, no_fits k κs a.1)
-
-  pub nothing_had : (k : ℕ) (κs : Lfts l) (a : Denots (types_at (nums k) κs)) (vs : Valss (types_at (nums k) κs))
-      → ent 𝓤 (emp 𝓤) (sem 𝓛 (has_of κs (nums k) (all yes (nums k)) (numbers k).stays a (no_lasts k κs a) vs))
-  nothing_had zero κs a vs = id⊢ 𝓤 (emp 𝓤)
-  nothing_had (suc k) κs a vs =
-      qed 𝓛 [] ∵ use0 𝓛 (‵ (has_of κs (nums k) (all yes (nums k)) (numbers k).stays a.1 (no_lasts k κs a.1) vs.1))
-      (nothing_had k κs a.1 vs.1) $ nothing ! $ fjoin ! $ done !
-
 -- a number, a slice and a number
 abbrev pub listed : {M : Type 1} {𝓤 : Ura M} (𝓛 : Logic 𝓤) (E : RattleType)
     → Passed 𝓛 1 (plain (λ _. u32) ∷ shr_slice_of (0 ∷ []) tt (plain (λ _. E)) ∷ plain (λ _. u32) ∷ []) (yes, (yes, (yes, tt)))
@@ -317,22 +307,25 @@ module _ {M : Type 1} {𝓤 : Ura M} (𝓛 : Logic 𝓤) (E : Env 𝓤 𝓛.H) (
   Made v = later (some (λ (r : R.Denot). (‵ ftrue ⊛ ‵ (R.own_val r (v ∷ [])))
       ⊛ some (λ (ws : Fins tt ss ks x). ‵ (lasts_of tt ss ks x ws) ⊛ raw (fact 𝓤 (r ≡ new)))))
 
-  -- It lands in local i.
+  abbrev Landed : Val → Fins tt ss ks x → List (Item 𝓤) → List (Item 𝓤)
+  Landed v ws Γ = ‵ (R.own_val new (v ∷ [])) ∷ ‵ (lasts_of tt ss ks x ws) ∷ Γ
+
+  -- It lands in local i, and what is left of the parameters is had.
   pub makes : {K : Type 0} {Γ : List (Item 𝓤)} → K → {C : Calls 𝓤 𝓛.H} {Λ : Loops 𝓤 𝓛.H} {q : Post 𝓤 𝓛.H} → FmC 𝓤 𝓛.H 𝓛.laws C
       → {f : Callee} {xs : List Opd} {i : ℕ} {rest : Code}
       → ent 𝓤 (mean 𝓛 ((‵ ftrue ⊛ arguments) ⊛ ‵ ftrue)) (C f (flat (types_at ss tt) (values 𝓛 0 p tt x)) (λ v. mean 𝓛 (Made v)))
       → Opds K 𝓛 (arguments ∷ Γ) E xs (flat (types_at ss tt) (values 𝓛 0 p tt x))
-      → ((v : Val) → at 𝓛 i (‵ (R.own_val new (v ∷ [])) ∷ Γ) ≡ empty 𝓛 E i) → layout R ≡ (spot_of 𝓤 𝓛.H E i).0
-      → ((v : Val) → Fits 𝓛 E i v → Seq K 𝓛 (set 𝓛 i (holds 𝓛 E i v) (‵ (R.own_val new (v ∷ [])) ∷ Γ)) (runs C Λ E rest q))
+      → ((v : Val) (ws : Fins tt ss ks x) → at 𝓛 i (Landed v ws Γ) ≡ empty 𝓛 E i) → layout R ≡ (spot_of 𝓤 𝓛.H E i).0
+      → ((v : Val) (ws : Fins tt ss ks x) → Fits 𝓛 E i v → Seq K 𝓛 (set 𝓛 i (holds 𝓛 E i v) (Landed v ws Γ)) (runs C Λ E rest q))
       → Seq K 𝓛 (arguments ∷ Γ) (runs C Λ E (seq (call f xs (place i [])) rest) q)
   makes {Γ = Γ} t {C} fm {f} {i = i} met os e same k =
       calls_from t fm arguments (flat (types_at ss tt) (values 𝓛 0 p tt x)) (λ v. mean 𝓛 (Made v))
       (qed 𝓛 (arguments ∷ []) ∵ nothing ! $ join ! $ nothing ! $ move ! (1 ∷ 0 ∷ []) $ join ! $ by ! met) os (λ v.
       use1 𝓛 (Made v) (id⊢ 𝓤 _) $ await t tt $ pick t (λ r. split t $ split t $ drop t $ move t (1 ∷ []) $
-      pick t (λ ws. split t $ drop t $ heard t _ (λ is. rewrite t 0 (λ (y : R.Denot). ‵ (R.own_val y (v ∷ []))) is refl $
+      pick t (λ ws. split t $ move t (1 ∷ []) $ heard t _ (λ is. move t (1 ∷ []) $ rewrite t 0 (λ (y : R.Denot). ‵ (R.own_val y (v ∷ []))) is refl $
       peeks t (param 0 R) (Is (param 0 R)) (shows 𝓛 (param 0 R)) new (v ∷ []) (λ good.
       let fits : Fits 𝓛 E i v = subst (λ (τ : Ty). Good τ v) same (((param_laws 0 R laws).lawful 𝓛).typed new (v ∷ []) good).0 in
-      land t (from t (stop t)) (init t (cell i (‵ (R.own_val new (v ∷ [])) ∷ Γ)) (e v) fits) $ k v fits)))))
+      land t (from t (stop t)) (init t (cell i (Landed v ws Γ)) (e v ws) fits) $ k v ws fits)))))
 
 module _ {M : Type 1} {𝓤 : Ura M} (𝓛 : Logic 𝓤) (𝓜 : Model 𝓤 𝓛.H) (𝓡 : Running 𝓤 𝓛.H 𝓜) where
   abbrev 𝓣 : MachineTables 𝓤 𝓛.H 𝓜
@@ -363,11 +356,11 @@ module _ {M : Type 1} {𝓤 : Ura M} (𝓛 : Logic 𝓤) (𝓜 : Model 𝓤 𝓛
     Vals κs a = flat (types_at ss κs) (values 𝓛 l p κs a)
 
     pub exported : (P : Effect) (f : Callee) (e : Fn) → Closed 𝓤 𝓛.H 𝓣.C 𝓣.Λ f e → (k : Callee)
-        → ((κs : Lfts l) (qs : Shares l) (a : Denots (types_at ss κs)) (n : R.Denot) (b o α : ℕ) (γ : GName) → ent 𝓤
-        (mean 𝓛 (((‵ (flft (α ∷ []) full_share) ⊛ raw (toks 𝓛 l κs qs)) ⊛ (Lent R A 𝓛 b o α n γ
-        ⊛ ‵ (owns (types_at ss κs) a (values 𝓛 l p κs a)))) ⊛ ‵ ftrue))
-        (𝓣.C k (vptr b o ∷ Vals κs a) (λ v. mean 𝓛 (Returns R A 𝓛 b o {Ws = R.Denot × Fins κs ss ks a} α γ (toks 𝓛 l κs qs)
-        (λ ws. ws.0) (λ ws. lasts_of κs ss ks a ws.1) (λ u ws. P κs a n u (outs κs ss ks a ws.1)) v))))
+        → ((z : Picked R ss) → let κs = z.0.0.1 in let qs = z.0.1 in let r = z.0.3.0 in let a = z.0.3.1 in ent 𝓤
+        (mean 𝓛 (((‵ (flft z.0.0.0 qs.0) ⊛ raw (toks 𝓛 l κs qs.1)) ⊛ (‵ ((MutRef (named 0) z.0.0.0 R).own_val r z.0.4.0)
+        ⊛ ‵ (owns (types_at ss κs) a z.0.4.1))) ⊛ ‵ ftrue)) (𝓣.C k (z.0.4.0 ++ flat (types_at ss κs) z.0.4.1) (λ v. mean 𝓛
+        (Returns R A 𝓛 r.ref_ptr.0 r.ref_ptr.1 {Ws = R.Denot × Fins κs ss ks a} z.0.0.0 qs.0 r.ghost_name (toks 𝓛 l κs qs.1)
+        (λ ws. ws.0) (λ ws. lasts_of κs ss ks a ws.1) (λ u ws. P κs a r.now u (outs κs ss ks a ws.1)) v))))
         → ((κs : Lfts l) (a : Denots (types_at ss κs)) (b o : ℕ) → AllTyped (cells ss κs) (Vals κs a) → (Q : Val → SProp 𝓤)
         → Sq 𝓛 (raw (𝓣.C k (vptr b o ∷ Vals κs a) (Typed 𝓛 (layout A) Q)) ∷ []) (prop (WpFn 𝓤 𝓛.H 𝓣.C 𝓣.Λ e (vptr b o ∷ Vals κs a) Q)))
         → Meets 𝓛 ended.signature (𝓣.C f) (closing 𝓛 ended (clauses P))
@@ -395,7 +388,8 @@ module _ {M : Type 1} {𝓤 : Ura M} (𝓛 : Logic 𝓤) (𝓜 : Model 𝓤 𝓛
         suffices ! _ (ends_at 𝓛 ended ps.stays c (y (block_ptr b o)) v u (tt, ws.1) (tt, fit)) $
         -- [the other parameters; the result; the tokens; the value]
         nothing ! $ fjoin ! $ move ! (2 ∷ 0 ∷ 1 ∷ []) $ group ! 3 $ done !))
-        (𝓣.C k) (framed 𝓤 𝓛.H 𝓜 𝓣 k) (enters 𝓤 𝓛.H 𝓜 𝓣 k) (met κs qs a.1 n b o))))
+        (𝓣.C k) (framed 𝓤 𝓛.H 𝓜 𝓣 k) (enters 𝓤 𝓛.H 𝓜 𝓣 k)
+        (λ α γ. met (((α ∷ [], κs), (full_share, qs), tt, (lent b o γ n, a.1), (vptr b o ∷ [], vs)), tt)))))
 
   -- ---- an exported function that makes a value where its pointer points, and has k numbers after the pointer
   module _ (R A : RattleType) (k : ℕ) where
@@ -414,7 +408,8 @@ module _ {M : Type 1} {𝓤 : Ura M} (𝓛 : Logic 𝓤) (𝓜 : Model 𝓤 𝓛
     pub opens : (P : Denots Nums → Ptr → A.Denot → SProp 𝓤) (f : Callee) (e : Fn) → Closed 𝓤 𝓛.H 𝓣.C 𝓣.Λ f e
         → ((d : Z.Denot) (a : Denots Nums) (b o : ℕ) (Q : Val → SProp 𝓤)
         → AllTyped ((lone Z.mir, 0) ∷ cells {l = 0} (nums k) tt) (heap.lowered d ∷ flat Nums (values 𝓛 0 (numbers 𝓛 0 k) tt a))
-        → ((u : A.Denot) (v : Val) → ent 𝓤 (mean 𝓛 (‵ (A.own_val u (v ∷ [])) ⊛ raw (P a (block_ptr b o) u))) (Q v))
+        → ((u : A.Denot) (v : Val) (ws : Fins tt (nums k) (all yes (nums k)) a) → ent 𝓤 (mean 𝓛
+        (‵ (A.own_val u (v ∷ [])) ⊛ ‵ (lasts_of tt (nums k) (all yes (nums k)) a ws) ⊛ raw (P a (block_ptr b o) u))) (Q v))
         → Sq 𝓛 (‵ (froom (lone R.mir) b o)
         ∷ ‵ (owns (Z ∷ Nums) (d, a) (heap.lowered d ∷ [], values 𝓛 0 (numbers 𝓛 0 k) tt a)) ∷ [])
         (prop (WpFn 𝓤 𝓛.H 𝓣.C 𝓣.Λ e (heap.lowered d ∷ vptr b o ∷ flat Nums (values 𝓛 0 (numbers 𝓛 0 k) tt a)) Q)))
@@ -430,9 +425,10 @@ module _ {M : Type 1} {𝓤 : Ura M} (𝓛 : Logic 𝓤) (𝓜 : Model 𝓤 𝓛
         regoal ! (λ x. prop (WpFn 𝓤 𝓛.H 𝓣.C 𝓣.Λ e (heap.lowered d ∷ (rawptr_vals x ++ flat Ts vs)) (W.post (y x)))) is_ptr refl $
         use1 𝓛 (‵ (froom (lone R.mir) b o)) (id⊢ 𝓤 _) $
         run d a.1.1 b o (W.post (y (block_ptr b o)))
-        (((heap.the_row_laws.lawful 𝓛).typed d (heap.lowered d ∷ []) are.0).0, (numbers 𝓛 0 k).typed tt a.1.1 are.1.1) (λ u v.
-        qed 𝓛 (‵ (A.own_val u (v ∷ [])) ∷ raw (P a.1.1 (block_ptr b o) u) ∷ []) ∵
-        let last = no_lasts 𝓛 0 k κs a.1.1 in
-        suffices ! _ (ends_at 𝓛 making ps.stays c (y (block_ptr b o)) v u (tt, (tt, last)) (tt, (tt, no_fits 𝓛 0 k κs a.1.1))) $
-        use0 𝓛 (‵ (has_of κs (nums k) (all yes (nums k)) (numbers 𝓛 0 k).stays a.1.1 last vs)) (nothing_had 𝓛 0 k κs a.1.1 vs) $
-        nothing ! $ fjoin ! $ nothing ! $ fjoin ! $ nothing ! $ group ! 3 $ done !)))
+        (((heap.the_row_laws.lawful 𝓛).typed d (heap.lowered d ∷ []) are.0).0, (numbers 𝓛 0 k).typed tt a.1.1 are.1.1) (λ u v ws.
+        qed 𝓛 (‵ (A.own_val u (v ∷ [])) ∷ ‵ (lasts_of κs (nums k) (all yes (nums k)) a.1.1 ws) ∷ raw (P a.1.1 (block_ptr b o) u) ∷ []) ∵
+        let p = numbers 𝓛 0 k in move ! (1 ∷ []) $
+        use1 𝓛 (‵ (has_of κs (nums k) (all yes (nums k)) p.stays a.1.1 ws vs) ⊛ raw (fact 𝓤 (fits_of κs (nums k) (all yes (nums k)) p.stays a.1.1 ws)))
+        (p.leaves κs a.1.1 ws vs) $ split ! $ move ! (1 ∷ []) $ heard ! _ (λ fit.
+        suffices ! _ (ends_at 𝓛 making ps.stays c (y (block_ptr b o)) v u (tt, (tt, ws)) (tt, (tt, fit))) $
+        nothing ! $ fjoin ! $ nothing ! $ fjoin ! $ nothing ! $ group ! 3 $ done !))))

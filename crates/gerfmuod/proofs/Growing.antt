@@ -1,7 +1,62 @@
--- No call on a team takes a task away, so the number of the next task stays above those that a flow recorded.
-pub mod Inferring
-pub use Inferring.*
+-- Tasks whose inputs are inferred; and no call on a team takes a task away, so the number of the next task stays above those that a flow
+-- recorded.
+pub use Rattle.gerfmuod.specs.Part.{◌≡◌, Refusal, Becomes, with_spawned, repeated, with_pool, Changes, Settles, Fault, State, TeamRefusal}
+pub use Rattle.gerfmuod.specs.Part.{Turn, Spin, Sleep, Refused, FlowState, is_not_above, GraphState, task_named, IsJudged, IsSpawn}
+pub use Rattle.gerfmuod.specs.Part.{IsTeamCall, IsSpawnCall, GraphResult, TeamCall, IsTrue, ◌&&◌, list_all, map, nat_le, nat_lt, Access}
+pub use Rattle.gerfmuod.specs.Part.{Description, AreInputs, all_below, Follows, Pool, access_of, is_access, FollowsOn, RawAccess}
+pub use Rattle.gerfmuod.specs.Part.{opened_with, plain, opened_as}
+pub use Rattle.std.proofs.Common.{ℕ, ◌+◌, ◌≤◌, Bool, true, false, List, [], ◌∷◌, length, Option, Some, None, refl, ap, subst, ◌∙◌, inl, inr}
+pub use Rattle.std.proofs.{Common.{arith, ◌++◌, Result, sym}, lemmas.{Bool.{and_parts, Decides.nat_tests}, List.length-set}}
+pub use Rattle.std.{proofs.lemmas.List.{length-append, length-map}, specs.{Option.option_map, Prelude.{IfSome, IfNone, IsSome, Ok, Err}}}
+pub use Rattle.std.specs.Prelude.{take}
+pub use Rattle.tp_dag.specs.{Calls.{GoesTo, IsReported}, State.{PoolState, Entry}, declared.entry.{Event.Event, Stage.Stage}}
+pub use Rattle.tp_flow.specs.Description.{with_task}
+pub use Rattle.tp_part.specs.State.{PartState}
+pub use Rattle.tp_team.specs.{Calls.{came, Decides, Reports, stopped_by}, declared.Turn.TheVariants.{Run, Over}}
+pub use Rattle.tp_dag.specs.Calls as pool
+pub use Rattle.gerfmuod.specs.declared.graph.team.TeamCall.TheVariants as call
 
+-- ---- what the flow found, and what the team and the flow made of it
+all_there : (n : ℕ) (raw : List RawAccess) → IsTrue (list_all (is_access n) raw) → IsTrue (all_below n (map access_of raw))
+all_there n [] e = refl
+all_there n (a ∷ more) e =
+    let parts = and_parts (is_access n a) (list_all (is_access n) more) e in
+    let own = and_parts (nat_le 1 a.mode && nat_le a.mode 3) (nat_lt a.handle n) parts.0 in
+    rw own.1 (all_there n more parts.1)
+
+-- the accesses that were decoded, if all are there
+pub decoded_there : (n k : ℕ) (raw : List RawAccess) (items slice : List Access) → k ≡ n → true ≡ list_all (is_access k) raw
+    → items ≡ map access_of raw → slice ≡ items → IsTrue (all_below n slice)
+decoded_there n k raw items slice same are decoded is =
+    subst (λ (xs : List Access). IsTrue (all_below n xs)) (sym (is ∙ decoded))
+    (all_there n raw (subst (λ (m : ℕ). IsTrue (list_all (is_access m) raw)) same (sym are)))
+
+-- a call that a lower call took
+pub judged_ok : {S T : Type 0} (o : Option TeamRefusal) (A : Type 0) (old : S) (u : GraphResult) (new : S) (r : Result T TeamRefusal) (x : T)
+    → r ≡ Ok x → IfSome o (λ e. r ≡ Err e) → A → IsJudged o true A old u new
+judged_ok (Some e) A old u new r x is checks a = let bad : Ok x ≡ Err e = sym is ∙ checks in cc
+judged_ok None A old u new r x is checks a = inl a
+
+-- the same of a call on a part
+pub judged_part : {S T : Type 0} (o : Option Refusal) (A : Type 0) (old : S) (u : GraphResult) (new : S) (r : Result T Refusal) (x : T)
+    → r ≡ Ok x → IfSome o (λ e. r ≡ Err e) → A → IsJudged (option_map Pool o) true A old u new
+judged_part (Some e) A old u new r x is checks a = let bad : Ok x ≡ Err e = sym is ∙ checks in cc
+judged_part None A old u new r x is checks a = inl a
+
+-- the inputs that were found, in a vector that was empty
+pub found : (accesses : List Access) (old new slice : List ℕ) (a : FlowState) → old ≡ [] → slice ≡ new
+    → ((d : Description) → Follows d a → (added : List ℕ) × (new ≡ old ++ added) × AreInputs accesses d.tasks added)
+    → (d : Description) → Follows d a → AreInputs accesses d.tasks slice
+found accesses old new slice a none is finds d f =
+    let h = finds d f in
+    subst (AreInputs accesses d.tasks) (sym (is ∙ h.1 ∙ ap (λ l. l ++ h.0) none)) h.2
+
+pub follows_on : (a b c : FlowState) (n m : ℕ) (accesses : List Access) → b ≡ a → n ≡ m → FollowsOn (with_task n accesses) b c
+    → FollowsOn (with_task m accesses) a c
+follows_on a b c n m accesses same is f =
+    subst (λ (x : FlowState). FollowsOn (with_task m accesses) x c) same (subst (λ (k : ℕ). FollowsOn (with_task k accesses) b c) is f)
+
+-- ---- no call on a team takes a task away
 abbrev tasks : State → ℕ
 tasks a = length a.pool.tasks
 
@@ -74,11 +129,8 @@ called call.Again first second old new u h = judged _ _ _ old u new (λ s. omega
 called call.Outside first second old new u h = judged _ _ _ old u new (λ s. omega (arith, changed first s.0 pool.one_more old new s.2)) h
 called call.Release first second old new u h = judged _ _ _ old u new (λ s. omega (arith, changed first s.0 pool.one_less old new s.2)) h
 called call.MayRecord first second old new u h = judged _ _ _ old u new (λ s. same old new s.1) h
-called call.Fault first second old new u h = same old new h.same
-called call.Count first second old new u h = same old new h.same
-called call.Event first second old new u h = same old new h.same
 called call.Reset first second old new u h = judged _ _ _ old u new (λ s. omega (arith, ap tasks s.1, same_repeated old)) h
-called call.Left first second old new u h = same old new h.same
+called _ first second old new u h = same old new h.same
 
 pub one_task_more : (class : ℕ) (inputs : List ℕ) (outside : ℕ) (old new : State) (n : ℕ)
     → Settles (with_pool (with_spawned class inputs outside old.pool) old) new n → tasks new ≡ tasks old + 1
@@ -103,12 +155,3 @@ pub next_spawned : (class : ℕ) (inputs : List ℕ) (outside : ℕ) (old new : 
     → IsSpawn class inputs outside old u new
     → is_not_above newest (length old.pool.tasks) ≡ false → is_not_above newest (length new.pool.tasks) ≡ false
 next_spawned class inputs outside old new u newest h = later newest (tasks old) (tasks new) (spawned class inputs outside old new u h)
-
--- a spawn on an open graph, whose view is `old`
-pub spawn_call : (old : GraphState) (b : Bool) (team new : State) (flow : FlowState) (class : ℕ) (inputs : List ℕ) (outside : ℕ) (u : GraphResult)
-    → record { is_open = b; team = team; flow = flow } ≡ old → old.is_open ≡ true → IsSpawn class inputs outside team u new
-    → IsSpawnCall old class inputs outside u (record { is_open = b; team = new; flow = flow })
-spawn_call old b team new flow class inputs outside u view is h =
-    let e : b ≡ true = ap (λ (s : GraphState). s.is_open) view ∙ is in
-    subst (λ (s : GraphState). IsSpawnCall s class inputs outside u (record { is_open = b; team = new; flow = flow })) view
-    (rw e (record { does = h; stays = refl; flow = refl }))

@@ -1,25 +1,29 @@
 -- The steps that a core takes: its room, the safety of what it returns, and several steps in one call.
-pub mod Words
-pub use Words.*
+pub use Rattle.gerfmuod.specs.Calls.{Ok, Err, IsFalse, IsTrue, number_of, Refusal, HistoryFull, Step, Judge, present, is_ended, Reply}
+pub use Rattle.gerfmuod.specs.Calls.{Accepted, Answers, world_of, Settles, is_quiet, InEach, IsNeverEarly, IsKept, is_full, ◌&&◌}
+pub use Rattle.gerfmuod.specs.Calls.{if◌then◌else◌, Give, visited_at, Plain, Over, IsOverFrom, settled, unsettled, IsOver, TellsNoEarlyEnd}
+pub use Rattle.gerfmuod.specs.Calls.{leaves_nothing, plain, told, reply_told, AnswersInRoom, AnswersTo, StepResult, AreTaken, IsBatch}
+pub use Rattle.gerfmuod.specs.Calls.{IsStep, IsStepsCall, step_asked}
+pub use Rattle.gerfmuod.specs.{Calls.{CoreState, Open, RawStep, raw_step}, declared.pool.CoreRoom.TheInside.Inside}
+pub use Rattle.std.proofs.Common.{ℕ, ◌≡◌, ◌≢◌, ◌+◌, ◌*◌, ◌≤◌, ◌++◌, Bool, true, false, List, ◌∷◌, [], length, Result, Some, refl, sym, ap}
+pub use Rattle.std.proofs.{Common.{subst, ◌∙◌, arith, None, inl, inr, Option, ◌<◌, take, drop, set, get_or}, lemmas.Bool.cases_Bool}
+pub use Rattle.std.proofs.lemmas.{Bool.{lt-leb, Decides.nat_tests}, List.{length-append, take_more, take_more_set, take-set, drop-set}}
+pub use Rattle.std.{proofs.lemmas.List.{drop-set-lt, drop-drop, drop_more, length-set, take_min}, specs.Prelude.not}
+pub use Rattle.tp_base.specs.{Checks.{first_refusal, Check}, declared.Refusal.TheVariants.{Ended, NotIdle}}
+pub use Rattle.tp_core.{proofs.Lemmas.Keeping.Generations.{never_early_in_each, present-control}, specs.Accepted.{judged, reply_to}}
+pub use Rattle.tp_core.specs.{Accepted.{list_length, with_step}, Settled.{settle_room, IsSettled}}
+pub use Rattle.tp_text.proofs.Readings.Unique.Traces.{judged_wave, ended_over, not_ended_claims, reopened_over}
+pub use Rattle.tp_wave.specs.Sums.{judgement, until, visit, waves}
 
 -- ---- a core keeps room for settling, so settling is never refused for lack of it
--- Until termination is detected, there is room for 9 steps for each node.
-abbrev pub HasRoom : Accepted → Type 0
-HasRoom a = IsFalse (is_ended a.nodes (present a.steps)) → list_length a + 9 * a.nodes ≤ MAX_STEPS
+settled_now : {old new : Accepted} {w count : ℕ} (s : IsSettled old new w count) → present new.steps ≡ Judge ∷ (s.taken ++ present old.steps)
+settled_now {old} s = ap (λ (xs : List Step). present xs) s.steps ∙ present-control (Judge ∷ s.taken) old.steps s.control
+
+judged_now : {old new : Accepted} {w count : ℕ} (s : IsSettled old new w count) → judgement new.nodes (s.taken ++ present old.steps) ≡ Some w
+judged_now s = rw s.nodes s.judged
 
 ended_here : (n w : ℕ) (past : List Step) → judgement n past ≡ Some w → IsTrue (is_ended n (Judge ∷ past))
 ended_here n w past e = rw e refl
-
-pub room_after_settling : (old new : Accepted) (r : Result (ℕ × ℕ) Refusal) → Settles old r new → HasRoom old → HasRoom new
-room_after_settling old new (Ok answer) s room =
-    let is = s.1 in
-    let past : List Step = is.taken ++ present old.steps in
-    let now : present new.steps ≡ Judge ∷ past =
-    ap (λ (xs : List Step). present xs) is.steps ∙ present-control (Judge ∷ is.taken) old.steps is.control in
-    let ended : IsTrue (is_ended new.nodes (present new.steps)) =
-    subst (λ (xs : List Step). IsTrue (is_ended new.nodes xs)) (sym now) (ended_here new.nodes answer.0 past (rw is.nodes is.judged)) in
-    λ e. let both = ended in cc
-room_after_settling old new (Err r) s room = subst HasRoom (sym s.1) room
 
 not_ended : (b : Bool) (more : List Check) → first_refusal ((b, Ended) ∷ more) ≡ None → IsFalse b
 not_ended true more e = cc
@@ -47,14 +51,18 @@ kept_after_settling p (Ok answer) new k s =
       few_nodes = k.few_nodes;
       limit = k.limit;
       within = omega (arith, room, list, few);
-      room = room_after_settling p.core new (Ok answer) s k.room;
+      room = λ e.
+          let ended : IsTrue (is_ended new.nodes (present new.steps)) =
+          rw (settled_now is) (ended_here new.nodes answer.0 (is.taken ++ present p.core.steps) (judged_now is)) in
+          cc;
       runs = rw (is.nodes, is.steps) is.run;
     }
 kept_after_settling p (Err r) new k s = subst (λ (a : Accepted). IsKept (record p { core = a })) (sym s.1) k
 
 -- The steps of a pool are runs, so its termination is never detected too early.
-pub kept_never_early : (p : Inside) → IsKept p → InEach (IsNeverEarly p.core.nodes) p.core.steps
-kept_never_early p k = never_early_in_each p.core.nodes p.core.steps k.runs
+pub kept_never_early : (a : Accepted) (p : Inside) → p.core ≡ a → IsKept p → InEach (IsNeverEarly a.nodes) a.steps
+kept_never_early a p is k =
+    subst (λ (b : Accepted). InEach (IsNeverEarly b.nodes) b.steps) is (never_early_in_each p.core.nodes p.core.steps k.runs)
 
 -- ---- safety of the results: if a call says that the pool had terminated, it had
 -- ---- another wave followed the one that is named, so `Judge` does not move its end
@@ -71,10 +79,6 @@ over_at_judge n w past never e =
 reply_over : (reply : Reply) → (reply_told reply).event ≡ 3 → reply ≡ Over (reply_told reply).number
 reply_over (Over w) e = refl
 reply_over _ e = cc
-
-refusal_tells : (r : Refusal) → (refusal_told r).event ≡ 0
-refusal_tells (HistoryFull n) = refl
-refusal_tells (r) = refl
 
 judgement_over : (o : Option ℕ) (w : ℕ) → judged o ≡ Over w → o ≡ Some w
 judgement_over None w e = cc
@@ -93,12 +97,6 @@ over_after old new s w e n never =
     subst (λ (a : Accepted). InEach (IsNeverEarly a.nodes) a.steps → IsOver a w) (sym now)
     (λ each. over_at_judge old.nodes w (present old.steps) (each [] (Judge ∷ old.steps) refl) j.1) never
 
--- the result of a step, if it says that the pool had terminated
-told_three : (left : Bool) (reply : Reply) → (if left then plain 0 5 0 else reply_told reply).event ≡ 3
-    → reply ≡ Over (if left then plain 0 5 0 else reply_told reply).number
-told_three true reply e = cc
-told_three false reply e = reply_over reply e
-
 -- ---- a step that was taken
 full_is_refused : (old : Accepted) (s : Step) (reply : Reply) (new : Accepted) → AnswersInRoom old s (Ok reply) new → IsFalse (is_full old)
 full_is_refused old s reply new a = elim (cases_Bool (is_full old)) [ inl e ↦ let none = (a.full e).0 in cc | inr e ↦ e ]
@@ -107,30 +105,15 @@ answered_in_room : (old : Accepted) (s : Step) (reply : Reply) (new : Accepted) 
     → Answers old s (Ok reply) new
 answered_in_room old s reply new a = a.taken (full_is_refused old s reply new a)
 
-pub told_over : (old new : Accepted) (o : Option Step) (r : Result Reply Refusal) → AnswersTo old o r new
-    → InEach (IsNeverEarly new.nodes) new.steps
-    → TellsNoEarlyEnd ((told o r new).event ≡ 3) (told o r new).number new
-told_over old new (Some s) (Ok reply) a never =
+pub reply_safe : (old new : Accepted) (o : Option Step) (reply : Reply) → AnswersTo old o (Ok reply) new
+    → InEach (IsNeverEarly new.nodes) new.steps → TellsNoEarlyEnd ((reply_told reply).event ≡ 3) (reply_told reply).number new
+reply_safe old new (Some s) reply a never =
+    let there = answered_in_room old s reply new a in
     record {
-      ended = λ e.
-          let there = answered_in_room old s reply new a in
-          over_after old new s (told (Some s) (Ok reply) new).number
-          (sym there.1 ∙ told_three (leaves_nothing (Some s) new) reply e) there.2 never;
+      ended = λ e. over_after old new s (reply_told reply).number (sym there.1 ∙ reply_over reply e) there.2 never;
       never_early = never;
     }
-told_over old new None (Ok reply) a never = record { ended = λ e. let none = a.0 in cc; never_early = never }
-told_over old new o (Err r) a never = record { ended = λ e. let none = refusal_tells r in cc; never_early = never }
-
--- The result of a step that was taken, if whether it left nothing was seen before.
-pub told_left : (old new : Accepted) (o : Option Step) (reply : Reply) (u : StepResult) (ends left : Bool) → AnswersTo old o (Ok reply) new
-    → InEach (IsNeverEarly new.nodes) new.steps → ends ≡ is_ending_if o → left ≡ (ends && is_quiet (world_of new))
-    → u ≡ (if left then plain 0 5 0 else reply_told reply) → IsTold old o u new × TellsNoEarlyEnd (u.event ≡ 3) u.number new
-told_left old new o reply u ends left a never e l is =
-    let seen : left ≡ leaves_nothing o new = l ∙ rw e refl in
-    let now : u ≡ told o (Ok reply) new = is ∙ rw seen refl in (
-      (Ok reply, a, now),
-      subst (λ (x : StepResult). TellsNoEarlyEnd (x.event ≡ 3) x.number new) (sym now) (told_over old new o (Ok reply) a never),
-    )
+reply_safe old new None reply a never = let none = a.0 in absurd cc
 
 -- ---- the same for `settle`
 unsettled_tells : (r : Refusal) → (unsettled r).refused ≡ 0 → ⊥
@@ -141,16 +124,11 @@ pub settled_over : (old new : Accepted) (r : Result (ℕ × ℕ) Refusal) → Se
     → TellsNoEarlyEnd ((settled r).refused ≡ 0) (settled r).wave new
 settled_over old new (Ok answer) s never =
     let is = s.1 in
-    let past : List Step = is.taken ++ present old.steps in
-    let now : present new.steps ≡ Judge ∷ past =
-    ap (λ (xs : List Step). present xs) is.steps ∙ present-control (Judge ∷ is.taken) old.steps is.control in
-    let each : IsNeverEarly new.nodes (Judge ∷ past) =
-    subst (λ (xs : List Step). IsNeverEarly new.nodes xs) now (never [] new.steps refl) in
-    let told : judgement new.nodes past ≡ Some answer.0 = rw is.nodes is.judged in
+    let now = settled_now is in
     record {
       ended = λ e.
           subst (λ (xs : List Step). IsOverFrom new.nodes (visited_at answer.0 0 xs) xs) (sym now)
-          (over_at_judge new.nodes answer.0 past each told);
+          (over_at_judge new.nodes answer.0 _ (subst (IsNeverEarly new.nodes) now (never [] new.steps refl)) (judged_now is));
       never_early = never;
     }
 settled_over old new (Err r) s never = record { ended = λ e. absurd (unsettled_tells r e); never_early = never }
@@ -196,44 +174,40 @@ pub record AfterSteps (events : List RawStep) (room : List StepResult) (old : Ac
 rest_after : (answers room : List StepResult) (k : ℕ) → drop k answers ≡ drop k room → drop (k + 1) answers ≡ drop (k + 1) room
 rest_after answers room k e = sym (drop-drop 1 k answers) ∙ ap (λ (xs : List StepResult). drop 1 xs) e ∙ drop-drop 1 k room
 
-pub after_one : (events : List RawStep) (room : List StepResult) (old : Accepted) (k : ℕ) (answers : List StepResult) (mid : Accepted) (d : RawStep)
-    (u : StepResult) (new : Accepted)
-    → k < length events → length events ≤ length room → AfterSteps events room old k answers mid → IsStep (get_or events k d) mid u new
-    → u.refused ≡ 0 → AfterSteps events room old (k + 1) (set answers k u) new
-after_one events room old k answers mid d u new below few a s taken =
-    let long = a.long in
-    let there : k < length answers = omega (arith, below, few, long) in
-    record {
-      taken = rw (take_more events k d below, take_more_set answers k u there)
-          (one_more old mid new (take k events) (take k answers) (get_or events k d) u a.taken s taken);
-      rest = drop-set-lt (k + 1) answers k u (omega arith) ∙ rest_after answers room k a.rest;
-      long = length-set answers k u ∙ a.long;
-    }
-
 next_event : (e d : RawStep) (later rest : List RawStep) → e ∷ later ≡ d ∷ rest → d ≡ e
 next_event e d later rest same = cc
 
-pub stops_at : (events : List RawStep) (room : List StepResult) (old : Accepted) (k : ℕ) (answers : List StepResult) (mid : Accepted) (d : RawStep)
-    (u : StepResult) (new : Accepted)
-    → k < length events → length events ≤ length room → AfterSteps events room old k answers mid → IsStep (get_or events k d) mid u new
-    → u.refused ≢ 0 → IsBatch events room old k (set answers k u) new
-stops_at events room old k answers mid d u new below few a s refused =
-    let long = a.long in
-    let there : k < length answers = omega (arith, below, few, long) in
-    let same : new ≡ mid = refused_same (get_or events k d) mid u new s refused in
-    record {
-      within = omega (arith, below);
-      taken = rw (take-set answers k u, same) a.taken;
-      all = λ e. absurd (omega (arith, below, e));
-      refused = λ e later left.
-          let is : get_or events k d ≡ e =
-          next_event e (get_or events k d) later (drop (k + 1) events) (sym left ∙ drop_more events k d below) in (
-            u,
-            subst (λ (x : RawStep). IsStep x new u new) is (subst (λ (x : Accepted). IsStep (get_or events k d) x u new) (sym same) s),
-            refused,
-            drop-set answers k u there ∙ ap (λ (xs : List StepResult). u ∷ xs) (rest_after answers room k a.rest),
-          );
-    }
+-- the step of the next event, whose result is written
+module _ (events : List RawStep) (room : List StepResult) (old : Accepted) (k : ℕ) (answers : List StepResult) (mid : Accepted) (d : RawStep)
+    (u : StepResult) (new : Accepted) (below : k < length events) (few : length events ≤ length room)
+    (a : AfterSteps events room old k answers mid) (s : IsStep (get_or events k d) mid u new) where
+  there : k < length answers
+  there = let long = a.long in omega (arith, below, few, long)
+
+  pub after_one : u.refused ≡ 0 → AfterSteps events room old (k + 1) (set answers k u) new
+  after_one taken = record {
+    taken = rw (take_more events k d below, take_more_set answers k u there)
+        (one_more old mid new (take k events) (take k answers) (get_or events k d) u a.taken s taken);
+    rest = drop-set-lt (k + 1) answers k u (omega arith) ∙ rest_after answers room k a.rest;
+    long = length-set answers k u ∙ a.long;
+  }
+
+  pub stops_at : u.refused ≢ 0 → IsBatch events room old k (set answers k u) new
+  stops_at refused =
+      let same : new ≡ mid = refused_same (get_or events k d) mid u new s refused in
+      record {
+        within = omega (arith, below);
+        taken = rw (take-set answers k u, same) a.taken;
+        all = λ e. absurd (omega (arith, below, e));
+        refused = λ e later left.
+            let is : get_or events k d ≡ e =
+            next_event e (get_or events k d) later (drop (k + 1) events) (sym left ∙ drop_more events k d below) in (
+              u,
+              subst (λ (x : RawStep). IsStep x new u new) is (subst (λ (x : Accepted). IsStep (get_or events k d) x u new) (sym same) s),
+              refused,
+              drop-set answers k u there ∙ ap (λ (xs : List StepResult). u ∷ xs) (rest_after answers room k a.rest),
+            );
+      }
 
 -- A call on an open core takes the events that have a place for their result.
 pub taken_by_call : (events given : List RawStep) (room : List StepResult) (old new : CoreState) (first : Accepted) (count : ℕ)

@@ -1,7 +1,201 @@
 -- What each exported call on a core returns and does. On a core that is not open it is refused as 24, `NoPool`, and on a core on which
 -- another call runs as 28, `Busy`.
-pub mod Writing
-pub use Writing.*
+pub use Rattle.gerfmuod.specs.{Meanings.texts_of, declared.answer.{Counters.Counters, Settled.Settled, Status.Status}}
+pub use Rattle.gerfmuod.specs.declared.{answer.{StepResult.StepResult, Written.Written}, raw_step.RawStep.RawStep}
+pub use Rattle.std.specs.Prelude.{ℕ, ◌==◌, nat_le, if◌then◌else◌, Option, Some, None, ◌≡◌, ◌&&◌, [], Bool, ◌≤◌, ◌+◌, ◌-◌, ◌*◌, IsFalse}
+pub use Rattle.std.specs.Prelude.{length, ◌<◌, ◌++◌, ◌⊎◌, List, drop, option_map, true, false, IsTrue, Result, Ok, Err, ◌||◌, ◌↔◌, nat_lt}
+pub use Rattle.std.specs.Prelude.{◌≢◌, ◌∷◌, take}
+pub use Rattle.tp_base.specs.{Refusals.number_of, declared.Refusal.{Refusal, TheVariants.{NoPool, BadSpec, HistoryFull, NoNode, NoMemory}}}
+pub use Rattle.tp_base.specs.declared.{Refusal.TheVariants.WrongLife, Step.{Step, TheVariants.{Insert, Supply, Begin, Done, ActionOpen}}}
+pub use Rattle.tp_base.specs.declared.Step.TheVariants.{ActionClose, Ready, Send, Recv, MessageEnd, Start, Down, Give, Up, Judge, Reopen}
+pub use Rattle.tp_base.specs.declared.ids.{ActionId.ActionId, Generation.Generation, MessageId.MessageId, NodeId.NodeId, TaskId.TaskId}
+pub use Rattle.tp_base.specs.declared.limits.TheConstants.{MAX_NODES, MAX_STEPS}
+pub use Rattle.tp_core.specs.{Accepted.{Accepted, Answers, list_length, world_of, numbers_at, no_numbers}, Generations.{AreRuns, InEach}}
+pub use Rattle.tp_core.specs.{Makers.is_maker, NeverEarly.{IsNeverEarly, IsOverFrom}, Settled.Settles, World.{is_quiet, IsQuiet}}
+pub use Rattle.tp_core.specs.declared.{Maker.{Maker, TheVariants.{Task, Action, Message, Opening, Thread}}, Reply.Reply}
+pub use Rattle.tp_core.specs.declared.{Reply.TheVariants.{Plain, WaveSums, Not, Over, Opened}, numbers.NodeNumbers.NodeNumbers}
+pub use Rattle.tp_text.specs.{AuditText.IsAuditText, TraceOf.{IsTraceOf, CanBeTraced}, declared.input.TheConstants.MAX_TEXT}
+pub use Rattle.tp_text.specs.declared.verdict.Verdict.{Verdict, TheVariants.{Sound, Refused}}
+pub use Rattle.tp_wave.specs.{Generations.present, Sums.{is_ended, visited_at}}
+use Rattle.gerfmuod.specs.declared.pool.CoreRoom.TheInside.{Inside}
+
+-- ---- a step as C passes it: the number of its kind and its arguments
+abbrev pub node : ℕ → NodeId
+node i = record { 0 = i }
+
+abbrev pub task : ℕ → TaskId
+task t = record { 0 = t }
+
+abbrev pub action : ℕ → ActionId
+action a = record { 0 = a }
+
+abbrev pub message : ℕ → MessageId
+message m = record { 0 = m }
+
+abbrev pub age : ℕ → Generation
+age g = record { 0 = g }
+
+-- a task waits for at most 16 inputs
+abbrev pub insert_asked : ℕ → ℕ → ℕ → Option Step
+insert_asked i t k = if nat_le k 16 then Some (Insert (node i) (task t) (record { count = k })) else None
+
+-- the steps of tasks: the kinds up to 3
+abbrev pub task_step : RawStep → Option Step
+task_step e =
+    if e.kind == 0 then insert_asked e.first e.second e.third
+    else (if e.kind == 1 then Some (Supply (task e.first))
+    else (if e.kind == 2 then Some (Begin (task e.first))
+    else (if e.kind == 3 then Some (Done (task e.first))
+    else None)))
+
+-- the other steps that nodes make
+abbrev pub node_step : RawStep → Option Step
+node_step e =
+    if e.kind == 4 then Some (ActionOpen (node e.first) (action e.second))
+    else (if e.kind == 5 then Some (ActionClose (node e.first) (action e.second))
+    else (if e.kind == 6 then Some (Ready (node e.first))
+    else (if e.kind == 7 then Some (Send (node e.first) (node e.second) (message e.third) (age e.generation))
+    else (if e.kind == 8 then Some (Recv (node e.first) (message e.second) (age e.generation))
+    else (if e.kind == 9 then Some (MessageEnd (node e.first) (message e.second) (age e.generation))
+    else None)))))
+
+-- the steps of the control waves, and the reopening
+abbrev pub control_step : RawStep → Option Step
+control_step e =
+    if e.kind == 10 then Some Start
+    else (if e.kind == 11 then Some (Down (node e.first))
+    else (if e.kind == 12 then Some (Give (node e.first))
+    else (if e.kind == 13 then Some (Up (node e.first))
+    else (if e.kind == 14 then Some Judge
+    else (if e.kind == 15 then Some Reopen
+    else None)))))
+
+-- the step of a kind above 3
+abbrev pub other_step : RawStep → Option Step
+other_step e = if nat_le e.kind 9 then node_step e else control_step e
+
+-- the step that C passes, if there is one
+abbrev pub step_asked : RawStep → Option Step
+step_asked e = if nat_le e.kind 3 then task_step e else other_step e
+
+abbrev pub raw_step : ℕ → ℕ → ℕ → ℕ → ℕ → RawStep
+raw_step kind first second third generation =
+    record { kind = kind; first = first; second = second; third = third; generation = generation }
+
+-- ---- a core in the caller's memory, and what a call on it does if it is not open, or if another call runs on it
+-- How the memory of a core is used: it has no open core, or an open one on which no call runs, or one on which a call runs.
+pub data Use : Type 0 where
+  Closed : Use
+  Open : Use
+  Busy : Use
+
+-- The use of the memory, and what the core has accepted.
+pub record CoreState : Type 0 where
+  pub use_is : Use
+  pub core : Accepted
+
+-- A pool can have n nodes.
+abbrev pub can_be : ℕ → Bool
+can_be n = nat_le 1 n && nat_le n 8
+
+abbrev pub new_core_of : (recorded : Bool) → ℕ → Accepted
+new_core_of recorded n = record { nodes = n; steps = []; recorded = recorded }
+
+-- a new core of n nodes, with a list of its steps or without; it is not open if a pool cannot have n nodes
+abbrev pub opened_as : (recorded : Bool) → ℕ → CoreState
+opened_as recorded n = record { use_is = if can_be n then Open else Closed; core = new_core_of recorded (if can_be n then n else 1) }
+
+abbrev pub opened : ℕ → CoreState
+opened n = opened_as true n
+
+abbrev pub opening : ℕ → ℕ
+opening n = if can_be n then 0 else number_of BadSpec
+
+abbrev pub closed : CoreState
+closed = record { use_is = Closed; core = new_core_of true 1 }
+
+-- the refusal of a call on a core that is not open, or on which another call runs
+abbrev pub refusal_of : Use → ℕ
+refusal_of Busy = 28
+refusal_of _ = number_of NoPool
+
+-- A call on a core that is not open is refused as 24, `NoPool`; on a core on which another call runs, as 28, `Busy`: then
+-- nothing changes. On an open core it does this, and afterwards no call runs on the core, which is still open.
+pub record IsCall {A : Type 0} (refused_as : ℕ → A) (does : Accepted → A → Accepted → Type 0)
+    (old : CoreState) (u : A) (new : CoreState) : Type 0 where
+  pub if_closed : old.use_is ≡ Closed → (u ≡ refused_as (number_of NoPool)) × (new ≡ old)
+  pub if_busy : old.use_is ≡ Busy → (u ≡ refused_as 28) × (new ≡ old)
+  pub if_open : old.use_is ≡ Open → (new.use_is ≡ Open) × does old.core u new.core
+
+-- ---- the invariant of a `CoreRoom`, and the safety property of the calls on it
+-- The number of nodes and the limit are the core's, and in each generation the core's steps are a run. Until termination is
+-- detected, there is room for 9 steps for each node.
+pub record IsKept (p : Inside) : Type 0 where
+  pub nodes : p.nodes ≡ p.core.nodes
+  pub some_node : 1 ≤ p.nodes
+  pub few_nodes : p.nodes ≤ MAX_NODES
+  pub limit : p.limit ≡ MAX_STEPS - 9 * p.nodes
+  pub within : list_length p.core ≤ MAX_STEPS
+  pub room : IsFalse (is_ended p.core.nodes (present p.core.steps)) → list_length p.core + 9 * p.core.nodes ≤ MAX_STEPS
+  pub runs : AreRuns p.core.nodes p.core.steps
+
+-- The pool was quiet from the end of wave w on, and each task of the present generation had run once by then.
+abbrev pub IsOver : Accepted → ℕ → Type 0
+IsOver a w = IsOverFrom a.nodes (visited_at w 0 (present a.steps)) (present a.steps)
+
+-- Safety: if the call says that the pool had terminated with wave w, it had; and every judgement of termination so far,
+-- in each generation, was right.
+pub record TellsNoEarlyEnd (said : Type 0) (w : ℕ) (a : Accepted) : Type 0 where
+  pub ended : said → IsOver a w
+  pub never_early : InEach (IsNeverEarly a.nodes) a.steps
+
+-- ---- the results of writing a text to a buffer
+-- The text is at the start of the buffer, and the rest of the buffer is unchanged; if the text does not fit, nothing is
+-- written. The result has the length of the text in both cases.
+pub record IsPut (text : List ℕ) (outcome : ℕ) (old : List ℕ) (answer : Written) (new : List ℕ) : Type 0 where
+  pub length_is : answer.length ≡ length text
+  pub fits : length text ≤ length old → (answer.outcome ≡ outcome) × (new ≡ text ++ drop (length text) old)
+  pub no_room : length old < length text → (answer.outcome ≡ 4) × (new ≡ old)
+
+-- There is no text, and nothing is written.
+pub record IsUnwritten (outcome : ℕ) (old : List ℕ) (answer : Written) (new : List ℕ) : Type 0 where
+  pub answer_is : answer ≡ record { outcome = outcome; length = 0 }
+  pub same : new ≡ old
+
+abbrev pub outcome_of : Verdict → ℕ
+outcome_of Sound = 0
+outcome_of Refused = 1
+
+-- The trace was judged and the verdict is written; or the trace is longer than a text may be; or the call is out of
+-- memory.
+abbrev pub IsAudited : List ℕ → List ℕ → Written → List ℕ → Type 0
+IsAudited bytes old answer new =
+    ((length bytes ≤ MAX_TEXT) × (v : Verdict) × (text : List ℕ) × IsAuditText bytes v text × IsPut text (outcome_of v) old answer new)
+    ⊎ (((MAX_TEXT < length bytes) × IsUnwritten 2 old answer new)
+    ⊎ ((length bytes ≤ MAX_TEXT) × IsUnwritten 3 old answer new))
+
+-- The core has a list of its steps, which can be written.
+abbrev pub HasTrace : Accepted → Type 0
+HasTrace a = IsTrue a.recorded × CanBeTraced a.steps
+
+-- The trace of the accepted steps is written; or there is none; or the call is out of memory.
+abbrev pub IsTraced : Accepted → List ℕ → Written → List ℕ → Type 0
+IsTraced a old answer new =
+    (HasTrace a × (text : List ℕ) × IsTraceOf a.nodes a.steps text × IsPut text 0 old answer new)
+    ⊎ (((¬ HasTrace a) × IsUnwritten 5 old answer new)
+    ⊎ IsUnwritten 3 old answer new)
+
+-- The text is written, if there is one.
+abbrev pub Tells : Option (List ℕ) → List ℕ → Written → List ℕ → Type 0
+Tells (Some text) old answer new = IsPut text 0 old answer new
+Tells None old answer new = IsUnwritten 5 old answer new
+
+-- The name of the refusal of this number, or its meaning, is written, or there is no such refusal.
+abbrev pub IsNamed : ℕ → List ℕ → Written → List ℕ → Type 0
+IsNamed number = Tells (option_map (λ t. t.0) (texts_of number))
+
+abbrev pub IsExplained : ℕ → List ℕ → Written → List ℕ → Type 0
+IsExplained number = Tells (option_map (λ t. t.1) (texts_of number))
 
 -- ---- the room of a core. It keeps 9 steps for each node, which are enough for `settle`
 -- the number of steps that can still be reported; a core without a list of steps has always the same room

@@ -2,14 +2,14 @@
 -- does. What a call does to the part is in the contracts of `tp_part`.
 pub mod GraphCalls
 pub use GraphCalls.*
-use Rattle.gerfmuod.specs.declared.part.{call.PartCall.PartCall, slot.{PartSlot.TheInside.Inside, TheConstants.MARK}}
+use Rattle.gerfmuod.specs.declared.part.{calls.PartCall.PartCall, slot.{PartSlot.TheInside.Inside, TheConstants.MARK}}
 use Rattle.std.specs.{Option.option_map, Prelude.{Result, Ok, Err}}
 use Rattle.tp_base.specs.Checks.{first_refusal, Check}
 use Rattle.tp_part.specs.Calls.{new_part, with_task, with_arrival, Runs, Sends, Ends, IsOver, IsWaiting, arrived_checks, done_checks}
 use Rattle.tp_part.specs.{Calls.{next_checks, start_checks, task_checks}, State.PartState, declared.part.Next.{Next, TheVariants.Run}}
 use Rattle.tp_part.specs.declared.part.Next.TheVariants.{Send, Wait, Over}
 use Rattle.tp_flow.specs.Description as flow
-use Rattle.gerfmuod.specs.declared.part.call.PartCall.TheVariants as call
+use Rattle.gerfmuod.specs.declared.part.calls.PartCall.TheVariants as call
 
 -- A part in the caller's memory: whether it is open, and which tasks accessed its data handles.
 pub record PartView : Type 0 where

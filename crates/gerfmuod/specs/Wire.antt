@@ -1,5 +1,5 @@
 -- Control messages, refusals and results of `next`, as numbers.
-pub use Rattle.gerfmuod.specs.declared.wire.WireMessage.{WireMessage}
+pub use Rattle.gerfmuod.specs.declared.process.WireMessage.{WireMessage}
 pub use Rattle.std.specs.Prelude.{ℕ, ◌≡◌, ◌⊎◌, ◌==◌, if◌then◌else◌, Option, Some, None, Result, Ok, Err, ◌≤◌, ◌&&◌, true}
 pub use Rattle.std.specs.Result.{result_err}
 pub use Rattle.tp_process.specs.Calls.{receive_refusal, take_refusal, close_refusal, closed, moved, open_refusal, opened, send_refusal}

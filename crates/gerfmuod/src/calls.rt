@@ -1,15 +1,13 @@
 //! The calls on a core, as C gets their results.
 ghost use Rattle.std.specs.Prelude.{◌≡◌, ◌≢◌, ◌&&◌, IsTrue, None, OnSome, option_map};
 ghost use Rattle.gerfmuod.specs.Calls.{number_of, no_numbers, world_of, InEach, is_maker, plain, IsNeverEarly, is_quiet, counters};
-ghost use Rattle.gerfmuod.specs.Calls.{unsettled, IsSettled, IsStep, IsByCall, IsCountersCall, IsRestartCall, IsSettleCall, IsStepCall};
+ghost use Rattle.gerfmuod.specs.Calls.{IsSettled, IsStep, IsByCall, IsCountersCall, IsRestartCall, IsSettleCall, IsStepCall};
 ghost use Rattle.gerfmuod.specs.Calls.{IsStatusCall, refused_step, IsReserveCall, made_step, maker_asked, IsMade, has_plain_reply};
 ghost use Rattle.gerfmuod.specs.Calls.{is_ending_if, refusal_told, reply_told, IsTold, raw_step, TellsNoEarlyEnd, opening, refusal_of};
 
 use crate::answer::{Counters, Settled, Status, StepResult};
 use crate::pool::CoreRoom;
-use crate::raw_step::{
-    RawStep, insert_step, message_end_step, open_step, receive_step, send_step, step_of,
-};
+use crate::raw_step::{RawStep, insert_step, other_step, step_of};
 use crate::slot::{CoreSlot, can_be};
 use tp_base::{ActionId, MessageId, NodeId, Refusal, Step, TaskId};
 use tp_core::{Maker, Reply};
@@ -158,9 +156,10 @@ fn of_reply(reply: Reply) -> StepResult
 
 /// Takes the next step if there is one, and returns the result for C.
 #[inline(always)]
-#[tactic(auto, using(crate::proofs::Steps::told_over))]
+#[tactic(auto, using(crate::proofs::Steps::reply_safe))]
 pub(crate) fn told(room: &mut CoreRoom, step: Option<Step>) -> StepResult
-    ensures { IsTold room.old step result room.new × TellsNoEarlyEnd (result.event ≡ 3) result.number room.new }
+    ensures told { IsTold room.old step result room.new }
+    ensures safe { TellsNoEarlyEnd (result.event ≡ 3) result.number room.new }
 {
     let ends = is_ending(step);
     match room.take(step) {
@@ -210,15 +209,15 @@ fn no_step(room: &mut CoreRoom) -> StepResult
 fn taken(room: &mut CoreRoom, raw: RawStep) -> StepResult
     ensures { IsStep raw room.old result room.new }
 {
-    let (first, second, third, generation) = (raw.first, raw.second, raw.third, raw.generation);
+    let (first, second, third) = (raw.first, raw.second, raw.third);
     match raw.kind {
         0 => told_plainly(room, insert_step(first, second, third)),
         1 => told_plainly(room, Some(Step::Supply(TaskId(first)))),
         2 => told_plainly(room, Some(Step::Begin(TaskId(first)))),
         3 => told_plainly(room, Some(Step::Done(TaskId(first)))),
-        7 => told_plainly(room, send_step(first, second, third, generation)),
-        8 => told_plainly(room, receive_step(first, second, generation)),
-        9 => told_plainly(room, message_end_step(first, second, generation)),
+        7 => told_plainly(room, other_step(raw)),
+        8 => told_plainly(room, other_step(raw)),
+        9 => told_plainly(room, other_step(raw)),
         _ => told(room, step_of(raw)),
     }
 }
@@ -290,15 +289,15 @@ fn taken_by(room: &mut CoreRoom, maker_kind: u32, maker: u32, raw: RawStep) -> S
     ensures { IsMade room.old (maker_asked maker_kind maker) (made_step raw) result room.new
         × TellsNoEarlyEnd (result.event ≡ 3) result.number room.new }
 {
-    let (first, second, third, generation) = (raw.first, raw.second, raw.third, raw.generation);
+    let (first, second, third) = (raw.first, raw.second, raw.third);
     let by = maker_kind;
     match raw.kind {
         0 => told_by(room, by, maker, insert_step(first, second, third)),
         1 => told_by(room, by, maker, Some(Step::Supply(TaskId(first)))),
         2 => told_by(room, by, maker, Some(Step::Begin(TaskId(first)))),
         3 => told_by(room, by, maker, Some(Step::Done(TaskId(first)))),
-        4 => told_by(room, by, maker, open_step(first, second)),
-        7 => told_by(room, by, maker, send_step(first, second, third, generation)),
+        4 => told_by(room, by, maker, other_step(raw)),
+        7 => told_by(room, by, maker, other_step(raw)),
         _ => told_by(room, by, maker, None),
     }
 }
@@ -395,7 +394,8 @@ fn settled_room(room: &mut CoreRoom) -> Settled
             wave,
             steps,
         },
-        Err(refusal) => unsettled(refusal),
+        Err(Refusal::HistoryFull(steps)) => unsettled(16, steps),
+        Err(refusal) => unsettled(u16::from(refusal.number()), 0),
     }
 }
 
@@ -404,26 +404,18 @@ pub(crate) fn settled(slot: &mut CoreSlot) -> Settled
     ensures { IsSettleCall slot.old result slot.new }
 {
     if !slot.enter() {
-        return Settled {
-            refused: u32::from(slot.refusal()),
-            wave: 0,
-            steps: 0,
-        };
+        return unsettled(slot.refusal(), 0);
     }
     let answer = settled_room(&mut slot.room);
     slot.leave();
     answer
 }
 
-fn unsettled(refusal: Refusal) -> Settled
-    ensures { result ≡ unsettled refusal }
+fn unsettled(refused: u16, steps: u32) -> Settled
+    ensures { result ≡ record { refused = refused; wave = 0; steps = steps } }
 {
-    let steps = match refusal {
-        Refusal::HistoryFull(steps) => steps,
-        _ => 0,
-    };
     Settled {
-        refused: u32::from(refusal.number()),
+        refused: u32::from(refused),
         wave: 0,
         steps,
     }

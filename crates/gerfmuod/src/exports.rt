@@ -1,4 +1,4 @@
-//! The exported functions on a core, which `gerfmuod/core.h` declares.
+//! The exported functions on a core. `gerfmuod/core.h` declares them, and says for which reasons each is refused.
 ghost use Rattle.gerfmuod.specs.Calls.{IsByCall, IsClosed, IsCountersCall, IsRestartCall, IsSettleCall, IsStepCall, IsTraceCall};
 ghost use Rattle.gerfmuod.specs.Calls.{IsReserveCall, IsStepsCall, IsStatusCall, raw_step, CoreState, opened, opened_as, opening};
 ghost use Rattle.gerfmuod.specs.contracts.slot.CoreSlot.{the_row as slot_row};
@@ -31,8 +31,8 @@ pub extern "C" fn gerfmuod_core_size() -> usize
     size_of::<CoreSlot>()
 }
 
-/// Opens a core of 1 to 8 nodes in the memory at `core`. It allocates nothing. Returns 0, or 26, `BadSpec`, if `nodes`
-/// is not 1 to 8: then the core is not open.
+/// Opens a core in the memory at `core`. It allocates nothing. Returns 0, or 26, `BadSpec`, if `nodes` is not 1 to 8: then the core
+/// is not open.
 #[unsafe(no_mangle)]
 pub unsafe extern "C" fn gerfmuod_core_open(alloc: Global, core: *mut u8, nodes: u32) -> u32
     requires* { sem 𝓛 (room_at slot_row core) }
@@ -56,16 +56,7 @@ pub unsafe extern "C" fn gerfmuod_core_open_unrecorded(alloc: Global, core: *mut
 }
 
 /// Reserves memory for `steps` more steps, for tasks with numbers below `tasks`, and for messages with numbers below
-/// `messages`. It takes no step, and no other call shows a difference. Numbers from 1,048,576 on, and steps beyond the
-/// 1,048,576 of a core, are ignored.
-///
-/// Until that many more steps are taken, the calls that take steps allocate nothing, except at a task or a message with a
-/// higher number, or at an action that is opened. All steps count: a task takes 3 and one for each input, a message 3, an
-/// opening 1, and `gerfmuod_core_settle` at most 9 for each node. A reopening keeps the room for steps, and drops the places of
-/// tasks and messages; a restart drops both.
-///
-/// Returns 0, or why the call was refused: 24, `NoPool`, if the core is not open; 28, `Busy`, if another call runs on it;
-/// 17, `NoMemory`, if an allocation fails. What was reserved until then stays reserved.
+/// `messages`. It takes no step, and no other call shows a difference. If an allocation fails, what was reserved stays reserved.
 #[unsafe(no_mangle)]
 pub unsafe extern "C" fn gerfmuod_core_reserve(
     core: *mut u8,
@@ -75,19 +66,13 @@ pub unsafe extern "C" fn gerfmuod_core_reserve(
 ) -> u32
     ghost old: { CoreState }
     requires* { sem 𝓛 (lies_at slot_row full_share core old) }
-    ensures* { ∃ₛ (λ (new : CoreState). sem 𝓛 (lies_at slot_row full_share core new)
-        ∗ ⌜ IsReserveCall old result new ⌝) }
+    ensures* { ∃ₛ (λ (new : CoreState). sem 𝓛 (lies_at slot_row full_share core new) ∗ ⌜ IsReserveCall old result new ⌝) }
 {
     reserved(&mut *(core as *mut CoreSlot), steps, tasks, messages)
 }
 
-/// Takes the next step if it is lawful and there is room for it. `event` in the result is 5 if the step ended a task, an
-/// action, the opening of a node or a message, and the pool is quiet after it. If it is 3, the pool had terminated with a
+/// Takes the next step if it is lawful and there is room for it. If `event` in the result is 3, the pool had terminated with a
 /// wave: it was quiet when that wave ended.
-///
-/// Refused, and nothing changes: `NoPool` if the core is not open; 28, `Busy`, if another call runs on it; `BadSpec` if
-/// there is no such step; `HistoryFull`, with the number of steps that were taken, if fewer than 9 steps for each node
-/// would be left, which `gerfmuod_core_settle` may need; then for the first check that fails, as in `Core::step`.
 #[unsafe(no_mangle)]
 pub unsafe extern "C" fn gerfmuod_core_step(
     core: *mut u8,
@@ -102,22 +87,12 @@ pub unsafe extern "C" fn gerfmuod_core_step(
     ensures* { ∃ₛ (λ (new : CoreState). sem 𝓛 (lies_at slot_row full_share core new)
         ∗ ⌜ IsStepCall (raw_step kind first second third generation) old result new ⌝) }
 {
-    answered(
-        &mut *(core as *mut CoreSlot),
-        kind,
-        first,
-        second,
-        third,
-        generation,
-    )
+    let slot = &mut *(core as *mut CoreSlot);
+    answered(slot, kind, first, second, third, generation)
 }
 
-/// Takes steps in order, up to the first that is refused, as `gerfmuod_core_step` does. Returns how many were taken. The result
-/// of each, and that of the refused step, are written to the start of `results`; the rest of it does not change. Steps
-/// without a place for their result are not taken.
-///
-/// If the core is not open, or another call runs on it, no step is taken and nothing changes; the first place of `results`
-/// says so, if there are a step and a place.
+/// Takes steps in order, up to the first that is refused. Returns how many were taken. The result of each, and that of the refused
+/// step, are written to the start of `results`. Steps without a place for their result are not taken.
 #[unsafe(no_mangle)]
 pub unsafe extern "C" fn gerfmuod_core_steps(
     core: *mut u8,
@@ -133,14 +108,8 @@ pub unsafe extern "C" fn gerfmuod_core_steps(
 }
 
 /// Takes the next step as `gerfmuod_core_step` does, if its maker may make it: at the node of the step, a running task
-/// (`maker_kind` 0), an open action (1), a message that was received and has not ended (2) or the opening of the node (3)
-/// may insert a task, supply one, open an action, send a message, and begin or finish a task; a thread of node `maker` (4)
-/// may begin and finish tasks. The node of a step is the home of the task that is supplied, begun or finished, or the node
-/// that inserts, opens or sends.
-///
-/// Refused, and nothing changes: `NoPool` if the core is not open; 28, `Busy`, if another call runs on it; `BadSpec` if
-/// there is no such step or maker, or the step has none (kinds 5, 6 and 8 to 15); 29, `NoMaker`, if the maker does not run
-/// or is not open at the node of the step, or that node or task does not exist; then as `gerfmuod_core_step` is.
+/// (`maker_kind` 0), an open action (1), a message that was received and has not ended (2) or the opening of the node (3); or a
+/// thread of node `maker` (4), which may begin and finish tasks.
 #[unsafe(no_mangle)]
 pub unsafe extern "C" fn gerfmuod_core_step_by(
     core: *mut u8,
@@ -157,57 +126,43 @@ pub unsafe extern "C" fn gerfmuod_core_step_by(
     ensures* { ∃ₛ (λ (new : CoreState). sem 𝓛 (lies_at slot_row full_share core new)
         ∗ ⌜ IsByCall maker_kind maker (raw_step kind first second third generation) old result new ⌝) }
 {
+    let slot = &mut *(core as *mut CoreSlot);
     answered_by(
-        &mut *(core as *mut CoreSlot),
-        maker_kind,
-        maker,
-        kind,
-        first,
-        second,
-        third,
-        generation,
+        slot, maker_kind, maker, kind, first, second, third, generation,
     )
 }
 
-/// Returns the counters of a node. Refused: `NoPool` if the core is not open; 28, `Busy`, if another call runs on it;
-/// `NoNode` if there is no such node.
+/// Returns the counters of a node.
 #[unsafe(no_mangle)]
 pub unsafe extern "C" fn gerfmuod_core_counters(core: *mut u8, node: u32) -> Counters
     ghost old: { CoreState }
     requires* { sem 𝓛 (lies_at slot_row full_share core old) }
-    ensures* { ∃ₛ (λ (new : CoreState). sem 𝓛 (lies_at slot_row full_share core new)
-        ∗ ⌜ IsCountersCall node old result new ⌝) }
+    ensures* { ∃ₛ (λ (new : CoreState). sem 𝓛 (lies_at slot_row full_share core new) ∗ ⌜ IsCountersCall node old result new ⌝) }
 {
     counted(&mut *(core as *mut CoreSlot), node)
 }
 
-/// Returns the counters of the pool as a whole: the steps that were taken, the steps that can still be reported, the
-/// messages in flight, and whether the pool is quiet. If the core is not open, or another call runs on it, all are 0 and it
-/// is not quiet.
+/// Returns the counters of the pool as a whole. If no call can be made on the core, all are 0 and it is not quiet.
 #[unsafe(no_mangle)]
 pub unsafe extern "C" fn gerfmuod_core_status(core: *mut u8) -> Status
     ghost old: { CoreState }
     requires* { sem 𝓛 (lies_at slot_row full_share core old) }
-    ensures* { ∃ₛ (λ (new : CoreState). sem 𝓛 (lies_at slot_row full_share core new)
-        ∗ ⌜ IsStatusCall old result new ⌝) }
+    ensures* { ∃ₛ (λ (new : CoreState). sem 𝓛 (lies_at slot_row full_share core new) ∗ ⌜ IsStatusCall old result new ⌝) }
 {
     seen(&mut *(core as *mut CoreSlot))
 }
 
-/// Takes control steps until termination is detected, if the pool is quiet. Refused: `NoPool` if the core is not open; 28,
-/// `Busy`, if another call runs on it; then as `Core::settle` is, but never as `HistoryFull`: there is always room.
+/// Takes control steps until termination is detected, if the pool is quiet. There is always room for them.
 #[unsafe(no_mangle)]
 pub unsafe extern "C" fn gerfmuod_core_settle(core: *mut u8) -> Settled
     ghost old: { CoreState }
     requires* { sem 𝓛 (lies_at slot_row full_share core old) }
-    ensures* { ∃ₛ (λ (new : CoreState). sem 𝓛 (lies_at slot_row full_share core new)
-        ∗ ⌜ IsSettleCall old result new ⌝) }
+    ensures* { ∃ₛ (λ (new : CoreState). sem 𝓛 (lies_at slot_row full_share core new) ∗ ⌜ IsSettleCall old result new ⌝) }
 {
     settled(&mut *(core as *mut CoreSlot))
 }
 
-/// Writes the trace of the steps that were taken to the start of `buffer`; outcome 5 if the core is not open, or
-/// another call runs on it. `tp audit` and `gerfmuod_audit` judge it.
+/// Writes the trace of the steps that were taken to the start of `buffer`. `tp audit` and `gerfmuod_audit` judge it.
 #[unsafe(no_mangle)]
 pub unsafe extern "C" fn gerfmuod_core_trace(
     core: *mut u8,
@@ -222,27 +177,22 @@ pub unsafe extern "C" fn gerfmuod_core_trace(
     traced(&mut *(core as *mut CoreSlot), alloc, buffer)
 }
 
-/// Begins anew with the same nodes and no steps, and frees the memory of the steps that were taken. Returns 0, or why the
-/// call was refused, and nothing changes: 24, `NoPool`, if the core is not open; 28, `Busy`, if another call runs on it;
-/// 5, `WrongLife`, if termination of the present generation was not detected.
+/// Begins anew with the same nodes and no steps, if termination of the present generation was detected.
 #[unsafe(no_mangle)]
 pub unsafe extern "C" fn gerfmuod_core_restart(core: *mut u8) -> u32
     ghost old: { CoreState }
     requires* { sem 𝓛 (lies_at slot_row full_share core old) }
-    ensures* { ∃ₛ (λ (new : CoreState). sem 𝓛 (lies_at slot_row full_share core new)
-        ∗ ⌜ IsRestartCall old result new ⌝) }
+    ensures* { ∃ₛ (λ (new : CoreState). sem 𝓛 (lies_at slot_row full_share core new) ∗ ⌜ IsRestartCall old result new ⌝) }
 {
     restarted(&mut *(core as *mut CoreSlot))
 }
 
-/// Frees the memory that the core has allocated. After that the core is not open. Returns 0, or why the call was refused,
-/// and nothing changes: 24, `NoPool`, if the core is not open; 28, `Busy`, if another call runs on it.
+/// Frees the memory that the core has allocated. After that the core is not open.
 #[unsafe(no_mangle)]
 pub unsafe extern "C" fn gerfmuod_core_close(core: *mut u8) -> u32
     ghost old: { CoreState }
     requires* { sem 𝓛 (lies_at slot_row full_share core old) }
-    ensures* { ∃ₛ (λ (new : CoreState). sem 𝓛 (lies_at slot_row full_share core new)
-        ∗ ⌜ IsClosed old result new ⌝) }
+    ensures* { ∃ₛ (λ (new : CoreState). sem 𝓛 (lies_at slot_row full_share core new) ∗ ⌜ IsClosed old result new ⌝) }
 {
     CoreSlot::close(&mut *(core as *mut CoreSlot))
 }

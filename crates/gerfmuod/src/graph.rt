@@ -12,7 +12,6 @@ use std::alloc::Global;
 
 pub(crate) mod access;
 pub(crate) mod answer;
-mod call;
 mod calls;
 mod data;
 mod slot;
@@ -34,10 +33,7 @@ pub unsafe extern "C" fn gerfmuod_graph_open(
     (graph as *mut GraphSlot).write(made)
 }
 
-/// Makes the call of a number, 0 to 15, as the header says.
-///
-/// Refused, and nothing changes: `NoPool` if the graph is not open; `BadSpec` if there is no such call; then as the call
-/// of `Team` is, or `Flow::handle` after the fault of the team.
+/// Makes the call of a number, 0 to 15.
 #[unsafe(no_mangle)]
 pub unsafe extern "C" fn gerfmuod_graph_call(
     graph: *mut u8,
@@ -53,10 +49,7 @@ pub unsafe extern "C" fn gerfmuod_graph_call(
     call(&mut *(graph as *mut GraphSlot), number, first, second)
 }
 
-/// Adds one task of a class 0 to 3, which reads the tasks `inputs` and awaits `outside` inputs from outside: all or
-/// nothing. `number` in the result is its number.
-///
-/// Refused, and nothing changes: `NoPool` if the graph is not open; then as `Team::spawn` is.
+/// Adds one task of a class 0 to 3, which reads the tasks `inputs` and awaits `outside` inputs from outside: all or nothing.
 #[unsafe(no_mangle)]
 pub unsafe extern "C" fn gerfmuod_graph_spawn(
     graph: *mut u8,
@@ -73,10 +66,7 @@ pub unsafe extern "C" fn gerfmuod_graph_spawn(
 }
 
 /// Adds one task of a class 0 to 3, which accesses data handles and awaits `outside` inputs from outside: all or nothing. It
-/// reads the tasks that `Flow::find` finds. `number` in the result is its number.
-///
-/// Refused, and nothing changes: `NoPool` if the graph is not open; `BadSpec` if a mode is not 1 to 3 or a handle is not there;
-/// then as `Team::spawn` is with these inputs. `NoMemory`, unless one of the first two applies.
+/// reads the tasks that `Flow::find` finds. `NoMemory` also before other refusals.
 #[unsafe(no_mangle)]
 pub unsafe extern "C" fn gerfmuod_graph_task(
     graph: *mut u8,
@@ -94,9 +84,6 @@ pub unsafe extern "C" fn gerfmuod_graph_task(
 
 /// Describes a whole graph of `offsets.len() - 1` tasks, all or nothing: task t is of class `classes[t]`, or 0 if there
 /// are none, and reads the tasks `inputs[offsets[t]]` to `inputs[offsets[t + 1] - 1]`.
-///
-/// Refused, and nothing changes: `NoPool` if the graph is not open; then as `Team::describe` is, with the number of the
-/// task that cannot be added, or 0.
 #[unsafe(no_mangle)]
 pub unsafe extern "C" fn gerfmuod_graph_describe(
     graph: *mut u8,

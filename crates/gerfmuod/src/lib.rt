@@ -15,4 +15,3 @@ mod process;
 mod raw_step;
 mod slot;
 mod text;
-mod wire;

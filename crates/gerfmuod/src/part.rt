@@ -10,7 +10,6 @@ use crate::part::calls::{call, shared_task, task};
 use crate::part::slot::PartSlot;
 use std::alloc::Global;
 
-mod call;
 mod calls;
 mod slot;
 mod tasks;
@@ -25,24 +24,17 @@ pub unsafe extern "C" fn gerfmuod_part_open(alloc: Global, part: *mut u8, number
     (part as *mut PartSlot).write(made)
 }
 
-/// Makes the call of a number, 0 to 5, as the header says.
-///
-/// Refused, and nothing changes: `NoPool` if the part is not open; `BadSpec` if there is no such call; then as the call of
-/// `Part` is, or `Flow::handle`.
+/// Makes the call of a number, 0 to 5.
 #[unsafe(no_mangle)]
 pub unsafe extern "C" fn gerfmuod_part_call(part: *mut u8, number: u32, task: u32) -> GraphResult
     ghost old: { PartView }
     requires* { sem 𝓛 (lies_at slot_row full_share part old) }
-    ensures* { ∃ₛ (λ (new : PartView). sem 𝓛 (lies_at slot_row full_share part new)
-        ∗ ⌜ IsPartCall old number task result new ⌝) }
+    ensures* { ∃ₛ (λ (new : PartView). sem 𝓛 (lies_at slot_row full_share part new) ∗ ⌜ IsPartCall old number task result new ⌝) }
 {
     call(&mut *(part as *mut PartSlot), number, task)
 }
 
-/// Describes one more task of the whole graph: its class, the tasks that it reads, and the part that owns it. `number` in the
-/// result is its number.
-///
-/// Refused, and nothing changes: `NoPool` if the part is not open; then as `Part::task` is.
+/// Describes one more task of the whole graph: its class, the tasks that it reads, and the part that owns it.
 #[unsafe(no_mangle)]
 pub unsafe extern "C" fn gerfmuod_part_task(
     part: *mut u8,
@@ -59,9 +51,7 @@ pub unsafe extern "C" fn gerfmuod_part_task(
 }
 
 /// Describes one more task of the whole graph, which accesses data handles. It reads the tasks that `Flow::find` finds.
-///
-/// Refused, and nothing changes: `NoPool` if the part is not open; `BadSpec` if a mode is not 1 to 3 or a handle is not there;
-/// then as `Part::task` is with these inputs. `NoMemory`, unless one of the first two applies.
+/// `NoMemory` also before other refusals.
 #[unsafe(no_mangle)]
 pub unsafe extern "C" fn gerfmuod_part_shared_task(
     part: *mut u8,

@@ -83,6 +83,7 @@ impl CoreRoom {
 
     /// Returns whether the maker may make the step.
     #[inline(always)]
+    #[tactic(auto, using(crate::proofs::Steps::kept_never_early))]
     pub(crate) fn is_maker(&self, maker: Maker, step: Step) -> bool
         ensures is_maker { result ≡ is_maker maker step (world_of self.now) }
         ensures never_early { InEach (IsNeverEarly self.now.nodes) self.now.steps }
@@ -101,6 +102,7 @@ impl CoreRoom {
     /// Takes the next step as `Core::step` does. Refused, before that, as `BadSpec` if there is none, and as
     /// `HistoryFull` if there is no room for it.
     #[inline(always)]
+    #[tactic(auto, using(crate::proofs::Steps::kept_never_early))]
     pub(crate) fn take(&mut self, step: Option<Step>) -> Result<Reply, Refusal>
         ensures answers { AnswersTo self.old step result self.new }
         ensures never_early { InEach (IsNeverEarly self.new.nodes) self.new.steps }
@@ -116,6 +118,7 @@ impl CoreRoom {
     }
 
     /// Takes control steps until termination is detected, as `Core::settle` does. There is always room for them.
+    #[tactic(auto, using(crate::proofs::Steps::kept_after_settling))]
     pub(crate) fn settle(&mut self) -> Result<(u32, u32), Refusal>
         ensures answers { Settles self.old result self.new }
         ensures has_room { IfErr result (λ r. number_of r ≢ 16) }

@@ -4,11 +4,52 @@
 ghost use Rattle.gerfmuod.specs.Wire.{after_event, after_init, after_taking, message_of, message_with, next_as, IsKept, receipt_refused};
 ghost use Rattle.gerfmuod.specs.Wire.{refused_as, refused_by, taken_as, wire_after, close_refusal, closed, moved, open_refusal, opened};
 ghost use Rattle.gerfmuod.specs.Wire.{send_refusal, sent, received_in, reopen_refusal, reopened, checked, if_open, is_open, new_process};
-ghost use Rattle.gerfmuod.specs.Wire.{next_of, read};
+ghost use Rattle.gerfmuod.specs.Wire.{next_of, read, wire_of};
 ghost use Rattle.std.specs.{Prelude.{◌≡◌, ◌≤◌, ◌⊎◌, ◌&&◌, true, Some}, Result.result_err};
 
-use crate::wire::{WireMessage, wire_of};
 use tp_process::{ControlMessage, Next, Process, Refusal, Token};
+
+/// A control message as the transport carries it.
+#[repr(C)]
+#[derive(Clone, Copy, Debug, PartialEq, Eq)]
+pub struct WireMessage {
+    pub epoch: u64,
+    pub from: u64,
+    pub to: u64,
+    pub wave: u64,
+    /// 0: the wave goes down. 1: it comes back up, with sums. 2: termination was detected.
+    pub token: u32,
+    /// The number of processes, as the sender has it.
+    pub processes: u32,
+    /// If the token is 1, the number of messages that the sender and all processes below it had sent.
+    pub sent: u64,
+    /// If the token is 1, the number of messages that they had received.
+    pub received: u64,
+}
+
+/// Returns the eight numbers of a control message of an epoch.
+#[inline(always)]
+fn wire_of(epoch: u64, message: ControlMessage) -> WireMessage
+    ensures { result ≡ wire_of epoch message }
+{
+    let (token, sent, received) = match message.token {
+        Token::Down => (0, 0, 0),
+        Token::Up(sent, received) => (1, sent, received),
+        Token::Over => (2, 0, 0),
+    };
+    WireMessage {
+        epoch,
+        from: message.from,
+        to: message.to,
+        wave: message.wave,
+        token,
+        processes: message.processes,
+        sent,
+        received,
+    }
+}
+
+const _: () = prove!(size_of::<WireMessage>() == 56);
 
 /// The refusal of a control message that has no such token. All refusals of processes are above 100, so they differ from
 /// the results of `gerfmuod_process_next` and from the refusals of a core.

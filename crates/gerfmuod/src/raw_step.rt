@@ -1,7 +1,6 @@
 //! The steps as C passes them: the number of a kind and the numbers of what it names.
-ghost use Rattle.std.specs.Prelude.{◌≡◌, IsTrue, Some};
-ghost use Rattle.gerfmuod.specs.Calls.{ActionOpen, Send, Recv, MessageEnd, insert_asked, other_step, step_asked};
-ghost use Rattle.gerfmuod.specs.Calls.{task_step, action as as_action, age, message as as_message, node as as_node, has_plain_reply};
+ghost use Rattle.std.specs.Prelude.{◌≡◌, IsTrue};
+ghost use Rattle.gerfmuod.specs.Calls.{has_plain_reply, insert_asked, other_step, step_asked, task_step};
 
 use tp_base::{ActionId, Generation, Inputs, MAX_INPUTS, MessageId, NodeId, Step, TaskId};
 
@@ -49,20 +48,21 @@ fn task_step(raw: RawStep) -> Option<Step>
 
 /// Returns the step of a kind above 3.
 #[inline(always)]
-fn other_step(raw: RawStep) -> Option<Step>
+pub(crate) fn other_step(raw: RawStep) -> Option<Step>
     ensures { result ≡ other_step raw }
 {
+    let (node, second, generation) = (NodeId(raw.first), raw.second, Generation(raw.generation));
     match raw.kind {
-        4 => open_step(raw.first, raw.second),
-        5 => Some(Step::ActionClose(NodeId(raw.first), ActionId(raw.second))),
-        6 => Some(Step::Ready(NodeId(raw.first))),
-        7 => send_step(raw.first, raw.second, raw.third, raw.generation),
-        8 => receive_step(raw.first, raw.second, raw.generation),
-        9 => message_end_step(raw.first, raw.second, raw.generation),
+        4 => Some(Step::ActionOpen(node, ActionId(second))),
+        5 => Some(Step::ActionClose(node, ActionId(second))),
+        6 => Some(Step::Ready(node)),
+        7 => Some(Step::Send(node, NodeId(second), MessageId(raw.third), generation)),
+        8 => Some(Step::Recv(node, MessageId(second), generation)),
+        9 => Some(Step::MessageEnd(node, MessageId(second), generation)),
         10 => Some(Step::Start),
-        11 => Some(Step::Down(NodeId(raw.first))),
-        12 => Some(Step::Give(NodeId(raw.first))),
-        13 => Some(Step::Up(NodeId(raw.first))),
+        11 => Some(Step::Down(node)),
+        12 => Some(Step::Give(node)),
+        13 => Some(Step::Up(node)),
         14 => Some(Step::Judge),
         15 => Some(Step::Reopen),
         _ => None,
@@ -82,41 +82,4 @@ pub(crate) fn insert_step(home: u32, task: u32, inputs: u32) -> Option<Step>
         Some(inputs) => Some(Step::Insert(NodeId(home), TaskId(task), inputs)),
         None => None,
     }
-}
-
-/// Returns the step that opens an action.
-#[inline(always)]
-pub(crate) fn open_step(node: u32, action: u32) -> Option<Step>
-    ensures { result ≡ Some (ActionOpen (as_node node) (as_action action)) }
-{
-    Some(Step::ActionOpen(NodeId(node), ActionId(action)))
-}
-
-/// Returns the step that sends a message.
-#[inline(always)]
-pub(crate) fn send_step(from: u32, to: u32, message: u32, generation: u32) -> Option<Step>
-    ensures { result ≡ Some (Send (as_node from) (as_node to) (as_message message) (age generation)) }
-{
-    Some(Step::Send(
-        NodeId(from),
-        NodeId(to),
-        MessageId(message),
-        Generation(generation),
-    ))
-}
-
-/// Returns the step that receives a message.
-#[inline(always)]
-pub(crate) fn receive_step(node: u32, message: u32, generation: u32) -> Option<Step>
-    ensures { result ≡ Some (Recv (as_node node) (as_message message) (age generation)) }
-{
-    Some(Step::Recv(NodeId(node), MessageId(message), Generation(generation)))
-}
-
-/// Returns the step that ends the handling of a message.
-#[inline(always)]
-pub(crate) fn message_end_step(node: u32, message: u32, generation: u32) -> Option<Step>
-    ensures { result ≡ Some (MessageEnd (as_node node) (as_message message) (age generation)) }
-{
-    Some(Step::MessageEnd(NodeId(node), MessageId(message), Generation(generation)))
 }

@@ -1,13 +1,13 @@
 //! Writing a text to a buffer of the caller: the audit of a trace, and the trace of a core.
-ghost use Rattle.std.specs.Prelude.{◌≡◌, IfOk};
-ghost use Rattle.gerfmuod.specs.Calls.{IsAuditText, IsTraceCall, outcome_of, IsAudited, IsPut};
+ghost use Rattle.std.specs.Prelude.{◌≡◌};
+ghost use Rattle.gerfmuod.specs.Calls.{IsTraceCall, IsAudited, IsPut, outcome_of};
 ghost use Rattle.tp_text.specs.TracedEnd.{EndedIsOver, NotEndedClaimsNoEnd, ReopenedIsOver};
 
 use crate::answer::Written;
 use crate::slot::CoreSlot;
 use std::alloc::Global;
 use tp_base::Refusal;
-use tp_text::{MAX_TEXT, TextFault, Verdict, audit, print_steps};
+use tp_text::{MAX_TEXT, Verdict, audit, print_steps};
 
 /// The outcome of a text that was written.
 pub(crate) const WRITTEN: u32 = 0;
@@ -45,15 +45,6 @@ pub(crate) fn put(buffer: &mut [u8], text: &[u8], outcome: u32) -> Written
     Written { outcome, length }
 }
 
-fn judged(alloc: Global, text: &[u8]) -> Result<(Verdict, Vec<u8>), TextFault>
-    ensures { IfOk result (λ answer. IsAuditText text.now answer.0 answer.1.items) }
-{
-    let mut reader = text;
-    let mut written = Vec::new(alloc);
-    let verdict = audit(alloc, &mut reader, &mut written)?;
-    Ok((verdict, written))
-}
-
 fn outcome_of(verdict: Verdict) -> u32
     ensures { result ≡ outcome_of verdict }
 {
@@ -69,8 +60,10 @@ fn audited(alloc: Global, text: &[u8], buffer: &mut [u8]) -> Written
     if text.len() > MAX_TEXT {
         return unwritten(TOO_LONG);
     }
-    match judged(alloc, text) {
-        Ok((verdict, answer)) => put(buffer, &answer, outcome_of(verdict)),
+    let mut reader = text;
+    let mut written = Vec::new(alloc);
+    match audit(alloc, &mut reader, &mut written) {
+        Ok(verdict) => put(buffer, &written, outcome_of(verdict)),
         Err(_) => unwritten(NO_MEMORY),
     }
 }

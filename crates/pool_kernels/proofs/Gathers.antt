@@ -2,7 +2,7 @@
 use Rattle.pool_blocks.proofs.JoinedValues.{and_then, gather-more}
 use Rattle.pool_kernels.specs.{Kernels.gather_where, Ranks.{rank, nth}}
 use Rattle.std.proofs.Common.{◌≡◌, ◌≢◌, ◌<◌, ◌≤◌, ℕ, zero, suc, Bool, true, false, List, [], ◌∷◌, Option, Some, None, if◌then◌else◌, eqb}
-use Rattle.std.proofs.{Common.{refl, ap, sym, ◌∙◌, ⊎_elim, arith}, lemmas.Bool.{cases_eq, cases_lt, eq-eqb, ne_eqb}}
+use Rattle.std.proofs.{Common.{refl, ap, ◌∙◌, ⊎_elim, arith}, lemmas.Bool.{cases_eq, cases_lt, eq-eqb, false_from_ne_true, ne_eqb}}
 use Rattle.tp_graph.{proofs.Valued.gather-same, specs.Values.{gather, then_some}}
 
 -- the numbers below n that have f, by their ranks
@@ -13,10 +13,10 @@ nth_step : {A : Type 0} (f : ℕ → Bool) (v : ℕ → Option A) (n : ℕ) (b :
 nth_step f v n true before =
     let m : ℕ = rank f n in
     gather-more m (λ s. v (if eqb s m then n else nth f n s))
-    ∙ ap (λ o. and_then o (v (if eqb m m then n else nth f n m)))
-    (gather-same m (λ s. v (if eqb s m then n else nth f n s)) (λ s. v (nth f n s))
-    (λ s h. ap (λ b. v (if b then n else nth f n s)) (ne_eqb s m (λ e. absurd (omega (arith, e, h))))) ∙ before)
-    ∙ ap (λ b. and_then (gather_where f v n) (v (if b then n else nth f n m))) (eq-eqb m m refl)
+    ∙ rw (eq-eqb m m refl)
+    (ap (λ o. and_then o (v n))
+    (gather-same m (λ s. v (if eqb s m then n else nth f n s)) (λ s. v (nth f n s)) (λ s h. rw (ne_eqb s m (λ e. omega arith)) refl)
+    ∙ before))
 nth_step f v n false before = before
 
 pub gather-nth : {A : Type 0} (f : ℕ → Bool) (v : ℕ → Option A) (n : ℕ) → gather (rank f n) (λ s. v (nth f n s)) ≡ gather_where f v n
@@ -24,17 +24,10 @@ gather-nth f v zero = refl
 gather-nth f v (suc n) = nth_step f v n (f n) (gather-nth f v n)
 
 -- ---- where none, one or two numbers have f
-abbrev with_last : {A : Type 0} → (ℕ → Bool) → (ℕ → Option A) → ℕ → Bool → Option (List A)
-with_last f v n b = if b then and_then (gather_where f v n) (v n) else gather_where f v n
-
-not_true : (b : Bool) → (b ≡ true → ⊥) → b ≡ false
-not_true true h = absurd (h refl)
-not_true false h = refl
-
 pub gather_none : {A : Type 0} (f : ℕ → Bool) (v : ℕ → Option A) (n : ℕ) → ((j : ℕ) → j < n → f j ≡ true → ⊥) → gather_where f v n ≡ Some []
 gather_none f v zero h = refl
 gather_none f v (suc n) h =
-    ap (with_last f v n) (not_true (f n) (h n (omega arith))) ∙ gather_none f v n (λ j q. h j (omega (arith, q)))
+    rw (false_from_ne_true (f n) (h n (omega arith))) (gather_none f v n (λ j q. h j (omega (arith, q))))
 
 pub gather_one : {A : Type 0} (f : ℕ → Bool) (v : ℕ → Option A) (n a : ℕ) → a < n → f a ≡ true
     → ((j : ℕ) → j < n → f j ≡ true → j ≡ a) → gather_where f v n ≡ then_some (v a) (λ x. Some (x ∷ []))
@@ -42,13 +35,11 @@ gather_one f v zero a h e only = absurd (omega arith)
 gather_one f v (suc n) a h e only =
     ⊎_elim
     (λ (lower : a < n).
-    ap (with_last f v n) (not_true (f n) (λ t. absurd (omega (arith, only n (omega arith) t, lower))))
-    ∙ gather_one f v n a lower e (λ j q. only j (omega (arith, q))))
+    rw (false_from_ne_true (f n) (λ t. omega (arith, only n (omega arith) t)))
+    (gather_one f v n a lower e (λ j q. only j (omega (arith, q)))))
     (λ (last : n ≤ a).
-    let same : a ≡ n = omega arith in
-    ap (with_last f v n) (ap f (sym same) ∙ e)
-    ∙ ap (λ o. and_then o (v n)) (gather_none f v n (λ j q t. absurd (omega (arith, only j (omega (arith, q)) t, q, last))))
-    ∙ ap (λ k. then_some (v k) (λ x. Some (x ∷ []))) (sym same))
+    let same : n ≡ a = omega arith in
+    rw (same, e, gather_none f v a (λ j q t. omega (arith, only j (omega (arith, q)) t))) refl)
     (cases_lt a n)
 
 -- the two in rising order
@@ -65,22 +56,22 @@ gather_two f v zero a b two = absurd (omega (arith, two.below))
 gather_two f v (suc n) a b two =
     ⊎_elim
     (λ (lower : b < n).
-    ap (with_last f v n) (not_true (f n) (λ t.
-    absurd (omega (arith, two.only n (omega arith) t (λ e. absurd (omega (arith, e, lower, two.rise))), lower))))
-    ∙ gather_two f v n a b (record {
+    rw (false_from_ne_true (f n) (λ t. omega (arith, two.only n (omega arith) t (λ e. omega (arith, e, two.rise)))))
+    (gather_two f v n a b (record {
       rise = two.rise;
       below = lower;
       first = two.first;
       second = two.second;
       only = λ j q. two.only j (omega (arith, q));
-    }))
+    })))
     (λ (last : n ≤ b).
-    let same : b ≡ n = omega (arith, two.below, last) in
-    ap (with_last f v n) (ap f (sym same) ∙ two.second)
-    ∙ ap (λ o. and_then o (v n))
-    (gather_one f v n a (omega (arith, two.rise, same)) two.first (λ j q t.
-    ⊎_elim (λ (e : j ≡ a). e) (λ (e : j ≢ a). absurd (omega (arith, two.only j (omega (arith, q)) t e, same, q))) (cases_eq j a)))
-    ∙ ap (λ k. and_then (then_some (v a) (λ x. Some (x ∷ []))) (v k)) (sym same))
+    let same : n ≡ b = omega (arith, two.below) in
+    rw (
+      same,
+      two.second,
+      gather_one f v b a two.rise two.first (λ j q t.
+          ⊎_elim (λ (e : j ≡ a). e) (λ (e : j ≢ a). absurd (omega (arith, two.only j (omega (arith, q)) t e))) (cases_eq j a)),
+    ) refl)
     (cases_lt b n)
 
 -- what there is if something is computed from one, or two, that are gathered

@@ -1,10 +1,10 @@
 -- The blocks after each row of a butterfly, and the numbers after the last.
 use Rattle.pool_blocks.specs.{ListLaws.list-at, Lists.{at, list_of}}
 use Rattle.pool_kernels.proofs.{Cells.{cell_first, cell_from_two, if_some}, Rows.{list_same, row_of_blocks}, Splits.butterfly_two}
-use Rattle.pool_kernels.{proofs.Splits.{digit_inner, digit_outer, high_below, without_inner, without_outer}, specs.Digits.butterfly}
-use Rattle.pool_kernels.specs.{Digits.{digit, without}, Kernels.{cell, computed, row_at}, Pairs.{Pair, after, pair_rule, paired, within}}
-use Rattle.std.proofs.Common.{◌≡◌, ◌<◌, ◌≤◌, ◌+◌, ◌-◌, ◌*◌, ◌^◌, ℕ, zero, suc, ℤ, pos, List, [], ◌∷◌, length, get_or, Some, ap, sym, ◌∙◌}
-use Rattle.std.proofs.{Common.arith, lemmas.Nat.pow-add}
+use Rattle.pool_kernels.proofs.Splits.{digit_inner, digit_outer, high_below, without_inner, without_outer}
+use Rattle.pool_kernels.specs.{Kernels.{cell, computed, row_at}, Pairs.{Pair, after, butterfly, digit, pair_rule, paired, within, without}}
+use Rattle.std.proofs.Common.{◌≡◌, ◌<◌, ◌≤◌, ◌+◌, ◌-◌, ◌*◌, ◌^◌, ℕ, zero, suc, ℤ, pos, List, [], ◌∷◌, length, get_or, Some, refl, ap, sym}
+use Rattle.std.proofs.{Common.{◌∙◌, arith}, lemmas.Nat.pow-add}
 use Rattle.tp_graph.{proofs.Made.{some_same, then_some-is}, specs.Values.{all_fit, fitting, then_some}}
 
 module _ (pair : Pair) (xs : List ℤ) (inner : ℕ) where
@@ -33,11 +33,9 @@ module _ (pair : Pair) (xs : List ℤ) (inner : ℕ) where
       let p : ℕ = i * 2 ^ inner + e in
       let low : i * 2 ^ inner + without t e ≡ without t p = sym (without_inner t inner i e (omega (arith, h))) in
       let high : without t e + 2 ^ t < 2 ^ inner = high_below t inner e (omega (arith, h)) q in
-      ap (λ d. pair d (at own (without t e)) (at own (without t e + 2 ^ t))) (sym (digit_inner t inner i e (omega (arith, h))))
-      ∙ ap (λ z. pair (digit t p) z (at own (without t e + 2 ^ t)))
-      (at_block t i (without t e) (without t p) own is (omega (arith, high)) low)
-      ∙ ap (pair (digit t p) (after pair (at xs) t (without t p)))
-      (at_block t i (without t e + 2 ^ t) (without t p + 2 ^ t) own is high (omega (arith, low))))
+      let first = at_block t i (without t e) (without t p) own is (omega (arith, high)) low in
+      let second = at_block t i (without t e + 2 ^ t) (without t p + 2 ^ t) own is high (omega (arith, low)) in
+      cc (digit_inner t inner i e (omega (arith, h)), first, second))
 
   rows : (outer t i : ℕ) (value : List ℤ) → t ≤ outer → i < 2 ^ outer
       → cell butterfly (pair_rule pair xs inner) (2 ^ outer) t i ≡ Some value → value ≡ block (inner + t) i
@@ -58,13 +56,11 @@ module _ (pair : Pair) (xs : List ℤ) (inner : ℕ) where
       let p : ℕ = i * 2 ^ inner + e in
       let low : without t i * 2 ^ inner + e ≡ without (inner + t) p = sym (without_outer t inner i e s) in
       let power : 2 ^ (inner + t) ≡ 2 ^ t * 2 ^ inner = pow-add 2 inner t ∙ omega arith in
-      ap (λ d. pair d (at x e) (at y e)) (sym (digit_outer t inner i e s))
-      ∙ ap (λ z. pair (digit (inner + t) p) z (at y e))
-      (at_block (inner + t) (without t i) e (without (inner + t) p) x
-      (rows outer t (without t i) x (omega (arith, h)) (omega (arith, high)) two.2) s low)
-      ∙ ap (pair (digit (inner + t) p) (after pair (at xs) (inner + t) (without (inner + t) p)))
-      (at_block (inner + t) (without t i + 2 ^ t) e (without (inner + t) p + 2 ^ (inner + t)) y
-      (rows outer t (without t i + 2 ^ t) y (omega (arith, h)) high two.3) s (omega (arith, low, power))))
+      let first = at_block (inner + t) (without t i) e (without (inner + t) p) x
+      (rows outer t (without t i) x (omega (arith, h)) (omega (arith, high)) two.2) s low in
+      let second = at_block (inner + t) (without t i + 2 ^ t) e (without (inner + t) p + 2 ^ (inner + t)) y
+      (rows outer t (without t i + 2 ^ t) y (omega (arith, h)) high two.3) s (omega (arith, low, power)) in
+      cc (digit_outer t inner i e s, first, second))
       ∙ ap (λ k. block k i) next
 
 -- the last row has all numbers after all steps
@@ -74,38 +70,28 @@ last_row_paired pair xs inner outer w t row whole width last e =
     let all : 2 ^ outer * 2 ^ inner ≡ length xs = omega (arith, pow-add 2 inner outer, whole) in
     row_of_blocks butterfly (pair_rule pair xs inner) (2 ^ outer) outer (2 ^ inner) (after pair (at xs) (inner + outer)) row
     (λ i value h p. rows pair xs inner outer outer i value (omega arith) h p)
-    (ap (λ n. row_at butterfly (pair_rule pair xs inner) n outer) (sym width)
-    ∙ ap (row_at butterfly (pair_rule pair xs inner) w) (sym last) ∙ e)
+    (rw (width, last) at e)
     ∙ ap (λ m. list_of m (after pair (at xs) (inner + outer))) all
 
 -- ---- what tasks compute, of a block after the steps within it and of two blocks
 pub within_first : (pair : Pair) (xs : List ℤ) (size inner i steps : ℕ) → size ≡ 2 ^ inner → steps ≡ 0
     → then_some (within pair xs (2 ^ inner) i steps) fitting ≡ fitting (list_of size (λ e. at xs (i * size + e)))
-within_first pair xs size inner i steps is none =
-    ap (λ k. then_some (within pair xs (2 ^ inner) i k) fitting) none ∙ ap (λ n. fitting (list_of n (λ e. at xs (i * n + e)))) (sym is)
+within_first pair xs size inner i steps is none = rw (none, is) refl
 
 pub within_next : (pair : Pair) (xs : List ℤ) (size inner i k steps : ℕ) (own : List ℤ) → size ≡ 2 ^ inner → steps ≡ suc k
     → then_some (within pair xs (2 ^ inner) i k) fitting ≡ Some own
     → then_some (within pair xs (2 ^ inner) i steps) fitting
     ≡ fitting (list_of size (λ e. pair (digit k e) (at own (without k e)) (at own (without k e + 2 ^ k))))
-within_next pair xs size inner i k steps own is next e =
-    ap (λ n. then_some (within pair xs (2 ^ inner) i n) fitting) next
-    ∙ ap (λ o. then_some (then_some o (λ l.
-    Some (list_of (2 ^ inner) (λ e. pair (digit k e) (at l (without k e)) (at l (without k e + 2 ^ k)))))) fitting) e
-    ∙ ap (λ n. fitting (list_of n (λ e. pair (digit k e) (at own (without k e)) (at own (without k e + 2 ^ k))))) (sym is)
+within_next pair xs size inner i k steps own is next e = rw (next, e, is) refl
 
 two_items : (xs : List (List ℤ)) (low high : List ℤ) → 2 ≤ length xs → length xs < 3 → low ≡ get_or xs 0 low → high ≡ get_or xs 1 high
     → xs ≡ low ∷ high ∷ []
-two_items [] low high p q e f = absurd (omega arith)
-two_items (x ∷ []) low high p q e f = absurd (omega arith)
-two_items (x ∷ y ∷ []) low high p q e f = ap (λ a. a ∷ y ∷ []) (sym e) ∙ ap (λ b. low ∷ b ∷ []) (sym f)
-two_items (x ∷ y ∷ z ∷ rest) low high p q e f = absurd (omega arith)
+two_items (x ∷ y ∷ []) low high p q e f = cc
+two_items _ low high p q e f = absurd (omega arith)
 
 pub pair_of_two : (pair : Pair) (xs : List ℤ) (size inner t i bit : ℕ) (inputs : List (List ℤ)) (low high : List ℤ)
     → 2 ≤ length inputs → length inputs < 3 → low ≡ get_or inputs 0 low → high ≡ get_or inputs 1 high
     → size ≡ 2 ^ inner → bit ≡ digit (t - 1) i
     → computed (pair_rule pair xs inner) t i inputs ≡ fitting (list_of size (λ e. pair bit (at low e) (at high e)))
 pair_of_two pair xs size inner t i bit inputs low high p q first second is own =
-    ap (computed (pair_rule pair xs inner) t i) (two_items inputs low high p q first second)
-    ∙ ap (λ n. fitting (list_of n (λ e. pair (digit (t - 1) i) (at low e) (at high e)))) (sym is)
-    ∙ ap (λ d. fitting (list_of size (λ e. pair d (at low e) (at high e)))) (sym own)
+    rw (two_items inputs low high p q first second, is, own) refl

@@ -1,6 +1,6 @@
 -- A lawful graph is in order, and one that is in order is lawful with the ways back that are found.
 use Rattle.pool_kernels.specs.Plans.{Fills, IsBefore, IsConnected, IsRight, IsSound, LawfulIsSound, SoundIsLawful}
-use Rattle.std.proofs.{Common.{◌≡◌, ◌<◌, ◌≤◌, ℕ, inl, inr, refl, ap, sym, ◌∙◌, ⊎_elim, arith}, lemmas.Bool.cases_lt}
+use Rattle.std.proofs.{Common.{◌≡◌, ◌<◌, ◌≤◌, ℕ, inl, inr, refl, sym, ◌∙◌, ⊎_elim, arith}, lemmas.Bool.cases_lt}
 use Rattle.tp_base.specs.declared.limits.TheConstants.{MAX_NODES}
 use Rattle.tp_graph.specs.Graphs.{FillsSlot, IsFilled, IsLawful, TaskGraph}
 
@@ -9,11 +9,9 @@ use Rattle.tp_graph.specs.Graphs.{FillsSlot, IsFilled, IsLawful, TaskGraph}
 one_feed : (g : TaskGraph) (p k q l t s : ℕ) → IsLawful g → Fills g p k t s → Fills g q l t s → (p ≡ q) × (k ≡ l)
 one_feed g p k q l t s law a b =
     let first = law.feeds_fill p k a.task a.turn in
-    let second = law.feeds_fill q l b.task b.turn in
-    let target : g.target p k ≡ g.target q l = a.target ∙ sym b.target in
-    let slot : g.slot p k ≡ g.slot q l = a.slot ∙ sym b.slot in (
-      sym first.source_is ∙ ap (λ u. g.source u (g.slot p k)) target ∙ ap (g.source (g.target q l)) slot ∙ second.source_is,
-      sym first.turn_is ∙ ap (λ u. g.turn u (g.slot p k)) target ∙ ap (g.turn (g.target q l)) slot ∙ second.turn_is,
+    let second = law.feeds_fill q l b.task b.turn in (
+      cc (first.source_is, second.source_is, a.target, a.slot, b.target, b.slot),
+      cc (first.turn_is, second.turn_is, a.target, a.slot, b.target, b.slot),
     )
 
 not_before : (p k q l : ℕ) → IsBefore p k q l → p ≡ q → k ≡ l → ⊥
@@ -75,25 +73,21 @@ way g connected t s =
     (cases_lt t g.tasks)
 
 -- two feeds that fill a slot are one, if each is alone
+not_first : (g : TaskGraph) (t s p k q l : ℕ) → Fills g p k t s → Fills g q l t s → IsRight g q l → IsBefore p k q l → ⊥
+not_first g t s p k q l a b right before = right.alone (record {
+  task = p;
+  turn = k;
+  before = before;
+  fills = record { task = a.task; turn = a.turn; target = a.target ∙ sym b.target; slot = a.slot ∙ sym b.slot };
+})
+
 same_feed : (g : TaskGraph) (t s p k q l : ℕ) → Fills g p k t s → Fills g q l t s → IsRight g p k → IsRight g q l → (p ≡ q) × (k ≡ l)
 same_feed g t s p k q l a b right_p right_q =
-    let first : IsBefore p k q l → ⊥ = λ before. right_q.alone (record {
-      task = p;
-      turn = k;
-      before = before;
-      fills = record { task = a.task; turn = a.turn; target = a.target ∙ sym b.target; slot = a.slot ∙ sym b.slot };
-    }) in
-    let second : IsBefore q l p k → ⊥ = λ before. right_p.alone (record {
-      task = q;
-      turn = l;
-      before = before;
-      fills = record { task = b.task; turn = b.turn; target = b.target ∙ sym a.target; slot = b.slot ∙ sym a.slot };
-    }) in
-    let lower : q ≤ p = ⊎_elim (λ (c : p < q). absurd (first (inl c))) (λ (c : q ≤ p). c) (cases_lt p q) in
-    let higher : p ≤ q = ⊎_elim (λ (c : q < p). absurd (second (inl c))) (λ (c : p ≤ q). c) (cases_lt q p) in
+    let lower : p < q → ⊥ = λ c. not_first g t s p k q l a b right_q (inl c) in
+    let higher : q < p → ⊥ = λ c. not_first g t s q l p k b a right_p (inl c) in
     let task : p ≡ q = omega (arith, lower, higher) in
-    let less : l ≤ k = ⊎_elim (λ (c : k < l). absurd (first (inr (task, c)))) (λ (c : l ≤ k). c) (cases_lt k l) in
-    let more : k ≤ l = ⊎_elim (λ (c : l < k). absurd (second (inr (sym task, c)))) (λ (c : k ≤ l). c) (cases_lt l k) in
+    let less : k < l → ⊥ = λ c. not_first g t s p k q l a b right_q (inr (task, c)) in
+    let more : l < k → ⊥ = λ c. not_first g t s q l p k b a right_p (inr (sym task, c)) in
     (task, omega (arith, less, more))
 
 module _ (g : TaskGraph) (sound : (n : ℕ) → 1 ≤ n → n ≤ MAX_NODES → IsSound g n) where

@@ -1,8 +1,20 @@
--- Numbers after steps that pair them by binary digits of their positions, at once and in blocks.
+-- Single binary digits, and numbers after steps that pair them by digits of their positions, at once and in blocks.
 use Rattle.pool_blocks.specs.Lists.{at, list_of}
-use Rattle.pool_kernels.specs.{Digits.{digit, without}, Kernels.Rule}
-use Rattle.std.specs.Prelude.{◌≡◌, ◌<◌, ◌+◌, ◌-◌, ◌*◌, ◌^◌, ℕ, zero, suc, ℤ, List, [], ◌∷◌, Option, Some, None, length}
+use Rattle.pool_kernels.specs.Kernels.{Rule}
+use Rattle.std.specs.Prelude.{◌≡◌, ◌<◌, ◌+◌, ◌-◌, ◌*◌, ◌^◌, ◌/◌, ◌%◌, ◌==◌, ℕ, zero, suc, ℤ, Bool, List, [], ◌∷◌, length}
+use Rattle.std.specs.Prelude.{Option, Some, None}
 use Rattle.tp_graph.specs.Values.{fitting, then_some}
+
+-- digit k of a number, counted from the lowest, and the number with this digit set to 0
+abbrev pub digit : ℕ → ℕ → ℕ
+digit k n = n / 2 ^ k % 2
+
+abbrev pub without : ℕ → ℕ → ℕ
+without k n = n - digit k n * 2 ^ k
+
+-- a column feeds those of row t that are the same but for digit t - 1
+abbrev pub butterfly : ℕ → ℕ → ℕ → Bool
+butterfly t j i = without (t - 1) j == without (t - 1) i
 
 -- what a number becomes, from its digit (0 or 1) and the two numbers of its pair
 abbrev pub Pair : Type 0

@@ -1,9 +1,9 @@
 -- When the tasks and feeds of a graph are in order, and what is wrong with it first.
-use Rattle.std.specs.Prelude.{◌≡◌, ◌<◌, ◌≤◌, ◌⊎◌, ℕ, ⊤}
+use Rattle.std.specs.Prelude.{◌≡◌, ◌<◌, ◌≤◌, ◌+◌, ◌*◌, ◌⊎◌, ℕ, ⊤, Bool, true, false, List, length, slice_index_or}
 use Rattle.tp_base.specs.declared.limits.TheConstants.{CLASSES, MAX_INPUTS, MAX_NODES}
 use Rattle.tp_graph.specs.Graphs.{IsLawful, TaskGraph}
-use Rattle.pool_kernels.specs.declared.graph_fault.GraphFault.{GraphFault}
-use Rattle.pool_kernels.specs.declared.graph_fault.GraphFault.TheVariants.{Class, Empty, Home, Inputs, NoMemory, Slot, Taken, Target}
+use Rattle.pool_kernels.specs.declared.fault.GraphFault.{GraphFault, TheVariants.{Class, Empty, Home, Inputs, NoMemory, Slot}}
+use Rattle.pool_kernels.specs.declared.fault.GraphFault.TheVariants.{Taken, Target}
 
 -- a task has few inputs, a class, and a home at n nodes
 pub record IsPlaced (g : TaskGraph) (n t : ℕ) : Type 0 where
@@ -99,6 +99,21 @@ IsGraphFault g n (Target p k) = IsFirstFeed g n p.0 k × (GoesUp g p.0 k → ⊥
 IsGraphFault g n (Slot p k) = IsFirstFeed g n p.0 k × GoesUp g p.0 k × (HasSlot g p.0 k → ⊥)
 IsGraphFault g n (Taken p k) = IsFirstFeed g n p.0 k × GoesUp g p.0 k × HasSlot g p.0 k × IsTaken g p.0 k
 IsGraphFault g n NoMemory = ⊤
+
+-- ---- the marks of slots that feeds fill
+-- each task has at most 16 inputs
+abbrev pub AreFew : TaskGraph → Type 0
+AreFew g = (t : ℕ) → t < g.tasks → g.arity t ≤ MAX_INPUTS
+
+-- the mark of slot s of task t
+abbrev pub mark_at : List Bool → ℕ → ℕ → Bool
+mark_at marks t s = slice_index_or marks (16 * t + s) false
+
+-- the slots that are marked are those that the feeds before feed k of task p fill
+pub record AreMarks (g : TaskGraph) (p k : ℕ) (marks : List Bool) : Type 0 where
+  pub long : length marks ≡ 16 * g.tasks
+  pub set : (t s : ℕ) → t < g.tasks → s < 16 → IsFilledBefore g p k t s → mark_at marks t s ≡ true
+  pub only : (t s : ℕ) → t < g.tasks → s < 16 → mark_at marks t s ≡ true → IsFilledBefore g p k t s
 
 -- ---- the laws of a graph
 -- A lawful graph is in order at 1 to 8 nodes.

@@ -1,6 +1,6 @@
 //! Steps that pair numbers by binary digits of their positions, in blocks, as a kernel.
 ghost use Rattle.pool_blocks.specs.Lists.{at};
-ghost use Rattle.pool_kernels.specs.{Digits.{digit, without}, Numbers.checked, Pairs.{AreInBlocks, pair_rule, within}};
+ghost use Rattle.pool_kernels.specs.{Numbers.checked, Pairs.{AreInBlocks, digit, pair_rule, within, without}};
 ghost use Rattle.std.specs.Prelude.{◌≡◌, ◌<◌, ◌≤◌, ◌+◌, ◌*◌, ◌^◌, IfNone, IfSome, MatchResult, Some, length, ⊤};
 ghost use Rattle.tp_graph.specs.Values.{IsRefusal, fitting, then_some};
 

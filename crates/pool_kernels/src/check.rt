@@ -1,14 +1,84 @@
-//! Checks that the tasks and feeds of a graph are in order.
-ghost use Rattle.pool_kernels.specs.{Marks.{AreFew, AreMarks}, Plans.{AreFed, AreRight, IsConnected, IsFirstFeed, IsFirstPlace}};
-ghost use Rattle.pool_kernels.specs.Plans.{IsGraphFault, IsPlaced, IsReached, IsRight, IsSound};
+//! Checks that the tasks and feeds of a graph are in order. A plan has them without a proof that they are.
+ghost use Rattle.pool_kernels.specs.Plans.{AreFed, AreFew, AreMarks, AreRight, IsConnected, IsFirstFeed, IsFirstPlace, IsGraphFault};
+ghost use Rattle.pool_kernels.specs.Plans.{IsPlaced, IsReached, IsRight, IsSound};
 ghost use Rattle.std.specs.Prelude.{◌≡◌, ◌<◌, ◌≤◌, ◌+◌, ◌*◌, ℕ, IfErr, OnOk};
 ghost use Rattle.tp_base.specs.declared.limits.TheConstants.{MAX_INPUTS, MAX_NODES};
+ghost use Rattle.tp_graph.specs.Graphs.{TaskGraph};
 
-use crate::graph_fault::GraphFault;
-use crate::plan::{Plan, PlanOf};
+use crate::fault::GraphFault;
 use std::alloc::Global;
-use tp_base::{CLASSES, MAX_INPUTS, TaskId};
+use tp_base::{CLASSES, MAX_INPUTS, NodeId, TaskId};
 use tp_graph::Graph;
+
+/// What a graph says of its tasks and feeds. Unlike a [`Graph`] it need not be lawful, so a check of one means
+/// something before its laws are proved.
+pub trait Plan {
+    ghost plan: { Self → TaskGraph };
+
+    /// Returns the number of tasks.
+    fn tasks(&self) -> u32
+        ensures { result ≡ (plan self.now).tasks };
+
+    /// Returns the number of inputs of a task.
+    fn arity(&self, task: TaskId) -> u8
+        requires { task.0 < (plan self.now).tasks }
+        ensures { result ≡ (plan self.now).arity task.0 };
+
+    /// Returns the class of a task.
+    fn class(&self, task: TaskId) -> u8
+        requires { task.0 < (plan self.now).tasks }
+        ensures { result ≡ (plan self.now).class task.0 };
+
+    /// Returns the number of feeds of a task.
+    fn feeds(&self, task: TaskId) -> u32
+        requires { task.0 < (plan self.now).tasks }
+        ensures { result ≡ (plan self.now).feeds task.0 };
+
+    /// Returns where a feed goes: a task and one of its slots.
+    fn feed(&self, task: TaskId, turn: u32) -> (TaskId, u8)
+        requires known { task.0 < (plan self.now).tasks }
+        requires within { turn < (plan self.now).feeds task.0 }
+        ensures target { result.0.0 ≡ (plan self.now).target task.0 turn }
+        ensures slot { result.1 ≡ (plan self.now).slot task.0 turn };
+
+    /// Returns the node at which a task runs.
+    fn home(&self, task: TaskId, nodes: u32) -> NodeId
+        requires known { task.0 < (plan self.now).tasks }
+        requires nodes { (1 ≤ nodes) × (nodes ≤ MAX_NODES) }
+        ensures { result.0 ≡ (plan self.now).home task.0 nodes };
+}
+
+/// The plan of a graph.
+#[derive(Clone, Copy)]
+pub struct PlanOf<'a, G: Graph>(pub &'a G);
+
+impl<'a, G: Graph> Plan for PlanOf<'a, G> {
+    ghost plan = { λ p. G.meaning p.0.now };
+
+    fn tasks(&self) -> u32 {
+        self.0.tasks()
+    }
+
+    fn arity(&self, task: TaskId) -> u8 {
+        self.0.arity(task)
+    }
+
+    fn class(&self, task: TaskId) -> u8 {
+        self.0.class(task)
+    }
+
+    fn feeds(&self, task: TaskId) -> u32 {
+        self.0.feeds(task)
+    }
+
+    fn feed(&self, task: TaskId, turn: u32) -> (TaskId, u8) {
+        self.0.feed(task, turn)
+    }
+
+    fn home(&self, task: TaskId, nodes: u32) -> NodeId {
+        self.0.home(task, nodes)
+    }
+}
 
 /// Checks the tasks and feeds of a graph at 1 to 8 nodes: each task has few inputs, a class and a home, each slot is
 /// filled by one feed of a lower task, and no feed goes elsewhere. Returns what is wrong first: places of tasks before

@@ -1,6 +1,6 @@
 //! Single binary digits of numbers.
 ghost use Rattle.std.specs.Prelude.{◌≡◌, ◌<◌, ◌^◌};
-ghost use Rattle.pool_kernels.specs.Digits.{digit, without};
+ghost use Rattle.pool_kernels.specs.Pairs.{digit, without};
 
 /// Returns binary digit `place` of a number, counted from the lowest, which is digit 0.
 #[tactic(auto, using(crate::proofs::Splits::digit_past))]

@@ -63,7 +63,7 @@ impl<'a, P: Relation + Send + Sync, K: Kernel> Graph for KernelGrid<'a, P, K> {
 
     ghost lawful = { λ g.
         grid_lawful (P.relation g.table.now.relation g.table.now.width) g.table.now.width g.table.now.steps
-        (rule_in (K.rule g.kernel) g.table.now.width) g.table.now.some_columns g.table.now.narrow };
+        (rule_in (K.rule g.kernel) g.table.now.width) g.table.now.sizes.0 g.table.now.narrow };
 
     fn tasks(&self) -> u32 {
         self.table.steps() * self.table.width()

@@ -11,7 +11,7 @@ pub fn cells_are_values()
 
 /// States that the number of events of a grid is the number counted on its graph, which has no messages at one node.
 /// Any list of steps that computes the graph has that number of steps of tasks and messages.
-#[tactic(auto, using(crate::proofs::EventLaws::events_law, crate::proofs::EventLaws::no_message, crate::proofs::EventLaws::steps_law))]
+#[tactic(auto, using(crate::proofs::Events::events_law, crate::proofs::Events::no_message, crate::proofs::Events::steps_law))]
 pub fn grid_events_are_counted()
     ensures events { GridEventsLaw }
     ensures one_node { NoMessageLaw }

@@ -1,5 +1,5 @@
 //! Running a kernel on threads.
-ghost use Rattle.pool_kernels.specs.{Faults.HasNoFault, Kernels.{kernel_graph, row_at}, RunFaults.{IsGridFault, IsRunFault}};
+ghost use Rattle.pool_kernels.specs.{Kernels.{kernel_graph, row_at}, RunFaults.{HasNoFault, IsGridFault, IsRunFault}};
 ghost use Rattle.std.specs.Prelude.{◌≡◌, ◌-◌, IfOk, IfErr, OnOk, Some};
 ghost use Rattle.tp_work.specs.Outcomes.{IsOutcome, IsWithinLimits};
 

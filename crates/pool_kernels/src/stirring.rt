@@ -1,7 +1,7 @@
-//! The kernel of the tasks, which is arithmetic on numbers below 2^31.
+//! The kernel of Task Bench's tasks, which is arithmetic on numbers below 2^31, and the checksum of a row.
 ghost use Rattle.std.specs.Prelude.{◌≡◌, ◌<◌, ◌≤◌, MatchResult, Some, None, length};
 ghost use Rattle.tp_base.specs.declared.Refusal.TheVariants.{BodyFailed};
-ghost use Rattle.pool_kernels.specs.Stirrings.{made, number_of, stir, stir_rule, stirred, total_of};
+ghost use Rattle.pool_kernels.specs.Stirrings.{checksum, made, number_of, stir, stir_rule, stirred, total_of};
 
 use crate::kernel::Kernel;
 use std::alloc::Global;
@@ -89,4 +89,16 @@ fn total_of(values: &[Value]) -> Result<u64, Refusal>
         total += number_of(&values[i])?;
     }
     Ok(total)
+}
+
+/// Returns the checksum of a row of numbers that are 0 or more: their sum mod 2 ^ 31.
+pub fn checksum(row: &[i64]) -> u64
+    ensures same { result ≡ checksum row.now }
+    ensures small { result < 2147483648 }
+{
+    let mut sum = 0;
+    for number in row {
+        sum = (sum + number.cast_unsigned() % 2147483648) % 2147483648;
+    }
+    sum
 }

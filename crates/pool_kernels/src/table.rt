@@ -1,14 +1,12 @@
 //! The table of a grid, which makes each call of its graph a look-up.
-ghost use Rattle.pool_kernels.specs.{Events.grid_events, Faults.{HasNoFault, IsTableFault}, Grids.IsNarrow, Tables.{AreSpots, IsOutput}};
-ghost use Rattle.pool_kernels.specs.Tables.{IsSpot};
+ghost use Rattle.pool_kernels.specs.{Events.grid_events, Grids.{AreSizes, IsNarrow}, RunFaults.{HasNoFault, IsTableFault}};
+ghost use Rattle.pool_kernels.specs.Tables.{AreSpots, IsOutput, IsSpot};
 ghost use Rattle.std.specs.Prelude.{◌≡◌, ◌≤◌, ◌<◌, ◌*◌, ◌/◌, ◌%◌, ◌^◌, suc, IfErr, IfOk, OnOk};
 ghost use Rattle.tp_base.specs.declared.limits.TheConstants.{MAX_STEPS};
 
-use crate::kinds::{Kinds, kinds_of};
-use crate::noting::spots_of;
+use crate::fault::TableFault;
+use crate::kinds::{Kinds, Output, Shape, Spot, kinds_of, spots_of};
 use crate::relation::Relation;
-use crate::spots::{Output, Spot};
-use crate::table_fault::TableFault;
 use std::alloc::Global;
 use tp_base::{MAX_STEPS, TaskId};
 
@@ -24,10 +22,7 @@ pub struct FeedTable<P: Relation> {
     steps: u32,
     spots: Vec<Spot>,
     outputs: Vec<Output>,
-    ghost some_columns: { 1 ≤ width },
-    ghost few_columns: { width < 2 ^ 20 },
-    ghost some_steps: { 1 ≤ steps },
-    ghost few_steps: { steps < 2 ^ 20 },
+    ghost sizes: { AreSizes width steps },
     ghost few_tasks: { steps * width < 2 ^ 20 },
     ghost narrow: { IsNarrow (P.relation relation width) width steps },
     ghost few_events: { grid_events (P.relation relation width) width steps ≤ MAX_STEPS },
@@ -53,8 +48,19 @@ impl<P: Relation> FeedTable<P> {
             return Err(TableFault::TooManyEvents);
         }
         let period = relation.period(width, steps);
-        let kinds = kinds_of(alloc, &relation, width, period.min(steps - 1))?;
-        let spots = spots_of(alloc, &kinds, width, steps, period)?;
+        let shape = Shape {
+            width,
+            steps,
+            period,
+        };
+        let kinds = match kinds_of(alloc, &relation, shape) {
+            Ok(kinds) => kinds,
+            Err(fault) => return Err(fault),
+        };
+        let spots = match spots_of(alloc, &relation, &kinds, shape) {
+            Ok(spots) => spots,
+            Err(fault) => return Err(fault),
+        };
         let Kinds { outputs, .. } = kinds;
         Ok(FeedTable {
             relation,
@@ -98,7 +104,7 @@ impl<P: Relation> FeedTable<P> {
     }
 
     /// Returns an output of a task: a column of the next row, and the slot there.
-    #[tactic(auto, using(crate::proofs::Noted::output_there))]
+    #[tactic(auto, using(crate::proofs::Tables::output_there))]
     pub(crate) fn output(&self, task: TaskId, spot: Spot, turn: u32) -> Output
         requires known { task.0 < self.now.steps * self.now.width }
         requires right { IsSpot (P.relation self.now.relation self.now.width) self.now.width self.now.steps

@@ -1,10 +1,11 @@
-//! A value that is computed number by number.
+//! A value that is computed number by number, and doubles as numbers of 64 bits.
 ghost use Rattle.std.specs.Prelude.{◌≡◌, ◌<◌, ℕ, ℤ, MatchResult, Some, true};
 ghost use Rattle.tp_graph.specs.Values.{IsRefusal, fits, fitting};
 ghost use Rattle.pool_blocks.specs.Lists.{at, list_of};
-ghost use Rattle.pool_kernels.specs.Numbers.{AreBy};
+ghost use Rattle.pool_kernels.specs.{Doubles.double_in, Numbers.AreBy};
 
 use std::alloc::Global;
+use std::num::{f64_from_bits_with_nan, f64_to_bits_with_nan};
 use tp_base::Refusal;
 use tp_graph::{Value, ValueBuilder};
 
@@ -40,4 +41,18 @@ pub fn number_at(numbers: &[i64], place: usize) -> i64
     } else {
         0
     }
+}
+
+/// Returns the 64 bits of a double as a number. Every NaN has the same.
+pub fn bits_of(double: f64) -> i64
+    ensures { double_in result ≡ double }
+{
+    f64_to_bits_with_nan(double).cast_signed()
+}
+
+/// Returns the double that has these 64 bits.
+pub fn double_of(bits: i64) -> f64
+    ensures { result ≡ double_in bits }
+{
+    f64_from_bits_with_nan(bits.cast_unsigned())
 }

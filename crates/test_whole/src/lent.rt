@@ -1,5 +1,5 @@
-//! Rods, grids and products over borrowed data: on one thread and by threads, in one run and in parts, and counted while a
-//! terminal shows the progress.
+//! Rods, grids, products and chains of matrices over borrowed data: on one thread and by threads, in one run and in parts,
+//! and counted while a terminal shows the progress.
 
 ghost use Rattle.std.specs.Prelude.{◌≤◌};
 
@@ -7,6 +7,7 @@ use pool_blocks::{
     ThreePoints, cells_by_one, grid_in_blocks, heat_of, row_blocks, run_in_parts,
     run_in_parts_counted, run_steps,
 };
+use pool_intervals::least_multiplications;
 use pool_matrix::run_product;
 use std::alloc::{AllocError, Global};
 use std::io::{self, IsTerminal, Write};
@@ -92,6 +93,25 @@ fn threads_make_the_plain_rod_and_product(rt: HostRuntime) -> Result<(), Fail> {
         let product = make_the_product(&rt, rt.alloc(), nodes);
         let results = results_by(&rt, rt.alloc(), nodes);
         assert_eq!(rt; (rod, product, results), (true, true, 4), "{nodes}");
+    }
+    Ok(())
+}
+
+/// Whether a pool of these nodes computes what the products of two chains cost: of a lone matrix, and of six. Of these, Cormen
+/// et al. (Introduction to Algorithms, 2009) have the table.
+fn make_the_chains<R: Threads + Wait + Sync>(rt: &R, alloc: Global, nodes: u32) -> bool
+    requires { (1 ≤ nodes) × (nodes ≤ 8) }
+{
+    let config = Config::new(nodes, 2);
+    let lone = least_multiplications(rt, alloc, &[3, 4], config);
+    let six = least_multiplications(rt, alloc, &[30, 35, 15, 5, 10, 20, 25], config);
+    matches!((&lone, &six), (Ok(0), Ok(15_125)))
+}
+
+#[test]
+fn threads_make_the_plain_chains(rt: HostRuntime) -> Result<(), Fail> {
+    for nodes in [1, 2, 5] {
+        assert!(rt; make_the_chains(&rt, rt.alloc(), nodes), "{nodes}");
     }
     Ok(())
 }

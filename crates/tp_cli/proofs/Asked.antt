@@ -3,7 +3,7 @@ use Rattle.clap.specs.Words.{App, HasMatchesOf, Row, Text, all_of, first_of, is_
 use Rattle.clap.specs.declared.parser.matches.{ArgMatches.{ArgMatches, TheViews.out-SubCommand}, SubCommand.SubCommand}
 use Rattle.std.proofs.Common.{◌≡◌, ◌≢◌, ◌∙◌, refl, ap, sym, subst, arith, ℕ, List, Option, Some, None, MatchOption, option_map, codes}
 use Rattle.std.{proofs.Common.{slice_index, unwrap_or}, specs.{Box.box_value, Prelude.Box}}
-use Rattle.tp_cli.specs.{Asked.{IsAskedBy, IsMadeBy}, Command.{AsksForNothing, IsNeither, reading_word, tp_app}}
+use Rattle.tp_cli.specs.{Asked.{IsAskedBy, IsMadeBy}, Command.{IsNeither, asked, reading_word, tp_app}}
 use Rattle.tp_cli.specs.declared.{request.Request.Request, text.TextKind.{TextKind, TheVariants.{Script, Trace}}}
 
 -- the name and the rows of the subcommand that was found
@@ -60,7 +60,7 @@ pools_unnamed name rows is lacks =
 
 -- what was found is what the arguments ask for
 pub neither_asked : (app : App) (words : List Text) (m : ArgMatches) → app ≡ tp_app → HasMatchesOf app words m
-    → IsNeither (subcommand_rows_of m) → AsksForNothing words
+    → IsNeither (subcommand_rows_of m) → IsNeither (asked words)
 neither_asked app words m is has neither =
     subst IsNeither ((has (ap is_simple is)).1 ∙ ap (λ (a : App). subcommand_of a words) is) neither
 

@@ -1,10 +1,7 @@
 pub mod Asked
-pub mod Counted
 pub mod Ending
 pub mod Keeping
-pub mod Printed
+pub mod Outputs
 pub mod Ranked
-pub mod Rounds
 pub mod Settling
 pub mod Several
-pub mod Terminals

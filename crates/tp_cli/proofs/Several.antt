@@ -8,10 +8,10 @@ use Rattle.std.{proofs.lemmas.Option.{get_or_from_slice_get, slice_get-get_or, s
 use Rattle.std.specs.{Prelude.{get_or, slice_get}, Result.is_ok, Str.bytes_eq}
 use Rattle.tp_base.specs.{Checks.{Check, first_refusal}, declared.{ids.PoolId.PoolId, limits.TheConstants.MAX_POOLS}}
 use Rattle.tp_base.specs.declared.refusal.Refusal.{Refusal, TheVariants.{BadSpec, NoMemory, PoolKnown, StoreFull}}
-use Rattle.tp_cli.specs.Pools.{AreInVain, AreNamed, AreTakenTo, IsPoolsFault, IsWordsFault, MayNamePools, Word, is_among, lines_from}
-use Rattle.tp_cli.specs.{Pools.{pool_line, pools_of, word_fault}, Registry.{AreRun, AreRunAnswers, Entered, IsUnregistered, Pools}}
+use Rattle.tp_cli.specs.Pools.{AreInVain, AreNamed, AreTakenTo, IsPoolsFault, IsWordsFault, MayNamePools, Word, is_among}
+use Rattle.tp_cli.specs.{Pools.{pools_of, word_fault}, Registry.{AreRun, AreRunAnswers, Entered, IsUnregistered, Pools}}
 use Rattle.tp_cli.specs.{Registry.{is_named, is_waiting, rank, register_checks, registered}, Runs.NamesNoGraph, declared.fault.Fault.Fault}
-use Rattle.tp_work.specs.declared.config.Outcome.{Outcome}
+use Rattle.tp_work.specs.declared.config.{Config.Config, Outcome.Outcome}
 use Rattle.tp_work.specs.declared.config.Fault as ended
 use Rattle.tp_cli.specs.declared.fault.Fault.TheVariants as faults
 
@@ -167,15 +167,10 @@ named_may [] graphs named = (named.few, λ i w r below here refused. cc)
 named_may (word ∷ words) graphs named = (named.few, λ i w r below here refused. named.taken i w r (omega (arith, below)) here refused)
 
 -- a fault of the specifications is a fault of their pools
-pub words_in_vain : (words : List Word) (n workers : ℕ) (fault : Fault) → IsWordsFault words fault → IsPoolsFault words n workers fault
-words_in_vain words n workers (faults.InVain r) why = why
-words_in_vain words n workers faults.Memory why = why
-words_in_vain words n workers (faults.Words met) why = absurd why
-words_in_vain words n workers (faults.Text met) why = absurd why
-words_in_vain words n workers faults.NoPool why = absurd why
-words_in_vain words n workers faults.Profile why = absurd why
-words_in_vain words n workers (faults.Run met) why = absurd why
-words_in_vain words n workers faults.Write why = absurd why
+pub words_in_vain : (words : List Word) (config : Config) (fault : Fault) → IsWordsFault words fault → IsPoolsFault words config fault
+words_in_vain words config (faults.InVain r) why = why
+words_in_vain words config faults.Memory why = why
+words_in_vain words config _ why = absurd why
 
 -- ---- results
 
@@ -201,31 +196,3 @@ answers_in_order n workers graphs answers old new is run =
           ∙ slice_get-get_or answers i answer (omega (arith, many, lt)) in
           ran.own i (entered (get_or graphs i g)) (get_or answers i answer) at refl got;
     }
-
--- ---- lines
-
--- a line more
-pub line_more : (i : ℕ) (words : List Word) (answers : List (Result Outcome ended.Fault)) (word : Word)
-    (answer : Result Outcome ended.Fault)
-    (text more line whole : List ℕ) → i < length words → i < length answers → word ≡ get_or words i word → answer ≡ get_or answers i answer
-    → line ≡ pool_line i word answer → more ≡ text ++ line
-    → text ++ lines_from i (drop i words) (drop i answers) ≡ whole
-    → more ++ lines_from (i + 1) (drop (i + 1) words) (drop (i + 1) answers) ≡ whole
-unfolding lines_from
-line_more i words answers word answer text more line whole lt lt' word_at answer_at is added before =
-    let rest : List ℕ = lines_from (suc i) (drop (suc i) words) (drop (suc i) answers) in
-    let word_first : drop i words ≡ word ∷ drop (suc i) words =
-    drop-cons words i word lt ∙ ap (λ w. w ∷ drop (suc i) words) (sym word_at) in
-    let answer_first : drop i answers ≡ answer ∷ drop (suc i) answers =
-    drop-cons answers i answer lt' ∙ ap (λ a. a ∷ drop (suc i) answers) (sym answer_at) in
-    let next : suc i ≡ i + 1 = omega arith in
-    subst (λ j. more ++ lines_from j (drop j words) (drop j answers) ≡ whole) next
-    (ap (λ t. t ++ rest) (added ∙ ap (λ l. text ++ l) is) ∙ append_assoc text (pool_line i word answer) rest
-    ∙ ap (λ l. text ++ l) (sym (ap₂ (lines_from i) word_first answer_first)) ∙ before)
-
--- no line is left
-pub lines_done : (i : ℕ) (words : List Word) (answers : List (Result Outcome ended.Fault)) (text whole : List ℕ) → length words ≤ i
-    → text ++ lines_from i (drop i words) (drop i answers) ≡ whole → text ≡ whole
-unfolding lines_from
-lines_done i words answers text whole past before =
-    sym (append-nil text) ∙ ap (λ ws. text ++ lines_from i ws (drop i answers)) (sym (drop_of_length-le words past)) ∙ before

@@ -2,10 +2,10 @@
 -- functions of the command and the arguments.
 use Rattle.clap.specs.Words.{App, Row, Rule, Text, all_of, first_of, one_of, new_app, new_rule, subcommand_of, with_rule, with_subcommand}
 use Rattle.clap.specs.declared.builder.action.ArgAction.TheVariants.{Append, SetTrue}
-use Rattle.std.specs.Prelude.{ℕ, ◌≡◌, List, Option, Some, true, codes}
+use Rattle.std.specs.Prelude.{◌≡◌, List, Option, Some, true, codes}
 use Rattle.tp_cli.specs.declared.{command.TheConstants.MAX_GENERATIONS, run.Form.Form, text.TextKind.{TextKind, TheVariants.Script}}
 use Rattle.tp_cli.specs.declared.text.TextKind.TheVariants.{Trace}
-use Rattle.tp_shell.specs.Command.{AreCountsIn, IsCount, count_rule, with_count_rules, with_version}
+use Rattle.tp_shell.specs.Command.{count_rule, with_count_rules, with_version}
 use Rattle.tp_cli.specs.declared.run.Form.TheVariants as forms
 
 -- a flag, which asks for the trace of a run
@@ -67,26 +67,10 @@ IsReading kind found = (rows : List Row) × (found ≡ Some (reading_word kind, 
 abbrev pub IsRunNaming : Text → Option (Text × List Row) → Type 0
 IsRunNaming spec found = (rows : List Row) × (found ≡ Some (codes "run", rows)) × (first_of (codes "SPEC") rows ≡ Some spec)
 
--- it is the subcommand of this name, with this many nodes and this many workers
-abbrev pub IsAt : Text → ℕ → ℕ → Option (Text × List Row) → Type 0
-IsAt name nodes workers found = (rows : List Row) × (found ≡ Some (name, rows)) × AreCountsIn rows nodes workers
-
--- it is `run`, with this many generations
-abbrev pub IsRunOver : ℕ → Option (Text × List Row) → Type 0
-IsRunOver count found = (rows : List Row) × (found ≡ Some (codes "run", rows)) × IsCount MAX_GENERATIONS (codes "generations") rows count
-
 -- The trace is printed if the flag was given, and the table if it was not.
 abbrev pub IsFormOf : List Row → Form → Type 0
 IsFormOf rows form = (one_of (codes "trace") rows ≡ Some (codes "true") → form ≡ forms.Trace)
     × (one_of (codes "trace") rows ≡ Some (codes "false") → form ≡ forms.Table)
-
--- it is `run`, printed in this form
-abbrev pub IsRunIn : Form → Option (Text × List Row) → Type 0
-IsRunIn form found = (rows : List Row) × (found ≡ Some (codes "run", rows)) × IsFormOf rows form
-
--- it is `run`, with this file for the profile, or none
-abbrev pub IsRunWith : Option Text → Option (Text × List Row) → Type 0
-IsRunWith file found = (rows : List Row) × (found ≡ Some (codes "run", rows)) × (first_of (codes "profile") rows ≡ file)
 
 -- it is `pools`, with these arguments for SPEC
 abbrev pub IsPoolsNaming : List Text → Option (Text × List Row) → Type 0
@@ -99,42 +83,10 @@ IsNeither found = ((kind : TextKind) → ¬ IsReading kind found)
 
 -- ---- what the arguments ask for
 
--- the reply to a text of this kind, to a script or to a trace
-abbrev pub AsksForText : TextKind → List Text → Type 0
-AsksForText kind words = IsReading kind (subcommand_of tp_app words)
+-- the subcommand that they name, with its matches
+abbrev pub asked : List Text → Option (Text × List Row)
+asked words = subcommand_of tp_app words
 
 -- the reply to a script or to a trace
 abbrev pub ReadsAText : List Text → Type 0
-ReadsAText words = (kind : TextKind) × AsksForText kind words
-
--- a run of the pool that this argument specifies
-abbrev pub AsksForRun : List Text → Text → Type 0
-AsksForRun words spec = IsRunNaming spec (subcommand_of tp_app words)
-
--- a run with this many nodes and this many workers
-abbrev pub AsksForRunAt : List Text → ℕ → ℕ → Type 0
-AsksForRunAt words nodes workers = IsAt (codes "run") nodes workers (subcommand_of tp_app words)
-
--- a run with this many generations
-abbrev pub AsksForGenerations : List Text → ℕ → Type 0
-AsksForGenerations words count = IsRunOver count (subcommand_of tp_app words)
-
--- a run that is printed in this form
-abbrev pub AsksForForm : List Text → Form → Type 0
-AsksForForm words form = IsRunIn form (subcommand_of tp_app words)
-
--- a run whose profile goes to this file
-abbrev pub AsksForProfile : List Text → Text → Type 0
-AsksForProfile words file = IsRunWith (Some file) (subcommand_of tp_app words)
-
--- runs at once of the pools that these arguments specify
-abbrev pub AsksForPools : List Text → List Text → Type 0
-AsksForPools words specs = IsPoolsNaming specs (subcommand_of tp_app words)
-
--- these with this many nodes each, and this many workers
-abbrev pub AsksForPoolsAt : List Text → ℕ → ℕ → Type 0
-AsksForPoolsAt words nodes workers = IsAt (codes "pools") nodes workers (subcommand_of tp_app words)
-
--- nothing that is known
-abbrev pub AsksForNothing : List Text → Type 0
-AsksForNothing words = IsNeither (subcommand_of tp_app words)
+ReadsAText words = (kind : TextKind) × IsReading kind (asked words)

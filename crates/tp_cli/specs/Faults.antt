@@ -39,16 +39,8 @@ line_of faults.Write = text_line texts.Write
 
 -- 1 if the arguments, the reading or the writing are at fault, 3 if a run was refused or an allocation failed
 abbrev pub status_of : Fault → Status
-status_of (faults.Words (words.Words text)) = statuses.Fault
 status_of (faults.Words words.Memory) = statuses.Failed
-status_of (faults.Words words.Write) = statuses.Fault
-status_of (faults.Text texts.Read) = statuses.Fault
-status_of (faults.Text texts.TooLong) = statuses.Fault
-status_of (faults.Text texts.Write) = statuses.Fault
 status_of (faults.Text texts.Memory) = statuses.Failed
-status_of faults.NoPool = statuses.Fault
-status_of (faults.InVain refusal) = statuses.Fault
-status_of faults.Profile = statuses.Fault
 status_of (faults.Run fault) = statuses.Failed
 status_of faults.Memory = statuses.Failed
-status_of faults.Write = statuses.Fault
+status_of fault = statuses.Fault

@@ -1,12 +1,12 @@
 -- The specifications of several pools: which of them are refused, and the text of their runs.
 use Rattle.pool_samples.specs.{Words.word_of, declared.any.AnyGraph.AnyGraph}
-use Rattle.std.specs.{List.{list_all, list_any}, Prelude.{ℕ, suc, ◌≡◌, ◌≤◌, ◌<◌, ◌⊎◌, ◌++◌, Bool, true, false, List, [], ◌∷◌, Some, Result}}
-use Rattle.std.specs.{Prelude.{Ok, Err, codes, decimal, length, map, slice_get, take}, Result.is_ok, Str.bytes_eq}
+use Rattle.std.specs.{List.{enumerate_from, flat_map, list_all, list_any, zip}, Prelude.{ℕ, ◌≡◌, ◌≤◌, ◌<◌, ◌⊎◌, ◌++◌, Bool, true, false, List}}
+use Rattle.std.specs.{Prelude.{Some, Result, Ok, Err, codes, decimal, length, map, slice_get, take}, Result.is_ok, Str.bytes_eq}
 use Rattle.tp_base.specs.{Refusals.{number_of, name_of}, declared.{limits.TheConstants.MAX_POOLS, refusal.Refusal.Refusal}}
 use Rattle.tp_base.specs.declared.refusal.Refusal.TheVariants.{BadSpec, NoMemory, PoolKnown, StoreFull}
 use Rattle.tp_cli.specs.{Registry.{AreRunAnswers, Pools, registered}, Runs.NamesNoGraph, declared.fault.Fault.Fault}
 use Rattle.tp_shell.specs.declared.status.Status.{Status, TheVariants.{Done, Failed}}
-use Rattle.tp_work.specs.declared.config.Outcome.{Outcome}
+use Rattle.tp_work.specs.declared.config.{Config.Config, Outcome.Outcome}
 use Rattle.tp_cli.specs.declared.fault.Fault.TheVariants as faults
 use Rattle.tp_work.specs.declared.config.Fault as ended
 
@@ -68,23 +68,22 @@ pool_line i word (Ok o) = codes "pool " ++ (decimal i ++ (codes " " ++ (word
 pool_line i word (Err f) = codes "pool " ++ (decimal i ++ (codes " " ++ (word
     ++ (codes " refused " ++ (decimal (number_of f.refusal) ++ (codes " " ++ (name_of f.refusal ++ codes "\n")))))))
 
--- the lines of the pools of these specifications by their results, in order, the first having this number
-unfoldable pub lines_from : ℕ → List Word → List (Result Outcome ended.Fault) → List ℕ
-lines_from i (word ∷ words) (answer ∷ answers) = pool_line i word answer ++ lines_from (suc i) words answers
-lines_from i _ _ = []
+-- the lines of the pools of these specifications by their results, in order, numbered from 0
+abbrev pub pool_lines : List Word → List (Result Outcome ended.Fault) → List ℕ
+pool_lines words answers = flat_map (λ p. pool_line p.0 p.1.0 p.1.1) (enumerate_from 0 (zip words answers))
 
--- The specifications name pools, these were run on n nodes with this many workers at each, each ended without a fault, or not,
--- and this is the text of their results.
-abbrev pub IsPoolsText : List Word → ℕ → ℕ → Bool → List ℕ → Type 0
-IsPoolsText words n workers each_ended text = (graphs : List AnyGraph) × (answers : List (Result Outcome ended.Fault))
-    × AreNamed words graphs × AreRunAnswers n workers graphs answers
-    × (each_ended ≡ list_all is_ok answers) × (text ≡ lines_from 0 words answers)
+-- The specifications name pools, these were run with this configuration, each ended without a fault, or not, and this is the text
+-- of their results.
+abbrev pub IsPoolsText : List Word → Config → Bool → List ℕ → Type 0
+IsPoolsText words config each_ended text = (graphs : List AnyGraph) × (answers : List (Result Outcome ended.Fault))
+    × AreNamed words graphs × AreRunAnswers config.nodes config.workers graphs answers
+    × (each_ended ≡ list_all is_ok answers) × (text ≡ pool_lines words answers)
 
 -- why the pools were not run, or the text of their results was not written: the specifications are refused; or an allocation
 -- failed, and they may name pools; or there is a text, and it could not be written
-abbrev pub IsPoolsFault : List Word → ℕ → ℕ → Fault → Type 0
-IsPoolsFault words n workers faults.Write = (each_ended : Bool) × (text : List ℕ) × IsPoolsText words n workers each_ended text
-IsPoolsFault words n workers fault = IsWordsFault words fault
+abbrev pub IsPoolsFault : List Word → Config → Fault → Type 0
+IsPoolsFault words config faults.Write = (each_ended : Bool) × (text : List ℕ) × IsPoolsText words config each_ended text
+IsPoolsFault words config fault = IsWordsFault words fault
 
 -- the status of several pools that were run, by whether each ended without a fault
 abbrev pub status_of_pools : Bool → Status

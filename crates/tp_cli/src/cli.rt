@@ -1,10 +1,10 @@
 //! The program without a terminal: from its arguments to its output and exit status.
 ghost use Rattle.clap.specs.Values.{kind_of};
-ghost use Rattle.std.specs.{Io.KnownBytes.Appends, Prelude.{◌≡◌, ◌≢◌, ◌≤◌, ◌⊎◌, List, ℕ, IfErr, IfOk, map}};
-ghost use Rattle.tp_cli.specs.{Command.ReadsAText, Ends.{CouldNotWrite, HasAnswered, HasNothing, RefusedPool, RefusedText, Succeeded}};
-ghost use Rattle.tp_cli.specs.{Faults.{line_of, status_of}, Texts.{IsAnswerTo, IsUnansweredText, status_of_verdict}};
+ghost use Rattle.std.specs.{Io.KnownBytes.Appends, Prelude.{◌≡◌, ◌≤◌, ◌⊎◌, List, ℕ, IfErr, IfOk, false, map}};
+ghost use Rattle.tp_cli.specs.{Command.ReadsAText, Ends.{HasFault, HasWritten, IsFaultOf, IsOutputOf, is_unwritten}};
+ghost use Rattle.tp_cli.specs.{Faults.{line_of, status_of}, Texts.status_of_verdict, declared.request.Request.TheVariants.Answer};
 ghost use Rattle.tp_shell.specs.{Command.{IsMetBy, IsToBeShown}, Statuses.code_of, Streams.HasShown};
-ghost use Rattle.tp_shell.specs.declared.status.Status.TheVariants.{Done};
+ghost use Rattle.tp_shell.specs.declared.status.Status.TheVariants.{Done, Failed, Refused};
 
 use crate::fault::Fault;
 use crate::kept::answer_kept;
@@ -43,23 +43,24 @@ pub fn main_with<R: Threads + Wait + Sync + Clock + Files, I: Read, O: Write, E:
 ) -> u8
     ensures range { result ≤ 3 }
     // 0: the requested output was written and nothing else, and there is no error line.
-    ensures succeeded { result ≡ 0 → (err.new ≡ err.old) × Succeeded (map (λ w. w.now) words.now)
-        (I.remaining reader.old) (I.remaining reader.new) (O.contents out.old) (O.contents out.new) }
+    ensures succeeded { result ≡ 0 → (err.new ≡ err.old) × HasWritten (map (λ w. w.now) words.now)
+        (I.remaining reader.old) (I.remaining reader.new) (O.contents out.old) (O.contents out.new) Done }
     // 1: there was one fault, whose line is the only error line: writing failed after the whole output was complete; or
     // nothing was written, because the arguments or the reading are at fault.
     ensures complained { result ≡ 1 → (fault : Fault) × (result ≡ code_of (status_of fault)) × E.tells err.old (line_of fault) err.new
-        × (CouldNotWrite (map (λ w. w.now) words.now) (I.remaining reader.old) (I.remaining reader.new) fault
-        ⊎ ((out.new ≡ out.old) × HasNothing (map (λ w. w.now) words.now) (I.remaining reader.old) (I.remaining reader.new) fault)) }
+        × HasFault (map (λ w. w.now) words.now) (I.remaining reader.old) (I.remaining reader.new) fault
+        × (is_unwritten fault ≡ false → out.new ≡ out.old) }
     // 2: the line of the first fault of the script or the trace was written and nothing else, and there is no error
     // line.
-    ensures refused { result ≡ 2 → (err.new ≡ err.old) × RefusedText (map (λ w. w.now) words.now)
-        (I.remaining reader.old) (I.remaining reader.new) (O.contents out.old) (O.contents out.new) }
+    ensures refused { result ≡ 2 → (err.new ≡ err.old) × HasWritten (map (λ w. w.now) words.now)
+        (I.remaining reader.old) (I.remaining reader.new) (O.contents out.old) (O.contents out.new) Refused }
     // 3: there was one fault, whose line is the only error line: a run was refused or an allocation failed, and nothing
     // was written; or one of several pools was refused, their text was written and nothing else, and there is no error
     // line.
     ensures failed { result ≡ 3 → ((fault : Fault) × (result ≡ code_of (status_of fault)) × E.tells err.old (line_of fault) err.new
-        × (out.new ≡ out.old) × HasNothing (map (λ w. w.now) words.now) (I.remaining reader.old) (I.remaining reader.new) fault)
-        ⊎ ((err.new ≡ err.old) × RefusedPool (map (λ w. w.now) words.now) (O.contents out.old) (O.contents out.new)) }
+        × HasFault (map (λ w. w.now) words.now) (I.remaining reader.old) (I.remaining reader.new) fault × (out.new ≡ out.old))
+        ⊎ ((err.new ≡ err.old) × HasWritten (map (λ w. w.now) words.now)
+        (I.remaining reader.old) (I.remaining reader.new) (O.contents out.old) (O.contents out.new) Failed) }
     // The input is read only for a script or a trace.
     ensures unread { ReadsAText (map (λ w. w.now) words.now) ⊎ (reader.new ≡ reader.old) }
 {
@@ -96,12 +97,10 @@ pub(crate) fn answer_words<
     screen: Option<Screen<W>>,
     keeps: bool,
 ) -> (Result<Status, Fault>, Subject<'a>)
-    ensures answered { IfOk result.0 (HasAnswered (map (λ w. w.now) words.entry.now)
+    ensures answered { IfOk result.0 (HasWritten (map (λ w. w.now) words.entry.now)
         (I.remaining reader.old) (I.remaining reader.new) (O.contents out.old) (O.contents out.new)) }
-    ensures why { IfErr result.0 (λ fault.
-        CouldNotWrite (map (λ w. w.now) words.entry.now) (I.remaining reader.old) (I.remaining reader.new) fault
-        ⊎ ((out.new ≡ out.old)
-        × HasNothing (map (λ w. w.now) words.entry.now) (I.remaining reader.old) (I.remaining reader.new) fault)) }
+    ensures why { IfErr result.0 (HasFault (map (λ w. w.now) words.entry.now) (I.remaining reader.old) (I.remaining reader.new)) }
+    ensures unwritten { IfErr result.0 (λ fault. is_unwritten fault ≡ false → out.new ≡ out.old) }
     ensures unread { ReadsAText (map (λ w. w.now) words.entry.now) ⊎ (reader.new ≡ reader.old) }
 {
     match requested(alloc, words) {
@@ -127,11 +126,11 @@ fn answer_text<'a, I: Read, O: Write>(
     reader: &mut I,
     out: &mut O,
 ) -> (Result<Status, Fault>, Subject<'a>)
-    ensures answered { IfOk result.0 (λ status. (verdict : Verdict) × (text : List ℕ) × (status ≡ status_of_verdict verdict)
-        × IsAnswerTo kind (I.remaining reader.old) (I.remaining reader.new) verdict text
+    ensures answered { IfOk result.0 (λ status. (text : List ℕ)
+        × IsOutputOf (Answer kind) (I.remaining reader.old) (I.remaining reader.new) status text
         × Appends (O.contents out.old) (O.contents out.new) text) }
-    ensures why { IfErr result.0 (λ fault. (met : TextFault) × (fault ≡ Fault.Text met)
-        × IsUnansweredText kind (I.remaining reader.old) (I.remaining reader.new) met × (met ≢ TextFault.Write → out.new ≡ out.old)) }
+    ensures why { IfErr result.0 (IsFaultOf (Answer kind) (I.remaining reader.old) (I.remaining reader.new)) }
+    ensures unwritten { IfErr result.0 (λ fault. is_unwritten fault ≡ false → out.new ≡ out.old) }
 {
     if keeps {
         return answer_kept(alloc, kind, reader, out);
@@ -156,8 +155,8 @@ pub(crate) fn status_of_verdict(verdict: Verdict) -> Status
 fn show_asked<O: Write>(alloc: Global, error: &Error, out: &mut O) -> Result<Status, Fault>
     ensures shown { IfOk result (λ status. (status ≡ Done) × IsToBeShown (kind_of error.now)
         × HasShown (O.contents out.old) (O.contents out.new)) }
-    ensures why { IfErr result (λ fault. (met : WordsFault) × (fault ≡ Fault.Words met)
-        × IsMetBy (kind_of error.now) met × (met ≢ WordsFault.Write → out.new ≡ out.old)) }
+    ensures why { IfErr result (λ fault. (met : WordsFault) × (fault ≡ Fault.Words met) × IsMetBy (kind_of error.now) met) }
+    ensures unwritten { IfErr result (λ fault. is_unwritten fault ≡ false → out.new ≡ out.old) }
 {
     match show(alloc, error, out) {
         Ok(()) => Ok(Status::Done),

@@ -68,11 +68,9 @@ impl Told for Fault {
 
     fn status(&self) -> Status {
         match self {
-            Fault::Words(WordsFault::Words(_) | WordsFault::Write) => Status::Fault,
-            Fault::Text(TextFault::Read | TextFault::TooLong | TextFault::Write) => Status::Fault,
-            Fault::NoPool | Fault::InVain(_) | Fault::Profile | Fault::Write => Status::Fault,
             Fault::Words(WordsFault::Memory) | Fault::Text(TextFault::Memory) => Status::Failed,
             Fault::Run(_) | Fault::Memory => Status::Failed,
+            _ => Status::Fault,
         }
     }
 }

@@ -1,6 +1,7 @@
 //! Reading a script or a trace that is kept until its reply is written.
-ghost use Rattle.std.specs.{Io.KnownBytes.{Appends, Consumes}, Prelude.{◌≡◌, ◌≢◌, ◌+◌, ◌≤◌, List, ℕ, length, IfErr, IfOk, IsErrOf}};
-ghost use Rattle.tp_cli.specs.Texts.{IsAnswerTo, IsTextTo, IsUnansweredText, status_of_verdict};
+ghost use Rattle.std.specs.{Io.KnownBytes.{Appends, Consumes}, Prelude.{◌≡◌, ◌≢◌, ◌+◌, ◌≤◌, List, ℕ, false, length, IfErr, IfOk, IsErrOf}};
+ghost use Rattle.tp_cli.specs.{Ends.{IsFaultOf, IsOutputOf, is_unwritten}, Texts.{IsTextTo, IsUnansweredText}};
+ghost use Rattle.tp_cli.specs.declared.request.Request.TheVariants.{Answer};
 ghost use Rattle.tp_text.specs.{Input.ReadsAll, declared.input.TheConstants.MAX_TEXT};
 
 use crate::cli::status_of_verdict;
@@ -30,11 +31,11 @@ pub(crate) fn answer_kept<'a, I: Read, O: Write>(
     reader: &mut I,
     out: &mut O,
 ) -> (Result<Status, Fault>, Subject<'a>)
-    ensures answered { IfOk result.0 (λ status. (verdict : Verdict) × (text : List ℕ) × (status ≡ status_of_verdict verdict)
-        × IsAnswerTo kind (I.remaining reader.old) (I.remaining reader.new) verdict text
+    ensures answered { IfOk result.0 (λ status. (text : List ℕ)
+        × IsOutputOf (Answer kind) (I.remaining reader.old) (I.remaining reader.new) status text
         × Appends (O.contents out.old) (O.contents out.new) text) }
-    ensures why { IfErr result.0 (λ fault. (met : TextFault) × (fault ≡ Fault.Text met)
-        × IsUnansweredText kind (I.remaining reader.old) (I.remaining reader.new) met × (met ≢ TextFault.Write → out.new ≡ out.old)) }
+    ensures why { IfErr result.0 (IsFaultOf (Answer kind) (I.remaining reader.old) (I.remaining reader.new)) }
+    ensures unwritten { IfErr result.0 (λ fault. is_unwritten fault ≡ false → out.new ≡ out.old) }
 {
     let answered = match answer_of(alloc, kind, reader) {
         Ok(answered) => answered,

@@ -9,12 +9,12 @@ mod fault;
 mod kept;
 mod laws;
 mod pools;
+mod printing;
 mod reasons;
 mod registry;
 mod request;
 mod run;
 mod runs;
-mod series;
 mod terminal;
 mod text;
 

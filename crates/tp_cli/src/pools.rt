@@ -1,10 +1,10 @@
 //! The subcommand `pools`: runs several pools at once.
 ghost use Rattle.pool_samples.specs.declared.any.AnyGraph.{AnyGraph};
-ghost use Rattle.std.specs.{Io.KnownBytes.Appends, List.list_all, Prelude.{◌≡◌, ◌≢◌, Bool, List, ℕ, IfErr, IfOk, MatchResult, length, map}};
+ghost use Rattle.std.specs.{Io.KnownBytes.Appends, List.list_all, Prelude.{◌≡◌, Bool, List, ℕ, IfErr, IfOk, MatchResult, false, length, map}};
 ghost use Rattle.std.specs.{Result.is_ok, String.string_bytes};
 ghost use Rattle.tp_base.specs.{Refusals.{name_of, number_of}, declared.refusal.Refusal.TheVariants.NoMemory};
-ghost use Rattle.tp_cli.specs.Pools.{AreNamed, IsPoolsFault, IsPoolsText, IsWordsFault, lines_from, pool_line, pools_of, status_of_pools};
-ghost use Rattle.tp_cli.specs.{Pools.word_fault, Registry.AreRunAnswers};
+ghost use Rattle.tp_cli.specs.Pools.{AreNamed, IsPoolsFault, IsPoolsText, IsWordsFault, pool_line, pool_lines, pools_of, status_of_pools};
+ghost use Rattle.tp_cli.specs.{Ends.is_unwritten, Pools.word_fault, Registry.AreRunAnswers};
 ghost use Rattle.tp_work.specs.Outcomes.{IsWithinLimits};
 
 use crate::fault::Fault;
@@ -28,11 +28,11 @@ pub(crate) fn run_several<O: Write, R: Threads + Wait + Sync>(
     out: &mut O,
 ) -> Result<Status, Fault>
     requires { IsWithinLimits config }
-    ensures ran { IfOk result (λ status. (each_ended : Bool) × (text : List ℕ) × (status ≡ status_of_pools each_ended)
-        × IsPoolsText (map (λ w. w.now) words.now) config.nodes config.workers each_ended text
+    ensures ran { IfOk result (λ status. (text : List ℕ)
+        × ((each_ended : Bool) × (status ≡ status_of_pools each_ended) × IsPoolsText (map (λ w. w.now) words.now) config each_ended text)
         × Appends (O.contents out.old) (O.contents out.new) text) }
-    ensures why { IfErr result (IsPoolsFault (map (λ w. w.now) words.now) config.nodes config.workers) }
-    ensures unwritten { IfErr result (λ fault. fault ≢ Fault.Write → out.new ≡ out.old) }
+    ensures why { IfErr result (IsPoolsFault (map (λ w. w.now) words.now) config) }
+    ensures unwritten { IfErr result (λ fault. is_unwritten fault ≡ false → out.new ≡ out.old) }
 {
     let registry = registry_of(alloc, words)?;
     let answers = match answers_of(rt, alloc, registry, config) {
@@ -119,7 +119,7 @@ fn text_of_pools(
     answers: &[Result<Outcome, tp_work::Fault>],
 ) -> Result<Vec<u8>, AllocError>
     requires { length answers.now ≡ length words.now }
-    ensures { IfOk result (λ text. text.items ≡ lines_from 0 (map (λ w. w.now) words.now) answers.now) }
+    ensures { IfOk result (λ text. text.items ≡ pool_lines (map (λ w. w.now) words.now) answers.now) }
 {
     let mut text = Vec::new(alloc);
     for (number, word) in words.iter().enumerate() {

@@ -2,7 +2,7 @@
 ghost use Rattle.clap.specs.{Values.kind_of, Words.{all_of, first_value, found_of, rows_of, subcommand_rows_of}};
 ghost use Rattle.clap.specs.declared.error.kind.ErrorKind.TheVariants.{MissingSubcommand};
 ghost use Rattle.std.specs.Prelude.{◌≡◌, Some, None, IfErr, IfOk, MatchOption, codes, map};
-ghost use Rattle.tp_cli.specs.{Asked.{IsAskedBy, IsMadeBy}, Command.{AsksForNothing, IsFormOf, IsNeither, tp_app}, Runs.IsPlan};
+ghost use Rattle.tp_cli.specs.{Asked.{IsAskedBy, IsMadeBy}, Command.{IsFormOf, IsNeither, asked, tp_app}, Runs.IsPlan};
 ghost use Rattle.tp_shell.specs.Command.{AreCountsIn, FailsAs, IsCount};
 
 use crate::command::{MAX_GENERATIONS, tp_command};
@@ -29,7 +29,7 @@ pub(crate) enum Request<'a> {
 pub(crate) fn requested<'a>(alloc: Global, words: &'a [&'a str]) -> Result<Request<'a>, Error>
     ensures asked { IfOk result (IsAskedBy (map (λ w. w.now) words.entry.now)) }
     ensures why { IfErr result (λ error.
-        FailsAs tp_app MissingSubcommand (AsksForNothing (map (λ w. w.now) words.entry.now)) (map (λ w. w.now) words.entry.now)
+        FailsAs tp_app MissingSubcommand (IsNeither (asked (map (λ w. w.now) words.entry.now))) (map (λ w. w.now) words.entry.now)
         (kind_of error)) }
 {
     let mut command = tp_command(alloc)?;

@@ -1,26 +1,22 @@
-//! The subcommand `run`: runs one pool, and prints its table or its trace.
+//! The subcommand `run`: runs one pool in one generation or more, and prints its tables or its trace.
 ghost use Rattle.pool_samples.specs.Any.{any_graph};
-ghost use Rattle.std.specs.{Io.KnownBytes.Appends, Option.option_map, Prelude.{◌≡◌, ◌≢◌, ◌↔◌, ℕ, List, Ok, Err, IfErr, IfOk, MatchResult}};
-ghost use Rattle.std.specs.{Prelude.{Some, false}, String.string_bytes, Thread.IsSync};
-ghost use Rattle.tp_cli.specs.Runs.{IsPlan, IsPrintOf, IsRunFault, IsTextFor, IsTextOf, IsTextOfOne, IsUnprinted, IsUntold, IsWithoutOne};
-ghost use Rattle.tp_cli.specs.Runs.{IsWithoutText, NamesNoGraph, run_text, totals_text};
-ghost use Rattle.tp_graph.specs.Serial.{AreRight};
+ghost use Rattle.std.specs.{Io.KnownBytes.Appends, Option.option_map, Prelude.{◌≡◌, ℕ, List, Ok, Err, IfErr, IfOk, MatchResult}};
+ghost use Rattle.std.specs.{Prelude.false, Thread.IsSync};
+ghost use Rattle.tp_cli.specs.{Ends.is_unwritten, Runs.{IsPlan, IsRunBy, IsRunFault, IsTextFor, IsTextOf, IsWithoutText, NamesNoGraph}};
 ghost use Rattle.tp_shell.specs.declared.status.Status.TheVariants.{Done};
-ghost use Rattle.tp_work.specs.Outcomes.{IsFault, IsOutcome, IsWithinLimits};
+ghost use Rattle.tp_work.specs.Series.{IsSeriesFault};
 
 use crate::fault::{Fault, RunFault};
-use crate::series::text_of_generations;
-use pool_samples::{AnyGraph, checked, print_table};
-use std::alloc::{AllocError, Global};
+use crate::printing::text_of;
+use pool_samples::{AnyGraph, checked};
+use std::alloc::Global;
 use std::io::{self, Write};
 use std::rt::{Clock, Files};
 use std::sync::Wait;
 use std::thread::Threads;
-use tp_base::{Refusal, TaskId};
-use tp_graph::{Graph, Value};
+use tp_graph::Graph;
 use tp_shell::{Log, Profile, Run, Status, Timed, write_text};
-use tp_text::print_trace;
-use tp_work::{Config, Outcome, Progress, Screen, run_pool_counted, watched};
+use tp_work::{Config, Counted, OpenGate, Progress, Screen, Series, run_generations, watched};
 
 /// What is printed of a run.
 #[derive(Clone, Copy, Debug, PartialEq, Eq)]
@@ -57,22 +53,23 @@ pub(crate) fn run<O: Write, R: Threads + Wait + Sync + Clock + Files, W: Write +
     reason: &mut Option<String>,
 ) -> Result<Status, Fault>
     requires { IsPlan plan }
-    ensures ran { IfOk result (λ status. (status ≡ Done) × ((text : List ℕ)
-        × IsTextFor plan.form spec.now plan.config.nodes plan.config.workers plan.generations text
-        × Appends (O.contents out.old) (O.contents out.new) text)) }
-    ensures unnamed { (result ≡ Err Fault.NoPool) ↔ NamesNoGraph spec.now }
+    ensures ran { IfOk result (λ status. (text : List ℕ) × ((status ≡ Done) × IsTextFor plan spec.now text)
+        × Appends (O.contents out.old) (O.contents out.new) text) }
+    ensures unnamed { NamesNoGraph spec.now → result ≡ Err Fault.NoPool }
     ensures why { IfErr result (IsRunFault plan spec.now (option_map (λ f. f.now) file.entry)) }
-    ensures unwritten { IfErr result (λ fault. fault ≢ Fault.Write → out.new ≡ out.old) }
+    ensures unwritten { IfErr result (λ fault. is_unwritten fault ≡ false → out.new ≡ out.old) }
 {
     let graph = match checked(spec) {
         Ok(graph) => graph,
         Err(_) => return Err(Fault::NoPool),
     };
-    if !is_opened(rt, alloc, file, reason) {
-        return Err(Fault::Profile);
+    if let Some(path) = file {
+        if let Err(error) = Profile::open(rt, path) {
+            *reason = reason_of(alloc, file, error);
+            return Err(Fault::Profile);
+        }
     }
-    let bodies = u64::from(graph.tasks()).saturating_mul(u64::from(plan.generations));
-    let profile = Profile::new(alloc, rt, file, bodies);
+    let profile = Profile::new(alloc, rt, file, bodies(graph, plan.generations));
     // a run is either counted or timed
     let screen = if file.is_some() { None } else { screen };
     let text = match text_watched(rt, alloc, graph, plan, profile.log(), screen) {
@@ -85,27 +82,6 @@ pub(crate) fn run<O: Write, R: Threads + Wait + Sync + Clock + Files, W: Write +
             status_of_profile(alloc, file, written, reason)
         }
         Err(_) => Err(Fault::Write),
-    }
-}
-
-/// Returns whether the file for a profile could be opened, or there is none, and sets the reason if it could not.
-fn is_opened<R: Files>(
-    rt: &R,
-    alloc: Global,
-    file: Option<&str>,
-    reason: &mut Option<String>,
-) -> bool
-    ensures { result ≡ false → (path : List ℕ) × (option_map (λ f. f.now) file.entry ≡ Some path) }
-{
-    let Some(path) = file else {
-        return true;
-    };
-    match Profile::open(rt, path) {
-        Ok(()) => true,
-        Err(error) => {
-            *reason = reason_of(alloc, file, error);
-            false
-        }
     }
 }
 
@@ -144,8 +120,8 @@ fn status_of_profile(
     }
 }
 
-/// Runs a pool of a graph, and returns what is printed of its generations. Meanwhile the screen, if there is one, shows
-/// its progress; without one, the tasks are timed if there is a log.
+/// Runs a pool of a graph, and returns what is printed of it. Meanwhile the screen, if there is one, shows its progress;
+/// without one, the tasks are timed if there is a log.
 fn text_watched<R: Threads + Wait + Sync + Clock, W: Write + Send + Drop>(
     rt: &R,
     alloc: Global,
@@ -155,9 +131,7 @@ fn text_watched<R: Threads + Wait + Sync + Clock, W: Write + Send + Drop>(
     screen: Option<Screen<W>>,
 ) -> Result<Vec<u8>, RunFault>
     requires { IsPlan plan }
-    ensures { MatchResult result
-        (λ text. IsTextOf plan.form graph plan.config.nodes plan.config.workers plan.generations text.items)
-        (IsWithoutText plan.form graph plan.config.nodes plan.config.workers plan.generations) }
+    ensures { MatchResult result (λ text. IsTextOf plan graph text.items) (IsWithoutText plan graph) }
 {
     let Some(screen) = screen else {
         return text_of_run(rt, alloc, graph, plan, log, None);
@@ -171,15 +145,13 @@ fn text_watched<R: Threads + Wait + Sync + Clock, W: Write + Send + Drop>(
         counts,
         move || -> Result<Vec<u8>, RunFault>
             requires { IsSync R.row × IsPlan plan }
-            ensures { MatchResult result
-                (λ text. IsTextOf plan.form graph plan.config.nodes plan.config.workers plan.generations text.items)
-                (IsWithoutText plan.form graph plan.config.nodes plan.config.workers plan.generations) }
+            ensures { MatchResult result (λ text. IsTextOf plan graph text.items) (IsWithoutText plan graph) }
         { text_of_run(rt, alloc, graph, plan, None, Some(counts)) },
     )
 }
 
-/// Runs a pool of a graph, and returns what is printed of its generations. The tasks are timed if there is a log, and
-/// counted if there is a progress.
+/// Runs a pool of a graph, and returns what is printed of it. The tasks are timed if there is a log, and else counted if
+/// there is a progress.
 fn text_of_run<R: Threads + Wait + Sync + Clock>(
     rt: &R,
     alloc: Global,
@@ -189,126 +161,52 @@ fn text_of_run<R: Threads + Wait + Sync + Clock>(
     progress: Option<&Progress>,
 ) -> Result<Vec<u8>, RunFault>
     requires { IsPlan plan }
-    ensures { MatchResult result
-        (λ text. IsTextOf plan.form graph plan.config.nodes plan.config.workers plan.generations text.items)
-        (IsWithoutText plan.form graph plan.config.nodes plan.config.workers plan.generations) }
+    ensures { MatchResult result (λ text. IsTextOf plan graph text.items) (IsWithoutText plan graph) }
 {
-    // a pool of one generation is never opened for a second one
-    if plan.generations == 1 {
-        text_of_one(rt, alloc, graph, plan.config, plan.form, log, progress)
-    } else {
-        text_of_generations(rt, alloc, graph, plan, log, progress)
-    }
-}
-
-/// Runs a pool of a graph in one generation, and returns what is printed of it.
-fn text_of_one<R: Threads + Wait + Sync + Clock>(
-    rt: &R,
-    alloc: Global,
-    graph: AnyGraph,
-    config: Config,
-    form: Form,
-    log: Option<&Log>,
-    progress: Option<&Progress>,
-) -> Result<Vec<u8>, RunFault>
-    requires { IsWithinLimits config }
-    ensures { MatchResult result
-        (λ text. IsTextOfOne form graph config.nodes config.workers text.items)
-        (IsWithoutOne form graph config.nodes config.workers) }
-{
-    let outcome = match outcome_of(rt, alloc, graph, config, log, progress) {
-        Ok(outcome) => outcome,
+    let run = match run_by(rt, alloc, graph, plan, log, progress) {
+        Ok(run) => run,
         Err(fault) => return Err(RunFault::Pool(fault)),
     };
-    match text_of_outcome(alloc, graph, &outcome, config, form) {
+    match text_of(alloc, graph, &run, plan) {
         Ok(text) => Ok(text),
         Err(refusal) => Err(RunFault::Text(refusal)),
     }
 }
 
-/// Runs a pool of a graph in one generation. The tasks are timed if there is a log, and counted if there is a progress.
-fn outcome_of<R: Threads + Wait + Sync + Clock>(
+/// Runs a pool of a graph in all its generations. Whether tasks are timed or counted is not tested for each of them:
+/// that would cost about twenty instructions a task.
+fn run_by<R: Threads + Wait + Sync + Clock>(
     rt: &R,
     alloc: Global,
     graph: AnyGraph,
-    config: Config,
+    plan: Plan,
     log: Option<&Log>,
     progress: Option<&Progress>,
-) -> Result<Outcome, tp_work::Fault>
-    requires { IsWithinLimits config }
-    ensures outcome { IfOk result (IsOutcome config.nodes config.workers (any_graph graph)) }
-    ensures fault { IfErr result (IsFault config.nodes (any_graph graph)) }
+) -> Result<Series, tp_work::Fault>
+    requires { IsPlan plan }
+    ensures run { IfOk result (IsRunBy plan graph) }
+    ensures fault { IfErr result (IsSeriesFault plan.config.nodes (any_graph graph) plan.generations) }
 {
-    match log {
-        Some(log) => outcome_timed(rt, alloc, graph, config, log, progress),
-        None => run_pool_counted(rt, alloc, graph, config, progress),
+    let Plan {
+        config,
+        generations,
+        form: _,
+    } = plan;
+    match (log, progress) {
+        (Some(log), _) => {
+            let timed = Timed::new(graph, config.nodes, rt, log);
+            run_generations(rt, alloc, timed, config, &OpenGate, generations)
+        }
+        (None, Some(progress)) => {
+            progress.begin(rt, tp_work::Plan::of_tasks(bodies(graph, generations)));
+            let counted = Counted::new(rt, graph, progress);
+            run_generations(rt, alloc, counted, config, &OpenGate, generations)
+        }
+        (None, None) => run_generations(rt, alloc, graph, config, &OpenGate, generations),
     }
 }
 
-/// Runs the pool with its tasks timed.
-fn outcome_timed<R: Threads + Wait + Sync + Clock>(
-    rt: &R,
-    alloc: Global,
-    graph: AnyGraph,
-    config: Config,
-    log: &Log,
-    progress: Option<&Progress>,
-) -> Result<Outcome, tp_work::Fault>
-    requires { IsWithinLimits config }
-    ensures outcome { IfOk result (IsOutcome config.nodes config.workers (any_graph graph)) }
-    ensures fault { IfErr result (IsFault config.nodes (any_graph graph)) }
-{
-    let timed = Timed::new(graph, config.nodes, rt, log);
-    run_pool_counted(rt, alloc, timed, config, progress)
-}
-
-/// Returns what is printed of an outcome.
-fn text_of_outcome(
-    alloc: Global,
-    graph: AnyGraph,
-    outcome: &Outcome,
-    config: Config,
-    form: Form,
-) -> Result<Vec<u8>, Refusal>
-    requires limits { IsWithinLimits config }
-    requires made { IsOutcome config.nodes config.workers (any_graph graph) outcome.now }
-    ensures text { IfOk result (λ text. IsPrintOf form graph config.nodes outcome.now text.items) }
-    ensures none { IfErr result (λ refusal. IsUnprinted form graph outcome.now refusal) }
-{
-    match form {
-        Form::Table => text_of_results(
-            alloc,
-            graph,
-            &outcome.results,
-            outcome.tasks,
-            outcome.messages,
-        ),
-        Form::Trace => print_trace(alloc, &outcome.history, config.nodes),
-    }
-}
-
-/// Returns the table of a graph, from a result for each of its tasks, with the lines below it.
-pub(crate) fn text_of_results(
-    alloc: Global,
-    graph: AnyGraph,
-    results: &[(TaskId, Value)],
-    tasks: u32,
-    messages: u32,
-) -> Result<Vec<u8>, Refusal>
-    requires right { AreRight (any_graph graph) results.now }
-    requires tasks { tasks ≡ (any_graph graph).tasks }
-    ensures text { IfOk result (λ text. text.items ≡ run_text graph messages) }
-    ensures none { IfErr result (IsUntold graph results.now) }
-{
-    let mut text = print_table(alloc, graph, results)?;
-    let totals = totals(alloc, tasks, messages)?;
-    text.extend_from_slice(totals.as_bytes())?;
-    Ok(text)
-}
-
-/// Returns the lines below a pool's table.
-fn totals(alloc: Global, tasks: u32, messages: u32) -> Result<String, AllocError>
-    ensures { IfOk result (λ text. string_bytes text ≡ totals_text tasks messages) }
-{
-    format!(in alloc; "tasks {tasks}\nmessages {messages}\nended\n")
+/// Returns how many bodies of tasks run in all generations.
+fn bodies(graph: AnyGraph, generations: u32) -> u64 {
+    u64::from(graph.tasks()).saturating_mul(u64::from(generations))
 }

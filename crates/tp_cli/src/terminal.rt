@@ -1,8 +1,8 @@
 //! The program for a user, to whom it also prints reasons and progress.
-ghost use Rattle.std.specs.Prelude.{◌≡◌, ◌≤◌, ◌⊎◌, IfErr, IfOk, map};
-ghost use Rattle.tp_cli.specs.{Command.ReadsAText, Ends.{CouldNotWrite, HasNothing, RefusedPool, RefusedText, Succeeded}, Faults.line_of};
-ghost use Rattle.tp_cli.specs.{Faults.status_of, Reasons.IsAnswerExplained};
-ghost use Rattle.tp_shell.specs.{Statuses.code_of, Streams.MayExplain};
+ghost use Rattle.std.specs.Prelude.{◌≡◌, ◌≤◌, ◌⊎◌, IfErr, IfOk, false, map};
+ghost use Rattle.tp_cli.specs.{Command.ReadsAText, Ends.{HasFault, HasWritten, is_unwritten}, Faults.{line_of, status_of}};
+ghost use Rattle.tp_cli.specs.Reasons.{IsAnswerExplained, IsExplained};
+ghost use Rattle.tp_shell.specs.{Statuses.code_of, Streams.MayExplain, declared.status.Status.TheVariants.{Done, Failed, Refused}};
 
 use crate::cli::answer_words;
 use crate::fault::Fault;
@@ -37,21 +37,22 @@ pub fn main_at_terminal<
 ) -> u8
     ensures range { result ≤ 3 }
     // 0: as without reasons, and there is no error line.
-    ensures succeeded { result ≡ 0 → (err.new ≡ err.old) × Succeeded (map (λ w. w.now) words.now)
-        (I.remaining reader.old) (I.remaining reader.new) (O.contents out.old) (O.contents out.new) }
+    ensures succeeded { result ≡ 0 → (err.new ≡ err.old) × HasWritten (map (λ w. w.now) words.now)
+        (I.remaining reader.old) (I.remaining reader.new) (O.contents out.old) (O.contents out.new) Done }
     // 1: as without reasons, and the reason may be printed after the error line.
-    ensures complained { result ≡ 1 → (fault : Fault) × (told : E) × (result ≡ code_of (status_of fault))
-        × E.tells err.old (line_of fault) told × MayExplain E.tells told err.new
-        × (CouldNotWrite (map (λ w. w.now) words.now) (I.remaining reader.old) (I.remaining reader.new) fault
-        ⊎ ((out.new ≡ out.old) × HasNothing (map (λ w. w.now) words.now) (I.remaining reader.old) (I.remaining reader.new) fault)) }
+    ensures complained { result ≡ 1 → (fault : Fault) × (result ≡ code_of (status_of fault))
+        × IsExplained E.tells (line_of fault) err.old err.new
+        × HasFault (map (λ w. w.now) words.now) (I.remaining reader.old) (I.remaining reader.new) fault
+        × (is_unwritten fault ≡ false → out.new ≡ out.old) }
     // 2: the output is as without reasons, and what is wrong with the text may be printed.
-    ensures refused { result ≡ 2 → MayExplain E.tells err.old err.new × RefusedText (map (λ w. w.now) words.now)
-        (I.remaining reader.old) (I.remaining reader.new) (O.contents out.old) (O.contents out.new) }
+    ensures refused { result ≡ 2 → MayExplain E.tells err.old err.new × HasWritten (map (λ w. w.now) words.now)
+        (I.remaining reader.old) (I.remaining reader.new) (O.contents out.old) (O.contents out.new) Refused }
     // 3: as without reasons, and the reason may be printed after the error line.
-    ensures failed { result ≡ 3 → ((fault : Fault) × (told : E) × (result ≡ code_of (status_of fault))
-        × E.tells err.old (line_of fault) told × MayExplain E.tells told err.new × (out.new ≡ out.old)
-        × HasNothing (map (λ w. w.now) words.now) (I.remaining reader.old) (I.remaining reader.new) fault)
-        ⊎ ((err.new ≡ err.old) × RefusedPool (map (λ w. w.now) words.now) (O.contents out.old) (O.contents out.new)) }
+    ensures failed { result ≡ 3 → ((fault : Fault) × (result ≡ code_of (status_of fault))
+        × IsExplained E.tells (line_of fault) err.old err.new
+        × HasFault (map (λ w. w.now) words.now) (I.remaining reader.old) (I.remaining reader.new) fault × (out.new ≡ out.old))
+        ⊎ ((err.new ≡ err.old) × HasWritten (map (λ w. w.now) words.now)
+        (I.remaining reader.old) (I.remaining reader.new) (O.contents out.old) (O.contents out.new) Failed) }
     ensures unread { ReadsAText (map (λ w. w.now) words.now) ⊎ (reader.new ≡ reader.old) }
 {
     let (ended, subject) = answer_words(rt, alloc, words, reader, out, screen, true);
@@ -66,8 +67,7 @@ fn told_explained<E: Diagnostics>(
     err: &mut E,
 ) -> Status
     ensures done { IfOk ended (λ status. (result ≡ status) × IsAnswerExplained E.tells status err.old err.new) }
-    ensures faulty { IfErr ended (λ fault. (result ≡ status_of fault)
-        × ((told : E) × E.tells err.old (line_of fault) told × MayExplain E.tells told err.new)) }
+    ensures faulty { IfErr ended (λ fault. (result ≡ status_of fault) × IsExplained E.tells (line_of fault) err.old err.new) }
 {
     match ended {
         Ok(Status::Refused) => {
@@ -82,7 +82,7 @@ fn told_explained<E: Diagnostics>(
 /// Prints the line of a fault, and then the reason, if it has one.
 fn fault_explained<E: Diagnostics>(fault: &Fault, subject: &Subject, err: &mut E) -> Status
     ensures status { result ≡ status_of fault.now }
-    ensures told { (told : E) × E.tells err.old (line_of fault.now) told × MayExplain E.tells told err.new }
+    ensures told { IsExplained E.tells (line_of fault.now) err.old err.new }
 {
     let status = complain(fault, err);
     explain_fault(fault, subject, err);

@@ -19,57 +19,24 @@ late_gone : (n e : ℕ) (l : ControlMessage) (all : List EpochEvent) → e < ((e
 late_gone n e l all m later = and_left _ _ (ne_eqb _ e (λ d. omega (arith, d, late_stays n e l.to all later m)))
 
 -- ==== The control messages to a process: on their way, or taken.
--- the number of control messages of epoch e on their way to process k
-abbrev carried_to : ℕ → ℕ → List Carried → ℕ
-carried_to e k [] = 0
-carried_to e k (c ∷ cs) = cond (eqb c.epoch e && eqb c.message.to k) (carried_to e k cs + 1) (carried_to e k cs)
-
-carried_same : (e f k : ℕ) (next : Next) (cs : List Carried) → f ≡ e
-    → carried_to e k (with_sent f next cs) ≡ carried_to e k cs + sends_to k next
-carried_same e f k (Send l) cs d =
-    elim (cases_Bool (eqb l.to k)) [ inl t ↦ rw (eq-eqb f e d, t) (omega arith) | inr t ↦ rw (eq-eqb f e d, t) (omega arith) ]
-carried_same e f k _ cs d = omega arith
-
-carried_apart : (e f k : ℕ) (next : Next) (cs : List Carried) → (f ≡ e → ⊥) → carried_to e k (with_sent f next cs) ≡ carried_to e k cs
-carried_apart e f k (Send l) cs off = rw (ne_eqb f e off) refl
-carried_apart e f k _ cs off = refl
+carried_more : (e f k : ℕ) (next : Next) (cs : List Carried)
+    → carried_to e k (with_sent f next cs) ≡ carried_to e k cs + cond (eqb f e) (sends_to k next) 0
+carried_more e f k (Send l) cs = grind (arith, nat_tests)
+carried_more e f k _ cs = grind (arith, nat_tests)
 
 carried_less : (e k j : ℕ) (cs : List Carried) (c : Carried) → carried_at cs j ≡ Some c
     → carried_to e k (without j cs) + bit (eqb c.epoch e && eqb c.message.to k) ≡ carried_to e k cs
 carried_less e k j [] c at = absurd (cc at)
 carried_less e k zero (d ∷ cs) c at =
     subst (λ (z : Carried). carried_to e k cs + bit (eqb z.epoch e && eqb z.message.to k) ≡ carried_to e k (d ∷ cs)) (some_same d c at)
-    (elim (cases_Bool (eqb d.epoch e && eqb d.message.to k)) [ inl t ↦ rw t (omega arith) | inr t ↦ rw t (omega arith) ])
-carried_less e k (suc j) (d ∷ cs) c at =
-    let less : carried_to e k (without j cs) + bit (eqb c.epoch e && eqb c.message.to k) ≡ carried_to e k cs = carried_less e k j cs c at in
-    elim (cases_Bool (eqb d.epoch e && eqb d.message.to k)) [ inl t ↦ rw t (omega (arith, less)) | inr t ↦ rw t (omega (arith, less)) ]
+    (grind (arith, nat_tests))
+carried_less e k (suc j) (d ∷ cs) c at = grind (arith, nat_tests, carried_less e k j cs c at)
 
 -- The control messages on their way to process k and those that it took are at most as many as were sent to it.
 abbrev Balance : ℕ → ℕ → List Carried → World → Type 0
 Balance e k cs x = carried_to e k cs + reach (x.at k) ≤ sent_to k x.controls + gap (x.at k)
 
 module _ (n : ℕ) (e k : ℕ) (cs : List Carried) (x : World) (b : Balance e k cs x) where
-  moved_balance : (i : ℕ) → Balance e k (with_sent e (moved (x.at i)).next cs) (does n x i Moves)
-  moved_balance i =
-      let p : EpochState = x.at i in
-      omega (
-        arith,
-        b,
-        carried_same e e k (moved p).next cs refl,
-        posted_to k (moved p).next x.controls,
-        put_holds (λ j z. reach z + gap (x.at j) ≤ reach (x.at j) + gap z) i k (moved p).state x.at
-            (λ d. rw d (omega (arith, moved_takes p))) (λ off. omega arith),
-      )
-
-  count_balance : (i : ℕ) (z : World) → IsCount i x z → Balance e k cs z
-  count_balance i z c =
-      let same : reach (put i c.new x.at k) + gap (x.at k) ≤ reach (x.at k) + gap (put i c.new x.at k)
-      = put_holds (λ j z. reach z + gap (x.at j) ≤ reach (x.at j) + gap z) i k c.new x.at
-      (λ d. rw d (omega (arith, subst (λ (p : EpochState). Takes (x.at i) p 0) (sym c.same) (omega arith)))) (λ off. omega arith) in
-      let now : carried_to e k cs + reach (put i c.new x.at k) ≤ sent_to k x.controls + gap (put i c.new x.at k) = omega (arith, b, same) in
-      subst (λ f. carried_to e k cs + reach (f k) ≤ sent_to k z.controls + gap (f k)) (sym c.at)
-      (subst (λ ls. carried_to e k cs + reach (put i c.new x.at k) ≤ sent_to k ls + gap (put i c.new x.at k)) (sym c.controls) now)
-
   came_balance : (j : ℕ) (c : Carried) → carried_at cs j ≡ Some c → c.epoch ≡ e → Balance e k (without j cs) (came n x (Some c.message))
   came_balance j c at here =
       let l : ControlMessage = c.message in
@@ -97,7 +64,7 @@ pub record IsCarried (e : ℕ) (l : ControlMessage) (cs : List Carried) : Type 0
 -- A control message on its way was sent in its epoch; one that was sent is on its way or is never taken again.
 pub record Agree (n : ℕ) (controls : ℕ → List ControlMessage) (cs : List Carried) (all : List EpochEvent) : Type 0 where
   pub sent : (k : ℕ) (c : Carried) → carried_at cs k ≡ Some c → Has (controls c.epoch) c.message
-  pub posted : (e k : ℕ) (l : ControlMessage) → control_at (controls e) k ≡ Some l → IsCarried e l cs ⊎ Gone n e l all
+  pub posted : (e : ℕ) → All (λ l. IsCarried e l cs ⊎ Gone n e l all) (controls e)
 
 -- The network is in the state after these events of the epochs.
 pub record Follows (n : ℕ) (s : Network) : Type 0 where
@@ -115,57 +82,70 @@ agree_on n controls cs o all g =
           elim (g.posted e k l there) [ inl h ↦ inl h | inr off ↦ inr (gone_on n e l o all off) ];
     }
 
--- Process i moves, or sends no control message.
-abbrev Kind : ℕ → Network → World → ℕ → Act → Type 0
-Kind n s x i a = ((ltb i n ≡ true) × (a ≡ Moves)) ⊎ ((carried_after n s i a ≡ s.carried) × IsCount i x (happens n x (Does i a)))
+-- An act sends what `next` returned, if it is a call of that, and takes no control message.
+record IsAct (n : ℕ) (s : Network) (x : World) (i : ℕ) (a : Act) : Type 0 where
+  pub next : Next
+  pub carried : carried_after n s i a ≡ with_sent (s.epochs.at i).epoch next s.carried
+  pub controls : (happens n x (Does i a)).controls ≡ posted next x.controls
+  pub takes : (k : ℕ) → Takes (x.at k) ((happens n x (Does i a)).at k) 0
 
-kind : (n : ℕ) (s : Network) (x : World) (i : ℕ) (a : Act) → Kind n s x i a
-kind n s x i Moves =
+takes_put : (i k : ℕ) (x : World) (new : EpochState) → Takes (x.at i) new 0 → Takes (x.at k) (put i new x.at k) 0
+takes_put i k x new t = put_holds (λ j z. Takes (x.at j) z 0) i k new x.at (λ d. rw d t) (λ off. omega arith)
+
+act_of : (n : ℕ) (s : Network) (x : World) (i : ℕ) (a : Act) → x.at i ≡ (s.epochs.at i).state → IsAct n s x i a
+act_of n s x i Moves same =
+    let p : EpochState = x.at i in
     elim (cases_Bool (ltb i n)) [
-      | inl t ↦ inl (t, refl)
-      | inr t ↦ inr (rw t refl, rw t (record { new = x.at i; same = refl; at = sym (put_id i x.at); controls = refl }))
+      | inr f ↦ record { next = Nothing; carried = rw f refl; controls = rw f refl; takes = λ k. rw f (omega arith) }
+      | inl t ↦
+          let takes : (k : ℕ) → Takes (x.at k) (put i (moved p).state x.at k) 0 = λ k. takes_put i k x (moved p).state (moved_takes p) in
+          record { next = (moved p).next; carried = rw (t, same) refl; controls = rw t refl; takes = λ k. rw t (takes k) }
     ]
-kind n s x i a =
+act_of n s x i a same =
     elim (does_counts n x i a) [
       | inl e ↦ absurd (cc e)
       | inr c ↦
-          inr (
-            refl,
-            cond_both (ltb i n) (does n x i a) x (IsCount i x) (λ t. c)
-                (λ t. record { new = x.at i; same = refl; at = sym (put_id i x.at); controls = refl }),
-          )
+          record {
+            next = Nothing;
+            carried = refl;
+            controls = cond_both (ltb i n) (does n x i a) x (λ z. z.controls ≡ x.controls) (λ t. c.controls) (λ t. refl);
+            takes = λ k.
+                cond_both (ltb i n) (does n x i a) x (λ z. Takes (x.at k) (z.at k) 0) (λ t.
+                subst (λ f. Takes (x.at k) (f k) 0) (sym c.at)
+                (takes_put i k x c.new (subst (λ (p : EpochState). Takes (x.at i) p 0) (sym c.same) (omega arith)))) (λ t. omega arith);
+          }
     ]
 
 -- One more control message was sent, in epoch e.
 after_next : (n e : ℕ) (next : Next) (controls : ℕ → List ControlMessage) (cs : List Carried) (all : List EpochEvent)
     → Agree n controls cs all → Agree n (put e (posted next (controls e)) controls) (with_sent e next cs) all
-after_next n e (Send l) controls cs all g = record { sent = sent_of; posted = posted_of } where
-  new : Carried
-  new = record { epoch = e; message = l }
+after_next n e (Send l) controls cs all g =
+    record {
+      sent = sent_of;
+      posted = λ f.
+          put_holds (λ f ls. All (kept f) ls) e f (l ∷ controls e) controls (λ d.
+          subst (λ f. All (kept f) (l ∷ controls e)) (sym d)
+          (all_more (kept e) l (controls e) (inl (record { which = 0; there = refl })) (older e))) (λ off. older f);
+    }
+  where
+    new : Carried
+    new = record { epoch = e; message = l }
 
-  sent_of : (k : ℕ) (c : Carried) → carried_at (new ∷ cs) k ≡ Some c → Has (put e (l ∷ controls e) controls c.epoch) c.message
-  sent_of zero c there =
-      subst (λ d. Has (put e (l ∷ controls e) controls d.epoch) d.message) (some_same new c there)
-      (subst (λ ls. Has ls l) (sym (put_here e (l ∷ controls e) controls)) (record { which = 0; there = refl }))
-  sent_of (suc k) c there =
-      put_holds (λ f ls. c.epoch ≡ f → Has ls c.message) e c.epoch (l ∷ controls e) controls (λ d r.
-      let h = g.sent k c there in
-      record { which = suc h.which; there = subst (λ f. control_at (controls f) h.which ≡ Some c.message) d h.there })
-      (λ off r. g.sent k c there) refl
+    sent_of : (k : ℕ) (c : Carried) → carried_at (new ∷ cs) k ≡ Some c → Has (put e (l ∷ controls e) controls c.epoch) c.message
+    sent_of zero c there =
+        subst (λ d. Has (put e (l ∷ controls e) controls d.epoch) d.message) (some_same new c there)
+        (subst (λ ls. Has ls l) (sym (put_here e (l ∷ controls e) controls)) (record { which = 0; there = refl }))
+    sent_of (suc k) c there =
+        put_holds (λ f ls. c.epoch ≡ f → Has ls c.message) e c.epoch (l ∷ controls e) controls (λ d r.
+        let h = g.sent k c there in
+        record { which = suc h.which; there = subst (λ f. control_at (controls f) h.which ≡ Some c.message) d h.there })
+        (λ off r. g.sent k c there) refl
 
-  older : (f k : ℕ) (m : ControlMessage) → control_at (controls f) k ≡ Some m → IsCarried f m (new ∷ cs) ⊎ Gone n f m all
-  older f k m there = elim (g.posted f k m there) [ inl h ↦ inl (record { which = suc h.which; there = h.there }) | inr off ↦ inr off ]
+    kept : ℕ → ControlMessage → Type 0
+    kept f m = IsCarried f m (new ∷ cs) ⊎ Gone n f m all
 
-  newest : (k : ℕ) (m : ControlMessage) → control_at (l ∷ controls e) k ≡ Some m → IsCarried e m (new ∷ cs) ⊎ Gone n e m all
-  newest zero m there =
-      inl (record { which = 0; there = ap (λ z. Some (record { epoch = e; message = z })) (some_same l m there) })
-  newest (suc k) m there = older e k m there
-
-  posted_of : (f k : ℕ) (m : ControlMessage) → control_at (put e (l ∷ controls e) controls f) k ≡ Some m
-      → IsCarried f m (new ∷ cs) ⊎ Gone n f m all
-  posted_of f k m =
-      put_holds (λ f ls. control_at ls k ≡ Some m → IsCarried f m (new ∷ cs) ⊎ Gone n f m all) e f (l ∷ controls e) controls
-      (λ d there. subst (λ z. IsCarried z m (new ∷ cs) ⊎ Gone n z m all) (sym d) (newest k m there)) (λ off there. older f k m there)
+    older : (f : ℕ) → All (kept f) (controls f)
+    older f k m there = elim (g.posted f k m there) [ inl h ↦ inl (record { which = suc h.which; there = h.there }) | inr off ↦ inr off ]
 after_next n e _ controls cs all g = subst (λ f. Agree n f cs all) (sym (put_id e controls)) g
 
 -- Removing one control message leaves all others on their way.
@@ -184,23 +164,19 @@ still_there (suc k) zero (d ∷ cs) c there = (0, there)
 still_there (suc k) (suc m) (d ∷ cs) c there = let z = still_there k m cs c there in (suc z.0, z.1)
 
 module _ (n : ℕ) (s : Network) (f : Follows n s) where
-  acts_agree : (i : ℕ) (a : Act) → Kind n s (world_of (s.epochs.at i).epoch s.epochs) i a
+  acts_agree : (i : ℕ) (a : Act)
       → Agree n (advance n s.epochs (In (s.epochs.at i).epoch (Does i a))).controls (carried_after n s i a) f.all
-  acts_agree i a kind =
+  acts_agree i a =
       let w : Epochs = s.epochs in
       let e : ℕ = (w.at i).epoch in
       let x : World = world_of e w in
-      let lists : (advance n w (In e (Does i a))).controls ≡ put e (happens n x (Does i a)).controls w.controls
-      = ap (λ b. (cond b (with_world e w (happens n x (Does i a))) w).controls) (eq-eqb e e refl) in
+      let o = act_of n s x i a refl in
+      let lists : (advance n w (In e (Does i a))).controls ≡ put e (posted o.next (w.controls e)) w.controls
+      = ap (λ b. (cond b (with_world e w (happens n x (Does i a))) w).controls) (eq-eqb e e refl)
+      ∙ ap (λ ls. put e ls w.controls) o.controls in
       subst (λ z. Agree n z (carried_after n s i a) f.all) (sym lists)
-      (elim kind [
-        | inl m ↦
-            subst (λ a. Agree n (put e (happens n x (Does i a)).controls w.controls) (carried_after n s i a) f.all) (sym m.1)
-            (rw m.0 (after_next n e (moved (w.at i).state).next w.controls s.carried f.all f.lists))
-        | inr c ↦
-            subst (λ cs. Agree n (put e (happens n x (Does i a)).controls w.controls) cs f.all) (sym c.0)
-            (subst (λ z. Agree n z s.carried f.all) (sym (ap (λ ls. put e ls w.controls) c.1.controls ∙ put_id e w.controls)) f.lists)
-      ])
+      (subst (λ cs. Agree n (put e (posted o.next (w.controls e)) w.controls) cs f.all) (sym o.carried)
+      (after_next n e o.next w.controls s.carried f.all f.lists))
 
   -- In epoch e, which is that of process i, and in any other.
   acts_balance : (i : ℕ) (a : Act) (e k : ℕ) → k < n
@@ -214,25 +190,30 @@ module _ (n : ℕ) (s : Network) (f : Follows n s) where
         | inl d ↦
             let more : events_of n e (In g (Does i a) ∷ f.all) ≡ Does i a ∷ events_of n e f.all
             = rw (eq-eqb g e d, eq-eqb ((epochs_after n f.all).at i).epoch g there) refl in
-            let mine : (w.at i).state ≡ x.at i = ap (λ (z : Epochs). (z.at i).state) f.same ∙ (epochs n f.all e).now i (there ∙ d) in
+            let mine : (w.at i).state ≡ x.at i = ap (λ (z : Epochs). (z.at i).state) f.same ∙ (epochs n e f.all).now i (there ∙ d) in
+            let o = act_of n s x i a (sym mine) in
             subst (λ h. Balance e k (carried_after n s i a) (after n h)) (sym more)
-            (elim (kind n s x i a) [
-              | inl m ↦
-                  subst (λ a. Balance e k (carried_after n s i a) (happens n x (Does i a))) (sym m.1)
-                  (rw (m.0, d, mine) (moved_balance n e k s.carried x (f.balance e k l) i))
-              | inr c ↦
-                  subst (λ cs. Balance e k cs (happens n x (Does i a))) (sym c.0)
-                  (count_balance n e k s.carried x (f.balance e k l) i (happens n x (Does i a)) c.1)
-            ])
+            (omega (
+              arith,
+              f.balance e k l,
+              ap (carried_to e k) o.carried,
+              carried_more e g k o.next s.carried,
+              ap (λ b. cond b (sends_to k o.next) 0) (eq-eqb g e d),
+              ap (sent_to k) o.controls,
+              posted_to k o.next x.controls,
+              o.takes k,
+            ))
         | inr off ↦
             let more : events_of n e (In g (Does i a) ∷ f.all) ≡ events_of n e f.all = rw (ne_eqb g e off) refl in
-            let none : carried_to e k (carried_after n s i a) ≡ carried_to e k s.carried = elim (kind n s x i a) [
-              | inl m ↦
-                  subst (λ a. carried_to e k (carried_after n s i a) ≡ carried_to e k s.carried) (sym m.1)
-                  (rw m.0 (carried_apart e g k (moved (w.at i).state).next s.carried off))
-              | inr c ↦ ap (carried_to e k) c.0
-            ] in
-            subst (λ h. Balance e k (carried_after n s i a) (after n h)) (sym more) (omega (arith, none, f.balance e k l))
+            let o = act_of n s (world_of g w) i a refl in
+            subst (λ h. Balance e k (carried_after n s i a) (after n h)) (sym more)
+            (omega (
+              arith,
+              f.balance e k l,
+              ap (carried_to e k) o.carried,
+              carried_more e g k o.next s.carried,
+              ap (λ b. cond b (sends_to k o.next) 0) (ne_eqb g e off),
+            ))
       ]
 
   acts_follow : (i : ℕ) (a : Act) → Follows n (network_step n s (Acts i a))
@@ -244,7 +225,7 @@ module _ (n : ℕ) (s : Network) (f : Follows n s) where
         same = ap (λ z. advance n z o) f.same;
         lists =
             agree_on n (advance n s.epochs o).controls (carried_after n s i a) o f.all
-            (acts_agree i a (kind n s (world_of e s.epochs) i a));
+            (acts_agree i a);
         balance = acts_balance i a;
       }
 
@@ -319,15 +300,11 @@ module _ (n : ℕ) (s : Network) (f : Follows n s) where
             (λ events. Balance g m (without k s.carried) (after n events)) (λ b.
             let d : e ≡ g = eqb-true e g (and_parts (eqb e g) (is_current e (epochs_after n f.all) (Comes h.which)) b).0 in
             let lists : w.controls e ≡ x.controls
-            = ap (λ (z : Epochs). z.controls e) f.same ∙ ap (λ u. (epochs_after n f.all).controls u) d ∙ (epochs n f.all g).controls in
+            = ap (λ (z : Epochs). z.controls e) f.same ∙ ap (λ u. (epochs_after n f.all).controls u) d ∙ (epochs n g f.all).controls in
             subst (λ m2. Balance g m (without k s.carried) (came n x m2)) (sym (subst (λ ls. control_at ls h.which ≡ Some l) lists h.there))
             (came_balance n g m s.carried x (f.balance g m less) k c at d))
             (λ b. omega (arith, carried_less g m k s.carried c at, f.balance g m less));
       })
-
-flat : (b : Bool) (z : ℕ) → cond b z z ≡ z
-flat true z = refl
-flat false z = refl
 
 pub follows : (n : ℕ) → n ≤ 2 ^ 20 → (events : List NetworkEvent) → Follows n (network n events)
 follows n few [] =
@@ -335,24 +312,15 @@ follows n few [] =
       all = [];
       same = refl;
       lists = record { sent = λ k c there. absurd (cc there); posted = λ e k l there. absurd (cc there) };
-      balance = λ e k l. omega (arith, flat (eqb k 0) 0, flat (ltb (2 * k + 1) n) 0, flat (ltb (2 * k + 2) n) 0);
+      balance = λ e k l. grind (arith, nat_tests);
     }
 follows n few (Acts i a ∷ past) = acts_follow n (network n past) (follows n few past) i a
 follows n few (Restarts i ∷ past) = restarts_follow n (network n past) (follows n few past) i
 follows n few (Arrives k ∷ past) = arrived_follow n (network n past) (follows n few past) few k (carried_at (network n past).carried k) refl
 
--- One of the numbers below n passes the test, or none does.
-any_of : (n : ℕ) (f : ℕ → Bool) → ((j : ℕ) × (j < n) × (f j ≡ true)) ⊎ ((j : ℕ) → j < n → f j ≡ false)
-any_of zero f = inr (λ j l. absurd (omega (arith, l)))
-any_of (suc n) f =
-    elim (cases_Bool (f n)) [
-      | inl t ↦ inl (n, omega arith, t)
-      | inr t ↦
-          elim (any_of n f) [
-            | inl z ↦ inl (z.0, omega (arith, z.1), z.2)
-            | inr none ↦ inr (λ j l. elim (cases_eq j n) [ inl d ↦ rw d t | inr off ↦ none j (omega (arith, l, off)) ])
-          ]
-    ]
+-- None of the numbers below n passes the test, or one does.
+any_of : (n : ℕ) (f : ℕ → Bool) → ((j : ℕ) → j < n → f j ≡ false) ⊎ ((j : ℕ) × (j < n) × (f j ≡ true))
+any_of n f = each_or n (λ j. f j ≡ false) _ (λ j l. elim (cases_Bool (f j)) [ inl t ↦ inr (j, l, t) | inr t ↦ inl t ])
 
 module _ (n last : ℕ) (few : n ≤ 2 ^ 20) (all : List EpochEvent) (cs : List Carried) (lists : Agree n (epochs_after n all).controls cs all)
     (still : IsStill n last (record { epochs = epochs_after n all; carried = cs })) where
@@ -386,13 +354,13 @@ module _ (n last : ℕ) (few : n ≤ 2 ^ 20) (all : List EpochEvent) (cs : List 
       let w : Epochs = epochs_after n all in
       let m : (j : ℕ) × (j < n) × ((k : ℕ) → k < n → (w.at j).epoch ≤ (w.at k).epoch)
       = elim (any_of n (λ j. ltb (w.at j).epoch (w.at i).epoch)) [
-        | inl z ↦ (z.0, z.1, λ k r. omega (arith, ltb-true (w.at z.0).epoch (w.at i).epoch z.2, near n i k all l r))
-        | inr none ↦ (i, l, λ k r. ltb-false (w.at k).epoch (w.at i).epoch (none k r))
+        | inr z ↦ (z.0, z.1, λ k r. omega (arith, ltb-true (w.at z.0).epoch (w.at i).epoch z.2, near n i k all l r))
+        | inl none ↦ (i, l, λ k r. ltb-false (w.at k).epoch (w.at i).epoch (none k r))
       ] in
       let e : ℕ = (w.at m.0).epoch in
       let over : IsOver n e w = elim (any_of n (λ j. ltb e (w.at j).epoch)) [
-        | inl z ↦ left_epoch n z.0 e all z.1 (ltb-true e (w.at z.0).epoch z.2)
-        | inr none ↦
+        | inr z ↦ left_epoch n z.0 e all z.1 (ltb-true e (w.at z.0).epoch z.2)
+        | inl none ↦
             let same : (j : ℕ) → j < n → (w.at j).epoch ≡ e = λ j k. omega (arith, m.2 j k, ltb-false e (w.at j).epoch (none j k)) in
             record {
               come = m.2;
@@ -433,9 +401,21 @@ never_late n j c events few there =
             | inr past ↦ absurd (omega (arith, late, same, beyond n f.all i past))
             | inl l ↦
                 let x : World = after n (events_of n e f.all) in
-                let over : (x.at i).over ≡ true = notified_over (x.at i) ((epochs n f.all e).left i (omega (arith, late, same))) in
-                let done = all_taken n i (events_of n e f.all) l over in
+                let over : (x.at i).over ≡ true = notified_over (x.at i) ((epochs n e f.all).left i (omega (arith, late, same))) in
                 let due : bit (eqb c.epoch e && eqb c.message.to i) ≡ 1 = rw (eq-eqb e e refl, eq-eqb i i refl) refl in
-                absurd (omega (arith, f.balance e i l, done.0, done.1, carried_less e i j s.carried c there, due))
+                let none : cond (x.at i).over 0 2 ≤ 0 = rw over (omega arith) in
+                let left = few_left n i (events_of n e f.all) l in
+                absurd (omega (arith, f.balance e i l, left, none, carried_less e i j s.carried c there, due))
           ]
     ]
+
+-- At most two control messages of an epoch are on their way to a process.
+pub few_carried : FewCarriedLaw
+few_carried n e k events few l =
+    let f = follows n few events in
+    let p : EpochState = (after n (events_of n e f.all)).at k in
+    let two : cond p.over 0 2 ≤ 2 = cond_both p.over 0 2 (λ z. z ≤ 2) (λ t. omega arith) (λ t. omega arith) in
+    omega (arith, f.balance e k l, few_left n k (events_of n e f.all) l, two)
+
+-- The theorems that `goes_on_each` names.
+pub ruleset in_each_epoch = (goes_on_epoch, lags, soon_epoch, once_epoch)

@@ -72,7 +72,7 @@ world_of e w = record { at = λ j. (w.at j).state; under_way = w.under_way e; co
 abbrev pub with_world : ℕ → Epochs → World → Epochs
 with_world e w x =
     record {
-      at = λ j. if is_in_epoch e w j then with_state (w.at j) (x.at j) else w.at j;
+      at = λ j. with_state (w.at j) (if is_in_epoch e w j then x.at j else (w.at j).state);
       under_way = put e x.under_way w.under_way;
       controls = put e x.controls w.controls;
     }

@@ -1,6 +1,6 @@
 -- A network that brings each control message once, in any order: its state, its events, and the theorems about it.
 use Rattle.std.specs.Prelude.{ℕ, zero, suc, ◌+◌, ◌^◌, ◌≡◌, ◌<◌, ◌≤◌, List, [], ◌∷◌, Bool, true, false, nat_lt, if◌then◌else◌, Option, Some}
-use Rattle.std.specs.Prelude.{None}
+use Rattle.std.specs.Prelude.{None, ◌==◌, ◌&&◌}
 use Rattle.tp_process.specs.{Calls.moved, Epochs.{Epochs, In, Reopens, advance, has_notified, initial, is_in_epoch, took_in, with_world}}
 use Rattle.tp_process.specs.{Epochs.world_of, World.{Act, Moves, Does, came, is_step}}
 use Rattle.tp_process.specs.declared.{control_message.ControlMessage.ControlMessage, outcome.Next.{Next, TheVariants.Send}}
@@ -97,3 +97,12 @@ AllEndLaw = (n last : ℕ) (events : List NetworkEvent) → n ≤ 2 ^ 20
 abbrev pub NeverLateLaw : Type 0
 NeverLateLaw = (n k : ℕ) (c : Carried) (events : List NetworkEvent) → n ≤ 2 ^ 20 → carried_at (network n events).carried k ≡ Some c
     → ((network n events).epochs.at c.message.to).epoch ≤ c.epoch
+
+-- the number of control messages of epoch e that are on their way to process k, or kept by it
+abbrev pub carried_to : ℕ → ℕ → List Carried → ℕ
+carried_to e k [] = 0
+carried_to e k (c ∷ cs) = if (c.epoch == e) && (c.message.to == k) then carried_to e k cs + 1 else carried_to e k cs
+
+-- At most two control messages of an epoch are on their way to a process, or kept by it.
+abbrev pub FewCarriedLaw : Type 0
+FewCarriedLaw = (n e k : ℕ) (events : List NetworkEvent) → n ≤ 2 ^ 20 → k < n → carried_to e k (network n events).carried ≤ 2

@@ -2,7 +2,7 @@
 //! wave.
 
 ghost use Rattle.std.specs.{Prelude.{◌≡◌, ◌+◌, ◌&&◌, nat_lt, not, OnErr}, Result.result_err};
-ghost use Rattle.tp_process.specs.Calls.{acts, control, due, ends, gives, is_down_due, is_due, is_miscounted, judges, left_of, moved};
+ghost use Rattle.tp_process.specs.Calls.{acts, control, due, ends, is_down_due, is_due, is_miscounted, judges, left_of, moved};
 ghost use Rattle.tp_process.specs.Calls.{next_result, notifies, opens, ready, right_of, takes, took, visits, take_refusal};
 ghost use Rattle.tp_process.specs.{Epochs.has_notified, State.{is_set, new_state, read_state}, declared.epoch_state.TheConstants.LIMIT};
 
@@ -17,7 +17,7 @@ pub(crate) const LIMIT: u64 = 1 << 43;
 /// 2i + 2.
 ///
 /// A flag is a byte, which is set if it is not 0: a C program may write any byte to it.
-#[derive(Clone, Copy, Debug, PartialEq, Eq)]
+#[derive(Clone, Copy, Debug, Default, PartialEq, Eq)]
 #[repr(C)]
 pub struct StoredState {
     pub(crate) number: u32,
@@ -57,21 +57,7 @@ impl StoredState {
             number,
             processes,
             pending: 1,
-            sent: 0,
-            received: 0,
-            wave: 0,
-            taken_sent: 0,
-            taken_received: 0,
-            last_received: 0,
-            known: 0,
-            here: 0,
-            down_left: 0,
-            down_right: 0,
-            up_left: 0,
-            up_right: 0,
-            over: 0,
-            over_left: 0,
-            over_right: 0,
+            ..StoredState::default()
         }
     }
 
@@ -200,7 +186,8 @@ impl StoredState {
         self.pass()
     }
 
-    /// Passes on the newest wave, which is here: down to the children and, when they have reported, up.
+    /// Passes on the newest wave, which is here: down to the children and, when they have reported, up with what this
+    /// process and all below it have counted. Process 0 judges the wave instead.
     #[inline(always)]
     fn pass(&mut self) -> Next
         ensures state { read_state self.new ≡ (visits (read_state self.old)).state }
@@ -223,7 +210,11 @@ impl StoredState {
         let Some(received) = self.taken_received.checked_add(self.received) else {
             return Next::Nothing;
         };
-        self.give(sent, received)
+        if self.number == 0 {
+            return self.judge(sent, received);
+        }
+        self.here = 0;
+        Next::Send(self.control((self.number as u64 - 1) / 2, Token::Up(sent, received)))
     }
 
     /// Returns the notification of the next child of the end, or `Ended` if all were notified.
@@ -240,21 +231,6 @@ impl StoredState {
             return Next::Send(self.control(self.right(), Token::Over));
         }
         Next::Ended
-    }
-
-    /// Passes the wave up with what this process and all below it have counted; process 0 judges the wave instead.
-    #[inline(always)]
-    fn give(&mut self, sent: u64, received: u64) -> Next
-        requires sent { sent ≡ (read_state self.old).taken_sent + (read_state self.old).sent }
-        requires received { received ≡ (read_state self.old).taken_received + (read_state self.old).received }
-        ensures state { read_state self.new ≡ (gives (read_state self.old)).state }
-        ensures next { result ≡ (gives (read_state self.old)).next }
-    {
-        if self.number == 0 {
-            return self.judge(sent, received);
-        }
-        self.here = 0;
-        Next::Send(self.control((self.number as u64 - 1) / 2, Token::Up(sent, received)))
     }
 
     #[inline(always)]

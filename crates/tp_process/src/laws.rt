@@ -3,7 +3,7 @@
 ghost use Rattle.std.specs.Prelude.{◌≡◌, ◌≢◌};
 ghost use Rattle.tp_process.specs.Epochs.{AheadLaw, CallsLaw, ControlMessagesEpochLaw, EpochLaw, FewWavesEpochLaw, GoesOnEpochLaw, LagsLaw};
 ghost use Rattle.tp_process.specs.Epochs.{LeftEpochLaw, MessageLaw, NearLaw, NeverEarlyEpochLaw, NoneLateLaw, OnceEpochLaw, SoonEpochLaw};
-ghost use Rattle.tp_process.specs.{Network.{AllEndLaw, HandedLaw, NeverLateLaw}, Opening.{CountedLaw, OpenCallsLaw, OpenLaw}};
+ghost use Rattle.tp_process.specs.{Network.{AllEndLaw, FewCarriedLaw, HandedLaw, NeverLateLaw}, Opening.{CountedLaw, OpenCallsLaw, OpenLaw}};
 ghost use Rattle.tp_process.specs.World.{ControlMessagesLaw, EndedLaw, FewWavesLaw, GoesOnLaw, NeverEarlyLaw, OnceLaw, QuietLaw, SoonLaw};
 
 use crate::epoch_state::LIMIT;
@@ -17,6 +17,7 @@ pub fn limits_are_these()
 
 /// Safety: if a process knows the end, or `next` returns `Ended`, no process has work and no message is under way,
 /// whatever the processes do and whichever control messages come, in whatever order.
+#[tactic(auto, using(crate::proofs::Network::never_early, crate::proofs::Network::ended))]
 pub fn never_early()
     ensures known { NeverEarlyLaw }
     ensures ended { EndedLaw }
@@ -36,6 +37,7 @@ pub fn few_waves()
 
 /// Liveness: after termination at most 14n - 11 events of n processes are useful; one is possible until all processes know
 /// the end; and a control message that has come need not come again.
+#[tactic(auto, using(crate::proofs::Network::soon, crate::proofs::Network::goes_on, crate::proofs::Network::once))]
 pub fn never_silent()
     ensures soon { SoonLaw }
     ensures goes_on { GoesOnLaw }
@@ -49,6 +51,7 @@ pub fn few_control_messages()
 {}
 
 /// Each epoch is a run of its own, whatever happens in the others; and the model's events are the calls of `Process`.
+#[tactic(auto, using(crate::proofs::Network::calls))]
 pub fn each_epoch()
     ensures epochs { EpochLaw }
     ensures calls { CallsLaw }
@@ -68,6 +71,7 @@ pub fn never_miscounted()
 {}
 
 /// Safety in every epoch: if a process knows the end of an epoch, or has left the epoch, nothing of it is left.
+#[tactic(auto, using(crate::proofs::Network::never_early_epoch, crate::proofs::Network::left_epoch, crate::proofs::Network::none_late))]
 pub fn never_early_each()
     ensures known { NeverEarlyEpochLaw }
     ensures left { LeftEpochLaw }
@@ -75,6 +79,7 @@ pub fn never_early_each()
 {}
 
 /// The epochs of two processes differ by at most one, and what comes to a process is of its epoch or of the next.
+#[tactic(auto, using(crate::proofs::Network::near, crate::proofs::Network::messages, crate::proofs::Network::ahead))]
 pub fn near_epochs()
     ensures near { NearLaw }
     ensures messages { MessageLaw }
@@ -83,6 +88,7 @@ pub fn near_epochs()
 
 /// Liveness in every epoch: after its termination, a useful event of it is possible until all processes in it can
 /// reopen.
+#[tactic(auto, using(crate::proofs::Network::in_each_epoch))]
 pub fn goes_on_each()
     ensures goes_on { GoesOnEpochLaw }
     ensures lags { LagsLaw }
@@ -91,6 +97,7 @@ pub fn goes_on_each()
 {}
 
 /// An epoch has no more waves and control messages than a run of one epoch.
+#[tactic(auto, using(crate::proofs::Network::few_waves_epoch, crate::proofs::Network::few_control_messages_epoch))]
 pub fn few_each()
     ensures waves { FewWavesEpochLaw }
     ensures controls { ControlMessagesEpochLaw }
@@ -98,12 +105,21 @@ pub fn few_each()
 
 /// Liveness of all epochs together, over a network that brings each control message once, in any order: if nothing is
 /// left to do, all processes have come to the last epoch and know its end.
+#[tactic(auto, using(crate::proofs::Network::all_end, crate::proofs::Network::handed_law))]
 pub fn all_end()
     ensures ends { AllEndLaw }
     ensures handed { HandedLaw }
 {}
 
 /// Over a network that brings each control message once, in any order, no control message is refused as `Late`.
+#[tactic(auto, using(crate::proofs::Network::never_late))]
 pub fn never_late()
     ensures { NeverLateLaw }
+{}
+
+/// Over such a network, at most two control messages of an epoch are on their way to a process, or kept by it until it
+/// reopens.
+#[tactic(auto, using(crate::proofs::Network::few_carried))]
+pub fn few_carried()
+    ensures { FewCarriedLaw }
 {}

@@ -10,9 +10,9 @@ mod process;
 
 pub use control_message::{ControlMessage, Token};
 pub use laws::{
-    all_end, each_epoch, few_control_messages, few_each, few_waves, goes_on_each, limits_are_these,
-    near_epochs, never_early, never_early_each, never_late, never_miscounted, never_silent,
-    quiet_stays, stays_open,
+    all_end, each_epoch, few_carried, few_control_messages, few_each, few_waves, goes_on_each,
+    limits_are_these, near_epochs, never_early, never_early_each, never_late, never_miscounted,
+    never_silent, quiet_stays, stays_open,
 };
 pub use outcome::{Next, Refusal};
 pub use process::Process;

@@ -25,13 +25,15 @@ with no busy process and with four. It begins only on a machine at rest, and its
 import os
 import sys
 
-from .. import plots
+from .. import library, plots, repository
 from ..repository import processors
 from . import comparing, conditions, document, figures, rows, soundness, tables
 from .cases import FRONT, MEASUREMENTS, PROGRAMS
 from .measuring import TIMED, Bench
 from .peers import Peers
 
+# the measurements whose programs compare what they compute themselves
+APART = ("dag", "processes", "preloaded")
 # how often each program runs on each case; if it times its runs, in how many processes, and with how many runs in each
 ROUNDS = {"quick": 3, "full": 15}
 PROCESSES = {"quick": 2, "full": 5}
@@ -56,7 +58,7 @@ def arguments(parser):
     stored = parser.add_mutually_exclusive_group()
     stored.add_argument("--write", action="store_true", help="store the rows in docs, and do what --draw does")
     stored.add_argument("--draw", action="store_true", help="measure nothing: draw plots and tables from the stored rows")
-    stored.add_argument("--check", action="store_true", help="measure nothing: compare plots and tables with the stored rows")
+    stored.add_argument("--check", action="store_true", help="measure nothing: compare plots and tables with rows, and programs' outputs")
 
 
 def measured(options, name, folder, peers):
@@ -112,6 +114,25 @@ def measure_all(options, names, folder):
     return 1 if failed else 0
 
 
+def compare_outputs(tally, folder):
+    """Counts the measurements of whose quick cases all programs print the same. A peer that cannot be compiled fails, too."""
+    peers, reasons = Peers(folder), [*map(repository.reason_not_built, ("tp", "samples")), library.reason_not_built()]
+    if any(reasons):
+        return tally.fails(f"{next(filter(None, reasons))}: no outputs are compared")
+    for name in (name for name in MEASUREMENTS if name not in APART):
+        try:
+            reason = [*MEASUREMENTS[name](Bench(peers, folder, 0, RUNS["quick"], 0, False, True, ""))]
+        except SystemExit as error:
+            reason = error
+        tally.judge(not reason, reason)
+    for source, needed in peers.left_out.items():
+        if needed:
+            tally.skips(f"bench/peers/{source}", needed)
+        else:
+            tally.fails(f"bench/peers/{source} is left out")
+    return None
+
+
 def fault_of(options):
     """Returns why these options do not go together; an empty text if they do."""
     is_comparison = options.measurements[:1] == ["compare"]
@@ -135,7 +156,8 @@ def run(options):
         options.parser.error(fault_of(options))
     if options.check:
         plots.check(options.tally, figures.PLOTS)
-        return document.check(options.tally)
+        document.check(options.tally)
+        return compare_outputs(options.tally, options.temporary)
     if options.measurements[:1] == ["compare"]:
         peers, rounds = Peers(options.temporary), options.rounds or PROCESSES["full"]
         bench = Bench(peers, options.temporary, rounds, RUNS["full"], 0, True, False, options.only)
@@ -145,8 +167,7 @@ def run(options):
     if not options.draw:
         asked = {*(options.measurements or MEASUREMENTS), *(FRONT if "front" in options.measurements else [])}
         names = [name for name in MEASUREMENTS if name in asked]
-        missing = [path for path in dict.fromkeys(path for name in names for path in PROGRAMS[name]) if not os.path.isfile(path)]
-        if missing:
+        if missing := [path for path in dict.fromkeys(path for name in names for path in PROGRAMS[name]) if not os.path.isfile(path)]:
             sys.exit(f"missing: {' '.join(missing)}: `make` and `make lib` build them")
         status = measure_all(options, names, options.temporary)
     if options.draw or options.write:

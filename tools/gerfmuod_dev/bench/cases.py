@@ -27,6 +27,8 @@ BODIES = [100, 200, 500, 800, 1_000, 1_500, 2_000, 4_000, 10_000]
 LIBRARY_STEPS = 999_999
 # the lines of texts, the quick form's first
 SIZES = [200_000, 1_000_000]
+# and if outputs are compared alone
+FEW_LINES = 20_000
 GRID_WIDTH, GRID_STEPS = 16, 100
 GRID_TASKS = GRID_WIDTH * GRID_STEPS
 GRID_PLACES = [(1, 1), (1, 4), (2, 2), (4, 1)]
@@ -76,13 +78,13 @@ def texts(bench, measurement, kind, lines, write):
 
 
 def sim(bench):
-    for lines in SIZES[: 1 if bench.is_quick else 2]:
+    for lines in SIZES[: 1 if bench.is_quick else 2] if bench.rounds else [FEW_LINES]:
         yield from texts(bench, "sim", "steps of tasks", lines, lambda out: inputs.write_task_steps(out, lines))
         yield from texts(bench, "sim", "all steps", lines, lambda out: inputs.write_all_steps(out, lines, False))
 
 
 def audit(bench):
-    for lines in SIZES[: 1 if bench.is_quick else 2]:
+    for lines in SIZES[: 1 if bench.is_quick else 2] if bench.rounds else [FEW_LINES]:
         yield from texts(bench, "audit", "all steps", lines, lambda out: inputs.write_all_steps(out, lines, True))
 
 
@@ -120,7 +122,7 @@ def kernel_of(bench):
     case = Case("patterns", f"one task, {KERNEL_ITERATIONS:,} iterations", "task", 1)
     compare(case, candidates)
     kernel = Kernel(case, candidates, KERNEL_ITERATIONS, {})
-    for _ in range(KERNEL_ROUNDS):
+    for _ in range(KERNEL_ROUNDS if bench.rounds else 0):
         kernel.measure(bench)
     return kernel
 

@@ -46,8 +46,7 @@ def compare(bench, folders, loads, is_anyway):
         sys.exit(f"nothing is measured: {f'missing: {missing}' if missing else faults[0]}")
     for load in loads:
         start, load_average = conditions.now(), conditions.load_average()
-        found = list(measured(bench._replace(load=load), folders))
-        if not found:
+        if not (found := list(measured(bench._replace(load=load), folders))):
             sys.exit(f"no case has {bench.only!r} in its name")
         end, name = conditions.now(), f"next to {load} busy processes"
         origin = conditions.origin_of(name, "compare", found, end[0] - start[0], load_average, conditions.others(start, end))

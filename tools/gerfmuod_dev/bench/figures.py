@@ -40,8 +40,7 @@ def time_by_nodes(rows):
 def instructions_a_task(rows):
     names, groups = [*RUNTIMES, "one after the other"], []
     for pool in TASKS:
-        found = {row.program: ("", row.instructions / row.units) for row in rows if row.case == pool and row.instructions}
-        if found:
+        if found := {row.program: ("", row.instructions / row.units) for row in rows if row.case == pool and row.instructions}:
             groups.append((pool, [found.get(name) for name in names]))
     return bars_plot(names, groups, "instructions a task")
 

@@ -61,7 +61,8 @@ class Cost(NamedTuple):
 
 
 class Bench(NamedTuple):
-    """How programs are measured: peers, a folder for files, rounds, runs of a process if it times them, busy processes, which cases."""
+    """How programs are measured: peers, a folder for files, rounds (0: outputs are compared alone), runs of a process if it times them,
+    busy processes, which cases."""
 
     peers: object
     folder: str
@@ -157,6 +158,8 @@ def measure(bench, case, candidates, kernel=None):
     places = ", ".join(dict.fromkeys(f"{candidate.nodes} by {candidate.workers}" for candidate in candidates))
     print(f"{case.measurement}: {case.name}, {places}", file=sys.stderr, flush=True)
     compare(case, candidates)
+    if not bench.rounds:
+        return []
     measured = [[] for _ in candidates]
     with busy_processes(bench.load):
         for _ in range(bench.rounds):

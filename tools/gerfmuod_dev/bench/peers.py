@@ -1,6 +1,7 @@
 """Compiles the programs of bench/peers, with which this repository's are compared."""
 import functools
 import os
+import re
 import sys
 
 from .. import running
@@ -20,7 +21,7 @@ class Peers:
     """The compiled programs. Each is compiled at its first use, and is None if that fails, which is printed once."""
 
     def __init__(self, folder, sources=SOURCES):
-        self.folder, self.sources = folder, sources
+        self.folder, self.sources, self.left_out = folder, sources, {}
 
     @functools.lru_cache(maxsize=None)
     def program(self, name, compiler, source, libraries=()):
@@ -30,6 +31,8 @@ class Peers:
             return path
         needs = " or ".join(NEEDED[option] for option in (*compiler, *libraries) if option in NEEDED)
         print(f"{source} is left out{', and needs ' + needs if needs else ''}: {running.short(result.err)}", file=sys.stderr)
+        is_absent = re.search(rb"cannot find -l|fatal error: .*: No such file|No such file or directory: '", result.err)
+        self.left_out[source] = needs or compiler[0] if is_absent else ""
         return None
 
     def rust(self, name, source, *more):

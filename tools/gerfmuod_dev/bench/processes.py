@@ -46,8 +46,7 @@ STORM = rf"{NUMBER} waves, {NUMBER} control messages, at most {NUMBER} waves aft
 
 def numbers_in(text, form):
     """Returns the numbers of a line that a program prints; exits with status 1 if it prints no such line."""
-    found = re.search(form, text)
-    if not found:
+    if not (found := re.search(form, text)):
         raise SystemExit(f"not the line that was expected: {running.short(text.encode())}")
     return [float(number) for number in found.groups()]
 

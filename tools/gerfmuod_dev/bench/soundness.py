@@ -35,8 +35,7 @@ def impossible(measurement, rows):
     if measurement not in ("patterns", "body", "run", "rod"):
         return []
     names = {id(row): f"{row.case}, {row.program}, {row.where}" for row in rows}
-    untimed = [row for row in rows if not 0 < row.lower_quartile <= row.milliseconds <= row.upper_quartile]
-    if untimed:
+    if untimed := [row for row in rows if not 0 < row.lower_quartile <= row.milliseconds <= row.upper_quartile]:
         return [f"{names[id(row)]}: {row.milliseconds} ms is not a time" for row in untimed]
     if measurement == "patterns":
         return [f"{names[id(row)]}: {reason}" for row in rows if (reason := of_row(row))]

@@ -195,8 +195,7 @@ def bodies(rows):
     found = {}
     for row in rows:
         block = found.setdefault(row.case, Body(row.case.split(", ")[0].replace("blocks of ", ""), {}, {}))
-        alone = having(rows, case=row.case, program=row.program, where="1 by 1")
-        if alone:
+        if alone := having(rows, case=row.case, program=row.program, where="1 by 1"):
             block.microseconds[row.program] = alone[0].milliseconds * 1000 / alone[0].units
             fields = ("milliseconds",) * 2, ("lower_quartile", "upper_quartile"), ("upper_quartile", "lower_quartile")
             speed_ups = [getattr(alone[0], own) / getattr(row, its) for own, its in fields]

@@ -33,8 +33,7 @@ class Wrong(Exception):
 
 def check(checks):
     """Refuses the step with the number of the first check that holds."""
-    number = next((number for number, holds in checks.items() if holds), None)
-    if number:
+    if number := next((number for number, holds in checks.items() if holds), None):
         raise Refused(number, NAMES[number])
 
 
@@ -176,8 +175,7 @@ def read(text, command):
     *lines, rest = text.decode("latin-1").split("\n")
     version = HEADS[command].get(lines[0] if lines else "", 1 if command == "sim" else None)
     first = 2 if version == 2 or command == "audit" else 1
-    nodes = re.fullmatch("nodes ([1-8])", lines[first - 1], re.ASCII) if version and len(lines) >= first else None
-    if not nodes:
+    if not (nodes := re.fullmatch("nodes ([1-8])", lines[first - 1], re.ASCII) if version and len(lines) >= first else None):
         raise Wrong(first if version else 1)
     steps = [parsed(line, version, command) for line in lines[first:]]
     if None in steps or rest:

@@ -1,4 +1,5 @@
 """Runs programs with strange streams, texts that are too long, and too few threads: each case by a line of bash, in which it is "$@"."""
+import itertools
 import json
 import os
 import re
@@ -7,7 +8,7 @@ import shutil
 from .. import running
 from ..repository import TOP, text_of
 from ..running import Result
-from .terminal import USER
+from .terminal import USER, reasons
 
 READ_FAULT, LONG_FAULT = (Result(1, b"", b"fault %s\n" % what) for what in (b"read", b"too long"))
 HISTORY_FULL = Result(3, b"", b"refused 16 HistoryFull\n")
@@ -99,14 +100,17 @@ def manners(tally, options, folder):
     """Runs each subcommand in each situation of a table: a closed pipe, a full disk, no file, wrong arguments, help, the version.
 
     A row of tools/data/limits/manners.json has a line of bash, the arguments that it adds, the status, and patterns of the output
-    and of standard error, in which NAME is the program's name. No line of help has more than 80 characters.
+    and of standard error, in which NAME is the program's name. Programs that read have more of them, and some rows are of one command.
+    No line of help has more than 80 characters. Then come the reasons of `tools/dev limits reasons`.
     """
     table = json.loads(text_of(f"{TOP}/tools/data/limits/manners.json"))
-    for name, arguments, stdin in table["commands"]:
-        for situation, line, more, status, out, err in table["situations"]:
-            command = ["bash", "-c", line, "bash", getattr(options, name), *arguments, *more]
-            result = running.run(command, stdin.encode(), env=USER, cwd=folder)
-            texts = zip((out, err), (result.out, result.err))
-            is_well = all(re.fullmatch(pattern.replace("NAME", name), text.decode(), re.S) for pattern, text in texts)
-            is_well &= result.status == status and (more != ["--help"] or max(map(len, result.out.decode().split("\n"))) <= 80)
-            tally.judge(is_well, f"{situation}, {name} {arguments}: {running.short(result.out)}, {result.description()}")
+    readers = [command for command in table["commands"] if command[2]]
+    rows = [*itertools.product(table["commands"], table["situations"]), *itertools.product(readers, table["reading"]), *table["alone"]]
+    for (name, arguments, stdin), (situation, line, more, status, out, err) in rows:
+        command = ["bash", "-c", line, "bash", getattr(options, name), *arguments, *more]
+        result = running.run(command, stdin.encode(), env=USER, cwd=folder)
+        texts = zip((out, err), (result.out, result.err))
+        is_well = all(re.fullmatch(pattern.replace("NAME", name), text.decode(), re.S) for pattern, text in texts)
+        is_well &= result.status == status and (more != ["--help"] or max(map(len, result.out.decode().split("\n"))) <= 80)
+        tally.judge(is_well, f"{situation}, {name} {arguments}: {running.short(result.out)}, {result.description()}")
+    reasons(tally, options, folder)

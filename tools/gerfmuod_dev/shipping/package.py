@@ -1,6 +1,6 @@
 """Installs into temporary folders and checks what is there: `make test`. It fails if a program or the library is not of these sources.
 
-Compares the versions in the sources; what the pages of the manual have and the completion offers with what they are generated from; the
+Compares what the pages of the manual have and the completion offers with what they are generated from; the
 installed files with the list that `make uninstall` reads, their modes with the usual ones, and the links of the documents with them. Runs
 programs in C, C++, Fortran, Rust and Python over nothing but the installed files, by pkg-config and by CMake, shared and static. After
 `make uninstall` nothing is left. Then tools/release-test packs a release and tries it here. What is not installed is skipped, and counted.
@@ -15,6 +15,7 @@ import tempfile
 from dataclasses import dataclass
 
 from .. import docs, library, repository, running, shared_object
+from ..limits import terminal
 from ..running import short, write
 
 SONAME = shared_object.SONAME
@@ -22,10 +23,11 @@ SONAME = shared_object.SONAME
 USUAL = {"PREFIX": "/usr/gerfmuod", "LIBDIR": "/usr/gerfmuod/lib", "INCLUDEDIR": "/usr/gerfmuod/include"}
 OTHER = {"PREFIX": "/usr", "LIBDIR": "/usr/lib/x86_64-linux-gnu", "INCLUDEDIR": "/usr/include/gerfmuod", "MANDIR": "/srv/man"}
 LIST, DOCUMENTS = ("PREFIX", "/share/gerfmuod/installed"), ("PREFIX", "/share/doc/gerfmuod")
-# the sources that repeat the version, as a number or as a text; arguments, the last of which is completed, and how; lines of sh with the
-# program that each needs and what it prints
+# lines that a tab completes, and what runs then; lines of sh with the program that each needs and what it prints
 TABLES = repository.text_of(f"{repository.TOP}/tools/data/package/tables.json")
-COMPLETE = '. tools/completion.bash; COMP_WORDS=("$@"); COMP_CWORD=$(($# - 1)); _gerfmuod "$1" "${@: -1}"; echo "${COMPREPLY[@]}"'
+# the shells with an option and a first command, and a program that only completion runs: others are written to a file with their input
+SHELLS = {"bash": ("--norc", ":"), "zsh": ("-f", "autoload -U compinit; compinit -uD"), "fish": ("--no-config", ":")}
+COMPLETED = '#!/bin/sh\ncase "$*" in *--help | *--list) exec {} "$@" ;; esac\n{{ echo "$*"; [ -t 0 ] || cat; }} >> {}\n'
 # what a page of the manual has otherwise
 SIGN = re.compile(r"/?\*+/?|(Usage|Options|Examples):|gerfmuod[\w/]*\.h:")
 ALLOWED = ("PKG_CONFIG_ALLOW_SYSTEM_CFLAGS", "PKG_CONFIG_ALLOW_SYSTEM_LIBS", "PYTHONDONTWRITEBYTECODE")
@@ -123,13 +125,6 @@ def check_uninstall(tally, tree):
     tally.judge(not os.listdir(tree.destination), f"make uninstall leaves {os.listdir(tree.destination)}")
 
 
-def check_version(tally):
-    for path, pattern in json.loads(TABLES)["versions"]:
-        found = re.findall(pattern, repository.text_of(path))
-        expected = [str(repository.version_number())], [repository.version()]
-        tally.judge(found in expected, f"{path} has the version {found}, and {repository.VERSION} {expected}")
-
-
 def check_manual(tally, built, folder):
     """Has groff lay out each page, which then has all words of what `--help` prints, or of its header, except for headings and stars."""
     if not all([tally.has(command, "the manual") for command in ("help2man", "pandoc", "groff")]):
@@ -150,11 +145,20 @@ def check_manual(tally, built, folder):
         tally.judge(not result.status and not missing, f"{path} lacks {missing[:5]}: {short(result.err)}")
 
 
-def check_completion(tally, built):
-    environment = {**os.environ, "PATH": f"{built}/bin:{os.environ['PATH']}"}
-    for line, expected in json.loads(TABLES)["completed"] if tally.has("bash", "its completion") else ():
-        result = running.run(["bash", "--norc", "-c", COMPLETE, "bash", *line.split(" ")], env=environment)
-        tally.judge(result.out.decode().split() == expected, f"{line}: completed as {short(result.out + result.err)}, not as {expected}")
+def check_completion(tally, built, folder):
+    """Types lines with a tab at each shell, in a folder with a file `goods`, and compares what then runs."""
+    lines, expected = zip(*json.loads(TABLES)["completed"])
+    write(f"{folder}/goods", "in it\n")
+    for program in ("tp", "samples"):
+        os.chmod(write(f"{folder}/{program}", COMPLETED.format(f"{built}/bin/{program}", f"{folder}/ran")), 0o755)
+    for shell, (option, first) in SHELLS.items():
+        if tally.has(shell, "its completion"):
+            write(f"{folder}/ran", "")
+            typed = [f"{first}; . {repository.TOP}/tools/completion.{shell}; cd {folder}", *(f"{line}\t" for line in lines), "exit\n"]
+            command = ["env", f"PATH={folder}:{os.environ['PATH']}", "setsid", "-c", shell, option, "-i"]
+            result = terminal.run_at_terminal(command, "\n".join(typed).encode(), is_typed=True)
+            ran = repository.text_of(f"{folder}/ran")
+            tally.judge(ran == "".join(f"{line}\n" for line in expected), f"{shell} completes {lines} as {ran}, {result.description(2000)}")
 
 
 def check_release(tally, built):
@@ -174,14 +178,15 @@ def arguments(parser):
 
 def run(options):
     tally, folder, built_folder = options.tally, options.temporary, options.built or repository.TOP
-    check_version(tally)
     reasons = [] if options.built else [library.reason_not_built(), *map(repository.reason_not_built, ("tp", "samples"))]
     if any(reasons):
         tally.fails(f"{next(filter(None, reasons))}: `make` and `make lib` build what is installed")
     if any(reasons) or options.sources:
         return None
     check_manual(tally, built_folder, f"{folder}/manual")
-    check_completion(tally, built_folder)
+    check_completion(tally, built_folder, tempfile.mkdtemp(dir=folder))
+    if not options.built:
+        docs.check_statements(tally, "built")
     for name, variables in (("usual", USUAL), ("other", OTHER)):
         tree = Tree(f"{folder}/{name}", variables, built_folder)
         if check(tally, tree.make("install"), "make install"):

@@ -1,7 +1,7 @@
 //! The result that each call on a task graph returns to C.
 ghost use Rattle.std.specs.Prelude.{◌≡◌};
-ghost use Rattle.gerfmuod.specs.Part.{event_answer, fault_answer, found_fault_answer, limit_of, plain, refusal_answer, reply_answer};
-ghost use Rattle.gerfmuod.specs.Part.{number_or_none, refused_with, task_named};
+ghost use Rattle.gerfmuod.specs.Part.{event_answer, fault_answer, found_fault_answer, plain, refusal_answer, refused_with};
+ghost use Rattle.gerfmuod.specs.Part.{reply_answer, task_named};
 
 use tp_base::Refusal;
 use tp_dag::Event;
@@ -57,15 +57,9 @@ pub(crate) fn refused_with(refusal: TeamRefusal, number: u32, signals: u32) -> G
 pub(crate) fn refused(refusal: TeamRefusal) -> GraphResult
     ensures { result ≡ refusal_answer refusal }
 {
-    refused_with(refusal, limit_of(refusal), 0)
-}
-
-fn limit_of(refusal: TeamRefusal) -> u32
-    ensures { result ≡ limit_of refusal }
-{
     match refusal {
-        TeamRefusal::Pool(Refusal::HistoryFull(limit)) => limit,
-        _ => 0,
+        TeamRefusal::Pool(Refusal::HistoryFull(limit)) => refused_with(refusal, limit, 0),
+        _ => refused_with(refusal, 0, 0),
     }
 }
 
@@ -76,16 +70,10 @@ pub(crate) fn task_named(number: u32) -> Option<u32>
     (number != NO_NUMBER).then_some(number)
 }
 
-fn number_or_none(task: Option<u32>) -> u32
-    ensures { result ≡ number_or_none task }
-{
-    task.unwrap_or(NO_NUMBER)
-}
-
 fn of_fault(fault: Fault, signals: u32) -> GraphResult
     ensures { result ≡ fault_answer fault signals }
 {
-    refused_with(fault.refusal, number_or_none(fault.task), signals)
+    refused_with(fault.refusal, fault.task.unwrap_or(NO_NUMBER), signals)
 }
 
 /// Returns the result of a turn.

@@ -3,14 +3,14 @@ ghost use Rattle.gerfmuod.specs.Part.{IsDescribeCall, IsGraphCall, IsSpawnCall, 
 
 use crate::graph::access::RawAccess;
 use crate::graph::answer::{GraphResult, plain, refused};
-use crate::graph::call::{Call, call_of};
 use crate::graph::data::{handle_added, task_added};
 use crate::graph::slot::GraphSlot;
-use crate::graph::team::{called, described, spawned};
+use crate::graph::team::{Call, call_of, called, described, spawned};
 use tp_base::Refusal;
 use tp_team::TeamRefusal;
 
 /// Makes the call of a number.
+#[tactic(auto, using(crate::proofs::Growing::next_called))]
 pub(crate) fn call(slot: &mut GraphSlot, number: u32, first: u32, second: u32) -> GraphResult
     ensures { IsGraphCall slot.old number first second result slot.new }
 {
@@ -29,6 +29,7 @@ pub(crate) fn call(slot: &mut GraphSlot, number: u32, first: u32, second: u32) -
 }
 
 /// Adds a task.
+#[tactic(auto, using(crate::proofs::Growing::next_spawned))]
 pub(crate) fn spawn(slot: &mut GraphSlot, class: u32, inputs: &[u32], outside: u32) -> GraphResult
     ensures { IsSpawnCall slot.old class inputs.now outside result slot.new }
 {

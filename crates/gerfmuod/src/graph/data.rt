@@ -25,6 +25,7 @@ pub(crate) fn handle_added(slot: &mut GraphSlot) -> GraphResult
 }
 
 /// Adds a task that accesses data to an open graph.
+#[tactic(auto, using(crate::proofs::Growing::decoded_there))]
 pub(crate) fn task_added(
     slot: &mut GraphSlot,
     class: u32,

@@ -64,10 +64,7 @@ impl GraphSlot {
     pub(crate) fn close(&mut self)
         ensures { self.new ≡ closed }
     {
+        *self = GraphSlot::open(self.alloc, 0, 0);
         self.mark = 0;
-        self.team = Team::open(self.alloc, false, 0);
-        self.flow = Flow::new(self.alloc);
-        self.accesses = Vec::new(self.alloc);
-        self.inputs = Vec::new(self.alloc);
     }
 }

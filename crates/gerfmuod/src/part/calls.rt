@@ -1,15 +1,40 @@
 //! The calls on a part, as C gets their results.
 ghost use Rattle.std.specs.Prelude.{◌≡◌};
-ghost use Rattle.gerfmuod.specs.Part.{IsArrived, IsDone, IsNext, IsPartCall, IsSharedTaskCall, IsStarted, IsTaskOfCall, outcome_answer};
+ghost use Rattle.gerfmuod.specs.Part.{IsArrived, IsDone, IsNext, IsPartCall, IsSharedTaskCall, IsStarted, IsTaskOfCall, outcome_answer, part_call_of};
 
 use crate::graph::access::RawAccess;
 use crate::graph::answer::{GraphResult, plain, refused};
-use crate::part::call::{PartCall, part_call_of};
 use crate::part::slot::PartSlot;
 use crate::part::tasks::{handle_added, shared_task_added, task_added};
 use tp_base::Refusal;
 use tp_part::{Next, Part};
 use tp_team::TeamRefusal;
+
+/// A call on an open part.
+#[derive(Clone, Copy)]
+pub enum PartCall {
+    Close,
+    AddHandle,
+    Start,
+    Next,
+    Done,
+    Arrived,
+}
+
+/// Returns the call of a number, if there is one.
+fn part_call_of(number: u32) -> Option<PartCall>
+    ensures { result ≡ part_call_of number }
+{
+    match number {
+        0 => Some(PartCall::Close),
+        1 => Some(PartCall::AddHandle),
+        2 => Some(PartCall::Start),
+        3 => Some(PartCall::Next),
+        4 => Some(PartCall::Done),
+        5 => Some(PartCall::Arrived),
+        _ => None,
+    }
+}
 
 /// Makes the call of a number.
 pub(crate) fn call(slot: &mut PartSlot, number: u32, task: u32) -> GraphResult

@@ -64,10 +64,7 @@ impl PartSlot {
     pub(crate) fn close(&mut self)
         ensures { self.new ≡ closed_part }
     {
+        *self = PartSlot::open(self.alloc, 0, 0);
         self.mark = 0;
-        self.part = Part::new(self.alloc, 0, 0);
-        self.flow = Flow::new(self.alloc);
-        self.accesses = Vec::new(self.alloc);
-        self.inputs = Vec::new(self.alloc);
     }
 }

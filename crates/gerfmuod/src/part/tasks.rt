@@ -34,6 +34,7 @@ pub(crate) fn task_added(part: &mut Part, class: u32, inputs: &[u32], owner: u32
 }
 
 /// Describes a task by its accesses, at an open part.
+#[tactic(auto, using(crate::proofs::Growing::decoded_there))]
 pub(crate) fn shared_task_added(
     slot: &mut PartSlot,
     class: u32,

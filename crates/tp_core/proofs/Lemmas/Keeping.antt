@@ -95,8 +95,13 @@ pub outside : (n i : ℕ) (steps : List Step) → 0 < n → IsLawfulRun n steps 
 outside n i [] pos r h = ap (λ p. record { pending = p; sent = 0; received = 0 }) (grind (arith, nat_tests, open_at-openings i n))
 outside n i (s ∷ past) pos r h =
     let inside = node_inside n past s pos r.1 r.0 in
-    numbers_step (record { nodes = n; steps = past; recorded = true }) s i r.0 ∙ grind (arith, nat_tests, inside, outside n i past pos
-    r.1 h)
+    numbers_step (record { nodes = n; steps = past; recorded = true }) s i r.0 ∙ grind (
+      arith,
+      nat_tests,
+      inside,
+      outside n i past pos
+          r.1 h,
+    )
 
 -- ---- unfinished tasks and open actions
 left-with_life : (t : ℕ) (f : Life → Life) (l : Life) (xs : List Task) → life_in t xs ≡ Some l
@@ -159,7 +164,7 @@ agree_after {c} {d} {mid} s agree comes on room nodes same_generation stay pushe
       generation_is = same_generation ∙ agree.generation_is ∙ sym (generation-goes_on s (accepted c).steps on);
       in_room = (room, agree.in_room);
       numbers = subst (λ (xs : List Step). HasNumbers d.numbers (record { nodes = c.nodes; steps = xs; recorded = true })) (sym now)
-      numbers;
+          numbers;
       left = subst (λ (xs : List Step). d.left ≡ all_left (world c.nodes xs)) (sym now) (left
           ∙ rw agree.left (sym (left_step c.nodes (present (accepted c).steps) s lawful)));
       under = subst (λ (xs : List Step). d.under ≡ length (world c.nodes xs).messages) (sym now) (under

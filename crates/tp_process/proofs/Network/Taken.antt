@@ -14,7 +14,7 @@ sends_to k _ = 0
 
 pub posted_to : (k : ℕ) (next : Next) (ls : List ControlMessage) → sent_to k (posted next ls) ≡ sent_to k ls + sends_to k next
 posted_to k (Send l) ls =
-    elim (cases_Bool (eqb l.to k)) [ inl t ↦ rw t (omega arith) | inr t ↦ rw t (omega arith) ]
+    grind (arith, nat_tests)
 posted_to k _ ls = omega arith
 
 -- what p still has to send to process k in its newest wave and for the end (`owes`), and what its waves and the end
@@ -35,11 +35,6 @@ costs_to k p = cond (eqb (left_of p) k) (p.wave + 1) 0 + cond (eqb (right_of p) 
 abbrev pub Pays : ℕ → EpochState → EpochState → ℕ → Type 0
 Pays k p r d = owes k r + d + costs_to k p ≡ owes k p + costs_to k r
 
-opened_owes : (a b c lh rh : Bool) (dl dr w : ℕ) → (a ≡ true → lh ≡ true) → (b ≡ true → rh ≡ true)
-    → cond a (bit lh + dl) 0 + cond b (bit rh + dr) 0 + cond c 1 0 + 0 + (cond a (w + 1) 0 + cond b (w + 1) 0 + cond c w 0)
-    ≡ cond a (0 + dl) 0 + cond b (0 + dr) 0 + cond c 0 0 + (cond a (w + 1 + 1) 0 + cond b (w + 1 + 1) 0 + cond c (w + 1) 0)
-opened_owes a b c lh rh dl dr w f g = grind (arith, nat_tests)
-
 module _ (n k : ℕ) (p : EpochState) (l : k < n) (size : p.processes ≡ n) where
   has_left : eqb (left_of p) k ≡ true → ltb (left_of p) p.processes ≡ true
   has_left a = lt-ltb (left_of p) p.processes (omega (arith, eqb-true (left_of p) k a, l, size))
@@ -48,18 +43,10 @@ module _ (n k : ℕ) (p : EpochState) (l : k < n) (size : p.processes ≡ n) whe
   has_right a = lt-ltb (right_of p) p.processes (omega (arith, eqb-true (right_of p) k a, l, size))
 
   ends_pays : p.over ≡ false → Pays k p (ends p) 0
-  ends_pays o =
-      elim (cases_Bool (eqb (left_of p) k)) [
-        | inl a ↦ rw (o, a, ne_eqb (right_of p) k (λ e. absurd (omega (arith, e, eqb-true (left_of p) k a))), has_left a) (omega arith)
-        | inr a ↦
-            elim (cases_Bool (eqb (right_of p) k)) [ inl b ↦ rw (o, a, b, has_right b) (omega arith) | inr b ↦ rw (a, b) (omega arith) ]
-      ]
+  ends_pays o = grind (arith, nat_tests, has_left, has_right)
 
   opens_pays : p.here ≡ false → Pays k p (opens (p.wave + 1) p) 0
-  opens_pays h =
-      rw h
-      (opened_owes (eqb (left_of p) k) (eqb (right_of p) k) (is_child k p) (has p (left_of p)) (has p (right_of p))
-      (cond p.over (bit p.over_left) 1) (cond p.over (bit p.over_right) 1) p.wave has_left has_right)
+  opens_pays h = grind (arith, nat_tests, has_left, has_right)
 
   acts_pays : Pays k p (acts p).state (sends_to k (acts p).next)
   acts_pays =
@@ -158,105 +145,148 @@ one-le : (n a v : ℕ) → total n (λ j. cond (eqb j a) v 0) ≤ cond (ltb a n)
 one-le zero a v = grind (arith, nat_tests)
 one-le (suc n) a v = grind (arith, nat_tests, one-le n a v)
 
--- what process j can have to send to process k, if it is the parent or a child of k
-abbrev share : ℕ → ℕ → ℕ → ℕ
-share w k j = cond (eqb j (parent k)) (cond (eqb k 0) 0 (w + 1)) 0 + (cond (eqb j (2 * k + 1)) w 0 + cond (eqb j (2 * k + 2)) w 0)
+-- what process j can have sent to process k: its parent w control messages, a child u
+abbrev share : ℕ → ℕ → ℕ → ℕ → ℕ
+share w u k j = cond (eqb j (parent k)) (cond (eqb k 0) 0 w) 0 + (cond (eqb j (2 * k + 1)) u 0 + cond (eqb j (2 * k + 2)) u 0)
 
-down-le : (k j v w : ℕ) → v ≤ w
-    → cond (eqb (2 * j + 1) k) (v + 1) 0 + cond (eqb (2 * j + 2) k) (v + 1) 0 ≤ cond (eqb j (parent k)) (cond (eqb k 0) 0 (w + 1)) 0
-down-le k j v w near = grind (arith, nat_tests)
+down-le : (k j a b v w : ℕ) → v ≤ a + w → v ≤ b + w
+    → cond (eqb (2 * j + 1) k) v 0 + cond (eqb (2 * j + 2) k) v 0
+    ≤ cond (eqb (2 * j + 1) k) a 0 + cond (eqb (2 * j + 2) k) b 0 + cond (eqb j (parent k)) (cond (eqb k 0) 0 w) 0
+down-le k j a b v w l r = grind (arith, nat_tests)
 
-up-le : (k j v w : ℕ) → v ≤ w
-    → cond (not (eqb j 0) && eqb (parent j) k) v 0 ≤ cond (eqb j (2 * k + 1)) w 0 + cond (eqb j (2 * k + 2)) w 0
-up-le k j v w near = grind (arith, nat_tests)
+abbrev is_below : ℕ → ℕ → Bool
+is_below k j = not (eqb j 0) && eqb (parent j) k
 
-costs-le : (w k j : ℕ) (p : EpochState) → p.number ≡ j → p.wave ≤ w → costs_to k p ≤ share w k j
-costs-le w k j p number near = rw number (omega (arith, down-le k j p.wave w near, up-le k j p.wave w near))
+up-le : (k j v u : ℕ) → (is_below k j ≡ true → v ≤ u)
+    → cond (is_below k j) v 0 ≤ cond (eqb j (2 * k + 1)) u 0 + cond (eqb j (2 * k + 2)) u 0
+up-le k j v u near =
+    cond_both (is_below k j) v 0 (λ z. z ≤ cond (eqb j (2 * k + 1)) u 0 + cond (eqb j (2 * k + 2)) u 0)
+    (λ t. let less = near t in grind (arith, nat_tests, t, less)) (λ t. omega arith)
 
--- what can have been sent to process k in w waves and for the end
-abbrev pub at_most_sent : ℕ → ℕ → ℕ → ℕ
-at_most_sent n w k = cond (eqb k 0) 0 (w + 1) + (cond (ltb (2 * k + 1) n) w 0 + cond (ltb (2 * k + 2) n) w 0)
+costs-le : (w u k j : ℕ) (p : EpochState) → p.number ≡ j → p.wave + 1 ≤ cond p.over 0 1 + w → (is_below k j ≡ true → p.wave ≤ u)
+    → costs_to k p ≤ owes k p + share w u k j
+costs-le w u k j p number near child =
+    let left : p.wave + 1 ≤ bit (p.here && p.down_left) + cond p.over (bit p.over_left) 1 + w = grind (arith, nat_tests) in
+    let right : p.wave + 1 ≤ bit (p.here && p.down_right) + cond p.over (bit p.over_right) 1 + w = grind (arith, nat_tests) in
+    rw number (omega (arith, down-le k j _ _ (p.wave + 1) w left right, up-le k j p.wave u child))
 
-sent-le : (n k : ℕ) (events : List Event) → k < n
-    → sent_to k (after n events).controls ≤ at_most_sent n ((after n events).at 0).wave k
-sent-le n k events l =
+-- what can have been sent to process k: by its parent w control messages, by each child u
+abbrev pub at_most_sent : ℕ → ℕ → ℕ → ℕ → ℕ
+at_most_sent n w u k = cond (eqb k 0) 0 w + (cond (ltb (2 * k + 1) n) u 0 + cond (ltb (2 * k + 2) n) u 0)
+
+sent-le : (n k u : ℕ) (events : List Event) → k < n → ((j : ℕ) → j < n → is_below k j ≡ true → ((after n events).at j).wave ≤ u)
+    → sent_to k (after n events).controls ≤ at_most_sent n (((after n events).at 0).wave + bit ((after n events).at 0).over) u k
+sent-le n k u events l child =
     let x : World = after n events in
     let v = good_after n events in
-    let w : ℕ = (x.at 0).wave in
-    let sums : total n (λ j. costs_to k (x.at j)) ≤ total n (share w k) = total-le n (λ j. costs_to k (x.at j)) (share w k)
-    (λ j m. costs-le w k j (x.at j) (v.1.inv.each j m).number (omega (arith, (v.1.inv.each j m).near, v.1.inv.root.wave))) in
-    let first : ℕ → ℕ = λ j. cond (eqb j (parent k)) (cond (eqb k 0) 0 (w + 1)) 0 in
-    let parts : total n (share w k)
-    ≡ total n first + (total n (λ j. cond (eqb j (2 * k + 1)) w 0) + total n (λ j. cond (eqb j (2 * k + 2)) w 0))
-    = total_add n first (λ j. cond (eqb j (2 * k + 1)) w 0 + cond (eqb j (2 * k + 2)) w 0)
-    ∙ ap (λ m. total n first + m) (total_add n (λ j. cond (eqb j (2 * k + 1)) w 0) (λ j. cond (eqb j (2 * k + 2)) w 0)) in
-    let shown : cond (ltb (parent k) n) (cond (eqb k 0) 0 (w + 1)) 0 ≤ cond (eqb k 0) 0 (w + 1)
-    = cond_both (ltb (parent k) n) _ 0 (λ z. z ≤ cond (eqb k 0) 0 (w + 1)) (λ t. omega arith) (λ t. omega arith) in
-    let top : total n first ≤ cond (eqb k 0) 0 (w + 1) = omega (arith, one-le n (parent k) (cond (eqb k 0) 0 (w + 1)), shown) in
-    omega (arith, sums, parts, top, one-le n (2 * k + 1) w, one-le n (2 * k + 2) w, sums_after n k events l)
+    let w : ℕ = (x.at 0).wave + bit (x.at 0).over in
+    let near : (j : ℕ) → j < n → (x.at j).wave + 1 ≤ cond (x.at j).over 0 1 + w = λ j m.
+    elim (cases_Bool (x.at j).over) [
+      | inl t ↦ rw t (omega (arith, (v.1.inv.each j m).near, v.1.inv.root.wave, ap bit (v.1.inv.over j m t).root.over))
+      | inr f ↦ rw f (omega (arith, (v.1.inv.each j m).near, v.1.inv.root.wave))
+    ] in
+    let sums : total n (λ j. costs_to k (x.at j)) ≤ total n (λ j. owes k (x.at j) + share w u k j)
+    = total-le n _ _ (λ j m. costs-le w u k j (x.at j) (v.1.inv.each j m).number (near j m) (child j m)) in
+    let first : ℕ → ℕ = λ j. cond (eqb j (parent k)) (cond (eqb k 0) 0 w) 0 in
+    let parts : total n (share w u k)
+    ≡ total n first + (total n (λ j. cond (eqb j (2 * k + 1)) u 0) + total n (λ j. cond (eqb j (2 * k + 2)) u 0))
+    = total_add n first (λ j. cond (eqb j (2 * k + 1)) u 0 + cond (eqb j (2 * k + 2)) u 0)
+    ∙ ap (λ m. total n first + m) (total_add n (λ j. cond (eqb j (2 * k + 1)) u 0) (λ j. cond (eqb j (2 * k + 2)) u 0)) in
+    let shown : cond (ltb (parent k) n) (cond (eqb k 0) 0 w) 0 ≤ cond (eqb k 0) 0 w
+    = cond_both (ltb (parent k) n) _ 0 (λ z. z ≤ cond (eqb k 0) 0 w) (λ t. omega arith) (λ t. omega arith) in
+    let top : total n first ≤ cond (eqb k 0) 0 w = omega (arith, one-le n (parent k) (cond (eqb k 0) 0 w), shown) in
+    let split = total_add n (λ j. owes k (x.at j)) (share w u k) in
+    omega (arith, sums, split, parts, top, one-le n (2 * k + 1) u, one-le n (2 * k + 2) u, sums_after n k events l)
 
--- A process that knows the end has taken every control message that was sent to it.
-pub all_taken : (n k : ℕ) (events : List Event) → k < n → ((after n events).at k).over ≡ true
-    → (gap ((after n events).at k) ≡ 0) × (sent_to k (after n events).controls ≤ reach ((after n events).at k))
-all_taken n k events l over =
+left-le : (z o : Bool) (w v s g c : ℕ) → s ≤ cond z 0 w + c → w ≤ v + 1 → g ≤ 2 → (w ≡ v + 1 → g ≡ 0) → (o ≡ true → w ≡ v + 1)
+    → s + g ≤ cond z 0 (v + bit o) + c + cond o 0 2
+left-le z o w v s g c a b d e f = grind (arith, nat_tests)
+
+-- A process has taken all control messages that were sent to it but two, and all of them if it knows the end.
+pub few_left : (n k : ℕ) (events : List Event) → k < n
+    → sent_to k (after n events).controls + gap ((after n events).at k)
+    ≤ reach ((after n events).at k) + cond ((after n events).at k).over 0 2
+few_left n k events l =
     let x : World = after n events in
     let v = good_after n events in
-    let w : ℕ = (x.at 0).wave in
     let p : EpochState = x.at k in
-    let z : IsThrough w p = through n v.0 x v.1 (v.1.inv.over k l over) k l in
+    let w : ℕ = (x.at 0).wave + bit (x.at 0).over in
     let hold : Holds n v.1.wave v.1.floor v.1.gifts x.at k p = v.1.inv.each k l in
-    let is : reach p ≡ at_most_sent n w k = rw (hold.number, hold.processes, z.wave, over) (omega arith) in (
-      rw (z.left, z.right) refl,
-      omega (arith, is, sent-le n k events l),
-    )
+    let done : (j : ℕ) → j < n → (x.at j).over ≡ true → IsThrough (x.at 0).wave p = λ j m t. through n v.0 x v.1 (v.1.inv.over j m t) k l in
+    let child : (j : ℕ) → j < n → is_below k j ≡ true → (x.at j).wave ≤ p.wave = λ j m t.
+    elim (cases_eq (x.at j).wave v.1.wave) [
+      | inl e ↦
+          let a = and_parts (not (eqb j 0)) (eqb (parent j) k) t in
+          let up = (v.1.inv.each j m).above (omega (arith, eqb-false j 0 (not-true _ a.0))) e in
+          omega (arith, subst (λ i. (x.at i).wave ≡ v.1.wave) (eqb-true (parent j) k a.1) up, e)
+      | inr off ↦ omega (arith, off, (v.1.inv.each j m).near, hold.close)
+    ] in
+    let none : w ≡ p.wave + 1 → gap p ≡ 0 = λ e.
+    elim (cases_Bool (x.at 0).over) [
+      | inl t ↦ let z = done 0 (omega (arith, l)) t in rw (z.left, z.right) refl
+      | inr f ↦ elim (cases_Bool p.here) [
+        | inl h ↦ absurd (omega (arith, (hold.here h).wave, v.1.inv.root.wave, e, ap bit f))
+        | inr h ↦ rw h refl
+      ]
+    ] in
+    let most : w ≤ p.wave + 1 = elim (cases_Bool (x.at 0).over) [
+      | inl t ↦ omega (arith, (done 0 (omega (arith, l)) t).wave, ap bit t)
+      | inr f ↦ omega (arith, hold.close, v.1.inv.root.wave, ap bit f)
+    ] in
+    let told : p.over ≡ true → w ≡ p.wave + 1
+    = λ t. omega (arith, (done k l t).wave, ap bit (v.1.inv.over k l t).root.over) in
+    let two : gap p ≤ 2 = omega (arith, bit-le (p.here && p.up_left), bit-le (p.here && p.up_right)) in
+    let is : reach p ≡ at_most_sent n (p.wave + bit p.over) p.wave k = rw (hold.number, hold.processes) (omega arith) in
+    omega (arith, is, left-le (eqb k 0) p.over w p.wave _ (gap p) _ (sent-le n k p.wave events l child) most two none told)
 
 -- ==== The number of control messages that are sent in one epoch: at most 2(n - 1) for each wave, and n - 1 for the end.
-length_by : (n : ℕ) (ls : List ControlMessage) → AllOf n ls → length ls ≡ total n (λ k. sent_to k ls)
+length_by : (n : ℕ) (ls : List ControlMessage) → All (IsOf n) ls → length ls ≡ total n (λ k. sent_to k ls)
 length_by n [] t = sym (total-zero n)
 length_by n (l ∷ ls) t =
     let one : total n (λ k. sent_to k (l ∷ ls)) ≡ total n (λ k. sent_to k ls) + 1
-    = total_one-changes n l.to 1 (λ k. sent_to k ls) (λ k. sent_to k (l ∷ ls)) t.1 (rw (eq-eqb l.to l.to refl))
+    = total_one-changes n l.to 1 (λ k. sent_to k ls) (λ k. sent_to k (l ∷ ls)) (t 0 l refl).1 (rw (eq-eqb l.to l.to refl))
     (λ k off. rw (ne_eqb l.to k (λ e. off (sym e)))) in
-    omega (arith, one, length_by n ls t.2)
+    omega (arith, one, length_by n ls (λ k. t (suc k)))
 
-total_times : (n c : ℕ) (f : ℕ → ℕ) → total n (λ k. c * f k) ≡ c * total n f
-total_times zero c f = omega arith
-total_times (suc n) c f = rw (mul-add c (total n f) (f n)) (omega (arith, total_times n c f))
-
-times_bit : (b : Bool) (w : ℕ) → cond b w 0 ≡ w * bit b
-times_bit true w = omega arith
-times_bit false w = omega arith
-
-times_inner : (b : Bool) (w : ℕ) → cond b 0 w ≡ w * cond b 0 1
-times_inner true w = omega arith
-times_inner false w = omega arith
-
-most_sent : (n w : ℕ) → 0 < n → total n (at_most_sent n w) ≡ (2 * w + 1) * (n - 1)
-most_sent n w first =
-    let each : (k : ℕ) → k < n → at_most_sent n w k ≡ (w + 1) * inner k + w * kids_of n k = λ k l.
-    rw (mul-add w (bit (ltb (2 * k + 1) n)) (bit (ltb (2 * k + 2) n)))
-    (omega (arith, times_inner (eqb k 0) (w + 1), times_bit (ltb (2 * k + 1) n) w, times_bit (ltb (2 * k + 2) n) w)) in
-    let inners : total n inner ≡ n - 1 = omega (arith, both n first, kids_all n) in
-    let two : (w + 1) + w ≡ 2 * w + 1 = omega arith in
-    total-equal n _ _ each ∙ total_add n (λ k. (w + 1) * inner k) (λ k. w * kids_of n k)
-    ∙ ap (λ z. z + total n (λ k. w * kids_of n k)) (total_times n (w + 1) inner ∙ ap (λ z. (w + 1) * z) inners)
-    ∙ ap (λ z. (w + 1) * (n - 1) + z) (total_times n w (kids_of n) ∙ ap (λ z. w * z) (kids_all n))
-    ∙ sym (add-mul (w + 1) w (n - 1)) ∙ ap (λ z. z * (n - 1)) two
+most_sent : (n w : ℕ) → total n (at_most_sent n (w + 1) w) ≡ (2 * w + 1) * (n - 1)
+most_sent n zero =
+    let each : total n (at_most_sent n 1 0) ≡ total n inner = total-equal n _ _ (λ k l. grind (arith, nat_tests)) in
+    omega (arith, each, inner_all n, kids_all n)
+most_sent n (suc w) =
+    let each : total n (at_most_sent n (suc w + 1) (suc w)) ≡ total n (λ k. at_most_sent n (w + 1) w k + (kids_of n k + inner k))
+    = total-equal n _ _ (λ k l. grind (arith, nat_tests)) in
+    let two : 2 * suc w + 1 ≡ (2 * w + 1) + 2 = omega arith in
+    let parts : total n (at_most_sent n (suc w + 1) (suc w)) ≡ (2 * w + 1) * (n - 1) + 2 * (n - 1)
+    = omega (
+      arith,
+      each,
+      total_add n (at_most_sent n (w + 1) w) (λ k. kids_of n k + inner k),
+      total_add n (kids_of n) inner,
+      inner_all n,
+      kids_all n,
+      most_sent n w,
+    ) in
+    parts ∙ sym (add-mul (2 * w + 1) 2 (n - 1)) ∙ ap (λ z. z * (n - 1)) (sym two)
 
 pub few_control_messages : ControlMessagesLaw
 few_control_messages n events l =
     let ls : List ControlMessage = (after n events).controls in
+    let p : EpochState = (after n events).at 0 in
+    let v = good_after n events in
+    let most : (k : ℕ) → k < n → sent_to k ls ≤ at_most_sent n (p.wave + 1) p.wave k = λ k m.
+    let sent = sent-le n k p.wave events m (λ j a t. omega (arith, (v.1.inv.each j a).near, v.1.inv.root.wave)) in
+    let one = bit-le p.over in grind (arith, nat_tests, sent, one) in
     omega (
       arith,
       length_by n ls (slim_after n events).1,
-      total-le n (λ k. sent_to k ls) (at_most_sent n ((after n events).at 0).wave) (λ k m. sent-le n k events m),
-      most_sent n ((after n events).at 0).wave l,
+      total-le n (λ k. sent_to k ls) (at_most_sent n (p.wave + 1) p.wave) most,
+      most_sent n ((after n events).at 0).wave,
     )
 
 pub few_control_messages_epoch : ControlMessagesEpochLaw
 few_control_messages_epoch n all l =
     let e : ℕ = ((epochs_after n all).at 0).epoch in
-    let h = epochs n all e in
+    let h = epochs n e all in
     subst (λ ls. length ls ≤ (2 * ((epochs_after n all).at 0).state.wave + 1) * (n - 1)) (sym h.controls)
     (subst (λ p. length (after n (events_of n e all)).controls ≤ (2 * p.wave + 1) * (n - 1)) (sym (h.now 0 refl))
     (few_control_messages n (events_of n e all) l))

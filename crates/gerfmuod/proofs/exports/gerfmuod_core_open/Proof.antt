@@ -1,8 +1,9 @@
 -- The proof of `gerfmuod_core_open`: it moves a new core into the memory.
-use Rattle.gerfmuod.proofs.Borrowing.{[], ◌∷◌, refl, full_share, sem, ◌$◌, !, done, move, keep, use2, ‵, enter, of_opd, init, stop, no_more}
-use Rattle.gerfmuod.proofs.Borrowing.{and_then, assigns, returns, alloc_all, pass_all, free_all, look_at, get, through, sets, block_ptr}
-use Rattle.gerfmuod.proofs.Borrowing.{lies_at, part_in, values, allocator, numbers, makes, opens, frames, suffices, sep, fact, ◌≡◌, u32}
-use Rattle.gerfmuod.proofs.Borrowing.{u32_laws, owned, Is, uint_Makes, w32, nothing, fjoin, frame, says, core_row, opened, opening}
+use Rattle.gerfmuod.proofs.Borrowing.{[], ◌∷◌, refl, full_share, sem, ◌$◌, !, done, drop, move, keep, use2, ‵, enter, of_opd, init, stop}
+use Rattle.gerfmuod.proofs.Borrowing.{no_more, and_then, assigns, returns, alloc_all, pass_all, free_all, look_at, get, through, sets}
+use Rattle.gerfmuod.proofs.Borrowing.{block_ptr, lies_at, part_in, values, allocator, numbers, makes, opens, frames, suffices, sep, fact}
+use Rattle.gerfmuod.proofs.Borrowing.{◌≡◌, u32, u32_laws, owned, Is, uint_Makes, w32, nothing, fjoin, frame, says, core_row, opened}
+use Rattle.gerfmuod.proofs.Borrowing.{opening}
 use Rattle.gerfmuod.proofs.{exports.gerfmuod_core_open.Statement.statement, slot.CoreSlot.{TheLaws.the_row_laws, open.Met.met}}
 use Rattle.gerfmuod.proofs.exports.gerfmuod_core_open.Code as code
 use Rattle.gerfmuod.proofs.calls.opening.Met as refusal
@@ -16,7 +17,8 @@ gerfmuod_core_open_spec 𝓤 𝓛 𝓜 𝓡 wired =
     move ! (1 ∷ []) $ makes 𝓛 _ core_row the_row_laws new (allocator 𝓛 0 (numbers 𝓛 0 1)) (d, a) ! (frames 𝓛 𝓜 𝓡)
     (met 𝓤 𝓛 𝓜 𝓡 (code.calls-gerfmuod::slot::CoreSlot::open 𝓡.env wired)
     ((tt, tt, tt, (d, a), values 𝓛 0 (allocator 𝓛 0 (numbers 𝓛 0 1)) tt (d, a)), tt))
-    (and_then ! (get ! refl) (and_then ! (get ! refl) (no_more !))) (λ v. refl) refl (λ v fits.
+    (and_then ! (get ! refl) (and_then ! (get ! refl) (no_more !))) (λ v ws. refl) refl (λ v ws fits.
+    move ! (1 ∷ []) $ drop ! $
     -- [the value; the memory; the locals]
     sets ! (of_opd ! (get ! refl)) refl (tt, tt) $ sets ! (of_opd ! (get ! refl)) refl fits $
     assigns ! (of_opd ! (get ! refl)) (through ! refl (stop !)) (init ! 1 refl fits) $
@@ -24,5 +26,5 @@ gerfmuod_core_open_spec 𝓤 𝓛 𝓜 𝓡 wired =
     nothing ! $ owned ! u32 (Is u32) (uint_Makes 𝓛 w32) a.0 _ (refl, ts.1.0.1.fits) $ fjoin ! $
     makes 𝓛 _ u32 u32_laws (opening a.0) (numbers 𝓛 0 1) a ! (frames 𝓛 𝓜 𝓡)
     (refusal.met 𝓤 𝓛 𝓜 𝓡 (code.calls-gerfmuod::calls::opening 𝓡.env wired) ((tt, tt, tt, a, values 𝓛 0 (numbers 𝓛 0 1) tt a), tt))
-    (and_then ! (get ! refl) (no_more !)) (λ u. refl) refl (λ u fit. returns ! (look_at ! 0 refl) $ free_all ! refl $ keep ! (0 ∷ 1 ∷ []) $
-    suffices ! _ (ends (opening a.0) u) $ frame ! $ says ! refl $ done !))))
+    (and_then ! (get ! refl) (no_more !)) (λ u ws. refl) refl (λ u ws fit. returns ! (look_at ! 0 refl) $ free_all ! refl $
+    keep ! (0 ∷ 1 ∷ 2 ∷ []) $ suffices ! _ (ends (opening a.0) u ws) $ frame ! $ frame ! $ says ! refl $ done !))))

@@ -1,13 +1,12 @@
 -- The proof of `gerfmuod_graph_call`: it passes its arguments on with a borrow of the graph.
-use Rattle.gerfmuod.proofs.Borrowing.{[], ◌∷◌, refl, full_share, vptr, ◌$◌, !, done, enter, alloc_all, pass_all, free_all, exported, lent}
-use Rattle.gerfmuod.proofs.Borrowing.{values, takes, reads, hands_on, frames, numbers, IsGraphCall, graph_row, graph_result_laws}
+use Rattle.gerfmuod.proofs.Borrowing.{refl, ◌$◌, !, done, enter, alloc_all, pass_all, free_all, exported, takes, reads, hands_on, frames}
+use Rattle.gerfmuod.proofs.Borrowing.{numbers, IsGraphCall, graph_row, graph_result_laws}
 use Rattle.gerfmuod.proofs.graph.{calls.call.Met.met, gerfmuod_graph_call.Statement.statement}
 use Rattle.gerfmuod.proofs.graph.gerfmuod_graph_call.Code as code
 
 pub gerfmuod_graph_call_spec : {M : Type 1} → statement M
 gerfmuod_graph_call_spec 𝓤 𝓛 𝓜 𝓡 wired =
     exported 𝓛 𝓜 𝓡 graph_row graph_result_laws (numbers 𝓛 0 3) (λ κs a n u out new. IsGraphCall n a.0 a.1.0 a.1.1.0 u new) _ code.function
-    (code.unfolded 𝓤 𝓛.H 𝓜 𝓡 wired) _ (λ κs qs a n b o α γ. met 𝓤 𝓛 𝓜 𝓡 (code.calls-gerfmuod::graph::calls::call 𝓡.env wired)
-    (((α ∷ [], κs), (full_share, qs), tt, (lent b o γ n, a), (vptr b o ∷ [], values 𝓛 0 (numbers 𝓛 0 3) κs a)), tt))
-    (λ κs a b o ts Q. enter ! _ _ _ _ _ $ alloc_all ! (λ l. pass_all ! refl ((tt, tt), ts) $ takes 𝓛 _ ! refl ((tt, tt), (tt, tt)) $
-    hands_on 𝓛 _ ! (frames 𝓛 𝓜 𝓡) (reads 𝓛 _ ! refl) (λ v. refl) (λ v. free_all ! refl $ done !)))
+    (code.unfolded 𝓤 𝓛.H 𝓜 𝓡 wired) _ (met 𝓤 𝓛 𝓜 𝓡 (code.calls-gerfmuod::graph::calls::call 𝓡.env wired))
+    (λ κs a b o ts Q. enter ! _ _ _ _ _ $ alloc_all ! (λ l. pass_all ! refl ((tt, tt), ts) $
+    takes 𝓛 _ ! refl ((tt, tt), (tt, tt)) $ hands_on 𝓛 _ ! (frames 𝓛 𝓜 𝓡) (reads 𝓛 _ ! refl) (λ v. refl) (λ v. free_all ! refl $ done !)))

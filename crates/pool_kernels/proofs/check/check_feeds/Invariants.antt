@@ -1,4 +1,4 @@
-use Rattle.pool_kernels.specs.{Marks.AreMarks, Plans.AreRight}
+use Rattle.pool_kernels.specs.Plans.{AreMarks, AreRight}
 use Rattle.pool_kernels.proofs.check.check_feeds.Given as goal
 
 abbrev pub invariant-loop-turn : goal.invariant-loop-turn

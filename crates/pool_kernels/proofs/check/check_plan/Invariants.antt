@@ -1,4 +1,4 @@
-use Rattle.pool_kernels.specs.{Marks.AreMarks, Plans.{IsConnected, IsPlaced}}
+use Rattle.pool_kernels.specs.Plans.{AreMarks, IsConnected, IsPlaced}
 use Rattle.std.proofs.Common.{◌<◌, ℕ}
 use Rattle.pool_kernels.proofs.check.check_plan.Given as goal
 

@@ -1,5 +1,5 @@
-use Rattle.pool_kernels.specs.{Marks.mark_at, Plans.IsFed}
-use Rattle.std.proofs.{Common.{◌≡◌, ◌<◌, ◌≤◌, true, false, sym, ◌∙◌, ⊎_elim, subst, arith}, lemmas.Bool.cases_lt}
+use Rattle.pool_kernels.specs.Plans.{IsFed, mark_at}
+use Rattle.std.proofs.Common.{◌≡◌, true, false, sym, ◌∙◌, arith, below_more}
 use Rattle.pool_kernels.proofs.check.check_slots.Goals as goal
 
 pub returns-then-not-taken-task-clause-refused : goal.returns-then-not-taken-task-clause-refused
@@ -19,12 +19,6 @@ pub loop-slot-preserved : goal.loop-slot-preserved
 loop-slot-preserved g c =
     let t = c.args.task.0 in
     let s = c.loop-slot.slot in
-    λ i h.
-    ⊎_elim {C = IsFed (g.P.Plan.plan c.args.plan.now) t i}
-    (λ (a : i < s). c.loop-slot.invariant i a)
-    (λ (b : s ≤ i).
-    let same : s ≡ i = omega (arith, b, h) in
-    subst (λ k. IsFed (g.P.Plan.plan c.args.plan.now) t k) same
+    below_more (IsFed (g.P.Plan.plan c.args.plan.now) t) s c.loop-slot.invariant
     (c.requires.marks.only t s c.requires.known (omega (arith, c.requires.few, c.arity-slot-end.ensures, c.loop-slot-test.true))
-    c.if-not-taken-task.false))
-    (cases_lt i s)
+    c.if-not-taken-task.false)

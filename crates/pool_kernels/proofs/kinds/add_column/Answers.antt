@@ -1,16 +1,20 @@
-use Rattle.pool_kernels.proofs.{Counted.{outputs_more, outputs_same, seen_more, seen_same, seen_wide}, More.{rank_more, rank_same}}
+use Rattle.pool_kernels.proofs.Tables.{outputs_more, outputs_same, rank_more, rank_same, seen_more, seen_same, seen_wide}
 use Rattle.pool_kernels.proofs.kinds.add_column.Goals.{then-relates+else-slot-ge-MAX_INPUTS+in_ok-push, else-relates}
-use Rattle.pool_kernels.specs.{Grids.Relation, Kinds.AreSeen}
+use Rattle.pool_kernels.specs.{Grids.Relation, Tables.AreSeen}
 use Rattle.std.proofs.{Common.{◌≡◌, ◌<◌, ◌+◌, ◌∙◌, true, false, ap, sym, subst, arith, rules}, lemmas.List.get_or_read}
 use Rattle.pool_kernels.proofs.kinds.add_column.Goals as goal
 
 pub returns-then-slot-ge-MAX_INPUTS-clause-refused : goal.returns-then-slot-ge-MAX_INPUTS-clause-refused
-returns-then-slot-ge-MAX_INPUTS-clause-refused g c =
-    let before = c.loop-to.invariant.seen in
+returns-then-slot-ge-MAX_INPUTS-clause-refused g c = λ steps h.
     let read = get_or_read c.loop-to.seen.items c.loop-to.to c.index-slot.result.now (search rules) c.index-slot.ensures 0 in
-    seen_wide (g.P.Relation.relation c.args.relation.now c.args.width) c.args.width c.args.step c.args.from c.loop-to.to
-    c.index-slot.result.now c.loop-to.seen.items
-    (search rules) (search rules) (search rules) read (search rules) before
+    record {
+      row = c.args.step;
+      column = c.loop-to.to;
+      known = (h, search rules);
+      many = seen_wide (g.P.Relation.relation c.args.relation.now c.args.width) c.args.width c.args.step c.args.from c.loop-to.to
+          c.index-slot.result.now c.loop-to.seen.items (search rules) (search rules) (search rules) (search rules) read (search rules)
+          c.loop-to.invariant.seen;
+    }
 
 pub loop-to-preserved : goal.loop-to-preserved
 loop-to-preserved g c =

@@ -1,4 +1,4 @@
-use Rattle.pool_kernels.specs.{Kinds.{AreSeen, outputs_to}, Ranks.rank}
+use Rattle.pool_kernels.specs.{Ranks.rank, Tables.{AreSeen, outputs_to}}
 use Rattle.std.proofs.Common.{◌≡◌, ◌≤◌, ◌++◌}
 use Rattle.pool_kernels.proofs.kinds.add_column.Given as goal
 

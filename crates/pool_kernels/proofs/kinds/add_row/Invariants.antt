@@ -1,5 +1,5 @@
 use Rattle.std.proofs.Common.{◌≡◌, ◌+◌, ◌*◌}
-use Rattle.pool_kernels.specs.Kinds.{AreSeen, AreSpans}
+use Rattle.pool_kernels.specs.Tables.{AreSeen, AreSpans}
 use Rattle.pool_kernels.proofs.kinds.add_row.Given as goal
 
 abbrev pub invariant-loop-from : goal.invariant-loop-from

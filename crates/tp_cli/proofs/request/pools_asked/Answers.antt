@@ -11,4 +11,4 @@ returns c =
     let same : c.in_ok-words.words.items ≡ c.in-Some.words.now = search rules in
     let specs : all_of (codes "SPEC") (rows_of found) ≡ Some (map (λ s. s.now) c.in_ok-words.words.items) =
     sym (raw_values-rows found (codes "SPEC")) ∙ sym c.in-Some.ensures ∙ ap (λ words. Some (map (λ s. s.now) words)) (sym same) in
-    ((rows_of found, refl, specs), c.config_of.ensures.limits, (rows_of found, refl, c.config_of.ensures.asked))
+    (rows_of found, refl, c.config_of.ensures.limits, specs, c.config_of.ensures.asked)

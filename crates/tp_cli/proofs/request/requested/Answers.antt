@@ -1,6 +1,6 @@
 use Rattle.clap.{proofs.TakesLemmas.passed_up, specs.{Words.app_of, declared.error.kind.ErrorKind.TheVariants.MissingSubcommand}}
 use Rattle.std.proofs.Common.{inr, map, refl}
-use Rattle.tp_cli.{proofs.Asked.{neither_asked, request_asked, some_asked}, specs.Command.{AsksForNothing, tp_app}}
+use Rattle.tp_cli.{proofs.Asked.{neither_asked, request_asked, some_asked}, specs.Command.{IsNeither, asked, tp_app}}
 use Rattle.tp_shell.proofs.Asked.{fails_as, none_asked}
 use Rattle.tp_cli.proofs.request.requested.Goals as goal
 
@@ -9,7 +9,7 @@ returns-in_err-matches-clause-why c =
     let error = c.in_err-matches.field-0.0 in
     let asking = map (λ w. w.now) c.args.words.now in
     passed_up c.from_residual-in_err-matches.result error _ c.from_residual-in_err-matches.ensures.1
-    (fails_as tp_app (app_of c.in_ok-command.command) MissingSubcommand (AsksForNothing asking) asking error refl
+    (fails_as tp_app (app_of c.in_ok-command.command) MissingSubcommand (IsNeither (asked asking)) asking error refl
     c.in_ok-command.ensures c.in_err-matches.ensures.kinds)
 
 pub returns-clause-why : goal.returns-clause-why

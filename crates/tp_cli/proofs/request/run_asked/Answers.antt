@@ -7,13 +7,5 @@ returns c =
     let found = found_of c.args.arguments.now in
     let spec = sym (first_value-rows found (codes "SPEC")) ∙ sym c.in_ok-spec.ensures in
     let file = sym (first_value-rows found (codes "profile")) ∙ sym c.get_str-file.ensures in
-    let plan = c.plan_of.ensures in (
-      (
-        (rows_of found, refl, spec),
-        plan.lawful,
-        (rows_of found, refl, plan.counts),
-        (rows_of found, refl, plan.generations),
-        (rows_of found, refl, plan.form),
-      ),
-      (rows_of found, refl, file),
-    )
+    let plan = c.plan_of.ensures in
+    (rows_of found, refl, plan.lawful, spec, plan.counts, plan.generations, plan.form, file)

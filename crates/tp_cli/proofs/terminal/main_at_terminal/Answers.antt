@@ -1,27 +1,35 @@
 use Rattle.std.proofs.Common.{◌≡◌, map}
-use Rattle.tp_cli.proofs.Terminals.{explained_complained, explained_done, explained_failed, explained_refused}
+use Rattle.tp_cli.{proofs.Ending.by_status, specs.{Faults.line_of, Reasons.{IsAnswerExplained, IsExplained}}}
 use Rattle.tp_cli.proofs.terminal.main_at_terminal.Goals as goal
 
 pub returns-clause-succeeded : goal.returns-clause-succeeded
 returns-clause-succeeded g c =
-    explained_done g.E.Diagnostics.tells (map (λ w. w.now) c.args.words.now) _ _ _ _
-    (c.answer_words-ended.new.out ≡ c.args.out.now) _ _ _ _ c.code.ensures.value c.answer_words-ended.result.0
-    c.answer_words-ended.ensures.answered c.told_explained.ensures.done c.told_explained.ensures.faulty
+    let ended = c.answer_words-ended.ensures in
+    (by_status (map (λ w. w.now) c.args.words.now) (g.I.Read.remaining c.args.reader.now) (g.I.Read.remaining c.answer_words-ended.new.reader)
+    (g.O.Write.contents c.args.out.now) (g.O.Write.contents c.answer_words-ended.new.out) (c.answer_words-ended.new.out ≡ c.args.out.now)
+    (λ t. IsAnswerExplained g.E.Diagnostics.tells t c.args.err.now c.told_explained.new.err) (λ f. IsExplained g.E.Diagnostics.tells (line_of f) c.args.err.now c.told_explained.new.err) _ _ c.code.ensures.value
+    c.answer_words-ended.result.0 ended.answered ended.why ended.unwritten c.told_explained.ensures.done c.told_explained.ensures.faulty).0
 
 pub returns-clause-complained : goal.returns-clause-complained
 returns-clause-complained g c =
-    explained_complained g.E.Diagnostics.tells (map (λ w. w.now) c.args.words.now) _ _ _ _
-    (c.answer_words-ended.new.out ≡ c.args.out.now) _ _ _ _ c.code.ensures.value c.answer_words-ended.result.0
-    c.answer_words-ended.ensures.answered c.answer_words-ended.ensures.why c.told_explained.ensures.done c.told_explained.ensures.faulty
+    let ended = c.answer_words-ended.ensures in
+    (by_status (map (λ w. w.now) c.args.words.now) (g.I.Read.remaining c.args.reader.now) (g.I.Read.remaining c.answer_words-ended.new.reader)
+    (g.O.Write.contents c.args.out.now) (g.O.Write.contents c.answer_words-ended.new.out) (c.answer_words-ended.new.out ≡ c.args.out.now)
+    (λ t. IsAnswerExplained g.E.Diagnostics.tells t c.args.err.now c.told_explained.new.err) (λ f. IsExplained g.E.Diagnostics.tells (line_of f) c.args.err.now c.told_explained.new.err) _ _ c.code.ensures.value
+    c.answer_words-ended.result.0 ended.answered ended.why ended.unwritten c.told_explained.ensures.done c.told_explained.ensures.faulty).1
 
 pub returns-clause-refused : goal.returns-clause-refused
 returns-clause-refused g c =
-    explained_refused g.E.Diagnostics.tells (map (λ w. w.now) c.args.words.now) _ _ _ _
-    (c.answer_words-ended.new.out ≡ c.args.out.now) _ _ _ _ c.code.ensures.value c.answer_words-ended.result.0
-    c.answer_words-ended.ensures.answered c.told_explained.ensures.done c.told_explained.ensures.faulty
+    let ended = c.answer_words-ended.ensures in
+    (by_status (map (λ w. w.now) c.args.words.now) (g.I.Read.remaining c.args.reader.now) (g.I.Read.remaining c.answer_words-ended.new.reader)
+    (g.O.Write.contents c.args.out.now) (g.O.Write.contents c.answer_words-ended.new.out) (c.answer_words-ended.new.out ≡ c.args.out.now)
+    (λ t. IsAnswerExplained g.E.Diagnostics.tells t c.args.err.now c.told_explained.new.err) (λ f. IsExplained g.E.Diagnostics.tells (line_of f) c.args.err.now c.told_explained.new.err) _ _ c.code.ensures.value
+    c.answer_words-ended.result.0 ended.answered ended.why ended.unwritten c.told_explained.ensures.done c.told_explained.ensures.faulty).2
 
 pub returns-clause-failed : goal.returns-clause-failed
 returns-clause-failed g c =
-    explained_failed g.E.Diagnostics.tells (map (λ w. w.now) c.args.words.now) _ _ _ _
-    (c.answer_words-ended.new.out ≡ c.args.out.now) _ _ _ _ c.code.ensures.value c.answer_words-ended.result.0
-    c.answer_words-ended.ensures.answered c.answer_words-ended.ensures.why c.told_explained.ensures.done c.told_explained.ensures.faulty
+    let ended = c.answer_words-ended.ensures in
+    (by_status (map (λ w. w.now) c.args.words.now) (g.I.Read.remaining c.args.reader.now) (g.I.Read.remaining c.answer_words-ended.new.reader)
+    (g.O.Write.contents c.args.out.now) (g.O.Write.contents c.answer_words-ended.new.out) (c.answer_words-ended.new.out ≡ c.args.out.now)
+    (λ t. IsAnswerExplained g.E.Diagnostics.tells t c.args.err.now c.told_explained.new.err) (λ f. IsExplained g.E.Diagnostics.tells (line_of f) c.args.err.now c.told_explained.new.err) _ _ c.code.ensures.value
+    c.answer_words-ended.result.0 ended.answered ended.why ended.unwritten c.told_explained.ensures.done c.told_explained.ensures.faulty).3

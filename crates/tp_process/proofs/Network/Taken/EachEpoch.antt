@@ -53,26 +53,18 @@ does_only n i x a j off =
       | inr c ↦ ap (λ f. f j) c.at ∙ put_other i j c.new x.at off
     ]
 
-pub with_world_epoch : (e : ℕ) (w : Epochs) (y : World) (j : ℕ) → ((with_world e w y).at j).epoch ≡ (w.at j).epoch
-with_world_epoch e w y j = cond_both (is_in_epoch e w j) (with_state (w.at j) (y.at j)) (w.at j) (λ r. r.epoch ≡ (w.at j).epoch) (λ t. refl)
-    (λ t. refl)
-
 -- One process of the epoch changes.
 keeps_epoch : (n e i : ℕ) (w : Epochs) (x y2 x2 : World) → IsEpoch n e w x → (w.at i).epoch ≡ e → Alike i y2 x2 → Only i (world_of e w) y2
     → Only i x x2 → IsEpoch n e (with_world e w y2) x2
 keeps_epoch n e i w x y2 x2 h here same only_y only_x =
     record {
-      now = λ j.
-          cond_both (is_in_epoch e w j) (with_state (w.at j) (y2.at j)) (w.at j) (λ r. r.epoch ≡ e → r.state ≡ x2.at j) (λ t d.
-          elim (cases_eq j i) [ inl k ↦ rw k same.at | inr off ↦ only_y j off ∙ h.now j d ∙ sym (only_x j off) ])
-          (λ t d. absurd (eqb-false (w.at j).epoch e t d));
-      before = λ j m.
-          let less : (w.at j).epoch < e = subst (λ k. k < e) (with_world_epoch e w y2 j) m in
-          only_x j (λ d. absurd (omega (arith, less, ap (λ k. (w.at k).epoch) d, here))) ∙ h.before j less;
+      now = λ j d.
+          rw (eq-eqb (w.at j).epoch e d)
+          (elim (cases_eq j i) [ inl k ↦ rw k same.at | inr off ↦ only_y j off ∙ h.now j d ∙ sym (only_x j off) ]);
+      before = λ j m. only_x j (λ d. absurd (omega (arith, m, ap (λ k. (w.at k).epoch) d, here))) ∙ h.before j m;
       left = λ j m.
-          let more : e < (w.at j).epoch = subst (λ k. e < k) (with_world_epoch e w y2 j) m in
-          subst (λ p. has_notified p ≡ true) (sym (only_x j (λ d. absurd (omega (arith, more, ap (λ k. (w.at k).epoch) d, here)))))
-          (h.left j more);
+          subst (λ p. has_notified p ≡ true) (sym (only_x j (λ d. absurd (omega (arith, m, ap (λ k. (w.at k).epoch) d, here)))))
+          (h.left j m);
       under_way = put_here e y2.under_way w.under_way ∙ same.under_way;
       controls = put_here e y2.controls w.controls ∙ same.controls;
     }
@@ -81,11 +73,9 @@ keeps_epoch n e i w x y2 x2 h here same only_y only_x =
 keeps_other_epoch : (n e f : ℕ) (w : Epochs) (x y : World) → IsEpoch n e w x → (f ≡ e → ⊥) → IsEpoch n e (with_world f w y) x
 keeps_other_epoch n e f w x y h apart =
     record {
-      now = λ j.
-          cond_both (is_in_epoch f w j) (with_state (w.at j) (y.at j)) (w.at j) (λ r. r.epoch ≡ e → r.state ≡ x.at j)
-          (λ t d. absurd (apart (sym (eqb-true (w.at j).epoch f t) ∙ d))) (λ t. h.now j);
-      before = λ j m. h.before j (subst (λ k. k < e) (with_world_epoch f w y j) m);
-      left = λ j m. h.left j (subst (λ k. e < k) (with_world_epoch f w y j) m);
+      now = λ j d. rw (ne_eqb (w.at j).epoch f (λ k. apart (sym k ∙ d))) (h.now j d);
+      before = h.before;
+      left = h.left;
       under_way = put_other f e y.under_way w.under_way (λ d. apart (sym d)) ∙ h.under_way;
       controls = put_other f e y.controls w.controls (λ d. apart (sym d)) ∙ h.controls;
     }
@@ -146,34 +136,31 @@ reopens n e i w x number processes h =
     })
     (λ t. subst (λ f. IsEpoch n e (record w { at = f }) x) (sym (put_id i w.at)) h)
 
-pub epochs : (n : ℕ) (all : List EpochEvent) (e : ℕ) → IsEpoch n e (epochs_after n all) (after n (events_of n e all))
-epochs n [] e =
+pub epochs : EpochLaw
+epochs n e [] =
     record { now = λ i d. refl; before = λ i m. refl; left = λ i m. absurd (omega (arith, m)); under_way = refl; controls = refl }
-epochs n (In f event ∷ past) e =
+epochs n e (In f event ∷ past) =
     let w : Epochs = epochs_after n past in
     let old : List Event = events_of n e past in
     elim (cases_eq f e) [
       | inl d ↦
           rw (d, eq-eqb e e refl)
           (cond_two (is_current e w event) (with_world e w (happens n (world_of e w) event)) w (event ∷ old) old
-          (λ z events. IsEpoch n e z (after n events)) (λ t. event_keeps_epoch n e w (after n old) event t (epochs n past e))
-          (λ t. epochs n past e))
+          (λ z events. IsEpoch n e z (after n events)) (λ t. event_keeps_epoch n e w (after n old) event t (epochs n e past))
+          (λ t. epochs n e past))
       | inr d ↦
           rw (ne_eqb f e d)
           (cond_both (is_current f w event) (with_world f w (happens n (world_of f w) event)) w (λ z. IsEpoch n e z (after n old))
-          (λ t. keeps_other_epoch n e f w (after n old) (happens n (world_of f w) event) (epochs n past e) d) (λ t. epochs n past e))
+          (λ t. keeps_other_epoch n e f w (after n old) (happens n (world_of f w) event) (epochs n e past) d) (λ t. epochs n e past))
     ]
-epochs n (Reopens i ∷ past) e =
+epochs n e (Reopens i ∷ past) =
     let w : Epochs = epochs_after n past in
     cond_both (ltb i n) (record w { at = put i (reopened (w.at i)) w.at }) w (λ z. IsEpoch n e z (after n (events_of n e past))) (λ t.
     let f : ℕ = (w.at i).epoch in
-    let same : (w.at i).state ≡ (after n (events_of n f past)).at i = (epochs n past f).now i refl in
+    let same : (w.at i).state ≡ (after n (events_of n f past)).at i = (epochs n f past).now i refl in
     let v = (good_after n (events_of n f past)).1.inv.each i (ltb-true i n t) in
     reopens n e i w (after n (events_of n e past)) (ap (λ p. p.number) same ∙ v.number) (ap (λ p. p.processes) same ∙ v.processes)
-    (epochs n past e)) (λ t. epochs n past e)
-
-pub epoch_law : EpochLaw
-epoch_law n e all = epochs n all e
+    (epochs n e past)) (λ t. epochs n e past)
 
 -- The events of an epoch are useful in it if they are useful in its world.
 module _ (n e : ℕ) (w : Epochs) (x : World) (h : IsEpoch n e w x) where
@@ -212,7 +199,7 @@ added n e (In f event ∷ later) all =
                 let t2 : is_current e w event ≡ true = subst (λ g. is_current g w event ≡ true) d t in
                 let one : is_useful n (world_of f w) event ≡ is_useful n (after n (m.more ++ old)) event
                 = subst (λ g. is_useful n (world_of g w) event ≡ is_useful n (after n (m.more ++ old)) event) (sym d)
-                (useful_same n e w x (epochs n (later ++ all) e) event t2 ∙ ap (λ l. is_useful n (after n l) event) m.same) in
+                (useful_same n e w x (epochs n e (later ++ all)) event t2 ∙ ap (λ l. is_useful n (after n l) event) m.same) in
                 record {
                   more = event ∷ m.more;
                   same = rw (eq-eqb f e d, t) (ap (λ l. event ∷ l) m.same);
@@ -235,13 +222,13 @@ never_early_epoch n i later all l over =
     let w : Epochs = epochs_after n all in
     let e : ℕ = (w.at i).epoch in
     let m = added n e later all in
-    let knows : ((after n (events_of n e all)).at i).over ≡ true = subst (λ p. p.over ≡ true) ((epochs n all e).now i refl) over in
-    over_where_quiet n e (epochs_after n (later ++ all)) (after n (events_of n e (later ++ all))) (epochs n (later ++ all) e)
+    let knows : ((after n (events_of n e all)).at i).over ≡ true = subst (λ p. p.over ≡ true) ((epochs n e all).now i refl) over in
+    over_where_quiet n e (epochs_after n (later ++ all)) (after n (events_of n e (later ++ all))) (epochs n e (later ++ all))
     (subst (λ events. IsQuiet n (after n events)) (sym m.same) (never_early n i m.more (events_of n e all) l knows))
 
 pub left_epoch : LeftEpochLaw
 left_epoch n i e all l m =
-    let h = epochs n all e in
+    let h = epochs n e all in
     over_where_quiet n e (epochs_after n all) (after n (events_of n e all)) h
     (never_early n i [] (events_of n e all) l (notified_over ((after n (events_of n e all)).at i) (h.left i m)))
 
@@ -257,7 +244,7 @@ advance_each : (P : ProcessState → ProcessState → Type 0) → ((r : ProcessS
     → (n : ℕ) (w : Epochs) (o : EpochEvent) (j : ℕ) → P (w.at j) ((advance n w o).at j)
 advance_each P same state again n w (In e event) j =
     cond_both (is_current e w event) (with_world e w (happens n (world_of e w) event)) w (λ z. P (w.at j) (z.at j))
-    (λ t. cond_both (is_in_epoch e w j) _ (w.at j) (P (w.at j)) (λ t. state (w.at j) _) (λ t. same (w.at j))) (λ t. same (w.at j))
+    (λ t. state (w.at j) _) (λ t. same (w.at j))
 advance_each P same state again n w (Reopens i) j =
     cond_both (ltb i n) (record w { at = put i (reopened (w.at i)) w.at }) w (λ z. P (w.at j) (z.at j)) (λ t.
     put_holds (λ j z. P (w.at j) z) i j (reopened (w.at i)) w.at (λ d.
@@ -285,7 +272,7 @@ beyond_after n events j m =
 pub beyond : (n : ℕ) (all : List EpochEvent) (j : ℕ) → n ≤ j → ((epochs_after n all).at j).epoch ≡ 0
 beyond n all j m =
     let none : 0 < ((epochs_after n all).at j).epoch → ⊥ = λ l.
-    let t : false ≡ true = subst (λ p. has_notified p ≡ true) (beyond_after n (events_of n 0 all) j m) ((epochs n all 0).left j l) in
+    let t : false ≡ true = subst (λ p. has_notified p ≡ true) (beyond_after n (events_of n 0 all) j m) ((epochs n 0 all).left j l) in
     absurd (cc t) in
     omega (arith, at_most ((epochs_after n all).at j).epoch 0 none)
 
@@ -325,12 +312,12 @@ messages n i e all l some =
       at_most d e (λ t. absurd (omega (arith, some, none_late n i e all l t))),
       at_most e (d + 1) (λ t.
           let none : (epochs_after n all).under_way e i ≡ 0 =
-          ap (λ u. u i) (epochs n all e).under_way ∙ ap (λ events. (after n events).under_way i) (far n i e all l t) in
+          ap (λ u. u i) (epochs n e all).under_way ∙ ap (λ events. (after n events).under_way i) (far n i e all l t) in
           absurd (omega (arith, some, none))),
     )
 
 pub ahead : AheadLaw
-ahead n i e all l m = (epochs n all e).controls ∙ ap (λ events. (after n events).controls) (far n i e all l m)
+ahead n i e all l m = (epochs n e all).controls ∙ ap (λ events. (after n events).controls) (far n i e all l m)
 
 -- ==== The model's events are the calls: an event does to its process what the contract of the call says.
 -- Process i becomes p if it is in the epoch.
@@ -360,8 +347,7 @@ handed_law n w c m =
     let l : ControlMessage = c.message in
     let x : World = world_of c.epoch w in
     in_epoch_as c.epoch l.to w (came n x (Some l)) (took l (x.at l.to))
-    (subst (λ b. (cond b (record x { at = put l.to (took l (x.at l.to)) x.at }) x).at l.to ≡ took l (x.at l.to)) (sym (lt-ltb l.to n m))
-    (put_here l.to (took l (x.at l.to)) x.at))
+    (rw (lt-ltb l.to n m) (put_here l.to (took l (x.at l.to)) x.at))
 
 pub calls : CallsLaw
 calls n w =
@@ -380,9 +366,7 @@ calls n w =
           (put_here e y.controls w.controls
           ∙ ap (λ b. (cond b (does n (world_of e w) i Moves) (world_of e w)).controls) (lt-ltb i n l));
       takes = λ e k l m there. rw there (handed_law n w (record { epoch = e; message = l }) m);
-      reopens = λ i l.
-          subst (λ b. (cond b (record w { at = put i (reopened (w.at i)) w.at }) w).at i ≡ reopened (w.at i)) (sym (lt-ltb i n l))
-          (put_here i (reopened (w.at i)) w.at);
+      reopens = λ i l. rw (lt-ltb i n l) (put_here i (reopened (w.at i)) w.at);
     }
 
 -- ==== Every process stays open.
@@ -398,7 +382,7 @@ pub never_miscounted : CountedLaw
 never_miscounted n i all =
     let e : ℕ = ((epochs_after n all).at i).epoch in
     let events : List Event = events_of n e all in
-    subst (λ p. is_miscounted p ≡ false) (sym ((epochs n all e).now i refl))
+    subst (λ p. is_miscounted p ≡ false) (sym ((epochs n e all).now i refl))
     (elim (cases_lt i n) [
       | inl l ↦ let v = good_after n events in counted n v.0 i (after n events) l v.1
       | inr past ↦ subst (λ p. is_miscounted p ≡ false) (sym (beyond_after n events i past))
@@ -419,7 +403,8 @@ module _ (n e : ℕ) (w : Epochs) (x : World) (h : IsEpoch n e w x) (v : IsOver 
 
   -- The process of a useful event is in the epoch.
   module _ (q : ℕ) (g : Good n q x) where
-    receiver_there : (o : Option ControlMessage) → IsKnown n g.wave g.gifts x o → is_taken n x o ≡ true → is_receiver_in_epoch e w o ≡ true
+    receiver_there : (o : Option ControlMessage) → ((l : ControlMessage) → o ≡ Some l → KnownOf n g.wave g.gifts x l)
+        → is_taken n x o ≡ true → is_receiver_in_epoch e w o ≡ true
     receiver_there None k t = absurd (cc t)
     receiver_there (Some l) k t =
         let a = and_parts (ltb l.to n) (is_for l (x.at l.to) && is_due l.from l.wave l.token (x.at l.to)) t in
@@ -427,7 +412,7 @@ module _ (n e : ℕ) (w : Epochs) (x : World) (h : IsEpoch n e w x) (v : IsOver 
         let m : l.to < n = ltb-true l.to n a.0 in
         elim (in_or_notified l.to m) [
           | inl d ↦ eq-eqb (w.at l.to).epoch e d
-          | inr d ↦ absurd (cc (b.1, none_due n q x g l.to m (notified_over (x.at l.to) d) l.from l.wave l.token k.0))
+          | inr d ↦ absurd (cc (b.1, none_due n q x g l.to m (notified_over (x.at l.to) d) l.from l.wave l.token (k l refl).0))
         ]
 
     current_there : (event : Event) → is_useful n x event ≡ true → is_current e w event ≡ true
@@ -440,7 +425,7 @@ module _ (n e : ℕ) (w : Epochs) (x : World) (h : IsEpoch n e w x) (v : IsOver 
     current_there (Does i _) t = absurd (cc t)
     current_there (Comes k) t =
         subst (λ ls. is_receiver_in_epoch e w (control_at ls k) ≡ true) (sym h.controls)
-        (receiver_there (control_at x.controls k) (known_at n g.wave g.gifts x x.controls k g.inv.controls) t)
+        (receiver_there (control_at x.controls k) (g.inv.controls k) t)
 
     useful_there : (event : Event) → is_useful n x event ≡ true → is_progress n w (In e event) ≡ true
     useful_there event t =
@@ -453,7 +438,7 @@ pub quiet_of : (n e : ℕ) (w : Epochs) (all : List EpochEvent) → w ≡ epochs
 quiet_of n e w all same v =
     let events : List Event = events_of n e all in
     let x : World = after n events in
-    let h : IsEpoch n e w x = rw same (epochs n all e) in
+    let h : IsEpoch n e w x = rw same (epochs n e all) in
     record {
       idle = λ i m.
           elim (in_or_notified n e w x h v i m) [
@@ -468,7 +453,7 @@ goes_on_epoch n e all l few room v =
     let w : Epochs = epochs_after n all in
     let events : List Event = events_of n e all in
     let x : World = after n events in
-    let h : IsEpoch n e w x = epochs n all e in
+    let h : IsEpoch n e w x = epochs n e all in
     let quiet : IsQuiet n x = quiet_of n e w all refl v in
     let room_there : (x.at 0).over ≡ false → (x.at 0).wave + 1 < 2 ^ 64 = λ f.
     elim (in_or_notified n e w x h v 0 l) [
@@ -484,7 +469,7 @@ pub lags : LagsLaw
 lags n i j all few l m behind =
     let w : Epochs = epochs_after n all in
     let e : ℕ = (w.at i).epoch in
-    let h : IsEpoch n e w (after n (events_of n e all)) = epochs n all e in
+    let h : IsEpoch n e w (after n (events_of n e all)) = epochs n e all in
     let over : ((after n (events_of n e all)).at 0).over ≡ true
     = ((good_after n (events_of n e all)).1.inv.over j m
     (notified_over ((after n (events_of n e all)).at j) (h.left j behind))).root.over in
@@ -504,8 +489,8 @@ few_waves_epoch n e later all l v here still =
     = few_waves n m.more (events_of n e all) l (quiet_of n e (epochs_after n all) all refl v) in
     omega (
       arith,
-      ap (λ p. p.wave) ((epochs n all e).now 0 here),
-      ap (λ p. p.wave) ((epochs n (later ++ all) e).now 0 still),
+      ap (λ p. p.wave) ((epochs n e all).now 0 here),
+      ap (λ p. p.wave) ((epochs n e (later ++ all)).now 0 still),
       ap (λ l. ((after n l).at 0).wave) m.same,
       z,
     )
@@ -517,8 +502,8 @@ once_epoch n e k later all l few there here =
     let old : List Event = events_of n e all in
     let w : Epochs = epochs_after n (later ++ o ∷ all) in
     let events : List Event = events_of n e (later ++ o ∷ all) in
-    let h : IsEpoch n e w (after n events) = epochs n (later ++ o ∷ all) e in
-    let first : IsEpoch n e (epochs_after n all) (after n old) = epochs n all e in
+    let h : IsEpoch n e w (after n events) = epochs n e (later ++ o ∷ all) in
+    let first : IsEpoch n e (epochs_after n all) (after n old) = epochs n e all in
     let came : events_of n e (o ∷ all) ≡ Comes k ∷ old = rw (eq-eqb e e refl, there, here) refl in
     let there_too : control_at (after n old).controls k ≡ Some l = subst (λ ls. control_at ls k ≡ Some l) first.controls there in
     let never : is_taken n (after n (m.more ++ Comes k ∷ old)) (Some l) ≡ false = once n k m.more old l few there_too in

@@ -1,6 +1,6 @@
--- The theorems that `each_epoch` names.
-use Rattle.tp_process.proofs.Network.{epoch_law, calls}
+-- The theorem that `each_epoch` names.
+use Rattle.tp_process.proofs.Network.{epochs}
 use Rattle.tp_process.proofs.laws.each_epoch.Goals as goal
 
-pub returns : goal.returns
-returns c = record { epochs = epoch_law; calls = calls }
+pub returns-clause-epochs : goal.returns-clause-epochs
+returns-clause-epochs c = epochs

@@ -1,7 +1,6 @@
 use Rattle.pool_blocks.specs.Lists.{at}
-use Rattle.pool_kernels.{proofs.PairedRows.pair_of_two, specs.Digits.digit}
-use Rattle.std.proofs.Common.{◌≡◌, ◌-◌, ℤ, List, Option, MatchResult, Some, get_or, ap, sym, ◌∙◌, subst}
-use Rattle.tp_graph.specs.Values.{IsRefusal}
+use Rattle.pool_kernels.{proofs.PairedRows.pair_of_two, specs.Pairs.digit}
+use Rattle.std.proofs.Common.{◌≡◌, ◌-◌, get_or, ap, ◌∙◌}
 use Rattle.pool_kernels.proofs.blocks.PairedBlocksKernel.compute.Goals as goal
 
 pub returns-in-len2 : goal.returns-in-len2
@@ -15,7 +14,6 @@ returns-in-len2 g c =
     let second : high ≡ get_or c.args.inputs.now 1 high = rw c.as_slice-high.ensures c.high-item.is in
     let own : bit ≡ digit (c.args.row - 1) c.args.column =
     c.digit-bit.ensures ∙ ap (λ k. digit k c.args.column) c.saturating_sub.ensures in
-    subst (λ (o : Option (List ℤ)). MatchResult c.value_by.result (λ value. o ≡ Some value) (IsRefusal o))
-    (sym (pair_of_two (g.O.Pairing.pair b.pairing) b.numbers.now size b.inner c.args.row c.args.column bit c.args.inputs.now low high
-    c.in-len2.len_at_least c.in-len2.len_below first second c.two_to.ensures.same own))
+    rw (pair_of_two (g.O.Pairing.pair b.pairing) b.numbers.now size b.inner c.args.row c.args.column bit c.args.inputs.now low high
+    c.in-len2.len_at_least c.in-len2.len_below first second c.two_to.ensures.same own)
     (c.value_by.ensures (λ e. g.O.Pairing.pair b.pairing bit (at low e) (at high e)) (λ i made h returns. returns))

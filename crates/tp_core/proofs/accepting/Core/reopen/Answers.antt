@@ -18,8 +18,10 @@ comes c = record { reopens = λ f. ended c; goes_on = λ f. cc }
 
 pub overflow_add-self : goal.overflow_add-self
 overflow_add-self c =
-    let below = generation_below c.is_full.result c.self.invariant c.is_full.ensures (c.in_ok-make_room.ensures.ok).0 in omega (arith,
-    below)
+    let below = generation_below c.is_full.result c.self.invariant c.is_full.ensures (c.in_ok-make_room.ensures.ok).0 in omega (
+      arith,
+      below,
+    )
 
 pub invariant_of-self-2 : goal.invariant_of-self-2
 invariant_of-self-2 c =

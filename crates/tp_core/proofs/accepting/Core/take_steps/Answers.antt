@@ -61,8 +61,12 @@ returns c =
     let a = accepted c.self.inside in
     let end = taken (goal.at.returns c).After-take_to_end in
     subst (λ (x : Accepted). (first_refusal (settle_checks x) ≡ None)
-    × IsSettled x (record { nodes = c.self.inside.nodes; steps = c.take_to_end.new.steps.steps; recorded =
-    c.take_to_end.new.steps.recorded })
+    × IsSettled x (record {
+      nodes = c.self.inside.nodes;
+      steps = c.take_to_end.new.steps.steps;
+      recorded =
+          c.take_to_end.new.steps.recorded;
+    })
     c.take_to_end.result.0 c.take_to_end.result.1)
     c.self.view_is (
       by_none a (not_ended at) (quiet at) (c.in_ok-make_rooms.ensures.ok).0,

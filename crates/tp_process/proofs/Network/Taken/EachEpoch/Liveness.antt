@@ -19,32 +19,17 @@ spent_is_not_due from u Down p e = and_right (not p.here) (eqb u (p.wave + 1)) (
 spent_is_not_due from u (Up s r) p e = grind (arith, nat_tests)
 spent_is_not_due from u Over p e = not_from_true p.over e
 
--- A flag that only falls, and a number: if the test failed before, it fails after.
-still_none : (a b : Bool) (from m : ℕ) → (a ≡ false → b ≡ false) → (a && eqb from m) ≡ false → (b && eqb from m) ≡ false
-still_none a b from m f e = elim (and_cases a (eqb from m) e) [ inl t ↦ and_left b (eqb from m) (f t) | inr t ↦ and_right b (eqb from m) t ]
-
 -- What a process does later does not change that.
 module _ (from u : ℕ) (p : EpochState) where
   spent_opens : (c : Token) (w : ℕ) (h ul ur : Bool) → p.wave < w → Spent from u c p → SpentBy from u c p.number w h ul ur p.over
   spent_opens Down w h ul ur l e = omega (arith, e, l)
-  spent_opens (Up s r) w h ul ur l e = elim e [ inl less ↦ inl (omega (arith, less, l)) | inr rest ↦ inl (omega (arith, rest.0, l)) ]
+  spent_opens (Up s r) w h ul ur l e = grind (arith, nat_tests)
   spent_opens Over w h ul ur l e = e
 
   spent_fewer : (c : Token) (h ul ur : Bool) → (p.here ≡ false → h ≡ false) → (p.up_left ≡ false → ul ≡ false)
       → (p.up_right ≡ false → ur ≡ false) → Spent from u c p → SpentBy from u c p.number p.wave h ul ur p.over
   spent_fewer Down h ul ur f g k e = e
-  spent_fewer (Up s r) h ul ur f g k e =
-      elim e [
-        | inl less ↦ inl less
-        | inr rest ↦
-            inr (
-              rest.0,
-              elim rest.1 [
-                | inl away ↦ inl (f away)
-                | inr both ↦ inr (still_none p.up_left ul from _ g both.0, still_none p.up_right ur from _ k both.1)
-              ],
-            )
-      ]
+  spent_fewer (Up s r) h ul ur f g k e = grind (arith, nat_tests)
   spent_fewer Over h ul ur f g k e = e
 
   spent_ends : (c : Token) → Spent from u c p → Spent from u c (ends p)
@@ -94,7 +79,7 @@ has_room : (n i sum a b : ℕ) (left right : Bool) → n ≤ 2 ^ 20 → i < n �
 has_room n i sum a b left right few m e small_a small_b =
     let at_left : taken left a ≤ LIMIT * size n (2 * i + 1) = taken-le left a _ small_a in
     let at_right : taken right b ≤ LIMIT * size n (2 * i + 2) = taken-le right b _ small_b in
-    let whole : size n i ≤ n = size_below n (suc i) i (omega arith) m in
+    let whole : size n i ≤ n = size_below n i m in
     let parts : size n i ≡ 1 + (size n (2 * i + 1) + size n (2 * i + 2)) = size_at n i m in
     record {
       own = λ f g. omega (arith, e, at_left, at_right, whole, parts, few);
@@ -133,12 +118,9 @@ module _ (n q : ℕ) (x : World) (few : n ≤ 2 ^ 20) (v : Good n q x) (i : ℕ)
       let small : IsSmallGift n c v.gifts = gift_small n q v.wave v.floor v.gifts x v.inv c (λ z. t.given) in
       let waits : ((p.up_left && eqb c (2 * i + 1)) || (p.up_right && eqb c (2 * i + 2))) ≡ true
       = subst (λ m. ((p.up_left && eqb c (2 * m + 1)) || (p.up_right && eqb c (2 * m + 2))) ≡ true) (v.inv.each i l).number d in
-      and_from _ _
-      (and_from _ _
-      (and_from _ _ (and_from p.here (eqb u p.wave) here (eq-eqb u p.wave same))
-      (fits p.taken_sent s (omega (arith, a.0.child c waits, t.sent, small.sent))))
-      (fits p.taken_received r (omega (arith, a.1.child c waits, t.received, small.received))))
-      d
+      let f = fits p.taken_sent s (omega (arith, a.0.child c waits, t.sent, small.sent)) in
+      let g = fits p.taken_received r (omega (arith, a.1.child c waits, t.received, small.received)) in
+      and_from _ _ (and_from _ _ (and_from _ _ (and_from p.here (eqb u p.wave) here (eq-eqb u p.wave same)) f) g) d
 
   -- One that is not due was taken before.
   undue : (from u : ℕ) (c : Token) → Known n v.wave v.gifts x from u c → Path v.wave x.at from i u c
@@ -173,22 +155,12 @@ module _ (n q : ℕ) (x : World) (few : n ≤ 2 ^ 20) (v : Good n q x) (i : ℕ)
       → Spent from u c (takes from u c (x.at i))
   first_spent from u c t way =
       let p : EpochState = x.at i in
-      takes_cases from u c p (λ d. c ≡ d) (Spent from u c) refl
-      (λ k away next. subst (λ d. Spent from u d (opens u p)) (sym k) (omega arith)) (λ s r k here same waits e.
-      subst (λ d. Spent from u d (takes_left s r p)) (sym k)
-      (inr (same, inr (refl, and_right p.up_right _ (ne_eqb from (right_of p) (λ z. absurd (omega (arith, z, e))))))))
+      takes_cases from u c p (λ d. (z : EpochState) → Spent from u d z → Spent from u c z) (Spent from u c) (λ z e. e)
+      (λ k away next. k (opens u p) (omega arith)) (λ s r k here same waits e.
+      k (takes_left s r p) (inr (same, inr (refl, and_right p.up_right _ (ne_eqb from (right_of p) (λ z. absurd (omega (arith, z, e))))))))
       (λ s r k here same waits e.
-      subst (λ d. Spent from u d (takes_right s r p)) (sym k)
-      (inr (same, inr (and_right p.up_left _ (ne_eqb from (left_of p) (λ z. absurd (omega (arith, z, e)))), refl))))
-      (λ k o. subst (λ d. Spent from u d (ends p)) (sym k) refl) (undue from u c t way)
-
-pub some_same : {A : Type 0} (a b : A) → Some a ≡ Some b → a ≡ b
-some_same a b e = cc
-
-of_at : (n : ℕ) (ls : List ControlMessage) (k : ℕ) (l : ControlMessage) → AllOf n ls → control_at ls k ≡ Some l → l.processes ≡ n
-of_at n [] k l t e = absurd (cc e)
-of_at n (a ∷ ls) zero l t e = subst (λ (z : ControlMessage). z.processes ≡ n) (some_same a l e) t.0
-of_at n (a ∷ ls) (suc k) l t e = of_at n ls k l t.2 e
+      k (takes_right s r p) (inr (same, inr (and_right p.up_left _ (ne_eqb from (left_of p) (λ z. absurd (omega (arith, z, e)))), refl))))
+      (λ k o. k (ends p) refl) (undue from u c t way)
 
 is_for_all : (l : ControlMessage) (p : EpochState) → l.processes ≡ p.processes → p.number ≡ l.to → is_for l p ≡ true
 is_for_all l p e f = and_from _ _ (eq-eqb _ _ e) (eq-eqb _ _ (sym f))
@@ -206,19 +178,15 @@ pub once : OnceLaw
 once n k later events l few there =
     let x : World = after n events in
     let v = good_after n events in
-    let known_of = known_one n v.0 x v.1 k l there in
-    let same : l.processes ≡ n = of_at n x.controls k l (slim_after n events).1 there in
+    let known_of = v.1.inv.controls k l there in
+    let of = (slim_after n events).1 k l there in
     let y : World = after n (later ++ Comes k ∷ events) in
-    elim (cases_lt l.to n) [
-      | inl m ↦
-          let came_so : Spent l.from l.wave l.token ((after n (Comes k ∷ events)).at l.to)
-          = subst (λ o. Spent l.from l.wave l.token ((came n x o).at l.to)) (sym there)
-          (spent_came n v.0 x few v.1 l known_of.0 known_of.1 same m) in
-          let now : Spent l.from l.wave l.token (y.at l.to) =
-          spent_after n l.from l.wave l.to l.token later (Comes k ∷ events) came_so in
-          and_right _ _ (and_right _ _ (spent_is_not_due l.from l.wave l.token (y.at l.to) now))
-      | inr past ↦ and_left _ _ (le-ltb l.to n past)
-    ]
+    let came_so : Spent l.from l.wave l.token ((after n (Comes k ∷ events)).at l.to)
+    = subst (λ o. Spent l.from l.wave l.token ((came n x o).at l.to)) (sym there)
+    (spent_came n v.0 x few v.1 l known_of.0 known_of.1 of.0 of.1) in
+    let now : Spent l.from l.wave l.token (y.at l.to) =
+    spent_after n l.from l.wave l.to l.token later (Comes k ∷ events) came_so in
+    and_right _ _ (and_right _ _ (spent_is_not_due l.from l.wave l.token (y.at l.to) now))
 
 -- ==== Liveness in one epoch.
 -- The move returns something to do.
@@ -236,23 +204,18 @@ moved_over p over =
     (and_left _ _ (and_left _ _ (and_left _ _ (and_left _ _ (and_right (eqb p.number 0) (not p.over) (not_from_true p.over over))))))
     ∙ ap acts (ready_cases p (λ z. z ≡ p) (λ number o away. absurd (cc (o, over))) refl)
 
-acts_down : (p : EpochState) → p.over ≡ false → p.here ≡ true → p.down_left ≡ true → DoesStep (acts p)
-acts_down p o h d = rw (o, h, d)
-
-acts_down_right : (p : EpochState) → p.over ≡ false → p.here ≡ true → p.down_left ≡ false → p.down_right ≡ true → DoesStep (acts p)
-acts_down_right p o h dl dr = rw (o, h, dl, dr)
-
 gives_something : (p : EpochState) → DoesStep (gives p)
 gives_something p = cond_both (eqb p.number 0) _ _ DoesStep (λ t. cond_both (is_end p) _ _ DoesStep (λ t. refl) (λ t. refl)) (λ t. refl)
 
-acts_gives : (p : EpochState) → p.over ≡ false → p.here ≡ true → p.down_left ≡ false → p.down_right ≡ false → can_give p ≡ true
+-- A process at which a wave is has something to do, if it has to pass the wave down, or can pass it up.
+acts_here : (p : EpochState) → p.over ≡ false → p.here ≡ true → (p.down_left ≡ false → p.down_right ≡ false → can_give p ≡ true)
     → DoesStep (acts p)
-acts_gives p o h dl dr g =
+acts_here p o h give =
     cond_both p.over _ _ DoesStep (λ t. absurd (cc (t, o))) (λ a.
     cond_both p.here _ _ DoesStep (λ b.
-    cond_both p.down_left _ _ DoesStep (λ t. absurd (cc (t, dl))) (λ c.
-    cond_both p.down_right _ _ DoesStep (λ t. absurd (cc (t, dr))) (λ d.
-    cond_both (can_give p) _ _ DoesStep (λ t. gives_something p) (λ t. absurd (cc (t, g)))))) (λ t. absurd (cc (t, h))))
+    cond_both p.down_left _ _ DoesStep (λ t. refl) (λ dl.
+    cond_both p.down_right _ _ DoesStep (λ t. refl) (λ dr.
+    cond_both (can_give p) _ _ DoesStep (λ t. gives_something p) (λ t. absurd (cc (t, give dl dr)))))) (λ t. absurd (cc (t, h))))
 
 can_give_from : (p : EpochState) → p.up_left ≡ false → p.up_right ≡ false → p.pending ≡ 0 → p.taken_sent + p.sent < 2 ^ 64
     → p.taken_received + p.received < 2 ^ 64 → can_give p ≡ true
@@ -261,14 +224,7 @@ can_give_from p l r i s t = grind (arith, nat_tests)
 -- An idle process that a wave has just come to has something to do.
 acts_opened : (p : EpochState) (w : ℕ) → p.over ≡ false → p.pending ≡ 0 → p.sent ≤ LIMIT → p.received ≤ LIMIT → DoesStep (acts (opens w p))
 acts_opened p w o i s r =
-    elim (cases_Bool (has p (left_of p))) [
-      | inl t ↦ acts_down (opens w p) o refl t
-      | inr f ↦
-          elim (cases_Bool (has p (right_of p))) [
-            | inl t ↦ acts_down_right (opens w p) o refl f t
-            | inr e ↦ acts_gives (opens w p) o refl f e (can_give_from (opens w p) f e i (omega (arith, s)) (omega (arith, r)))
-          ]
-    ]
+    acts_here (opens w p) o refl (λ f e. can_give_from (opens w p) f e i (omega (arith, s)) (omega (arith, r)))
 
 -- Wave w came to the process, and its children have reported.
 pub record IsThrough (w : ℕ) (p : EpochState) : Type 0 where
@@ -295,10 +251,7 @@ none_due n q x v i l o from u Down t =
 none_due n q x v i l o from u (Up s r) t =
     let p : EpochState = x.at i in
     let z : IsThrough (x.at 0).wave p = through n q x v (v.inv.over i l o) i l in
-    elim (cases_Bool p.here) [
-      | inl h ↦ and_right _ _ (or_from _ _ (and_left _ _ (rw h at z.left)) (and_left _ _ (rw h at z.right)))
-      | inr h ↦ and_left _ _ (and_left _ _ (and_left _ _ (and_left _ _ h)))
-    ]
+    grind (arith, nat_tests, z.left, z.right)
 none_due n q x v i l o from u Over t = not_from_true (x.at i).over o
 
 module _ (n q : ℕ) (x : World) (few : n ≤ 2 ^ 20) (quiet : IsQuiet n x) (v : Good n q x) where
@@ -335,7 +288,7 @@ module _ (n q : ℕ) (x : World) (few : n ≤ 2 ^ 20) (quiet : IsQuiet n x) (v :
       → Has x.controls (control_of n c (parent c) v.wave (Up s r)) → Useful
   up_comes i c s r l here m e d h =
       let report : Reported v.wave v.gifts x.at c s r
-      = (known_one n q x v h.which (control_of n c (parent c) v.wave (Up s r)) h.there).0.1 refl in
+      = (v.inv.controls h.which (control_of n c (parent c) v.wave (Up s r)) h.there).0.1 refl in
       comes_on (control_of n c i v.wave (Up s r)) (rw e at h) refl l
       (due_here n q x few v i l c v.wave s r here (sym ((v.inv.each i l).here here).wave) report d)
 
@@ -366,33 +319,26 @@ module _ (n q : ℕ) (x : World) (few : n ≤ 2 ^ 20) (quiet : IsQuiet n x) (v :
         let posts : Posts n v.wave x.controls i p = v.inv.posts i l in
         let o : p.over ≡ false = open_yet i l in
         let room = rooms n q x few v i l here in
-        elim (cases_Bool p.down_left) [
-          | inl t ↦ here_moves i l here (acts_down p o here t)
-          | inr dl ↦
-              elim (cases_Bool p.up_left) [
+        let child : (c : ℕ) → c < n → parent c ≡ i → 0 < c → (is_left c p || is_right c p) ≡ true
+        → Has x.controls (control_of n i c v.wave Down) → n ≤ c + b → Useful
+        = λ c m e positive d down near. below i c l here m e positive d down (wave_on b c near m) in
+        elim (cases_Bool (p.up_left && not p.down_left)) [
+          | inl t ↦
+              let m : 2 * i + 1 < n = z.there.0 (and_parts _ _ t).0 in
+              child (2 * i + 1) m (omega arith) (omega arith) (grind (arith, nat_tests, t, hold.number))
+              ((posts.down here).0 (not-true _ (and_parts _ _ t).1) m) (omega (arith, near))
+          | inr left ↦
+              elim (cases_Bool (p.up_right && not p.down_right)) [
                 | inl t ↦
-                    let m : 2 * i + 1 < n = z.there.0 t in
-                    below i (2 * i + 1) l here m (omega arith) (omega arith)
-                    (or_left _ _ (and_from p.up_left (eqb (2 * i + 1) (left_of p)) t (eq-eqb _ _ (omega (arith, hold.number)))))
-                    ((posts.down here).0 dl m) (λ h. wave_on b (2 * i + 1) (omega (arith, near)) m h)
-                | inr ul ↦
-                    elim (cases_Bool p.down_right) [
-                      | inl t ↦ here_moves i l here (acts_down_right p o here dl t)
-                      | inr dr ↦
-                          elim (cases_Bool p.up_right) [
-                            | inl t ↦
-                                let m : 2 * i + 2 < n = z.there.1 t in
-                                below i (2 * i + 2) l here m (omega arith) (omega arith)
-                                (or_right _ _ (and_from p.up_right (eqb (2 * i + 2) (right_of p)) t
-                                (eq-eqb _ _ (omega (arith, hold.number))))) ((posts.down here).1 dr m)
-                                (λ h. wave_on b (2 * i + 2) (omega (arith, near)) m h)
-                            | inr ur ↦
-                                here_moves i l here
-                                (acts_gives p o here dl dr
-                                (can_give_from p ul ur (quiet.idle i l) (omega (arith, room.0.own ul ur, (v.inv.small i l).sent))
-                                (omega (arith, room.1.own ul ur, (v.inv.small i l).received))))
-                          ]
-                    ]
+                    let m : 2 * i + 2 < n = z.there.1 (and_parts _ _ t).0 in
+                    child (2 * i + 2) m (omega arith) (omega arith) (grind (arith, nat_tests, t, hold.number))
+                    ((posts.down here).1 (not-true _ (and_parts _ _ t).1) m) (omega (arith, near))
+                | inr right ↦
+                    here_moves i l here (acts_here p o here (λ dl dr.
+                    let ul : p.up_left ≡ false = grind (arith, nat_tests, left, dl) in
+                    let ur : p.up_right ≡ false = grind (arith, nat_tests, right, dr) in
+                    can_give_from p ul ur (quiet.idle i l) (omega (arith, room.0.own ul ur, (v.inv.small i l).sent))
+                    (omega (arith, room.1.own ul ur, (v.inv.small i l).received))))
               ]
         ]
 
@@ -405,11 +351,8 @@ module _ (n q : ℕ) (x : World) (few : n ≤ 2 ^ 20) (quiet : IsQuiet n x) (v :
         | inl here ↦ wave_on open_yet n 0 (omega arith) l here
         | inr away ↦
             let p : EpochState = x.at 0 in
-            let starts : can_start p ≡ true =
-            and_from _ _
-            (and_from _ _
-            (and_from _ _ (and_from _ _ (eq-eqb p.number 0 (v.inv.each 0 l).number) (not_from_false p.over o)) (not_from_false p.here away))
-            (eq-eqb p.pending 0 (quiet.idle 0 l))) (fits p.wave 1 room) in
+            let starts : can_start p ≡ true
+            = grind (arith, nat_tests, (v.inv.each 0 l).number, o, away, quiet.idle 0 l, fits p.wave 1 room) in
             moves_on 0 l
             (subst DoesStep (sym (moves_are n q 0 x l v))
             (cond_both (can_start p) (opens (p.wave + 1) p) p (λ z. DoesStep (acts z))
@@ -430,42 +373,33 @@ module _ (n q : ℕ) (x : World) (few : n ≤ 2 ^ 20) (quiet : IsQuiet n x) (v :
   over_comes : (i c u : ℕ) → c < n → (x.at c).over ≡ false → Has x.controls (control_of n i c u Over) → Useful
   over_comes i c u l f h = comes_on (control_of n i c u Over) h refl l (not_from_false (x.at c).over f)
 
-  -- The first b processes have notified their children, or a useful event is possible.
-  end_on : (x.at 0).over ≡ true → (b : ℕ) → b ≤ n → ((i : ℕ) → i < b → has_notified (x.at i) ≡ true) ⊎ Useful
-  end_on o zero l = inl (λ i m. absurd (omega arith))
-  end_on o (suc b) l =
-      elim (end_on o b (omega arith)) [
-        | inr e ↦ inr e
-        | inl all ↦
-            let more : (x.at b).over ≡ true → ((i : ℕ) → i < suc b → has_notified (x.at i) ≡ true) ⊎ Useful = λ t.
-            elim (tells_on b (omega arith) t) [
-              | inr e ↦ inr e
-              | inl d ↦ inl (λ i m. elim (cases_eq i b) [ inl e ↦ rw e d | inr off ↦ all i (omega (arith, off, m)) ])
-            ] in
-            elim (cases_Bool (x.at b).over) [
-              | inl t ↦ more t
-              | inr f ↦
-                  elim (cases_eq b 0) [
-                    | inl e ↦ absurd (cc (rw e at f, o))
-                    | inr off ↦
-                        let above : ℕ = parent b in
-                        let less : above < b = omega (arith, off) in
-                        let d = notified_parts (x.at above) (all above less) in
-                        let posts : Posts n v.wave x.controls above (x.at above) = v.inv.posts above (omega (arith, less, l)) in
-                        elim (cases_eq b (2 * above + 1)) [
-                          | inl e ↦
-                              let z = (posts.over d.0).0 d.1 (omega (arith, e, l)) in
-                              inr (over_comes above b z.0 (omega (arith, l)) f (subst
-                              (λ c. Has x.controls (control_of n above c z.0 Over)) (sym e) z.1))
-                          | inr other ↦
-                              let e : b ≡ 2 * above + 2 = omega (arith, other, off) in
-                              let z = (posts.over d.0).1 d.2 (omega (arith, e, l)) in
-                              inr (over_comes above b z.0 (omega (arith, l)) f (subst
-                              (λ c. Has x.controls (control_of n above c z.0 Over)) (sym e) z.1))
-                        ]
-                  ]
-            ]
-      ]
+  -- If process 0 knows the end, each process has notified its children, or a useful event is possible.
+  end_on : (x.at 0).over ≡ true → (j : ℕ) → j < n → (has_notified (x.at j) ≡ true) ⊎ Useful
+  end_on o j m =
+      down_tree n (λ i. (has_notified (x.at i) ≡ true) ⊎ Useful) (tells_on 0 (omega (arith, m)) o) (λ i l up.
+      let child : (c : ℕ) → c < n → (has_notified (x.at i) ≡ true → (u : ℕ) × Has x.controls (control_of n i c u Over))
+      → (has_notified (x.at c) ≡ true) ⊎ Useful = λ c k sent.
+      elim (cases_Bool (x.at c).over) [
+        | inl t ↦ tells_on c k t
+        | inr f ↦ elim up [ inr e ↦ inr e | inl d ↦ let z = sent d in inr (over_comes i c z.0 k f z.1) ]
+      ] in
+      let posts : Posts n v.wave x.controls i (x.at i) = v.inv.posts i l in (
+        λ k. child (2 * i + 1) k (λ d. let p = notified_parts (x.at i) d in (posts.over p.0).0 p.1 k),
+        λ k. child (2 * i + 2) k (λ d. let p = notified_parts (x.at i) d in (posts.over p.0).1 p.2 k),
+      )) (suc j) j (omega arith) m
+
+-- What holds of each number below b, or else, holds of all of them, or else.
+pub each_or : (b : ℕ) (P : ℕ → Type 0) (Q : Type 0) → ((i : ℕ) → i < b → P i ⊎ Q) → ((i : ℕ) → i < b → P i) ⊎ Q
+each_or zero P Q f = inl (λ i m. absurd (omega arith))
+each_or (suc b) P Q f =
+    elim (f b (omega arith)) [
+      | inr e ↦ inr e
+      | inl here ↦
+          elim (each_or b P Q (λ i m. f i (omega arith))) [
+            | inr e ↦ inr e
+            | inl all ↦ inl (λ i m. elim (cases_eq i b) [ inl e ↦ subst P (sym e) here | inr off ↦ all i (omega (arith, off, m)) ])
+          ]
+    ]
 
 -- `next` returns `Ended` at a process that has notified its children.
 pub notified_ended : (p : EpochState) → has_notified p ≡ true → (moved p).next ≡ Ended
@@ -480,7 +414,7 @@ goes_on_to n events l few room quiet =
     let v = good_after n events in
     let x : World = after n events in
     elim (cases_Bool (x.at 0).over) [
-      | inl t ↦ end_on n v.0 x few quiet v.1 t n (omega arith)
+      | inl t ↦ each_or n _ _ (end_on n v.0 x few quiet v.1 t)
       | inr f ↦ inr (root_on n v.0 x few quiet v.1 l (room f) f)
     ]
 

@@ -6,7 +6,7 @@ pub use Safety.*
 abbrev pub bit : Bool → ℕ
 bit b = cond b 1 0
 
-bit-le : (b : Bool) → bit b ≤ 1
+pub bit-le : (b : Bool) → bit b ≤ 1
 bit-le true = omega arith
 bit-le false = omega arith
 
@@ -23,12 +23,9 @@ pub total_add : (n : ℕ) (f g : ℕ → ℕ) → total n (λ j. f j + g j) ≡ 
 total_add zero f g = refl
 total_add (suc n) f g = omega (arith, total_add n f g)
 
-inner_all : (n : ℕ) → total (suc n) inner ≡ n
+pub inner_all : (n : ℕ) → total n inner ≡ n - 1
 inner_all zero = refl
-inner_all (suc n) =
-    let pick : Bool → ℕ = λ b. cond b 0 1 in
-    let one : inner (suc n) ≡ 1 = ap pick (ne_eqb (suc n) 0 (λ e. absurd (omega (arith, e)))) in
-    omega (arith, inner_all n, one)
+inner_all (suc n) = grind (arith, nat_tests, inner_all n)
 
 -- the number of children of process j
 abbrev pub kids_of : ℕ → ℕ → ℕ
@@ -43,12 +40,6 @@ kids_all n =
     (λ c m. omega (arith, size_past n c m))
     ∙ ap (λ z. z - 1) (size_all n)
 
-pub both : (n : ℕ) → 0 < n → total n (kids_of n) + total n inner ≡ 2 * (n - 1)
-both n first =
-    let e : n ≡ suc (n - 1) = omega (arith, first) in
-    let ones : total n inner ≡ n - 1 = subst (λ k. total k inner ≡ n - 1) (sym e) (inner_all (n - 1)) in
-    omega (arith, kids_all n, ones)
-
 -- the useful events of a wave at process j: it comes down, goes down to the children, comes back from them, and goes up
 abbrev pub wave_cost : ℕ → ℕ → ℕ
 wave_cost n j = inner j + (1 + (kids_of n j + kids_of n j))
@@ -62,7 +53,7 @@ wave_total n first =
       total_add n (kids_of n) (kids_of n),
       ones n,
       kids_all n,
-      both n first,
+      inner_all n,
       first,
     )
 
@@ -87,19 +78,6 @@ budget n (suc r) = budget n r + total n (wave_cost n)
 abbrev costs : ℕ → ℕ → (ℕ → EpochState) → ℕ
 costs n q at = total n (λ i. cost (at 0).wave (at i)) + budget n (q + 2 - (at 0).wave)
 
--- A sum changes by the change of one part.
-pub total_put : {A : Type 0} (n i : ℕ) (new : A) (at : ℕ → A) (f : A → ℕ) → i < n
-    → total n (λ j. f (put i new at j)) + f (at i) ≡ total n (λ j. f (at j)) + f new
-total_put zero i new at f l = absurd (omega arith)
-total_put (suc n) i new at f l =
-    elim (cases_eq i n) [
-      | inl e ↦
-          let rest : total n (λ j. f (put i new at j)) ≡ total n (λ j. f (at j))
-          = total-equal n _ _ (λ j m. ap f (put_other i j new at (λ d. absurd (omega (arith, d, e, m))))) in
-          rw (e, eq-eqb n n refl) (omega (arith, rw e at rest))
-      | inr off ↦ rw (ne_eqb n i (λ d. off (sym d))) (omega (arith, total_put n i new at f (omega (arith, off))))
-    ]
-
 cost_put : (n q i : ℕ) (at : ℕ → EpochState) (new : EpochState) (d : ℕ) → i < n → (put i new at 0).wave ≡ (at 0).wave
     → cost (at 0).wave new + d ≤ cost (at 0).wave (at i) → costs n q (put i new at) + d ≤ costs n q at
 cost_put n q i at new d l same less =
@@ -111,10 +89,7 @@ cost_put n q i at new d l same less =
 
 ends_cost : (w : ℕ) (p : EpochState) → p.over ≡ false → cost w (ends p) + inner p.number ≤ cost w p
 ends_cost w p o =
-    elim (cases_Bool (eqb p.wave w)) [
-      | inr off ↦ rw (o, off) (omega arith)
-      | inl e ↦ elim (cases_Bool p.here) [ inl h ↦ rw (o, e, h) (omega arith) | inr h ↦ rw (o, e, h) (omega arith) ]
-    ]
+    grind (arith, nat_tests)
 
 acts_cost : (w : ℕ) (p : EpochState) → (p.here ≡ true → p.wave ≡ w) → cost w (acts p).state + bit (is_step (acts p).next) ≤ cost w p
 acts_cost w p e =
@@ -171,7 +146,8 @@ module _ (n q : ℕ) (x : World) (v : Good n q x) where
       (root_stays i (acts (x.at i)).state (λ e. acts_wave (x.at i) ∙ rw e))
       (acts_cost (x.at 0).wave (x.at i) (newest i l))
 
-  came_cost : (o : Option ControlMessage) → IsKnown n v.wave v.gifts x o → costs n q (came n x o).at + bit (is_taken n x o) ≤ costs n q x.at
+  came_cost : (o : Option ControlMessage) → ((a : ControlMessage) → o ≡ Some a → KnownOf n v.wave v.gifts x a)
+      → costs n q (came n x o).at + bit (is_taken n x o) ≤ costs n q x.at
   came_cost None t = omega arith
   came_cost (Some a) t =
       let p : EpochState = x.at a.to in
@@ -180,12 +156,12 @@ module _ (n q : ℕ) (x : World) (v : Good n q x) where
       let l : a.to < n = ltb-true a.to n m in
       let hold : Holds n v.wave v.floor v.gifts x.at a.to p = v.inv.each a.to l in
       let known_of : Known n (x.at 0).wave v.gifts x a.from a.wave a.token
-      = subst (λ w. Known n w v.gifts x a.from a.wave a.token) (sym v.inv.root.wave) t.0 in
+      = subst (λ w. Known n w v.gifts x a.from a.wave a.token) (sym v.inv.root.wave) (t a refl).0 in
       elim (cases_Bool (is_for a p)) [
         | inl mine ↦
             rw (m, mine)
             (cost_put n q a.to x.at (takes a.from a.wave a.token p) (bit (is_due a.from a.wave a.token p)) l
-            (taken_stays a.to a.from a.wave a.token t.0)
+            (taken_stays a.to a.from a.wave a.token (t a refl).0)
             (takes_cost n (x.at 0).wave v.gifts x a.from a.wave a.token p known_of (omega (arith, v.inv.root.wave, hold.close))
             (newest a.to l) (λ e.
             subst (λ (z : EpochState). (z.wave ≡ (x.at 0).wave) × (Finished n (x.at 0).wave x → z.over ≡ true))
@@ -238,9 +214,13 @@ module _ (n q : ℕ) (x : World) (quiet : IsQuiet n x) (v : Good n q x) where
   does_cost : (i : ℕ) (a : Act) → i < n → costs n q (does n x i a).at + bit (is_useful n x (Does i a)) ≤ costs n q x.at
   does_cost i Moves l = rw (lt-ltb i n l) (moved_cost i l)
   does_cost i a l =
-      elim (does_nothing n i x a l quiet) [
+      elim (does_counts n x i a) [
         | inl e ↦ absurd (cc e)
-        | inr e ↦ subst (λ (z : World). costs n q z.at + 0 ≤ costs n q x.at) (sym e) (omega arith)
+        | inr c ↦
+            let new : EpochState = recount c.new.pending c.new.sent c.new.received (x.at i) in
+            subst (λ f. costs n q f + 0 ≤ costs n q x.at) (sym c.at)
+            (subst (λ z. costs n q (put i z x.at) + 0 ≤ costs n q x.at) (sym c.same)
+            (cost_put n q i x.at new 0 l (root_stays n q x v i new (λ e. ap (λ j. (x.at j).wave) e)) (omega arith)))
       ]
 
   useless : (i : ℕ) (a : Act) → ltb i n ≡ false → is_useful n x (Does i a) ≡ false
@@ -251,7 +231,7 @@ module _ (n q : ℕ) (x : World) (quiet : IsQuiet n x) (v : Good n q x) where
   happens_cost (Does i a) =
       cond_both (ltb i n) (does n x i a) x (λ z. costs n q z.at + bit (is_useful n x (Does i a)) ≤ costs n q x.at)
       (λ t. does_cost i a (ltb-true i n t)) (λ t. omega (arith, ap bit (useless i a t)))
-  happens_cost (Comes k) = came_cost n q x v (control_at x.controls k) (known_at n v.wave v.gifts x x.controls k v.inv.controls)
+  happens_cost (Comes k) = came_cost n q x v (control_at x.controls k) (v.inv.controls k)
 
 soon_from : (n q : ℕ) (later events : List Event) → IsQuiet n (after n events) → Good n q (after n events)
     → useful n later events + costs n q (after n (later ++ events)).at ≤ costs n q (after n events).at
@@ -261,10 +241,7 @@ soon_from n q (e ∷ later) events z v =
     let rest : useful n later events + costs n q x.at ≤ costs n q (after n events).at = soon_from n q later events z v in
     let calm = calm_after n q later events z v in
     let step : costs n q (happens n x e).at + bit (is_useful n x e) ≤ costs n q x.at = happens_cost n q x calm.0 calm.1 e in
-    elim (cases_Bool (is_useful n x e)) [
-      | inl t ↦ rw t (omega (arith, rest, step, ap bit t))
-      | inr f ↦ rw f (omega (arith, rest, step, ap bit f))
-    ]
+    grind (arith, nat_tests, rest, step)
 
 -- A process owes control messages only to its children, and waits only for theirs.
 abbrev pub Slim : EpochState → Type 0
@@ -273,18 +250,17 @@ Slim p =
     × (bit p.up_left ≤ bit (has p (left_of p))) × (bit p.up_right ≤ bit (has p (right_of p)))
     × (bit p.over_left ≤ bit (has p (left_of p))) × (bit p.over_right ≤ bit (has p (right_of p)))
 
--- Every control message carries the number of processes, and is to one of them.
-abbrev pub AllOf : ℕ → List ControlMessage → Type 0
-AllOf n [] = Unit {0}
-AllOf n (l ∷ ls) = (l.processes ≡ n) × (l.to < n) × AllOf n ls
+-- The control message carries the number of processes, and is to one of them.
+abbrev pub IsOf : ℕ → ControlMessage → Type 0
+IsOf n l = (l.processes ≡ n) × (l.to < n)
 
 is_there : (n m c : ℕ) (b : Bool) → c ≡ n → b ≡ true → bit b ≤ bit (ltb m c) → m < n
 is_there n m c b e t less =
     elim (cases_Bool (ltb m c)) [ inl s ↦ omega (arith, ltb-true m c s, e) | inr f ↦ absurd (omega (arith, ap bit t, ap bit f, less)) ]
 
-pub slim_after : (n : ℕ) (events : List Event) → ((j : ℕ) → Slim ((after n events).at j)) × AllOf n (after n events).controls
+pub slim_after : (n : ℕ) (events : List Event) → ((j : ℕ) → Slim ((after n events).at j)) × All (IsOf n) (after n events).controls
 slim_after n events =
-    kept_after n (λ at ls. ((j : ℕ) → Slim (at j)) × AllOf n ls)
+    kept_after n (λ at ls. ((j : ℕ) → Slim (at j)) × All (IsOf n) ls)
     (record {
       count = λ q i a s r x l v h. (λ j. put_keeps Slim i j _ x.at (λ o. o) (h.0 j), h.1);
       start = λ q x l v o away h.
@@ -300,12 +276,14 @@ slim_after n events =
                 (λ a t. (o.0, o.1, o.2, o.3, o.4, omega arith)) (λ a b c. o) (λ a b t. (omega arith, o.1, o.2, o.3, o.4, o.5))
                 (λ a b t. (o.0, omega arith, o.2, o.3, o.4, o.5)) (λ c z t. (o.0, o.1, o.2, o.3, omega arith, omega arith)) (λ c z t. o)
                 (λ c z. o) (λ a. o)) (h.0 j),
-            acts_cases p (λ m. AllOf n (posted m.next x.controls))
-                (λ a t. (e, is_there n (left_of p) p.processes p.over_left e t o.4, h.1))
-                (λ a t. (e, is_there n (right_of p) p.processes p.over_right e t o.5, h.1)) (λ a b c. h.1)
-                (λ a b t. (e, is_there n (left_of p) p.processes p.down_left e t o.0, h.1))
-                (λ a b t. (e, is_there n (right_of p) p.processes p.down_right e t o.1, h.1)) (λ c z t. h.1) (λ c z t. h.1)
-                (λ c z. (e, omega (arith, up, l), h.1)) (λ a. h.1),
+            let more : (to : ℕ) (c : Token) → to < n → All (IsOf n) (control p to c ∷ x.controls)
+                = λ to c m. all_more (IsOf n) (control p to c) x.controls (e, m) h.1 in
+                acts_cases p (λ m. All (IsOf n) (posted m.next x.controls))
+                (λ a t. more (left_of p) Over (is_there n (left_of p) p.processes p.over_left e t o.4))
+                (λ a t. more (right_of p) Over (is_there n (right_of p) p.processes p.over_right e t o.5)) (λ a b c. h.1)
+                (λ a b t. more (left_of p) Down (is_there n (left_of p) p.processes p.down_left e t o.0))
+                (λ a b t. more (right_of p) Down (is_there n (right_of p) p.processes p.down_right e t o.1)) (λ c z t. h.1) (λ c z t. h.1)
+                (λ c z. more (parent p.number) (report_of p) (omega (arith, up, l))) (λ a. h.1),
           );
       take = λ q k x v a l e t h. (
         λ j.
@@ -317,7 +295,7 @@ slim_after n events =
         h.1,
       );
     }) events
-    (λ j. (omega arith, omega arith, omega arith, omega arith, omega arith, omega arith), tt)
+    (λ j. (omega arith, omega arith, omega arith, omega arith, omega arith, omega arith), λ k l there. absurd (cc there))
 
 cost-le : (n w j : ℕ) (p : EpochState) → p.number ≡ j → p.processes ≡ n → Slim p → cost w p ≤ wave_cost n j + (inner j + kids_of n j)
 cost-le n w j p number processes slim =
@@ -351,6 +329,7 @@ soon n later events l z =
       total_add n (wave_cost n) (λ j. inner j + kids_of n j),
       total_add n inner (kids_of n),
       wave_total n l,
-      both n l,
+      kids_all n,
+      inner_all n,
       budget-le n (v.0 + 2 - (at 0).wave) (omega (arith, v.1.inv.pace.past, v.1.inv.root.wave)),
     )

@@ -28,7 +28,7 @@ begins n =
         beyond = λ c m. refl;
         root = record { wave = refl; floors = λ f. absurd (cc f); last = λ f. absurd (cc f); quiet = λ f. absurd (cc f) };
         over = λ i m f. absurd (cc f);
-        controls = tt;
+        controls = λ k l there. absurd (cc there);
         pace = newest_pace n 0 _ (beginning n);
         posts = λ i m.
             record { down = λ f. absurd (cc f); up = λ a b. absurd (omega (arith, b)); over = λ f. absurd (cc f) };
@@ -49,8 +49,8 @@ module _ (n q i : ℕ) (x : World) (l : i < n) (v : Good n q x) where
   good_owes : (dl dr told ol or : Bool) (ls : List ControlMessage)
       → (Settled (x.at i) → Settled (owing (x.at i) dl dr told ol or))
       → (told ≡ true → ((x.at i).over ≡ true) ⊎ Finished n v.wave (changed i (owing (x.at i) dl dr told ol or) x.under_way ls x))
-      → (AllKnown n v.wave v.gifts (changed i (owing (x.at i) dl dr told ol or) x.under_way ls x) x.controls
-      → AllKnown n v.wave v.gifts (changed i (owing (x.at i) dl dr told ol or) x.under_way ls x) ls)
+      → (All (KnownOf n v.wave v.gifts (changed i (owing (x.at i) dl dr told ol or) x.under_way ls x)) x.controls
+      → All (KnownOf n v.wave v.gifts (changed i (owing (x.at i) dl dr told ol or) x.under_way ls x)) ls)
       → ((a : ControlMessage) → Has x.controls a → Has ls a) → Posts n v.wave ls i (owing (x.at i) dl dr told ol or)
       → Good n q (changed i (owing (x.at i) dl dr told ol or) x.under_way ls x)
   good_owes dl dr told ol or ls settled over known_of more posts =
@@ -82,8 +82,9 @@ module _ (n q i : ℕ) (x : World) (l : i < n) (v : Good n q x) where
   good_message : (dl dr ol or : Bool) (to : ℕ) (c : Token)
       → ((y : World) → (Finished n v.wave x → Finished n v.wave y) → Known n v.wave v.gifts y (x.at i).number (x.at i).wave c)
       → Path v.wave (put i (owing (x.at i) dl dr (x.at i).over ol or) x.at) (x.at i).number to (x.at i).wave c
-      → (Posts n v.wave (control (x.at i) to c ∷ x.controls) i (x.at i) → Posts n v.wave (control (x.at i) to c ∷ x.controls) i
-      (owing (x.at i) dl dr (x.at i).over ol or))
+      → (Posts n v.wave (control (x.at i) to c ∷ x.controls) i (x.at i)
+      → ((a w : ℕ) → to ≡ a → (x.at i).wave ≡ w → Has (control (x.at i) to c ∷ x.controls) (control_of n i a w c))
+      → Posts n v.wave (control (x.at i) to c ∷ x.controls) i (owing (x.at i) dl dr (x.at i).over ol or))
       → IsGoodMove n q i x (record { state = owing (x.at i) dl dr (x.at i).over ol or; next = Send (control (x.at i) to c) })
   good_message dl dr ol or to c known_of way posts =
       let ls : List ControlMessage = control (x.at i) to c ∷ x.controls in
@@ -92,8 +93,11 @@ module _ (n q i : ℕ) (x : World) (l : i < n) (v : Good n q x) where
       let still : Finished n v.wave x → Finished n v.wave (changed i p x.under_way ls x)
       = finished_put n v.wave i v.gifts v.gifts x p x.under_way ls (same_reports v.wave i v.gifts (x.at i) p (λ e. e) (λ y. y))
       (quiet_put n i x p ls (λ e. e)) (λ e o. o) in
-      good_owes dl dr (x.at i).over ol or ls (λ o. o) (λ o. inl o) (λ t. ((known_of (changed i p x.under_way ls x) still, way), t)) more
-      (posts (posts_more n v.wave x.controls ls i (x.at i) more (v.inv.posts i l)))
+      good_owes dl dr (x.at i).over ol or ls (λ o. o) (λ o. inl o)
+      (all_more (KnownOf n v.wave v.gifts (changed i p x.under_way ls x)) (control (x.at i) to c) x.controls
+      (known_of (changed i p x.under_way ls x) still, way)) more
+      (posts (posts_more n v.wave x.controls ls i (x.at i) more (v.inv.posts i l))
+      (λ a w e f. record { which = 0; there = rw ((v.inv.each i l).number, (v.inv.each i l).processes, e, f) }))
 
 -- Process 0 judges the wave.
 module _ (n q : ℕ) (x : World) (l : 0 < n) (v : Good n q x) (c : CanGive (x.at 0)) where
@@ -122,6 +126,8 @@ module _ (n q i : ℕ) (x : World) (l : i < n) (v : Good n q x) where
   good_acts =
       let p : EpochState = x.at i in
       let hold : Holds n v.wave v.floor v.gifts x.at i p = v.inv.each i l in
+      let left : left_of p ≡ 2 * i + 1 = omega (arith, hold.number) in
+      let right : right_of p ≡ 2 * i + 2 = omega (arith, hold.number) in
       let down : (dl dr : Bool) (to : ℕ) → p.number ≡ parent to
       → Path v.wave (put i (owing p dl dr p.over p.over_left p.over_right) x.at) p.number to p.wave Down = λ dl dr to d.
       let new : EpochState = owing p dl dr p.over p.over_left p.over_right in (
@@ -129,35 +135,20 @@ module _ (n q i : ℕ) (x : World) (l : i < n) (v : Good n q x) where
         λ e. subst (λ j. (put i new x.at j).wave ≡ v.wave) (sym hold.number) (put_same (λ (z : EpochState). z.wave) i i new x.at refl ∙ e),
       ) in
       acts_cases p (IsGoodMove n q i x) (λ o t.
-      good_message n q i x l v p.down_left p.down_right false p.over_right (left_of p) Over (λ y still. still (v.inv.over i l o)) tt (λ had.
-      record {
-        down = had.down;
-        up = had.up;
-        over = λ f. (λ e m. (p.wave, record { which = 0; there = rw (hold.number, hold.processes) }), (had.over f).1);
-      }))
+      good_message n q i x l v p.down_left p.down_right false p.over_right (left_of p) Over (λ y still. still (v.inv.over i l o)) tt
+      (λ had new. record { down = had.down; up = had.up; over = λ f. (λ e m. (p.wave, new (2 * i + 1) p.wave left refl), (had.over f).1) }))
       (λ o t.
-      good_message n q i x l v p.down_left p.down_right p.over_left false (right_of p) Over (λ y still. still (v.inv.over i l o)) tt (λ had.
-      record {
-        down = had.down;
-        up = had.up;
-        over = λ f. ((had.over f).0, λ e m. (p.wave, record { which = 0; there = rw (hold.number, hold.processes) }));
-      }))
+      good_message n q i x l v p.down_left p.down_right p.over_left false (right_of p) Over (λ y still. still (v.inv.over i l o)) tt
+      (λ had new.
+      record { down = had.down; up = had.up; over = λ f. ((had.over f).0, λ e m. (p.wave, new (2 * i + 2) p.wave right refl)) }))
       (λ o a b. good_same n q i x l v) (λ o h t.
       good_message n q i x l v false p.down_right p.over_left p.over_right (left_of p) Down (λ y still. hold.near)
-      (down false p.down_right (left_of p) (omega arith)) (λ had.
-      record {
-        down = λ f. (λ e m. record { which = 0; there = rw (hold.number, hold.processes, (hold.here h).wave) }, (had.down f).1);
-        up = had.up;
-        over = had.over;
-      }))
+      (down false p.down_right (left_of p) (omega arith)) (λ had new.
+      record { down = λ f. (λ e m. new (2 * i + 1) v.wave left (hold.here h).wave, (had.down f).1); up = had.up; over = had.over }))
       (λ o h t.
       good_message n q i x l v p.down_left false p.over_left p.over_right (right_of p) Down (λ y still. hold.near)
-      (down p.down_left false (right_of p) (omega arith)) (λ had.
-      record {
-        down = λ f. ((had.down f).0, λ e m. record { which = 0; there = rw (hold.number, hold.processes, (hold.here h).wave) });
-        up = had.up;
-        over = had.over;
-      }))
+      (down p.down_left false (right_of p) (omega arith)) (λ had new.
+      record { down = λ f. ((had.down f).0, λ e m. new (2 * i + 2) v.wave right (hold.here h).wave); up = had.up; over = had.over }))
       (λ c z t.
       let e : i ≡ 0 = is_root z in
       subst (λ k. IsGoodMove n q k x (record { state = ends (x.at k); next = Again })) (sym e)
@@ -182,30 +173,21 @@ module _ (n q i : ℕ) (x : World) (l : i < n) (v : Good n q x) where
   pub counted : is_miscounted (x.at i) ≡ false
   counted = false_from_ne_true _ (λ t.
       let p : EpochState = x.at i in
-      let a = and_parts _ (ltb (counts_sent p) p.last_received) t in
-      let b = and_parts _ (is_complete p) a.0 in
-      let c = and_parts _ (eqb p.pending 0) b.0 in
-      let d = and_parts _ p.known c.0 in
-      let e = and_parts (eqb p.number 0) (not p.over) d.0 in
-      let root : i ≡ 0 = is_root e.0 in
+      let root : i ≡ 0 = is_root (grind (arith, nat_tests, t)) in
       let first : 0 < n = rw root at l in
-      let known : (x.at 0).known ≡ true = rw root at d.1 in
-      let more : (x.at 0).last_received ≤ counts_sent (x.at 0) → ⊥
-      = λ z. absurd (omega (arith, ltb-true (counts_sent (x.at 0)) (x.at 0).last_received (rw root at a.1), z)) in
+      let s : is_miscounted (x.at 0) ≡ true = rw root at t in
+      let known : (x.at 0).known ≡ true = grind (arith, nat_tests, s) in
       elim (cases_Bool (x.at 0).here) [
         | inl here ↦
-            let f = and_parts _ (not (x.at 0).up_right) (rw (root, here) at b.1) in
-            let g = and_parts _ (not (x.at 0).up_left) f.0 in
-            more
-            (rw here
-            (no_less n q v.wave v.floor v.gifts x first v.inv here (eqb-true _ 0 (rw root at c.1)) (not-true _ g.1) (not-true _ f.1) known))
+            let left : (x.at 0).up_left ≡ false = grind (arith, nat_tests, s, here) in
+            let right : (x.at 0).up_right ≡ false = grind (arith, nat_tests, s, here) in
+            let less = no_less n q v.wave v.floor v.gifts x first v.inv here (grind (arith, nat_tests, s)) left right known in
+            grind (arith, nat_tests, s, here, less)
         | inr away ↦
-            let alone : ltb (2 * (x.at 0).number + 1) (x.at 0).processes ≡ false = not-true _ (rw (root, away) at b.1) in
             let hold : Holds n v.wave v.floor v.gifts x.at 0 (x.at 0) = v.inv.each 0 first in
-            let one : n ≡ 1
-            = omega (arith, first, ltb-false (2 * (x.at 0).number + 1) (x.at 0).processes alone, hold.number, hold.processes) in
+            let one : n ≡ 1 = grind (arith, nat_tests, s, away, first, hold.number, hold.processes) in
             let sum : total n v.floor ≡ v.floor 0 = subst (λ k. total k v.floor ≡ v.floor 0) (sym one) (omega arith) in
-            more (rw away (omega (arith, v.inv.root.last known, sum, hold.floor)))
+            grind (arith, nat_tests, s, away, v.inv.root.last known, sum, hold.floor)
       ])
 
 pub moves_are : (n q i : ℕ) (x : World) → i < n → Good n q x → moved (x.at i) ≡ acts (ready (x.at i))
@@ -239,20 +221,6 @@ module _ (n q i : ℕ) (x : World) (l : i < n) (v : Good n q x) where
       (same_reports v.wave i v.gifts p (ends p) (λ e. e) (λ y. y)) (quiet_put n i x (ends p) x.controls (λ e. e))
       (λ e s. record { over = refl; left = s.left; right = s.right }) t.0)) (λ d. good_same n q i x l v)
 
-abbrev pub IsKnown : ℕ → ℕ → Gifts → World → Option ControlMessage → Type 0
-IsKnown n w g x None = Unit {0}
-IsKnown n w g x (Some a) = Known n w g x a.from a.wave a.token × Path w x.at a.from a.to a.wave a.token
-
-pub known_at : (n w : ℕ) (g : Gifts) (x : World) (ls : List ControlMessage) (k : ℕ) → AllKnown n w g x ls
-    → IsKnown n w g x (control_at ls k)
-known_at n w g x [] k t = tt
-known_at n w g x (a ∷ ls) zero t = t.0
-known_at n w g x (a ∷ ls) (suc k) t = known_at n w g x ls k t.1
-
-pub known_one : (n q : ℕ) (x : World) (v : Good n q x) (k : ℕ) (a : ControlMessage) → control_at x.controls k ≡ Some a
-    → Known n v.wave v.gifts x a.from a.wave a.token × Path v.wave x.at a.from a.to a.wave a.token
-known_one n q x v k a there = rw there at (known_at n v.wave v.gifts x x.controls k v.inv.controls)
-
 -- What holds of a world holds after an event, if it holds after each act, and after a control message is taken.
 happens_cases : (n : ℕ) (x : World) (e : Event) (Q : World → Type 0) → Q x → ((i : ℕ) (a : Act) → i < n → Q (does n x i a))
     → ((k : ℕ) (a : ControlMessage) → control_at x.controls k ≡ Some a → a.to < n
@@ -266,26 +234,53 @@ happens_cases n x (Comes k) Q same act take = comes (control_at x.controls k) re
       cond_both (is_for a (x.at a.to)) (takes a.from a.wave a.token (x.at a.to)) (x.at a.to) (λ z. Q (record x { at = put a.to z x.at }))
       (λ d. take k a there (ltb-true a.to n m)) (λ d. subst (λ f. Q (record x { at = f })) (sym (put_id a.to x.at)) same)) (λ m. same)
 
-good_does : (n q : ℕ) (x : World) (i : ℕ) (a : Act) → i < n → Good n q x → (c : ℕ) × Good n c (does n x i a)
-good_does n q x i Opens l v = (q, good_opens n q i x l v)
-good_does n q x i Closes l v = (q, good_closes n q i x l v)
-good_does n q x i (Sends j) l v =
-    cond_both (can_send (x.at i) && ltb j n) _ x (λ z. (c : ℕ) × Good n c z)
-    (λ t. let a = and_parts (can_send (x.at i)) (ltb j n) t in (v.wave, good_sends n q i x l v j (ltb-true j n a.1) a.0)) (λ t. (q, v))
-good_does n q x i Receives l v =
-    cond_both (can_receive (x.at i) && ltb 0 (x.under_way i)) _ x (λ z. (c : ℕ) × Good n c z)
-    (λ t. let a = and_parts (can_receive (x.at i)) (ltb 0 (x.under_way i)) t in
-    (v.wave, good_receives n q i x l v a.0 (ltb-true 0 (x.under_way i) a.1))) (λ t. (q, v))
-good_does n q x i Moves l v = (q, good_moves n q i x l v)
+moved_idle : (p : EpochState) → (moved p).state.pending ≡ p.pending
+moved_idle p =
+    cond_both (is_miscounted p) _ _ (λ (m : Move). m.state.pending ≡ p.pending) (λ t. refl)
+    (λ t. ap (λ (z : EpochState). z.pending) (acts_keeps (ready p)) ∙ ready_cases p (λ z. z.pending ≡ p.pending) (λ a b c. refl) refl)
 
-pub good_happens : (n q : ℕ) (x : World) (e : Event) → Good n q x → (c : ℕ) × Good n c (happens n x e)
-good_happens n q x e v =
-    happens_cases n x e (λ z. (c : ℕ) × Good n c z) (q, v) (λ i a l. good_does n q x i a l v) (λ k a there l.
-    let t = known_one n q x v k a there in (q, good_takes n q a.to x l v a.from a.wave a.token t.0 t.1))
+-- The invariant holds of y, which is x after an event. A quiet world stays quiet, and so does the wave of its last message.
+record Goes (n q : ℕ) (x y : World) : Type 0 where
+  pub last : ℕ
+  pub good : Good n last y
+  pub calm : IsQuiet n x → IsQuiet n y × Good n q y
+
+module _ (n q : ℕ) (x : World) (v : Good n q x) where
+  goes_same : Goes n q x x
+  goes_same = record { last = q; good = v; calm = λ z. (z, v) }
+
+  goes_put : (i : ℕ) (new : EpochState) (ls : List ControlMessage) → ((x.at i).pending ≡ 0 → new.pending ≡ 0)
+      → Good n q (changed i new x.under_way ls x) → Goes n q x (changed i new x.under_way ls x)
+  goes_put i new ls idle g = record { last = q; good = g; calm = λ z. (quiet_put n i x new ls idle z, g) }
+
+  good_does : (i : ℕ) (a : Act) → i < n → Goes n q x (does n x i a)
+  good_does i Opens l = goes_put i (opened (x.at i)) x.controls (λ e. rw e) (good_opens n q i x l v)
+  good_does i Closes l = goes_put i (closed (x.at i)) x.controls (λ e. omega (arith, e)) (good_closes n q i x l v)
+  good_does i (Sends j) l =
+      cond_both (can_send (x.at i) && ltb j n) _ x (Goes n q x) (λ t.
+      let a = and_parts (can_send (x.at i)) (ltb j n) t in
+      let g = good_sends n q i x l v j (ltb-true j n a.1) a.0 in
+      record { last = v.wave; good = g; calm = λ z. absurd (cc (rw (z.idle i l) at a.0)) }) (λ t. goes_same)
+  good_does i Receives l =
+      cond_both (can_receive (x.at i) && ltb 0 (x.under_way i)) _ x (Goes n q x) (λ t.
+      let a = and_parts (can_receive (x.at i)) (ltb 0 (x.under_way i)) t in
+      let some : 0 < x.under_way i = ltb-true 0 (x.under_way i) a.1 in
+      let g = good_receives n q i x l v a.0 some in
+      record { last = v.wave; good = g; calm = λ z. absurd (omega (arith, some, z.none_under_way i l)) }) (λ t. goes_same)
+  good_does i Moves l =
+      goes_put i (moved (x.at i)).state (posted (moved (x.at i)).next x.controls) (λ e. moved_idle (x.at i) ∙ e) (good_moves n q i x l v)
+
+  good_happens : (e : Event) → Goes n q x (happens n x e)
+  good_happens e =
+      happens_cases n x e (Goes n q x) goes_same good_does (λ k a there l.
+      let t = v.inv.controls k a there in
+      goes_put a.to (takes a.from a.wave a.token (x.at a.to)) x.controls (λ e. takes_idle a.from a.wave a.token (x.at a.to) ∙ e)
+      (good_takes n q a.to x l v a.from a.wave a.token t.0 t.1))
 
 pub good_after : (n : ℕ) (events : List Event) → (c : ℕ) × Good n c (after n events)
 good_after n [] = (0, begins n)
-good_after n (e ∷ past) = let v = good_after n past in good_happens n v.0 (after n past) e v.1
+good_after n (e ∷ past) =
+    let v = good_after n past in let g = good_happens n v.0 (after n past) v.1 e in (g.last, g.good)
 
 -- ==== What every step preserves holds at all times: P says it of the processes and of the control messages sent.
 pub record IsKept (n : ℕ) (P : (ℕ → EpochState) → List ControlMessage → Type 0) : Type 0 where
@@ -323,7 +318,7 @@ module _ (n : ℕ) (P : (ℕ → EpochState) → List ControlMessage → Type 0)
   pub kept : (q : ℕ) (x : World) (e : Event) → Good n q x → P x.at x.controls → P (happens n x e).at (happens n x e).controls
   kept q x e v h =
       happens_cases n x e (λ z. P z.at z.controls) h (λ i a l. kept_does q x i a l v h (does_counts n x i a))
-      (λ j a there l. k.take q j x v a l there (known_one n q x v j a there).0 h)
+      (λ j a there l. k.take q j x v a l there (v.inv.controls j a there).0 h)
 
   pub kept_after : (events : List Event) → P (λ i. blank i n) [] → P (after n events).at (after n events).controls
   kept_after [] h = h
@@ -336,63 +331,11 @@ module _ (n : ℕ) (P : (ℕ → EpochState) → List ControlMessage → Type 0)
       let v = good_after n (later ++ events) in kept v.0 (after n (later ++ events)) e v.1 (kept_later later events h)
 
 -- ==== A quiet world.
-same_put : (i : ℕ) (x : World) (p : EpochState) → p ≡ x.at i → record x { at = put i p x.at } ≡ x
-same_put i x p e =
-    ap (λ (z : EpochState). record x { at = put i z x.at }) e ∙ ap (λ (f : ℕ → EpochState). record x { at = f }) (put_id i x.at)
-
--- Nothing is opened, closed, sent or received there.
-pub does_nothing : (n i : ℕ) (x : World) (a : Act) → i < n → IsQuiet n x → (a ≡ Moves) ⊎ (does n x i a ≡ x)
-does_nothing n i x Opens l z =
-    let p : EpochState = x.at i in
-    inr (same_put i x (opened p) (cond_both (not (eqb p.pending 0) && ltb p.pending LIMIT) _ p (λ (r : EpochState). r ≡ p) (λ t.
-    absurd (eqb-false p.pending 0 (not-true _ (and_parts (not (eqb p.pending 0)) (ltb p.pending LIMIT) t).0) (z.idle i l)))
-    (λ t. refl)))
-does_nothing n i x Closes l z =
-    let same : (x.at i).pending - 1 ≡ (x.at i).pending = omega (arith, z.idle i l) in
-    inr (same_put i x (closed (x.at i)) (ap (λ k. record (x.at i) { pending = k }) same))
-does_nothing n i x (Sends j) l z =
-    inr (cond_both (can_send (x.at i) && ltb j n) _ x (λ y. y ≡ x) (λ t.
-    let a = and_parts (can_send (x.at i)) (ltb j n) t in
-    absurd (eqb-false (x.at i).pending 0 (not-true _ (and_parts (not (eqb (x.at i).pending 0)) (ltb (x.at i).sent LIMIT) a.0).0)
-    (z.idle i l))) (λ t. refl))
-does_nothing n i x Receives l z =
-    inr (cond_both (can_receive (x.at i) && ltb 0 (x.under_way i)) _ x (λ y. y ≡ x) (λ t.
-    let a = and_parts (can_receive (x.at i)) (ltb 0 (x.under_way i)) t in
-    absurd (omega (arith, ltb-true 0 (x.under_way i) a.1, z.none_under_way i l))) (λ t. refl))
-does_nothing n i x Moves l z = inl refl
-
-moved_idle : (p : EpochState) → (moved p).state.pending ≡ p.pending
-moved_idle p =
-    cond_both (is_miscounted p) _ _ (λ (m : Move). m.state.pending ≡ p.pending) (λ t. refl)
-    (λ t. ap (λ (z : EpochState). z.pending) (acts_keeps (ready p)) ∙ ready_cases p (λ z. z.pending ≡ p.pending) (λ a b c. refl) refl)
-
--- So it stays quiet, and so does the wave q of the last message.
-calm_does : (n q : ℕ) (x : World) (i : ℕ) (a : Act) → i < n → IsQuiet n x → Good n q x
-    → IsQuiet n (does n x i a) × Good n q (does n x i a)
-calm_does n q x i a l z v =
-    elim (does_nothing n i x a l z) [
-      | inl e ↦
-          subst (λ (b : Act). IsQuiet n (does n x i b) × Good n q (does n x i b)) (sym e) (
-            quiet_put n i x (moved (x.at i)).state (posted (moved (x.at i)).next x.controls) (λ f. moved_idle (x.at i) ∙ f) z,
-            good_moves n q i x l v,
-          )
-      | inr e ↦ subst (λ (y : World). IsQuiet n y × Good n q y) (sym e) (z, v)
-    ]
-
-pub calm_happens : (n q : ℕ) (x : World) (e : Event) → IsQuiet n x → Good n q x → IsQuiet n (happens n x e) × Good n q (happens n x e)
-calm_happens n q x e z v =
-    happens_cases n x e (λ y. IsQuiet n y × Good n q y) (z, v) (λ i a l. calm_does n q x i a l z v) (λ k a there l.
-    let t = known_one n q x v k a there in (
-      quiet_put n a.to x (takes a.from a.wave a.token (x.at a.to)) x.controls
-          (λ f. takes_idle a.from a.wave a.token (x.at a.to) ∙ f) z,
-      good_takes n q a.to x l v a.from a.wave a.token t.0 t.1,
-    ))
-
 pub calm_after : (n q : ℕ) (later events : List Event) → IsQuiet n (after n events) → Good n q (after n events)
     → IsQuiet n (after n (later ++ events)) × Good n q (after n (later ++ events))
 calm_after n q [] events z v = (z, v)
 calm_after n q (e ∷ later) events z v =
-    let c = calm_after n q later events z v in calm_happens n q (after n (later ++ events)) e c.0 c.1
+    let c = calm_after n q later events z v in (good_happens n q (after n (later ++ events)) c.1 e).calm c.0
 
 pub quiet_stays : QuietLaw
 quiet_stays n later events z = let v = good_after n events in (calm_after n v.0 later events z v.1).0

@@ -72,24 +72,21 @@ module _ (n q w i : ℕ) (low : ℕ → ℕ) (g : Gifts) (x : World) (l : i < n)
       (record { pending = refl; sent = refl; received = refl; over = refl; known = refl; last = refl }) (post ∷ x.controls)
       (give_own low (x.at i).known (x.at i).last_received hold.floor)
       (λ e. absurd (below e)) (λ y. (rw (eq-eqb i i refl) hold.floor, rw (eq-eqb i i refl)))
-      (λ t. (
+      (all_more (KnownOf n w (with_gift i (x.at i) g) (changed i new x.under_way (post ∷ x.controls) x)) post x.controls (
         (
-          (
-            hold.near,
-            λ e.
-                rw hold.number
-                (record {
-                  given = rw (eq-eqb i i refl) (record { wave = (hold.here there).wave; gone = refl });
-                  sent = rw (eq-eqb i i refl);
-                  received = rw (eq-eqb i i refl);
-                }),
-          ),
+          hold.near,
           λ e.
-              subst (λ j. (put i new x.at (parent j)).wave ≡ w) (sym hold.number)
-              (wave_kept n w i g (with_gift i (x.at i) g) x.at new (give_keeps (x.at i).known (x.at i).last_received) (parent i)
-              (hold.above (omega (arith, below)) (hold.here there).wave)),
+              rw hold.number
+              (record {
+                given = rw (eq-eqb i i refl) (record { wave = (hold.here there).wave; gone = refl });
+                sent = rw (eq-eqb i i refl);
+                received = rw (eq-eqb i i refl);
+              }),
         ),
-        t,
+        λ e.
+            subst (λ j. (put i new x.at (parent j)).wave ≡ w) (sym hold.number)
+            (wave_kept n w i g (with_gift i (x.at i) g) x.at new (give_keeps (x.at i).known (x.at i).last_received) (parent i)
+            (hold.above (omega (arith, below)) (hold.here there).wave)),
       )) more
       (record {
         down = λ f. absurd (cc f);
@@ -103,20 +100,14 @@ module _ (n q w i : ℕ) (low : ℕ → ℕ) (g : Gifts) (x : World) (l : i < n)
 
 -- If the children of process 0 have passed the wave up, all processes below have.
 given_below : (n q w : ℕ) (low : ℕ → ℕ) (g : Gifts) (x : World) → Inv n q w low g x → ChildrenGave n w x.at 0
-    → (b j : ℕ) → j < b → 0 < j → j < n → HasGiven w (x.at j)
-given_below n q w low g x v top zero j k p m = absurd (omega arith)
-given_below n q w low g x v top (suc b) j k p m =
-    let above : ℕ = parent j in
-    let kids : ChildrenGave n w x.at above = elim (cases_eq above 0) [
+    → (j : ℕ) → 0 < j → j < n → HasGiven w (x.at j)
+given_below n q w low g x v top j p m =
+    down_tree n (λ j. 0 < j → HasGiven w (x.at j)) (λ p. absurd (omega arith)) (λ i l up.
+    let kids : ChildrenGave n w x.at i = elim (cases_eq i 0) [
       | inl e ↦ subst (ChildrenGave n w x.at) (sym e) top
-      | inr off ↦
-          let up : HasGiven w (x.at above) = given_below n q w low g x v top b above (omega arith) (omega (arith, off)) (omega arith) in
-          let z : Visited n w g x.at above (x.at above) = (v.each above (omega arith)).given up in z.gave
+      | inr off ↦ ((v.each i l).given (up (omega (arith, off)))).gave
     ] in
-    elim (cases_eq j (2 * above + 1)) [
-      | inl e ↦ rw e (kids.0 (omega (arith, e)))
-      | inr other ↦ let e : j ≡ 2 * above + 2 = omega (arith, other) in rw e (kids.1 (omega (arith, e)))
-    ]
+    (λ a p. kids.0 a, λ a p. kids.1 a)) (suc j) j (omega arith) m p
 
 -- The wave ends at process 0: it is idle, and its children have reported.
 module _ (n q w : ℕ) (low : ℕ → ℕ) (g : Gifts) (x : World) (l : 0 < n) (v : Inv n q w low g x) (there : (x.at 0).here ≡ true)
@@ -124,7 +115,7 @@ module _ (n q w : ℕ) (low : ℕ → ℕ) (g : Gifts) (x : World) (l : 0 < n) (
   pub all_given : (j : ℕ) → 0 < j → j < n → HasGiven w (x.at j)
   all_given j p m =
       let z : Here n w g x.at 0 (x.at 0) = (v.each 0 l).here there in
-      given_below n q w low g x v (z.gave.0 no_left, z.gave.1 no_right) (suc j) j (omega arith) p m
+      given_below n q w low g x v (z.gave.0 no_left, z.gave.1 no_right) j p m
 
   -- process 0 after the judgement, if the end was not detected
   abbrev judged : EpochState
@@ -261,14 +252,12 @@ module _ (n q w : ℕ) (low : ℕ → ℕ) (g : Gifts) (x : World) (l : 0 < n) (
       let z : Visited n w g x.at 0 (x.at 0) = (v.each 0 l).given top in
       elim (cases_eq j 0) [
         | inl e ↦ rw e top
-        | inr off ↦ given_below n q w low g x v z.gave (suc j) j (omega arith) (omega (arith, off)) m
+        | inr off ↦ given_below n q w low g x v z.gave j (omega (arith, off)) m
       ]
 
-  later_known : (ls : List ControlMessage) (y : World) → (Finished n w x → Finished n (w + 1) y)
-      → AllKnown n w g x ls → AllKnown n (w + 1) g y ls
-  later_known [] y quiet t = t
-  later_known (a ∷ ls) y quiet t =
-      ((later a.from a.wave a.token t.0.0, way a.from a.to a.wave a.token t.0.0 t.0.1), later_known ls y quiet t.1)
+  later_known : (y : World) → (Finished n w x → Finished n (w + 1) y) → All (KnownOf n (w + 1) g y) x.controls
+  later_known y quiet k a there =
+      let t = v.controls k a there in (later a.from a.wave a.token t.0, way a.from a.to a.wave a.token t.0 t.1)
     where
       later : (from wave : ℕ) (c : Token) → Known n w g x from wave c → Known n (w + 1) g y from wave c
       later from wave Down t = omega (arith, t)
@@ -331,7 +320,7 @@ module _ (n q w : ℕ) (low : ℕ → ℕ) (g : Gifts) (x : World) (l : 0 < n) (
           quiet = λ f e. quiet (v.root.quiet f e);
         };
         over = λ j m f. ended (v.over j m (sym (put_same (λ z. z.over) 0 j new x.at refl) ∙ f));
-        controls = later_known x.controls y ended v.controls;
+        controls = later_known y ended;
         pace =
             record {
               past = omega (arith, v.pace.past);

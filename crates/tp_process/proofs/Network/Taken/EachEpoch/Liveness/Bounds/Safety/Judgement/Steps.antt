@@ -7,12 +7,8 @@ pub use Invariant.*
 pub ready_cases : (p : EpochState) (P : EpochState → Type 0)
     → (p.number ≡ 0 → p.over ≡ false → p.here ≡ false → P (opens (p.wave + 1) p)) → P p → P (ready p)
 ready_cases p P start none =
-    cond_both (can_start p) (opens (p.wave + 1) p) p P (λ t.
-    let a = and_parts _ (do_fit p.wave 1) t in
-    let b = and_parts _ (eqb p.pending 0) a.0 in
-    let c = and_parts _ (not p.here) b.0 in
-    let d = and_parts (eqb p.number 0) (not p.over) c.0 in
-    start (eqb-true p.number 0 d.0) (not-true p.over d.1) (not-true p.here c.1)) (λ t. none)
+    cond_both (can_start p) (opens (p.wave + 1) p) p P
+    (λ t. start (grind (arith, nat_tests)) (grind (arith, nat_tests)) (grind (arith, nat_tests))) (λ t. none)
 
 -- The process can pass the wave up.
 pub record CanGive (p : EpochState) : Type 0 where
@@ -54,20 +50,10 @@ acts_cases p P tell_left tell_right told down_left down_right judge_end judge_on
     cond_both p.down_left _ _ P (down_left o h) (λ dl.
     cond_both p.down_right _ _ P (down_right o h) (λ dr.
     cond_both (can_give p) _ _ P (λ t.
-    let a = and_parts _ (do_fit p.taken_received p.received) t in
-    let b = and_parts _ (do_fit p.taken_sent p.sent) a.0 in
-    let c = and_parts _ (eqb p.pending 0) b.0 in
-    let d = and_parts (not p.up_left) (not p.up_right) c.0 in
-    let can : CanGive p =
-    record {
-      over = o;
-      here = h;
-      down_left = dl;
-      down_right = dr;
-      left = not-true p.up_left d.0;
-      right = not-true p.up_right d.1;
-      idle = eqb-true p.pending 0 c.1;
-    } in
+    let l : p.up_left ≡ false = grind (arith, nat_tests) in
+    let r : p.up_right ≡ false = grind (arith, nat_tests) in
+    let i : p.pending ≡ 0 = grind (arith, nat_tests) in
+    let can : CanGive p = record { over = o; here = h; down_left = dl; down_right = dr; left = l; right = r; idle = i } in
     cond_both (eqb p.number 0) _ _ P (λ z. cond_both (is_end p) _ _ P (judge_end can z) (judge_on can z)) (give can)) (λ t. none o))))
     (λ h. none o))
 
@@ -97,20 +83,15 @@ pub takes_cases : (from u : ℕ) (c : Token) (p : EpochState) (K : Token → Typ
     → ((s r : ℕ) → K (Up s r) → p.here ≡ true → u ≡ p.wave → p.up_right ≡ true → from ≡ right_of p → P (takes_right s r p))
     → (K Over → p.over ≡ false → P (ends p)) → (is_due from u c p ≡ false → P p) → P (takes from u c p)
 takes_cases from u Down p K P k down left right over none =
-    cond_both (is_down_due u p) (opens u p) p P
-    (λ d. let a = and_parts (not p.here) (eqb u (p.wave + 1)) d in down k (not-true p.here a.0) (eqb-true u (p.wave + 1) a.1)) none
+    cond_both (is_down_due u p) (opens u p) p P (λ d. down k (grind (arith, nat_tests)) (grind (arith, nat_tests))) none
 takes_cases from u (Up s r) p K P k down left right over none =
     cond_both (is_up_due u s r p) (cond (is_left from p) (takes_left s r p) (cond (is_right from p) (takes_right s r p) p)) p P (λ d.
-    let a = and_parts _ (do_fit p.taken_received r) d in
-    let b = and_parts _ (do_fit p.taken_sent s) a.0 in
-    let c = and_parts p.here (eqb u p.wave) b.0 in
-    cond_both (is_left from p) (takes_left s r p) (cond (is_right from p) (takes_right s r p) p) P (λ y.
-    let f = and_parts p.up_left (eqb from (left_of p)) y in
-    left s r k c.0 (eqb-true u p.wave c.1) f.0 (eqb-true from (left_of p) f.1)) (λ y.
-    cond_both (is_right from p) (takes_right s r p) p P (λ z.
-    let f = and_parts p.up_right (eqb from (right_of p)) z in
-    right s r k c.0 (eqb-true u p.wave c.1) f.0 (eqb-true from (right_of p) f.1)) (λ z. none (and_right _ _ (or_from _ _ y z)))))
-    (λ d. none (and_left _ _ d))
+    let here : p.here ≡ true = grind (arith, nat_tests) in
+    let same : u ≡ p.wave = grind (arith, nat_tests) in
+    cond_both (is_left from p) (takes_left s r p) (cond (is_right from p) (takes_right s r p) p) P
+    (λ y. left s r k here same (grind (arith, nat_tests)) (grind (arith, nat_tests))) (λ y.
+    cond_both (is_right from p) (takes_right s r p) p P (λ z. right s r k here same (grind (arith, nat_tests)) (grind (arith, nat_tests)))
+    (λ z. none (and_right _ _ (or_from _ _ y z))))) (λ d. none (and_left _ _ d))
 takes_cases from u Over p K P k down left right over none =
     cond_both p.over p (ends p) P (λ d. none (not_from_true p.over d)) (λ d. over k d)
 
@@ -137,28 +118,29 @@ pub record IsCount (i : ℕ) (x z : World) : Type 0 where
   pub at : z.at ≡ put i new x.at
   pub controls : z.controls ≡ x.controls
 
+counts_put : (i : ℕ) (x : World) (new : EpochState) (under : ℕ → ℕ) → Recounts (x.at i) new
+    → IsCount i x (record x { at = put i new x.at; under_way = under })
+counts_put i x new under same = record { new = new; same = same; at = refl; controls = refl }
+
+counts_none : (i : ℕ) (x : World) → IsCount i x x
+counts_none i x = record { new = x.at i; same = refl; at = sym (put_id i x.at); controls = refl }
+
 pub does_counts : (n : ℕ) (x : World) (i : ℕ) (a : Act) → (a ≡ Moves) ⊎ IsCount i x (does n x i a)
 does_counts n x i Opens =
     let p : EpochState = x.at i in
-    inr (record {
-      new = opened p;
-      same = cond_both (not (eqb p.pending 0) && ltb p.pending LIMIT) _ p (Recounts p) (λ t. refl) (λ t. refl);
-      at = refl;
-      controls = refl;
-    })
-does_counts n x i Closes = inr (record { new = closed (x.at i); same = refl; at = refl; controls = refl })
+    inr (counts_put i x (opened p) x.under_way
+    (cond_both (not (eqb p.pending 0) && ltb p.pending LIMIT) _ p (Recounts p) (λ t. refl) (λ t. refl)))
+does_counts n x i Closes = inr (counts_put i x (closed (x.at i)) x.under_way refl)
 does_counts n x i (Sends j) =
     let p : EpochState = x.at i in
-    inr (cond_both (can_send p && ltb j n) (record x { at = put i (sent p) x.at; under_way = put j (x.under_way j + 1) x.under_way }) x
-    (IsCount i x) (λ t.
-    record { new = sent p; same = cond_both (can_send p) _ p (Recounts p) (λ t. refl) (λ t. refl); at = refl; controls = refl })
-    (λ t. record { new = p; same = refl; at = sym (put_id i x.at); controls = refl }))
+    let under : ℕ → ℕ = put j (x.under_way j + 1) x.under_way in
+    inr (cond_both (can_send p && ltb j n) _ x (IsCount i x)
+    (λ t. counts_put i x (sent p) under (cond_both (can_send p) _ p (Recounts p) (λ t. refl) (λ t. refl))) (λ t. counts_none i x))
 does_counts n x i Receives =
     let p : EpochState = x.at i in
-    inr (cond_both (can_receive p && ltb 0 (x.under_way i))
-    (record x { at = put i (received p) x.at; under_way = put i (x.under_way i - 1) x.under_way }) x (IsCount i x) (λ t.
-    record { new = received p; same = cond_both (can_receive p) _ p (Recounts p) (λ t. refl) (λ t. refl); at = refl; controls = refl })
-    (λ t. record { new = p; same = refl; at = sym (put_id i x.at); controls = refl }))
+    let under : ℕ → ℕ = put i (x.under_way i - 1) x.under_way in
+    inr (cond_both (can_receive p && ltb 0 (x.under_way i)) _ x (IsCount i x)
+    (λ t. counts_put i x (received p) under (cond_both (can_receive p) _ p (Recounts p) (λ t. refl) (λ t. refl))) (λ t. counts_none i x))
 does_counts n x i Moves = inl refl
 
 -- ==== One process changes, and the newest wave stays.
@@ -173,7 +155,7 @@ module _ (n q w i : ℕ) (low : ℕ → ℕ) (g h : Gifts) (x : World) (l : i < 
       → Holds n w low h (put i new x.at) i new → (i ≡ 0 → IsRootStep (x.at i) new)
       → (HasGiven w new → (x.at 0).here ≡ true → low i ≤ (h.own i).sent) → (IsQuiet n x → IsQuiet n (changed i new under ls x))
       → (new.over ≡ true → ((x.at i).over ≡ true) ⊎ Finished n w (changed i new under ls x))
-      → (AllKnown n w h (changed i new under ls x) x.controls → AllKnown n w h (changed i new under ls x) ls)
+      → (All (KnownOf n w h (changed i new under ls x)) x.controls → All (KnownOf n w h (changed i new under ls x)) ls)
       → Pace n c w h (changed i new under ls x) → ((a : ControlMessage) → Has x.controls a → Has ls a)
       → Posts n w ls i new → IsSmall new → Inv n c w low h (changed i new under ls x)
   step c balance own root floor quiet over known_of pace more posts small =
@@ -228,7 +210,7 @@ module _ (n q w i : ℕ) (low : ℕ → ℕ) (g h : Gifts) (x : World) (l : i < 
   pub control_step : (ls : List ControlMessage) → Holds n w low h (put i new x.at) i new
       → (i ≡ 0 → IsRootStep (x.at i) new)
       → (HasGiven w new → (low i ≤ (h.own i).sent) × (h.own i ≡ mine new))
-      → (AllKnown n w h (changed i new x.under_way ls x) x.controls → AllKnown n w h (changed i new x.under_way ls x) ls)
+      → (All (KnownOf n w h (changed i new x.under_way ls x)) x.controls → All (KnownOf n w h (changed i new x.under_way ls x)) ls)
       → ((a : ControlMessage) → Has x.controls a → Has ls a) → Posts n w ls i new → Inv n q w low h (changed i new x.under_way ls x)
   control_step ls own root given known_of more posts =
       let quiet : IsQuiet n x → IsQuiet n (changed i new x.under_way ls x) = quiet_put n i x new ls (λ e. s.pending ∙ e) in
@@ -238,33 +220,6 @@ module _ (n q w i : ℕ) (low : ℕ → ℕ) (g h : Gifts) (x : World) (l : i < 
       (pace_kept n q w i g h x new ls l v.pace s.received s.known s.last (λ e. (root e).1) k.own (λ m y. (given y).1))
       more posts (record { sent = rw s.sent (v.small i l).sent; received = rw s.received (v.small i l).received })
 
--- A child that is not there adds nothing to the sums.
-nothing_taken : (b : Bool) (u : Counts) → (b ≡ false → u ≡ none) → (taken b u.sent ≡ 0) × (taken b u.received ≡ 0)
-nothing_taken true u z = (refl, refl)
-nothing_taken false u z = (ap (λ u. u.sent) (z refl), ap (λ u. u.received) (z refl))
-
--- what holds of a process when wave w comes
-pub opens_here : (n w i : ℕ) (low : ℕ → ℕ) (g : Gifts) (at : ℕ → EpochState) (p : EpochState) → p.number ≡ i → p.processes ≡ n → 0 < w
-    → ((c : ℕ) → n ≤ c → g.all c ≡ none) → Here n w g at i (opens w p)
-opens_here n w i low g at p number processes begun beyond =
-    let l : ltb (2 * p.number + 1) p.processes ≡ false → n ≤ 2 * i + 1
-    = λ f. omega (arith, ltb-false (2 * p.number + 1) p.processes f, number, processes) in
-    let r : ltb (2 * p.number + 2) p.processes ≡ false → n ≤ 2 * i + 2
-    = λ f. omega (arith, ltb-false (2 * p.number + 2) p.processes f, number, processes) in
-    let a = nothing_taken (ltb (2 * p.number + 1) p.processes) (g.all (2 * i + 1)) (λ f. beyond (2 * i + 1) (l f)) in
-    let b = nothing_taken (ltb (2 * p.number + 2) p.processes) (g.all (2 * i + 2)) (λ f. beyond (2 * i + 2) (r f)) in
-    record {
-      begun = begun;
-      wave = refl;
-      there = (
-        λ f. omega (arith, ltb-true (2 * p.number + 1) p.processes f, number, processes),
-        λ f. omega (arith, ltb-true (2 * p.number + 2) p.processes f, number, processes),
-      );
-      gave = (λ f m. absurd (omega (arith, l f)), λ f m. absurd (omega (arith, r f)));
-      sent = omega (arith, a.0, b.0);
-      received = omega (arith, a.1, b.1);
-    }
-
 -- A child whose flag a new wave, or the end, does not set is none of the n processes: anything holds of it.
 pub no_child : (n i : ℕ) (p : EpochState) (P : ℕ → Type 0) → p.number ≡ i → p.processes ≡ n
     → EachChild n i (has p (left_of p)) (has p (right_of p)) P
@@ -272,6 +227,24 @@ no_child n i p P number processes = (
   λ f m. absurd (omega (arith, ltb-false (2 * p.number + 1) p.processes f, number, processes)),
   λ f m. absurd (omega (arith, ltb-false (2 * p.number + 2) p.processes f, number, processes)),
 )
+
+-- what holds of a process when wave w comes
+pub opens_here : (n w i : ℕ) (low : ℕ → ℕ) (g : Gifts) (at : ℕ → EpochState) (p : EpochState) → p.number ≡ i → p.processes ≡ n → 0 < w
+    → ((c : ℕ) → n ≤ c → g.all c ≡ none) → Here n w g at i (opens w p)
+opens_here n w i low g at p number processes begun beyond =
+    let none_sent : (c : ℕ) → n ≤ c → (g.all c).sent ≡ 0 = λ c m. ap (λ u. u.sent) (beyond c m) in
+    let none_received : (c : ℕ) → n ≤ c → (g.all c).received ≡ 0 = λ c m. ap (λ u. u.received) (beyond c m) in
+    record {
+      begun = begun;
+      wave = refl;
+      there = (
+        λ f. omega (arith, ltb-true (2 * p.number + 1) p.processes f, number, processes),
+        λ f. omega (arith, ltb-true (2 * p.number + 2) p.processes f, number, processes),
+      );
+      gave = no_child n i p (λ c. HasGiven w (at c)) number processes;
+      sent = grind (arith, nat_tests, number, processes, none_sent (2 * i + 1), none_sent (2 * i + 2));
+      received = grind (arith, nat_tests, number, processes, none_received (2 * i + 1), none_received (2 * i + 2));
+    }
 
 -- p with the sums of a child; left and right say which children have not reported
 abbrev summed : ℕ → ℕ → Bool → Bool → EpochState → EpochState
@@ -427,11 +400,9 @@ module _ (n q i : ℕ) (x : World) (l : i < n) (v : Good n q x) where
       let active : (x.at i).pending ≡ 0 → ⊥ = eqb-false (x.at i).pending 0 (not-true _ a.0) in
       let new : EpochState = record (x.at i) { sent = (x.at i).sent + 1 } in
       let under : ℕ → ℕ = put j (x.under_way j + 1) x.under_way in
-      let more : total n (λ k. (put i new x.at k).sent) ≡ total n (λ k. (x.at k).sent) + 1
-      = total_more-put n i 1 new x.at (λ z. z.sent) l refl in
-      let same : total n (λ k. (put i new x.at k).received) ≡ total n (λ k. (x.at k).received)
-      = total_same-put n i new x.at (λ z. z.received) refl in
-      let one : total n under ≡ total n x.under_way + 1 = total_more-put n j 1 (x.under_way j + 1) x.under_way (λ z. z) m refl in
+      let more = total_put n i new x.at (λ z. z.sent) l in
+      let same = total_put n i new x.at (λ z. z.received) l in
+      let one = total_put n j (x.under_way j + 1) x.under_way (λ z. z) m in
       rw t
       (count v.wave (x.at i).pending ((x.at i).sent + 1) (x.at i).received under (omega arith) (omega arith) (λ e f. f)
       (omega (arith, more, same, one, v.inv.balance)) (λ z. absurd (active (z.idle i l)))
@@ -443,14 +414,12 @@ module _ (n q i : ℕ) (x : World) (l : i < n) (v : Good n q x) where
   good_receives t some =
       let new : EpochState = record (x.at i) { pending = (x.at i).pending + 1; received = (x.at i).received + 1 } in
       let under : ℕ → ℕ = put i (x.under_way i - 1) x.under_way in
-      let same : total n (λ k. (put i new x.at k).sent) ≡ total n (λ k. (x.at k).sent) = total_same-put n i new x.at (λ z. z.sent) refl in
-      let more : total n (λ k. (put i new x.at k).received) ≡ total n (λ k. (x.at k).received) + 1
-      = total_more-put n i 1 new x.at (λ z. z.received) l refl in
-      let one : total n x.under_way ≡ total n under + 1
-      = total_one-changes n i 1 under x.under_way l (rw (eq-eqb i i refl) (omega arith)) (λ j off. rw (ne_eqb j i off)) in
+      let same = total_put n i new x.at (λ z. z.sent) l in
+      let more = total_put n i new x.at (λ z. z.received) l in
+      let one = total_put n i (x.under_way i - 1) x.under_way (λ z. z) l in
       rw t
       (count v.wave ((x.at i).pending + 1) (x.at i).sent ((x.at i).received + 1) under (omega arith) (omega arith)
       (λ e f. absurd (omega (arith, e)))
-      (omega (arith, more, same, one, v.inv.balance)) (λ z. absurd (omega (arith, some, z.none_under_way i l)))
+      (omega (arith, more, same, one, some, v.inv.balance)) (λ z. absurd (omega (arith, some, z.none_under_way i l)))
       (newest_pace n v.wave v.gifts (changed i new under x.controls x)) (v.inv.small i l).sent
       (omega (arith, ltb-true (x.at i).received LIMIT (and_parts (ltb (x.at i).pending LIMIT) (ltb (x.at i).received LIMIT) t).1)))

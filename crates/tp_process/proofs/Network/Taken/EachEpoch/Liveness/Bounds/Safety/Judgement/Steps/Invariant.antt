@@ -24,11 +24,18 @@ total_same-put n i x at f e =
     total-equal n (λ j. f (put i x at j)) (λ j. f (at j)) (λ j l.
     put_holds (λ j y. f y ≡ f (at j)) i j x at (λ d. rw d e) (λ off. refl))
 
--- and grows by k if that number grows by k.
-pub total_more-put : {A : Type 0} (n i k : ℕ) (x : A) (at : ℕ → A) (f : A → ℕ) → i < n → f x ≡ f (at i) + k
-    → total n (λ j. f (put i x at j)) ≡ total n (λ j. f (at j)) + k
-total_more-put n i k x at f l e =
-    total_one-changes n i k (λ j. f (at j)) (λ j. f (put i x at j)) l (rw (eq-eqb i i refl) e) (λ j off. rw (ne_eqb j i off))
+-- and changes by the change of that number.
+pub total_put : {A : Type 0} (n i : ℕ) (new : A) (at : ℕ → A) (f : A → ℕ) → i < n
+    → total n (λ j. f (put i new at j)) + f (at i) ≡ total n (λ j. f (at j)) + f new
+total_put zero i new at f l = absurd (omega arith)
+total_put (suc n) i new at f l =
+    elim (cases_eq i n) [
+      | inl e ↦
+          let rest : total n (λ j. f (put i new at j)) ≡ total n (λ j. f (at j))
+          = total-equal n _ _ (λ j m. ap f (put_other i j new at (λ d. absurd (omega (arith, d, e, m))))) in
+          rw (e, eq-eqb n n refl) (omega (arith, rw e at rest))
+      | inr off ↦ rw (ne_eqb n i (λ d. off (sym d))) (omega (arith, total_put n i new at f (omega (arith, off))))
+    ]
 
 pub put_keeps : {A : Type 0} (P : A → Type 0) (i j : ℕ) (x : A) (f : ℕ → A) → (P (f i) → P x) → P (f j) → P (put i x f j)
 put_keeps P i j x f step old = put_holds (λ k y. P y) i j x f (λ e. step (subst (λ z. P (f z)) e old)) (λ off. old)
@@ -210,9 +217,19 @@ Path w at from to wave Down = (from ≡ parent to) × (wave ≡ w → (at from).
 Path w at from to wave (Up s r) = wave ≡ w → (at to).wave ≡ w
 Path w at from to wave Over = Unit {0}
 
-abbrev pub AllKnown : ℕ → ℕ → Gifts → World → List ControlMessage → Type 0
-AllKnown n w g x [] = Unit {0}
-AllKnown n w g x (l ∷ ls) = (Known n w g x l.from l.wave l.token × Path w x.at l.from l.to l.wave l.token) × AllKnown n w g x ls
+abbrev pub KnownOf : ℕ → ℕ → Gifts → World → ControlMessage → Type 0
+KnownOf n w g x l = Known n w g x l.from l.wave l.token × Path w x.at l.from l.to l.wave l.token
+
+-- P holds of all these control messages.
+abbrev pub All : (ControlMessage → Type 0) → List ControlMessage → Type 0
+All P ls = (k : ℕ) (l : ControlMessage) → control_at ls k ≡ Some l → P l
+
+pub some_same : {A : Type 0} (a b : A) → Some a ≡ Some b → a ≡ b
+some_same a b e = cc
+
+pub all_more : (P : ControlMessage → Type 0) (a : ControlMessage) (ls : List ControlMessage) → P a → All P ls → All P (a ∷ ls)
+all_more P a ls t all zero l there = subst P (some_same a l there) t
+all_more P a ls t all (suc k) l there = all k l there
 
 -- what holds of process 0
 pub record Root (n w : ℕ) (floor : ℕ → ℕ) (g : Gifts) (x : World) : Type 0 where
@@ -237,7 +254,7 @@ pub record Inv (n q w : ℕ) (floor : ℕ → ℕ) (g : Gifts) (x : World) : Typ
   pub beyond : (c : ℕ) → n ≤ c → g.all c ≡ none
   pub root : Root n w floor g x
   pub over : (i : ℕ) → i < n → (x.at i).over ≡ true → Finished n w x
-  pub controls : AllKnown n w g x x.controls
+  pub controls : All (KnownOf n w g x) x.controls
   pub pace : Pace n q w g x
   pub posts : (i : ℕ) → i < n → Posts n w x.controls i (x.at i)
   pub small : (i : ℕ) → i < n → IsSmall (x.at i)
@@ -262,12 +279,9 @@ deep_enough : (f n i : ℕ) → n ≤ i + f → size_to (suc f) n i ≡ size_to 
 unfolding size_to
 deep_enough zero n i l = rw (le-ltb i n (omega (arith, l)))
 deep_enough (suc f) n i l =
-    elim (cases_lt i n) [
-      | inl m ↦
-          rw (lt-ltb i n m)
-          (ap suc (omega (arith, deep_enough f n (2 * i + 1) (omega (arith, l)), deep_enough f n (2 * i + 2) (omega (arith, l)))))
-      | inr past ↦ rw (le-ltb i n past)
-    ]
+    let left : n ≤ 2 * i + 1 + f → size_to (suc f) n (2 * i + 1) ≡ size_to f n (2 * i + 1) = deep_enough f n (2 * i + 1) in
+    let right : n ≤ 2 * i + 2 + f → size_to (suc f) n (2 * i + 2) ≡ size_to f n (2 * i + 2) = deep_enough f n (2 * i + 2) in
+    grind (arith, nat_tests, left, right)
 
 pub size : ℕ → ℕ → ℕ
 size n i = size_to n n i
@@ -287,21 +301,26 @@ ones (suc n) = omega (arith, ones n)
 pub size_all : (n : ℕ) → size n 0 ≡ n
 size_all n = sym (tree_sum n (λ i. 1) (size n) (size_at n) (size_past n)) ∙ ones n
 
-pub size_below : (n b i : ℕ) → i < b → i < n → size n i ≤ n
-size_below n zero i m l = absurd (omega arith)
-size_below n (suc b) i m l =
-    elim (cases_eq i 0) [
-      | inl e ↦ rw e (omega (arith, size_all n))
+-- What holds of process 0, and with each process of its children, holds of all processes.
+pub down_tree : (n : ℕ) (P : ℕ → Type 0) → P 0
+    → ((i : ℕ) → i < n → P i → (2 * i + 1 < n → P (2 * i + 1)) × (2 * i + 2 < n → P (2 * i + 2))) → (b j : ℕ) → j < b → j < n → P j
+down_tree n P top step zero j k m = absurd (omega arith)
+down_tree n P top step (suc b) j k m =
+    elim (cases_eq j 0) [
+      | inl e ↦ subst P (sym e) top
       | inr off ↦
-          let above : ℕ = parent i in
-          let less : above < i = omega (arith, off) in
-          let up : size n above ≤ n = size_below n b above (omega (arith, less, m)) (omega (arith, less, l)) in
-          let sum : size n above ≡ 1 + (size n (2 * above + 1) + size n (2 * above + 2)) = size_at n above (omega (arith, less, l)) in
-          elim (cases_eq i (2 * above + 1)) [
-            | inl e ↦ rw e (omega (arith, sum, up))
-            | inr other ↦ let e : i ≡ 2 * above + 2 = omega (arith, other, off) in rw e (omega (arith, sum, up))
+          let above : ℕ = parent j in
+          let kids = step above (omega (arith, off)) (down_tree n P top step b above (omega (arith, off)) (omega (arith, off))) in
+          elim (cases_eq j (2 * above + 1)) [
+            | inl e ↦ subst P (sym e) (kids.0 (omega (arith, e)))
+            | inr other ↦ let e : j ≡ 2 * above + 2 = omega (arith, other, off) in subst P (sym e) (kids.1 (omega (arith, e)))
           ]
     ]
+
+pub size_below : (n i : ℕ) → i < n → size n i ≤ n
+size_below n i l =
+    down_tree n (λ i. size n i ≤ n) (omega (arith, size_all n))
+    (λ i m up. (λ a. omega (arith, size_at n i m, up), λ a. omega (arith, size_at n i m, up))) (suc i) i (omega arith) l
 
 -- What a process reported is at most what all processes in its subtree can have counted.
 pub record IsSmallGift (n c : ℕ) (g : Gifts) : Type 0 where
@@ -425,10 +444,9 @@ module _ (n w i : ℕ) (g h : Gifts) (x y : World) (p : EpochState) (k : Keeps w
   path_kept from to wave (Up s r) t = λ e. rw moves (wave_kept n w i g h x.at p k to (t e))
   path_kept from to wave Over t = tt
 
-  pub controls_kept : (ls : List ControlMessage) → AllKnown n w g x ls → AllKnown n w h y ls
-  controls_kept [] t = t
-  controls_kept (l ∷ ls) t =
-      ((known_kept l.from l.wave l.token t.0.0, path_kept l.from l.to l.wave l.token t.0.1), controls_kept ls t.1)
+  pub controls_kept : (ls : List ControlMessage) → All (KnownOf n w g x) ls → All (KnownOf n w h y) ls
+  controls_kept ls t k l there =
+      let z = t k l there in (known_kept l.from l.wave l.token z.0, path_kept l.from l.to l.wave l.token z.1)
 
 -- A control message that was sent is still there when more are sent.
 pub has_more : (a l : ControlMessage) (ls : List ControlMessage) → Has ls l → Has (a ∷ ls) l

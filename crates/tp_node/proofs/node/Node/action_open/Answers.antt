@@ -1,5 +1,0 @@
-use Rattle.std.proofs.Common.{rules}
-use Rattle.tp_node.proofs.node.Node.action_open.Goals as goal
-
-pub returns-clause-event : goal.returns-clause-event
-returns-clause-event g c = search rules
