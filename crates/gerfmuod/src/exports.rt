@@ -46,7 +46,11 @@ pub unsafe extern "C" fn gerfmuod_core_open(alloc: Global, core: *mut u8, nodes:
 /// Opens a core as `gerfmuod_core_open` does that keeps no list of its steps, so that it takes any number of them and has no
 /// trace. It is refused as 23, `StoreFull`, where `Core::step` says so, and not as 16, `HistoryFull`.
 #[unsafe(no_mangle)]
-pub unsafe extern "C" fn gerfmuod_core_open_unrecorded(alloc: Global, core: *mut u8, nodes: u32) -> u32
+pub unsafe extern "C" fn gerfmuod_core_open_unrecorded(
+    alloc: Global,
+    core: *mut u8,
+    nodes: u32,
+) -> u32
     requires* { sem 𝓛 (room_at slot_row core) }
     ensures* { sem 𝓛 (lies_at slot_row full_share core (opened_as false nodes)) ∗ ⌜ result ≡ opening nodes ⌝ }
 {
