@@ -354,7 +354,7 @@ class Interrupts(Case):
         command = [sys.executable, "-X", "faulthandler", os.path.join(os.path.dirname(__file__), "interrupted.py")]
         environment = {**os.environ, "MALLOC_PERTURB_": "165"}  # fills memory that was freed
         result = subprocess.run(command, env=environment, stdout=subprocess.PIPE, stderr=subprocess.STDOUT, timeout=300)
-        self.assertEqual((result.returncode, result.stdout), (0, b"300 of 300 runs were interrupted\n"))
+        self.assertEqual((result.returncode, result.stdout), (0, b"1000 of 1000 runs were interrupted\n"))
 
 
 class Again(Case):
