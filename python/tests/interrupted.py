@@ -1,4 +1,4 @@
-"""300 runs that wait for an input that never comes, until each is interrupted at a random time, as by Ctrl-C."""
+"""1,000 runs that wait for an input that never comes, until each is interrupted at a random time, as by Ctrl-C."""
 import os
 import random
 import signal
@@ -15,7 +15,7 @@ def interrupt(delay):
 
 signal.signal(signal.SIGINT, signal.default_int_handler)
 draw, interrupted = random.Random(1), 0
-for _ in range(300):
+for _ in range(1000):
     sender = threading.Thread(target=interrupt, args=(draw.random() * 0.003,))
     try:
         sender.start()
@@ -26,4 +26,4 @@ for _ in range(300):
     except KeyboardInterrupt:
         interrupted += 1
     sender.join()
-print(f"{interrupted} of 300 runs were interrupted")
+print(f"{interrupted} of 1000 runs were interrupted")

@@ -353,8 +353,8 @@ class Interrupts(Case):
     def test_runs_that_are_interrupted_at_random_times(self):
         command = [sys.executable, "-X", "faulthandler", os.path.join(os.path.dirname(__file__), "interrupted.py")]
         environment = {**os.environ, "MALLOC_PERTURB_": "165"}  # fills memory that was freed
-        result = subprocess.run(command, env=environment, stdout=subprocess.PIPE, stderr=subprocess.STDOUT, timeout=300)
-        self.assertEqual((result.returncode, result.stdout), (0, b"300 of 300 runs were interrupted\n"))
+        result = subprocess.run(command, env=environment, stdout=subprocess.PIPE, stderr=subprocess.STDOUT, timeout=900)
+        self.assertEqual((result.returncode, result.stdout), (0, b"1000 of 1000 runs were interrupted\n"))
 
 
 class Again(Case):
