@@ -50,7 +50,7 @@ static void write_reason(const gerfmuod_process *p, char *to, size_t room) {
 }
 
 const char *gerfmuod_process_text(const gerfmuod_process *process) {
-    static _Thread_local char text[384];
+    static __thread char text[384];
     const gerfmuod_process *p = process;
     if (!gerfmuod_process_is_open(p)) return "no process is open";
     int length = snprintf(text, sizeof text,
