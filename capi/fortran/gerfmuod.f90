@@ -10,6 +10,8 @@ module gerfmuod
   ! no task, and the inputs of a task that has none
   integer(c_int32_t), parameter :: gerfmuod_graph_none = -1_c_int32_t
   integer(c_int32_t), parameter :: gerfmuod_no_inputs(0) = [integer(c_int32_t) ::]
+  ! no limit of time
+  integer(c_int32_t), parameter :: gerfmuod_team_no_limit = -1_c_int32_t
   ! what a turn returned in next
   integer(c_int32_t), parameter :: gerfmuod_graph_run = 1, gerfmuod_graph_over = 4
   ! refusals; gerfmuod_refusal_text returns texts for them
@@ -173,6 +175,31 @@ module gerfmuod
       integer(c_int32_t) :: refused
     end function
 
+    ! The same beside the caller, on `threads` other threads: it returns at once.
+    function gerfmuod_team_run_async(team, threads, body, context) bind(c) result(refused)
+      import :: c_ptr, c_funptr, c_int32_t
+      type(c_ptr), value :: team, context
+      integer(c_int32_t), value :: threads
+      type(c_funptr), value :: body
+      integer(c_int32_t) :: refused
+    end function
+
+    ! Waits for the end of that run, or for so many milliseconds unless they are gerfmuod_team_no_limit: then it returns
+    ! gerfmuod_refused_running if the run goes on.
+    function gerfmuod_team_wait(team, milliseconds) bind(c) result(refused)
+      import :: c_ptr, c_int32_t
+      type(c_ptr), value :: team
+      integer(c_int32_t), value :: milliseconds
+      integer(c_int32_t) :: refused
+    end function
+
+    ! The number of tasks that are not done.
+    function gerfmuod_team_left(team) bind(c) result(left)
+      import :: c_ptr, c_int32_t
+      type(c_ptr), value :: team
+      integer(c_int32_t) :: left
+    end function
+
     ! The same graph once more, after a run that ended.
     function gerfmuod_team_again(team) bind(c) result(refused)
       import :: c_ptr, c_int32_t
@@ -182,6 +209,13 @@ module gerfmuod
 
     ! The same, also after a run that was stopped or failed.
     function gerfmuod_team_reset(team) bind(c) result(refused)
+      import :: c_ptr, c_int32_t
+      type(c_ptr), value :: team
+      integer(c_int32_t) :: refused
+    end function
+
+    ! An empty graph again, on the threads that are there; after any run, or before one.
+    function gerfmuod_team_clear(team) bind(c) result(refused)
       import :: c_ptr, c_int32_t
       type(c_ptr), value :: team
       integer(c_int32_t) :: refused
