@@ -1,5 +1,6 @@
 /* graph_fuzz.c: random task graphs over MPI, compared with the sequential program: data with random owners and sizes, and tasks with
- * random accesses, classes and pauses. Each process compares its own data with a run of all tasks in their order.
+ * random accesses, classes and pauses. Each process compares its own data with a run of all tasks in their order. MPI completes sends
+ * late, and no buffer may be written before.
  *
  *     mpicc -O2 -Icapi/include capi/mpi/graph_fuzz.c capi/include/gerfmuod/mpi.c -Llib -lgerfmuod -pthread -o graph_fuzz
  *     mpirun -n 4 ./graph_fuzz FIRST LAST THREADS [FAILS]
@@ -7,6 +8,7 @@
  * The seeds FIRST to LAST are tried, after each refusal of a description. With FAILS, in each graph one task fails, and every process
  * has to return STOPPED with that task. Prints one line; the exit status is not 0 if a graph was wrong. */
 #define _POSIX_C_SOURCE 200809L
+#include "slow_sends.h"
 #include <gerfmuod/mpi.h>
 
 #include <stdbool.h>

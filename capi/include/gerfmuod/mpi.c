@@ -5,8 +5,9 @@
  * task here that reads it. The graph has a task for each datum, its initial value. A message has the versions that one task wrote
  * and another process reads, in the order in which the graph's tasks name them. Its tag is the number of the task, from 1.
  *
- * A version may be sent from the caller's memory: the next task that writes it waits for the tasks that read it, also elsewhere, so
- * for the message. */
+ * A version may be sent from the caller's memory: the next task that writes it waits for the tasks that read it, also elsewhere. The
+ * message of such a task is reported to the part only once the sends with what it read are complete, as MPI asks of who writes a buffer;
+ * they were received, so this takes no time. */
 #define _POSIX_C_SOURCE 200809L
 #include <gerfmuod/mpi.h>
 #include <gerfmuod/part.h>
@@ -46,8 +47,15 @@ typedef struct {
 typedef struct message {
     int to;
     uint32_t count, *data;
-    struct message *next;
+    struct message *next, *next_sent;
+    MPI_Request request; /* once it was sent */
 } message;
+
+/* A task of another process reads what a message has. */
+typedef struct {
+    uint32_t reader;
+    message *of;
+} receipt;
 
 /* One value that a body gets: of a datum, or of a copy. */
 typedef struct {
@@ -82,6 +90,8 @@ struct gerfmuod_mpi {
     uint32_t tasks_count, described;
     copy **copies;
     uint32_t copies_count;
+    receipt *receipts; /* their readers ascend */
+    uint32_t receipts_count;
     /* one lock protects the part, and all below; `work` is signalled when a task may be ready */
     pthread_mutex_t lock;
     pthread_cond_t work;
@@ -92,8 +102,8 @@ struct gerfmuod_mpi {
     letter *due;      /* messages for the main thread */
     uint32_t due_count;
     /* of the main thread alone */
-    MPI_Request *requests;
-    uint32_t requests_count;
+    message *sending; /* whose sends are perhaps not complete */
+    message *stops;
     uint64_t *sent_to, *received_from;
     int64_t told; /* the failure of which the others were told, or NO_FAILURE */
 };
@@ -190,15 +200,32 @@ static task *find_task(const gerfmuod_mpi *graph, uint32_t number) {
     return &graph->tasks[low];
 }
 
-/* The present version of an own datum goes to a process, once. */
-static void goes(gerfmuod_mpi *graph, uint32_t handle, int to) {
-    task *writer = find_task(graph, graph->data[handle]->writer);
-    message *m = writer->messages;
+/* The message of a list that goes to a process; a new one if there is none. NULL if memory ran out. */
+static message *message_to(message **list, int to) {
+    message *m = *list;
     while (m && m->to != to) m = m->next;
-    if (!m && (m = calloc(1, sizeof *m))) *m = (message){.to = to, .next = writer->messages}, writer->messages = m;
-    for (uint32_t k = 0; m && k < m->count; k++)
+    if (m || !(m = malloc(sizeof *m))) return m;
+    *m = (message){.to = to, .next = *list, .request = MPI_REQUEST_NULL};
+    return *list = m;
+}
+
+/* Remembers that a task of another process reads what a message has, once. Returns whether there was memory. */
+static bool is_read(gerfmuod_mpi *graph, message *m, uint32_t reader) {
+    uint32_t count = graph->receipts_count;
+    for (uint32_t k = count; k && graph->receipts[k - 1].reader == reader; k--)
+        if (graph->receipts[k - 1].of == m) return true;
+    receipt *receipts = grown(graph->receipts, count, sizeof *receipts);
+    if (receipts) graph->receipts = receipts, receipts[graph->receipts_count++] = (receipt){reader, m};
+    return receipts;
+}
+
+/* The present version of an own datum goes to a process, once, where a task reads it. */
+static void goes(gerfmuod_mpi *graph, uint32_t handle, int to, uint32_t reader) {
+    message *m = message_to(&find_task(graph, graph->data[handle]->writer)->messages, to);
+    bool has_room = m && is_read(graph, m, reader);
+    for (uint32_t k = 0; has_room && k < m->count; k++)
         if (m->data[k] == handle) return;
-    uint32_t *data = m ? grown(m->data, m->count, sizeof *data) : NULL;
+    uint32_t *data = has_room ? grown(m->data, m->count, sizeof *data) : NULL;
     if (data) m->data = data, data[m->count++] = handle;
     else refuse(graph, GERFMUOD_REFUSED_NO_MEMORY);
 }
@@ -239,7 +266,7 @@ void gerfmuod_mpi_task_on(gerfmuod_mpi *graph, uint32_t class_, gerfmuod_mpi_bod
         bool reads = accesses[k].mode != GERFMUOD_WRITE;
         if (added && d->owner == graph->me) added->values[k].at = &d->at;
         else if (added && comes(graph, d)) added->values[k] = (value){&d->newest->at, d->newest}, d->newest->readers++;
-        else if (d->owner == graph->me && reads) goes(graph, accesses[k].handle, owner);
+        else if (d->owner == graph->me && reads) goes(graph, accesses[k].handle, owner, number);
     }
     for (size_t k = 0; k < count; k++)
         if (accesses[k].mode != GERFMUOD_READ) {
@@ -319,13 +346,6 @@ static void *work(void *context) {
 
 /* ---- the messages; all that follows is of the main thread */
 
-/* Room for one more request. */
-static MPI_Request *new_request(gerfmuod_mpi *graph) {
-    MPI_Request *requests = grown(graph->requests, graph->requests_count, sizeof *requests);
-    if (!requests) MPI_Abort(graph->communicator, GERFMUOD_REFUSED_NO_MEMORY);
-    return &(graph->requests = requests)[graph->requests_count++];
-}
-
 /* Memory of the main thread, without which a run cannot go on. */
 static void *must_have(const gerfmuod_mpi *graph, size_t count, size_t size) {
     void *block = calloc(count ? count : 1, size);
@@ -371,8 +391,18 @@ static void free_type(buffer *b) {
     if (b->type != MPI_BYTE) MPI_Type_free(&b->type);
 }
 
+/* Sends a message of a list, which has one to each process at most. */
+static void send(gerfmuod_mpi *graph, message **list, int to, buffer b, int tag) {
+    message *m = message_to(list, to);
+    if (!m) MPI_Abort(graph->communicator, GERFMUOD_REFUSED_NO_MEMORY);
+    MPI_Isend(b.at, b.count, b.type, to, tag, graph->communicator, &m->request);
+    m->next_sent = graph->sending, graph->sending = m;
+    graph->sent_to[to]++;
+}
+
 static void send_letter(gerfmuod_mpi *graph, letter l) {
-    message *m = find_task(graph, l.task)->messages;
+    task *t = find_task(graph, l.task);
+    const message *m = t->messages;
     while (m && m->to != l.to) m = m->next;
     places p = new_places(graph, m ? m->count : 0); /* without a value, if a task there only waits until this one has read */
     for (uint32_t k = 0; k < p.count; k++) {
@@ -380,18 +410,14 @@ static void send_letter(gerfmuod_mpi *graph, letter l) {
         p.at[k] = d->at, p.sizes[k] = (int)d->size;
     }
     buffer b = buffer_of(graph, p);
-    MPI_Isend(b.at, b.count, b.type, l.to, FIRST_VALUE + (int)l.task, graph->communicator, new_request(graph));
+    send(graph, &t->messages, l.to, b, FIRST_VALUE + (int)l.task);
     free_type(&b);
-    graph->sent_to[l.to]++;
 }
 
 /* Tells the others that the run was stopped. */
 static void tell(gerfmuod_mpi *graph) {
     for (int p = 0; p < graph->processes; p++)
-        if (p != graph->me) {
-            MPI_Isend(&graph->told, 1, MPI_INT64_T, p, STOP, graph->communicator, new_request(graph));
-            graph->sent_to[p]++;
-        }
+        if (p != graph->me) send(graph, &graph->stops, p, (buffer){&graph->told, 1, MPI_INT64_T}, STOP);
 }
 
 /* Sends what the threads left for it; returns whether there was something. */
@@ -426,6 +452,18 @@ static uint32_t first_copy(const gerfmuod_mpi *graph, uint32_t number) {
     return low;
 }
 
+/* Waits until the sends with what a task of another process read are complete. */
+static void await_sends(gerfmuod_mpi *graph, uint32_t reader) {
+    uint32_t low = 0, high = graph->receipts_count;
+    while (low < high) {
+        uint32_t middle = low + (high - low) / 2;
+        if (graph->receipts[middle].reader < reader) low = middle + 1;
+        else high = middle;
+    }
+    for (; low < graph->receipts_count && graph->receipts[low].reader == reader; low++)
+        MPI_Wait(&graph->receipts[low].of->request, MPI_STATUS_IGNORE);
+}
+
 static void receive_value(gerfmuod_mpi *graph, int from, uint32_t number) {
     uint32_t first = first_copy(graph, number), count = 0;
     while (first + count < graph->copies_count && graph->copies[first + count]->task == number) count++;
@@ -438,6 +476,7 @@ static void receive_value(gerfmuod_mpi *graph, int from, uint32_t number) {
     buffer b = buffer_of(graph, p);
     MPI_Recv(b.at, b.count, b.type, from, FIRST_VALUE + (int)number, graph->communicator, MPI_STATUS_IGNORE);
     free_type(&b);
+    await_sends(graph, number);
     pthread_mutex_lock(&graph->lock);
     uint32_t refused = gerfmuod_part_call(&graph->part, GERFMUOD_PART_ARRIVED, number).refused;
     if (graph->sleeping) pthread_cond_signal(&graph->work);
@@ -464,15 +503,14 @@ static bool receive(gerfmuod_mpi *graph) {
     return true;
 }
 
-/* Drops the requests that are complete. */
+/* Drops the messages whose sends are complete. */
 static void forget_sent(gerfmuod_mpi *graph) {
-    uint32_t left = 0;
-    for (uint32_t k = 0; k < graph->requests_count; k++) {
+    for (message **at = &graph->sending, *m; (m = *at);) {
         int is_complete;
-        MPI_Test(&graph->requests[k], &is_complete, MPI_STATUS_IGNORE);
-        if (!is_complete) graph->requests[left++] = graph->requests[k];
+        MPI_Test(&m->request, &is_complete, MPI_STATUS_IGNORE);
+        if (is_complete) *at = m->next_sent;
+        else at = &m->next_sent;
     }
-    graph->requests_count = left;
 }
 
 /* Pauses after some polls without a message. */
@@ -563,7 +601,7 @@ uint32_t gerfmuod_mpi_run(gerfmuod_mpi *graph, uint32_t threads) {
     for (uint32_t k = 0; k < begun; k++) pthread_join(started[k], NULL);
     free(started);
     if (failure != NO_FAILURE) drain(graph), graph->failure = failure, refused = GERFMUOD_REFUSED_STOPPED;
-    while (graph->requests_count) forget_sent(graph); /* all of them were received, or are being received */
+    while (graph->sending) forget_sent(graph); /* all of them were received, or are being received */
     return refused;
 }
 
@@ -579,8 +617,12 @@ uint64_t gerfmuod_mpi_messages(const gerfmuod_mpi *graph) {
     return sum;
 }
 
+static void free_messages(message *first) {
+    for (message *m = first, *next; m; m = next) next = m->next, free(m->data), free(m);
+}
+
 static void free_task(task *t) {
-    for (message *m = t->messages, *next; m; m = next) next = m->next, free(m->data), free(m);
+    free_messages(t->messages);
     free(t->arguments), free(t->values);
 }
 
@@ -590,7 +632,8 @@ void gerfmuod_mpi_close(gerfmuod_mpi *graph) {
     for (uint32_t k = 0; k < graph->tasks_count; k++) free_task(&graph->tasks[k]);
     for (uint32_t k = 0; k < graph->data_count; k++) free(graph->data[k]);
     for (uint32_t k = 0; k < graph->copies_count; k++) free(graph->copies[k]->at), free(graph->copies[k]);
-    free(graph->tasks), free(graph->data), free(graph->copies), free(graph->due), free(graph->requests);
+    free(graph->tasks), free(graph->data), free(graph->copies), free(graph->due), free(graph->receipts);
+    free_messages(graph->stops);
     free(graph->sent_to), free(graph->received_from);
     pthread_cond_destroy(&graph->work);
     pthread_mutex_destroy(&graph->lock);
