@@ -78,6 +78,11 @@ typedef struct {
     int to;
 } letter;
 
+typedef struct {
+    letter *at;
+    uint32_t count, room;
+} letters;
+
 struct gerfmuod_mpi {
     MPI_Comm communicator;
     int me, processes;
@@ -99,9 +104,9 @@ struct gerfmuod_mpi {
     uint32_t sleeping;
     bool is_over, is_stopped;
     int64_t failure;  /* the process and the task whose body failed, or NO_FAILURE */
-    letter *due;      /* messages for the main thread */
-    uint32_t due_count;
+    letters due;      /* messages for the main thread */
     /* of the main thread alone */
+    letters taken;    /* those of `due` that it sends now */
     message *sending; /* whose sends are perhaps not complete */
     message *stops;
     uint64_t *sent_to, *received_from;
@@ -319,27 +324,35 @@ static void run_task(gerfmuod_mpi *graph, uint32_t number) {
 
 /* Leaves a message to the main thread. The lock is held. */
 static void leave_letter(gerfmuod_mpi *graph, letter l) {
-    letter *due = grown(graph->due, graph->due_count, sizeof *due);
-    if (due) graph->due = due, due[graph->due_count++] = l;
+    letters *due = &graph->due;
+    if (due->count == due->room) {
+        uint32_t room = 2 * due->room + 8;
+        letter *at = realloc(due->at, room * sizeof *at);
+        if (at) due->at = at, due->room = room;
+    }
+    if (due->count < due->room) due->at[due->count++] = l;
     else stop(graph, failure_of(graph, l.task));
 }
 
-/* Does what the part returned: runs a task, or leaves a message to the main thread. Returns whether there was something. The lock is
- * held, but not while a body runs. */
-static bool turn(gerfmuod_mpi *graph) {
-    gerfmuod_part_result next = gerfmuod_part_call(&graph->part, GERFMUOD_PART_NEXT, 0);
-    if (next.next == GERFMUOD_PART_RUN) run_task(graph, next.number);
-    else if (next.next == GERFMUOD_PART_SEND) leave_letter(graph, (letter){next.number, (int)next.to});
-    else if (next.next == GERFMUOD_PART_OVER) graph->is_over = true, pthread_cond_broadcast(&graph->work);
-    return next.next != GERFMUOD_PART_WAIT;
+/* What the part returns next, after all messages that are due, which are left to the main thread. The lock is held. */
+static gerfmuod_part_result next_of(gerfmuod_mpi *graph) {
+    gerfmuod_part_result next;
+    while ((next = gerfmuod_part_call(&graph->part, GERFMUOD_PART_NEXT, 0)).next == GERFMUOD_PART_SEND)
+        leave_letter(graph, (letter){next.number, (int)next.to});
+    if (next.next == GERFMUOD_PART_OVER) graph->is_over = true, pthread_cond_broadcast(&graph->work);
+    return next;
 }
 
 /* A thread beside the main thread, until the part is over or the run was stopped. */
 static void *work(void *context) {
     gerfmuod_mpi *graph = context;
     pthread_mutex_lock(&graph->lock);
-    while (!graph->is_over && !graph->is_stopped)
-        if (!turn(graph)) graph->sleeping++, pthread_cond_wait(&graph->work, &graph->lock), graph->sleeping--;
+    while (!graph->is_over && !graph->is_stopped) {
+        gerfmuod_part_result next = next_of(graph);
+        if (next.next == GERFMUOD_PART_RUN) run_task(graph, next.number);
+        else if (!graph->is_over && !graph->is_stopped)
+            graph->sleeping++, pthread_cond_wait(&graph->work, &graph->lock), graph->sleeping--;
+    }
     pthread_mutex_unlock(&graph->lock);
     return NULL;
 }
@@ -353,15 +366,18 @@ static void *must_have(const gerfmuod_mpi *graph, size_t count, size_t size) {
     return block;
 }
 
-/* Where the values of a message are. */
+/* Where the values of a message are: the first place is in `one`, of many all are in a block. */
 typedef struct {
     uint32_t count;
-    void **at;
-    int *sizes;
+    void **at, *one;
+    int *sizes, size;
 } places;
 
-static places new_places(const gerfmuod_mpi *graph, uint32_t count) {
-    return (places){count, must_have(graph, count, sizeof(void *)), must_have(graph, count, sizeof(int))};
+static void add_place(const gerfmuod_mpi *graph, places *p, uint32_t most, void *at, size_t size) {
+    if (most > 1 && !p->at) p->at = must_have(graph, most, sizeof(void *)), p->sizes = must_have(graph, most, sizeof(int));
+    if (most > 1) p->at[p->count] = at, p->sizes[p->count] = (int)size;
+    else p->one = at, p->size = (int)size;
+    p->count++;
 }
 
 /* A message as MPI takes it. */
@@ -373,16 +389,15 @@ typedef struct {
 
 /* The message with the values at these places: one as it is, several by a type relative to MPI_BOTTOM. Frees the places. */
 static buffer buffer_of(const gerfmuod_mpi *graph, places p) {
-    buffer b = {p.at[0], p.sizes[0], MPI_BYTE};
+    buffer b = {p.one, p.size, MPI_BYTE};
     if (p.count > 1) {
         MPI_Aint *from = must_have(graph, p.count, sizeof *from);
         for (uint32_t k = 0; k < p.count; k++) MPI_Get_address(p.at[k], &from[k]);
         b = (buffer){MPI_BOTTOM, 1, MPI_DATATYPE_NULL};
         MPI_Type_create_hindexed((int)p.count, p.sizes, from, MPI_BYTE, &b.type);
         MPI_Type_commit(&b.type);
-        free(from);
+        free(from), free(p.at), free(p.sizes);
     }
-    free(p.at), free(p.sizes);
     return b;
 }
 
@@ -404,10 +419,10 @@ static void send_letter(gerfmuod_mpi *graph, letter l) {
     task *t = find_task(graph, l.task);
     const message *m = t->messages;
     while (m && m->to != l.to) m = m->next;
-    places p = new_places(graph, m ? m->count : 0); /* without a value, if a task there only waits until this one has read */
-    for (uint32_t k = 0; k < p.count; k++) {
-        datum *d = graph->data[m->data[k]];
-        p.at[k] = d->at, p.sizes[k] = (int)d->size;
+    places p = {0}; /* without a value, if a task there only waits until this one has read */
+    for (uint32_t k = 0; m && k < m->count; k++) {
+        const datum *d = graph->data[m->data[k]];
+        add_place(graph, &p, m->count, d->at, d->size);
     }
     buffer b = buffer_of(graph, p);
     send(graph, &t->messages, l.to, b, FIRST_VALUE + (int)l.task);
@@ -418,21 +433,6 @@ static void send_letter(gerfmuod_mpi *graph, letter l) {
 static void tell(gerfmuod_mpi *graph) {
     for (int p = 0; p < graph->processes; p++)
         if (p != graph->me) send(graph, &graph->stops, p, (buffer){&graph->told, 1, MPI_INT64_T}, STOP);
-}
-
-/* Sends what the threads left for it; returns whether there was something. */
-static bool send_due(gerfmuod_mpi *graph) {
-    pthread_mutex_lock(&graph->lock);
-    letter *due = graph->due;
-    uint32_t count = graph->due_count;
-    graph->due = NULL, graph->due_count = 0;
-    bool tells = graph->told == NO_FAILURE && graph->is_stopped && graph->failure >> 32 == graph->me;
-    if (tells) graph->told = graph->failure;
-    pthread_mutex_unlock(&graph->lock);
-    for (uint32_t k = 0; k < count; k++) send_letter(graph, due[k]);
-    free(due);
-    if (tells) tell(graph);
-    return count || tells;
 }
 
 static int by_task(const void *one, const void *other) {
@@ -467,11 +467,11 @@ static void await_sends(gerfmuod_mpi *graph, uint32_t reader) {
 static void receive_value(gerfmuod_mpi *graph, int from, uint32_t number) {
     uint32_t first = first_copy(graph, number), count = 0;
     while (first + count < graph->copies_count && graph->copies[first + count]->task == number) count++;
-    places p = new_places(graph, count);
+    places p = {0};
     for (uint32_t k = 0; k < count; k++) {
         copy *c = graph->copies[first + k];
         if (!(c->at = malloc(c->size ? c->size : 1))) MPI_Abort(graph->communicator, GERFMUOD_REFUSED_NO_MEMORY);
-        p.at[k] = c->at, p.sizes[k] = (int)c->size;
+        add_place(graph, &p, count, c->at, c->size);
     }
     buffer b = buffer_of(graph, p);
     MPI_Recv(b.at, b.count, b.type, from, FIRST_VALUE + (int)number, graph->communicator, MPI_STATUS_IGNORE);
@@ -520,27 +520,38 @@ static void pause_after(uint32_t *polls) {
     else sched_yield();
 }
 
-/* Runs a task, if the main thread does and one is ready, and sends what is due. Returns whether there was something. */
-static bool advance(gerfmuod_mpi *graph, bool runs, bool *has_ended, int64_t *failure) {
+/* Runs the task that the part returned to the main thread, if it did, has it return the next, and sends what is due: what the task wrote
+ * goes before anything else is done. Returns whether there was something. */
+static bool advance(gerfmuod_mpi *graph, gerfmuod_part_result *next, bool *has_ended, int64_t *failure) {
     pthread_mutex_lock(&graph->lock);
-    bool is_more = runs && !graph->is_over && !graph->is_stopped && turn(graph);
-    *has_ended = graph->is_over || graph->is_stopped;
+    if (next->next == GERFMUOD_PART_RUN && !graph->is_stopped) run_task(graph, next->number);
+    bool goes_on = !graph->is_over && !graph->is_stopped;
+    next->next = GERFMUOD_PART_NOTHING;
+    if (goes_on) *next = next_of(graph);
+    *has_ended = graph->is_over || graph->is_stopped; /* nothing is due any more once the part is over and this was sent */
     *failure = graph->is_stopped ? graph->failure : NO_FAILURE;
+    letters due = graph->due;
+    graph->due = graph->taken, graph->taken = due, graph->due.count = 0;
+    bool tells = graph->told == NO_FAILURE && graph->is_stopped && graph->failure >> 32 == graph->me;
+    if (tells) graph->told = graph->failure;
     pthread_mutex_unlock(&graph->lock);
-    return send_due(graph) || is_more; /* after this look: nothing is due any more once the part is over */
+    for (uint32_t k = 0; k < due.count; k++) send_letter(graph, due.at[k]);
+    if (tells) tell(graph);
+    return due.count || tells || next->next == GERFMUOD_PART_RUN;
 }
 
 /* Runs tasks, sends and receives until this process is over or stopped, and then until all are. Leaves in `failure` what all agree on.
  * It does not wait for its sends: after a stop, their receivers may take them only in `drain`. */
-static void communicate(gerfmuod_mpi *graph, bool runs, int64_t *failure) {
+static void communicate(gerfmuod_mpi *graph, int64_t *failure) {
     MPI_Request agreed = MPI_REQUEST_NULL;
+    gerfmuod_part_result next = {0};
     bool has_ended = false;
     int agree = 0;
     int64_t mine = NO_FAILURE;
     for (uint32_t polls = 0; !agree;) {
         bool is_more = false;
         if (!has_ended) {
-            is_more = advance(graph, runs, &has_ended, &mine);
+            is_more = advance(graph, &next, &has_ended, &mine);
             if (has_ended) MPI_Iallreduce(&mine, failure, 1, MPI_INT64_T, MPI_MIN, graph->communicator, &agreed);
         } else MPI_Test(&agreed, &agree, MPI_STATUS_IGNORE);
         forget_sent(graph);
@@ -597,7 +608,7 @@ uint32_t gerfmuod_mpi_run(gerfmuod_mpi *graph, uint32_t threads) {
     graph->is_stopped = refused != 0;
     pthread_mutex_unlock(&graph->lock);
     int64_t failure = NO_FAILURE;
-    if (!refused) communicate(graph, true, &failure);
+    if (!refused) communicate(graph, &failure);
     for (uint32_t k = 0; k < begun; k++) pthread_join(started[k], NULL);
     free(started);
     if (failure != NO_FAILURE) drain(graph), graph->failure = failure, refused = GERFMUOD_REFUSED_STOPPED;
@@ -632,7 +643,7 @@ void gerfmuod_mpi_close(gerfmuod_mpi *graph) {
     for (uint32_t k = 0; k < graph->tasks_count; k++) free_task(&graph->tasks[k]);
     for (uint32_t k = 0; k < graph->data_count; k++) free(graph->data[k]);
     for (uint32_t k = 0; k < graph->copies_count; k++) free(graph->copies[k]->at), free(graph->copies[k]);
-    free(graph->tasks), free(graph->data), free(graph->copies), free(graph->due), free(graph->receipts);
+    free(graph->tasks), free(graph->data), free(graph->copies), free(graph->due.at), free(graph->taken.at), free(graph->receipts);
     free_messages(graph->stops);
     free(graph->sent_to), free(graph->received_from);
     pthread_cond_destroy(&graph->work);
