@@ -24,6 +24,9 @@
 enum { STOP = 0, FIRST_VALUE = 1 };
 /* After that number of polls without a message the main thread sleeps between them, each time longer, at most 1 << NAPS microseconds. */
 enum { POLLS = 200, NAPS = 6 };
+/* How many hashes of the description are kept, at most; the hash of none. */
+enum { MOST_HASHES = 1 << 15 };
+static const uint64_t hash_of_none = 0xcbf29ce484222325u;
 
 /* A version of a datum that comes from another process. */
 typedef struct copy {
@@ -88,6 +91,8 @@ struct gerfmuod_mpi {
     int me, processes;
     uint32_t refused; /* the first refusal of a description */
     uint64_t hash;    /* of the description */
+    uint64_t *hashes; /* of the first `stride` data and tasks, of twice as many, and so on */
+    uint32_t hashes_count, stride;
     bool has_run;
     datum **data;
     uint32_t data_count;
@@ -129,10 +134,11 @@ static void *grown(void *block, uint32_t count, size_t size) {
 /* ---- the description */
 uint32_t gerfmuod_mpi_open(gerfmuod_mpi **opened, MPI_Comm communicator) {
     gerfmuod_mpi *graph = calloc(1, sizeof *graph);
-    int lacks = !graph, lack;
+    uint64_t *hashes = malloc(MOST_HASHES * sizeof *hashes);
+    int lacks = !graph || !hashes, lack;
     MPI_Allreduce(&lacks, &lack, 1, MPI_INT, MPI_MAX, communicator);
     *opened = lack ? NULL : graph;
-    if (lack) return free(graph), (uint32_t)GERFMUOD_REFUSED_NO_MEMORY;
+    if (lack) return free(graph), free(hashes), (uint32_t)GERFMUOD_REFUSED_NO_MEMORY;
     MPI_Comm_dup(communicator, &graph->communicator);
     MPI_Comm_rank(graph->communicator, &graph->me);
     MPI_Comm_size(graph->communicator, &graph->processes);
@@ -140,7 +146,7 @@ uint32_t gerfmuod_mpi_open(gerfmuod_mpi **opened, MPI_Comm communicator) {
     pthread_mutex_init(&graph->lock, NULL);
     pthread_cond_init(&graph->work, NULL);
     graph->failure = graph->told = NO_FAILURE;
-    graph->hash = 0xcbf29ce484222325u;
+    graph->hash = hash_of_none, graph->hashes = hashes, graph->stride = 1;
     return GERFMUOD_OK;
 }
 
@@ -151,13 +157,21 @@ uint32_t gerfmuod_mpi_open_fortran(gerfmuod_mpi **opened, MPI_Fint communicator)
 /* The hash of Fowler, Noll and Vo (FNV-1a), over words. */
 static void mix(gerfmuod_mpi *graph, uint64_t word) { graph->hash = (graph->hash ^ word) * 0x100000001b3u; }
 
+/* Keeps the hash, if it is the next one. Once there is no room, every second hash is dropped, and from then on not kept. */
+static void keep_hash(gerfmuod_mpi *graph) {
+    if (graph->described & (graph->stride - 1)) return;
+    if (graph->hashes_count < MOST_HASHES) graph->hashes[graph->hashes_count++] = graph->hash;
+    else for (graph->hashes_count = 0, graph->stride *= 2; graph->hashes_count < MOST_HASHES / 2; graph->hashes_count++)
+        graph->hashes[graph->hashes_count] = graph->hashes[2 * graph->hashes_count + 1];
+}
+
 /* Describes a task to the part. Returns its number, or none if the description was refused. */
 static uint32_t described(gerfmuod_mpi *graph, uint32_t class_, const gerfmuod_access *accesses, size_t count, int owner) {
-    mix(graph, (uint64_t)owner << 32 | class_);
+    mix(graph, (uint64_t)owner << 32 | (uint32_t)count << 2 | class_); /* a class above 3, and so many accesses, are refused */
     for (size_t k = 0; k < count; k++) mix(graph, (uint64_t)accesses[k].handle << 32 | accesses[k].mode);
     gerfmuod_part_result result = gerfmuod_part_shared_task(&graph->part, class_, accesses, count, (uint32_t)owner);
     if (result.refused) refuse(graph, result.refused);
-    else graph->described = result.number + 1;
+    else graph->described = result.number + 1, keep_hash(graph);
     return result.refused ? GERFMUOD_GRAPH_NONE : result.number;
 }
 
@@ -184,7 +198,7 @@ uint32_t gerfmuod_mpi_data(gerfmuod_mpi *graph, int owner, void *at, size_t size
     if (data) graph->data = data;
     if (!added || !data) return free(added), refuse(graph, GERFMUOD_REFUSED_NO_MEMORY), handle;
     data[graph->data_count++] = added;
-    mix(graph, size);
+    mix(graph, (uint64_t)1 << 63 | size);
     gerfmuod_part_result result = gerfmuod_part_call(&graph->part, GERFMUOD_PART_HANDLE, 0);
     if (result.refused) return refuse(graph, result.refused), handle;
     gerfmuod_access writes = GERFMUOD_WRITES(handle);
@@ -572,12 +586,43 @@ static void drain(gerfmuod_mpi *graph) {
 
 /* ---- a run */
 
+/* Whether a hash is the same in all processes. */
+static bool is_common(const gerfmuod_mpi *graph, uint64_t hash) {
+    uint64_t mine[2] = {hash, ~hash}, all[2];
+    MPI_Allreduce(mine, all, 2, MPI_UINT64_T, MPI_MAX, graph->communicator);
+    return all[0] == ~all[1];
+}
+
+/* The hash of the first data and tasks, as many as a multiple of the stride; another number if fewer were described. */
+static uint64_t hash_of(const gerfmuod_mpi *graph, uint32_t count) {
+    if (count >= graph->described) return count == graph->described ? graph->hash : ~graph->hash;
+    return count ? graph->hashes[count / graph->stride - 1] : hash_of_none;
+}
+
+/* Leaves as the failure where the descriptions begin to differ, and the lowest process whose one is not that of process 0. */
+static void find_difference(gerfmuod_mpi *graph) {
+    uint32_t mine[2] = {graph->described, graph->stride}, most[2];
+    MPI_Allreduce(mine, most, 2, MPI_UINT32_T, MPI_MAX, graph->communicator);
+    uint32_t stride = most[1], low = 0, high = most[0] / stride + 1; /* how many strides are the same, and how many are not */
+    while (high - low > 1) {
+        uint32_t middle = low + (high - low) / 2;
+        if (is_common(graph, hash_of(graph, middle * stride))) low = middle;
+        else high = middle;
+    }
+    uint64_t hash = hash_of(graph, high * stride), first = hash;
+    MPI_Bcast(&first, 1, MPI_UINT64_T, 0, graph->communicator);
+    int64_t different = hash == first ? NO_FAILURE : failure_of(graph, low * stride);
+    MPI_Allreduce(&different, &graph->failure, 1, MPI_INT64_T, MPI_MIN, graph->communicator);
+}
+
 /* What all processes return, if one of them may not run. */
 static uint32_t agree_to_run(gerfmuod_mpi *graph, uint32_t refused) {
     uint64_t mine[3] = {refused ? (uint64_t)(graph->processes - graph->me) << 32 | refused : 0, graph->hash, ~graph->hash}, all[3];
     MPI_Allreduce(mine, all, 3, MPI_UINT64_T, MPI_MAX, graph->communicator);
     if (all[0]) return (uint32_t)all[0];
-    return all[1] == ~all[2] ? GERFMUOD_OK : GERFMUOD_REFUSED_DIFFERENT;
+    if (all[1] == ~all[2]) return GERFMUOD_OK;
+    find_difference(graph);
+    return GERFMUOD_REFUSED_DIFFERENT;
 }
 
 /* Allocates what a run needs; returns the refusal. */
@@ -643,7 +688,7 @@ void gerfmuod_mpi_close(gerfmuod_mpi *graph) {
     for (uint32_t k = 0; k < graph->tasks_count; k++) free_task(&graph->tasks[k]);
     for (uint32_t k = 0; k < graph->data_count; k++) free(graph->data[k]);
     for (uint32_t k = 0; k < graph->copies_count; k++) free(graph->copies[k]->at), free(graph->copies[k]);
-    free(graph->tasks), free(graph->data), free(graph->copies), free(graph->due.at), free(graph->taken.at), free(graph->receipts);
+    free(graph->tasks), free(graph->data), free(graph->copies), free(graph->due.at), free(graph->taken.at), free(graph->receipts), free(graph->hashes);
     free_messages(graph->stops);
     free(graph->sent_to), free(graph->received_from);
     pthread_cond_destroy(&graph->work);
