@@ -69,12 +69,15 @@ void gerfmuod_mpi_task_on(gerfmuod_mpi *graph, uint32_t class_, gerfmuod_mpi_bod
  *     data of two processes; BAD_SPEC if a datum is too large or a task names none, or as gerfmuod_part_shared_task, which says when
  *     HISTORY_FULL and NO_MEMORY are returned. WRONG_LIFE, before these, if the graph ran. Then NO_THREAD if `threads` is 0,
  *     HISTORY_FULL if data and tasks are more than the tags of the communicator, NO_MEMORY, NOT_STARTED;
- *   - DIFFERENT if the processes described different graphs;
+ *   - DIFFERENT if the processes described different graphs. gerfmuod_mpi_failed says from which task on;
  *   - STOPPED if a body failed. gerfmuod_mpi_failed says which. */
 GERFMUOD_CHECKED uint32_t gerfmuod_mpi_run(gerfmuod_mpi *graph, uint32_t threads);
 
 /* After a run that returned STOPPED: the process and the number of the task whose body failed, tasks counted from 0 in the order of their
- * description. If several failed, one of them, the same in every process. */
+ * description. If several failed, one of them, the same in every process.
+ * After a run that returned DIFFERENT: the first task that is not the same in all processes, also if the datum described before it is not, or
+ * if one described fewer; and the lowest process that differs there from process 0. With n > 32,768 data and tasks, of which 32,768 hashes
+ * are kept at most, it is the first of n / 16,384 among which that task is. */
 void gerfmuod_mpi_failed(const gerfmuod_mpi *graph, int *process, uint32_t *task);
 
 /* The number of messages that this process sent. */

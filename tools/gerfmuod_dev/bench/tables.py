@@ -326,12 +326,11 @@ def task_graphs(rows):
 
 def times_and_messages(row):
     messages = cell(row.control_messages, "{:,.0f}") or "not counted"
-    quartiles = f"({row.lower_quartile:,.1f}–{row.upper_quartile:,.1f})"
-    return f"{row.microseconds:,.1f} {quartiles}; {messages}; {row.waves:,.0f}"
+    return f"{times_of('{:,.1f} ({:,.1f}–{:,.1f})', 1, row)}; {messages}; {row.waves:,.0f}"
 
 
-def milliseconds_of(row):
-    return f"{row.microseconds / 1000:,.0f} ({row.lower_quartile / 1000:,.0f}–{row.upper_quartile / 1000:,.0f})"
+def times_of(form, by, row):
+    return form.format(*(time / by for time in (row.microseconds, row.lower_quartile, row.upper_quartile)))
 
 
 def patterns_over_mpi(rows):
@@ -350,8 +349,10 @@ def detectors(rows):
     what = "microseconds to the last process that knows the end (quartiles); control messages; waves, rounds of the token, reductions"
     tasks, timed = [row.as_pattern for row in rows if row.tasks], [row for row in rows if row.microseconds is not None and not row.tasks]
     shown = [(case, what, times_and_messages) for case in distinct([row for row in timed if row.waves is not None], "case")]
-    factored = distinct([row for row in timed if row.waves is None], "case")
-    shown += [(case, "milliseconds (quartiles), with four threads in all", milliseconds_of) for case in factored]
+    whole = "milliseconds (quartiles), with four threads in all", functools.partial(times_of, "{:,.0f} ({:,.0f}–{:,.0f})", 1000)
+    short = "microseconds (quartiles)", functools.partial(times_of, "{:.3f} ({:.3f}–{:.3f})", 1)
+    cases = distinct([row for row in timed if row.waves is None], "case")
+    shown += [(case, *(whole if case.startswith("Cholesky") else short)) for case in cases]
     for case, *fields in (("simulated", "steps", "control_messages", "waves"), ("random programs", "control_messages", "waves")):
         text_of = functools.partial(lambda fields, row: ", ".join(f"{getattr(row, field):,.0f}" for field in fields), fields)
         shown.append((case, ", ".join(fields).replace("_", " "), text_of))
