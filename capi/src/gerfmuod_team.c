@@ -216,9 +216,9 @@ uint32_t gerfmuod_team_start(gerfmuod_team *team, uint32_t threads) {
     return refused;
 }
 
-/* Several threads that run short bodies wait for the lock for longer than they run. So a thread takes up to MOST_TAKEN tasks at once if
- * a body takes less than SHORT_BODY nanoseconds, with the wait for the lock, and if READY_EACH tasks are ready for each thread. */
-enum { MOST_TAKEN = 4, SHORT_BODY = 5000, READY_EACH = 4 };
+/* Threads whose bodies are short wait for the lock for longer than they run. So a thread takes up to MOST_TAKEN tasks at once if its
+ * last bodies took less than SHORT_BODY nanoseconds each, and if READY_EACH tasks are ready for each thread. */
+enum { MOST_TAKEN = 4, SHORT_BODY = 3000, READY_EACH = 2 };
 
 struct batch {
     uint32_t tasks[MOST_TAKEN], count; /* those that the thread took and has not reported */
@@ -228,8 +228,8 @@ struct batch {
 /* Reports the tasks of a batch, which ran, and takes the next ones. Returns how many. */
 static uint32_t next_batch(gerfmuod_team *team, struct batch *batch) {
     uint64_t waited = 0;
-    acquire(team);
     bool is_short = nanoseconds_now() - batch->began < (uint64_t)SHORT_BODY * batch->count;
+    acquire(team);
     for (uint32_t k = 0; k + 1 < batch->count; k++) ask(team, GERFMUOD_GRAPH_DONE, batch->tasks[k], 0);
     gerfmuod_graph_result result = take_turn(team, batch->count ? batch->tasks[batch->count - 1] : GERFMUOD_GRAPH_NONE, &waited);
     for (batch->count = 0; result.next == GERFMUOD_GRAPH_RUN; result = ask(team, GERFMUOD_GRAPH_TURN, GERFMUOD_GRAPH_NONE, 1)) {
