@@ -17,7 +17,7 @@ pub(crate) fn handle_added(slot: &mut GraphSlot) -> GraphResult
     if let Some(fault) = slot.team.fault() {
         return refused(fault.refusal);
     }
-    slot.flow.known();
+    slot.flow.invariant();
     match slot.flow.handle() {
         Ok(handle) => plain(0, handle.0, 0),
         Err(refusal) => refused(TeamRefusal::Pool(refusal)),
@@ -66,7 +66,7 @@ fn inferred(
     ensures spawns { SpawnsTask class accesses.now outside (opened_with team.old flow.old.state) result (opened_with team.new flow.new.state)
         ⊎ IsRefused (Pool NoMemory) (opened_with team.old flow.old.state) result (opened_with team.new flow.new.state) }
 {
-    flow.known();
+    flow.invariant();
     let number = team.tasks();
     inputs.clear();
     let Ok(()) = flow.find(number, accesses, inputs) else {

@@ -16,7 +16,7 @@ pub(crate) fn handle_added(flow: &mut Flow) -> GraphResult
     ensures does { IsFlowHandle flow.old.state result flow.new.state }
     ensures kept { flow.new.state.newest ≡ flow.old.state.newest }
 {
-    flow.known();
+    flow.invariant();
     match flow.handle() {
         Ok(handle) => plain(0, handle.0, 0),
         Err(refusal) => refused(TeamRefusal::Pool(refusal)),
@@ -75,7 +75,7 @@ fn inferred(
     ensures adds { AddsShared class accesses.now owner (opened_as part.old flow.old.state) result (opened_as part.new flow.new.state)
         ⊎ IsRefused (Pool NoMemory) (opened_as part.old flow.old.state) result (opened_as part.new flow.new.state) }
 {
-    flow.known();
+    flow.invariant();
     let number = part.described();
     inputs.clear();
     let Ok(()) = flow.find(number, accesses, inputs) else {
