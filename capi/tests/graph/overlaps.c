@@ -195,7 +195,8 @@ REPEATED_CASE(calls_beside_calls) {
 int main(void) {
     const struct CMUnitTest cases[] = {
         cmocka_unit_test(stop_beside_run), cmocka_unit_test(again_beside_turn), cmocka_unit_test(record_beside_turn),
-        cmocka_unit_test(clear_beside_turn), cmocka_unit_test(wrong_done), cmocka_unit_test(run_beside_turn), cmocka_unit_test(calls_beside_calls),
+        cmocka_unit_test(clear_beside_turn), cmocka_unit_test(wrong_done), cmocka_unit_test(run_beside_turn),
+        cmocka_unit_test(calls_beside_calls),
     };
     limit_time();
     return RUN(cases);
