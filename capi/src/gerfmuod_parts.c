@@ -323,7 +323,8 @@ static bool order_processors(gerfmuod_parts *parts, const cpu_set_t *all) {
     struct processor *found = calloc((size_t)most, sizeof *found);
     for (int number = 0; found && count < most; number++) {
         if (!CPU_ISSET(number, all)) continue;
-        int *keys = found[count].keys, package = topology_of(number, "physical_package_id"), core = topology_of(number, "thread_siblings_list");
+        int package = topology_of(number, "physical_package_id"), core = topology_of(number, "thread_siblings_list");
+        int *keys = found[count].keys;
         keys[1] = package, keys[2] = core, keys[3] = number;
         for (int k = 0; k < count; k++) keys[0] += found[k].keys[1] == package && found[k].keys[2] == core;
         count++;
