@@ -17,7 +17,7 @@
 #include <string.h>
 #include <time.h>
 
-enum { MOST_DATA = 12, MOST_TASKS = 120, MOST_ACCESSES = 5, MOST_WORDS = 20000, FEW_WORDS = 4, NONE = -1 };
+enum { MOST_DATA = 12, MOST_TASKS = 120, MOST_ACCESSES = 10, MOST_WORDS = 20000, FEW_WORDS = 4, NONE = -1 };
 
 typedef struct {
     uint32_t number, count, words[MOST_ACCESSES], modes[MOST_ACCESSES], pause;
@@ -57,7 +57,7 @@ static struct {
 
 static void draw_data(gerfmuod_mpi *graph, uint32_t count) {
     for (uint32_t d = 0; d < count; d++) {
-        data[d].words = below(6) ? 1 + below(FEW_WORDS) : MOST_WORDS; /* MPI may send many only once they are received */
+        data[d].words = below(6) ? below(FEW_WORDS) : MOST_WORDS; /* MPI may send many only once they are received */
         data[d].owner = (int)below((uint32_t)processes);
         for (uint32_t w = 0; w < data[d].words; w++) data[d].own[w] = data[d].expected[w] = mixed(d, w);
         data[d].handle = gerfmuod_mpi_data(graph, data[d].owner, data[d].owner == me ? data[d].own : NULL, data[d].words * 8);
@@ -135,6 +135,16 @@ static bool is_refused(enum wrong wrong) {
     return !has_two || (refused == reasons[wrong] && !ran);
 }
 
+/* A graph without tasks ends at once, with a datum that has no memory, and without any. */
+static bool is_empty(int owner) {
+    gerfmuod_mpi *graph;
+    if (gerfmuod_mpi_open(&graph, MPI_COMM_WORLD)) return false;
+    if (owner != NONE) (void)gerfmuod_mpi_data(graph, owner, NULL, 0);
+    bool is_right = gerfmuod_mpi_run(graph, 2) == GERFMUOD_OK && gerfmuod_mpi_messages(graph) == 0;
+    gerfmuod_mpi_close(graph);
+    return is_right;
+}
+
 /* The last process describes another graph from task `at` on: a task of another class, or after one more datum, or no more tasks. Every
  * process has to find that task, of few tasks, and of many one before it. */
 enum difference { CLASS, DATUM, FEWER, DIFFERENCES };
@@ -195,6 +205,7 @@ int main(int argc, char **argv) {
     uint64_t first = strtoull(argv[1], NULL, 10), last = strtoull(argv[2], NULL, 10), mine[2] = {0, 0}, all[2];
     for (enum wrong wrong = 0; wrong < WRONGS; wrong++)
         if (!is_refused(wrong) && !mine[1]++) fprintf(stderr, "process %d: description %d is not refused\n", me, (int)wrong);
+    if (!(is_empty(NONE) && is_empty(processes - 1)) && !mine[1]++) fprintf(stderr, "process %d: a graph without tasks is wrong\n", me);
     if (!are_found() && !mine[1]++) fprintf(stderr, "process %d: a difference of the descriptions is not found\n", me);
     for (uint64_t seed = first; seed <= last; seed++) {
         bool is_right = try_seed(seed, (uint32_t)atoi(argv[3]), argc > 4, &mine[0]) && (argc < 5 || is_stopped_between(seed));

@@ -24,6 +24,8 @@
 enum { STOP = 0, FIRST_VALUE = 1 };
 /* After that number of polls without a message the main thread sleeps between them, each time longer, at most 1 << NAPS microseconds. */
 enum { POLLS = 200, NAPS = 6 };
+/* The values of a body for which there is room on the stack. */
+enum { FEW_VALUES = 8 };
 /* How many hashes of the description are kept, at most; the hash of none. */
 enum { MOST_HASHES = 1 << 15 };
 static const uint64_t hash_of_none = 0xcbf29ce484222325u;
@@ -183,7 +185,7 @@ static task *own_task(gerfmuod_mpi *graph, uint32_t number, gerfmuod_mpi_body bo
     task *added = &tasks[graph->tasks_count++];
     *added = (task){.number = number, .count = (uint32_t)count, .body = body};
     added->arguments = malloc(size ? size : 1);
-    added->values = calloc(count ? count : 1, sizeof *added->values);
+    added->values = calloc(count ? count : 1, sizeof *added->values + (count > FEW_VALUES ? sizeof(void *) : 0)); /* see run_body */
     if (!added->arguments || !added->values) return refuse(graph, GERFMUOD_REFUSED_NO_MEMORY);
     if (size) memcpy(added->arguments, arguments, size);
     return added;
@@ -308,12 +310,9 @@ static void stop(gerfmuod_mpi *graph, int64_t failure) {
 
 /* Runs the body of a task; returns whether it succeeded. */
 static bool run_body(const task *t) {
-    void *few[8], **values = t->count <= 8 ? few : malloc(t->count * sizeof *values);
-    if (!values) return false;
+    void *few[FEW_VALUES], **values = t->count > FEW_VALUES ? (void **)(t->values + t->count) : few;
     for (uint32_t k = 0; k < t->count; k++) values[k] = *t->values[k].at;
-    bool is_well = !t->body || t->body(t->arguments, values) == 0;
-    if (values != few) free(values);
-    return is_well;
+    return !t->body || t->body(t->arguments, values) == 0;
 }
 
 /* Frees the copies that the task was the last to read. The lock is held. */
@@ -688,7 +687,8 @@ void gerfmuod_mpi_close(gerfmuod_mpi *graph) {
     for (uint32_t k = 0; k < graph->tasks_count; k++) free_task(&graph->tasks[k]);
     for (uint32_t k = 0; k < graph->data_count; k++) free(graph->data[k]);
     for (uint32_t k = 0; k < graph->copies_count; k++) free(graph->copies[k]->at), free(graph->copies[k]);
-    free(graph->tasks), free(graph->data), free(graph->copies), free(graph->due.at), free(graph->taken.at), free(graph->receipts), free(graph->hashes);
+    free(graph->tasks), free(graph->data), free(graph->copies), free(graph->receipts), free(graph->hashes);
+    free(graph->due.at), free(graph->taken.at);
     free_messages(graph->stops);
     free(graph->sent_to), free(graph->received_from);
     pthread_cond_destroy(&graph->work);
