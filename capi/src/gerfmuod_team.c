@@ -151,30 +151,24 @@ static uint32_t spin(gerfmuod_team *team, uint32_t polls) {
     return polls;
 }
 
-/* A turn while the lock is held, which a thread that waits releases. *waited is the time at which it began to wait, if it did. */
-static gerfmuod_graph_result take_turn(gerfmuod_team *team, uint32_t done, uint64_t *waited) {
-    uint32_t polls = SPINS;
-    gerfmuod_graph_result result = ask(team, GERFMUOD_GRAPH_TURN, done, polls);
-    if (team->profile && !result.refused && done != GERFMUOD_GRAPH_NONE) team->profile->tasks[done].is_done = true;
-    while (result.next == GERFMUOD_GRAPH_SPIN || result.next == GERFMUOD_GRAPH_SLEEP) {
-        bool is_spin = result.next == GERFMUOD_GRAPH_SPIN;
-        if (!*waited) *waited = ticks_now(team->clock);
-        if (is_spin) polls = spin(team, polls);
-        else pthread_cond_wait(&team->news, &team->lock);
-        result = ask(team, is_spin ? GERFMUOD_GRAPH_TURN_SPUN : GERFMUOD_GRAPH_TURN_WOKEN, GERFMUOD_GRAPH_NONE, polls);
-    }
-    return result;
-}
-
 gerfmuod_graph_result gerfmuod_team_turn(gerfmuod_team *team, uint32_t done) {
     uint64_t begun = ticks_now(team->clock), waited = 0;
     acquire(team);
     struct profile *profile = team->profile; /* the same until the turn returns */
     if (profile) profile_end_body(profile, done, begun);
-    gerfmuod_graph_result result = take_turn(team, done, &waited);
-    if (profile) profile_end_turn(profile, result.next == GERFMUOD_GRAPH_RUN ? result.number : GERFMUOD_GRAPH_NONE, begun, waited);
+    uint32_t polls = SPINS;
+    gerfmuod_graph_result answer = ask(team, GERFMUOD_GRAPH_TURN, done, polls);
+    if (profile && !answer.refused && done != GERFMUOD_GRAPH_NONE) profile->tasks[done].is_done = true;
+    while (answer.next == GERFMUOD_GRAPH_SPIN || answer.next == GERFMUOD_GRAPH_SLEEP) {
+        bool is_spin = answer.next == GERFMUOD_GRAPH_SPIN;
+        if (!waited) waited = ticks_now(team->clock);
+        if (is_spin) polls = spin(team, polls);
+        else pthread_cond_wait(&team->news, &team->lock);
+        answer = ask(team, is_spin ? GERFMUOD_GRAPH_TURN_SPUN : GERFMUOD_GRAPH_TURN_WOKEN, GERFMUOD_GRAPH_NONE, polls);
+    }
+    if (profile) profile_end_turn(profile, answer.next == GERFMUOD_GRAPH_RUN ? answer.number : GERFMUOD_GRAPH_NONE, begun, waited);
     release(team);
-    return result;
+    return answer;
 }
 
 void gerfmuod_team_stop(gerfmuod_team *team, uint32_t task) {
@@ -216,58 +210,16 @@ uint32_t gerfmuod_team_start(gerfmuod_team *team, uint32_t threads) {
     return refused;
 }
 
-/* Threads whose bodies are short wait for the lock for longer than they run. So a thread takes up to MOST_TAKEN tasks at once if its
- * last bodies took less than SHORT_BODY nanoseconds each, and if READY_EACH tasks are ready for each thread. */
-enum { MOST_TAKEN = 4, SHORT_BODY = 3000, READY_EACH = 2 };
-
-struct batch {
-    uint32_t tasks[MOST_TAKEN], count; /* those that the thread took and has not reported */
-    uint64_t began;
-};
-
-/* Reports the tasks of a batch, which ran, and takes the next ones. Returns how many. */
-static uint32_t next_batch(gerfmuod_team *team, struct batch *batch) {
-    uint64_t waited = 0;
-    bool is_short = nanoseconds_now() - batch->began < (uint64_t)SHORT_BODY * batch->count;
-    acquire(team);
-    for (uint32_t k = 0; k + 1 < batch->count; k++) ask(team, GERFMUOD_GRAPH_DONE, batch->tasks[k], 0);
-    gerfmuod_graph_result result = take_turn(team, batch->count ? batch->tasks[batch->count - 1] : GERFMUOD_GRAPH_NONE, &waited);
-    for (batch->count = 0; result.next == GERFMUOD_GRAPH_RUN; result = ask(team, GERFMUOD_GRAPH_TURN, GERFMUOD_GRAPH_NONE, 1)) {
-        batch->tasks[batch->count++] = result.number;
-        if (!is_short || batch->count == MOST_TAKEN) break;
-        if (ask(team, GERFMUOD_GRAPH_COUNT, 0, 0).next < READY_EACH * team->threads) break;
-    }
-    release(team);
-    batch->began = nanoseconds_now();
-    return batch->count;
-}
-
-static void run_batches(gerfmuod_team *team) {
-    struct batch batch = {{0}, 0, 0};
-    while (next_batch(team, &batch))
-        for (uint32_t k = 0; k < batch.count; k++)
-            if (team->body(team->context, batch.tasks[k])) {
-                gerfmuod_team_stop(team, batch.tasks[k]);
-                return;
-            }
-}
-
-static void run_one_by_one(gerfmuod_team *team) {
+static void run_tasks(void *argument) {
+    gerfmuod_team *team = argument;
     uint32_t done = GERFMUOD_GRAPH_NONE;
     for (;;) {
-        gerfmuod_graph_result result = gerfmuod_team_turn(team, done);
-        if (result.next != GERFMUOD_GRAPH_RUN) return;
-        done = result.number;
+        gerfmuod_graph_result answer = gerfmuod_team_turn(team, done);
+        if (answer.next != GERFMUOD_GRAPH_RUN) return;
+        done = answer.number;
         if (team->body(team->context, done)) break;
     }
     gerfmuod_team_stop(team, done);
-}
-
-/* What each thread of a run does. Neither field changes in a run. A profile has the times of each turn. */
-static void run_tasks(void *argument) {
-    gerfmuod_team *team = argument;
-    if (team->threads == 1 || team->profile) run_one_by_one(team);
-    else run_batches(team);
 }
 
 /* Starts a run on `threads` threads, of which the crew has some. No body runs before it is known whether there are enough. */

@@ -171,10 +171,7 @@ enum gerfmuod_graph_call {
     GERFMUOD_GRAPH_LEFT = 14,
     /* One more data handle, before a run or in it: `number` is its number, counted from 0. Refused: HISTORY_FULL with MAX_HANDLES;
      * NO_MEMORY. */
-    GERFMUOD_GRAPH_HANDLE = 15,
-    /* task. Reports a task as done, of a thread that goes on without a turn because it has another one. A task that does not run is a
-     * fault, as in a turn. Once there is a fault, nothing changes. */
-    GERFMUOD_GRAPH_DONE = 16
+    GERFMUOD_GRAPH_HANDLE = 15
 };
 
 /* Makes a call that is named above. Refused: BAD_SPEC if there is none of this number. */

@@ -95,9 +95,7 @@ GERFMUOD_CHECKED uint32_t gerfmuod_team_release(gerfmuod_team *team, uint32_t ta
 /* Runs all tasks on `threads` threads, of which the caller is one, and returns when all are done. The others are created by the
  * first run that needs them, and stay until the team is closed: between runs they sleep. Refused before any body runs: as
  * GERFMUOD_GRAPH_START, and NOT_STARTED or NO_MEMORY, after which the team may be run again. After bodies ran: the fault that
- * ended the team, STOPPED if a body failed.
- * If bodies take less than 3 microseconds, each of several threads takes up to 4 tasks at once. It runs them one after the other,
- * also if the team was stopped meanwhile: so a body does not wait for another task to run. A team that records takes one. */
+ * ended the team, STOPPED if a body failed. */
 GERFMUOD_CHECKED uint32_t gerfmuod_team_run(gerfmuod_team *team, uint32_t threads, gerfmuod_team_body body, void *context);
 
 /* The same on `threads` other threads: it returns at once. Until these have left the run, gerfmuod_team_run, again, reset, clear and

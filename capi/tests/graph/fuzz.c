@@ -68,10 +68,10 @@ static void spoil(void) {
 
 static gerfmuod_graph_result call(uint32_t number, uint32_t first, uint32_t second) {
     static const char *const names[] = {"close", "start", "turn", "turn_spun", "turn_woken", "stop", "again", "outside", "release",
-                                        "may_record", "fault", "count", "event", "reset", "left", "handle", "done", "no such call"};
+                                        "may_record", "fault", "count", "event", "reset", "left", "handle", "no such call"};
     if (fault) spoil();
     gerfmuod_graph_result got = gerfmuod_graph_call(&graph, number, first, second);
-    return check(names[number < 17 ? number : 17], got, model_call(&m, number, first, second, got.number));
+    return check(names[number < 16 ? number : 16], got, model_call(&m, number, first, second, got.number));
 }
 
 /* ---- describing */
@@ -104,7 +104,6 @@ static void turn(uint32_t w) {
     uint32_t kind = GERFMUOD_GRAPH_TURN, done = thread[w].state == RUNS ? thread[w].task : GERFMUOD_GRAPH_NONE;
     if (thread[w].state == SPINS) kind = GERFMUOD_GRAPH_TURN_SPUN;
     if (thread[w].state == SLEEPS || thread[w].state == SIGNALLED) kind = GERFMUOD_GRAPH_TURN_WOKEN;
-    if (thread[w].state == RUNS && below(4) == 0) call(GERFMUOD_GRAPH_DONE, done, 0), done = GERFMUOD_GRAPH_NONE;
     thread[w].state = LEFT;
     gerfmuod_graph_result answer = call(kind, done, below(3));
     if (answer.next == GERFMUOD_GRAPH_RUN) thread[w].state = RUNS, thread[w].task = answer.number;
@@ -172,13 +171,12 @@ static void make_any_calls(void) {
         uint32_t kind = below(100), t = about(m.tasks);
         if (kind < 10) spawn();
         else if (kind < 12) describe();
-        else if (kind < 14 && !m.fault) call(17 + about(3), t, t);
+        else if (kind < 14 && !m.fault) call(16 + about(3), t, t);
         else if (kind < 25) call(GERFMUOD_GRAPH_OUTSIDE + below(2), t, 0);
         else if (kind < 60) call(GERFMUOD_GRAPH_TURN + below(3), GERFMUOD_GRAPH_NONE, below(2));
         else if (kind < 90) {
             while (t < m.tasks && m.task[t].stage != RUNNING && below(100)) t = (t + 1) % m.tasks; /* mostly one that runs */
-            bool may_report = t >= m.tasks ? below(20) == 0 : m.task[t].stage == RUNNING || below(4) == 0;
-            if (may_report) call(below(3) ? GERFMUOD_GRAPH_TURN : GERFMUOD_GRAPH_DONE, t, below(2));
+            if (t >= m.tasks ? below(20) == 0 : m.task[t].stage == RUNNING || below(4) == 0) call(GERFMUOD_GRAPH_TURN, t, below(2));
         } else if (kind < 99 || below(8) == 0) call((uint32_t[]){1, 15, 6, 9, 10, 11, 12, 13, 14, 5}[kind - 90], t, 0);
     }
 }

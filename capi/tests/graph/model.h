@@ -202,13 +202,6 @@ static expected model_release(model *m, uint32_t task) {
     return model_answer(0, 0, 0, model_settle(m, false));
 }
 
-/* A report of a thread that goes on: of GERFMUOD_GRAPH_NONE too, which is no task. */
-static expected model_done(model *m, uint32_t task) {
-    if (task != GERFMUOD_GRAPH_NONE) model_report(m, task);
-    else if (!m->fault) m->fault = GERFMUOD_REFUSED_NO_TASK, m->failed = task;
-    return model_answer(0, 0, 0, model_settle(m, false));
-}
-
 static expected model_stop(model *m, uint32_t task) {
     if (!m->fault && !model_is_over(m)) m->fault = GERFMUOD_REFUSED_STOPPED, m->failed = task;
     return model_answer(0, 0, 0, model_settle(m, false));
@@ -223,7 +216,6 @@ static expected model_call(model *m, uint32_t call, uint32_t first, uint32_t sec
     case GERFMUOD_GRAPH_TURN:
     case GERFMUOD_GRAPH_TURN_SPUN:
     case GERFMUOD_GRAPH_TURN_WOKEN: return model_turn(m, call, first, second, found);
-    case GERFMUOD_GRAPH_DONE: return model_done(m, first);
     case GERFMUOD_GRAPH_STOP: return model_stop(m, first);
     case GERFMUOD_GRAPH_FAULT: return model_answer(m->fault, 0, m->fault ? m->failed : 0, 0);
     case GERFMUOD_GRAPH_COUNT: return model_answer(0, model_ready(m), m->tasks, 0);

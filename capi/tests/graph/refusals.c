@@ -255,12 +255,11 @@ CASE(faults) {
         is("the fault", call(GERFMUOD_GRAPH_FAULT, 0, 0), faults[k], 0, tasks[k], 0);
         is("the tasks", call(GERFMUOD_GRAPH_COUNT, 0, 0), 0, k < 2 ? 0 : 1, 2, 0);
         ok("no event", call(GERFMUOD_GRAPH_EVENT, 0, 0));
-        ok("a report", call(GERFMUOD_GRAPH_DONE, 0, 0));
         close_graph();
     }
     open_with(0, 1, 0);
     ok("no fault", call(GERFMUOD_GRAPH_FAULT, 0, 0));
-    for (uint32_t number = 17; number < 19; number++) refused("no such call", call(number, 0, 0), GERFMUOD_REFUSED_BAD_SPEC);
+    for (uint32_t number = 16; number < 18; number++) refused("no such call", call(number, 0, 0), GERFMUOD_REFUSED_BAD_SPEC);
     refused("no such call", call(UINT32_MAX, 0, 0), GERFMUOD_REFUSED_BAD_SPEC);
     is("a task before the start", turn(0), GERFMUOD_REFUSED_WRONG_LIFE, 0, 0, 0);
     close_graph();

@@ -122,8 +122,6 @@ called (call.Turn arrival) first second old new u h =
       decides second h.0.turn turn.reported turn.decided turn.decides,
       reports (task_named first) (came arrival old) turn.reported turn.reports,
     )
-called call.Done first second old new u h =
-    omega (arith, settled h.2.reported new h.0 h.2.settles, reports (Some first) old h.2.reported h.2.reports)
 called call.Stop first second old new u h =
     let ended = h.2.ended in
     omega (arith, settled (stopped_by ended (task_named first) old) new h.0 h.2.settles, stopped ended (task_named first) old)

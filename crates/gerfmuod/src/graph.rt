@@ -33,7 +33,7 @@ pub unsafe extern "C" fn gerfmuod_graph_open(
     (graph as *mut GraphSlot).write(made)
 }
 
-/// Makes the call of a number, 0 to 16.
+/// Makes the call of a number, 0 to 15.
 #[unsafe(no_mangle)]
 pub unsafe extern "C" fn gerfmuod_graph_call(
     graph: *mut u8,

@@ -92,10 +92,6 @@ counts_threads tr p (Started threads n ∷ past) b h =
     let k = counts_threads tr p past h.0 h.1 in let t = start_turns h.2 in omega (arith, k, t)
 counts_threads tr p (Turned v t polls r ∷ past) b h =
     let k = counts_threads tr p past h.0 h.1 in let s = turn_turns h.2.0 h.2.1 in omega (arith, k, s)
-counts_threads tr p (Completed u n ∷ past) b h =
-    let k = counts_threads tr p past h.0 h.1 in
-    let t = settled_turns h.2.settles ∙ ap in_turns (reported_waiting (Some u) h.0 h.2.reported h.2.reports) in
-    omega (arith, k, t)
 counts_threads tr p (Stopped task n ∷ past) b h =
     let k = counts_threads tr p past h.0 h.1 in
     let t = settled_turns h.2.settles ∙ ap in_turns (stopped_waiting h.2.ended task h.0) in
@@ -130,10 +126,6 @@ loses_no_wake_up tr p (Expected t n ∷ past) b h = settled h.2.settles (let k =
 loses_no_wake_up tr p (Released t n ∷ past) b h = settled h.2.settles (let k = loses_no_wake_up tr p past h.0 h.1 in k.few)
 loses_no_wake_up tr p (Started threads n ∷ past) b h = start_awake h.2 (loses_no_wake_up tr p past h.0 h.1)
 loses_no_wake_up tr p (Turned v t polls r ∷ past) b h = turn_awake h.2.1 (loses_no_wake_up tr p past h.0 h.1)
-loses_no_wake_up tr p (Completed u n ∷ past) b h =
-    let k = loses_no_wake_up tr p past h.0 h.1 in
-    settled h.2.settles (subst (λ (w : Waiting). in_turns w ≤ MAX_THREADS)
-        (sym (reported_waiting (Some u) h.0 h.2.reported h.2.reports)) k.few)
 loses_no_wake_up tr p (Stopped task n ∷ past) b h =
     let k = loses_no_wake_up tr p past h.0 h.1 in
     settled h.2.settles (subst (λ (w : Waiting). in_turns w ≤ MAX_THREADS) (sym (stopped_waiting h.2.ended task h.0)) k.few)
@@ -266,8 +258,6 @@ counted tr p (Turned v done polls r ∷ past) b h t =
     let u = h.2.1 in
     ap one (settled_keeps u.settles t) ∙ decided_begun polls r.turn u.reported u.decided u.decides t
     ∙ ap (more_if (runs t r.turn)) (ap one (reports_keep done (came v h.0) u.reported u.reports t) ∙ counted tr p past h.0 h.1 t)
-counted tr p (Completed u n ∷ past) b h t =
-    ap one (settled_keeps h.2.settles t ∙ reports_keep (Some u) h.0 h.2.reported h.2.reports t) ∙ counted tr p past h.0 h.1 t
 counted tr p (Stopped task n ∷ past) b h t =
     ap one (settled_keeps h.2.settles t ∙ stopped_keeps h.2.ended task h.0 t) ∙ counted tr p past h.0 h.1 t
 counted tr p (Repeated ∷ past) b h t = ap one (same_pool h.2 t ∙ anew_begun h.0.pool.tasks t)

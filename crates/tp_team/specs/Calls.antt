@@ -192,9 +192,3 @@ pub record TakesTurn (arrival : Arrival) (done : Option ℕ) (polls : ℕ) (old 
   pub decided : State
   pub decides : Decides polls reply.turn reported decided
   pub settles : Settles decided new reply.signals
-
--- A thread reports a task, and goes on without a turn.
-pub record Completes (task : ℕ) (old new : State) (signals : ℕ) : Type 0 where
-  pub reported : State
-  pub reports : Reports (Some task) old reported
-  pub settles : Settles reported new signals

@@ -2,7 +2,7 @@
 -- dispatches each task of a run once.
 use Rattle.std.specs.Prelude.{ℕ, ◌+◌, ◌≡◌, ◌≤◌, ◌==◌, List, [], ◌∷◌, Bool, false, Option, Some, IsTrue, IsFalse, slice_get, if◌then◌else◌}
 use Rattle.tp_dag.specs.{Calls.{Becomes, one_more, one_less, with_spawned}, Describing.Graph, State.{Entry, IsAt}}
-use Rattle.tp_team.specs.{Calls.{TakesTurn, Completes, Starts, Stops, Changes, opened, repeated, with_graph, with_pool}, State.{HasReady, HasEnded}}
+use Rattle.tp_team.specs.{Calls.{TakesTurn, Starts, Stops, Changes, opened, repeated, with_graph, with_pool}, State.{HasReady, HasEnded}}
 use Rattle.tp_team.specs.{State.{LosesNoWakeUp, Settles, in_turns}, declared.{state.State.State, turn.{Arrival.Arrival, Reply.Reply}}}
 use Rattle.tp_team.specs.declared.turn.Turn.{Turn}
 use Rattle.tp_dag.specs.declared.entry.Stage.TheVariants as stage
@@ -31,7 +31,6 @@ pub data Call : Type 0 where
   Released : (task signals : ℕ) → Call
   Started : (threads signals : ℕ) → Call
   Turned : (arrival : Arrival) (done : Option ℕ) (polls : ℕ) (reply : Reply) → Call
-  Completed : (task signals : ℕ) → Call
   Stopped : (task : Option ℕ) (signals : ℕ) → Call
   -- `again` and `reset`
   Repeated : Call
@@ -50,7 +49,6 @@ Does (Expected task signals) a b = Changes (Becomes task one_more) a b signals
 Does (Released task signals) a b = Changes (Becomes task one_less) a b signals
 Does (Started threads signals) a b = Starts threads a b signals
 Does (Turned arrival done polls reply) a b = HasWaited arrival a × TakesTurn arrival done polls a b reply
-Does (Completed task signals) a b = Completes task a b signals
 Does (Stopped task signals) a b = Stops task a b signals
 Does Repeated a b = b ≡ repeated a
 

@@ -8,7 +8,7 @@ ghost use Rattle.tp_dag.specs.{Calls.{Becomes, one_more, one_less}, Describing.f
 ghost use Rattle.tp_team.specs.declared.refusal.TeamRefusal.TheVariants as team;
 ghost use Rattle.tp_team.specs.Calls.{first, of_pool, fault_check, describe_checks, record_checks, start_checks, again_checks};
 ghost use Rattle.tp_team.specs.Calls.{reset_checks, spawn_checks, IsGraphRefusal, opened, Changes, with_pool, with_graph, repeated, Starts};
-ghost use Rattle.tp_team.specs.{Calls.{Completes, Stops, TakesTurn}, Laws.NeverStuck, State.{LosesNoWakeUp, Settles}};
+ghost use Rattle.tp_team.specs.{Calls.{Stops, TakesTurn}, Laws.NeverStuck, State.{LosesNoWakeUp, Settles}};
 
 use crate::refusal::{Fault, TeamRefusal};
 use crate::state::State;
@@ -140,15 +140,6 @@ impl Team {
         let turn = self.state.decide(polls);
         let signals = self.state.settle();
         Reply { turn, signals }
-    }
-
-    /// Reports a task of a thread that goes on without a turn, since it has another task. Returns how many sleeping threads are to be
-    /// signalled. A task that does not run ends the team as in a turn.
-    pub fn done(&mut self, task: u32) -> u32
-        ensures { Completes task self.old self.new result }
-    {
-        self.state.report(Some(task));
-        self.state.settle()
     }
 
     /// Ends the team because of a task, or of none: each later turn is refused as `Stopped`. Once there is a fault, and once all tasks

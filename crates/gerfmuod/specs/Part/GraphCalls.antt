@@ -11,7 +11,7 @@ pub use Rattle.tp_flow.specs.{Description.{Description, AreInputs, with_handle, 
 pub use Rattle.tp_flow.specs.{State.{handle_checks, is_not_above}, declared.access.{Access.Access, Mode.{Mode, TheVariants.{Read, Write}}}}
 pub use Rattle.tp_flow.specs.declared.access.Mode.TheVariants.{Update}
 pub use Rattle.tp_team.specs.Calls.{first, of_pool, fault_check, describe_checks, record_checks, start_checks, again_checks, reset_checks}
-pub use Rattle.tp_team.specs.Calls.{spawn_checks, opened, with_graph, with_pool, repeated, Changes, Completes, Starts, Stops, TakesTurn, Check}
+pub use Rattle.tp_team.specs.Calls.{spawn_checks, opened, with_graph, with_pool, repeated, Changes, Starts, Stops, TakesTurn, Check}
 pub use Rattle.tp_team.specs.{Refusals.number_of, State.Settles, declared.{Arrival.TheVariants.{New, Spun, Woken}, Fault.Fault}}
 pub use Rattle.tp_team.specs.declared.{Reply.Reply, State.State, TeamRefusal.{TeamRefusal, TheVariants.Pool}, Turn.{Turn, TheVariants.Run}}
 pub use Rattle.tp_team.specs.declared.Turn.TheVariants.{Spin, Sleep, Over, Refused}
@@ -116,8 +116,7 @@ call_of n =
     else (if n == 12 then Some (OfTeam call.Event)
     else (if n == 13 then Some (OfTeam call.Reset)
     else (if n == 14 then Some (OfTeam call.Left)
-    else (if n == 15 then Some AddHandle
-    else (if n == 16 then Some (OfTeam call.Done) else None))))))))))))))))
+    else (if n == 15 then Some AddHandle else None)))))))))))))))
 
 -- ---- refusals
 -- The call returned this, and nothing changed.
@@ -151,7 +150,6 @@ IsTeamCall call.Start threads _ old answer new =
     (Signals (λ signals. Starts threads old new signals) answer) old answer new
 IsTeamCall (call.Turn arrival) done polls old answer new =
     (reply : Reply) × (answer ≡ reply_answer reply) × TakesTurn arrival (task_named done) polls old new reply
-IsTeamCall call.Done task _ old answer new = Signals (λ signals. Completes task old new signals) answer
 IsTeamCall call.Stop task _ old answer new = Signals (λ signals. Stops (task_named task) old new signals) answer
 IsTeamCall call.Again _ _ old answer new =
     IsJudged (first (again_checks old (of_pool (pool.again_checks old.pool)))) false

@@ -13,7 +13,6 @@ pub enum TeamCall {
     Start,
     /// A turn of a thread that comes so.
     Turn(Arrival),
-    Done,
     Stop,
     Again,
     Outside,
@@ -55,7 +54,6 @@ pub(crate) fn call_of(number: u32) -> Option<Call>
         13 => Some(Call::OfTeam(TeamCall::Reset)),
         14 => Some(Call::OfTeam(TeamCall::Left)),
         15 => Some(Call::AddHandle),
-        16 => Some(Call::OfTeam(TeamCall::Done)),
         _ => None,
     }
 }
@@ -70,7 +68,6 @@ pub(crate) fn called(team: &mut Team, call: TeamCall, first: u32, second: u32) -
             Err(refusal) => refused(refusal),
         },
         TeamCall::Turn(arrival) => of_reply(team.turn(arrival, task_named(first), second)),
-        TeamCall::Done => plain(0, 0, team.done(first)),
         TeamCall::Stop => plain(0, 0, team.stop(task_named(first))),
         TeamCall::Again => match team.again() {
             Ok(()) => plain(0, 0, 0),

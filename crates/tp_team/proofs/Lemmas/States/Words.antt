@@ -10,7 +10,7 @@ pub use Rattle.tp_dag.specs.{Laws.NeverSilent, State.{PoolState, Entry, IsReady,
 pub use Rattle.tp_dag.specs.{State.{is_ready_now, ready_tasks, IsOver, IsConsistent, is_fresh}, declared.entry.Stage.Stage}
 pub use Rattle.tp_team.specs.Calls.{Check, first, of_pool, fault_check, IsGraphRefusal, HasToWait, repeated, TakesTurn, Reports, Decides}
 pub use Rattle.tp_team.specs.{Calls.{Starts, stopped_by, came, opened, with_pool}, Laws.{IsIdle, NeverStuck, Described, Spawned, Expected}}
-pub use Rattle.tp_team.specs.Laws.{Released, Started, Turned, Completed, Stopped, Repeated, HasWaited, waits, returns, CountsThreads, NeverLosesWakeUp}
+pub use Rattle.tp_team.specs.Laws.{Released, Started, Turned, Stopped, Repeated, HasWaited, waits, returns, CountsThreads, NeverLosesWakeUp}
 pub use Rattle.tp_team.specs.{Laws.{Call, LeadTo, runs, dispatches, DispatchesOnce}, State.{HasReady, HasFinished, in_turns, needed}}
 pub use Rattle.tp_team.specs.{State.{signalled_by, HasEnded, Settles, LosesNoWakeUp, left}, declared.limits.TheConstants.MAX_THREADS}
 pub use Rattle.tp_team.specs.declared.{refusal.{Fault.Fault, TeamRefusal.TeamRefusal}, state.State.State, turn.Arrival.Arrival}
