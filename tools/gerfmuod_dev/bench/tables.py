@@ -297,9 +297,9 @@ def speed_up(rows, row):
 
 
 def growth(rows, row):
-    """Returns the nanoseconds a task, and how many times as long as in the smallest graph of this shape that is."""
+    """Returns the nanoseconds a task, and their ratio to those of the smallest graph of this shape."""
     least = next(other for other in having(rows, where=row.where) if other.case.split()[0] == row.case.split()[0])
-    return f"{NANOSECONDS(rows, row)}, {ratio(row.milliseconds * least.units, least.milliseconds * row.units):.2f} times"
+    return f"{NANOSECONDS(rows, row)}; {ratio(row.milliseconds * least.units, least.milliseconds * row.units):.2f}"
 
 
 MILLISECONDS = functools.partial(time_text, "{:.1f}", lambda row: 1)
@@ -308,7 +308,7 @@ NANOSECONDS = functools.partial(time_text, "{:,.0f}", lambda row: 1e6 / row.unit
 GRAPHS = {
     "Speed-up over the bodies one after the other, whose length is in microseconds": (r"\w+, bodies of", speed_up),
     "Nanoseconds a task, with its description": (r"\w+, empty", NANOSECONDS),
-    "Nanoseconds a task, by the number of tasks": (r"\w+, [\d,]+ empty", growth),
+    "Nanoseconds a task, and their ratio to those of the smallest graph of the shape": (r"\w+, [\d,]+ empty", growth),
     "Microseconds a run of 20 tasks": ("wave of", functools.partial(time_text, "{:.2f}", lambda row: 1e3 / row.units)),
     "Milliseconds of Python": ("Python", MILLISECONDS),
     "Milliseconds": ("", MILLISECONDS),
