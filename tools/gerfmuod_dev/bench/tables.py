@@ -264,7 +264,7 @@ def front(runs, body_rows, rod_rows):
         lines.append([f"{'' if case[0] == '`' else 'Rod: '}{case}, 4 workers, ms", *cells])
         without += [f"{case} ({name})"] * (name in WITHOUT_RUNTIME)
     parts = [table(["On four cores, a run (quartiles)", *FRONT], lines)]
-    return "\n\n".join(parts + [f"No runtime pays, with four workers, for {'; '.join(without)}."] * bool(without))
+    return "\n\n".join(parts + [f"Parallelism does not pay off, with four workers, for {'; '.join(without)}."] * bool(without))
 
 
 def library(rows):
