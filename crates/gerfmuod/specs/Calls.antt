@@ -17,7 +17,7 @@ pub use Rattle.tp_core.specs.declared.{Reply.TheVariants.{Plain, WaveSums, Not, 
 pub use Rattle.tp_text.specs.{AuditText.IsAuditText, TraceOf.{IsTraceOf, CanBeTraced}, declared.input.TheConstants.MAX_TEXT}
 pub use Rattle.tp_text.specs.declared.verdict.Verdict.{Verdict, TheVariants.{Sound, Refused}}
 pub use Rattle.tp_wave.specs.{Generations.present, Sums.{is_ended, visited_at}}
-use Rattle.gerfmuod.specs.declared.pool.CoreRoom.TheInside.{Inside}
+use Rattle.gerfmuod.specs.declared.pool.BoundedCore.TheInside.{Inside}
 
 -- ---- a step as C passes it: the number of its kind and its arguments
 abbrev pub node : ℕ → NodeId
@@ -127,7 +127,7 @@ pub record IsCall {A : Type 0} (refused_as : ℕ → A) (does : Accepted → A �
   pub if_busy : old.use_is ≡ Busy → (u ≡ refused_as 28) × (new ≡ old)
   pub if_open : old.use_is ≡ Open → (new.use_is ≡ Open) × does old.core u new.core
 
--- ---- the invariant of a `CoreRoom`, and the safety property of the calls on it
+-- ---- the invariant of a `BoundedCore`, and the safety property of the calls on it
 -- The number of nodes and the limit are the core's, and in each generation the core's steps are a run. Until termination is
 -- detected, there is room for 9 steps for each node.
 pub record IsKept (p : Inside) : Type 0 where

@@ -6,7 +6,7 @@ ghost use Rattle.gerfmuod.specs.Calls.{IsStatusCall, refused_step, IsReserveCall
 ghost use Rattle.gerfmuod.specs.Calls.{is_ending_if, refusal_told, reply_told, IsTold, raw_step, TellsNoEarlyEnd, opening, refusal_of};
 
 use crate::answer::{Counters, Settled, Status, StepResult};
-use crate::pool::CoreRoom;
+use crate::pool::BoundedCore;
 use crate::raw_step::{RawStep, insert_step, other_step, step_of};
 use crate::slot::{CoreSlot, can_be};
 use tp_base::{ActionId, MessageId, NodeId, Refusal, Step, TaskId};
@@ -122,7 +122,7 @@ fn is_ending(step: Option<Step>) -> bool
 
 /// Returns whether a step that was taken ended something, and nothing is left.
 #[inline(always)]
-fn leaves_nothing(room: &CoreRoom, ends: bool) -> bool
+fn leaves_nothing(room: &BoundedCore, ends: bool) -> bool
     ensures { result ≡ (ends && is_quiet (world_of room.now)) }
 {
     ends && room.core().quiet()
@@ -157,7 +157,7 @@ fn of_reply(reply: Reply) -> StepResult
 /// Takes the next step if there is one, and returns the result for C.
 #[inline(always)]
 #[tactic(auto, using(crate::proofs::Steps::reply_safe))]
-pub(crate) fn told(room: &mut CoreRoom, step: Option<Step>) -> StepResult
+pub(crate) fn told(room: &mut BoundedCore, step: Option<Step>) -> StepResult
     ensures told { IsTold room.old step result room.new }
     ensures safe { TellsNoEarlyEnd (result.event ≡ 3) result.number room.new }
 {
@@ -176,7 +176,7 @@ pub(crate) fn told(room: &mut CoreRoom, step: Option<Step>) -> StepResult
 
 /// Takes the next step if there is one, as `told` does. All that such a step can show is that nothing is left.
 #[inline(always)]
-fn told_plainly(room: &mut CoreRoom, step: Option<Step>) -> StepResult
+fn told_plainly(room: &mut BoundedCore, step: Option<Step>) -> StepResult
     requires { IsTrue (has_plain_reply step) }
     ensures { IsTold room.old step result room.new × TellsNoEarlyEnd (result.event ≡ 3) result.number room.new }
 {
@@ -197,7 +197,7 @@ fn told_plainly(room: &mut CoreRoom, step: Option<Step>) -> StepResult
 /// Refuses a step that there is not.
 #[cold]
 #[inline(never)]
-fn no_step(room: &mut CoreRoom) -> StepResult
+fn no_step(room: &mut BoundedCore) -> StepResult
     ensures { IsTold room.old None result room.new × TellsNoEarlyEnd (result.event ≡ 3) result.number room.new }
 {
     told(room, None)
@@ -206,7 +206,7 @@ fn no_step(room: &mut CoreRoom) -> StepResult
 /// Takes the next step. Each kind of steps of tasks and messages has a copy of what follows: told the kind once, it
 /// does not build the step and match it again.
 #[inline(always)]
-fn taken(room: &mut CoreRoom, raw: RawStep) -> StepResult
+fn taken(room: &mut BoundedCore, raw: RawStep) -> StepResult
     ensures { IsStep raw room.old result room.new }
 {
     let (first, second, third) = (raw.first, raw.second, raw.third);
@@ -251,7 +251,7 @@ pub(crate) fn answered(
 
 /// Returns whether the maker of a kind and a number may make the step; `None` if there is no such kind.
 #[inline(always)]
-fn is_made_by(room: &CoreRoom, kind: u32, number: u32, step: Step) -> Option<bool>
+fn is_made_by(room: &BoundedCore, kind: u32, number: u32, step: Step) -> Option<bool>
     ensures is_made { result ≡ option_map (λ m. is_maker m step (world_of room.now)) (maker_asked kind number) }
     ensures never_early { OnSome result (InEach (IsNeverEarly room.now.nodes) room.now.steps) }
 {
@@ -268,7 +268,7 @@ fn is_made_by(room: &CoreRoom, kind: u32, number: u32, step: Step) -> Option<boo
 
 /// Takes the next step if its maker may make it.
 #[inline(always)]
-fn told_by(room: &mut CoreRoom, maker_kind: u32, maker: u32, step: Option<Step>) -> StepResult
+fn told_by(room: &mut BoundedCore, maker_kind: u32, maker: u32, step: Option<Step>) -> StepResult
     requires { IsTrue (has_plain_reply step) }
     ensures { IsMade room.old (maker_asked maker_kind maker) step result room.new
         × TellsNoEarlyEnd (result.event ≡ 3) result.number room.new }
@@ -285,7 +285,7 @@ fn told_by(room: &mut CoreRoom, maker_kind: u32, maker: u32, step: Option<Step>)
 
 /// Takes the next step if its maker may make it. Each kind has a copy of what follows, as in `taken`.
 #[inline(always)]
-fn taken_by(room: &mut CoreRoom, maker_kind: u32, maker: u32, raw: RawStep) -> StepResult
+fn taken_by(room: &mut BoundedCore, maker_kind: u32, maker: u32, raw: RawStep) -> StepResult
     ensures { IsMade room.old (maker_asked maker_kind maker) (made_step raw) result room.new
         × TellsNoEarlyEnd (result.event ≡ 3) result.number room.new }
 {
@@ -384,7 +384,7 @@ pub(crate) fn seen(slot: &mut CoreSlot) -> Status
 
 /// Takes control steps until termination is detected, if the pool is quiet.
 #[tactic(auto, using(crate::proofs::Steps::settled_over))]
-fn settled_room(room: &mut CoreRoom) -> Settled
+fn settled_room(room: &mut BoundedCore) -> Settled
     ensures settled { IsSettled room.old result room.new × TellsNoEarlyEnd (result.refused ≡ 0) result.wave room.new }
     ensures has_room { result.refused ≢ 16 }
 {
