@@ -1,16 +1,16 @@
 //! The calls on a core, as C gets their results.
 ghost use Rattle.std.specs.Prelude.{◌≡◌, ◌≢◌, ◌&&◌, IsTrue, None, OnSome, option_map};
 ghost use Rattle.gerfmuod.specs.Calls.{number_of, no_numbers, world_of, InEach, is_maker, plain, IsNeverEarly, is_quiet, counters};
-ghost use Rattle.gerfmuod.specs.Calls.{IsSettled, IsStep, IsByCall, IsCountersCall, IsRestartCall, IsSettleCall, IsStepCall};
-ghost use Rattle.gerfmuod.specs.Calls.{IsStatusCall, refused_step, IsReserveCall, made_step, maker_asked, IsMade, has_plain_reply};
+ghost use Rattle.gerfmuod.specs.Calls.{IsSettled, IsStep, IsByCall, IsCountersCall, IsSettleCall, IsStepCall};
+ghost use Rattle.gerfmuod.specs.Calls.{IsStatusCall, IsLeftCall, left_as, left_task, refused_step, IsReserveCall, made_step, maker_asked, IsMade, has_plain_reply};
 ghost use Rattle.gerfmuod.specs.Calls.{is_ending_if, refusal_told, reply_told, IsTold, raw_step, TellsNoEarlyEnd, opening, refusal_of};
 
-use crate::answer::{Counters, Settled, Status, StepResult};
+use crate::answer::{Counters, LeftTask, Settled, Status, StepResult};
 use crate::pool::BoundedCore;
 use crate::raw_step::{RawStep, insert_step, other_step, step_of};
 use crate::slot::{CoreSlot, can_be};
 use tp_base::{ActionId, MessageId, NodeId, Refusal, Step, TaskId};
-use tp_core::{Maker, Reply};
+use tp_core::{Life, Maker, Reply};
 
 /// Returns 0, or the number of `BadSpec` if a pool cannot have this number of nodes.
 pub(crate) fn opening(nodes: u32) -> u32
@@ -361,6 +361,44 @@ fn uncounted(refused: u16) -> Counters
     }
 }
 
+/// Returns the task with the lowest number of a range that is not done, if there is one.
+pub(crate) fn left(slot: &mut CoreSlot, from: u32, end: u32) -> LeftTask
+    ensures { IsLeftCall from end slot.old result slot.new }
+{
+    if !slot.is_open() {
+        return left_as(slot.refusal(), 0, 0, 0, 0);
+    }
+    let core = slot.room.core();
+    match core.next_left(from, end) {
+        Some(task) => left_task(task.0, core.task(task)),
+        None => left_as(0, 0, 0, 0, 0),
+    }
+}
+
+/// Returns the result for the task of a number, with its home and its life.
+fn left_task(number: u32, held: Option<(NodeId, Life)>) -> LeftTask
+    ensures { result ≡ left_task number held }
+{
+    match held {
+        Some((home, Life::Waiting(inputs))) => left_as(0, 1, number, home.0, u32::from(inputs)),
+        Some((home, Life::Ready)) => left_as(0, 2, number, home.0, 0),
+        Some((home, Life::Running)) => left_as(0, 3, number, home.0, 0),
+        _ => left_as(0, 0, 0, 0, 0),
+    }
+}
+
+fn left_as(refused: u16, state: u16, number: u32, node: u32, missing: u32) -> LeftTask
+    ensures { result ≡ left_as refused state number node missing }
+{
+    LeftTask {
+        refused,
+        state,
+        number,
+        node,
+        missing,
+    }
+}
+
 /// Returns the counters of the pool as a whole; nothing if the core is not open.
 pub(crate) fn seen(slot: &mut CoreSlot) -> Status
     ensures { IsStatusCall slot.old result slot.new }
@@ -419,16 +457,4 @@ fn unsettled(refused: u16, steps: u32) -> Settled
         wave: 0,
         steps,
     }
-}
-
-/// Restarts a core.
-pub(crate) fn restarted(slot: &mut CoreSlot) -> u32
-    ensures { IsRestartCall slot.old result slot.new }
-{
-    if !slot.enter() {
-        return u32::from(slot.refusal());
-    }
-    let refused = slot.restart();
-    slot.leave();
-    refused
 }

@@ -35,8 +35,13 @@ impl BoundedCore {
         requires { (1 ≤ nodes) × (nodes ≤ MAX_NODES) }
         ensures { result ≡ new_core_of recorded nodes }
     {
+        let core = if recorded {
+            Core::new(alloc, nodes)
+        } else {
+            Core::unrecorded(alloc, nodes)
+        };
         BoundedCore {
-            core: BoundedCore::core_of(alloc, nodes, recorded),
+            core,
             nodes,
             limit: MAX_STEPS - 9 * nodes,
         }
@@ -125,17 +130,5 @@ impl BoundedCore {
         ensures never_early { InEach (IsNeverEarly self.new.nodes) self.new.steps }
     {
         self.core.settle()
-    }
-
-    /// Returns a new core, with a list of its steps or without.
-    fn core_of(alloc: Global, nodes: u32, recorded: bool) -> Core
-        requires { (1 ≤ nodes) × (nodes ≤ MAX_NODES) }
-        ensures { result ≡ new_core_of recorded nodes }
-    {
-        if recorded {
-            Core::new(alloc, nodes)
-        } else {
-            Core::unrecorded(alloc, nodes)
-        }
     }
 }
