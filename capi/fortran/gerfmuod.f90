@@ -1,5 +1,6 @@
-! gerfmuod.f90: task graphs from Fortran, over gerfmuod/team.h, and one process's part of the detector for distributed programs, over
-! gerfmuod/process.h. These headers describe each call and its refusals.
+! gerfmuod.f90: task graphs from Fortran, over gerfmuod/team.h; one process's part of the detector for distributed programs, over
+! gerfmuod/process.h; and of a core, over gerfmuod/core.h, the call that lists what is left. These headers describe each call and its
+! refusals. The other calls on a core have interfaces in capi/examples/two_waves.f90.
 !
 ! Tasks and classes are counted from 0, as in C. Compile this file with your program and link with -lgerfmuod -pthread.
 module gerfmuod
@@ -52,6 +53,20 @@ module gerfmuod
     integer(c_int64_t) :: epoch, from, to, wave
     integer(c_int32_t) :: token, processes
     integer(c_int64_t) :: sent, received
+  end type
+
+  ! A core, and a task of it that is not done, with why: no task of the range is left, or it waits for `missing` inputs, or it is
+  ! ready, or it runs.
+  integer(c_int16_t), parameter :: gerfmuod_left_none = 0_c_int16_t, gerfmuod_left_waiting = 1_c_int16_t
+  integer(c_int16_t), parameter :: gerfmuod_left_ready = 2_c_int16_t, gerfmuod_left_running = 3_c_int16_t
+
+  type, bind(c) :: gerfmuod_core
+    integer(c_int64_t) :: words(64) = 0
+  end type
+
+  type, bind(c) :: gerfmuod_left_task
+    integer(c_int16_t) :: refused, state
+    integer(c_int32_t) :: number, node, missing
   end type
 
   type, bind(c) :: gerfmuod_graph_result
@@ -283,6 +298,16 @@ module gerfmuod
       character(kind=c_char), intent(out) :: buffer(*)
       integer(c_size_t), value :: length
       integer(c_size_t) :: written
+    end function
+  end interface
+
+  interface
+    ! The task with the lowest number from `from` on and below `end` that is not done.
+    function gerfmuod_core_left(core, from, end) bind(c) result(left)
+      import :: c_int32_t, gerfmuod_core, gerfmuod_left_task
+      type(gerfmuod_core), intent(in) :: core
+      integer(c_int32_t), value :: from, end
+      type(gerfmuod_left_task) :: left
     end function
   end interface
 
