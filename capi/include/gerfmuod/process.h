@@ -29,7 +29,8 @@
  *   - if n <= 2^20, then until ENDED is returned everywhere, a call of gerfmuod_process_next or a control message that was
  *     sent does something; and one that has come need not come again;
  *   - if n <= 2^20, over a network that brings each control message once, in any order: if nothing is left to do, all
- *     processes have come to the last epoch and know its end, and no control message is refused as LATE.
+ *     processes have come to the last epoch and know its end; no control message is refused as LATE; and at most two
+ *     control messages of an epoch are on their way to a process, or kept there until it reopens (for static buffers).
  *
  * Preconditions, which nothing checks:
  *   - pass a message to the transport after gerfmuod_process_count_sent, and only if that returned 0;
@@ -74,19 +75,19 @@ enum {
 
 /* One process. Read its fields, but leave writing to the library. A struct of zeros is not open. */
 typedef struct gerfmuod_process {
-    uint64_t mark;      /* says that the process is open */
-    uint64_t epoch;     /* from 0 */
-    uint32_t number;    /* below processes */
-    uint32_t processes; /* at most 2^20 for the guarantee that all learn of the end */
-    uint64_t pending;   /* open pieces of work: the process is idle if there are none */
-    uint64_t sent;      /* messages counted as sent in this epoch */
-    uint64_t received;  /* messages counted as received in this epoch */
-    uint64_t wave;      /* the newest wave that came here in this epoch, from 1 */
-    uint64_t taken_sent;
-    uint64_t taken_received;
-    uint64_t last_received;
-    uint8_t known; /* a flag, set if it is not 0; so are the bytes below */
-    uint8_t here;
+    uint64_t mark;           /* says that the process is open */
+    uint64_t epoch;          /* from 0 */
+    uint32_t number;         /* below processes */
+    uint32_t processes;      /* at most 2^20 for the guarantee that all learn of the end */
+    uint64_t pending;        /* open pieces of work: the process is idle if there are none */
+    uint64_t sent;           /* messages counted as sent in this epoch */
+    uint64_t received;       /* messages counted as received in this epoch */
+    uint64_t wave;           /* the newest wave that came here in this epoch, from 1 */
+    uint64_t taken_sent;     /* messages sent by all processes below this one, as its children have reported in that wave */
+    uint64_t taken_received; /* messages received by them */
+    uint64_t last_received;  /* at process 0: messages received by all processes, as counted by the wave that was judged last */
+    uint8_t known;           /* at process 0: a wave was judged in this epoch. A flag, set if it is not 0; so are the bytes below */
+    uint8_t here;            /* the newest wave is here: the process has not passed it up */
     uint8_t down_left;
     uint8_t down_right;
     uint8_t up_left;

@@ -24,6 +24,7 @@ static volatile uint64_t returned[2]; /* so that no compiler leaves out a read *
 /* The name of a call, whether it writes, and its result, which does not matter. */
 #define CALLS(X)                                                                                         \
     X(core_open, true, gerfmuod_core_open(&core, 1))                                                     \
+    X(core_open_unrecorded, true, gerfmuod_core_open_unrecorded(&core, 1))                               \
     X(core_close, true, gerfmuod_core_close(&core))                                                      \
     X(core_restart, true, gerfmuod_core_restart(&core))                                                  \
     X(core_reserve, true, gerfmuod_core_reserve(&core, 9, 9, 9))                                         \
@@ -53,6 +54,7 @@ static volatile uint64_t returned[2]; /* so that no compiler leaves out a read *
     X(process_sent, false, gerfmuod_process_sent(&process))                                              \
     X(process_received, false, gerfmuod_process_received(&process))                                      \
     X(process_wave, false, gerfmuod_process_wave(&process))                                              \
+    X(process_text, false, (uint64_t)*gerfmuod_process_text(&process))                                   \
     X(process_fields, false, process.pending) /* the program's own read of a field that the library writes */
 
 enum call {

@@ -3,8 +3,10 @@
 
 #include <deque>
 #include <functional>
+#include <type_traits>
 
 using gerfmuod::Detector;
+static_assert(!std::is_copy_constructible_v<Detector> && !std::is_copy_constructible_v<Detector::Work>, "copies would count apart");
 
 struct Message {
     std::uint64_t epoch, hops;

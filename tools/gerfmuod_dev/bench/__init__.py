@@ -25,12 +25,12 @@ with no busy process and with four. It begins only on a machine at rest, and its
 import os
 import sys
 
-from .. import library, plots, repository
+from .. import library, mpi, plots, repository, running
 from ..repository import processors
 from . import comparing, conditions, document, figures, rows, soundness, tables
 from .cases import FRONT, MEASUREMENTS, PROGRAMS
 from .measuring import TIMED, Bench
-from .peers import Peers
+from .peers import CPP, Peers
 
 # the measurements whose programs compare what they compute themselves
 APART = ("dag", "processes", "preloaded")
@@ -115,7 +115,7 @@ def measure_all(options, names, folder):
 
 
 def compare_outputs(tally, folder):
-    """Counts the measurements of whose quick cases all programs print the same. A peer that cannot be compiled fails, too."""
+    """Counts the measurements of whose quick cases all programs print the same. A peer that cannot be compiled fails, also of APART."""
     peers, reasons = Peers(folder), [*map(repository.reason_not_built, ("tp", "samples")), library.reason_not_built()]
     if any(reasons):
         return tally.fails(f"{next(filter(None, reasons))}: no outputs are compared")
@@ -125,6 +125,10 @@ def compare_outputs(tally, folder):
         except SystemExit as error:
             reason = error
         tally.judge(not reason, reason)
+    starpu = ["-DHAVE_STARPU", *running.run(["pkg-config", "--cflags", "--libs", "starpumpi-1.3"]).out.decode().split(), *mpi.LINK]
+    peers.program("starpu", ("mpicc", f"-I{repository.TOP}/capi/include"), "../../capi/bench/peers/starpu_cholesky.c", tuple(starpu))
+    peers.program("grain_tbb", tuple(CPP), "../../capi/bench/peers/grain_tbb.cpp", ("-pthread", "-ltbb"))
+    peers.over_library("processes")
     for source, needed in peers.left_out.items():
         if needed:
             tally.skips(f"bench/peers/{source}", needed)

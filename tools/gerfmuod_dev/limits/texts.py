@@ -38,14 +38,10 @@ def try_all(tally, program, texts):
     return outputs
 
 
-def pieces(command, text):
-    return [(command, text[:count]) for count in range(len(text) + 1)]
-
-
 def sum_of_pieces(command, text):
     """Returns the sum (FNV-1a, 32 bits) of the expected output and status of each piece of a text, in this order."""
     total = 2_166_136_261
-    for status, out in (expected(*piece) for piece in pieces(command, text)):
+    for status, out in (expected(command, text[:count]) for count in range(len(text) + 1)):
         for byte in (*out.encode(), status):
             total = (total ^ byte) * 16_777_619 % 2**32
     return total
@@ -134,7 +130,7 @@ def cuts(tally, options, _):
         found = sum_of_pieces({"Script": "sim", "Trace": "audit"}[kind], text)
         tally.judge(int(total) == found, f"{TEST}: the sum of the {kind.lower()} {running.short(text)} has to be {found}")
     stored = [text_of(path).encode() for folder in FOLDERS for path in repository.files_in(folder)]
-    texts = [piece for text in stored for piece in pieces("audit" if text.startswith(b"trace") else "sim", text)]
+    texts = [("audit" if text.startswith(b"trace") else "sim", text[:count]) for text in stored for count in range(len(text) + 1)]
     odd = [*(b"nodes 1" + text for text in ODD), *(head + b"nodes 1\n" for head in BEFORE)]
     texts += [(command, head + text) for text in odd for command, head in (("sim", b""), ("audit", b"trace 1\n"), ("audit", b""))]
     try_all(tally, options.tp, texts)
