@@ -114,7 +114,8 @@ def try_failure():
 
 
 def main():
-    wrong = [seed for seed in range(int(sys.argv[1])) if not try_seed(seed)] + ["failure"] * (not try_failure()) + ["types"] * (not try_types())
+    wrong = [seed for seed in range(int(sys.argv[1])) if not try_seed(seed)]
+    wrong += ["failure"] * (not try_failure()) + ["types"] * (not try_types())
     wrong = WORLD.allreduce(wrong)
     if WORLD.rank == 0:
         print(f"wrong: {wrong}" if wrong else "as it should be")

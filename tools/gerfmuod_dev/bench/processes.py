@@ -1,9 +1,9 @@
 """Measures programs over Open MPI on this machine: the detectors for distributed programs, also call by call and in simulations, the
 factorization of a matrix, messages from task to task, and short tasks.
 
-The proved detector is that of lib/libgerfmuod.a. The others are hand-written, in capi/mpi/detectors.h: the same four counters over the
-same tree, Safra's ring (EWD 998), and repeated reductions of the counters (MPI_Iallreduce). The matrix is factored by graph_cholesky.c,
-mpi_cholesky.c and, if they are installed, StarPU and ScaLAPACK. The messages are those of graph_costs.c, over MPICH too, the short tasks those of graph_patterns.c.
+The proved detector is that of lib/libgerfmuod.a. The others are hand-written (capi/mpi/detectors.h): the same four counters over the
+same tree, Safra's ring (EWD 998), and reductions of the counters (MPI_Iallreduce). Of capi/mpi are graph_cholesky.c, mpi_cholesky.c
+(also StarPU, ScaLAPACK), graph_costs.c with messages, over MPICH too, and graph_patterns.c with short tasks.
 """
 import functools
 import itertools
@@ -46,7 +46,7 @@ STEPS = rf": {NUMBER} steps, {NUMBER} control messages, {NUMBER} waves"
 FACTORED = rf", {NUMBER} s, .*: right"
 TASKS = rf".*: {NUMBER} ns an iteration, microseconds{{}}, .*: right\n"
 COSTS = rf"to task {NUMBER} us, with MPI alone {NUMBER} us; a task of the other process {NUMBER} us"
-COSTS_OF = [("message of 8 bytes", "from task to task"), ("message of 8 bytes", "MPI alone"), ("description of a foreign task", "one graph")]
+COSTS_OF = [("message of 8 bytes", "from task to task"), ("message of 8 bytes", "MPI alone"), ("a foreign task described", "one graph")]
 STORM = rf"{NUMBER} waves, {NUMBER} control messages, at most {NUMBER} waves after the end"
 
 
