@@ -1,19 +1,20 @@
 /* grain.c: the overhead of a task: graphs of small tasks with bodies of a chosen length.
  *
  *   grain [--profile FILE] SHAPE TASKS ITERATIONS ROUNDS WAY..     shapes.h describes the SHAPEs; a WAY is
- *     T       a team of T threads
+ *     T       a team of T threads, which stays
  *     Tt      the same, and the team is traced
  *     PxT     P parts of T threads each, every part with columns that lie next to each other
  *     loop    the bodies in sequence
  *     omp:T   OpenMP's tasks with `depend`     (built with -fopenmp)
  *
- * With --profile teams record their runs, and FILE gets the trace events of the last one. Each body checks that its inputs are
- * done and that it runs for the first time. The times include describing the graph and running it.
+ * With --profile teams record their runs, and FILE gets the trace events of the last one of the team with the most threads. Each body
+ * checks that its inputs are done and that it runs for the first time. The times include describing the graph and running it, and
+ * freeing that of the round before; teams are opened, and their threads started, in the first round, which is not counted.
  */
 #define _POSIX_C_SOURCE 200809L
 #include "../examples/profiled.h"
-#include "shapes.h"
 #include "../examples/timing.h"
+#include "depend.h"
 #include <gerfmuod/parts.h>
 
 static int body(void *context, uint32_t task) {
@@ -22,11 +23,21 @@ static int body(void *context, uint32_t task) {
     return 0;
 }
 
+enum { MOST_THREADS = 64 };
+static gerfmuod_team *teams[MOST_THREADS + 1][2]; /* by the number of threads, and whether it is traced */
+
 static void by_team(uint32_t threads, int is_traced) {
-    gerfmuod_team *team = open_team(is_traced);
-    need(gerfmuod_team_describe(team, task_count, NULL, offsets, inputs, NULL), "describe");
-    need(gerfmuod_team_run(team, threads, body, NULL), "run");
-    close_team(team);
+    need(threads > MOST_THREADS, "the number of threads");
+    gerfmuod_team **team = &teams[threads][is_traced];
+    if (!*team) *team = open_team(is_traced);
+    need(gerfmuod_team_clear(*team), "clear");
+    need(gerfmuod_team_describe(*team, task_count, NULL, offsets, inputs, NULL), "describe");
+    need(gerfmuod_team_run(*team, threads, body, NULL), "run");
+}
+
+static void close_teams(void) {
+    for (uint32_t k = 0; k < 2 * (MOST_THREADS + 1); k++)
+        if (teams[k / 2][k % 2]) close_team(teams[k / 2][k % 2]);
 }
 
 static void in_parts(uint32_t count, uint32_t threads, uint32_t width) {
@@ -37,36 +48,6 @@ static void in_parts(uint32_t count, uint32_t threads, uint32_t width) {
     need(gerfmuod_parts_run(parts, threads, body, NULL), "run");
     gerfmuod_parts_close(parts);
 }
-
-#ifdef _OPENMP
-static void by_openmp(int threads) {
-#pragma omp parallel num_threads(threads)
-#pragma omp single
-    for (uint32_t t = 0; t < task_count; t++) {
-        uint32_t k = offsets[t], count = offsets[t + 1] - k;
-        char *out = &has_ended[t], *a = &has_ended[count > 0 ? inputs[k] : t];
-        char *b = &has_ended[count > 1 ? inputs[k + 1] : t], *c = &has_ended[count > 2 ? inputs[k + 2] : t];
-        (void)out, (void)a, (void)b, (void)c;
-        switch (count) {
-        case 0:
-#pragma omp task depend(out : out[0]) firstprivate(t)
-            run_shape_task(t);
-            break;
-        case 1:
-#pragma omp task depend(out : out[0]) depend(in : a[0]) firstprivate(t)
-            run_shape_task(t);
-            break;
-        case 2:
-#pragma omp task depend(out : out[0]) depend(in : a[0], b[0]) firstprivate(t)
-            run_shape_task(t);
-            break;
-        default:
-#pragma omp task depend(out : out[0]) depend(in : a[0], b[0], c[0]) firstprivate(t)
-            run_shape_task(t);
-        }
-    }
-}
-#endif
 
 static uint32_t width; /* of the graph */
 
@@ -88,12 +69,12 @@ static int all_ran(void) { return !memchr(has_ended, 0, task_count); }
 int main(int argc, char **argv) {
     take_profile_option(&argc, &argv);
     if (argc < 6) return 1;
-    size_t units = task_count = (uint32_t)atol(argv[2]);
-    iterations = atol(argv[3]);
+    task_count = (uint32_t)atol(argv[2]), iterations = atol(argv[3]);
     if (!draw_shape(argv[1])) return 1;
+    size_t units = task_count;
     width = shape_width(argv[1]);
     measure((struct measured){clear_shape, go, all_ran, &units}, argv[4], argv + 5, argc - 5);
-    write_profile();
+    close_teams(), write_profile();
     free(offsets), free(inputs), free(has_ended);
     return 0;
 }

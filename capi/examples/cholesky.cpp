@@ -6,7 +6,7 @@
 #include <cstdlib>
 #include <deque>
 
-using gerfmuod::read, gerfmuod::update;
+using gerfmuod::priority, gerfmuod::read, gerfmuod::update;
 using Tile = gerfmuod::Data<std::vector<double>>; // column by column
 
 static const int count = 8, size = 32;
@@ -34,10 +34,10 @@ int main() {
 
     for (int k = 0; k < count; k++) {
         pool.task(factor_tile, update(tile(k, k)));
-        for (int i = k + 1; i < count; i++) pool.task(solve_tile, read(tile(k, k)), update(tile(i, k)));
+        for (int i = k + 1; i < count; i++) pool.task(solve_tile, read(tile(k, k)), update(tile(i, k)), priority(1));
         for (int i = k + 1; i < count; i++)
             for (int j = k + 1; j <= i; j++)
-                pool.task(subtract, read(tile(i, k)), read(tile(j, k)), update(tile(i, j)));
+                pool.task(subtract, read(tile(i, k)), read(tile(j, k)), update(tile(i, j)), priority(2));
     }
     pool.run(4);
 

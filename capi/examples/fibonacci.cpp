@@ -18,7 +18,7 @@ static void compute(gerfmuod::Pool &pool, int number, long *result, gerfmuod::Ta
         *result = parts->first + parts->second;
         pool.release(reader);
     };
-    auto sum = pool.task(add, {}, 0, 2);
+    auto sum = pool.task(add, gerfmuod::releases(2));
     pool.task([=, &pool] { compute(pool, number - 1, &parts->first, sum); });
     pool.task([=, &pool] { compute(pool, number - 2, &parts->second, sum); });
 }
@@ -28,7 +28,7 @@ int main(int argc, char **argv) {
     long result = -1, wanted = 0, next = 1, seen = -1;
     for (int k = 0; k < number; k++) wanted = std::exchange(next, wanted + next);
     gerfmuod::Pool pool;
-    auto last = pool.task([&] { seen = result; }, {}, 0, 1);
+    auto last = pool.task([&] { seen = result; }, gerfmuod::releases(1));
     pool.task([&] { compute(pool, number, &result, last); });
     pool.run(static_cast<std::uint32_t>(threads));
     std::printf("%ld, %zu tasks; a loop: %ld\n", seen, pool.size(), wanted);

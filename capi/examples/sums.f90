@@ -1,6 +1,6 @@
 ! sums.f90: the sum of squares of an array, by blocks: a task for each block, and a chain of tasks that adds the parts in order.
-! The graph runs three times, with gerfmuod_team_run, on OpenMP's threads and as tasks that name their data, and is compared with one
-! sum over the whole array. In the second run, the first sum awaits an input from outside.
+! The graph runs with gerfmuod_team_run and on OpenMP's threads, where the first sum awaits an input from outside. Then the team gets a
+! new graph of tasks that name their data, which runs beside the program. Each is compared with one sum over the whole array.
 !
 !   gfortran -fopenmp capi/fortran/gerfmuod.f90 capi/examples/sums.f90 -Llib -lgerfmuod -pthread -o sums && ./sums
 module blocks
@@ -31,8 +31,8 @@ contains
     stop 1
   end subroutine
 
-  function described() result(team)
-    type(c_ptr) :: team
+  subroutine describe(team)
+    type(c_ptr), intent(in) :: team
     integer(c_int32_t) :: offsets(2 * count + 1), inputs(2 * count)
     integer :: k, used
     used = 0
@@ -49,17 +49,15 @@ contains
     end do
     offsets(2 * count + 1) = used
     total = 0
-    call need(gerfmuod_team_open(team))
     call need(gerfmuod_team_describe(team, 2 * count, offsets=offsets, inputs=inputs))
-  end function
+  end subroutine
 
   ! The same, by the data that each task accesses: a part, or a part and the total. So the sums follow each other.
-  function described_by_data() result(team)
-    type(c_ptr) :: team
+  subroutine describe_by_data(team)
+    type(c_ptr), intent(in) :: team
     integer(c_int32_t) :: parts(count), sum_so_far
     integer :: k
     total = 0
-    call need(gerfmuod_team_open(team))
     call need(gerfmuod_team_handle(team, sum_so_far))
     do k = 1, count
       call need(gerfmuod_team_handle(team, parts(k)))
@@ -71,7 +69,7 @@ contains
         [gerfmuod_access(parts(k), gerfmuod_read), gerfmuod_access(sum_so_far, gerfmuod_update)], 2_c_size_t, 0, &
         c_null_funptr, c_null_ptr))
     end do
-  end function
+  end subroutine
 end module
 
 program sums
@@ -83,7 +81,8 @@ program sums
   integer :: i
   x = [(1.0d0 / i, i = 1, size(x))]
 
-  team = described()
+  call need(gerfmuod_team_open(team))
+  call describe(team)
   call need(gerfmuod_team_run(team, 4, c_funloc(run_task), c_null_ptr))
   call compare('gerfmuod_team_run')
 
@@ -101,11 +100,13 @@ program sums
     if (run_task(c_null_ptr, done) /= 0) call gerfmuod_team_stop(team, done)
   end do
   !$omp end parallel
-  call gerfmuod_team_close(team)
   call compare('threads of OpenMP')
 
-  team = described_by_data()
-  call need(gerfmuod_team_run(team, 4, c_funloc(run_task), c_null_ptr))
+  call need(gerfmuod_team_clear(team))
+  call describe_by_data(team)
+  call need(gerfmuod_team_run_async(team, 4, c_funloc(run_task), c_null_ptr))
+  call need(gerfmuod_team_wait(team, gerfmuod_team_no_limit))
+  if (gerfmuod_team_left(team) /= 0) stop 3
   call gerfmuod_team_close(team)
   call compare('tasks with data')
 contains

@@ -1,5 +1,6 @@
-! gerfmuod.f90: task graphs from Fortran, over gerfmuod/team.h, and one process's part of the detector for distributed programs, over
-! gerfmuod/process.h. These headers describe each call and its refusals.
+! gerfmuod.f90: task graphs from Fortran, over gerfmuod/team.h; one process's part of the detector for distributed programs, over
+! gerfmuod/process.h; and of a core, over gerfmuod/core.h, the call that lists what is left. These headers describe each call and its
+! refusals. The other calls on a core have interfaces in capi/examples/two_waves.f90.
 !
 ! Tasks and classes are counted from 0, as in C. Compile this file with your program and link with -lgerfmuod -pthread.
 module gerfmuod
@@ -10,6 +11,8 @@ module gerfmuod
   ! no task, and the inputs of a task that has none
   integer(c_int32_t), parameter :: gerfmuod_graph_none = -1_c_int32_t
   integer(c_int32_t), parameter :: gerfmuod_no_inputs(0) = [integer(c_int32_t) ::]
+  ! no limit of time
+  integer(c_int32_t), parameter :: gerfmuod_team_no_limit = -1_c_int32_t
   ! what a turn returned in next
   integer(c_int32_t), parameter :: gerfmuod_graph_run = 1, gerfmuod_graph_over = 4
   ! refusals; gerfmuod_refusal_text returns texts for them
@@ -50,6 +53,20 @@ module gerfmuod
     integer(c_int64_t) :: epoch, from, to, wave
     integer(c_int32_t) :: token, processes
     integer(c_int64_t) :: sent, received
+  end type
+
+  ! A core, and a task of it that is not done, with why: no task of the range is left, or it waits for `missing` inputs, or it is
+  ! ready, or it runs.
+  integer(c_int16_t), parameter :: gerfmuod_left_none = 0_c_int16_t, gerfmuod_left_waiting = 1_c_int16_t
+  integer(c_int16_t), parameter :: gerfmuod_left_ready = 2_c_int16_t, gerfmuod_left_running = 3_c_int16_t
+
+  type, bind(c) :: gerfmuod_core
+    integer(c_int64_t) :: words(64) = 0
+  end type
+
+  type, bind(c) :: gerfmuod_left_task
+    integer(c_int16_t) :: refused, state
+    integer(c_int32_t) :: number, node, missing
   end type
 
   type, bind(c) :: gerfmuod_graph_result
@@ -173,6 +190,31 @@ module gerfmuod
       integer(c_int32_t) :: refused
     end function
 
+    ! The same beside the caller, on `threads` other threads: it returns at once.
+    function gerfmuod_team_run_async(team, threads, body, context) bind(c) result(refused)
+      import :: c_ptr, c_funptr, c_int32_t
+      type(c_ptr), value :: team, context
+      integer(c_int32_t), value :: threads
+      type(c_funptr), value :: body
+      integer(c_int32_t) :: refused
+    end function
+
+    ! Waits for the end of that run, or for so many milliseconds unless they are gerfmuod_team_no_limit: then it returns
+    ! gerfmuod_refused_running if the run goes on.
+    function gerfmuod_team_wait(team, milliseconds) bind(c) result(refused)
+      import :: c_ptr, c_int32_t
+      type(c_ptr), value :: team
+      integer(c_int32_t), value :: milliseconds
+      integer(c_int32_t) :: refused
+    end function
+
+    ! The number of tasks that are not done.
+    function gerfmuod_team_left(team) bind(c) result(left)
+      import :: c_ptr, c_int32_t
+      type(c_ptr), value :: team
+      integer(c_int32_t) :: left
+    end function
+
     ! The same graph once more, after a run that ended.
     function gerfmuod_team_again(team) bind(c) result(refused)
       import :: c_ptr, c_int32_t
@@ -182,6 +224,13 @@ module gerfmuod
 
     ! The same, also after a run that was stopped or failed.
     function gerfmuod_team_reset(team) bind(c) result(refused)
+      import :: c_ptr, c_int32_t
+      type(c_ptr), value :: team
+      integer(c_int32_t) :: refused
+    end function
+
+    ! An empty graph again, on the threads that are there; after any run, or before one.
+    function gerfmuod_team_clear(team) bind(c) result(refused)
       import :: c_ptr, c_int32_t
       type(c_ptr), value :: team
       integer(c_int32_t) :: refused
@@ -249,6 +298,16 @@ module gerfmuod
       character(kind=c_char), intent(out) :: buffer(*)
       integer(c_size_t), value :: length
       integer(c_size_t) :: written
+    end function
+  end interface
+
+  interface
+    ! The task with the lowest number from `from` on and below `end` that is not done.
+    function gerfmuod_core_left(core, from, end) bind(c) result(left)
+      import :: c_int32_t, gerfmuod_core, gerfmuod_left_task
+      type(gerfmuod_core), intent(in) :: core
+      integer(c_int32_t), value :: from, end
+      type(gerfmuod_left_task) :: left
     end function
   end interface
 

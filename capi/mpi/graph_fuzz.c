@@ -1,5 +1,6 @@
 /* graph_fuzz.c: random task graphs over MPI, compared with the sequential program: data with random owners and sizes, and tasks with
- * random accesses, classes and pauses. Each process compares its own data with a run of all tasks in their order.
+ * random accesses, classes and pauses. Each process compares its own data with a run of all tasks in their order. MPI completes sends
+ * late, and no buffer may be written before.
  *
  *     mpicc -O2 -Icapi/include capi/mpi/graph_fuzz.c capi/include/gerfmuod/mpi.c -Llib -lgerfmuod -pthread -o graph_fuzz
  *     mpirun -n 4 ./graph_fuzz FIRST LAST THREADS [FAILS]
@@ -7,6 +8,7 @@
  * The seeds FIRST to LAST are tried, after each refusal of a description. With FAILS, in each graph one task fails, and every process
  * has to return STOPPED with that task. Prints one line; the exit status is not 0 if a graph was wrong. */
 #define _POSIX_C_SOURCE 200809L
+#include "slow_sends.h"
 #include <gerfmuod/mpi.h>
 
 #include <stdbool.h>
@@ -15,7 +17,7 @@
 #include <string.h>
 #include <time.h>
 
-enum { MOST_DATA = 12, MOST_TASKS = 120, MOST_ACCESSES = 5, MOST_WORDS = 20000, FEW_WORDS = 4, NONE = -1 };
+enum { MOST_DATA = 12, MOST_TASKS = 120, MOST_ACCESSES = 10, MOST_WORDS = 20000, FEW_WORDS = 4, NONE = -1 };
 
 typedef struct {
     uint32_t number, count, words[MOST_ACCESSES], modes[MOST_ACCESSES], pause;
@@ -55,7 +57,7 @@ static struct {
 
 static void draw_data(gerfmuod_mpi *graph, uint32_t count) {
     for (uint32_t d = 0; d < count; d++) {
-        data[d].words = below(6) ? 1 + below(FEW_WORDS) : MOST_WORDS; /* MPI may send many only once they are received */
+        data[d].words = below(6) ? below(FEW_WORDS) : MOST_WORDS; /* MPI may send many only once they are received */
         data[d].owner = (int)below((uint32_t)processes);
         for (uint32_t w = 0; w < data[d].words; w++) data[d].own[w] = data[d].expected[w] = mixed(d, w);
         data[d].handle = gerfmuod_mpi_data(graph, data[d].owner, data[d].owner == me ? data[d].own : NULL, data[d].words * 8);
@@ -133,6 +135,45 @@ static bool is_refused(enum wrong wrong) {
     return !has_two || (refused == reasons[wrong] && !ran);
 }
 
+/* A graph without tasks ends at once, with a datum that has no memory, and without any. */
+static bool is_empty(int owner) {
+    gerfmuod_mpi *graph;
+    if (gerfmuod_mpi_open(&graph, MPI_COMM_WORLD)) return false;
+    if (owner != NONE) (void)gerfmuod_mpi_data(graph, owner, NULL, 0);
+    bool is_right = gerfmuod_mpi_run(graph, 2) == GERFMUOD_OK && gerfmuod_mpi_messages(graph) == 0;
+    gerfmuod_mpi_close(graph);
+    return is_right;
+}
+
+/* The last process describes another graph from task `at` on: a task of another class, or after one more datum, or no more tasks. Every
+ * process has to find that task, of few tasks, and of many one before it. */
+enum difference { CLASS, DATUM, FEWER, DIFFERENCES };
+static bool is_found(enum difference difference, uint32_t tasks, uint32_t at) {
+    gerfmuod_mpi *graph;
+    uint64_t own[2] = {0, 0};
+    uint32_t data[2], task = tasks, apart = tasks < 32000 ? 0 : tasks / 16384;
+    int process = NONE, differs = me == processes - 1;
+    if (gerfmuod_mpi_open(&graph, MPI_COMM_WORLD)) return false;
+    for (int k = 0; k < 2; k++) data[k] = gerfmuod_mpi_data(graph, k * (processes - 1), &own[k], sizeof own[k]);
+    for (uint32_t t = 0; t < (differs && difference == FEWER ? at : tasks); t++) {
+        if (differs && difference == DATUM && t == at) (void)gerfmuod_mpi_data(graph, 0, own, sizeof own[0]);
+        uint32_t class_ = differs && difference == CLASS && t == at;
+        gerfmuod_mpi_task(graph, class_, leave, NULL, 0, GERFMUOD_WRITES(data[t % 2]), GERFMUOD_READS(data[1 - t % 2]));
+    }
+    uint32_t refused = gerfmuod_mpi_run(graph, 1);
+    if (refused) gerfmuod_mpi_failed(graph, &process, &task);
+    gerfmuod_mpi_close(graph);
+    return refused == GERFMUOD_REFUSED_DIFFERENT && process == processes - 1 && task <= at && at - task <= apart;
+}
+
+static bool are_found(void) {
+    static const uint32_t places[][2] = {{1, 0}, {9, 0}, {9, 8}, {100, 63}, {40000, 33001}};
+    bool is_right = true;
+    for (enum difference d = 0; d < DIFFERENCES && processes > 1; d++)
+        for (size_t k = 0; k < sizeof places / sizeof *places; k++) is_right &= is_found(d, places[k][0], places[k][1]);
+    return is_right;
+}
+
 /* A body fails in the last process while process 0 sends it several large values, which nothing there reads any more. */
 static bool is_stopped_between(uint64_t seed) {
     enum { VALUES = 8 };
@@ -164,6 +205,8 @@ int main(int argc, char **argv) {
     uint64_t first = strtoull(argv[1], NULL, 10), last = strtoull(argv[2], NULL, 10), mine[2] = {0, 0}, all[2];
     for (enum wrong wrong = 0; wrong < WRONGS; wrong++)
         if (!is_refused(wrong) && !mine[1]++) fprintf(stderr, "process %d: description %d is not refused\n", me, (int)wrong);
+    if (!(is_empty(NONE) && is_empty(processes - 1)) && !mine[1]++) fprintf(stderr, "process %d: a graph without tasks is wrong\n", me);
+    if (!are_found() && !mine[1]++) fprintf(stderr, "process %d: a difference of the descriptions is not found\n", me);
     for (uint64_t seed = first; seed <= last; seed++) {
         bool is_right = try_seed(seed, (uint32_t)atoi(argv[3]), argc > 4, &mine[0]) && (argc < 5 || is_stopped_between(seed));
         if (!is_right && !mine[1]++) fprintf(stderr, "process %d: seed %llu is wrong\n", me, (unsigned long long)seed);

@@ -7,6 +7,7 @@
  * The seeds FIRST to LAST are runs of one pool, after each refusal. With FAILS, in every second run one body fails, and every process has
  * to return STOPPED. Prints one line, without FAILS with the number of tasks; the exit status is not 0 if a run was wrong. */
 #define _POSIX_C_SOURCE 200809L
+#include "slow_sends.h"
 #include <gerfmuod/mpi_pool.h>
 
 #include <pthread.h>

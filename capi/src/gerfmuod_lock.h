@@ -11,13 +11,13 @@
 /* What is rare is not inlined: a team that does not record has to be as fast as without its profile. */
 #define NOINLINE __attribute__((noinline))
 
-/* The pauses of the processor between the polls of a thread in one turn before it sleeps: 20 to 100 microseconds. They grow. */
+/* The pauses of the processor between the polls of a thread in one turn before it sleeps: 10 to 100 microseconds. They grow. */
 enum { SPINS = 2000, FIRST_POLL = 16, MOST_POLL = 128 };
 
 /* How often a contended lock is retried before the thread blocks, and the pauses of the processor before the first retry and,
- * doubled each time, at most: up to 60 microseconds in all (docs/measurements/details.md). A turn mostly holds the lock for less
- * than half a microsecond; blocking and being woken costs more. */
-enum { TRIES = 12, FIRST_PAUSES = 4, MOST_PAUSES = 128 };
+ * doubled each time, at most: 8 to 80 microseconds in all. A turn mostly holds the lock for less than half a microsecond; blocking
+ * and being woken costs more. */
+enum { TRIES = 60, FIRST_PAUSES = 4, MOST_PAUSES = 32 };
 
 static inline void pause_for(uint32_t pauses) {
     for (; pauses > 0; pauses--) {

@@ -11,6 +11,7 @@
 #include <gerfmuod/parts.h>
 #include "gerfmuod_lock.h"
 
+#include <stdio.h>
 #include <stdlib.h>
 #include <string.h>
 
@@ -50,6 +51,8 @@ struct gerfmuod_parts {
     uint32_t count, handles;
     struct list described, inputs, accesses;
     bool has_run, is_bound, is_crowded;
+    struct processor *processors; /* in the order in which threads are bound to them; NULL if none is */
+    uint32_t processors_count;
     uint32_t threads; /* of each part */
     gerfmuod_team_body body;
     void *context;
@@ -122,7 +125,7 @@ void gerfmuod_parts_close(gerfmuod_parts *parts) {
     if (!parts) return;
     for (uint32_t p = 0; p < parts->count; p++) close_part(&parts->parts[p]);
     pthread_cond_destroy(&parts->change), pthread_mutex_destroy(&parts->lock);
-    free(parts->parts), free(parts->described.items), free(parts->inputs.items), free(parts->accesses.items);
+    free(parts->parts), free(parts->described.items), free(parts->inputs.items), free(parts->accesses.items), free(parts->processors);
     free(parts);
 }
 
@@ -289,18 +292,59 @@ static uint32_t prepare(struct part *part) {
     return refused ? refused : gerfmuod_part_call(&part->graph, GERFMUOD_PART_START, 0).refused;
 }
 
-static void bind_to(uint32_t place) {
+/* A processor: how many before it are of its core, its package, its core, and its number. They are ordered by these. */
+struct processor {
+    int keys[4];
+};
+
 #ifdef __linux__
-    cpu_set_t all, one;
-    if (pthread_getaffinity_np(pthread_self(), sizeof all, &all)) return;
-    place %= (uint32_t)CPU_COUNT(&all);
-    int processor = 0;
-    while (!CPU_ISSET(processor, &all) || place-- > 0) processor++;
+/* The first number that the system has for a processor; 0 if it has none. */
+static int topology_of(int processor, const char *name) {
+    char path[96];
+    int number = 0;
+    snprintf(path, sizeof path, "/sys/devices/system/cpu/cpu%d/topology/%s", processor, name);
+    FILE *file = fopen(path, "re");
+    if (file && fscanf(file, "%d", &number) != 1) number = 0;
+    if (file) fclose(file);
+    return number;
+}
+
+static int by_keys(const void *one, const void *other) {
+    const int *a = ((const struct processor *)one)->keys, *b = ((const struct processor *)other)->keys;
+    int k = 0;
+    while (k < 3 && a[k] == b[k]) k++;
+    return a[k] < b[k] ? -1 : a[k] > b[k];
+}
+
+/* Orders the processors of a set: one of each core of each package, then the second ones. Without a topology all are of one core, and are
+ * in the order of their numbers. Returns whether there was memory. */
+static bool order_processors(gerfmuod_parts *parts, const cpu_set_t *all) {
+    int count = 0, most = CPU_COUNT(all);
+    struct processor *found = calloc((size_t)most, sizeof *found);
+    for (int number = 0; found && count < most; number++) {
+        if (!CPU_ISSET(number, all)) continue;
+        int package = topology_of(number, "physical_package_id"), core = topology_of(number, "thread_siblings_list");
+        int *keys = found[count].keys;
+        keys[1] = package, keys[2] = core, keys[3] = number;
+        for (int k = 0; k < count; k++) keys[0] += found[k].keys[1] == package && found[k].keys[2] == core;
+        count++;
+    }
+    if (found) qsort(found, (size_t)count, sizeof *found, by_keys);
+    parts->processors = found, parts->processors_count = (uint32_t)count;
+    return found;
+}
+#endif
+
+/* Binds this thread to a processor. */
+static void bind_to(const gerfmuod_parts *parts, uint32_t place) {
+#ifdef __linux__
+    cpu_set_t one;
+    if (!parts->processors) return;
     CPU_ZERO(&one);
-    CPU_SET(processor, &one);
+    CPU_SET(parts->processors[place % parts->processors_count].keys[3], &one);
     (void)!pthread_setaffinity_np(pthread_self(), sizeof one, &one);
 #else
-    (void)place;
+    (void)parts, (void)place;
 #endif
 }
 
@@ -320,7 +364,7 @@ static void *be_worker(void *argument) {
     struct worker *worker = argument;
     struct part *part = worker->part;
     bool is_first = worker->place % part->all->threads == 0;
-    if (part->all->is_bound) bind_to(worker->place);
+    bind_to(part->all, worker->place);
     if (await_start(part->all, is_first, is_first ? prepare(part) : GERFMUOD_OK)) work(part);
     return NULL;
 }
@@ -352,7 +396,7 @@ static uint32_t create(gerfmuod_parts *parts, struct worker *workers, uint32_t a
 static uint32_t run_on(gerfmuod_parts *parts, struct worker *workers, uint32_t all) {
     parts->is_crowded = all > processors();
     uint32_t created = create(parts, workers, all), refused = created < all ? GERFMUOD_REFUSED_NOT_STARTED : prepare(&parts->parts[0]);
-    if (parts->is_bound) bind_to(0); /* after the others were created, which may use the same processors */
+    bind_to(parts, 0); /* after the others were created, which may use the same processors */
     pthread_mutex_lock(&parts->lock);
     parts->prepared++;
     pthread_mutex_unlock(&parts->lock);
@@ -371,11 +415,13 @@ uint32_t gerfmuod_parts_run(gerfmuod_parts *parts, uint32_t threads, gerfmuod_te
     struct worker *workers = calloc(all, sizeof *workers);
     if (!workers) return GERFMUOD_REFUSED_NO_MEMORY;
     parts->has_run = true, parts->threads = threads, parts->body = body, parts->context = context;
+    bool has_memory = true;
 #ifdef __linux__
     cpu_set_t before;
     bool is_known = parts->is_bound && !pthread_getaffinity_np(pthread_self(), sizeof before, &before);
+    if (is_known) has_memory = order_processors(parts, &before);
 #endif
-    uint32_t refused = run_on(parts, workers, all);
+    uint32_t refused = has_memory ? run_on(parts, workers, all) : GERFMUOD_REFUSED_NO_MEMORY;
 #ifdef __linux__
     if (is_known) (void)!pthread_setaffinity_np(pthread_self(), sizeof before, &before);
 #endif

@@ -263,6 +263,22 @@ static uint32_t prepare(gerfmuod_team *team, uint32_t call) {
 uint32_t gerfmuod_team_again(gerfmuod_team *team) { return prepare(team, GERFMUOD_GRAPH_AGAIN); }
 uint32_t gerfmuod_team_reset(gerfmuod_team *team) { return prepare(team, GERFMUOD_GRAPH_RESET); }
 
+/* Which call finds a turn that has not returned depends on a fault: MAY_RECORD would be refused as that, and RESET visits each task. */
+uint32_t gerfmuod_team_clear(gerfmuod_team *team) {
+    bool is_free = crew_wait(&team->crew, 0);
+    acquire(team);
+    uint32_t call = ask(team, GERFMUOD_GRAPH_FAULT, 0, 0).refused ? GERFMUOD_GRAPH_RESET : GERFMUOD_GRAPH_MAY_RECORD;
+    is_free = is_free && ask(team, call, 0, 0).refused != GERFMUOD_REFUSED_RUNNING;
+    if (is_free) {
+        struct profile *profile = team->profile;
+        ask(team, GERFMUOD_GRAPH_CLOSE, 0, 0);
+        gerfmuod_graph_open(&team->graph, team->is_traced, team->processors);
+        if (profile) profile->has_run = profile->lacks_inputs = false, profile->task_count = profile->edge_count = 0;
+    }
+    release(team);
+    return is_free ? GERFMUOD_OK : GERFMUOD_REFUSED_RUNNING;
+}
+
 uint32_t gerfmuod_team_record(gerfmuod_team *team, uint32_t slices) {
     struct profile *profile = NULL;
     bool is_free = crew_wait(&team->crew, 0);

@@ -69,6 +69,7 @@ def _declare(library: ctypes.CDLL) -> ctypes.CDLL:
         "gerfmuod_team_turn": (GraphResult, [team, u32]),
         "gerfmuod_team_again": (u32, [team]),
         "gerfmuod_team_reset": (u32, [team]),
+        "gerfmuod_team_clear": (u32, [team]),
         "gerfmuod_team_left": (u32, [team]),
         "gerfmuod_team_stop": (None, [team, u32]),
         "gerfmuod_team_fault": (u32, [team]),

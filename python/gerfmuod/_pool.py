@@ -2,12 +2,15 @@
 from __future__ import annotations
 
 import asyncio
+import collections
 import contextlib
 import ctypes
 import operator
 import os
+import queue
 import signal
 import threading
+import weakref
 from typing import Any, Callable, Dict, Generic, Iterable, Iterator, List, NamedTuple, Optional, Tuple, TypeVar, Union
 
 from ._library import NONE, NOT_STARTED, READ, RUN, UPDATE, WRITE, Access, Team, library
@@ -97,27 +100,85 @@ class _Job(NamedTuple):
     keywords: Dict[str, Any]
 
 
-class _Run:
-    """One run of a team: its threads, and what ended it. None of the threads is the caller, which waits and sees interrupts."""
+class _Exit:
+    """Where the threads of a run leave it. It refers to nothing of the run."""
 
-    def __init__(self, team: Team, jobs: List[Optional[_Job]], keeps_jobs: bool, report: Callable[[], None]) -> None:
+    def __init__(self, count: int) -> None:
+        self.count, self.left = count, 0
+        self._lock, self.ended = threading.Lock(), threading.Lock()
+        self.ended.acquire()  # until all have left
+
+    def leave(self) -> None:
+        with self._lock:
+            self.left += 1
+            if self.left == self.count:
+                self.ended.release()
+
+
+class _Crew:
+    """The threads of a pool, which stay between its runs. Each waits for a run in a queue, and none refers to this object."""
+
+    def __init__(self) -> None:
+        self.process = os.getpid()
+        self._threads: List[threading.Thread] = []
+        self._runs: "queue.SimpleQueue[Any]" = queue.SimpleQueue()
+        self._end = weakref.ref(self, self._runs.put)  # is in the queue once this object is gone, and ends the threads
+
+    def grow(self, count: int) -> None:
+        """Starts threads until there is this number."""
+        while len(self._threads) < count:
+            thread = threading.Thread(target=_serve, name="gerfmuod", args=(self._runs, self._end), daemon=True)
+            try:
+                thread.start()
+            except RuntimeError as error:
+                raise Refused(NOT_STARTED) from error
+            self._threads.append(thread)
+
+    def call(self, runs: "Iterator[_Run]") -> None:
+        """Lets a thread take part in each of these runs. No handler of a signal runs in between, since no bytecode does."""
+        collections.deque(map(self._runs.put, runs), 0)
+
+    def end(self) -> None:
+        self._runs.put(self._end)
+        for thread in self._threads:
+            thread.join()
+
+
+def _serve(runs: "queue.SimpleQueue[Any]", end: "weakref.ref[_Crew]") -> None:
+    """What a thread of a crew does. Between runs its frame refers to none."""
+    for run in iter(runs.get, end):
+        way_out = run.way_out
+        run.work()
+        del run
+        way_out.leave()
+    runs.put(end)  # for the next thread
+
+
+class _Run:
+    """One run of a team, and what ended it. None of its threads is the caller, which waits and sees interrupts."""
+
+    def __init__(self, team: Team, jobs: "List[Optional[_Job]]", keeps_jobs: bool, count: int, report: Callable[[], None]) -> None:
         self.team, self.jobs, self.keeps_jobs, self.report = team, jobs, keeps_jobs, report
         self.errors: "List[Tuple[BaseException, Optional[Task[Any]]]]" = []  # and the task that raised it, if one did
-        self.gate = threading.Event()  # set when it is known whether the run has begun
         self.has_begun = False
+        self.way_out = _Exit(count)
 
-    def run(self, count: int) -> None:
-        """Runs all tasks on a number of threads, and returns when these have ended."""
-        workers: List[threading.Thread] = []
+    def run(self, crew: _Crew) -> None:
+        """Runs all tasks, and returns when the threads have left."""
+        count = self.way_out.count
+        parts = iter([self] * count)  # it shows how many threads were called, also if an interrupt comes
         try:
-            self._start(workers, count)
+            crew.grow(count)
+            _check(self.team, library.gerfmuod_team_start(self.team, count))
+            self.has_begun = True
+            crew.call(parts)
         except BaseException as error:
             self.fail(error)
-        self.gate.set()
         if self.errors and self.has_begun:  # an interrupt before that
             library.gerfmuod_team_stop(self.team, NONE)
-        for worker in workers:
-            self._wait_for(worker)
+        called = count - operator.length_hint(parts)
+        while self.way_out.left < called:
+            self._wait()
 
     def fail(self, error: BaseException, task: "Optional[Task[Any]]" = None) -> None:
         """Ends the run because of an exception. The first one gets a note for each task that failed."""
@@ -128,32 +189,19 @@ class _Run:
             if task:
                 self.errors[0][0].add_note(f"task {task.number} of the pool raised {error!r}")  # type: ignore[attr-defined]
 
-    def _start(self, workers: List[threading.Thread], count: int) -> None:
-        for _ in range(count):
-            worker = threading.Thread(target=self._work, daemon=True)
-            try:
-                worker.start()
-            except RuntimeError as error:
-                raise Refused(NOT_STARTED) from error
-            workers.append(worker)
-        _check(self.team, library.gerfmuod_team_start(self.team, count))
-        self.has_begun = True
+    def _wait(self) -> None:
+        try:
+            # not for longer, or else an interrupt that the system delivers to another thread is not seen
+            if not self.way_out.ended.acquire(timeout=0.1) and not self.errors:
+                self.report()
+        except BaseException as error:  # raised by the callback, or by the handler of a signal other than SIGINT
+            self.fail(error)
 
-    def _wait_for(self, worker: threading.Thread) -> None:
-        while worker.is_alive():
-            try:
-                worker.join(0.1)  # or else an interrupt that the system delivers to another thread is not seen
-                if worker.is_alive() and not self.errors:
-                    self.report()
-            except BaseException as error:  # raised by the callback, or by the handler of a signal other than SIGINT
-                self.fail(error)
-
-    def _work(self) -> None:
+    def work(self) -> None:
         """Runs tasks until the run is over or stops."""
-        self.gate.wait()
         done = NONE
         try:
-            while self.has_begun:
+            while True:
                 answer = library.gerfmuod_team_turn(self.team, done)
                 if answer.refused or answer.next != RUN:
                     return
@@ -207,10 +255,11 @@ class Pool:
         keep_bodies: whether functions and their arguments live as long as the pool. Otherwise each
             is dropped when it ran, and :meth:`again` and :meth:`reset` raise RuntimeError.
 
-    :meth:`run` calls the functions of the tasks on several threads. Any thread, also a function of
-    a task, may call :meth:`task`, :meth:`outside`, :meth:`release` and :meth:`stop`. The other
-    methods raise RuntimeError while the pool runs. All raise ValueError if the pool is closed,
-    TypeError if an argument is no task or no integer, and Refused as the library's calls.
+    :meth:`run` calls the functions of the tasks on several threads, which stay until the pool is
+    closed or no longer referenced. Any thread, also a function of a task, may call :meth:`task`,
+    :meth:`outside`, :meth:`release` and :meth:`stop`. The other methods raise RuntimeError while
+    the pool runs. All raise ValueError if the pool is closed, TypeError if an argument is no task
+    or no integer, and Refused as the library's calls.
     """
 
     def __init__(self, *, traced: bool = False, keep_bodies: bool = False) -> None:
@@ -227,6 +276,7 @@ class Pool:
         self._failed: "Optional[Task[Any]]" = None
         self._lock: Any = threading.RLock()  # held while a task gets its number, and by calls that the library takes one at a time
         self._running = threading.Lock()  # held in a run
+        self._crew = _Crew()
 
     def task(
         self,
@@ -363,14 +413,16 @@ class Pool:
                     total, left = len(self), self.left
                 progress(total - left, total)
 
-        run = _Run(self._open_team(), self._jobs, self._keeps_bodies, report)
+        run = _Run(self._open_team(), self._jobs, self._keeps_bodies, count, report)
         with _interrupts(run.fail):
             if not self._running.acquire(blocking=False):
                 raise RuntimeError("the pool runs")
             try:
                 with self._free_lock():
                     pass  # a call that began before has ended
-                run.run(count)
+                if self._crew.process != os.getpid():  # a child of fork() has none of the threads
+                    self._crew = _Crew()
+                run.run(self._crew)
             finally:
                 self._running.release()
         if run.errors:
@@ -432,6 +484,19 @@ class Pool:
         self._prepare(library.gerfmuod_team_reset)
         self._failed = None
 
+    def clear(self) -> None:
+        """Makes the pool empty again, for a new description; its threads stay.
+
+        The tasks and handles of before are then of no pool. Their results stay.
+        """
+        interrupts: List[BaseException] = []
+        with self._at_rest() as team, _interrupts(interrupts.append):
+            _check(team, library.gerfmuod_team_clear(team))
+            self._identity, self._failed, self._newest.value = object(), None, NONE
+            self._jobs.clear()
+        for interrupt in interrupts:
+            raise interrupt
+
     def _prepare(self, call: Callable[[Team], int]) -> None:
         with self._at_rest() as team:
             if not self._keeps_bodies:
@@ -480,6 +545,7 @@ class Pool:
         if self._team is not None:
             with self._at_rest():
                 self._team, self._jobs = None, []
+        self._crew.end()
 
     def __enter__(self) -> "Pool":
         return self

@@ -12,12 +12,16 @@ in the order of the sequential program, each with what it reads and writes::
         graph.task(list.extend, update(block[b]), read(block[b - 1]))
     graph.run(threads=2)            # block[7].value is there in process 7 % graph.size
 
+A value that another process reads is pickled; the memory of a bytearray, of an array, and of numpy's arrays, also
+in other values, is sent as it is.
+
 The decisions are those of gerfmuod/part.h, which are proved; the copies and the messages are tested.
 """
 from __future__ import annotations
 
 import array
 import ctypes
+import pickle
 import queue
 import time
 import zlib
@@ -38,6 +42,8 @@ NO_NODE, BAD_SPEC, DIFFERENT = 1, 26, 69
 STOP, FIRST_VALUE = 0, 1
 #: How long the caller sleeps while nothing comes, in seconds.
 PAUSE = 0.0001
+#: The most bytes of one message with memory.
+PIECE = 1 << 30
 #: No failure; others are 2^32 times a process, and a task.
 NO_FAILURE = 0x7FFFFFFFFFFFFFFF
 
@@ -84,6 +90,28 @@ class _Copy(NamedTuple):
     handle: int
 
 
+class _Buffer:
+    """A bytearray or an array whose memory is not pickled, but is left to the caller of pickle."""
+
+    def __init__(self, value: Any) -> None:
+        self.value = value
+
+    def __reduce_ex__(self, protocol: Any) -> Tuple[Callable[..., Any], tuple]:
+        return _restored, (getattr(self.value, "typecode", ""), pickle.PickleBuffer(self.value))
+
+
+def _restored(typecode: str, buffer: Any) -> Any:
+    if not typecode:
+        return buffer
+    restored = array.array(typecode)
+    restored.frombytes(buffer)
+    return restored
+
+
+def _pieces(view: memoryview) -> List[memoryview]:
+    return [view[start:start + PIECE] for start in range(0, len(view), PIECE)]
+
+
 class Graph:
     """A task graph over all processes of a communicator.
 
@@ -109,7 +137,8 @@ class Graph:
         self._error: Optional[BaseException] = None
         self._sent = array.array("Q", [0]) * self.size
         self._received = array.array("Q", [0]) * self.size
-        self._requests: List[MPI.Request] = []
+        self._requests: Dict[Tuple[int, int], List[MPI.Request]] = {}  # of what was sent to a process with a tag
+        self._reads: Dict[int, List[Tuple[int, int]]] = {}  # task elsewhere: what it reads of what is sent, by task and process
 
     def data(self, owner: int, value: Any = None) -> Data:
         """Names a datum that lives in a process, which is the only one whose value is used.
@@ -149,7 +178,7 @@ class Graph:
         if owner == self.rank:
             self._own[number] = function, self._bound(arguments)
         else:
-            self._send_to(owner, accesses)
+            self._send_to(owner, accesses, number)
         for access in accesses:
             if access.mode != READ:
                 access.data._writer = number
@@ -164,9 +193,10 @@ class Graph:
             bound.append(argument)
         return tuple(bound)
 
-    def _send_to(self, owner: int, accesses: List[_Access]) -> None:
+    def _send_to(self, owner: int, accesses: List[_Access], reader: int) -> None:
         for access in accesses:
             if access.data.owner == self.rank and access.mode != WRITE:
+                self._reads.setdefault(reader, []).append((access.data._writer, owner))
                 sent = self._goes.setdefault((access.data._writer, owner), [])
                 if access.data._handle not in sent:
                     sent.append(access.data._handle)
@@ -257,27 +287,42 @@ class Graph:
                     self._values.pop(argument, None)
 
     def _isend(self, message: Any, to: int, tag: int) -> None:
-        self._requests = [request for request in self._requests if not request.Test()]
-        self._requests.append(self._world.isend(message, to, tag))
+        """Sends what is pickled and how long the memory is that is not, and then that memory."""
+        buffers: List[pickle.PickleBuffer] = []
+        pickled = pickle.dumps(message, 5, buffer_callback=buffers.append)
+        views = [buffer.raw() for buffer in buffers]
+        self._requests = {key: own for key, own in self._requests.items() if not MPI.Request.Testall(own)}
+        requests = self._requests.setdefault((tag, to), [])
+        requests.append(self._world.isend((pickled, [len(view) for view in views]), to, tag))
+        requests += [self._world.Isend([piece, MPI.BYTE], to, tag) for view in views for piece in _pieces(view)]
         self._sent[to] += 1
 
     def _send(self, task: int, to: int) -> None:
-        handles = self._goes.get((task, to), [])
-        self._isend([(handle, self._data[handle].value) for handle in handles], to, FIRST_VALUE + task)
+        values = [(handle, self._data[handle].value) for handle in self._goes.get((task, to), [])]
+        own = [(handle, _Buffer(value) if type(value) in (bytearray, array.array) else value) for handle, value in values]
+        self._isend(own, to, FIRST_VALUE + task)
 
     def _receive(self) -> bool:
         """Receives one message, if one came; returns whether it did."""
         status = MPI.Status()
         if not self._world.iprobe(status=status):
             return False
-        message = self._world.recv(source=status.source, tag=status.tag)
+        pickled, lengths = self._world.recv(source=status.source, tag=status.tag)
+        buffers = [bytearray(length) for length in lengths]
+        for piece in (piece for buffer in buffers for piece in _pieces(memoryview(buffer))):
+            self._world.Recv([piece, MPI.BYTE], status.source, status.tag)
+        message = pickle.loads(pickled, buffers=buffers)
         self._received[status.source] += 1
         if status.tag == STOP:
             self._failure = min(self._failure, message)
         elif self._failure == NO_FAILURE:
+            task = status.tag - FIRST_VALUE
             for handle, value in message:
-                self._values[_Copy(status.tag - FIRST_VALUE, handle)] = value
-            self._call(ARRIVED, status.tag - FIRST_VALUE)
+                self._values[_Copy(task, handle)] = value
+            # (it read what it got; what writes there now comes after the end of these sends, as MPI asks)
+            for writer, to in self._reads.pop(task, ()):
+                MPI.Request.Waitall(self._requests.pop((FIRST_VALUE + writer, to), []))
+            self._call(ARRIVED, task)
         return True
 
     def _agree(self) -> None:
@@ -293,7 +338,7 @@ class Graph:
             self._world.Alltoall([self._sent, MPI.UINT64_T], [coming, MPI.UINT64_T])
             while self._received != coming:
                 self._receive()
-        MPI.Request.Waitall(self._requests)
+        MPI.Request.Waitall([request for own in self._requests.values() for request in own])
 
     def close(self) -> None:
         """Frees what the graph has. Collective. No other call may follow."""

@@ -3,6 +3,7 @@ import asyncio
 import contextlib
 import errno
 import functools
+import gc
 import json
 import os
 import pickle
@@ -193,7 +194,7 @@ class Misuse(Case):
         task = pool.task(int)
         pool.close()
         pool.close()
-        calls = (pool.run, pool.stop, pool.again, pool.trace, pool.record, lambda: pool.task(int), lambda: pool.release(task))
+        calls = (pool.run, pool.stop, pool.again, pool.clear, pool.trace, pool.record, lambda: pool.task(int), lambda: pool.release(task))
         for call in (*calls, lambda: pool.outside(task), lambda: pool.profile(os.devnull), lambda: pool.task(int, after=[task])):
             self.assertRaises(ValueError, call)
         self.assertEqual(len(pool), 1)
@@ -206,7 +207,7 @@ class Misuse(Case):
                 self.assertRaisesRegex(RuntimeError, "the pool runs", call)
                 raised.append(call)
 
-        calls = [pool.run, pool.close, pool.again, pool.trace, pool.record, lambda: pool.summary(os.devnull)]
+        calls = [pool.run, pool.close, pool.again, pool.clear, pool.trace, pool.record, lambda: pool.summary(os.devnull)]
         waiting = pool.task(int)
         pool.outside(waiting)
         pool.task(use, calls)
@@ -302,6 +303,16 @@ class Outside(Case):
                 self.refused("Stopped", call, task=pool.failed and 1)
 
 
+def threads_are(count):
+    """Whether pools have soon this number of threads: those of one that is no longer referenced end beside the caller."""
+    end = time.monotonic() + 60
+    while sum(it.name == "gerfmuod" for it in threading.enumerate()) != count:
+        if time.monotonic() > end:
+            return False
+        time.sleep(0.001)
+    return True
+
+
 class Interrupts(Case):
     def setUp(self):
         # (a shell lets its background processes ignore interrupts)
@@ -346,15 +357,92 @@ class Interrupts(Case):
                 pool.task(int, first)
                 pool.run(2)
 
-        before = signal.default_int_handler, threading.active_count()
+        gc.collect()
         for _ in self.interrupted(run):
-            self.assertEqual((signal.getsignal(signal.SIGINT), threading.active_count()), before)
+            self.assertEqual((signal.getsignal(signal.SIGINT), threads_are(0)), (signal.default_int_handler, True))
+
+    def test_a_clear_that_is_interrupted(self):
+        pool, ran = Pool(), []
+        for count in self.interrupted(pool.clear):
+            pool.task(ran.append, count)
+            pool.clear()
+            for _ in range(count % 3):
+                pool.task(int)
+        self.assertEqual((ran, pool.left), ([], len(pool)))
+        pool.run(1)
 
     def test_runs_that_are_interrupted_at_random_times(self):
         command = [sys.executable, "-X", "faulthandler", os.path.join(os.path.dirname(__file__), "interrupted.py")]
         environment = {**os.environ, "MALLOC_PERTURB_": "165"}  # fills memory that was freed
         result = subprocess.run(command, env=environment, stdout=subprocess.PIPE, stderr=subprocess.STDOUT, timeout=900)
         self.assertEqual((result.returncode, result.stdout), (0, b"1000 of 1000 runs were interrupted\n"))
+
+
+class Threads(Case):
+    def setUp(self):
+        gc.collect()
+        self.assertTrue(threads_are(0))
+
+    def test_threads_stay_until_the_pool_is_closed(self):
+        seen = set()
+        with Pool(keep_bodies=True) as pool:
+            for _ in range(20):
+                pool.task(lambda: seen.add(threading.current_thread()))
+            for count in (2, 1, 2, 2):
+                pool.run(count)
+                pool.again()
+            self.assertTrue(threads_are(2) and len(seen) <= 2)
+            pool.run(3)
+            self.assertTrue(threads_are(3))
+        self.assertTrue(threads_are(0) and not any(it.is_alive() for it in seen))
+
+    def test_threads_end_with_a_pool_that_is_no_longer_referenced(self):
+        for has_cycle in (False, True):
+            pool = Pool()
+            pool.cycle = pool if has_cycle else None
+            pool.task(int)
+            pool.run(3)
+            self.assertTrue(threads_are(3))
+            del pool
+            gc.collect()
+            self.assertTrue(threads_are(0))
+
+    def test_the_interpreter_ends_while_threads_wait(self):
+        lines = "from gerfmuod import Pool", "pool = Pool()", "pool.cycle = pool", "pool.task(print, 'ran')", "pool.run(3)"
+        result = subprocess.run([sys.executable, "-c", "\n".join(lines)], stdout=subprocess.PIPE, stderr=subprocess.STDOUT, timeout=300)
+        self.assertEqual((result.returncode, result.stdout), (0, b"ran\n"))
+
+    @unittest.skipUnless(hasattr(os, "fork"), "no fork")
+    def test_a_child_has_threads_of_its_own(self):
+        pool = Pool(keep_bodies=True)
+        task = pool.task(os.getpid)
+        pool.run(2)
+        pool.again()
+        child = os.fork()
+        if not child:
+            with contextlib.suppress(BaseException):
+                signal.alarm(300)
+                pool.run(2)
+                os._exit(task.result() != os.getpid())
+            os._exit(2)
+        self.assertEqual(os.waitpid(child, 0), (child, 0))
+        pool.run(2)
+        self.assertEqual(task.result(), os.getpid())
+
+    def test_other_graphs_on_the_same_threads(self):
+        pool, threads = Pool(), set()
+        for number in range(100):
+            data = pool.data(number)
+            tasks = [pool.task(lambda it: threads.add(threading.get_ident()) or it + 1, update(data)) for _ in range(5)]
+            last = pool.task(lambda: 1 // (number % 3), updates=[data])
+            with contextlib.suppress(ZeroDivisionError):
+                pool.run(2)
+            self.assertEqual(pool.failed, None if number % 3 else last)
+            pool.clear()
+            self.assertEqual((len(pool), pool.left, pool.failed, tasks[-1].result()), (0, 0, None, number + 1))
+            self.assertRaises(ValueError, pool.task, int, after=tasks)
+            self.assertRaises(ValueError, pool.task, int, reads=[data])
+        self.assertTrue(threads_are(2) and len(threads) <= 2)
 
 
 class Again(Case):

@@ -97,6 +97,9 @@ def run_own_tests(tally):
         output = result.out.decode(errors="replace")
         tally.passed += sum(map(int, re.findall(r"(\d+) passed", output)))
         tally.judge(not result.status, output)
+    if tally.has("flake8", "the rules of .flake8"):
+        result = running.run(["flake8", "tools", "python"])
+        tally.judge(not result.status, result.out.decode(errors="replace"))
 
 
 def arguments(parser):

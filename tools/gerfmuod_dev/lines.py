@@ -3,7 +3,7 @@
 The kinds are: code (src/), tests (the crates test_*, and src/tests), definitions (specs/), lemmas (files of proofs/), answers (the explicit
 answers and invariants in the folders of functions), mutants, and data that programs read or are compared with. Comments and empty lines
 count. Prints a line for each crate in the order of crates.txt, and then the sums, which documents state as the size of the repository.
-Then prints for each limit of the budget what there is; none of them fails.
+Then prints for each limit of the budget what there is; the status is 1 if there is more of one.
 """
 import glob
 import re
@@ -50,11 +50,12 @@ def run(_):
         print(ROW.format(name, *counts.values(), lines))
     proved = lines - rows["all"]["mutants"] - rows["all"]["data"]
     print(f"{crates} crates: {lines:,} lines, {proved:,} of them code, tests, definitions and proofs\n\nbudget:")
-    for name, count, limit in (
+    budget = (
         ("crates", crates, 31),
         ("lines of crates/", lines, 100_000),
         ("lines of Python", lines_in("tools/dev", "tools/**/*.py"), 7_500),
         ("lines of documents", lines_in("*.md", "bench/README.md", "docs/**/*.md"), 4_000),
-    ):
+    )
+    for name, count, limit in budget:
         print(f"{count:9,} of at most {limit:7,} {name}{'' if count <= limit else f': {count - limit:,} too many'}")
-    return 0
+    return int(any(count > limit for _, count, limit in budget))

@@ -13,60 +13,37 @@ import shutil
 import sys
 
 from . import library, mpi_graphs, profiles, repository, running
-from .c_programs import WARNINGS, Run, judge, output_of, start
-from .repository import TOP
-from .shared_object import INCLUDE, environment_options
+from .c_programs import Run, judge, start
+from .mpi_graphs import ENVIRONMENT, MPIS, command_of, compiled
 
-COMPILER = ["mpicc", "-std=c11", *WARNINGS, "-Wno-unused-function", "-O2", f"-I{INCLUDE}", *environment_options("CFLAGS")]
-LINK = [f"-L{TOP}/lib", "-lgerfmuod", "-pthread", "-lm", *environment_options("LDFLAGS")]
-MPIRUN = ["mpirun", "--oversubscribe", "--mca", "mpi_yield_when_idle", "1"]
-# the faults that uts_mpi.c has as an argument, and the one that mpi_cholesky.c has
+# the faults that uts_mpi.c has as an argument; mpi_cholesky.c has the second one
 FAULTS = ["late", "early", "uncounted"]
-CHOLESKY_FAULT = "early"
 # the hand-written detectors, with which `tools/dev bench processes` compares the proved one
 PEERS = ["hand", "safra", "reductions"]
 SEEDS = 5
-COMMANDS = ("mpicc", "mpirun")
+COMMANDS = (MPIS[0].compiler, MPIS[0].runner[0])
 # what to run: the trees, the order of the matrix and of its tiles, the numbers of processes, and the number of random graphs
 Size = collections.namedtuple("Size", "trees matrix counts seeds")
 QUICK = Size(["T0"], ["256", "32"], [1, 2, 4], "60")
 FULL = Size(["T1", "T3"], ["1024", "64"], [1, 2, 4, 8, 16], "1000")
 
 
-def missing():
-    return " and ".join(name for name in COMMANDS if not shutil.which(name))
-
-
-def command_of(program, processes, arguments, seconds):
-    """Returns the command that runs a program with this number of processes; mpirun ends it after these seconds."""
-    return [*MPIRUN, "--timeout", str(seconds), "-n", str(processes), program, *arguments]
-
-
-def environment():
-    return {**os.environ, **mpi_graphs.ROOT}
-
-
 def judge_processes(tally, program, processes, arguments, seconds=300):
-    options = {"env": environment(), "timeout": seconds + running.SECONDS}
-    print(judge(tally, command_of(program, processes, arguments, seconds), Run([]), **options).strip(), flush=True)
+    options = {"env": ENVIRONMENT, "timeout": seconds + running.SECONDS}
+    print(judge(tally, command_of(MPIS[0], processes, program, arguments, seconds), Run([]), **options).strip(), flush=True)
 
 
 def judge_fault(tally, program, runs, seconds):
     """Counts whether a program with a fault misses something, or does not end, in one of these runs."""
-    commands = [command_of(program, 4, arguments_of, seconds) for arguments_of in runs]
-    has_failed = any(start(command, env=environment(), timeout=seconds + running.SECONDS).status for command in commands)
+    commands = [command_of(MPIS[0], 4, program, arguments_of, seconds) for arguments_of in runs]
+    has_failed = any(start(command, env=ENVIRONMENT, timeout=seconds + running.SECONDS).status for command in commands)
     tally.judge(has_failed, f"{os.path.basename(program)} with a fault passed each time: {runs}")
-
-
-def compile_program(name, folder):
-    output_of([*COMPILER, f"{TOP}/capi/mpi/{name}.c", "-o", f"{folder}/{name}", *LINK])
-    return f"{folder}/{name}"
 
 
 def run_programs(tally, folder, size):
     """Searches the trees with each number of processes, and a small one with each detector and each fault; then come the other programs."""
-    program, path = compile_program("uts_mpi", folder), f"{folder}/events.json"
-    idle, cholesky = compile_program("latency", folder), compile_program("mpi_cholesky", folder)
+    program, idle, cholesky = (compiled(MPIS[0], folder, name) for name in ("uts_mpi", "latency", "mpi_cholesky"))
+    path = f"{folder}/events.json"
     for tree, processes in itertools.product(size.trees, size.counts):
         judge_processes(tally, program, processes, [tree])
     for processes in QUICK.counts:
@@ -79,8 +56,8 @@ def run_programs(tally, folder, size):
         judge_processes(tally, idle, 4, [detector, "20"], 60)
     for fault in FAULTS:
         judge_fault(tally, program, [["T0", "proved", fault, str(seed)] for seed in range(1, SEEDS + 1)], 5)
-    judge_fault(tally, cholesky, [[*QUICK.matrix, "2", CHOLESKY_FAULT]] * SEEDS, 10)
-    mpi_graphs.run_programs(tally, folder, size.counts, size.seeds, size.matrix)
+    judge_fault(tally, cholesky, [[*QUICK.matrix, "2", FAULTS[1]]] * SEEDS, 10)
+    mpi_graphs.run_programs(tally, folder, size)
 
 
 def run_quick(tally, folder):
@@ -93,8 +70,9 @@ def arguments(parser):
 
 
 def run(options):
-    reason = library.reason_not_built() or (missing() and f"{missing()}: not installed")
-    if reason and not (options.quick and missing()):
+    missing = " and ".join(name for name in COMMANDS if not shutil.which(name))
+    reason = library.reason_not_built() or (missing and f"{missing}: not installed")
+    if reason and not (options.quick and missing):
         sys.exit(f"{reason}: make lib builds the library, tools/mpi-packages prints the packages")
     if options.quick:
         run_quick(options.tally, options.temporary)

@@ -1,9 +1,8 @@
 """Builds the checker of MPI programs, a library for LD_PRELOAD, and runs it under wrong and right programs.
 
-capi/preload/mpi has the library, and in programs/ the programs. Both are compiled for Open MPI and for MPICH, whichever is installed. A
-wrong program has to be reported with the call, the rank or tag, and the place of its mistake, a right one without a verdict; the file in
-JSON has to agree. The calls of mpi.h are compared with those that the library defines. --build FOLDER only builds the library for
-`mpicc`, or for the compiler that the variable MPICC names. `tools/dev bench preloaded` measures what it costs.
+capi/preload/mpi has the library, and in programs/ the programs. Both are compiled for Open MPI and MPICH, if installed. A wrong program
+has to be reported with the call, the rank or tag, and the place of its mistake, a right one without a verdict; the file in JSON has to
+agree. The calls of mpi.h are compared with those that the library defines. --build FOLDER only builds the library, for `mpicc` or $MPICC.
 """
 import glob
 import json
@@ -24,13 +23,11 @@ OPTIONS = ["-std=gnu11", "-O2", "-Wall", "-Wextra", "-Werror", "-Wno-stringop-ov
 OPTIONS += environment_options("CFLAGS")
 LINK = ["-Llib", "-Wl,-Bstatic", "-lgerfmuod", "-Wl,-Bdynamic", "-ldl", "-Wl,-z,defs", f"-Wl,--version-script={FOLDER}/mpi_check.map"]
 LINK += environment_options("LDFLAGS")
-MPIS = [
-    Mpi("Open MPI", "mpicc.openmpi", "mpifort.openmpi", "mpirun.openmpi --oversubscribe --mca mpi_yield_when_idle 0".split()),
-    Mpi("MPICH", "mpicc.mpich", "mpifort.mpich", ["mpirun.mpich"]),
-]
+# (a rank that yields while it polls loses a time slice each time on a busy machine)
+MPIS = [Mpi("Open MPI", "mpicc.openmpi", "mpifort.openmpi", "mpirun.openmpi --oversubscribe --mca mpi_yield_when_idle 0".split()),
+        Mpi("MPICH", "mpicc.mpich", "mpifort.mpich", ["mpirun.mpich"])]
 FORTRAN_MODES = "right\t2\t\nwrong\t2\t\t: 0 +MPI_Recv +message from 1, tag 8, MPI_COMM_WORLD +\\S+ in \\w+\t4 bytes from rank 1, tag 7"
 VERDICT = re.compile(r"DEADLOCK|UNSAFE|LOST|MISMATCH|no verdict|bug of this library|without MPI_Finalize")
-UNDEFINED = "tools/data/mpi-undefined"
 
 
 def build(compiler, path):
@@ -45,7 +42,7 @@ def compiled(mpi, folder, name):
 def programs(mpi, folder):
     """Compiles the programs for an MPI; yields the path of each, and the list of its modes."""
     compiled(mpi, folder, "cost")
-    for path in (compiled(mpi, folder, name) for name in ("wrong", "right")):
+    for path in (compiled(mpi, folder, name) for name in ("right", "wrong")):
         yield path, output_of([path, "modes"])
     for name in ("fortran", "fortran_2008") if shutil.which(mpi.fortran) else ():
         output_of([mpi.fortran, "-g", "-w", f"{FOLDER}/programs/{name}.f90", "-J", folder, "-o", f"{folder}/{name}"])
@@ -55,20 +52,20 @@ def programs(mpi, folder):
 def printed_by(mpi, count, program, **variables):
     """Runs a program with this number of ranks; returns what it prints, or that it does not end."""
     given = ["env", *(f"{name}={value}" for name, value in variables.items() if value)]
-    command = ["timeout", "-k", "5", "120", *mpi.runner, "-n", str(count), *given, *program]
+    command = ["timeout", "-k", "5", "280", *mpi.runner, "-n", str(count), *given, *program]
     result = running.run(command, stderr=subprocess.STDOUT, env={**os.environ, **ROOT})
     return result.out.decode(errors="replace") + ("did not end" if result.status in (124, 137) else "")
 
 
-def judge(tally, mpi, folder, path, mode, count):
+def judge(tally, mpi, folder, path, mode, count, times):
     """Runs a mode of a program; counts whether what it prints, and writes as JSON, is what its row says."""
     name, _, options, *patterns = mode.split("\t")
     with tempfile.NamedTemporaryFile(dir=folder) as report:
-        variables = {"LD_PRELOAD": f"{folder}/{NAME}", "GERFMUOD_MPI": f"json={report.name},{options}"}
-        printed = printed_by(mpi, count, [path, name], **variables)
+        given = {"LD_PRELOAD": f"{folder}/{NAME}", "GERFMUOD_MPI": f"json={report.name},{options}"}
+        printed = printed_by(mpi, count, [path, name, str(times)], **given)
         verdict = json.loads(repository.text_of(report.name) or '{"verdict": "none"}')["verdict"]
     absent = [pattern for pattern in patterns if not re.search(pattern.replace("LAST", str(count - 1)), printed)]
-    is_well = "done" in printed and not VERDICT.search(printed) if not patterns else not absent
+    is_well = f"done {times}\n" in printed and not VERDICT.search(printed) if not patterns else not absent
     about = f"{mpi.name}, {count} ranks: {os.path.basename(path)} {name}: {verdict}; not printed: {absent}: "
     tally.judge(is_well and (verdict == "ended") != bool(patterns), about + running.short(printed.encode(), 2000))
 
@@ -78,24 +75,27 @@ def judge_names(tally, mpi, path):
     calls = re.findall(r"\b(MPI_[A-Z]\w+) *\(([^;{}]*?)\)[^;(]*;", output_of(header))
     declared = {name for name, types in calls if re.search(r"MPI_(Comm|Request|Message)\b", types)}
     absent = declared - set(re.findall(r" T (MPI_\w+)", output_of(["nm", "-D", path])))
-    unnamed = sorted(name for name in absent if not re.fullmatch(repository.text_of(UNDEFINED), name, re.X))
+    unnamed = sorted(name for name in absent if not re.fullmatch(repository.text_of("tools/data/mpi-undefined"), name, re.X))
     tally.judge(declared and not unnamed, f"{mpi.name}: not defined: {' '.join(unnamed)}")
 
 
 def check(tally, mpi, folder, options):
     build(mpi.compiler, f"{folder}/{NAME}")
     judge_names(tally, mpi, f"{folder}/{NAME}")
-    runs = []
-    for path, mode in [(path, mode) for path, modes in programs(mpi, folder) for mode in modes.splitlines()]:
-        name, least, _, *patterns = mode.split("\t")
-        counts = [count for count in options.ranks if count >= int(least) and name in (options.only or [name])]
-        runs += [(path, mode, count) for count in counts] * ((20 if patterns else 100) if options.full else 1)
-    with ThreadPoolExecutor(max(1, 4 * repository.processors() // max(options.ranks))) as pool:
-        return list(pool.map(lambda run: judge(tally, mpi, folder, *run), runs))
+    modes = [(path, mode) for path, modes in programs(mpi, folder) for mode in modes.splitlines()]
+    for count in options.ranks:
+        runs = []
+        for path, mode in modes:
+            name, least, _, *patterns = mode.split("\t")
+            jobs, times = ((20, 1) if patterns else (5, 20)) if options.full else (1, 1)
+            if count >= int(least) and name in (options.only or [name]):
+                runs += [(job, path, mode, count, times) for job in range(jobs)]
+        with ThreadPoolExecutor(max(1, min(16, 24 * repository.processors() // count))) as pool:
+            list(pool.map(lambda run: judge(tally, mpi, folder, *run[1:]), sorted(runs)))
 
 
 def arguments(parser):
-    parser.add_argument("--full", action="store_true", help="20 runs of each wrong program, and 100 of each right one")
+    parser.add_argument("--full", action="store_true", help="20 jobs of each wrong program, and 5 of 20 runs of each right one")
     parser.add_argument("--ranks", type=int, nargs="+", default=[4], help="the numbers of ranks (4)")
     parser.add_argument("--only", metavar="MODE", nargs="+", help="only the programs with these modes")
     parser.add_argument("--build", metavar="FOLDER", help="only build the library, in this folder")

@@ -2,9 +2,8 @@
 
 graph_fuzz.c compares random graphs, and pool_fuzz.c random tasks that make tasks, with a sequential program, and stop some by a body that
 fails. Others compute something whose result is known: jacobi in C, C++ and Fortran, graph_patterns.c (as bench/peers do), trees,
-factorizations, also by ScaLAPACK. graph_bodies.cpp tests mpi.hpp, graph_failures.f90 the module for Fortran. graph_crash.c ends a process
-in a body: mpirun has to end the others. Then each damage of tools/data/mpi-damages.json in gerfmuod/mpi.c or mpi_pool.c has to be found.
-`tools/dev mpi` calls this.
+factorizations, also by ScaLAPACK and StarPU. graph_bodies.cpp tests mpi.hpp, graph_failures.f90 the module for Fortran. graph_crash.c ends
+a process in a body: mpirun has to end the others. Then each damage of mpi-damages.json has to be found. `tools/dev mpi` calls this.
 """
 import collections
 import itertools
@@ -29,6 +28,7 @@ MPIS = [
     Mpi("MPICH", "mpicc.mpich", "mpifort.mpich", ["mpirun.mpich"], {"kill": "signal 9", "abort": "BAD TERMINATION", "exit": ""}),
 ]
 ROOT = {"OMPI_ALLOW_RUN_AS_ROOT": "1", "OMPI_ALLOW_RUN_AS_ROOT_CONFIRM": "1", "OPENBLAS_NUM_THREADS": "1"}
+ENVIRONMENT = {**os.environ, **ROOT}
 # (without the C++ bindings of MPI-2, whose headers have warnings)
 CPP = ["-std=c++17", *WARNINGS, "-DOMPI_SKIP_MPICXX", "-DMPICH_SKIP_MPICXX", "-O2", f"-I{INCLUDE}"]
 JACOBI, PATTERN = "100 steps of 32000 cells, sum 1000.000000", "checksum 543689408: right"
@@ -75,6 +75,11 @@ def command_of(mpi, processes, program, arguments, seconds=running.SECONDS):
     return ["timeout", "-k", "5", str(seconds), *mpi.runner, "-n", str(processes), program, *arguments]
 
 
+def starpu():
+    """Returns the compiler's options for StarPU over Open MPI, only the first one if it is not installed."""
+    return ["-DHAVE_STARPU", *running.run(["pkg-config", "--cflags", "--libs", "starpumpi-1.3"]).out.decode().split()]
+
+
 def judge_damages(tally, mpi, folder):
     texts, fuzzes = {path: text_of(path) for path in (SOURCE, POOL)}, {SOURCE: ("graph_fuzz", []), POOL: ("pool_fuzz", [SOURCE])}
     for name, old, new, *arguments in json.loads(text_of(DAMAGES)):
@@ -82,7 +87,7 @@ def judge_damages(tally, mpi, folder):
         tally.judge(len(found) == 1, f"{found} have the text of the damage: {name}")
         (fuzz, others), source = fuzzes[found[0]], running.write(f"{folder}/damaged.c", texts[found[0]].replace(old, new))
         command = command_of(mpi, 3, compiled(mpi, folder, fuzz, [source, *others]), ["1", GRAPHS, "2", *arguments], SECONDS)
-        result = start(command, env={**os.environ, **ROOT}, timeout=SECONDS + running.SECONDS)
+        result = start(command, env=ENVIRONMENT, timeout=SECONDS + running.SECONDS)
         tally.judge(result.status, f"{mpi.name}: {found[0]} with a damage passed: {name}")
 
 
@@ -90,38 +95,42 @@ def judge_crashes(tally, mpi, program):
     """Counts whether mpirun ends by itself, fails, says why, and leaves no process, if one ends in a body whose value the others await."""
     for (way, reason), (processes, *rest) in itertools.product(mpi.reasons.items(), ((3, "1"), (4, "2", "return"))):
         command, began = command_of(mpi, processes, program, [way, *rest], SECONDS_OF_CRASH), time.monotonic()
-        result = start(command, env={**os.environ, **ROOT}, timeout=2 * SECONDS_OF_CRASH)
+        result = start(command, env=ENVIRONMENT, timeout=2 * SECONDS_OF_CRASH)
         seconds, left = time.monotonic() - began, start(["pgrep", "-f", program])
         has_failed = result.status and reason.encode() in result.out and WELL.encode() not in result.out
         fault = f"{seconds:.1f} s, {result.description()}, left: {left.description()}: {running.short(result.out, 2000)}"
         tally.judge(has_failed and seconds < SECONDS_OF_CRASH and left.status == 1, f"{' '.join(command)}: {fault}")
 
 
-def run_programs(tally, folder, counts, seeds, matrix):
+def run_programs(tally, folder, size):
     """Runs each program with these numbers of processes, the fuzz over this number of seeds; the damages with one MPI."""
     found = [mpi for mpi in MPIS if tally.has(mpi.compiler, f"task graphs over {mpi.name}")]
     blas, names = BLAS if os.path.exists("/usr/include/x86_64-linux-gnu/cblas-openblas.h") else [], ("graph_cholesky", "mpi_cholesky")
-    if not (blas and os.path.exists(SCALAPACK)):
-        tally.skips("factorizations by ScaLAPACK, or over OpenBLAS", "libscalapack-openmpi-dev or libopenblas-dev")
+    peers = [("../../bench/peers/pdpotrf", ["-lscalapack-openmpi"])] * bool(blas and os.path.exists(SCALAPACK))
+    peers += [("../bench/peers/starpu_cholesky", starpu())] * (len(starpu()) > 1)
+    if len(peers) < 2:
+        tally.skips("factorizations by ScaLAPACK, StarPU or OpenBLAS", "libscalapack-openmpi-dev, libstarpu-dev or libopenblas-dev")
     for mpi in found:
         fuzz, jacobi, costs = (compiled(mpi, folder, name) for name in ("graph_fuzz", "mpi_jacobi", "graph_costs"))
         crash, search, patterns = (compiled(mpi, folder, name) for name in ("graph_crash", "uts_mpi", "graph_patterns"))
         pool_fuzz, pool_search = (compiled(mpi, folder, name, (POOL, SOURCE)) for name in ("pool_fuzz", "pool_search"))
         factoring = [compiled(mpi, folder, name, options=blas) for name in names]
-        if mpi.name == "Open MPI" and blas and os.path.exists(SCALAPACK):
-            options = ["-lscalapack-openmpi", *blas]
-            factoring.append(compiled(mpi, folder, "../../bench/peers/pdpotrf", path=f"{folder}/pdpotrf", options=options))
-        runs = [(program, ["1", seeds, *rest], "") for program in (fuzz, pool_fuzz) for rest in (["1"], ["2"], ["2", "fails"])]
-        runs += [(jacobi, [], JACOBI), (crash, ["none", "2"], WELL), (search, ["T0"], "right"), (pool_search, ["T0", "2"], "right")]
+        for name, options in peers * (mpi.name == "Open MPI"):
+            factoring.append(compiled(mpi, folder, name, path=f"{folder}/{os.path.basename(name)}", options=[*options, *blas]))
+        runs = [(program, ["1", size.seeds, *rest], "") for program in (fuzz, pool_fuzz) for rest in (["1"], ["2"], ["2", "fails"])]
+        runs += [(jacobi, [], JACOBI), (crash, ["none", "2"], WELL), (search, ["T0"], "right")]
+        runs += [(pool_search, [tree, "2"], "right") for tree in size.trees]
         runs += [(patterns, [way, *"spread 16 50 2 2 100".split()], PATTERN) for way in ("graph", "plain")]
         runs += [(compiled_cpp(mpi, folder, name), [], printed) for name, printed in IN_CPP.items()]
         if tally.has(mpi.fortran, f"task graphs in Fortran over {mpi.name}"):
             runs += [(compiled_fortran(mpi, folder, name), [], printed) for name, printed in IN_FORTRAN.items()]
-        runs += [(program, [*matrix, "2"], "right") for program in factoring]
-        for processes in counts:
-            for program, arguments, expected in [*runs, *[(costs, ["100"], "a message of 8 bytes")] * (processes == 2)]:
+        runs += [(program, [*size.matrix, "2"], "right") for program in factoring]
+        for processes in size.counts:
+            # (with 16 processes the threads of StarPU, which never sleep, take minutes)
+            own = [run for run in runs if processes <= 4 or "starpu" not in run[0]]
+            for program, arguments, expected in [*own, *[(costs, ["100"], "a message of 8 bytes")] * (processes == 2)]:
                 command = command_of(mpi, processes, program, arguments)
-                options = {"env": {**os.environ, **ROOT}, "timeout": 2 * running.SECONDS}
+                options = {"env": {**ENVIRONMENT, "STARPU_HOME": folder}, "timeout": 2 * running.SECONDS}
                 print(mpi.name, judge(tally, command, Run([], 0, expected), **options).strip(), sep=": ", flush=True)
         judge_crashes(tally, mpi, crash)
     for mpi in found[:1]:

@@ -188,7 +188,7 @@ def redigest(crate):
     for name in missing:
         print(f"{crate.name}/{name} was never tried: make mutants CRATE={crate.name}")
     if not missing and not is_current(crate):
-        day = f"{file.notes['on'].partition(',')[0]}, carried over a change of names on {datetime.date.today()}"
+        day = f"{file.notes['on'].partition(',')[0]}, carried over on {datetime.date.today()}"
         mutant_files.write(crate.name, file.killers, {**file.notes, "of": digest(crate), "on": day})
         print(f"{crate.name}: carried over {len(mutants_of(crate.name))} mutants")
     return not missing

@@ -151,6 +151,23 @@ typedef struct gerfmuod_counters {
     uint32_t received; /* messages that it received */
 } gerfmuod_counters;
 
+/* Why a task is left. */
+enum {
+    GERFMUOD_LEFT_NONE = 0,    /* no task of the range is left, or the call was refused: all else is 0 */
+    GERFMUOD_LEFT_WAITING = 1, /* it waits for inputs */
+    GERFMUOD_LEFT_READY = 2,   /* it has all its inputs, and was not begun */
+    GERFMUOD_LEFT_RUNNING = 3  /* it was begun, and is not done */
+};
+
+/* A task that was inserted in the present generation and is not done: 16 bytes, by value. */
+typedef struct gerfmuod_left_task {
+    uint16_t refused; /* 0, or why there is none */
+    uint16_t state;   /* GERFMUOD_LEFT_NONE to GERFMUOD_LEFT_RUNNING */
+    uint32_t number;  /* the number of the task */
+    uint32_t node;    /* its home node */
+    uint32_t missing; /* inputs that it still waits for: 1 to 16 if it waits, else 0 */
+} gerfmuod_left_task;
+
 /* The pool as a whole. */
 typedef struct gerfmuod_status {
     uint32_t steps;      /* steps that were taken, of all generations; without a list of them, 0 */
@@ -172,6 +189,7 @@ GERFMUOD_ASSERT(gerfmuod_core_has_512_bytes, sizeof(gerfmuod_core) == 512);
 GERFMUOD_ASSERT(gerfmuod_step_has_20_bytes, sizeof(gerfmuod_step) == 20);
 GERFMUOD_ASSERT(gerfmuod_step_result_has_16_bytes, sizeof(gerfmuod_step_result) == 16);
 GERFMUOD_ASSERT(gerfmuod_counters_have_16_bytes, sizeof(gerfmuod_counters) == 16);
+GERFMUOD_ASSERT(gerfmuod_left_task_has_16_bytes, sizeof(gerfmuod_left_task) == 16);
 GERFMUOD_ASSERT(gerfmuod_status_has_16_bytes, sizeof(gerfmuod_status) == 16);
 GERFMUOD_ASSERT(gerfmuod_settled_has_12_bytes, sizeof(gerfmuod_settled) == 12);
 
@@ -237,6 +255,12 @@ GERFMUOD_CHECKED gerfmuod_step_result gerfmuod_core_step_by(gerfmuod_core *core,
 
 /* The counters of a node. Refused: NO_POOL, BUSY, NO_NODE. */
 GERFMUOD_CHECKED gerfmuod_counters gerfmuod_core_counters(const gerfmuod_core *core, uint32_t node);
+
+/* The task with the lowest number from `from` on and below `end` that is not done; GERFMUOD_LEFT_NONE if there is none. So a loop
+ * lists what is left, for a program that hangs: begin with 0, and go on with the number that was returned + 1. A call looks up each
+ * number up to that of the task, so it takes time in proportion to end - from at most. Task 4,294,967,295 is in no range. Refused:
+ * NO_POOL, BUSY. */
+GERFMUOD_CHECKED gerfmuod_left_task gerfmuod_core_left(const gerfmuod_core *core, uint32_t from, uint32_t end);
 
 /* The pool as a whole. `is_quiet` says at once whether all is over: once it is true, it stays so until the pool is reopened or
  * restarted. If the core is closed or busy, all is 0, and it is not quiet. */

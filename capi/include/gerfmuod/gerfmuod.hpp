@@ -186,6 +186,23 @@ struct Options {
     Options keep_bodies() const { return {is_traced, true}; }
 };
 
+// What else there is to a task, by name: pool.task(f, {a, b}, gerfmuod::priority(1).releases(2)).
+class TaskOptions {
+  public:
+    // The class of the task, 0 to 3: of the ready tasks those of a lower one run first.
+    TaskOptions priority(std::uint32_t class_) const { return TaskOptions(class_, outside); }
+    // The task also waits for this number of calls of release().
+    TaskOptions releases(std::uint32_t number) const { return TaskOptions(own_class, number); }
+    TaskOptions() = default;
+
+  private:
+    friend class Pool;
+    TaskOptions(std::uint32_t class_, std::uint32_t releases_) : own_class(class_), outside(releases_) {}
+    std::uint32_t own_class = 0, outside = 0;
+};
+inline TaskOptions priority(std::uint32_t class_) { return TaskOptions().priority(class_); }
+inline TaskOptions releases(std::uint32_t number) { return TaskOptions().releases(number); }
+
 class Pool {
   public:
     // Throws Refused: NoMemory.
@@ -198,28 +215,33 @@ class Pool {
     // Stops a run of run_async(), and waits for its threads. Not for a body.
     ~Pool() { team.reset(), runs->is_stopped = true; } // before the bodies
 
-    // One more task, before the start or in a run, of a class 0 (first) to 3. It waits for the tasks in `after`, and for
-    // `releases` calls of release(). The body is called without arguments, and may be one that can only be moved. It is
-    // destroyed as soon as it ran, unless the pool keeps bodies. Returns a Task, or if the body returns something, a Result of it.
-    // Throws std::invalid_argument if a task is not of this pool, and Refused as gerfmuod_team_spawn.
+    // One more task, before the start or in a run. It waits for the tasks in `after`. The body is called without arguments, and may be
+    // one that can only be moved. It is destroyed as soon as it ran, unless the pool keeps bodies. Returns a Task, or if the body
+    // returns something, a Result of it. Throws std::invalid_argument if a task is not of this pool, and Refused as gerfmuod_team_spawn.
     template <typename F>
-    auto task(F &&body, std::initializer_list<Task> after = {}, std::uint32_t class_ = 0, std::uint32_t releases = 0) {
-        auto add_it = [&](Body own) { return add(std::move(own), after.begin(), after.size(), class_, releases); };
+    auto task(F &&body, std::initializer_list<Task> after = {}, TaskOptions options = {}) {
+        auto add_it = [&](Body own) { return add(std::move(own), after.begin(), after.size(), options); };
         return describe(std::forward<F>(body), add_it);
     }
     template <typename F>
-    auto task(F &&body, const std::vector<Task> &after, std::uint32_t class_ = 0, std::uint32_t releases = 0) {
-        auto add_it = [&](Body own) { return add(std::move(own), after.data(), after.size(), class_, releases); };
+    auto task(F &&body, const std::vector<Task> &after, TaskOptions options = {}) {
+        auto add_it = [&](Body own) { return add(std::move(own), after.data(), after.size(), options); };
         return describe(std::forward<F>(body), add_it);
     }
-    // The same of class 0, whose body is called with the results of the tasks that it waits for: task(f, read(a), read(b)) calls
-    // f(a.get(), b.get()), and both are const. A task with results accesses no data: their order is another one.
+    template <typename F>
+    auto task(F &&body, TaskOptions options) { return task(std::forward<F>(body), std::initializer_list<Task>(), options); }
+    // The same, whose body is called with the results of the tasks that it waits for: task(f, read(a), read(b)) calls f(a.get(),
+    // b.get()), and both are const. Options come last. A task with results accesses no data: their order is another one.
     template <typename F, typename First, typename... Rest>
-    auto task(F &&body, ReadResult<First> first, ReadResult<Rest>... rest) {
-        auto call_with = [own = std::decay_t<F>(std::forward<F>(body)), first, rest...]() mutable -> decltype(auto) {
-            return std::invoke(own, std::as_const(first.result.get()), std::as_const(rest.result.get())...);
+    auto task(F &&body, ReadResult<First> first, Rest... rest) {
+        auto results = std::tuple_cat(std::make_tuple(first.result), result_of(rest)...);
+        auto after = std::apply([](const auto &...result) { return std::array<Task, sizeof...(result)>{result...}; }, results);
+        auto call_with = [own = std::decay_t<F>(std::forward<F>(body)), results]() mutable -> decltype(auto) {
+            auto call_own = [&](const auto &...result) -> decltype(auto) { return std::invoke(own, std::as_const(result.get())...); };
+            return std::apply(call_own, results);
         };
-        return task(std::move(call_with), {first.result, rest.result...});
+        auto add_it = [&](Body it) { return add(std::move(it), after.data(), after.size(), options_of(rest...)); };
+        return describe(std::move(call_with), add_it);
     }
 
     // One more piece of data. Throws Refused as gerfmuod_team_handle.
@@ -232,25 +254,48 @@ class Pool {
     // one waits for the earlier one. Throws std::invalid_argument if a handle is not of this pool, and Refused as
     // gerfmuod_team_task_on. Returns as task().
     template <typename F>
-    auto task_on(std::initializer_list<Access> accesses, F &&body, std::uint32_t class_ = 0, std::uint32_t releases = 0) {
-        auto add_it = [&](Body own) { return add_on(std::move(own), accesses.begin(), accesses.size(), class_, releases); };
+    auto task_on(std::initializer_list<Access> accesses, F &&body, TaskOptions options = {}) {
+        auto add_it = [&](Body own) { return add_on(std::move(own), accesses.begin(), accesses.size(), options); };
         return describe(std::forward<F>(body), add_it);
     }
     template <typename F>
-    auto task_on(const std::vector<Access> &accesses, F &&body, std::uint32_t class_ = 0, std::uint32_t releases = 0) {
-        auto add_it = [&](Body own) { return add_on(std::move(own), accesses.data(), accesses.size(), class_, releases); };
+    auto task_on(const std::vector<Access> &accesses, F &&body, TaskOptions options = {}) {
+        auto add_it = [&](Body own) { return add_on(std::move(own), accesses.data(), accesses.size(), options); };
         return describe(std::forward<F>(body), add_it);
     }
-    // The same of class 0, whose body is called with the values of the Data among the accesses, in this order: task(f, read(a),
-    // update(b)) calls f(a, b), and the first one is const.
-    template <typename F, typename... Accesses,
-              std::enable_if_t<sizeof...(Accesses) != 0 && (std::is_convertible_v<Accesses, Access> && ...), int> = 0>
-    auto task(F &&body, Accesses... accesses) {
-        auto values = std::tuple_cat(value_of(accesses)...);
+    // The same, whose body is called with the values of the Data among the accesses, in this order: task(f, read(a), update(b)) calls
+    // f(a, b), and the first one is const. Options come last.
+    template <typename F, typename First, typename... Rest,
+              std::enable_if_t<std::is_convertible_v<First, Access> &&
+                               ((std::is_convertible_v<Rest, Access> || std::is_same_v<Rest, TaskOptions>) && ...), int> = 0>
+    auto task(F &&body, First first, Rest... rest) {
+        auto values = std::tuple_cat(value_of(first), value_of(rest)...);
         auto call_with = [own = std::decay_t<F>(std::forward<F>(body)), values]() mutable -> decltype(auto) {
             return std::apply(own, values);
         };
-        return task_on({accesses...}, std::move(call_with));
+        std::array<Access, 1 + sizeof...(Rest)> accesses{first};
+        std::size_t length = 1;
+        ((length = with_access(accesses, length, rest)), ...);
+        auto add_it = [&](Body it) { return add_on(std::move(it), accesses.data(), length, options_of(rest...)); };
+        return describe(std::move(call_with), add_it);
+    }
+
+    // The same calls with options by position, as they were before there were names for them.
+    template <typename F>
+    auto task(F &&body, std::initializer_list<Task> after, std::uint32_t class_, std::uint32_t releases = 0) {
+        return task(std::forward<F>(body), after, TaskOptions(class_, releases));
+    }
+    template <typename F>
+    auto task(F &&body, const std::vector<Task> &after, std::uint32_t class_, std::uint32_t releases = 0) {
+        return task(std::forward<F>(body), after, TaskOptions(class_, releases));
+    }
+    template <typename F>
+    auto task_on(std::initializer_list<Access> accesses, F &&body, std::uint32_t class_, std::uint32_t releases = 0) {
+        return task_on(accesses, std::forward<F>(body), TaskOptions(class_, releases));
+    }
+    template <typename F>
+    auto task_on(const std::vector<Access> &accesses, F &&body, std::uint32_t class_, std::uint32_t releases = 0) {
+        return task_on(accesses, std::forward<F>(body), TaskOptions(class_, releases));
     }
 
     // One more input from outside for a task, such as a message, a timer or a device: its body does not run before release()
@@ -312,6 +357,17 @@ class Pool {
         prepare(gerfmuod_team_reset);
         std::lock_guard<std::mutex> held(lock);
         thrower = GERFMUOD_GRAPH_NONE;
+    }
+    // An empty pool again, for a new description, whose threads stay; after a run, or before one, whatever came of it. Its tasks and
+    // handles are then of no pool, and results stay what they were. Throws Refused: Running, also if run_async() has had no wait().
+    void clear() {
+        decltype(blocks) old; // destroyed without the lock: a body may call the pool then
+        auto own_runs = std::make_shared<internal::Runs>();
+        std::lock_guard<std::mutex> held(lock);
+        if (is_in_run) throw Refused(GERFMUOD_REFUSED_RUNNING);
+        check(gerfmuod_team_clear(team.get()));
+        old.swap(blocks), runs = std::move(own_runs);
+        id = next_id(), count = 0, thrower = GERFMUOD_GRAPH_NONE;
     }
     // The task because of which the pool ended, if there is one.
     std::optional<Task> failed() const {
@@ -427,6 +483,26 @@ class Pool {
     template <typename T>
     static std::tuple<T &> value_of(const AccessedValue<T> &accessed) { return std::tuple<T &>(*accessed.value); }
     static std::tuple<> value_of(const Access &) { return {}; }
+    static std::tuple<> value_of(TaskOptions) { return {}; }
+    template <typename T>
+    static std::tuple<Result<T>> result_of(const ReadResult<T> &read) { return {read.result}; }
+    static std::tuple<> result_of(TaskOptions) { return {}; }
+    // The options among the arguments of a task, of which they are the last one.
+    static TaskOptions options_of() { return {}; }
+    template <typename First, typename... Rest>
+    static TaskOptions options_of(const First &first, const Rest &...rest) {
+        if constexpr (std::is_same_v<First, TaskOptions>) {
+            static_assert(sizeof...(Rest) == 0, "the options of a task come last");
+            return first;
+        } else {
+            return options_of(rest...);
+        }
+    }
+    // Appends an access to an array, and returns its length then.
+    template <typename List>
+    static std::size_t with_access(List &list, std::size_t length, const Access &access) { return list[length] = access, length + 1; }
+    template <typename List>
+    static std::size_t with_access(List &, std::size_t length, TaskOptions) { return length; }
 
     // Adds a task by add(a body). Returns it, with what it will have returned.
     template <typename F, typename Add>
@@ -454,21 +530,21 @@ class Pool {
         std::array<T, 16> few;
         std::vector<T> many;
     };
-    Task add(Body &&body, const Task *after, std::size_t inputs, std::uint32_t class_, std::uint32_t releases) {
+    Task add(Body &&body, const Task *after, std::size_t inputs, TaskOptions with) {
         Array<std::uint32_t> numbers(inputs);
         for (std::size_t k = 0; k < inputs; k++) numbers.data()[k] = number_of(after[k]);
         return keep(std::move(body), [&] {
-            return gerfmuod_team_spawn(team.get(), class_, numbers.data(), inputs, releases, nullptr, nullptr, nullptr);
+            return gerfmuod_team_spawn(team.get(), with.own_class, numbers.data(), inputs, with.outside, nullptr, nullptr, nullptr);
         });
     }
-    Task add_on(Body &&body, const Access *accesses, std::size_t length, std::uint32_t class_, std::uint32_t releases) {
+    Task add_on(Body &&body, const Access *accesses, std::size_t length, TaskOptions with) {
         Array<gerfmuod_access> pieces(length);
         for (std::size_t k = 0; k < length; k++) {
             if (accesses[k].handle.pool != id) throw std::invalid_argument("a handle of no pool, or of another one");
             pieces.data()[k] = {accesses[k].handle.own, accesses[k].mode};
         }
         return keep(std::move(body), [&] {
-            return gerfmuod_team_task_on(team.get(), class_, pieces.data(), length, releases, nullptr, nullptr, nullptr);
+            return gerfmuod_team_task_on(team.get(), with.own_class, pieces.data(), length, with.outside, nullptr, nullptr, nullptr);
         });
     }
     // Stores the body of a task that `spawn` adds.
@@ -504,10 +580,10 @@ class Pool {
         return blocks[block][place];
     }
 
-    const std::uint64_t id = next_id();
+    std::uint64_t id = next_id(); // clear() changes it, so that tasks of before are of no pool
     const bool keeps_bodies;
     std::unique_ptr<gerfmuod_team, Close> team;
-    const std::shared_ptr<internal::Runs> runs = std::make_shared<internal::Runs>(); // changed between runs only
+    std::shared_ptr<internal::Runs> runs = std::make_shared<internal::Runs>(); // changed between runs only
     mutable std::mutex lock; // of what follows; a body is read without it: its task was taken after it was written
     bool is_in_run = false;
     std::uint32_t count = 0;

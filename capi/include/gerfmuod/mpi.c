@@ -5,8 +5,9 @@
  * task here that reads it. The graph has a task for each datum, its initial value. A message has the versions that one task wrote
  * and another process reads, in the order in which the graph's tasks name them. Its tag is the number of the task, from 1.
  *
- * A version may be sent from the caller's memory: the next task that writes it waits for the tasks that read it, also elsewhere, so
- * for the message. */
+ * A version may be sent from the caller's memory: the next task that writes it waits for the tasks that read it, also elsewhere. The
+ * message of such a task is reported to the part only once the sends with what it read are complete, as MPI asks of who writes a buffer;
+ * they were received, so this takes no time. */
 #define _POSIX_C_SOURCE 200809L
 #include <gerfmuod/mpi.h>
 #include <gerfmuod/part.h>
@@ -23,6 +24,11 @@
 enum { STOP = 0, FIRST_VALUE = 1 };
 /* After that number of polls without a message the main thread sleeps between them, each time longer, at most 1 << NAPS microseconds. */
 enum { POLLS = 200, NAPS = 6 };
+/* The values of a body for which there is room on the stack. */
+enum { FEW_VALUES = 8 };
+/* How many hashes of the description are kept, at most; the hash of none. */
+enum { MOST_HASHES = 1 << 15 };
+static const uint64_t hash_of_none = 0xcbf29ce484222325u;
 
 /* A version of a datum that comes from another process. */
 typedef struct copy {
@@ -46,8 +52,15 @@ typedef struct {
 typedef struct message {
     int to;
     uint32_t count, *data;
-    struct message *next;
+    struct message *next, *next_sent;
+    MPI_Request request; /* once it was sent */
 } message;
+
+/* A task of another process reads what a message has. */
+typedef struct {
+    uint32_t reader;
+    message *of;
+} receipt;
 
 /* One value that a body gets: of a datum, or of a copy. */
 typedef struct {
@@ -70,11 +83,18 @@ typedef struct {
     int to;
 } letter;
 
+typedef struct {
+    letter *at;
+    uint32_t count, room;
+} letters;
+
 struct gerfmuod_mpi {
     MPI_Comm communicator;
     int me, processes;
     uint32_t refused; /* the first refusal of a description */
     uint64_t hash;    /* of the description */
+    uint64_t *hashes; /* of the first `stride` data and tasks, of twice as many, and so on */
+    uint32_t hashes_count, stride;
     bool has_run;
     datum **data;
     uint32_t data_count;
@@ -82,6 +102,8 @@ struct gerfmuod_mpi {
     uint32_t tasks_count, described;
     copy **copies;
     uint32_t copies_count;
+    receipt *receipts; /* their readers ascend */
+    uint32_t receipts_count;
     /* one lock protects the part, and all below; `work` is signalled when a task may be ready */
     pthread_mutex_t lock;
     pthread_cond_t work;
@@ -89,11 +111,11 @@ struct gerfmuod_mpi {
     uint32_t sleeping;
     bool is_over, is_stopped;
     int64_t failure;  /* the process and the task whose body failed, or NO_FAILURE */
-    letter *due;      /* messages for the main thread */
-    uint32_t due_count;
+    letters due;      /* messages for the main thread */
     /* of the main thread alone */
-    MPI_Request *requests;
-    uint32_t requests_count;
+    letters taken;    /* those of `due` that it sends now */
+    message *sending; /* whose sends are perhaps not complete */
+    message *stops;
     uint64_t *sent_to, *received_from;
     int64_t told; /* the failure of which the others were told, or NO_FAILURE */
 };
@@ -114,10 +136,11 @@ static void *grown(void *block, uint32_t count, size_t size) {
 /* ---- the description */
 uint32_t gerfmuod_mpi_open(gerfmuod_mpi **opened, MPI_Comm communicator) {
     gerfmuod_mpi *graph = calloc(1, sizeof *graph);
-    int lacks = !graph, lack;
+    uint64_t *hashes = malloc(MOST_HASHES * sizeof *hashes);
+    int lacks = !graph || !hashes, lack;
     MPI_Allreduce(&lacks, &lack, 1, MPI_INT, MPI_MAX, communicator);
     *opened = lack ? NULL : graph;
-    if (lack) return free(graph), (uint32_t)GERFMUOD_REFUSED_NO_MEMORY;
+    if (lack) return free(graph), free(hashes), (uint32_t)GERFMUOD_REFUSED_NO_MEMORY;
     MPI_Comm_dup(communicator, &graph->communicator);
     MPI_Comm_rank(graph->communicator, &graph->me);
     MPI_Comm_size(graph->communicator, &graph->processes);
@@ -125,7 +148,7 @@ uint32_t gerfmuod_mpi_open(gerfmuod_mpi **opened, MPI_Comm communicator) {
     pthread_mutex_init(&graph->lock, NULL);
     pthread_cond_init(&graph->work, NULL);
     graph->failure = graph->told = NO_FAILURE;
-    graph->hash = 0xcbf29ce484222325u;
+    graph->hash = hash_of_none, graph->hashes = hashes, graph->stride = 1;
     return GERFMUOD_OK;
 }
 
@@ -136,13 +159,21 @@ uint32_t gerfmuod_mpi_open_fortran(gerfmuod_mpi **opened, MPI_Fint communicator)
 /* The hash of Fowler, Noll and Vo (FNV-1a), over words. */
 static void mix(gerfmuod_mpi *graph, uint64_t word) { graph->hash = (graph->hash ^ word) * 0x100000001b3u; }
 
+/* Keeps the hash, if it is the next one. Once there is no room, every second hash is dropped, and from then on not kept. */
+static void keep_hash(gerfmuod_mpi *graph) {
+    if (graph->described & (graph->stride - 1)) return;
+    if (graph->hashes_count < MOST_HASHES) graph->hashes[graph->hashes_count++] = graph->hash;
+    else for (graph->hashes_count = 0, graph->stride *= 2; graph->hashes_count < MOST_HASHES / 2; graph->hashes_count++)
+        graph->hashes[graph->hashes_count] = graph->hashes[2 * graph->hashes_count + 1];
+}
+
 /* Describes a task to the part. Returns its number, or none if the description was refused. */
 static uint32_t described(gerfmuod_mpi *graph, uint32_t class_, const gerfmuod_access *accesses, size_t count, int owner) {
-    mix(graph, (uint64_t)owner << 32 | class_);
+    mix(graph, (uint64_t)owner << 32 | (uint32_t)count << 2 | class_); /* a class above 3, and so many accesses, are refused */
     for (size_t k = 0; k < count; k++) mix(graph, (uint64_t)accesses[k].handle << 32 | accesses[k].mode);
     gerfmuod_part_result result = gerfmuod_part_shared_task(&graph->part, class_, accesses, count, (uint32_t)owner);
     if (result.refused) refuse(graph, result.refused);
-    else graph->described = result.number + 1;
+    else graph->described = result.number + 1, keep_hash(graph);
     return result.refused ? GERFMUOD_GRAPH_NONE : result.number;
 }
 
@@ -154,7 +185,7 @@ static task *own_task(gerfmuod_mpi *graph, uint32_t number, gerfmuod_mpi_body bo
     task *added = &tasks[graph->tasks_count++];
     *added = (task){.number = number, .count = (uint32_t)count, .body = body};
     added->arguments = malloc(size ? size : 1);
-    added->values = calloc(count ? count : 1, sizeof *added->values);
+    added->values = calloc(count ? count : 1, sizeof *added->values + (count > FEW_VALUES ? sizeof(void *) : 0)); /* see run_body */
     if (!added->arguments || !added->values) return refuse(graph, GERFMUOD_REFUSED_NO_MEMORY);
     if (size) memcpy(added->arguments, arguments, size);
     return added;
@@ -169,7 +200,7 @@ uint32_t gerfmuod_mpi_data(gerfmuod_mpi *graph, int owner, void *at, size_t size
     if (data) graph->data = data;
     if (!added || !data) return free(added), refuse(graph, GERFMUOD_REFUSED_NO_MEMORY), handle;
     data[graph->data_count++] = added;
-    mix(graph, size);
+    mix(graph, (uint64_t)1 << 63 | size);
     gerfmuod_part_result result = gerfmuod_part_call(&graph->part, GERFMUOD_PART_HANDLE, 0);
     if (result.refused) return refuse(graph, result.refused), handle;
     gerfmuod_access writes = GERFMUOD_WRITES(handle);
@@ -190,15 +221,32 @@ static task *find_task(const gerfmuod_mpi *graph, uint32_t number) {
     return &graph->tasks[low];
 }
 
-/* The present version of an own datum goes to a process, once. */
-static void goes(gerfmuod_mpi *graph, uint32_t handle, int to) {
-    task *writer = find_task(graph, graph->data[handle]->writer);
-    message *m = writer->messages;
+/* The message of a list that goes to a process; a new one if there is none. NULL if memory ran out. */
+static message *message_to(message **list, int to) {
+    message *m = *list;
     while (m && m->to != to) m = m->next;
-    if (!m && (m = calloc(1, sizeof *m))) *m = (message){.to = to, .next = writer->messages}, writer->messages = m;
-    for (uint32_t k = 0; m && k < m->count; k++)
+    if (m || !(m = malloc(sizeof *m))) return m;
+    *m = (message){.to = to, .next = *list, .request = MPI_REQUEST_NULL};
+    return *list = m;
+}
+
+/* Remembers that a task of another process reads what a message has, once. Returns whether there was memory. */
+static bool is_read(gerfmuod_mpi *graph, message *m, uint32_t reader) {
+    uint32_t count = graph->receipts_count;
+    for (uint32_t k = count; k && graph->receipts[k - 1].reader == reader; k--)
+        if (graph->receipts[k - 1].of == m) return true;
+    receipt *receipts = grown(graph->receipts, count, sizeof *receipts);
+    if (receipts) graph->receipts = receipts, receipts[graph->receipts_count++] = (receipt){reader, m};
+    return receipts;
+}
+
+/* The present version of an own datum goes to a process, once, where a task reads it. */
+static void goes(gerfmuod_mpi *graph, uint32_t handle, int to, uint32_t reader) {
+    message *m = message_to(&find_task(graph, graph->data[handle]->writer)->messages, to);
+    bool has_room = m && is_read(graph, m, reader);
+    for (uint32_t k = 0; has_room && k < m->count; k++)
         if (m->data[k] == handle) return;
-    uint32_t *data = m ? grown(m->data, m->count, sizeof *data) : NULL;
+    uint32_t *data = has_room ? grown(m->data, m->count, sizeof *data) : NULL;
     if (data) m->data = data, data[m->count++] = handle;
     else refuse(graph, GERFMUOD_REFUSED_NO_MEMORY);
 }
@@ -239,7 +287,7 @@ void gerfmuod_mpi_task_on(gerfmuod_mpi *graph, uint32_t class_, gerfmuod_mpi_bod
         bool reads = accesses[k].mode != GERFMUOD_WRITE;
         if (added && d->owner == graph->me) added->values[k].at = &d->at;
         else if (added && comes(graph, d)) added->values[k] = (value){&d->newest->at, d->newest}, d->newest->readers++;
-        else if (d->owner == graph->me && reads) goes(graph, accesses[k].handle, owner);
+        else if (d->owner == graph->me && reads) goes(graph, accesses[k].handle, owner, number);
     }
     for (size_t k = 0; k < count; k++)
         if (accesses[k].mode != GERFMUOD_READ) {
@@ -262,12 +310,9 @@ static void stop(gerfmuod_mpi *graph, int64_t failure) {
 
 /* Runs the body of a task; returns whether it succeeded. */
 static bool run_body(const task *t) {
-    void *few[8], **values = t->count <= 8 ? few : malloc(t->count * sizeof *values);
-    if (!values) return false;
+    void *few[FEW_VALUES], **values = t->count > FEW_VALUES ? (void **)(t->values + t->count) : few;
     for (uint32_t k = 0; k < t->count; k++) values[k] = *t->values[k].at;
-    bool is_well = !t->body || t->body(t->arguments, values) == 0;
-    if (values != few) free(values);
-    return is_well;
+    return !t->body || t->body(t->arguments, values) == 0;
 }
 
 /* Frees the copies that the task was the last to read. The lock is held. */
@@ -292,39 +337,40 @@ static void run_task(gerfmuod_mpi *graph, uint32_t number) {
 
 /* Leaves a message to the main thread. The lock is held. */
 static void leave_letter(gerfmuod_mpi *graph, letter l) {
-    letter *due = grown(graph->due, graph->due_count, sizeof *due);
-    if (due) graph->due = due, due[graph->due_count++] = l;
+    letters *due = &graph->due;
+    if (due->count == due->room) {
+        uint32_t room = 2 * due->room + 8;
+        letter *at = realloc(due->at, room * sizeof *at);
+        if (at) due->at = at, due->room = room;
+    }
+    if (due->count < due->room) due->at[due->count++] = l;
     else stop(graph, failure_of(graph, l.task));
 }
 
-/* Does what the part returned: runs a task, or leaves a message to the main thread. Returns whether there was something. The lock is
- * held, but not while a body runs. */
-static bool turn(gerfmuod_mpi *graph) {
-    gerfmuod_part_result next = gerfmuod_part_call(&graph->part, GERFMUOD_PART_NEXT, 0);
-    if (next.next == GERFMUOD_PART_RUN) run_task(graph, next.number);
-    else if (next.next == GERFMUOD_PART_SEND) leave_letter(graph, (letter){next.number, (int)next.to});
-    else if (next.next == GERFMUOD_PART_OVER) graph->is_over = true, pthread_cond_broadcast(&graph->work);
-    return next.next != GERFMUOD_PART_WAIT;
+/* What the part returns next, after all messages that are due, which are left to the main thread. The lock is held. */
+static gerfmuod_part_result next_of(gerfmuod_mpi *graph) {
+    gerfmuod_part_result next;
+    while ((next = gerfmuod_part_call(&graph->part, GERFMUOD_PART_NEXT, 0)).next == GERFMUOD_PART_SEND)
+        leave_letter(graph, (letter){next.number, (int)next.to});
+    if (next.next == GERFMUOD_PART_OVER) graph->is_over = true, pthread_cond_broadcast(&graph->work);
+    return next;
 }
 
 /* A thread beside the main thread, until the part is over or the run was stopped. */
 static void *work(void *context) {
     gerfmuod_mpi *graph = context;
     pthread_mutex_lock(&graph->lock);
-    while (!graph->is_over && !graph->is_stopped)
-        if (!turn(graph)) graph->sleeping++, pthread_cond_wait(&graph->work, &graph->lock), graph->sleeping--;
+    while (!graph->is_over && !graph->is_stopped) {
+        gerfmuod_part_result next = next_of(graph);
+        if (next.next == GERFMUOD_PART_RUN) run_task(graph, next.number);
+        else if (!graph->is_over && !graph->is_stopped)
+            graph->sleeping++, pthread_cond_wait(&graph->work, &graph->lock), graph->sleeping--;
+    }
     pthread_mutex_unlock(&graph->lock);
     return NULL;
 }
 
 /* ---- the messages; all that follows is of the main thread */
-
-/* Room for one more request. */
-static MPI_Request *new_request(gerfmuod_mpi *graph) {
-    MPI_Request *requests = grown(graph->requests, graph->requests_count, sizeof *requests);
-    if (!requests) MPI_Abort(graph->communicator, GERFMUOD_REFUSED_NO_MEMORY);
-    return &(graph->requests = requests)[graph->requests_count++];
-}
 
 /* Memory of the main thread, without which a run cannot go on. */
 static void *must_have(const gerfmuod_mpi *graph, size_t count, size_t size) {
@@ -333,15 +379,18 @@ static void *must_have(const gerfmuod_mpi *graph, size_t count, size_t size) {
     return block;
 }
 
-/* Where the values of a message are. */
+/* Where the values of a message are: the first place is in `one`, of many all are in a block. */
 typedef struct {
     uint32_t count;
-    void **at;
-    int *sizes;
+    void **at, *one;
+    int *sizes, size;
 } places;
 
-static places new_places(const gerfmuod_mpi *graph, uint32_t count) {
-    return (places){count, must_have(graph, count, sizeof(void *)), must_have(graph, count, sizeof(int))};
+static void add_place(const gerfmuod_mpi *graph, places *p, uint32_t most, void *at, size_t size) {
+    if (most > 1 && !p->at) p->at = must_have(graph, most, sizeof(void *)), p->sizes = must_have(graph, most, sizeof(int));
+    if (most > 1) p->at[p->count] = at, p->sizes[p->count] = (int)size;
+    else p->one = at, p->size = (int)size;
+    p->count++;
 }
 
 /* A message as MPI takes it. */
@@ -353,16 +402,15 @@ typedef struct {
 
 /* The message with the values at these places: one as it is, several by a type relative to MPI_BOTTOM. Frees the places. */
 static buffer buffer_of(const gerfmuod_mpi *graph, places p) {
-    buffer b = {p.at[0], p.sizes[0], MPI_BYTE};
+    buffer b = {p.one, p.size, MPI_BYTE};
     if (p.count > 1) {
         MPI_Aint *from = must_have(graph, p.count, sizeof *from);
         for (uint32_t k = 0; k < p.count; k++) MPI_Get_address(p.at[k], &from[k]);
         b = (buffer){MPI_BOTTOM, 1, MPI_DATATYPE_NULL};
         MPI_Type_create_hindexed((int)p.count, p.sizes, from, MPI_BYTE, &b.type);
         MPI_Type_commit(&b.type);
-        free(from);
+        free(from), free(p.at), free(p.sizes);
     }
-    free(p.at), free(p.sizes);
     return b;
 }
 
@@ -371,42 +419,33 @@ static void free_type(buffer *b) {
     if (b->type != MPI_BYTE) MPI_Type_free(&b->type);
 }
 
+/* Sends a message of a list, which has one to each process at most. */
+static void send(gerfmuod_mpi *graph, message **list, int to, buffer b, int tag) {
+    message *m = message_to(list, to);
+    if (!m) MPI_Abort(graph->communicator, GERFMUOD_REFUSED_NO_MEMORY);
+    MPI_Isend(b.at, b.count, b.type, to, tag, graph->communicator, &m->request);
+    m->next_sent = graph->sending, graph->sending = m;
+    graph->sent_to[to]++;
+}
+
 static void send_letter(gerfmuod_mpi *graph, letter l) {
-    message *m = find_task(graph, l.task)->messages;
+    task *t = find_task(graph, l.task);
+    const message *m = t->messages;
     while (m && m->to != l.to) m = m->next;
-    places p = new_places(graph, m ? m->count : 0); /* without a value, if a task there only waits until this one has read */
-    for (uint32_t k = 0; k < p.count; k++) {
-        datum *d = graph->data[m->data[k]];
-        p.at[k] = d->at, p.sizes[k] = (int)d->size;
+    places p = {0}; /* without a value, if a task there only waits until this one has read */
+    for (uint32_t k = 0; m && k < m->count; k++) {
+        const datum *d = graph->data[m->data[k]];
+        add_place(graph, &p, m->count, d->at, d->size);
     }
     buffer b = buffer_of(graph, p);
-    MPI_Isend(b.at, b.count, b.type, l.to, FIRST_VALUE + (int)l.task, graph->communicator, new_request(graph));
+    send(graph, &t->messages, l.to, b, FIRST_VALUE + (int)l.task);
     free_type(&b);
-    graph->sent_to[l.to]++;
 }
 
 /* Tells the others that the run was stopped. */
 static void tell(gerfmuod_mpi *graph) {
     for (int p = 0; p < graph->processes; p++)
-        if (p != graph->me) {
-            MPI_Isend(&graph->told, 1, MPI_INT64_T, p, STOP, graph->communicator, new_request(graph));
-            graph->sent_to[p]++;
-        }
-}
-
-/* Sends what the threads left for it; returns whether there was something. */
-static bool send_due(gerfmuod_mpi *graph) {
-    pthread_mutex_lock(&graph->lock);
-    letter *due = graph->due;
-    uint32_t count = graph->due_count;
-    graph->due = NULL, graph->due_count = 0;
-    bool tells = graph->told == NO_FAILURE && graph->is_stopped && graph->failure >> 32 == graph->me;
-    if (tells) graph->told = graph->failure;
-    pthread_mutex_unlock(&graph->lock);
-    for (uint32_t k = 0; k < count; k++) send_letter(graph, due[k]);
-    free(due);
-    if (tells) tell(graph);
-    return count || tells;
+        if (p != graph->me) send(graph, &graph->stops, p, (buffer){&graph->told, 1, MPI_INT64_T}, STOP);
 }
 
 static int by_task(const void *one, const void *other) {
@@ -426,18 +465,31 @@ static uint32_t first_copy(const gerfmuod_mpi *graph, uint32_t number) {
     return low;
 }
 
+/* Waits until the sends with what a task of another process read are complete. */
+static void await_sends(gerfmuod_mpi *graph, uint32_t reader) {
+    uint32_t low = 0, high = graph->receipts_count;
+    while (low < high) {
+        uint32_t middle = low + (high - low) / 2;
+        if (graph->receipts[middle].reader < reader) low = middle + 1;
+        else high = middle;
+    }
+    for (; low < graph->receipts_count && graph->receipts[low].reader == reader; low++)
+        MPI_Wait(&graph->receipts[low].of->request, MPI_STATUS_IGNORE);
+}
+
 static void receive_value(gerfmuod_mpi *graph, int from, uint32_t number) {
     uint32_t first = first_copy(graph, number), count = 0;
     while (first + count < graph->copies_count && graph->copies[first + count]->task == number) count++;
-    places p = new_places(graph, count);
+    places p = {0};
     for (uint32_t k = 0; k < count; k++) {
         copy *c = graph->copies[first + k];
         if (!(c->at = malloc(c->size ? c->size : 1))) MPI_Abort(graph->communicator, GERFMUOD_REFUSED_NO_MEMORY);
-        p.at[k] = c->at, p.sizes[k] = (int)c->size;
+        add_place(graph, &p, count, c->at, c->size);
     }
     buffer b = buffer_of(graph, p);
     MPI_Recv(b.at, b.count, b.type, from, FIRST_VALUE + (int)number, graph->communicator, MPI_STATUS_IGNORE);
     free_type(&b);
+    await_sends(graph, number);
     pthread_mutex_lock(&graph->lock);
     uint32_t refused = gerfmuod_part_call(&graph->part, GERFMUOD_PART_ARRIVED, number).refused;
     if (graph->sleeping) pthread_cond_signal(&graph->work);
@@ -464,15 +516,14 @@ static bool receive(gerfmuod_mpi *graph) {
     return true;
 }
 
-/* Drops the requests that are complete. */
+/* Drops the messages whose sends are complete. */
 static void forget_sent(gerfmuod_mpi *graph) {
-    uint32_t left = 0;
-    for (uint32_t k = 0; k < graph->requests_count; k++) {
+    for (message **at = &graph->sending, *m; (m = *at);) {
         int is_complete;
-        MPI_Test(&graph->requests[k], &is_complete, MPI_STATUS_IGNORE);
-        if (!is_complete) graph->requests[left++] = graph->requests[k];
+        MPI_Test(&m->request, &is_complete, MPI_STATUS_IGNORE);
+        if (is_complete) *at = m->next_sent;
+        else at = &m->next_sent;
     }
-    graph->requests_count = left;
 }
 
 /* Pauses after some polls without a message. */
@@ -482,27 +533,38 @@ static void pause_after(uint32_t *polls) {
     else sched_yield();
 }
 
-/* Runs a task, if the main thread does and one is ready, and sends what is due. Returns whether there was something. */
-static bool advance(gerfmuod_mpi *graph, bool runs, bool *has_ended, int64_t *failure) {
+/* Runs the task that the part returned to the main thread, if it did, has it return the next, and sends what is due: what the task wrote
+ * goes before anything else is done. Returns whether there was something. */
+static bool advance(gerfmuod_mpi *graph, gerfmuod_part_result *next, bool *has_ended, int64_t *failure) {
     pthread_mutex_lock(&graph->lock);
-    bool is_more = runs && !graph->is_over && !graph->is_stopped && turn(graph);
-    *has_ended = graph->is_over || graph->is_stopped;
+    if (next->next == GERFMUOD_PART_RUN && !graph->is_stopped) run_task(graph, next->number);
+    bool goes_on = !graph->is_over && !graph->is_stopped;
+    next->next = GERFMUOD_PART_NOTHING;
+    if (goes_on) *next = next_of(graph);
+    *has_ended = graph->is_over || graph->is_stopped; /* nothing is due any more once the part is over and this was sent */
     *failure = graph->is_stopped ? graph->failure : NO_FAILURE;
+    letters due = graph->due;
+    graph->due = graph->taken, graph->taken = due, graph->due.count = 0;
+    bool tells = graph->told == NO_FAILURE && graph->is_stopped && graph->failure >> 32 == graph->me;
+    if (tells) graph->told = graph->failure;
     pthread_mutex_unlock(&graph->lock);
-    return send_due(graph) || is_more; /* after this look: nothing is due any more once the part is over */
+    for (uint32_t k = 0; k < due.count; k++) send_letter(graph, due.at[k]);
+    if (tells) tell(graph);
+    return due.count || tells || next->next == GERFMUOD_PART_RUN;
 }
 
 /* Runs tasks, sends and receives until this process is over or stopped, and then until all are. Leaves in `failure` what all agree on.
  * It does not wait for its sends: after a stop, their receivers may take them only in `drain`. */
-static void communicate(gerfmuod_mpi *graph, bool runs, int64_t *failure) {
+static void communicate(gerfmuod_mpi *graph, int64_t *failure) {
     MPI_Request agreed = MPI_REQUEST_NULL;
+    gerfmuod_part_result next = {0};
     bool has_ended = false;
     int agree = 0;
     int64_t mine = NO_FAILURE;
     for (uint32_t polls = 0; !agree;) {
         bool is_more = false;
         if (!has_ended) {
-            is_more = advance(graph, runs, &has_ended, &mine);
+            is_more = advance(graph, &next, &has_ended, &mine);
             if (has_ended) MPI_Iallreduce(&mine, failure, 1, MPI_INT64_T, MPI_MIN, graph->communicator, &agreed);
         } else MPI_Test(&agreed, &agree, MPI_STATUS_IGNORE);
         forget_sent(graph);
@@ -523,12 +585,43 @@ static void drain(gerfmuod_mpi *graph) {
 
 /* ---- a run */
 
+/* Whether a hash is the same in all processes. */
+static bool is_common(const gerfmuod_mpi *graph, uint64_t hash) {
+    uint64_t mine[2] = {hash, ~hash}, all[2];
+    MPI_Allreduce(mine, all, 2, MPI_UINT64_T, MPI_MAX, graph->communicator);
+    return all[0] == ~all[1];
+}
+
+/* The hash of the first data and tasks, as many as a multiple of the stride; another number if fewer were described. */
+static uint64_t hash_of(const gerfmuod_mpi *graph, uint32_t count) {
+    if (count >= graph->described) return count == graph->described ? graph->hash : ~graph->hash;
+    return count ? graph->hashes[count / graph->stride - 1] : hash_of_none;
+}
+
+/* Leaves as the failure where the descriptions begin to differ, and the lowest process whose one is not that of process 0. */
+static void find_difference(gerfmuod_mpi *graph) {
+    uint32_t mine[2] = {graph->described, graph->stride}, most[2];
+    MPI_Allreduce(mine, most, 2, MPI_UINT32_T, MPI_MAX, graph->communicator);
+    uint32_t stride = most[1], low = 0, high = most[0] / stride + 1; /* how many strides are the same, and how many are not */
+    while (high - low > 1) {
+        uint32_t middle = low + (high - low) / 2;
+        if (is_common(graph, hash_of(graph, middle * stride))) low = middle;
+        else high = middle;
+    }
+    uint64_t hash = hash_of(graph, high * stride), first = hash;
+    MPI_Bcast(&first, 1, MPI_UINT64_T, 0, graph->communicator);
+    int64_t different = hash == first ? NO_FAILURE : failure_of(graph, low * stride);
+    MPI_Allreduce(&different, &graph->failure, 1, MPI_INT64_T, MPI_MIN, graph->communicator);
+}
+
 /* What all processes return, if one of them may not run. */
 static uint32_t agree_to_run(gerfmuod_mpi *graph, uint32_t refused) {
     uint64_t mine[3] = {refused ? (uint64_t)(graph->processes - graph->me) << 32 | refused : 0, graph->hash, ~graph->hash}, all[3];
     MPI_Allreduce(mine, all, 3, MPI_UINT64_T, MPI_MAX, graph->communicator);
     if (all[0]) return (uint32_t)all[0];
-    return all[1] == ~all[2] ? GERFMUOD_OK : GERFMUOD_REFUSED_DIFFERENT;
+    if (all[1] == ~all[2]) return GERFMUOD_OK;
+    find_difference(graph);
+    return GERFMUOD_REFUSED_DIFFERENT;
 }
 
 /* Allocates what a run needs; returns the refusal. */
@@ -559,11 +652,11 @@ uint32_t gerfmuod_mpi_run(gerfmuod_mpi *graph, uint32_t threads) {
     graph->is_stopped = refused != 0;
     pthread_mutex_unlock(&graph->lock);
     int64_t failure = NO_FAILURE;
-    if (!refused) communicate(graph, true, &failure);
+    if (!refused) communicate(graph, &failure);
     for (uint32_t k = 0; k < begun; k++) pthread_join(started[k], NULL);
     free(started);
     if (failure != NO_FAILURE) drain(graph), graph->failure = failure, refused = GERFMUOD_REFUSED_STOPPED;
-    while (graph->requests_count) forget_sent(graph); /* all of them were received, or are being received */
+    while (graph->sending) forget_sent(graph); /* all of them were received, or are being received */
     return refused;
 }
 
@@ -579,8 +672,12 @@ uint64_t gerfmuod_mpi_messages(const gerfmuod_mpi *graph) {
     return sum;
 }
 
+static void free_messages(message *first) {
+    for (message *m = first, *next; m; m = next) next = m->next, free(m->data), free(m);
+}
+
 static void free_task(task *t) {
-    for (message *m = t->messages, *next; m; m = next) next = m->next, free(m->data), free(m);
+    free_messages(t->messages);
     free(t->arguments), free(t->values);
 }
 
@@ -590,7 +687,9 @@ void gerfmuod_mpi_close(gerfmuod_mpi *graph) {
     for (uint32_t k = 0; k < graph->tasks_count; k++) free_task(&graph->tasks[k]);
     for (uint32_t k = 0; k < graph->data_count; k++) free(graph->data[k]);
     for (uint32_t k = 0; k < graph->copies_count; k++) free(graph->copies[k]->at), free(graph->copies[k]);
-    free(graph->tasks), free(graph->data), free(graph->copies), free(graph->due), free(graph->requests);
+    free(graph->tasks), free(graph->data), free(graph->copies), free(graph->receipts), free(graph->hashes);
+    free(graph->due.at), free(graph->taken.at);
+    free_messages(graph->stops);
     free(graph->sent_to), free(graph->received_from);
     pthread_cond_destroy(&graph->work);
     pthread_mutex_destroy(&graph->lock);

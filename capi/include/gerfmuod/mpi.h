@@ -49,8 +49,8 @@ GERFMUOD_CHECKED uint32_t gerfmuod_mpi_open(gerfmuod_mpi **graph, MPI_Comm commu
 /* The same for a communicator of Fortran, an integer as MPI_Comm_f2c takes it; gerfmuod_mpi.f90 has the calls for Fortran. */
 GERFMUOD_CHECKED uint32_t gerfmuod_mpi_open_fortran(gerfmuod_mpi **graph, MPI_Fint communicator);
 
-/* Names a datum of `size` bytes, at most INT_MAX, which lives at `at` in the process `owner`; `at` is ignored in the others. Returns its handle. The
- * memory is the caller's, and is used until gerfmuod_mpi_run returns. */
+/* Names a datum of `size` bytes, at most INT_MAX, which lives at `at` in the process `owner`; `at` is ignored in the others. Returns its
+ * handle. The memory is the caller's, and is used until gerfmuod_mpi_run returns. */
 uint32_t gerfmuod_mpi_data(gerfmuod_mpi *graph, int owner, void *at, size_t size);
 
 /* Describes a task: its class, 0 (which runs first) to 3, its body with `size` bytes of arguments, which are copied, and its accesses:
@@ -69,12 +69,16 @@ void gerfmuod_mpi_task_on(gerfmuod_mpi *graph, uint32_t class_, gerfmuod_mpi_bod
  *     data of two processes; BAD_SPEC if a datum is too large or a task names none, or as gerfmuod_part_shared_task, which says when
  *     HISTORY_FULL and NO_MEMORY are returned. WRONG_LIFE, before these, if the graph ran. Then NO_THREAD if `threads` is 0,
  *     HISTORY_FULL if data and tasks are more than the tags of the communicator, NO_MEMORY, NOT_STARTED;
- *   - DIFFERENT if the processes described different graphs;
- *   - STOPPED if a body failed. gerfmuod_mpi_failed says which. */
+ *   - DIFFERENT if the processes described different graphs. gerfmuod_mpi_failed says from which task on;
+ *   - STOPPED if a body failed. gerfmuod_mpi_failed says which. If there is no memory for a message in the run, it says so of its task,
+ *     or the program is ended by MPI_Abort. */
 GERFMUOD_CHECKED uint32_t gerfmuod_mpi_run(gerfmuod_mpi *graph, uint32_t threads);
 
 /* After a run that returned STOPPED: the process and the number of the task whose body failed, tasks counted from 0 in the order of their
- * description. If several failed, one of them, the same in every process. */
+ * description. If several failed, one of them, the same in every process.
+ * After a run that returned DIFFERENT: the first task that is not the same in all processes, or before which a datum is not, or that one
+ * did not describe; and the lowest process that differs there from process 0. At most 32,768 hashes are kept: with n data and tasks, if
+ * n is larger, it is the first of at most n / 16,384 tasks among which that one is. */
 void gerfmuod_mpi_failed(const gerfmuod_mpi *graph, int *process, uint32_t *task);
 
 /* The number of messages that this process sent. */

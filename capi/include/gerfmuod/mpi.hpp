@@ -150,6 +150,12 @@ class Graph {
         throw Stopped(process, task);
     }
 
+    // After run() threw Refused as DIFFERENT: a process, and the first task that it described in another way, as gerfmuod_mpi_failed.
+    std::pair<int, std::uint32_t> difference() const {
+        std::pair<int, std::uint32_t> found;
+        gerfmuod_mpi_failed(own, &found.first, &found.second);
+        return found;
+    }
     // The number of messages that this process sent.
     std::uint64_t messages() const { return gerfmuod_mpi_messages(own); }
     // The number of this process in the communicator, and how many there are.

@@ -63,8 +63,12 @@ uint32_t gerfmuod_mpi_pool_open(gerfmuod_mpi_pool **opened, MPI_Comm communicato
     if (lack) return free(pool), (uint32_t)GERFMUOD_REFUSED_NO_MEMORY;
     MPI_Comm_rank(communicator, &pool->me);
     MPI_Comm_size(communicator, &pool->processes);
+    pthread_condattr_t attributes;
+    pthread_condattr_init(&attributes);
+    pthread_condattr_setclock(&attributes, CLOCK_MONOTONIC); /* of `nap`: the other clock may be set back */
     pthread_mutex_init(&pool->lock, NULL);
-    pthread_cond_init(&pool->work, NULL);
+    pthread_cond_init(&pool->work, &attributes);
+    pthread_condattr_destroy(&attributes);
     pool->last_due = &pool->due;
     pool->failure = NO_FAILURE;
     return gerfmuod_mpi_detector_open(&pool->detector, communicator);
@@ -235,7 +239,7 @@ static bool advance(gerfmuod_mpi_pool *pool, bool *is_idle) {
 /* Sleeps until a thread leaves something, but not long: a message may come. */
 static void nap(gerfmuod_mpi_pool *pool) {
     struct timespec until;
-    clock_gettime(CLOCK_REALTIME, &until);
+    clock_gettime(CLOCK_MONOTONIC, &until);
     until.tv_nsec += NAP;
     if (until.tv_nsec >= SECOND) until.tv_nsec -= SECOND, until.tv_sec++;
     pthread_mutex_lock(&pool->lock);

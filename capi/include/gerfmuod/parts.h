@@ -53,9 +53,9 @@ GERFMUOD_CHECKED uint32_t gerfmuod_parts_task(gerfmuod_parts *parts, uint32_t pa
 GERFMUOD_CHECKED uint32_t gerfmuod_parts_task_on(gerfmuod_parts *parts, uint32_t part, uint32_t class_, const gerfmuod_access *accesses,
                                                  size_t count, uint32_t *number);
 
-/* The threads of the run will be bound to one processor each: those of part 0 to the first ones that this process may use, in the order
- * in which the system numbers them, then those of part 1, and so on; after the last processor from the first one on. Linux alone;
- * elsewhere nothing happens. */
+/* The threads of the run will be bound to one processor each: those of part 0 to the first ones that this process may use, then those of
+ * part 1, and so on; after the last processor from the first one on. The first ones are one of each core, by packages and cores, then come
+ * the second ones of each core. Linux alone; elsewhere nothing happens. */
 void gerfmuod_parts_bind(gerfmuod_parts *parts);
 
 /* Runs the graph on `threads` threads in each part, one of which, in part 0, is the caller's. Returns when all tasks are done, or when a

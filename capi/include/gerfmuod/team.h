@@ -11,8 +11,8 @@
  *
  * Which task a thread runs, when it waits and whom it wakes is decided by gerfmuod/graph.h, where it says what is proved. This
  * file and gerfmuod_team.c have the lock, the waiting and the times; they are C, tested and not proved. Every function except
- * open, close, record, run, run_async, again, reset, profile and summary may be called by several threads at once, also from a
- * body, and by threads that run no tasks. Each returns GERFMUOD_OK or the refusal, an enum gerfmuod_refusal. A refused call changes
+ * open, close, record, run, run_async, again, reset, clear, profile and summary may be called by several threads at once, also from
+ * a body, and by threads that run no tasks. Each returns GERFMUOD_OK or the refusal, an enum gerfmuod_refusal. A refused call changes
  * nothing, unless it says so.
  *
  * A body returns to its caller. One that leaves by longjmp or pthread_exit does not end its task, and the run never ends; a fork in
@@ -98,8 +98,8 @@ GERFMUOD_CHECKED uint32_t gerfmuod_team_release(gerfmuod_team *team, uint32_t ta
  * ended the team, STOPPED if a body failed. */
 GERFMUOD_CHECKED uint32_t gerfmuod_team_run(gerfmuod_team *team, uint32_t threads, gerfmuod_team_body body, void *context);
 
-/* The same on `threads` other threads: it returns at once. Until these have left the run, gerfmuod_team_run, again, reset and record
- * are refused as RUNNING. Refused as gerfmuod_team_run before any body runs. */
+/* The same on `threads` other threads: it returns at once. Until these have left the run, gerfmuod_team_run, again, reset, clear and
+ * record are refused as RUNNING. Refused as gerfmuod_team_run before any body runs. */
 GERFMUOD_CHECKED uint32_t gerfmuod_team_run_async(gerfmuod_team *team, uint32_t threads, gerfmuod_team_body body, void *context);
 
 /* Waits until the threads of gerfmuod_team_run_async have left the run, or for so many milliseconds. Not for a body. Returns as
@@ -118,6 +118,11 @@ GERFMUOD_CHECKED uint32_t gerfmuod_team_again(gerfmuod_team *team);
 /* The same, also after a run that was stopped or failed: its fault is forgotten, and its tasks count as never run. With threads of your
  * own: call it when none of them runs a body. Refused: RUNNING if the run has not ended; WRONG_LIFE if a task was added in a run. */
 GERFMUOD_CHECKED uint32_t gerfmuod_team_reset(gerfmuod_team *team);
+
+/* An empty graph again, for a new description: as a team that was just opened, but its threads stay, and so does that it records. For
+ * the time after a run, or before one, whatever came of it; with threads of your own, when none of them runs a body. Handles count from
+ * 0 again. Refused: RUNNING if a run has not ended. */
+GERFMUOD_CHECKED uint32_t gerfmuod_team_clear(gerfmuod_team *team);
 
 /* Ends the team because of a task, or of none (GERFMUOD_GRAPH_NONE): each turn, also one that waits, is then refused as STOPPED.
  * If all tasks are done, or the team has ended, nothing changes. */

@@ -43,6 +43,7 @@ GERFMUOD_TSAN(gerfmuod_step_result, WRITE, core_step_by,
                uint32_t third, uint32_t generation),
               (core, maker_kind, maker, kind, first, second, third, generation))
 GERFMUOD_TSAN(gerfmuod_counters, READ, core_counters, (const gerfmuod_core *core, uint32_t node), (core, node))
+GERFMUOD_TSAN(gerfmuod_left_task, READ, core_left, (const gerfmuod_core *core, uint32_t from, uint32_t end), (core, from, end))
 GERFMUOD_TSAN(gerfmuod_status, READ, core_status, (const gerfmuod_core *core), (core))
 GERFMUOD_TSAN(gerfmuod_written, READ, core_trace,
               (const gerfmuod_core *core, char *buffer, size_t buffer_length),
@@ -58,6 +59,7 @@ GERFMUOD_TSAN(gerfmuod_written, READ, core_trace,
 #define gerfmuod_core_steps gerfmuod_tsan_core_steps
 #define gerfmuod_core_step_by gerfmuod_tsan_core_step_by
 #define gerfmuod_core_counters gerfmuod_tsan_core_counters
+#define gerfmuod_core_left gerfmuod_tsan_core_left
 #define gerfmuod_core_status gerfmuod_tsan_core_status
 #define gerfmuod_core_trace gerfmuod_tsan_core_trace
 #undef GERFMUOD_TSAN_READ

@@ -121,6 +121,7 @@ struct checker {
     int is_blind; /* something was not seen: this rank is never idle again, and no verdict is printed */
     int is_sync, is_strict, has_report, lost_status;
     int is_loose; /* after UNSAFE: a collective call waits only for the ranks whose data it needs */
+    int is_crowded; /* this computer has more ranks than processors: a call that waits naps early */
     const char *json_path;
     int64_t sync_bytes; /* standard sends of at least these bytes wait for their receives */
     int me, all;        /* in MPI_COMM_WORLD */
@@ -157,6 +158,7 @@ void detector_rest(struct wait *wait);
 void detector_resume(void);
 void detector_reopen(void);
 uint64_t detector_waves(void);
+void await(MPI_Request *request);
 void give_up(const char *reason);
 double seconds(void);
 

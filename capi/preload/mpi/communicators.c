@@ -30,10 +30,13 @@ struct comm *comm_of(MPI_Comm handle) {
     return newest_comm = comm;
 }
 
-/* Returns the ranks in MPI_COMM_WORLD, or NULL if one is not in it. */
-static int *world_ranks(MPI_Comm handle, int size) {
-    int *from = allocate(sizeof *from * (size_t)size), *to = allocate(sizeof *to * (size_t)size), is_known = 1;
+/* Returns the ranks in MPI_COMM_WORLD, or NULL if one is not in it: one of a program that was spawned, for instance. */
+static int *world_ranks(MPI_Comm handle) {
+    int size, *from, *to, is_known = 1;
     MPI_Group group, world;
+    PMPI_Comm_size(handle, &size);
+    from = allocate(sizeof *from * (size_t)size);
+    to = allocate(sizeof *to * (size_t)size);
     for (int n = 0; n < size; n++) from[n] = n;
     PMPI_Comm_group(handle, &group);
     PMPI_Comm_group(MPI_COMM_WORLD, &world);
@@ -47,33 +50,34 @@ static int *world_ranks(MPI_Comm handle, int size) {
     return NULL;
 }
 
-void comm_track_as(MPI_Comm handle, uint64_t id) {
-    int size, *world;
-    struct comm *comm;
-    PMPI_Comm_size(handle, &size);
-    world = world_ranks(handle, size);
-    if (!world) return;
-    comm = comm_by_id(id);
-    comm->size = size;
+static void track(MPI_Comm handle, uint64_t id, int *world) {
+    struct comm *comm = comm_by_id(id);
     comm->world = world;
     comm->handle = handle;
     comm->references++;
+    PMPI_Comm_size(handle, &comm->size);
     PMPI_Comm_rank(handle, &comm->rank);
     PMPI_Comm_set_attr(handle, key, comm);
 }
 
-/* The first rank of a new communicator chooses its id, which no other has: nobody uses the communicator yet. */
+void comm_track_as(MPI_Comm handle, uint64_t id) {
+    int *world = world_ranks(handle);
+    if (world) track(handle, id, world);
+}
+
+/* The first rank of a new communicator chooses its id, which no other has: nobody uses the communicator yet. Ranks of another
+ * MPI_COMM_WORLD may be without this library, which would not take the id. */
 void comm_track(MPI_Comm handle) {
     static uint32_t created = FIRST_ID;
     uint64_t id = (uint64_t)checker.me << 32 | created;
-    int is_inter, rank;
+    int is_inter, rank, *world;
     if (!checker.is_on || handle == MPI_COMM_NULL) return;
     PMPI_Comm_test_inter(handle, &is_inter);
-    if (is_inter) return;
+    if (is_inter || !(world = world_ranks(handle))) return;
     PMPI_Comm_rank(handle, &rank);
     created += rank == 0;
     PMPI_Bcast(&id, 1, MPI_UINT64_T, 0, handle);
-    comm_track_as(handle, id);
+    track(handle, id, world);
 }
 
 void comm_open(void) {

@@ -9,6 +9,7 @@
 
 enum { TAG_NOTICE = 1, TAG_CONTROL = 2 };
 enum { PATIENCE = 64, AGAIN = 1024, LONG = 1024, LONG_FOR_DATA = 1 << 14, SLOTS = 4 };
+enum { NAP = 20000 /* ns */, NAPS = 512 /* before they get twice as long */, MOST_DOUBLINGS = 4 };
 /* After this number of seconds without the notice of a message that was received, this library gives up. */
 static const double UNANNOUNCED_SECONDS = 30;
 
@@ -147,11 +148,27 @@ void detector_glance(void) {
     requests_freed_poll();
 }
 
-/* Others may need this processor: a call that waits for long sleeps between its turns, later if its message is coming. It does
- * not yield: on a busy machine that costs a whole time slice. */
+/* Others may need this processor: exponential backoff, in which each nap is short next to all before. This does not yield: on a
+ * busy machine that costs a whole time slice. */
+static void nap(unsigned before) {
+    unsigned doublings = before / NAPS < MOST_DOUBLINGS ? before / NAPS : MOST_DOUBLINGS;
+    nanosleep(&(struct timespec){0, NAP << doublings}, NULL);
+}
+
+/* A call that waits for long naps between its turns. If its message is coming it does so later, when its sender has a processor, and
+ * its naps stay short: large messages move on in these turns. */
 static void give_way(const struct wait *wait) {
-    struct timespec pause = {0, 20000};
-    if (wait->rounds > (wait->can_end ? LONG_FOR_DATA : LONG)) nanosleep(&pause, NULL);
+    unsigned rounds = checker.is_crowded ? PATIENCE : wait->can_end ? LONG_FOR_DATA : LONG;
+    if (wait->rounds > rounds) nap(wait->can_end ? 0 : wait->rounds - rounds);
+}
+
+/* Waits for a collective call of this library. MPI's own waits do not nap, and so are slow if not all ranks have a processor. */
+void await(MPI_Request *request) {
+    int is_done = 0;
+    for (unsigned rounds = 0; !is_done; rounds++) {
+        PMPI_Test(request, &is_done, MPI_STATUS_IGNORE);
+        if (!is_done && rounds > PATIENCE) nap(rounds - PATIENCE);
+    }
 }
 
 /* One turn of the loop in a blocking call, whose end the caller tests before each turn. */

@@ -71,11 +71,26 @@ static void refuse_other_mpi(void) {
     exit(1);
 }
 
+static MPI_Comm duplicate(void) {
+    MPI_Comm copy;
+    MPI_Request request;
+    PMPI_Comm_idup(MPI_COMM_WORLD, &copy, &request);
+    await(&request);
+    return copy;
+}
+
+/* By what mpirun says of this computer. */
+static int is_crowded(void) {
+    const char *ranks = getenv(IS_FOR_OPEN_MPI ? "OMPI_COMM_WORLD_LOCAL_SIZE" : "MPI_LOCALNRANKS");
+    return ranks && atol(ranks) > sysconf(_SC_NPROCESSORS_ONLN);
+}
+
 static void begin(void) {
     fortran_hook();
-    PMPI_Comm_dup(MPI_COMM_WORLD, &checker.own);
-    PMPI_Comm_dup(MPI_COMM_WORLD, &checker.report);
-    PMPI_Comm_dup(MPI_COMM_WORLD, &checker.closing);
+    checker.is_crowded = is_crowded();
+    checker.own = duplicate();
+    checker.report = duplicate();
+    checker.closing = duplicate();
     PMPI_Comm_rank(checker.own, &checker.me);
     PMPI_Comm_size(checker.own, &checker.all);
     checker.begin = seconds();
@@ -120,7 +135,7 @@ static void wait_for_all(enum wait_kind kind, const char *call, const void *plac
         if (kind == WAIT_FINALIZE && !are_here) PMPI_Test(&request, &are_here, MPI_STATUS_IGNORE);
         if ((are_here && blind) || ((are_here || kind == WAIT_EXIT) && checker.is_blind)) return;
     }
-    if (!are_here && kind == WAIT_FINALIZE) PMPI_Wait(&request, MPI_STATUS_IGNORE);
+    if (!are_here && kind == WAIT_FINALIZE) await(&request);
 }
 
 int MPI_Finalize(void) {

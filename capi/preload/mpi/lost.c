@@ -5,7 +5,9 @@
 #include "check.h"
 #include <stdlib.h>
 
+/* For all messages of a rank: what MPI has not by then does not come. */
 static const double SEARCH_SECONDS = 2;
+static double search_until;
 
 static void take(MPI_Message *found, const MPI_Status *status) {
     int bytes;
@@ -18,18 +20,19 @@ static void take(MPI_Message *found, const MPI_Status *status) {
 
 static int is_in_queue(struct comm *comm, struct peer *peer, struct message *message) {
     const struct notice *notice = &message->notice;
-    double until = seconds() + SEARCH_SECONDS;
     MPI_Message found;
     MPI_Status status;
     int is_there = 0;
     if (comm->handle == MPI_COMM_NULL) return 1; /* its receiver has freed the communicator, so it cannot be received */
     if (is_taken(comm, peer, message)) return 0;
-    while (!is_there && seconds() < until) PMPI_Improbe(notice->from, notice->tag, comm->handle, &is_there, &found, &status);
+    do PMPI_Improbe(notice->from, notice->tag, comm->handle, &is_there, &found, &status);
+    while (!is_there && seconds() < search_until);
     if (is_there) take(&found, &status);
     return is_there;
 }
 
 void lost_verify(void) {
     requests_freed_poll();
+    search_until = seconds() + SEARCH_SECONDS;
     notices_filter(is_in_queue);
 }

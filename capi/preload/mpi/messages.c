@@ -60,9 +60,12 @@ SENDS(Rsend, PMPI_Irsend)
 SENDS(Ssend, PMPI_Issend)
 
 int MPI_Bsend(const void *from, int count, MPI_Datatype type, int to, int tag, MPI_Comm comm) {
+    int result;
     ENTER;
     announce_message(comm_of(comm), to, tag, bytes_of(count, type), CALLER, 0);
-    return PMPI_Bsend(from, count, type, to, tag, comm);
+    result = PMPI_Bsend(from, count, type, to, tag, comm);
+    if (checker.is_on && result != MPI_SUCCESS) give_up("an MPI call failed");
+    return result;
 }
 
 static int keep(int result, struct request *request, const MPI_Request *handle) {
@@ -117,7 +120,7 @@ static int exchange(const struct envelope *sent, const void *from, const struct 
     result = start_send(sent, from, PMPI_Isend, &requests[1], &handles[1]);
     if (result != MPI_SUCCESS) return result;
     result = wait_all(2, handles, requests, statuses, &wait);
-    if (status != MPI_STATUS_IGNORE) *status = statuses[0];
+    give_status(status, &statuses[0]);
     return result;
 }
 

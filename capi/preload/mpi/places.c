@@ -9,6 +9,8 @@
 #include <unistd.h>
 #include <unwind.h>
 
+enum { KNOWN = 16 };
+
 struct walk {
     int is_inside; /* the frames of the Fortran binding have begun */
     const void *found;
@@ -68,7 +70,7 @@ static const char *own_path(void) {
     return path;
 }
 
-void place_text(const void *address, char *room, size_t size) {
+static void find_place(const void *address, char *room, size_t size) {
     Dl_info about;
     struct link_map *map = NULL;
     uintptr_t offset;
@@ -78,4 +80,21 @@ void place_text(const void *address, char *room, size_t size) {
     if (ask_addr2line(map && !map->l_name[0] ? own_path() : about.dli_fname, offset, room, size)) return;
     snprintf(room, size, "%s+0x%zx%s%s", base_name(about.dli_fname), (size_t)offset, about.dli_sname ? " in " : "",
              about.dli_sname ? about.dli_sname : "");
+}
+
+/* The same place is asked for several times: for the table, and for the file in JSON. */
+void place_text(const void *address, char *room, size_t size) {
+    static struct {
+        const void *address;
+        char text[PLACE_SIZE];
+    } known[KNOWN];
+    static unsigned count;
+    unsigned n = 0, used = count < KNOWN ? count : KNOWN;
+    while (n < used && known[n].address != address) n++;
+    if (n == used) {
+        n = count++ % KNOWN;
+        known[n].address = address;
+        find_place(address, known[n].text, PLACE_SIZE);
+    }
+    snprintf(room, size, "%s", known[n].text);
 }

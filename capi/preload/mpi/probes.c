@@ -30,7 +30,7 @@ int MPI_Iprobe(int from, int tag, MPI_Comm comm, int *is_there, MPI_Status *stat
 /* A matched probe takes the message out of the queue of MPI, so its notice is taken, too. */
 static void take(struct comm *comm, const MPI_Status *own, MPI_Status *status) {
     consume(comm, own->MPI_SOURCE, own->MPI_TAG);
-    if (status != MPI_STATUS_IGNORE) *status = *own;
+    give_status(status, own);
 }
 
 int MPI_Improbe(int from, int tag, MPI_Comm handle, int *is_there, MPI_Message *message, MPI_Status *status) {

@@ -219,13 +219,15 @@ void report_deadlock(const struct wait *wait, int is_unsafe) {
 int report_lost(void) {
     struct account a = {0};
     uint64_t mine[3], sums[3];
+    MPI_Request request;
     char head[200];
     lost_verify();
     add_all_unreceived(&a);
     mine[0] = (uint64_t)a.lost_count;
     mine[1] = checker.notices;
     mine[2] = checker.controls;
-    PMPI_Allreduce(mine, sums, 3, MPI_UINT64_T, MPI_SUM, checker.report);
+    PMPI_Iallreduce(mine, sums, 3, MPI_UINT64_T, MPI_SUM, checker.report, &request);
+    await(&request);
     snprintf(head, sizeof head,
              "%s%llu message%s that no rank received (%d ranks, %llu notices, %llu waves, %llu control messages, %.3f s)",
              sums[0] ? "LOST: " : "", (unsigned long long)sums[0], sums[0] == 1 ? "" : "s", checker.all,

@@ -42,10 +42,13 @@ struct text text_gather(const struct text *text, const char *between) {
     int *lengths = allocate(sizeof(int) * (size_t)checker.all), *begins = allocate(sizeof(int) * (size_t)checker.all);
     struct text sum = {0};
     char *bytes;
-    PMPI_Gather(&length, 1, MPI_INT, lengths, 1, MPI_INT, 0, checker.report);
+    MPI_Request request;
+    PMPI_Igather(&length, 1, MPI_INT, lengths, 1, MPI_INT, 0, checker.report, &request);
+    await(&request);
     for (int n = 0; n < checker.all; n++) begins[n] = all, all += lengths[n];
     bytes = allocate((size_t)all + 1);
-    PMPI_Gatherv(text->bytes, length, MPI_CHAR, bytes, lengths, begins, MPI_CHAR, 0, checker.report);
+    PMPI_Igatherv(text->bytes, length, MPI_CHAR, bytes, lengths, begins, MPI_CHAR, 0, checker.report, &request);
+    await(&request);
     text_add(&sum, "%s", "");
     for (int n = 0; n < checker.all && checker.me == 0; n++) {
         if (!lengths[n]) continue;
@@ -122,19 +125,23 @@ void ask_places(int count, const int *ranks, const uint64_t *addresses, char (*t
     int *next = allocate(size);
     uint64_t *sorted = allocate(sizeof *sorted * (size_t)(count + 1)), *asked;
     char (*found)[PLACE_SIZE], (*back)[PLACE_SIZE] = allocate(sizeof *back * (size_t)(count + 1));
+    MPI_Request request;
     for (int n = 0; n < count; n++) out[ranks[n]]++;
     prefix_sums(out, out_at);
     memcpy(next, out_at, size);
     for (int n = 0; n < count; n++) sorted[next[ranks[n]]++] = addresses[n];
-    PMPI_Alltoall(out, 1, MPI_INT, in, 1, MPI_INT, checker.report);
+    PMPI_Ialltoall(out, 1, MPI_INT, in, 1, MPI_INT, checker.report, &request);
+    await(&request);
     all = prefix_sums(in, in_at);
     asked = allocate(sizeof *asked * (size_t)(all + 1));
     found = allocate(sizeof *found * (size_t)(all + 1));
-    PMPI_Alltoallv(sorted, out, out_at, MPI_UINT64_T, asked, in, in_at, MPI_UINT64_T, checker.report);
+    PMPI_Ialltoallv(sorted, out, out_at, MPI_UINT64_T, asked, in, in_at, MPI_UINT64_T, checker.report, &request);
+    await(&request);
     for (int n = 0; n < all; n++) place_text((const void *)(uintptr_t)asked[n], found[n], PLACE_SIZE);
     memcpy(next, out_at, size);
     scale(in, PLACE_SIZE), scale(in_at, PLACE_SIZE), scale(out, PLACE_SIZE), scale(out_at, PLACE_SIZE);
-    PMPI_Alltoallv(found, in, in_at, MPI_CHAR, back, out, out_at, MPI_CHAR, checker.report);
+    PMPI_Ialltoallv(found, in, in_at, MPI_CHAR, back, out, out_at, MPI_CHAR, checker.report, &request);
+    await(&request);
     for (int n = 0; n < count; n++) memcpy(texts[n], back[next[ranks[n]]++], PLACE_SIZE);
     free(out), free(out_at), free(in), free(in_at), free(next), free(sorted), free(asked), free(found), free(back);
 }

@@ -61,7 +61,8 @@ void conclude(const struct wait *wait) {
         PMPI_Test(&agreement, &is_done, MPI_STATUS_IGNORE);
         if (!is_done) break;
         report_deadlock(wait, sums[UNSAFE] > 0);
-        PMPI_Barrier(checker.report); /* rank 0 has printed */
+        PMPI_Ibarrier(checker.report, &agreement);
+        await(&agreement); /* rank 0 has printed */
         if (!sums[UNSAFE] || checker.is_strict) end_job(DEADLOCK_STATUS);
         checker.is_loose = 1;
         detector_reopen();

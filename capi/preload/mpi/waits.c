@@ -15,7 +15,7 @@ struct batch {
 
 static void batch_open(struct batch *batch, int count, const MPI_Request *handles) {
     int is_few = count <= FEW;
-    batch->count = count;
+    *batch = (struct batch){.count = count};
     batch->all = is_few ? batch->few : allocate(sizeof *batch->all * (size_t)count);
     batch->statuses = is_few ? batch->few_statuses : allocate(sizeof *batch->statuses * (size_t)count);
     for (int n = 0; n < count; n++) {
@@ -107,7 +107,7 @@ int MPI_Waitall(int count, MPI_Request *handles, MPI_Status *statuses) {
 int MPI_Waitany(int count, MPI_Request *handles, int *index, MPI_Status *status) {
     struct batch batch;
     struct wait wait;
-    int result, is_done;
+    int result, is_done = 0;
     ENTER;
     if (!checker.is_on) return PMPI_Waitany(count, handles, index, status);
     batch_open(&batch, count, handles);
@@ -118,7 +118,7 @@ int MPI_Waitany(int count, MPI_Request *handles, int *index, MPI_Status *status)
         detector_rest(&wait);
     }
     detector_resume();
-    if (count && status != MPI_STATUS_IGNORE) *status = batch.statuses[0];
+    give_status(status, &batch.statuses[0]);
     if (is_done && result == MPI_SUCCESS && *index != MPI_UNDEFINED) completed(&batch, 1, index, MPI_STATUSES_IGNORE);
     free(wait.requests);
     batch_close(&batch);
@@ -155,7 +155,7 @@ int MPI_Test(MPI_Request *handle, int *is_done, MPI_Status *status) {
     request = request_find(*handle);
     result = checked(PMPI_Test(handle, is_done, &own));
     if (*is_done) request_complete(request, &own);
-    if (*is_done && status != MPI_STATUS_IGNORE) *status = own;
+    if (*is_done) give_status(status, &own);
     return result;
 }
 
@@ -180,7 +180,7 @@ int MPI_Testany(int count, MPI_Request *handles, int *index, int *is_done, MPI_S
     detector_glance();
     batch_open(&batch, count, handles);
     result = checked(PMPI_Testany(count, handles, index, is_done, &batch.statuses[0]));
-    if (*is_done && status != MPI_STATUS_IGNORE) *status = batch.statuses[0];
+    if (*is_done) give_status(status, &batch.statuses[0]);
     if (*is_done && result == MPI_SUCCESS && *index != MPI_UNDEFINED) completed(&batch, 1, index, MPI_STATUSES_IGNORE);
     batch_close(&batch);
     return result;

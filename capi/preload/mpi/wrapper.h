@@ -34,6 +34,15 @@ static inline void meet(struct comm *comm, struct need need, int call, int root,
     meeting_wait(&need, name, place);
 }
 
+/* A call with one status leaves its MPI_ERROR as it was. */
+static inline void give_status(MPI_Status *status, const MPI_Status *own) {
+    int error;
+    if (status == MPI_STATUS_IGNORE) return;
+    error = status->MPI_ERROR;
+    *status = *own;
+    status->MPI_ERROR = error;
+}
+
 /* The waits for several requests. */
 int wait_all(int count, MPI_Request *handles, struct request **requests, MPI_Status *statuses, struct wait *wait);
 

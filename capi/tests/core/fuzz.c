@@ -5,9 +5,9 @@
  *   fuzz CALLS [SEED [forgets|early]]    forgets: the model sometimes loses a message; early: it sometimes finishes a task. Both
  *                                        have to be detected
  *
- * Each core has up to 100 random steps in a generation. Then it is mostly run to its end, and reopened, restarted or closed. In
- * half of the cores the numbers of tasks, actions and messages are spread over 32 bits. The exit status is 1 at the first
- * difference. */
+ * Each core has up to 100 random steps in a generation. Then it is mostly run to its end, and reopened, restarted or closed. Half of
+ * the cores keep no list of their steps. In half of the cores the numbers of tasks, actions and messages are spread over 32 bits. The
+ * exit status is 1 at the first difference. */
 #include "../random.h"
 #include "../wrap.h"
 #include "traces.h"
@@ -15,7 +15,7 @@
 #include <stdlib.h>
 
 enum { STEPS = 100, FEW = 24, SEVERAL = 4, MANY = 3000 };
-enum count { REFUSED, TAKEN, QUIET, ENDED, REOPENED, RESTARTED, RESERVED, NO_MEMORY, SOUND, UNSOUND, COUNTS };
+enum count { REFUSED, TAKEN, QUIET, ENDED, REOPENED, RESTARTED, RESERVED, LEFT, NO_MEMORY, SOUND, UNSOUND, COUNTS };
 
 static uint64_t calls, counts[COUNTS];
 static gerfmuod_core core;
@@ -54,6 +54,19 @@ static bool is_same_pool(gerfmuod_status x, gerfmuod_status y) {
     return x.steps == y.steps && x.steps_left == y.steps_left && x.in_flight == y.in_flight && x.is_quiet == y.is_quiet;
 }
 
+/* Compares the tasks that are left of up to 48 numbers, about half of them below one that is mostly a task's. */
+static void compare_left(const model *as, const call *c) {
+    uint32_t near = as->tasks && below(8) ? as->task[below(as->tasks)].number : UINT32_MAX - below(2);
+    uint32_t from = near - (near < FEW ? near : below(FEW)), end = from + below(2 * FEW);
+    for (bool is_left = true; is_left;) {
+        gerfmuod_left_task got = gerfmuod_core_left(&core, from, end), want = model_left(as, from, end);
+        if (memcmp(&got, &want, sizeof got)) fail("what is left", c);
+        is_left = got.state != GERFMUOD_LEFT_NONE;
+        counts[LEFT] += is_left;
+        from = got.number + 1;
+    }
+}
+
 /* Compares what the calls that read return. */
 static void compare(const model *as, const call *c) {
     if (!is_same_pool(gerfmuod_core_status(&core), model_status(as))) fail("status", c);
@@ -61,6 +74,7 @@ static void compare(const model *as, const call *c) {
         gerfmuod_counters got = gerfmuod_core_counters(&core, node), want = model_counters(as, node);
         if (memcmp(&got, &want, sizeof got)) fail("counters", c);
     }
+    compare_left(as, c);
 }
 
 static gerfmuod_step_result take(const call *c) {
@@ -259,9 +273,10 @@ static void waves(void) {
 }
 
 static void restart(void) {
+    uint32_t want = model_restart(&m);
     calls++;
-    if (gerfmuod_core_restart(&core) != model_restart(&m)) fail("restart", NULL);
-    counts[RESTARTED] += m.steps == 0;
+    if (gerfmuod_core_restart(&core) != want) fail("restart", NULL);
+    counts[RESTARTED] += want == 0;
     compare(&m, NULL);
 }
 
@@ -339,7 +354,8 @@ static size_t damaged(char *text, size_t length) {
 
 static void audit_trace(void) {
     gerfmuod_written size = gerfmuod_core_trace(&core, NULL, 0);
-    if (size.outcome == GERFMUOD_NO_TEXT && is_far) return;
+    if (!m.is_recorded && size.outcome != GERFMUOD_NO_TEXT) fail("trace of a core without a list", NULL);
+    if (size.outcome == GERFMUOD_NO_TEXT && (is_far || !m.is_recorded)) return;
     char *text = malloc(size.length + 256), *copy = malloc(size.length + 256);
     if (!text || !copy || gerfmuod_core_trace(&core, text, size.length).outcome) fail("trace", NULL);
     audit(text, size.length);
@@ -374,6 +390,12 @@ static bool generation(void) {
     return true;
 }
 
+/* Opens a core, with a list of its steps or without. */
+static void open_core(uint32_t nodes, bool is_recorded) {
+    uint32_t got = is_recorded ? gerfmuod_core_open(&core, nodes) : gerfmuod_core_open_unrecorded(&core, nodes);
+    if (got != model_open(&m, nodes, is_recorded)) fail("open", NULL);
+}
+
 /* Every call on a core that is not open. */
 static void closed(void) {
     char room[8];
@@ -393,7 +415,7 @@ int main(int argc, char **argv) {
     for (; calls < most; cores++) {
         uint32_t nodes = below(20) ? 1 + below(8) : below(2) ? 0 : 9 + below(3);
         is_far = below(2);
-        if (gerfmuod_core_open(&core, nodes) != model_open(&m, nodes)) fail("open", NULL);
+        open_core(nodes, below(2));
         while (m.is_open && generation()) continue;
         if (m.is_open && below(4) == 0) audit_trace();
         if (gerfmuod_core_close(&core) != model_close(&m)) fail("close", NULL);
@@ -402,8 +424,9 @@ int main(int argc, char **argv) {
     }
     printf("%" PRIu64 " calls on %" PRIu64 " cores, %" PRIu64 " steps taken and %" PRIu64 " refused, ", calls, cores, counts[TAKEN],
            counts[REFUSED]);
-    printf("%" PRIu64 " times quiet, %" PRIu64 " ends, %" PRIu64 " reopened, %" PRIu64 " restarted, %" PRIu64 " reserved, ",
-           counts[QUIET], counts[ENDED], counts[REOPENED], counts[RESTARTED], counts[RESERVED]);
+    printf("%" PRIu64 " times quiet, %" PRIu64 " ends, %" PRIu64 " reopened, %" PRIu64 " restarted, %" PRIu64 " reserved, %" PRIu64
+           " tasks left, ",
+           counts[QUIET], counts[ENDED], counts[REOPENED], counts[RESTARTED], counts[RESERVED], counts[LEFT]);
     printf("%" PRIu64 " sound and %" PRIu64 " damaged traces, %" PRIu64 " allocations refused: as the model says\n", counts[SOUND],
            counts[UNSOUND], counts[NO_MEMORY]);
     return 0;

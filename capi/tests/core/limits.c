@@ -1,6 +1,7 @@
 /* limits.c: cores at their limits, with a list of steps and without. A core that is full still detects termination and has a
  * trace, which is sound. Memory is reserved for all steps that it can have, and once more when it is full. The calls that take a
- * const core do not write to it: here its memory is read-only. The others write to its first bytes alone. */
+ * const core do not write to it: here its memory is read-only. The others write to its first bytes alone. What is left is listed, up
+ * to the highest number. */
 #define _DEFAULT_SOURCE
 #include "../cases.h"
 #include <gerfmuod/core.h>
@@ -58,6 +59,35 @@ static void full(uint32_t nodes, bool has_wave) {
     gerfmuod_core_close(&core);
 }
 
+/* The next task that is left has these fields. */
+static void is_left(const gerfmuod_core *core, uint32_t from, uint32_t end, uint32_t state, uint32_t number, uint32_t node,
+                    uint32_t missing) {
+    gerfmuod_left_task left = gerfmuod_core_left(core, from, end);
+    assert_true(left.refused == 0 && left.state == state);
+    assert_true(left.number == number && left.node == node && left.missing == missing);
+}
+
+CASE(tasks_that_are_left) {
+    const uint32_t last = UINT32_MAX - 1;
+    gerfmuod_core core;
+    assert_int_equal(gerfmuod_core_open_unrecorded(&core, 2), 0);
+    is_left(&core, 0, 100, GERFMUOD_LEFT_NONE, 0, 0, 0);
+    assert_int_equal(gerfmuod_core_insert(&core, 1, 3, 2).refused, 0);
+    assert_int_equal(gerfmuod_core_insert(&core, 0, 8, 0).refused, 0);
+    assert_int_equal(gerfmuod_core_insert(&core, 1, last, 0).refused, 0);
+    is_left(&core, 0, 100, GERFMUOD_LEFT_WAITING, 3, 1, 2);
+    assert_true(gerfmuod_core_supply(&core, 3).refused == 0 && gerfmuod_core_begin(&core, 8).refused == 0);
+    is_left(&core, 3, 4, GERFMUOD_LEFT_WAITING, 3, 1, 1);
+    is_left(&core, 0, 3, GERFMUOD_LEFT_NONE, 0, 0, 0);
+    is_left(&core, 4, 3, GERFMUOD_LEFT_NONE, 0, 0, 0);
+    is_left(&core, 4, 100, GERFMUOD_LEFT_RUNNING, 8, 0, 0);
+    is_left(&core, last - 9, UINT32_MAX, GERFMUOD_LEFT_READY, last, 1, 0);
+    assert_true(gerfmuod_core_supply(&core, 3).refused == 0 && gerfmuod_core_done(&core, 8).refused == 0);
+    is_left(&core, 0, 100, GERFMUOD_LEFT_READY, 3, 1, 0);
+    is_left(&core, 4, 100, GERFMUOD_LEFT_NONE, 0, 0, 0);
+    gerfmuod_core_close(&core);
+}
+
 CASE(calls_that_only_read) {
     size_t size = 65536;
     gerfmuod_core *core = mmap(NULL, size, PROT_READ | PROT_WRITE, MAP_PRIVATE | MAP_ANONYMOUS, -1, 0);
@@ -68,11 +98,13 @@ CASE(calls_that_only_read) {
     assert_true(gerfmuod_core_status(core).steps == 5 && gerfmuod_core_status(core).steps_left > 0 && !gerfmuod_core_status(core).is_quiet);
     assert_true(gerfmuod_core_counters(core, 0).pending == 3 && gerfmuod_core_counters(core, 3).refused == GERFMUOD_REFUSED_NO_NODE);
     assert_int_equal(gerfmuod_core_trace(core, room, sizeof room).outcome, GERFMUOD_WRITTEN);
+    is_left(core, 1, 9, GERFMUOD_LEFT_READY, 1, 1, 0);
     assert_int_equal(mprotect(core, size, PROT_READ | PROT_WRITE), 0);
     gerfmuod_core_close(core);
     assert_int_equal(mprotect(core, size, PROT_READ), 0); /* and if it is closed */
     assert_true(gerfmuod_core_status(core).steps == 0 && gerfmuod_core_counters(core, 0).refused == GERFMUOD_REFUSED_NO_POOL);
     assert_int_equal(gerfmuod_core_trace(core, room, sizeof room).outcome, GERFMUOD_NO_TEXT);
+    assert_int_equal(gerfmuod_core_left(core, 0, 9).refused, GERFMUOD_REFUSED_NO_POOL);
     munmap(core, size);
 }
 
@@ -148,6 +180,7 @@ int main(void) {
         cmocka_unit_test(full_at_seven_nodes), cmocka_unit_test(full_at_eight_nodes_in_a_wave),
         cmocka_unit_test(calls_that_only_read), cmocka_unit_test(bytes_that_are_used),
         cmocka_unit_test(steps_without_a_list), cmocka_unit_test(waves_without_a_list),
+        cmocka_unit_test(tasks_that_are_left),
     };
     return RUN(cases);
 }

@@ -10,7 +10,7 @@ enum life { WAITING, READY, RUNNING, DONE };
 enum action_kind { OPENING, NAMED, OF_MESSAGE };
 
 typedef struct {
-    bool is_open;
+    bool is_open, is_recorded; /* is_recorded: it keeps a list of its steps; else `steps` stays 0 */
     uint32_t nodes, generation, steps;
     uint32_t tasks, actions, in_flight, known;
     struct {
@@ -46,6 +46,7 @@ static void model_begin_generation(model *m) {
     model fresh;
     memset(&fresh, 0, sizeof fresh);
     fresh.is_open = true;
+    fresh.is_recorded = m->is_recorded;
     fresh.nodes = m->nodes;
     fresh.generation = m->generation + 1;
     fresh.steps = m->steps;
@@ -53,10 +54,11 @@ static void model_begin_generation(model *m) {
     *m = fresh;
 }
 
-static uint32_t model_open(model *m, uint32_t nodes) {
+static uint32_t model_open(model *m, uint32_t nodes, bool is_recorded) {
     memset(m, 0, sizeof *m);
     if (nodes == 0 || nodes > GERFMUOD_MAX_NODES) return GERFMUOD_REFUSED_BAD_SPEC;
     m->nodes = nodes;
+    m->is_recorded = is_recorded;
     model_begin_generation(m);
     return 0;
 }
@@ -281,7 +283,7 @@ static gerfmuod_step_result model_step(model *m, uint32_t kind, uint32_t a, uint
         return full;
     }
     gerfmuod_step_result answer = model_kind(m, kind, a, b, c, generation);
-    m->steps += answer.refused == 0;
+    m->steps += m->is_recorded && answer.refused == 0;
     return answer;
 }
 
@@ -329,6 +331,7 @@ static gerfmuod_settled model_settle(model *m) {
         m->steps += model_judge(m).refused == 0;
     }
     if (!settled.refused) settled.wave = m->waves - 1, settled.steps = m->steps - before;
+    if (!m->is_recorded) m->steps = 0;
     return settled;
 }
 
@@ -338,6 +341,22 @@ static gerfmuod_counters model_counters(const model *m, uint32_t node) {
     else if (node >= m->nodes) counters.refused = GERFMUOD_REFUSED_NO_NODE;
     else counters.pending = model_pending(m, node), counters.sent = m->sent[node], counters.received = m->received[node];
     return counters;
+}
+
+/* The lowest task of a range that is not done. */
+static gerfmuod_left_task model_left(const model *m, uint32_t from, uint32_t end) {
+    static const uint16_t states[] = {GERFMUOD_LEFT_WAITING, GERFMUOD_LEFT_READY, GERFMUOD_LEFT_RUNNING};
+    gerfmuod_left_task left = {0, GERFMUOD_LEFT_NONE, 0, 0, 0};
+    if (!m->is_open) left.refused = GERFMUOD_REFUSED_NO_POOL;
+    for (uint32_t k = 0; k < m->tasks; k++) {
+        uint32_t number = m->task[k].number;
+        if (m->task[k].life == DONE || number < from || number >= end || (left.state && number > left.number)) continue;
+        left.state = states[m->task[k].life];
+        left.number = number;
+        left.node = m->task[k].home;
+        left.missing = m->task[k].life == WAITING ? m->task[k].missing : 0;
+    }
+    return left;
 }
 
 static gerfmuod_status model_status(const model *m) {

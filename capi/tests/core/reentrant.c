@@ -29,6 +29,7 @@ static void call_all(void) {
     assert_true(gerfmuod_core_settle(&core).refused == why && gerfmuod_core_restart(&core) == why && gerfmuod_core_close(&core) == why);
     assert_int_equal(gerfmuod_core_reserve(&core, 5000, 500, 50), why);
     assert_true(gerfmuod_core_counters(&core, 0).refused == why && gerfmuod_core_counters(&core, 9).refused == why);
+    assert_true(gerfmuod_core_left(&core, 0, 9).refused == why && gerfmuod_core_left(&core, 0, 9).state == GERFMUOD_LEFT_NONE);
     gerfmuod_status all = gerfmuod_core_status(&core);
     assert_true(!all.is_quiet && all.steps == 0 && all.steps_left == 0 && all.in_flight == 0);
     assert_int_equal(gerfmuod_core_trace(&core, room, sizeof room).outcome, GERFMUOD_NO_TEXT);

@@ -75,7 +75,7 @@ static uint32_t trace_begin(trace_reader *r, const char *text, size_t length) {
     if (!trace_word(r, r->version == 2 ? "trace 2\n" : "trace 1\n")) return 1;
     if (!trace_word(r, "nodes ") || !trace_number(r, &r->nodes) || !trace_word(r, "\n")) return 2;
     r->line = 2;
-    return model_open(&r->world, r->nodes) ? 2 : 0;
+    return model_open(&r->world, r->nodes, true) ? 2 : 0;
 }
 
 /* The line of the first error of syntax, or 0. */

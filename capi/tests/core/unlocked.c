@@ -33,6 +33,7 @@ static volatile uint64_t returned[2]; /* so that no compiler leaves out a read *
     X(core_steps, true, gerfmuod_core_steps(&core, &step, 1, &result, 1))                                \
     X(core_step_by, true, gerfmuod_core_insert_by(&core, GERFMUOD_BY_OPENING, 0, 0, 1, 0).refused)       \
     X(core_counters, false, gerfmuod_core_counters(&core, 0).pending)                                    \
+    X(core_left, false, gerfmuod_core_left(&core, 0, 9).state)                                           \
     X(core_status, false, gerfmuod_core_status(&core).steps)                                             \
     X(core_trace, false, gerfmuod_core_trace(&core, text, sizeof text).outcome)                          \
     X(process_init, true, gerfmuod_process_init(&process, 0, 1))                                         \

@@ -9,7 +9,7 @@
 #include <sched.h>
 #include "../cases.h"
 
-enum { PROCESSORS = 3, RETRIES = 12 };
+enum { PROCESSORS = 3, RETRIES = 60 };
 
 static bool is_held;
 static int tries;

@@ -20,6 +20,7 @@ WRAP(int, pthread_cond_destroy, (pthread_cond_t *));
 static long allocations_left = -1, threads_left = -1, inits_left = -1; /* until one fails; if negative, none fails */
 static size_t allocated;                              /* bytes, in all threads */
 static int initialized;                               /* locks and condition variables that are not destroyed */
+static int created;                                   /* threads */
 
 static bool fails(long *left) {
     if (*left > 0) --*left;
@@ -45,7 +46,7 @@ void *__wrap_realloc(void *old, size_t size) {
 }
 void __wrap_free(void *block) { __real_free(uncounted(block)); }
 int __wrap_pthread_create(pthread_t *thread, const pthread_attr_t *attributes, void *(*body)(void *), void *argument) {
-    return fails(&threads_left) ? 11 : __real_pthread_create(thread, attributes, body, argument);
+    return fails(&threads_left) ? 11 : (created++, __real_pthread_create(thread, attributes, body, argument));
 }
 int __wrap_pthread_mutex_init(pthread_mutex_t *mutex, const pthread_mutexattr_t *attributes) {
     return fails(&inits_left) ? 11 : (initialized++, __real_pthread_mutex_init(mutex, attributes));
@@ -237,6 +238,27 @@ CASE(too_few_threads) {
     }
 }
 
+/* A run creates those threads that no run before needed: not those of the same graph, nor of a new one, nor beside the caller. */
+CASE(threads_stay) {
+    static const struct { uint32_t threads; bool is_new, is_async; int created; } runs[] = {
+        {4, false, false, 3}, {4, false, false, 3}, {2, false, false, 3}, {5, false, false, 4}, {5, true, false, 4},
+        {4, false, true, 4},  {5, true, true, 5},   {6, false, false, 5}, {1, true, false, 5},
+    };
+    uint8_t ran[TASKS] = {0};
+    gerfmuod_team *team = new_team();
+    check_ok("a graph", gerfmuod_team_describe(team, TASKS, NULL, offsets, inputs, NULL));
+    created = 0;
+    for (uint32_t k = 0; k < sizeof runs / sizeof *runs; k++) {
+        if (k) check_ok("prepare", runs[k].is_new ? gerfmuod_team_clear(team) : gerfmuod_team_again(team));
+        if (runs[k].is_new) check_ok("a graph", gerfmuod_team_describe(team, TASKS, NULL, offsets, inputs, NULL));
+        check_ok("run", (runs[k].is_async ? gerfmuod_team_run_async : gerfmuod_team_run)(team, runs[k].threads, body, ran));
+        check_ok("wait", gerfmuod_team_wait(team, GERFMUOD_TEAM_NO_LIMIT));
+        check_that(created == runs[k].created, "%d threads were created before run %u", created, k);
+        check("each task once more", has_run(ran, 1 + (int)k));
+    }
+    gerfmuod_team_close(team);
+}
+
 CASE(no_lock) {
     for (inits_left = 1; inits_left <= 2;) {
         long n = inits_left;
@@ -292,10 +314,10 @@ CASE(no_lock_is_left) { check("all locks are destroyed", !initialized); }
 int main(void) {
     const struct CMUnitTest cases[] = {
         cmocka_unit_test(a_graph), cmocka_unit_test(a_traced_graph), cmocka_unit_test(a_graph_by_arrays),
-        cmocka_unit_test(a_traced_graph_by_arrays), cmocka_unit_test(a_graph_over_data), cmocka_unit_test(a_team), cmocka_unit_test(a_team_that_records),
-        cmocka_unit_test(a_team_by_arrays), cmocka_unit_test(a_team_by_arrays_that_records),
-        cmocka_unit_test(too_few_threads), cmocka_unit_test(no_lock), cmocka_unit_test(memory_of_a_large_graph),
-        cmocka_unit_test(no_lock_is_left),
+        cmocka_unit_test(a_traced_graph_by_arrays), cmocka_unit_test(a_graph_over_data), cmocka_unit_test(a_team),
+        cmocka_unit_test(a_team_that_records), cmocka_unit_test(a_team_by_arrays), cmocka_unit_test(a_team_by_arrays_that_records),
+        cmocka_unit_test(too_few_threads), cmocka_unit_test(threads_stay), cmocka_unit_test(no_lock),
+        cmocka_unit_test(memory_of_a_large_graph), cmocka_unit_test(no_lock_is_left),
     };
     fill();
     return RUN(cases);

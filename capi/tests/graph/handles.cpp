@@ -1,5 +1,5 @@
 // handles.cpp: tests of the data handles of gerfmuod.hpp: 1,000 random programs against the sequential one, which values a body gets,
-// handles of other pools, tasks with classes and releases.
+// handles of other pools, tasks with classes and releases, by position and by name.
 #include <gerfmuod/gerfmuod.hpp>
 
 #include <cstdio>
@@ -107,9 +107,30 @@ static bool classes_and_releases() {
     return order == std::vector<int>{1, 2, 3, 4};
 }
 
+// Options by name, in each form of a task: on one thread the order shows the classes.
+static bool options() {
+    using gerfmuod::priority;
+    using gerfmuod::releases;
+    Pool pool;
+    Data<int> data(pool, 3);
+    std::vector<int> order;
+    auto number = pool.task([] { return 2; });
+    auto last = pool.task([&](int) { order.push_back(6); }, read(number), releases(2).priority(3));
+    pool.task([&] { order.push_back(1); }, {number}, priority(1));
+    pool.task([&] { order.push_back(1); }, std::vector<gerfmuod::Task>{number}, priority(1));
+    pool.task([&](int it) { order.push_back(it); }, read(number), priority(2));
+    pool.task([&] { order.push_back(2), pool.release(last); }, priority(2));
+    auto fifth = pool.task_on(std::vector<Access>{}, [&] { order.push_back(5); }, priority(2).releases(1));
+    pool.task([&](int &it) { order.push_back(it++), pool.release(last); }, update(data), priority(3));
+    pool.task_on({read(data.handle)}, [&] { order.push_back(data.value), pool.release(fifth); }, priority(0));
+    pool.run(1);
+    return order == std::vector<int>{1, 1, 2, 2, 3, 4, 5, 6};
+}
+
 int main() {
     const struct { const char *name; bool (*test)(); } tests[] = {
         {"random programs", random_programs}, {"values", values}, {"foreign", foreign}, {"classes and releases", classes_and_releases},
+        {"options", options},
     };
     int failed = 0;
     for (auto &it : tests)

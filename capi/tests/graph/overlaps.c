@@ -92,6 +92,33 @@ REPEATED_CASE(record_beside_turn) {
     gerfmuod_team_close(team);
 }
 
+/* ---- an empty graph again, while a turn waits, while a task runs, and after a stop, when the turn may not have returned */
+REPEATED_CASE(clear_beside_turn) {
+    gerfmuod_team *team = recording_team(0);
+    pthread_t waiting = begin(turns, team);
+    wait_for_turn(team);
+    check_refusal("clear while a turn waits", gerfmuod_team_clear(team), GERFMUOD_REFUSED_RUNNING);
+    check_ok("a task", gerfmuod_team_task(team, 0, NULL, 0, NULL));
+    check_ok("which awaits an input", gerfmuod_team_outside(team, 0));
+    check_ok("start", gerfmuod_team_start(team, 1));
+    check_refusal("clear in a run in which a turn waits", gerfmuod_team_clear(team), GERFMUOD_REFUSED_RUNNING);
+    gerfmuod_team_stop(team, 0);
+    while (gerfmuod_team_clear(team) == GERFMUOD_REFUSED_RUNNING) sleep_for(10000);
+    check_refusal("the turn", end(waiting), GERFMUOD_REFUSED_STOPPED);
+    check_ok("no fault is left", gerfmuod_team_fault(team));
+    check("no task is left", gerfmuod_team_left(team) == 0);
+    check_ok("a task", gerfmuod_team_task(team, 0, NULL, 0, NULL));
+    check_ok("start", gerfmuod_team_start(team, 1));
+    check_ok("clear when no thread came", gerfmuod_team_clear(team));
+    check_ok("a task", gerfmuod_team_task(team, 0, NULL, 0, NULL));
+    check_ok("start", gerfmuod_team_start(team, 1));
+    check("the task", gerfmuod_team_turn(team, GERFMUOD_GRAPH_NONE).next == GERFMUOD_GRAPH_RUN);
+    check_refusal("clear while a task runs", gerfmuod_team_clear(team), GERFMUOD_REFUSED_RUNNING);
+    check("the end", gerfmuod_team_turn(team, 0).next == GERFMUOD_GRAPH_OVER);
+    check_ok("clear after the end", gerfmuod_team_clear(team));
+    gerfmuod_team_close(team);
+}
+
 /* ---- a task that is reported although it does not run, before the end and after it: every other turn is refused for that */
 static void report_wrong(uint32_t wrong, uint32_t fault, bool has_ended) {
     const uint32_t first = 0;
@@ -168,7 +195,8 @@ REPEATED_CASE(calls_beside_calls) {
 int main(void) {
     const struct CMUnitTest cases[] = {
         cmocka_unit_test(stop_beside_run), cmocka_unit_test(again_beside_turn), cmocka_unit_test(record_beside_turn),
-        cmocka_unit_test(wrong_done), cmocka_unit_test(run_beside_turn), cmocka_unit_test(calls_beside_calls),
+        cmocka_unit_test(clear_beside_turn), cmocka_unit_test(wrong_done), cmocka_unit_test(run_beside_turn),
+        cmocka_unit_test(calls_beside_calls),
     };
     limit_time();
     return RUN(cases);

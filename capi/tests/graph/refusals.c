@@ -381,7 +381,7 @@ static int count_body(void *context, uint32_t task) {
 
 struct seen {
     gerfmuod_team *team;
-    uint32_t ran, run, start, again, record, profile; /* what the calls returned in a body */
+    uint32_t ran, run, start, again, clear, record, profile; /* what the calls returned in a body */
 };
 
 /* Task 2 fails. */
@@ -389,8 +389,8 @@ static int body(void *context, uint32_t task) {
     struct seen *seen = context;
     if (__atomic_fetch_add(&seen->ran, 1, __ATOMIC_RELAXED) == 0) {
         seen->run = gerfmuod_team_run(seen->team, 2, body, seen), seen->start = gerfmuod_team_start(seen->team, 2);
-        seen->again = gerfmuod_team_again(seen->team), seen->record = gerfmuod_team_record(seen->team, 0);
-        seen->profile = gerfmuod_team_profile(seen->team, stdout);
+        seen->again = gerfmuod_team_again(seen->team), seen->clear = gerfmuod_team_clear(seen->team);
+        seen->record = gerfmuod_team_record(seen->team, 0), seen->profile = gerfmuod_team_profile(seen->team, stdout);
     }
     return task == 2;
 }
@@ -435,6 +435,7 @@ CASE(team_run) {
     check_refusal("a run in a run", seen.run, GERFMUOD_REFUSED_RUNNING);
     check_refusal("a start in a run", seen.start, GERFMUOD_REFUSED_RUNNING);
     check_refusal("again in a run", seen.again, GERFMUOD_REFUSED_RUNNING);
+    check_refusal("clear in a run", seen.clear, GERFMUOD_REFUSED_RUNNING);
     check_refusal("recording in a run", seen.record, GERFMUOD_REFUSED_RUNNING);
     check_refusal("a profile in a run", seen.profile, GERFMUOD_REFUSED_RUNNING);
     check_refusal("a second run, of any number of threads", gerfmuod_team_run(seen.team, UINT32_MAX, body, &seen), GERFMUOD_REFUSED_ENDED);
@@ -458,6 +459,11 @@ CASE(team_run) {
     check_ok("again", gerfmuod_team_again(seen.team));
     check_refusal("a body that fails", gerfmuod_team_run(seen.team, 2, body, &seen), GERFMUOD_REFUSED_STOPPED);
     check("its task", gerfmuod_team_failed(seen.team) == 2);
+    check_ok("clear after a failure", gerfmuod_team_clear(seen.team));
+    check_ok("no fault", gerfmuod_team_fault(seen.team));
+    check_refusal("no task", gerfmuod_team_outside(seen.team, 0), GERFMUOD_REFUSED_NO_TASK);
+    check_refusal("again of an empty graph", gerfmuod_team_again(seen.team), GERFMUOD_REFUSED_WRONG_LIFE);
+    check_ok("record, as before the first task", gerfmuod_team_record(seen.team, 0));
     gerfmuod_team_close(seen.team);
 }
 

@@ -160,6 +160,45 @@ static bool repeats() {
     return is_right && count.get() == 3 && square.get() == 9 && last.get() == -9;
 }
 
+// Calls the pool when it is destroyed.
+struct Caller {
+    Pool &pool;
+    std::size_t &seen;
+    ~Caller() { seen = pool.size(); }
+};
+
+// Another graph in each round, on the threads of the first one, also after a failure: what was there before is of no pool, but a result
+// stays, and bodies that did not run are destroyed. A run without a wait() has not ended.
+static bool clears() {
+    Pool pool;
+    Result<int> before;
+    Task old;
+    gerfmuod::Handle old_handle;
+    std::size_t seen = 9;
+    bool is_right = true;
+    for (int round = 0; round < 200; round++) {
+        Data<int> sum(pool, round);
+        for (int k = 0; k <= round; k++) pool.task([](int &it) { it++; }, update(sum));
+        auto value = pool.task([&](int it) { return round % 3 ? it : throw std::domain_error("third"); }, read(sum));
+        if (round % 2 == 0) old = pool.task([own = std::make_unique<Caller>(Caller{pool, seen})] {}, {value});
+        std::string text = thrown<std::domain_error>([&] { pool.run(1 + static_cast<std::uint32_t>(round) % 4); });
+        is_right = is_right && text == (round % 3 ? "" : "third") && (round < 2 || round % 3 != 2 || before.done());
+        if (round % 3) is_right = is_right && value.get() == 2 * round + 1 && pool.left() == 0;
+        seen = 9, before = value, old_handle = sum.handle;
+        pool.clear();
+        is_right = is_right && pool.size() == 0 && pool.left() == 0 && !pool.failed() && (round % 6 || seen == 0);
+        is_right = is_right && (round % 3 ? before.get() == 2 * round + 1 : thrown<std::domain_error>([&] { before.get(); }) == "third");
+        is_right = is_right && !thrown<std::invalid_argument>([&] { pool.task([] {}, {old}); }).empty();
+        is_right = is_right && !thrown<std::invalid_argument>([&] { pool.task_on({read(old_handle)}, [] {}); }).empty();
+    }
+    pool.task([] {});
+    pool.run_async(1);
+    is_right = is_right && begins_with(thrown([&] { pool.clear(); }), "Running:");
+    pool.wait();
+    pool.clear();
+    return is_right;
+}
+
 // A body is destroyed when it ran, and a result when no variable and no task that still has to run has it.
 static bool frees() {
     auto captured = std::make_shared<int>(1), returned = std::make_shared<int>(2);
@@ -264,11 +303,12 @@ static bool refuses_in_a_body() {
         texts.push_back(thrown([&] { pool.run_async(1); }));
         texts.push_back(thrown([&] { pool.again(); }));
         texts.push_back(thrown([&] { pool.reset(); }));
+        texts.push_back(thrown([&] { pool.clear(); }));
         texts.push_back(thrown([&] { pool.record(); }));
         texts.push_back(thrown([&] { pool.summary(stdout); }));
     });
     pool.run(2);
-    return texts.size() == 8 && std::all_of(texts.begin(), texts.end(), [](auto &text) { return begins_with(text, "Running:"); });
+    return texts.size() == 9 && std::all_of(texts.begin(), texts.end(), [](auto &text) { return begins_with(text, "Running:"); });
 }
 
 int main() {
@@ -279,6 +319,7 @@ int main() {
         {"fails", fails},
         {"stops", stops},
         {"repeats", repeats},
+        {"clears", clears},
         {"frees", frees},
         {"reports", reports},
         {"stops_for_progress", stops_for_progress},

@@ -1,4 +1,5 @@
-/* runs_again.c: a team that runs again and again with threads that stay: again, a stop or a failure and a reset, runs beside the caller. */
+/* runs_again.c: a team that runs again and again with threads that stay: again, a stop or a failure and a reset, a new graph, runs
+ * beside the caller. */
 #define _POSIX_C_SOURCE 200809L
 #include "check.h"
 #include "limit.h"
@@ -75,6 +76,40 @@ CASE(a_graph_that_grew_is_not_reset) {
     gerfmuod_team_close(counts.team);
 }
 
+/* A task that adds others, which access handles; the last one fails in some rounds. */
+static int grow(void *context, uint32_t task) {
+    struct counts *counts = context;
+    uint32_t handle;
+    if (task) return count(context, task);
+    for (uint32_t t = 1; t < TASKS; t++) {
+        if (t % 50 == 1) check_ok("handle", gerfmuod_team_handle(counts->team, &handle));
+        const gerfmuod_access access = {handle, t % 5 ? GERFMUOD_READ : GERFMUOD_UPDATE};
+        check_ok("task", gerfmuod_team_task_on(counts->team, t % 4, &access, 1, 0, NULL, NULL, NULL));
+    }
+    return count(context, task);
+}
+
+CASE(other_graphs_on_the_same_threads) {
+    struct counts counts = {.team = new_team(), .stops_at = GERFMUOD_GRAPH_NONE};
+    check_ok("record", gerfmuod_team_record(counts.team, TASKS));
+    for (uint32_t round = 0; round < ROUNDS; round++) {
+        bool fails = round % 3 == 0, grows = round % 2;
+        memset(counts.bodies, 0, sizeof counts.bodies);
+        counts.fails_at = fails ? TASKS - 1 : GERFMUOD_GRAPH_NONE;
+        check_ok("clear", gerfmuod_team_clear(counts.team));
+        check("an empty graph", gerfmuod_team_left(counts.team) == 0);
+        for (uint32_t t = 0; t < (grows ? 1 : TASKS); t++)
+            check_ok("task", gerfmuod_team_task(counts.team, 0, &(uint32_t){t - 1}, t > 0, NULL));
+        uint32_t refused = gerfmuod_team_run(counts.team, 1 + round % 4, grows ? grow : count, &counts);
+        check("the run", refused == (fails ? GERFMUOD_REFUSED_STOPPED : GERFMUOD_OK));
+        if (!fails || !grows) check_each(&counts, 1);
+        FILE *file = fopen("/dev/null", "w");
+        check_ok("its profile", gerfmuod_team_profile(counts.team, file));
+        fclose(file);
+    }
+    gerfmuod_team_close(counts.team);
+}
+
 CASE(a_run_beside_the_caller) {
     struct counts counts = described();
     for (uint32_t round = 0; round < ROUNDS; round++) {
@@ -96,6 +131,7 @@ CASE(calls_beside_a_run_are_refused) {
     check("a third one", gerfmuod_team_run_async(counts.team, 2, count, &counts) == GERFMUOD_REFUSED_RUNNING);
     check("again", gerfmuod_team_again(counts.team) == GERFMUOD_REFUSED_RUNNING);
     check("reset", gerfmuod_team_reset(counts.team) == GERFMUOD_REFUSED_RUNNING);
+    check("clear", gerfmuod_team_clear(counts.team) == GERFMUOD_REFUSED_RUNNING);
     check("record", gerfmuod_team_record(counts.team, 9) == GERFMUOD_REFUSED_RUNNING);
     gerfmuod_team_stop(counts.team, 3);
     check("wait", gerfmuod_team_wait(counts.team, GERFMUOD_TEAM_NO_LIMIT) == GERFMUOD_REFUSED_STOPPED);
@@ -118,6 +154,7 @@ int main(void) {
         cmocka_unit_test(runs_with_any_number_of_threads), cmocka_unit_test(a_failure_is_forgotten_by_reset),
         cmocka_unit_test(a_graph_that_grew_is_not_reset),  cmocka_unit_test(a_run_beside_the_caller),
         cmocka_unit_test(calls_beside_a_run_are_refused),  cmocka_unit_test(too_few_threads),
+        cmocka_unit_test(other_graphs_on_the_same_threads),
     };
     return RUN(cases);
 }

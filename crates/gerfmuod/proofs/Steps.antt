@@ -4,7 +4,7 @@ pub use Rattle.gerfmuod.specs.Calls.{Accepted, Answers, world_of, Settles, is_qu
 pub use Rattle.gerfmuod.specs.Calls.{if◌then◌else◌, Give, visited_at, Plain, Over, IsOverFrom, settled, unsettled, IsOver, TellsNoEarlyEnd}
 pub use Rattle.gerfmuod.specs.Calls.{leaves_nothing, plain, told, reply_told, AnswersInRoom, AnswersTo, StepResult, AreTaken, IsBatch}
 pub use Rattle.gerfmuod.specs.Calls.{IsStep, IsStepsCall, step_asked}
-pub use Rattle.gerfmuod.specs.{Calls.{CoreState, Open, RawStep, raw_step}, declared.pool.CoreRoom.TheInside.Inside}
+pub use Rattle.gerfmuod.specs.{Calls.{CoreState, Open, RawStep, raw_step}, declared.pool.BoundedCore.TheInside.Inside}
 pub use Rattle.std.proofs.Common.{ℕ, ◌≡◌, ◌≢◌, ◌+◌, ◌*◌, ◌≤◌, ◌++◌, Bool, true, false, List, ◌∷◌, [], length, Result, Some, refl, sym, ap}
 pub use Rattle.std.proofs.{Common.{subst, ◌∙◌, arith, None, inl, inr, Option, ◌<◌, take, drop, set, get_or}, lemmas.Bool.cases_Bool}
 pub use Rattle.std.proofs.lemmas.{Bool.{lt-leb, Decides.nat_tests}, List.{length-append, take_more, take_more_set, take-set, drop-set}}

@@ -1,7 +1,7 @@
 -- What each exported call on a core returns and does. On a core that is not open it is refused as 24, `NoPool`, and on a core on which
 -- another call runs as 28, `Busy`.
 pub use Rattle.gerfmuod.specs.{Meanings.texts_of, declared.answer.{Counters.Counters, Settled.Settled, Status.Status}}
-pub use Rattle.gerfmuod.specs.declared.{answer.{StepResult.StepResult, Written.Written}, raw_step.RawStep.RawStep}
+pub use Rattle.gerfmuod.specs.declared.{answer.{LeftTask.LeftTask, StepResult.StepResult, Written.Written}, raw_step.RawStep.RawStep}
 pub use Rattle.std.specs.Prelude.{ℕ, ◌==◌, nat_le, if◌then◌else◌, Option, Some, None, ◌≡◌, ◌&&◌, [], Bool, ◌≤◌, ◌+◌, ◌-◌, ◌*◌, IsFalse}
 pub use Rattle.std.specs.Prelude.{length, ◌<◌, ◌++◌, ◌⊎◌, List, drop, option_map, true, false, IsTrue, Result, Ok, Err, ◌||◌, ◌↔◌, nat_lt}
 pub use Rattle.std.specs.Prelude.{◌≢◌, ◌∷◌, take}
@@ -11,13 +11,15 @@ pub use Rattle.tp_base.specs.declared.Step.TheVariants.{ActionClose, Ready, Send
 pub use Rattle.tp_base.specs.declared.ids.{ActionId.ActionId, Generation.Generation, MessageId.MessageId, NodeId.NodeId, TaskId.TaskId}
 pub use Rattle.tp_base.specs.declared.limits.TheConstants.{MAX_NODES, MAX_STEPS}
 pub use Rattle.tp_core.specs.{Accepted.{Accepted, Answers, list_length, world_of, numbers_at, no_numbers}, Generations.{AreRuns, InEach}}
-pub use Rattle.tp_core.specs.{Makers.is_maker, NeverEarly.{IsNeverEarly, IsOverFrom}, Settled.Settles, World.{is_quiet, IsQuiet}}
+pub use Rattle.tp_core.specs.{Left.{IsNextLeft, home_and_life}, Makers.is_maker, NeverEarly.{IsNeverEarly, IsOverFrom}, Settled.Settles}
+pub use Rattle.tp_core.specs.{World.{World, is_quiet, IsQuiet}, declared.Life.Life}
 pub use Rattle.tp_core.specs.declared.{Maker.{Maker, TheVariants.{Task, Action, Message, Opening, Thread}}, Reply.Reply}
 pub use Rattle.tp_core.specs.declared.{Reply.TheVariants.{Plain, WaveSums, Not, Over, Opened}, numbers.NodeNumbers.NodeNumbers}
 pub use Rattle.tp_text.specs.{AuditText.IsAuditText, TraceOf.{IsTraceOf, CanBeTraced}, declared.input.TheConstants.MAX_TEXT}
 pub use Rattle.tp_text.specs.declared.verdict.Verdict.{Verdict, TheVariants.{Sound, Refused}}
 pub use Rattle.tp_wave.specs.{Generations.present, Sums.{is_ended, visited_at}}
-use Rattle.gerfmuod.specs.declared.pool.CoreRoom.TheInside.{Inside}
+use Rattle.gerfmuod.specs.declared.pool.BoundedCore.TheInside.{Inside}
+use Rattle.tp_core.specs.declared.Life.TheVariants as life
 
 -- ---- a step as C passes it: the number of its kind and its arguments
 abbrev pub node : ℕ → NodeId
@@ -127,7 +129,7 @@ pub record IsCall {A : Type 0} (refused_as : ℕ → A) (does : Accepted → A �
   pub if_busy : old.use_is ≡ Busy → (u ≡ refused_as 28) × (new ≡ old)
   pub if_open : old.use_is ≡ Open → (new.use_is ≡ Open) × does old.core u new.core
 
--- ---- the invariant of a `CoreRoom`, and the safety property of the calls on it
+-- ---- the invariant of a `BoundedCore`, and the safety property of the calls on it
 -- The number of nodes and the limit are the core's, and in each generation the core's steps are a run. Until termination is
 -- detected, there is room for 9 steps for each node.
 pub record IsKept (p : Inside) : Type 0 where
@@ -300,6 +302,25 @@ counters refused n = record { refused = refused; pending = n.pending; sent = n.s
 abbrev pub counters_at : ℕ → Accepted → Counters
 counters_at i a = if nat_lt i a.nodes then counters 0 (numbers_at i a) else counters (number_of NoNode) no_numbers
 
+abbrev pub left_as : (refused state number node missing : ℕ) → LeftTask
+left_as refused state number node missing =
+    record { refused = refused; state = state; number = number; node = node; missing = missing }
+
+-- the task of a number, with its home and its life, if it was inserted and is not done
+abbrev pub left_task : ℕ → Option (NodeId × Life) → LeftTask
+left_task t (Some (i, life.Waiting k)) = left_as 0 1 t i.0 k
+left_task t (Some (i, life.Ready)) = left_as 0 2 t i.0 0
+left_task t (Some (i, life.Running)) = left_as 0 3 t i.0 0
+left_task t _ = left_as 0 0 0 0 0
+
+abbrev pub next_task : Option TaskId → World → LeftTask
+next_task (Some t) w = left_task t.0 (home_and_life t.0 w)
+next_task None w = left_as 0 0 0 0 0
+
+-- The task with the lowest number of the range that is not done, if there is one.
+abbrev pub IsLeft : (from end : ℕ) → Accepted → LeftTask → Type 0
+IsLeft from end a answer = (next : Option TaskId) × IsNextLeft from end (world_of a) next × (answer ≡ next_task next (world_of a))
+
 -- The pool as a whole: the steps in the core's list, the steps that can still be reported, the messages in flight, and
 -- whether it is quiet.
 pub record IsStatus (a : Accepted) (answer : Status) : Type 0 where
@@ -369,18 +390,17 @@ IsStepsCall events room =
 abbrev pub IsCountersCall : ℕ → CoreState → Counters → CoreState → Type 0
 IsCountersCall i = IsCall (λ k. counters k no_numbers) (λ a u b. (u ≡ counters_at i a) × (b ≡ a))
 
-abbrev pub nothing_seen : Status
-nothing_seen = record { steps = 0; steps_left = 0; in_flight = 0; is_quiet = false }
+abbrev pub IsLeftCall : (from end : ℕ) → CoreState → LeftTask → CoreState → Type 0
+IsLeftCall from end = IsCall (λ k. left_as k 0 0 0 0) (λ a u b. IsLeft from end a u × (b ≡ a))
 
 abbrev pub IsStatusCall : CoreState → Status → CoreState → Type 0
-IsStatusCall = IsCall (λ k. nothing_seen) (λ a u b. IsStatus a u × (b ≡ a))
-
-abbrev pub refused_settle : ℕ → Settled
-refused_settle k = record { refused = k; wave = 0; steps = 0 }
+IsStatusCall =
+    IsCall (λ k. record { steps = 0; steps_left = 0; in_flight = 0; is_quiet = false }) (λ a u b. IsStatus a u × (b ≡ a))
 
 -- There is always room to settle: it is never refused as `HistoryFull`.
 pub record IsSettleCall (old : CoreState) (answer : Settled) (new : CoreState) : Type 0 where
-  pub call : IsCall refused_settle (λ a u b. IsSettled a u b × TellsNoEarlyEnd (u.refused ≡ 0) u.wave b) old answer new
+  pub call : IsCall (λ k. record { refused = k; wave = 0; steps = 0 })
+      (λ a u b. IsSettled a u b × TellsNoEarlyEnd (u.refused ≡ 0) u.wave b) old answer new
   pub has_room : answer.refused ≢ 16
 
 -- The result is the outcome, and the content of the buffer.

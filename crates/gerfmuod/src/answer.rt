@@ -33,6 +33,22 @@ pub struct Counters {
     pub received: u32,
 }
 
+/// A task that is not done, if there is one in a range of numbers.
+#[repr(C)]
+#[derive(Clone, Copy, Debug, PartialEq, Eq)]
+pub struct LeftTask {
+    /// 0; or 24, `NoPool`, if the core is not open; or 28, `Busy`: all else is then 0.
+    pub refused: u16,
+    /// 0: there is none, and all else is 0. 1: it waits for inputs; 2: it has all its inputs; 3: it runs.
+    pub state: u16,
+    /// The number of the task.
+    pub number: u32,
+    /// Its home.
+    pub node: u32,
+    /// The number of inputs that it waits for.
+    pub missing: u32,
+}
+
 /// The pool as a whole. If the core is not open, all numbers are 0, and it is not quiet.
 #[repr(C)]
 #[derive(Clone, Copy, Debug, PartialEq, Eq)]
@@ -72,6 +88,6 @@ pub struct Written {
 
 const _: () = prove!(size_of::<StepResult>() == 16 && size_of::<Counters>() == 16);
 
-const _: () = prove!(size_of::<Status>() == 16 && size_of::<Written>() == 16);
+const _: () = prove!(size_of::<LeftTask>() == 16 && size_of::<Status>() == 16);
 
-const _: () = prove!(size_of::<Settled>() == 12);
+const _: () = prove!(size_of::<Written>() == 16 && size_of::<Settled>() == 12);

@@ -4,12 +4,12 @@ ghost use Rattle.gerfmuod.specs.Calls.{IsBatch, IsStepsCall};
 
 use crate::answer::StepResult;
 use crate::calls::{not_taken, told};
-use crate::pool::CoreRoom;
+use crate::pool::BoundedCore;
 use crate::raw_step::{RawStep, step_of};
 use crate::slot::CoreSlot;
 
 /// Takes the steps in order, up to the first that is refused, and writes the result of each. Returns how many were taken.
-fn taken(room: &mut CoreRoom, steps: &[RawStep], answers: &mut [StepResult]) -> usize
+fn taken(room: &mut BoundedCore, steps: &[RawStep], answers: &mut [StepResult]) -> usize
     requires { length steps.now ≤ length answers.now }
     ensures { IsBatch steps.now answers.old room.old result answers.new room.new }
 {

@@ -1,16 +1,16 @@
 //! The calls on a core, as C gets their results.
 ghost use Rattle.std.specs.Prelude.{◌≡◌, ◌≢◌, ◌&&◌, IsTrue, None, OnSome, option_map};
 ghost use Rattle.gerfmuod.specs.Calls.{number_of, no_numbers, world_of, InEach, is_maker, plain, IsNeverEarly, is_quiet, counters};
-ghost use Rattle.gerfmuod.specs.Calls.{IsSettled, IsStep, IsByCall, IsCountersCall, IsRestartCall, IsSettleCall, IsStepCall};
-ghost use Rattle.gerfmuod.specs.Calls.{IsStatusCall, refused_step, IsReserveCall, made_step, maker_asked, IsMade, has_plain_reply};
+ghost use Rattle.gerfmuod.specs.Calls.{IsSettled, IsStep, IsByCall, IsCountersCall, IsSettleCall, IsStepCall};
+ghost use Rattle.gerfmuod.specs.Calls.{IsStatusCall, IsLeftCall, left_as, left_task, refused_step, IsReserveCall, made_step, maker_asked, IsMade, has_plain_reply};
 ghost use Rattle.gerfmuod.specs.Calls.{is_ending_if, refusal_told, reply_told, IsTold, raw_step, TellsNoEarlyEnd, opening, refusal_of};
 
-use crate::answer::{Counters, Settled, Status, StepResult};
-use crate::pool::CoreRoom;
+use crate::answer::{Counters, LeftTask, Settled, Status, StepResult};
+use crate::pool::BoundedCore;
 use crate::raw_step::{RawStep, insert_step, other_step, step_of};
 use crate::slot::{CoreSlot, can_be};
 use tp_base::{ActionId, MessageId, NodeId, Refusal, Step, TaskId};
-use tp_core::{Maker, Reply};
+use tp_core::{Life, Maker, Reply};
 
 /// Returns 0, or the number of `BadSpec` if a pool cannot have this number of nodes.
 pub(crate) fn opening(nodes: u32) -> u32
@@ -122,7 +122,7 @@ fn is_ending(step: Option<Step>) -> bool
 
 /// Returns whether a step that was taken ended something, and nothing is left.
 #[inline(always)]
-fn leaves_nothing(room: &CoreRoom, ends: bool) -> bool
+fn leaves_nothing(room: &BoundedCore, ends: bool) -> bool
     ensures { result ≡ (ends && is_quiet (world_of room.now)) }
 {
     ends && room.core().quiet()
@@ -157,7 +157,7 @@ fn of_reply(reply: Reply) -> StepResult
 /// Takes the next step if there is one, and returns the result for C.
 #[inline(always)]
 #[tactic(auto, using(crate::proofs::Steps::reply_safe))]
-pub(crate) fn told(room: &mut CoreRoom, step: Option<Step>) -> StepResult
+pub(crate) fn told(room: &mut BoundedCore, step: Option<Step>) -> StepResult
     ensures told { IsTold room.old step result room.new }
     ensures safe { TellsNoEarlyEnd (result.event ≡ 3) result.number room.new }
 {
@@ -176,7 +176,7 @@ pub(crate) fn told(room: &mut CoreRoom, step: Option<Step>) -> StepResult
 
 /// Takes the next step if there is one, as `told` does. All that such a step can show is that nothing is left.
 #[inline(always)]
-fn told_plainly(room: &mut CoreRoom, step: Option<Step>) -> StepResult
+fn told_plainly(room: &mut BoundedCore, step: Option<Step>) -> StepResult
     requires { IsTrue (has_plain_reply step) }
     ensures { IsTold room.old step result room.new × TellsNoEarlyEnd (result.event ≡ 3) result.number room.new }
 {
@@ -197,7 +197,7 @@ fn told_plainly(room: &mut CoreRoom, step: Option<Step>) -> StepResult
 /// Refuses a step that there is not.
 #[cold]
 #[inline(never)]
-fn no_step(room: &mut CoreRoom) -> StepResult
+fn no_step(room: &mut BoundedCore) -> StepResult
     ensures { IsTold room.old None result room.new × TellsNoEarlyEnd (result.event ≡ 3) result.number room.new }
 {
     told(room, None)
@@ -206,7 +206,7 @@ fn no_step(room: &mut CoreRoom) -> StepResult
 /// Takes the next step. Each kind of steps of tasks and messages has a copy of what follows: told the kind once, it
 /// does not build the step and match it again.
 #[inline(always)]
-fn taken(room: &mut CoreRoom, raw: RawStep) -> StepResult
+fn taken(room: &mut BoundedCore, raw: RawStep) -> StepResult
     ensures { IsStep raw room.old result room.new }
 {
     let (first, second, third) = (raw.first, raw.second, raw.third);
@@ -251,7 +251,7 @@ pub(crate) fn answered(
 
 /// Returns whether the maker of a kind and a number may make the step; `None` if there is no such kind.
 #[inline(always)]
-fn is_made_by(room: &CoreRoom, kind: u32, number: u32, step: Step) -> Option<bool>
+fn is_made_by(room: &BoundedCore, kind: u32, number: u32, step: Step) -> Option<bool>
     ensures is_made { result ≡ option_map (λ m. is_maker m step (world_of room.now)) (maker_asked kind number) }
     ensures never_early { OnSome result (InEach (IsNeverEarly room.now.nodes) room.now.steps) }
 {
@@ -268,7 +268,7 @@ fn is_made_by(room: &CoreRoom, kind: u32, number: u32, step: Step) -> Option<boo
 
 /// Takes the next step if its maker may make it.
 #[inline(always)]
-fn told_by(room: &mut CoreRoom, maker_kind: u32, maker: u32, step: Option<Step>) -> StepResult
+fn told_by(room: &mut BoundedCore, maker_kind: u32, maker: u32, step: Option<Step>) -> StepResult
     requires { IsTrue (has_plain_reply step) }
     ensures { IsMade room.old (maker_asked maker_kind maker) step result room.new
         × TellsNoEarlyEnd (result.event ≡ 3) result.number room.new }
@@ -285,7 +285,7 @@ fn told_by(room: &mut CoreRoom, maker_kind: u32, maker: u32, step: Option<Step>)
 
 /// Takes the next step if its maker may make it. Each kind has a copy of what follows, as in `taken`.
 #[inline(always)]
-fn taken_by(room: &mut CoreRoom, maker_kind: u32, maker: u32, raw: RawStep) -> StepResult
+fn taken_by(room: &mut BoundedCore, maker_kind: u32, maker: u32, raw: RawStep) -> StepResult
     ensures { IsMade room.old (maker_asked maker_kind maker) (made_step raw) result room.new
         × TellsNoEarlyEnd (result.event ≡ 3) result.number room.new }
 {
@@ -361,6 +361,44 @@ fn uncounted(refused: u16) -> Counters
     }
 }
 
+/// Returns the task with the lowest number of a range that is not done, if there is one.
+pub(crate) fn left(slot: &mut CoreSlot, from: u32, end: u32) -> LeftTask
+    ensures { IsLeftCall from end slot.old result slot.new }
+{
+    if !slot.is_open() {
+        return left_as(slot.refusal(), 0, 0, 0, 0);
+    }
+    let core = slot.room.core();
+    match core.next_left(from, end) {
+        Some(task) => left_task(task.0, core.task(task)),
+        None => left_as(0, 0, 0, 0, 0),
+    }
+}
+
+/// Returns the result for the task of a number, with its home and its life.
+fn left_task(number: u32, held: Option<(NodeId, Life)>) -> LeftTask
+    ensures { result ≡ left_task number held }
+{
+    match held {
+        Some((home, Life::Waiting(inputs))) => left_as(0, 1, number, home.0, u32::from(inputs)),
+        Some((home, Life::Ready)) => left_as(0, 2, number, home.0, 0),
+        Some((home, Life::Running)) => left_as(0, 3, number, home.0, 0),
+        _ => left_as(0, 0, 0, 0, 0),
+    }
+}
+
+fn left_as(refused: u16, state: u16, number: u32, node: u32, missing: u32) -> LeftTask
+    ensures { result ≡ left_as refused state number node missing }
+{
+    LeftTask {
+        refused,
+        state,
+        number,
+        node,
+        missing,
+    }
+}
+
 /// Returns the counters of the pool as a whole; nothing if the core is not open.
 pub(crate) fn seen(slot: &mut CoreSlot) -> Status
     ensures { IsStatusCall slot.old result slot.new }
@@ -384,7 +422,7 @@ pub(crate) fn seen(slot: &mut CoreSlot) -> Status
 
 /// Takes control steps until termination is detected, if the pool is quiet.
 #[tactic(auto, using(crate::proofs::Steps::settled_over))]
-fn settled_room(room: &mut CoreRoom) -> Settled
+fn settled_room(room: &mut BoundedCore) -> Settled
     ensures settled { IsSettled room.old result room.new × TellsNoEarlyEnd (result.refused ≡ 0) result.wave room.new }
     ensures has_room { result.refused ≢ 16 }
 {
@@ -419,16 +457,4 @@ fn unsettled(refused: u16, steps: u32) -> Settled
         wave: 0,
         steps,
     }
-}
-
-/// Restarts a core.
-pub(crate) fn restarted(slot: &mut CoreSlot) -> u32
-    ensures { IsRestartCall slot.old result slot.new }
-{
-    if !slot.enter() {
-        return u32::from(slot.refusal());
-    }
-    let refused = slot.restart();
-    slot.leave();
-    refused
 }

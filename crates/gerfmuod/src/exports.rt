@@ -1,12 +1,12 @@
 //! The exported functions on a core. `gerfmuod/core.h` declares them, and says for which reasons each is refused.
 ghost use Rattle.gerfmuod.specs.Calls.{IsByCall, IsClosed, IsCountersCall, IsRestartCall, IsSettleCall, IsStepCall, IsTraceCall};
-ghost use Rattle.gerfmuod.specs.Calls.{IsReserveCall, IsStepsCall, IsStatusCall, raw_step, CoreState, opened, opened_as, opening};
+ghost use Rattle.gerfmuod.specs.Calls.{IsLeftCall, IsReserveCall, IsStepsCall, IsStatusCall, raw_step, CoreState, opened, opened_as, opening};
 ghost use Rattle.gerfmuod.specs.contracts.slot.CoreSlot.{the_row as slot_row};
 ghost use Rattle.std.specs.{Borrow.{full_share, sem}, Prelude.{◌≡◌, ◌≤◌, false}, Ptr.{lies_at, room_at}};
 
-use crate::answer::{Counters, Settled, Status, StepResult, Written};
+use crate::answer::{Counters, LeftTask, Settled, Status, StepResult, Written};
 use crate::batch;
-use crate::calls::{answered, answered_by, counted, opening, reserved, restarted, seen, settled};
+use crate::calls::{answered, answered_by, counted, left, opening, reserved, seen, settled};
 use crate::raw_step::RawStep;
 use crate::slot::CoreSlot;
 use crate::text::traced;
@@ -146,6 +146,17 @@ pub unsafe extern "C" fn gerfmuod_core_counters(core: *mut u8, node: u32) -> Cou
     counted(&mut *(core as *mut CoreSlot), node)
 }
 
+/// Returns the task with the lowest number from `from` on and below `end` that is not done, if there is one. It looks up each
+/// number up to that one, so it takes time in proportion to how many there are.
+#[unsafe(no_mangle)]
+pub unsafe extern "C" fn gerfmuod_core_left(core: *mut u8, from: u32, end: u32) -> LeftTask
+    ghost old: { CoreState }
+    requires* { sem 𝓛 (lies_at slot_row full_share core old) }
+    ensures* { ∃ₛ (λ (new : CoreState). sem 𝓛 (lies_at slot_row full_share core new) ∗ ⌜ IsLeftCall from end old result new ⌝) }
+{
+    left(&mut *(core as *mut CoreSlot), from, end)
+}
+
 /// Returns the counters of the pool as a whole. If no call can be made on the core, all are 0 and it is not quiet.
 #[unsafe(no_mangle)]
 pub unsafe extern "C" fn gerfmuod_core_status(core: *mut u8) -> Status
@@ -188,7 +199,7 @@ pub unsafe extern "C" fn gerfmuod_core_restart(core: *mut u8) -> u32
     requires* { sem 𝓛 (lies_at slot_row full_share core old) }
     ensures* { ∃ₛ (λ (new : CoreState). sem 𝓛 (lies_at slot_row full_share core new) ∗ ⌜ IsRestartCall old result new ⌝) }
 {
-    restarted(&mut *(core as *mut CoreSlot))
+    CoreSlot::restart(&mut *(core as *mut CoreSlot))
 }
 
 /// Frees the memory that the core has allocated. After that the core is not open.

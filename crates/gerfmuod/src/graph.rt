@@ -6,7 +6,8 @@ ghost use Rattle.std.specs.{Borrow.{full_share, sem}, Ptr.{lies_at, room_at}};
 
 use crate::graph::access::RawAccess;
 use crate::graph::answer::GraphResult;
-use crate::graph::calls::{call, describe, spawn, task};
+use crate::graph::calls::{call, describe, spawn};
+use crate::graph::data::task;
 use crate::graph::slot::GraphSlot;
 use std::alloc::Global;
 

@@ -6,8 +6,9 @@ ghost use Rattle.std.specs.{Borrow.{full_share, sem}, Ptr.{lies_at, room_at}};
 
 use crate::graph::access::RawAccess;
 use crate::graph::answer::GraphResult;
-use crate::part::calls::{call, shared_task, task};
+use crate::part::calls::call;
 use crate::part::slot::PartSlot;
+use crate::part::tasks::{shared_task, task};
 use std::alloc::Global;
 
 mod calls;

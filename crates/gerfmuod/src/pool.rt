@@ -1,21 +1,21 @@
-//! A core that keeps room for settling, with the number of its nodes.
+//! A core that keeps room for settling.
 
 use std::alloc::Global;
 use std::marker::Model;
 use tp_base::{MAX_STEPS, Refusal, Step};
 use tp_core::{Core, Maker, Reply};
 
-/// A core, the number of its nodes, and the number of steps up to which steps are taken. Contracts see what the core has
-/// accepted.
+/// A core that takes steps only up to a bound, so that there is always room to settle it; with the number of its nodes.
+/// Contracts see what the core has accepted.
 #[derive(Drop)]
-pub(crate) struct CoreRoom {
+pub(crate) struct BoundedCore {
     core: Core,
     nodes: u32,
     // 9 steps for each node are kept, so that termination can always be detected
     limit: u32,
 }
 
-impl Model for CoreRoom {
+impl Model for BoundedCore {
     ghost use Rattle.gerfmuod.specs.Calls.{Accepted, IsKept};
 
     ghost Value = { Accepted };
@@ -25,18 +25,23 @@ impl Model for CoreRoom {
     ghost invariant = { IsKept };
 }
 
-impl CoreRoom {
+impl BoundedCore {
     ghost use Rattle.std.specs.Prelude.{◌≡◌, ◌≢◌, ◌≤◌, IfErr, IsTrue, reverse, length};
     ghost use Rattle.gerfmuod.specs.Calls.{number_of, MAX_NODES, MAX_STEPS, world_of, AreRuns};
     ghost use Rattle.gerfmuod.specs.Calls.{InEach, is_maker, IsNeverEarly, Settles, list_length, new_core_of, room_of, AnswersTo};
 
     /// Returns a pool of the nodes 0 to `nodes` - 1, 1 to 8 of them, with a list of its steps or without. It allocates nothing.
-    pub(crate) fn new(alloc: Global, nodes: u32, recorded: bool) -> CoreRoom
+    pub(crate) fn new(alloc: Global, nodes: u32, recorded: bool) -> BoundedCore
         requires { (1 ≤ nodes) × (nodes ≤ MAX_NODES) }
         ensures { result ≡ new_core_of recorded nodes }
     {
-        CoreRoom {
-            core: CoreRoom::core_of(alloc, nodes, recorded),
+        let core = if recorded {
+            Core::new(alloc, nodes)
+        } else {
+            Core::unrecorded(alloc, nodes)
+        };
+        BoundedCore {
+            core,
             nodes,
             limit: MAX_STEPS - 9 * nodes,
         }
@@ -125,17 +130,5 @@ impl CoreRoom {
         ensures never_early { InEach (IsNeverEarly self.new.nodes) self.new.steps }
     {
         self.core.settle()
-    }
-
-    /// Returns a new core, with a list of its steps or without.
-    fn core_of(alloc: Global, nodes: u32, recorded: bool) -> Core
-        requires { (1 ≤ nodes) × (nodes ≤ MAX_NODES) }
-        ensures { result ≡ new_core_of recorded nodes }
-    {
-        if recorded {
-            Core::new(alloc, nodes)
-        } else {
-            Core::unrecorded(alloc, nodes)
-        }
     }
 }

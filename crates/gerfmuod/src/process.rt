@@ -1,10 +1,10 @@
 //! The exported functions on one process of a distributed program, which `gerfmuod/process.h` declares. A process
 //! is plain data in the caller's memory.
 
-ghost use Rattle.gerfmuod.specs.Wire.{after_event, after_init, after_taking, message_of, message_with, next_as, IsKept, receipt_refused};
-ghost use Rattle.gerfmuod.specs.Wire.{refused_as, refused_by, taken_as, wire_after, close_refusal, closed, moved, open_refusal, opened};
-ghost use Rattle.gerfmuod.specs.Wire.{send_refusal, sent, received_in, reopen_refusal, reopened, checked, if_open, is_open, new_process};
-ghost use Rattle.gerfmuod.specs.Wire.{next_of, read, wire_of};
+ghost use Rattle.gerfmuod.specs.Wire.{after_event, after_init, after_taking, message_of, message_with, next_as, IsEvent, IsKept};
+ghost use Rattle.gerfmuod.specs.Wire.{receipt_refused, refused_as, refused_by, taken_as, wire_after, close_refusal, closed, moved};
+ghost use Rattle.gerfmuod.specs.Wire.{open_refusal, opened, send_refusal, sent, received_in, reopen_refusal, reopened, checked, if_open};
+ghost use Rattle.gerfmuod.specs.Wire.{is_open, new_process, next_of, read, wire_of};
 ghost use Rattle.std.specs.{Prelude.{◌≡◌, ◌≤◌, ◌⊎◌, ◌&&◌, true, Some}, Result.result_err};
 
 use tp_process::{ControlMessage, Next, Process, Refusal, Token};
@@ -77,9 +77,7 @@ pub extern "C" fn gerfmuod_process_init(process: &mut Process, number: u32, proc
 /// Opens one more piece of work. Returns 0 or the refusal, as in `Process::add_work`.
 #[unsafe(no_mangle)]
 pub extern "C" fn gerfmuod_process_add_work(process: &mut Process) -> u32
-    ensures refused { result ≡ refused_by open_refusal (read process.old) }
-    ensures state { read process.new ≡ after_event opened (read process.old) }
-    ensures kept { IsKept result process.old process.new }
+    ensures { IsEvent (refused_by open_refusal) (after_event opened) process.old result process.new }
 {
     outcome(process.add_work())
 }
@@ -87,9 +85,7 @@ pub extern "C" fn gerfmuod_process_add_work(process: &mut Process) -> u32
 /// Closes a piece of work. Returns 0 or the refusal, as in `Process::finish_work`.
 #[unsafe(no_mangle)]
 pub extern "C" fn gerfmuod_process_finish_work(process: &mut Process) -> u32
-    ensures refused { result ≡ refused_by close_refusal (read process.old) }
-    ensures state { read process.new ≡ after_event closed (read process.old) }
-    ensures kept { IsKept result process.old process.new }
+    ensures { IsEvent (refused_by close_refusal) (after_event closed) process.old result process.new }
 {
     outcome(process.finish_work())
 }
@@ -97,9 +93,7 @@ pub extern "C" fn gerfmuod_process_finish_work(process: &mut Process) -> u32
 /// Counts a message as sent. Returns 0 or the refusal, as in `Process::count_sent`.
 #[unsafe(no_mangle)]
 pub extern "C" fn gerfmuod_process_count_sent(process: &mut Process) -> u32
-    ensures refused { result ≡ refused_by send_refusal (read process.old) }
-    ensures state { read process.new ≡ after_event sent (read process.old) }
-    ensures kept { IsKept result process.old process.new }
+    ensures { IsEvent (refused_by send_refusal) (after_event sent) process.old result process.new }
 {
     outcome(process.count_sent())
 }
@@ -108,9 +102,7 @@ pub extern "C" fn gerfmuod_process_count_sent(process: &mut Process) -> u32
 /// `Process::count_received`.
 #[unsafe(no_mangle)]
 pub extern "C" fn gerfmuod_process_count_received(process: &mut Process, epoch: u64) -> u32
-    ensures refused { result ≡ receipt_refused epoch (read process.old) }
-    ensures state { read process.new ≡ if_open (read process.old) (received_in epoch (read process.old)) }
-    ensures kept { IsKept result process.old process.new }
+    ensures { IsEvent (receipt_refused epoch) (λ p. if_open p (received_in epoch p)) process.old result process.new }
 {
     outcome(process.count_received(epoch))
 }
@@ -118,9 +110,7 @@ pub extern "C" fn gerfmuod_process_count_received(process: &mut Process, epoch: 
 /// The same call as `gerfmuod_process_count_sent`, under its name in the monitor interface.
 #[unsafe(no_mangle)]
 pub extern "C" fn gerfmuod_process_outgoing_message_start(process: &mut Process) -> u32
-    ensures refused { result ≡ refused_by send_refusal (read process.old) }
-    ensures state { read process.new ≡ after_event sent (read process.old) }
-    ensures kept { IsKept result process.old process.new }
+    ensures { IsEvent (refused_by send_refusal) (after_event sent) process.old result process.new }
 {
     outcome(process.outgoing_message_start())
 }
@@ -128,9 +118,7 @@ pub extern "C" fn gerfmuod_process_outgoing_message_start(process: &mut Process)
 /// The same call as `gerfmuod_process_count_received`, under its name in the monitor interface.
 #[unsafe(no_mangle)]
 pub extern "C" fn gerfmuod_process_incoming_message_start(process: &mut Process, epoch: u64) -> u32
-    ensures refused { result ≡ receipt_refused epoch (read process.old) }
-    ensures state { read process.new ≡ if_open (read process.old) (received_in epoch (read process.old)) }
-    ensures kept { IsKept result process.old process.new }
+    ensures { IsEvent (receipt_refused epoch) (λ p. if_open p (received_in epoch p)) process.old result process.new }
 {
     outcome(process.incoming_message_start(epoch))
 }
@@ -138,9 +126,7 @@ pub extern "C" fn gerfmuod_process_incoming_message_start(process: &mut Process,
 /// The same call as `gerfmuod_process_finish_work`, under its name in the monitor interface.
 #[unsafe(no_mangle)]
 pub extern "C" fn gerfmuod_process_incoming_message_end(process: &mut Process) -> u32
-    ensures refused { result ≡ refused_by close_refusal (read process.old) }
-    ensures state { read process.new ≡ after_event closed (read process.old) }
-    ensures kept { IsKept result process.old process.new }
+    ensures { IsEvent (refused_by close_refusal) (after_event closed) process.old result process.new }
 {
     outcome(process.incoming_message_end())
 }
@@ -207,9 +193,7 @@ pub extern "C" fn gerfmuod_process_next(process: &mut Process, message_out: &mut
 /// `Process::reopen`.
 #[unsafe(no_mangle)]
 pub extern "C" fn gerfmuod_process_reopen(process: &mut Process) -> u32
-    ensures refused { result ≡ refused_as (checked (read process.old) (reopen_refusal (read process.old))) }
-    ensures state { read process.new ≡ if_open (read process.old) (reopened (read process.old)) }
-    ensures kept { IsKept result process.old process.new }
+    ensures { IsEvent (λ p. refused_as (checked p (reopen_refusal p))) (λ p. if_open p (reopened p)) process.old result process.new }
 {
     outcome(process.reopen())
 }

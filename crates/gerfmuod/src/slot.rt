@@ -1,8 +1,8 @@
 //! The content of a `gerfmuod_core`: a core, and a mark that says whether it is open and whether a call runs on it.
 ghost use Rattle.std.specs.Prelude.{◌≡◌, ◌≢◌, ◌↔◌, IsTrue, IsFalse, false};
-ghost use Rattle.gerfmuod.specs.Calls.{IsClosed, IsRestarted, can_be, opened, opened_as, refusal_of, Busy, Open};
+ghost use Rattle.gerfmuod.specs.Calls.{IsClosed, IsRestartCall, can_be, opened, opened_as, refusal_of, Busy, Open};
 
-use crate::pool::CoreRoom;
+use crate::pool::BoundedCore;
 use std::alloc::Global;
 use std::marker::Model;
 use tp_base::{MAX_NODES, Refusal};
@@ -36,7 +36,7 @@ pub(crate) fn can_be(nodes: u32) -> bool
 #[derive(Drop)]
 pub(crate) struct CoreSlot {
     mark: u32,
-    pub(crate) room: CoreRoom,
+    pub(crate) room: BoundedCore,
     alloc: Global,
 }
 
@@ -70,7 +70,7 @@ impl CoreSlot {
         let (mark, nodes) = if can_be(nodes) { (OPEN, nodes) } else { (0, 1) };
         CoreSlot {
             mark,
-            room: CoreRoom::new(alloc, nodes, recorded),
+            room: BoundedCore::new(alloc, nodes, recorded),
             alloc,
         }
     }
@@ -117,15 +117,19 @@ impl CoreSlot {
         }
     }
 
-    /// Replaces the core by a new one of the same nodes, if termination was detected.
+    /// Replaces an open core by a new one of the same nodes, if termination was detected.
     pub(crate) fn restart(&mut self) -> u32
-        ensures restarted { IsRestarted self.old.core result self.new.core }
-        ensures use_is { self.new.use_is ≡ self.old.use_is }
+        ensures { IsRestartCall self.old result self.new }
     {
+        if !self.enter() {
+            return u32::from(self.refusal());
+        }
         if !self.room.core().is_ended() {
+            self.leave();
             return u32::from(Refusal::WrongLife.number());
         }
-        self.room = CoreRoom::new(self.alloc, self.room.nodes(), self.room.is_recorded());
+        self.room = BoundedCore::new(self.alloc, self.room.nodes(), self.room.is_recorded());
+        self.leave();
         0
     }
 
@@ -137,7 +141,7 @@ impl CoreSlot {
             return u32::from(self.refusal());
         }
         self.mark = 0;
-        self.room = CoreRoom::new(self.alloc, 1, true);
+        self.room = BoundedCore::new(self.alloc, 1, true);
         0
     }
 }

@@ -44,7 +44,7 @@ fn product_command<'a>(alloc: Global) -> Result<Command<'a>, AllocError> {
 fn relax_command<'a>(alloc: Global) -> Result<Command<'a>, AllocError> {
     let help = "How many rows a block has, 1 or more";
     let command = Command::new(alloc, "relax")
-        .about("Relaxes a grid by a five-point stencil, in blocks, by a pool of threads")
+        .about("Relaxes a grid by a five-point stencil, by a pool of threads")
         .after_help(RELAX_HELP)
         .arg(steps_argument(alloc, "How many steps the grid takes"))?
         .arg(size_argument(alloc, "ROWS_A_BLOCK", help))?;

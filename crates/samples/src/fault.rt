@@ -5,10 +5,10 @@ ghost use Rattle.std.specs.Prelude.{◌≡◌, ◌≤◌, MatchResult};
 use pool_blocks::LentFault;
 use pool_kernels::{RunFault, TableFault};
 use std::alloc::AllocError;
-use std::io::{self, Write};
+use std::io::Write;
 use thiserror::Error;
 use tp_base::Refusal;
-use tp_shell::{ReadFault, WordsFault, names_a_file};
+use tp_shell::{Diagnostics, ReadFault, WordsFault, explain_spec, names_a_file};
 
 /// Why the program prints nothing, or not all of it.
 #[derive(Debug, Drop, Error)]
@@ -20,13 +20,13 @@ pub(crate) enum Fault {
     #[error("PATTERN is none of those that `samples patterns --list` names")]
     NoPattern,
     #[error("SPEC is no sample pool; `tp run --help` describes them")]
-    NoPool,
+    NoPool(String),
     #[error("the input cannot be read as text")]
     Unreadable,
     #[error("the output cannot be written")]
     Unwritten,
     #[error("the file of the profile cannot be written: {0}")]
-    NoProfile(io::Error),
+    NoProfile(String),
     #[error(transparent)]
     Input(#[from] InputFault),
     #[error("a number of the product leaves 64 bits")]
@@ -81,25 +81,23 @@ fn noun(count: usize) -> &'static str {
 }
 
 impl Fault {
-    /// Returns the line that says why, if there is more to say than the fault's own line does.
-    pub(crate) fn reason(&self, words: &[&str]) -> Option<&'static str> {
+    /// Prints why, if there is more to say than the fault's own line does.
+    pub(crate) fn explain<E: Write>(&self, words: &[&str], err: &mut E) {
         match self {
-            Fault::Arguments(text) if names_a_file(text) => match words {
-                [_, "heat", ..] => Some(
-                    "reason: reads standard input: samples heat STEPS BLOCK < FILE\n",
-                ),
-                [_, "product", ..] => Some(
-                    "reason: reads standard input: samples product SIDE < FILE\n",
-                ),
-                [_, "relax", ..] => Some(
-                    "reason: reads standard input: samples relax STEPS ROWS_A_BLOCK < FILE\n",
-                ),
-                _ => None,
-            },
-            Fault::Refused(Refusal::StoreFull) => Some(
-                "reason: a node has room for 65,536 unfinished tasks: use --nodes\n",
-            ),
-            _ => None,
+            Fault::NoPool(spec) => explain_spec(spec, err),
+            Fault::Arguments(text) if names_a_file(text) => {
+                let usage = match words {
+                    [_, "heat", ..] => "heat STEPS BLOCK",
+                    [_, "product", ..] => "product SIDE",
+                    [_, "relax", ..] => "relax STEPS ROWS_A_BLOCK",
+                    _ => return,
+                };
+                err.tell_parts(&["reason: reads standard input: samples ", usage, " < FILE\n"])
+            }
+            Fault::Refused(Refusal::StoreFull) => {
+                err.tell("reason: a node has room for 65,536 unfinished tasks: use --nodes\n")
+            }
+            _ => {}
         }
     }
 
@@ -109,7 +107,7 @@ impl Fault {
         ensures { (1 ≤ result) × (result ≤ 3) }
     {
         match self {
-            Fault::Arguments(_) | Fault::NotUtf8 | Fault::NoPattern | Fault::NoPool => 1,
+            Fault::Arguments(_) | Fault::NotUtf8 | Fault::NoPattern | Fault::NoPool(_) => 1,
             Fault::Unreadable | Fault::Unwritten | Fault::NoProfile(_) => 1,
             Fault::Input(_) => 2,
             Fault::Overflow | Fault::LongRun | Fault::Refused(_) | Fault::Memory(_) => 3,
@@ -118,9 +116,9 @@ impl Fault {
 }
 
 /// Returns the exit status of an outcome, and prints a fault as a line.
-pub(crate) fn status_of<E: Write>(outcome: Result<(), Fault>, err: &mut E) -> u8
+pub(crate) fn status_of<E: Write>(outcome: &Result<(), Fault>, err: &mut E) -> u8
     // The status is 0 only if all was printed.
-    ensures { MatchResult outcome (λ _. result ≡ 0) (λ _. (1 ≤ result) × (result ≤ 3)) }
+    ensures { MatchResult outcome.now (λ _. result ≡ 0) (λ _. (1 ≤ result) × (result ≤ 3)) }
 {
     match outcome {
         Ok(()) => 0,

@@ -23,48 +23,55 @@ use std::cell::Cell;
 use std::io::{ErrorKind, IsTerminal, Read, Write};
 use std::process::ExitCode;
 use tp_draw::draw_with;
-use tp_shell::{Messages, Output, arguments, asks_version, explain_failure, is_quiet, words_of};
+use tp_shell::{
+    Input, Messages, Output, arguments, asks_version, explain_failure, is_quiet, words_of,
+};
 use tp_work::Screen;
 
 /// Runs the subcommand that the arguments name. If the environment does not ask for silence, standard error also shows
 /// why something is wrong, and on a terminal how far a run is.
 fn main(rt: HostRuntime) -> ExitCode {
-    let failure = Cell::new(None);
-    let (alloc, explains) = (rt.alloc(), !is_quiet(&rt));
+    let (alloc, unread, unwritten) = (rt.alloc(), Cell::new(None), Cell::new(None));
+    let explains = !is_quiet(&rt);
+    let mut input = Input {
+        reader: rt.stdin(),
+        failure: &unread,
+    };
     let mut out = Output {
         writer: rt.stdout(),
-        failure: &failure,
+        failure: &unwritten,
     };
     let mut err = Messages {
         writer: rt.stderr(),
-        failure: &failure,
+        failure: &unwritten,
     };
     let arguments = match arguments(&rt) {
         Ok(arguments) => arguments,
-        Err(kind) => return ExitCode::from(status_of(Err(without_arguments(kind)), &mut err)),
+        Err(kind) => return ExitCode::from(status_of(&Err(without_arguments(kind)), &mut err)),
     };
     let words = match words_of(alloc, &arguments) {
         Ok(words) => words,
-        Err(error) => return ExitCode::from(status_of(Err(Fault::Memory(error)), &mut err)),
+        Err(error) => return ExitCode::from(status_of(&Err(Fault::Memory(error)), &mut err)),
+    };
+    let version = ["samples", "--version"];
+    let words = if asks_version(&words) {
+        version.as_slice()
+    } else {
+        words.as_slice()
     };
     let mut screen = screen_of(&rt.stdin(), rt.stderr(), explains);
-    let mut input = rt.stdin();
-    if asks_version(&words) {
-        let version = ["samples", "--version"];
-        let outcome = answer(&rt, alloc, &version, &mut input, &mut out, screen);
-        return ExitCode::from(told(outcome, &version, &mut err, explains));
-    }
-    let status = if let Some((help, rest)) = draw_words(&words) {
+    let status = if let Some((help, rest)) = draw_words(words) {
         if let Some(screen) = &mut screen {
             tell_what_is_read(screen, help, rest);
         }
         draw(alloc, help, rest, &mut input, &mut out, &mut err, explains)
     } else {
-        let outcome = answer(&rt, alloc, &words, &mut input, &mut out, screen);
-        told(outcome, &words, &mut err, explains)
+        let outcome = answer(&rt, alloc, words, &mut input, &mut out, screen);
+        told(outcome, words, &mut err, explains)
     };
     if explains {
-        explain_failure("samples", &failure, &mut err);
+        explain_failure("samples", "standard input", &unread, &mut err);
+        explain_failure("samples", "standard output", &unwritten, &mut err);
     }
     ExitCode::from(status)
 }
@@ -105,13 +112,10 @@ fn tell_what_is_read<W: Write>(screen: &mut Screen<W>, help: bool, rest: &[&str]
 
 /// Returns the exit status of an outcome, and prints a fault as a line, and then why, if that is asked for.
 fn told<E: Write>(outcome: Result<(), Fault>, words: &[&str], err: &mut E, explains: bool) -> u8 {
-    let reason = match &outcome {
-        Err(fault) if explains => fault.reason(words),
-        _ => None,
-    };
-    let status = status_of(outcome, err);
-    if let Some(reason) = reason {
-        let _ = err.write_all(reason.as_bytes());
+    let status = status_of(&outcome, err);
+    match &outcome {
+        Err(fault) if explains => fault.explain(words, err),
+        _ => {}
     }
     status
 }
@@ -136,7 +140,7 @@ fn draw<I: Read, O: Write, E: Write>(
 ) -> u8 {
     match with_name(alloc, help, arguments) {
         Ok(words) => draw_with(alloc, &words, input, out, err, explains),
-        Err(error) => status_of(Err(Fault::Memory(error)), err),
+        Err(error) => status_of(&Err(Fault::Memory(error)), err),
     }
 }
 

@@ -26,7 +26,7 @@ pub(crate) fn pool_text<R: Threads + Wait + Sync + Clock>(
 {
     times.begin(rt);
     let Ok(graph) = checked(spec) else {
-        return Err(Fault::NoPool);
+        return Err(Fault::NoPool(String::from_str(alloc, spec)?));
     };
     let outcome = match run_pool_watched(rt, alloc, graph, config, watch) {
         Ok(outcome) => outcome,

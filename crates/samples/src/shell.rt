@@ -14,7 +14,7 @@ use crate::tiles::tiled_order;
 use crate::times::Times;
 use crate::watched::Watch;
 use std::alloc::Global;
-use std::io::Write;
+use std::io::{self, Write};
 use std::rt::{Clock, Files};
 use std::str;
 use std::sync::Wait;
@@ -54,7 +54,8 @@ pub(crate) fn answer<
         screen
     };
     if let Some(path) = file {
-        Profile::open(rt, path).map_err(|error| Fault::NoProfile(error))?;
+        let opened = Profile::open(rt, path);
+        profile_result(alloc, file, opened)?;
     }
     let bytes = work.read(alloc, input, &mut screen)?;
     let profile = Profile::new(alloc, rt, file, u64::MAX);
@@ -66,7 +67,15 @@ pub(crate) fn answer<
         has_tasks: work.has_tasks(),
     };
     let written = profile.write(rt, alloc, run);
-    written.map_err(|error| Fault::NoProfile(error))
+    profile_result(alloc, file, written)
+}
+
+/// Returns the fault of a profile that was not opened or written to this file.
+fn profile_result(alloc: Global, file: Option<&str>, result: io::Result<()>) -> Result<(), Fault> {
+    match (file, result) {
+        (Some(path), Err(error)) => { Err(Fault::NoProfile(format!(in alloc; "{path}: {error}")?)) }
+        _ => Ok(()),
+    }
 }
 
 /// Returns the text of the runs. A screen shows how far they are.

@@ -6,7 +6,8 @@ use std::io::{ErrorKind, Write};
 use std::process::ExitCode;
 use tp_cli::{main_at_terminal, main_with};
 use tp_shell::{
-    Messages, Output, arguments, asks_version, explain_failure, is_quiet, without_words, words_of,
+    Input, Messages, Output, arguments, asks_version, explain_failure, is_quiet, without_words,
+    words_of,
 };
 use tp_work::Screen;
 
@@ -14,14 +15,18 @@ use tp_work::Screen;
 /// `main_at_terminal`, which also prints reasons. If the arguments cannot be read because an allocation fails or one of
 /// them is not UTF-8, an error line says so.
 fn main(rt: HostRuntime) -> ExitCode {
-    let (alloc, failure) = (rt.alloc(), Cell::new(None));
+    let (alloc, unread, unwritten) = (rt.alloc(), Cell::new(None), Cell::new(None));
+    let mut reader = Input {
+        reader: rt.stdin(),
+        failure: &unread,
+    };
     let mut out = Output {
         writer: rt.stdout(),
-        failure: &failure,
+        failure: &unwritten,
     };
     let mut err = Messages {
         writer: rt.stderr(),
-        failure: &failure,
+        failure: &unwritten,
     };
     let arguments = match arguments(&rt) {
         Ok(arguments) => arguments,
@@ -31,22 +36,23 @@ fn main(rt: HostRuntime) -> ExitCode {
         Ok(words) => words,
         Err(_) => return complain(ErrorKind::OutOfMemory, &mut err),
     };
-    if asks_version(&words) {
-        let version = ["tp", "--version"];
-        let status = main_with(&rt, alloc, &version, &mut rt.stdin(), &mut out, &mut err);
-        return ExitCode::from(status);
-    }
-    let mut reader = rt.stdin();
+    let version = ["tp", "--version"];
+    let words = if asks_version(&words) {
+        version.as_slice()
+    } else {
+        words.as_slice()
+    };
     if is_quiet(&rt) {
-        let status = main_with(&rt, alloc, &words, &mut reader, &mut out, &mut err);
+        let status = main_with(&rt, alloc, words, &mut reader, &mut out, &mut err);
         return ExitCode::from(status);
     }
     let mut screen = Screen::of(&rt.stdin(), rt.stderr());
     if let Some(screen) = &mut screen {
-        tell_what_is_read(screen, &words);
+        tell_what_is_read(screen, words);
     }
-    let status = main_at_terminal(&rt, alloc, &words, &mut reader, &mut out, &mut err, screen);
-    explain_failure("tp", &failure, &mut err);
+    let status = main_at_terminal(&rt, alloc, words, &mut reader, &mut out, &mut err, screen);
+    explain_failure("tp", "standard input", &unread, &mut err);
+    explain_failure("tp", "standard output", &unwritten, &mut err);
     ExitCode::from(status)
 }
 

@@ -2,9 +2,7 @@
 ghost use Rattle.tp_shell.specs.Streams.{MayExplain};
 
 mod line;
-mod number;
 mod pending;
-mod word;
 
 use crate::fault::Fault;
 use crate::kept::AnsweredText;
@@ -12,8 +10,7 @@ use crate::text::TextKind;
 use line::explain_text;
 use std::alloc::Global;
 use tp_base::Refusal;
-use tp_shell::{Diagnostics, WordsFault, names_a_file};
-use word::{explain_word, explain_words};
+use tp_shell::{Diagnostics, WordsFault, explain_spec, explain_specs, names_a_file};
 
 /// What a reason is about.
 #[derive(Drop)]
@@ -46,7 +43,7 @@ pub(crate) fn explain_fault<E: Diagnostics>(fault: &Fault, subject: &Subject, er
     match subject {
         Subject::Arguments(words) => explain_arguments(fault, words, err),
         Subject::Run(spec, reason) => explain_run(fault, spec, reason.as_deref(), err),
-        Subject::Words(words) => explain_words(words, err),
+        Subject::Words(words) => explain_specs(words, err),
         Subject::Nothing | Subject::Text(_, _) => {}
     }
 }
@@ -73,7 +70,7 @@ fn explain_run<E: Diagnostics>(fault: &Fault, spec: &str, reason: Option<&str>, 
         return err.tell(reason);
     }
     match fault {
-        Fault::NoPool => explain_word(spec, err),
+        Fault::NoPool => explain_spec(spec, err),
         Fault::Run(fault) => {
             if let Some(reason) = run_reason(fault.refusal()) {
                 err.tell(reason);

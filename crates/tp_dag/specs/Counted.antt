@@ -44,12 +44,6 @@ pub record ComesFirst (t : ℕ) (tasks : List Task) : Type 0 where
 abbrev pub as_new : Task → Task
 as_new x = record x { stage = stage.Fresh; missing = x.inputs; outside = 0 }
 
--- a task of this class is there
-pub record HasClass (t class : ℕ) (tasks : List Task) : Type 0 where
-  pub task : Task
-  pub is : slice_get tasks t ≡ Some task
-  pub same : class ≡ task.class
-
 pub record AreCounts (tasks : List Task) (ready : List ℕ) : Type 0 where
   pub long : length ready ≡ 4
   pub right : (n d : ℕ) → n < 4 → slice_index_or ready n d ≡ count_where (is_ready n) tasks

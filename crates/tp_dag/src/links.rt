@@ -18,6 +18,7 @@ pub(crate) fn add_link(tasks: &mut Tasks, links: &mut Vec<Link>, source: u32, ta
     let from = tasks.at(source);
     tasks.set(
         target,
+        to,
         Task {
             missing: to.missing + one_if(!is_done(from.stage)),
             inputs: to.inputs + 1,
@@ -26,6 +27,7 @@ pub(crate) fn add_link(tasks: &mut Tasks, links: &mut Vec<Link>, source: u32, ta
     );
     tasks.set(
         source,
+        from,
         Task {
             outputs: links.len() as u32 + 1,
             ..from

@@ -4,7 +4,7 @@ ghost use Rattle.std.specs.Prelude.{◌≡◌, ◌≤◌, ◌<◌, ◌+◌, ◌+
 ghost use Rattle.std.specs.Prelude.{slice_set, Some};
 ghost use Rattle.tp_dag.specs.declared.limits.TheConstants.{MAX_TASKS};
 ghost use Rattle.tp_dag.specs.declared.entry.Stage.TheVariants as stage;
-ghost use Rattle.tp_dag.specs.Counted.{one, may_begin, is_ready, entry_of, as_new, ready_at, HasClass, NoneOf, NoneReady, ComesFirst};
+ghost use Rattle.tp_dag.specs.Counted.{one, may_begin, is_ready, entry_of, as_new, ready_at, NoneOf, NoneReady, ComesFirst};
 ghost use Rattle.tp_dag.specs.State.{count_where, is_unfinished, is_dispatched, is_awaiting};
 
 use crate::entry::{Stage, Task, both, is_done, is_fresh, is_running};
@@ -145,13 +145,13 @@ impl Tasks {
         }
     }
 
-    /// Writes a task; its class stays.
+    /// Writes a task that was `was`; its class stays. What stays the same costs no instruction, once the compiler has both.
     #[inline]
-    pub(crate) fn set(&mut self, number: u32, task: Task)
-        requires { HasClass number task.class self.old }
+    pub(crate) fn set(&mut self, number: u32, was: Task, task: Task)
+        requires was { slice_get self.old number ≡ Some was }
+        requires class { task.class ≡ was.class }
         ensures { self.new ≡ slice_set self.old number task }
     {
-        let was = self.items[number as usize];
         let class = was.class as usize;
         self.ready[class] = moved(self.ready[class], may_begin(was), may_begin(task));
         self.left = moved(self.left, !is_done(was.stage), !is_done(task.stage));
@@ -168,6 +168,7 @@ impl Tasks {
     {
         self.set(
             number,
+            was,
             Task {
                 stage,
                 missing,

@@ -20,7 +20,7 @@ abbrev pub line_of : Fault → List ℕ
 line_of (faults.Words fault) = words_line fault
 line_of (faults.Text fault) = text_line fault
 line_of (faults.Unsound text) = string_bytes text
-line_of faults.NoPool = codes "refused 26 BadSpec\n"
+line_of (faults.NoPool spec) = codes "refused 26 BadSpec\n"
 line_of faults.TooLarge = codes "fault too large\n"
 line_of faults.Memory = text_line texts.Memory
 line_of faults.Write = text_line texts.Write
@@ -35,7 +35,7 @@ status_of (faults.Text texts.TooLong) = statuses.Fault
 status_of (faults.Text texts.Write) = statuses.Fault
 status_of (faults.Text texts.Memory) = statuses.Failed
 status_of (faults.Unsound text) = statuses.Refused
-status_of faults.NoPool = statuses.Fault
+status_of (faults.NoPool spec) = statuses.Fault
 status_of faults.TooLarge = statuses.Fault
 status_of faults.Memory = statuses.Failed
 status_of faults.Write = statuses.Fault

@@ -40,21 +40,18 @@ pub fn draw_with<I: Read, O: Write, E: Diagnostics>(
 {
     match answer(alloc, words, reader, out) {
         Ok(()) => 0,
-        Err(fault) => {
-            let reason = if explains { fault.reason(words) } else { None };
-            complained(&fault, reason, err).code()
-        }
+        Err(fault) => complained(&fault, words, explains, err).code(),
     }
 }
 
-/// Prints the line of a fault and then the reason, if there is one.
-fn complained<E: Diagnostics>(fault: &Fault, reason: Option<&str>, err: &mut E) -> Status
+/// Prints the line of a fault, and then the reason, if there is one and `explains` is set.
+fn complained<E: Diagnostics>(fault: &Fault, words: &[&str], explains: bool, err: &mut E) -> Status
     ensures status { result ≡ status_of fault.now }
     ensures told { (told : E) × E.tells err.old (line_of fault.now) told × MayExplain E.tells told err.new }
 {
     let status = complain(fault, err);
-    if let Some(reason) = reason {
-        err.tell(reason);
+    if explains {
+        fault.explain(words, err);
     }
     status
 }
@@ -81,7 +78,7 @@ fn answer<I: Read, O: Write>(
 /// Writes the graph of a pool specification. Nothing is written before the whole text is complete.
 fn draw_graph<O: Write>(alloc: Global, spec: &str, nodes: u32, out: &mut O) -> Result<(), Fault> {
     let Ok(graph) = checked(spec) else {
-        return Err(Fault::NoPool);
+        return Err(Fault::NoPool(String::from_str(alloc, spec)?));
     };
     if graph.tasks() > MAX_TASKS {
         return Err(Fault::TooLarge);

@@ -2,9 +2,10 @@
 
 ghost use Rattle.std.specs.Prelude.{◌≡◌};
 ghost use Rattle.tp_draw.specs.Faults.{line_of, status_of, text_line};
+ghost use Rattle.tp_shell.specs.Streams.{MayExplain};
 
 use std::alloc::AllocError;
-use tp_shell::{Diagnostics, Status, Told, WordsFault, names_a_file, tell_words};
+use tp_shell::{Diagnostics, Status, Told, WordsFault, explain_spec, names_a_file, tell_words};
 use tp_text::TextFault;
 
 /// Why nothing was drawn, or not all of it.
@@ -16,8 +17,8 @@ pub enum Fault {
     Text(TextFault),
     /// The trace is not sound: this is the complaint about it.
     Unsound(String),
-    /// The specification names no graph.
-    NoPool,
+    /// This specification names no graph.
+    NoPool(String),
     /// The graph has more tasks than are written.
     TooLarge,
     /// An allocation failed for the text.
@@ -46,7 +47,7 @@ impl Told for Fault {
             Fault::Words(fault) => tell_words(fault, err),
             Fault::Text(fault) => err.tell(text_line(*fault)),
             Fault::Unsound(text) => err.tell(text.as_str()),
-            Fault::NoPool => err.tell("refused 26 BadSpec\n"),
+            Fault::NoPool(_) => err.tell("refused 26 BadSpec\n"),
             Fault::TooLarge => err.tell("fault too large\n"),
             Fault::Memory => err.tell(text_line(TextFault::Memory)),
             Fault::Write => err.tell(text_line(TextFault::Write)),
@@ -57,7 +58,7 @@ impl Told for Fault {
         match self {
             Fault::Words(WordsFault::Words(_) | WordsFault::Write) => Status::Fault,
             Fault::Text(TextFault::Read | TextFault::TooLong | TextFault::Write) => Status::Fault,
-            Fault::NoPool | Fault::TooLarge | Fault::Write => Status::Fault,
+            Fault::NoPool(_) | Fault::TooLarge | Fault::Write => Status::Fault,
             Fault::Unsound(_) => Status::Refused,
             Fault::Words(WordsFault::Memory) | Fault::Text(TextFault::Memory) => Status::Failed,
             Fault::Memory => Status::Failed,
@@ -66,19 +67,19 @@ impl Told for Fault {
 }
 
 impl Fault {
-    /// Returns the line that says why, if there is more to say than the error line does. The arguments begin with the
-    /// program's own name.
-    pub(crate) fn reason(&self, words: &[&str]) -> Option<&'static str> {
+    /// Prints why, if there is more to say than the error line does. The arguments begin with the program's own name.
+    pub(crate) fn explain<E: Diagnostics>(&self, words: &[&str], err: &mut E)
+        ensures { MayExplain E.tells err.old err.new }
+    {
         match self {
-            Fault::NoPool => Some(
-                "reason: SPEC is no sample pool: `tp run --help` describes them\n",
-            ),
-            Fault::TooLarge => Some("reason: a graph of more than 2,000 tasks is not drawn\n"),
-            Fault::Words(WordsFault::Words(text)) if names_a_file(text) => match words {
-                [_, "run", ..] => Some("reason: reads standard input: samples draw run < FILE\n"),
-                _ => None,
-            },
-            _ => None,
+            Fault::NoPool(spec) => explain_spec(spec, err),
+            Fault::TooLarge => err.tell("reason: a graph of more than 2,000 tasks is not drawn\n"),
+            Fault::Words(WordsFault::Words(text)) if names_a_file(text) => {
+                if let [_, "run", ..] = words {
+                    err.tell("reason: reads standard input: samples draw run < FILE\n");
+                }
+            }
+            _ => {}
         }
     }
 }

@@ -137,7 +137,7 @@ impl Flow {
     }
 
     /// States that the flow follows a description at any time.
-    pub fn known(&self)
+    pub fn invariant(&self)
         ensures { HasDescription self.now.state }
     {
         let _ = &self.newest;

@@ -1,7 +1,7 @@
 -- How many calls parts make, and the theorems about all parts of a graph together.
 pub mod Calls
 pub use Calls.*
-use Rattle.tp_part.specs.Laws.{EachOnce, AfterItsInputs, MayLeave}
+use Rattle.tp_part.specs.Laws.{EachOnce, AfterItsInputs, IsChain, IsDoneWithInputs, AlongChains, MayLeave}
 
 -- ---- one part
 abbrev pub GoesBy : List Call → PartState → Type 0
@@ -96,7 +96,7 @@ module _ (g : Graph) (n p : ℕ) where
     goes = goes_come k.goes u c0.0 c0.1;
   }))
 
-  pub knows : (calls : List Call) (a : PartState) → Reaches g n p calls a → Knows g n p calls a
+  pub knows : (calls : List Call) (a : PartState) → LeadTo g n p calls a → Knows g n p calls a
   knows [] a h = subst (Knows g n p []) (sym h) (record {
     head = record { is_number = refl; are_parts = refl; all = λ h. cc };
     plan = plan_new g n p;
@@ -136,16 +136,16 @@ at_other c past p e = ap (λ (b : Bool). cond b (c.call ∷ calls_at p past) (ca
 
 -- the newest call, with the states of its part
 pub head_of : (g : Graph) (n : ℕ) (c : CallAt) (past : List CallAt) → IsRun g n (c ∷ past)
-    → (a : PartState) × (b : PartState) × Reaches g n c.part (calls_at c.part past) a × Does g c.call a b
-head_of g n c past h = (let r = h.parts c.part in let l = subst (λ (cs : List Call). Reaches g n c.part cs r.0)
+    → (a : PartState) × (b : PartState) × LeadTo g n c.part (calls_at c.part past) a × Does g c.call a b
+head_of g n c past h = (let r = h.parts c.part in let l = subst (λ (cs : List Call). LeadTo g n c.part cs r.0)
     (at_here c past c.part refl) r.1 in
     (l.0, r.0, l.1.0, l.1.1))
 
 pub tail_of : (g : Graph) (n : ℕ) (c : CallAt) (past : List CallAt) → IsRun g n (c ∷ past) → IsRun g n past
 tail_of g n c past h = record {
   parts = λ p. (let r = h.parts p in elim (cases_eq c.part p) [
-    | inl e ↦ (let l = subst (λ (cs : List Call). Reaches g n p cs r.0) (at_here c past p e) r.1 in (l.0, l.1.0))
-    | inr e ↦ (r.0, subst (λ (cs : List Call). Reaches g n p cs r.0) (at_other c past p e) r.1)
+    | inl e ↦ (let l = subst (λ (cs : List Call). LeadTo g n p cs r.0) (at_here c past p e) r.1 in (l.0, l.1.0))
+    | inr e ↦ (r.0, subst (λ (cs : List Call). LeadTo g n p cs r.0) (at_other c past p e) r.1)
   ]);
   carried = h.carried.1;
 }
@@ -198,7 +198,7 @@ made test (d ∷ past) (suc k) c h t = has_more test d past c.part (made test pa
 -- ---- each once
 -- A call that was not made before at its part is made there at most once.
 once_at : (test : Call → Bool) (g : Graph) (n p : ℕ) → ((c : Call) (calls : List Call) (a b : PartState) → test c ≡ true
-    → Knows g n p calls a → Does g c a b → list_any test calls ≡ false) → (calls : List Call) (a : PartState) → Reaches g n p calls a
+    → Knows g n p calls a → Does g c a b → list_any test calls ≡ false) → (calls : List Call) (a : PartState) → LeadTo g n p calls a
     → count_where test calls ≤ 1
 once_at test g n p fresh [] a h = omega arith
 once_at test g n p fresh (c ∷ calls) b h = (let m = count_next test c calls in elim (cases_Bool (test c)) [
@@ -310,14 +310,55 @@ after_its_inputs g n past p t u h input = (let c : CallAt = record { part = p; c
           record { owner = s.0; owns = o.0; ended = o.3; here = inr here })
     ])
 
--- ---- may leave
+-- ---- along chains
 done_stage : (s : Stage) → is_done s ≡ true → s ≡ stage.Done
 done_stage stage.Done h = refl
 done_stage stage.Running h = cc
 done_stage stage.Fresh h = cc
 
+here_more : (g : Graph) (c : CallAt) (past : List CallAt) (p u : ℕ) → IsHere g past p u → IsHere g (c ∷ past) p u
+here_more g c past p u h = record {
+  owner = h.owner;
+  owns = h.owns;
+  ended = has_more (is_end u) c past h.owner h.ended;
+  here = elim h.here [ inl e ↦ inl e | inr i ↦ inr (has_more (is_arrival u) c past p i) ];
+}
+
+-- What a task that was run reads is at its part,
+run_here : (g : Graph) (n : ℕ) (calls : List CallAt) (p t u : ℕ) → IsRun g n calls → Has p (is_run t) calls → HasInput g t u
+    → IsHere g calls p u
+unfolding AfterItsInputs
+run_here g n [] p t u h ran input = absurd (false≢true ran)
+run_here g n (c ∷ past) p t u h ran input = here_more g c past p u (elim (has_cases (is_run t) c past p ran) [
+  | inl i ↦ after_its_inputs g n past p t u (subst (λ (q : ℕ). IsRun g n (record { part = q; call = Ran t } ∷ past)) i.0
+      (subst (λ (d : Call). IsRun g n (record { part = c.part; call = d } ∷ past)) (run_is t c.call i.1) h)) input
+  | inr i ↦ run_here g n past p t u (tail_of g n c past h) i input
+])
+
+module _ (g : Graph) (n : ℕ) (past : List CallAt) (h : IsRun g n past) where
+  -- and so is that of a task that is done.
+  end_here : (p t u : ℕ) → Has p (is_end t) past → HasInput g t u → IsHere g past p u
+  end_here p t u ended input = (let k = (knows_at g n past p h).goes.tasks in let a = (h.parts p).0 in
+      let own = k.own t (or_right (list_any (is_run t) (calls_at p past)) (list_any (is_end t) (calls_at p past)) ended) in
+      let long = k.long in let inside = slice_get_within a.numbers own.0 t own.1 in
+      let x = at_below a.tasks own.0 (omega (arith, long, inside)) in let s = k.at own.0 t x.0 own.1 x.1 in
+      run_here g n past p t u h (not-false (list_any (is_run t) (calls_at p past))
+      (sym s.0 ∙ ap is_fresh (done_stage x.0.stage (s.1 ∙ ended)))) input)
+
+  along : (p t : ℕ) (between : List ℕ) (s : ℕ) → ((u : ℕ) → HasInput g t u → IsHere g past p u) → IsChain g t between s
+      → IsDoneWithInputs g past s
+  along p t [] s here input = (let v = here s input in
+      record { owner = v.owner; owns = v.owns; ended = v.ended; inputs = λ u. end_here v.owner s u v.ended })
+  along p t (u ∷ us) s here chain = (let v = here u chain.0 in along v.owner u us s (λ w. end_here v.owner u w v.ended) chain.1)
+
+pub along_chains : AlongChains
+unfolding AlongChains AfterItsInputs
+along_chains g n past p t s h chain = along g n past (tail_of g n (record { part = p; call = Ran t }) past h) p t chain.0 s
+    (λ u. after_its_inputs g n past p t u h) chain.1
+
+-- ---- may leave
 -- the newest call of a part
-newest_leads : (g : Graph) (n p : ℕ) (c : Call) (calls : List Call) (b : PartState) → newest_of calls ≡ Some c → Reaches g n p calls b
+newest_leads : (g : Graph) (n p : ℕ) (c : Call) (calls : List Call) (b : PartState) → newest_of calls ≡ Some c → LeadTo g n p calls b
     → (a : PartState) × Does g c a b
 newest_leads g n p c [] b h l = cc
 newest_leads g n p c (d ∷ calls) b h l = (l.0, subst (λ (e : Call). Does g e l.0 b) (some_same d c h) l.1.1)

@@ -54,10 +54,10 @@ Does g Stopped a b = (first_refusal (next_checks a) ≡ None) × IsOver a × (b 
 Does g (Ended t) a b = Ends t a b
 Does g (Came u) a b = (first_refusal (arrived_checks a u) ≡ None) × (b ≡ with_arrival u a)
 
--- By these calls, the newest first, the new part p of n reaches this state.
-abbrev pub Reaches : Graph → ℕ → ℕ → List Call → PartState → Type 0
-Reaches g n p [] b = b ≡ new_part p n
-Reaches g n p (c ∷ calls) b = (a : PartState) × (Reaches g n p calls a × Does g c a b)
+-- These calls, the newest first, lead the new part p of n to this state.
+abbrev pub LeadTo : Graph → ℕ → ℕ → List Call → PartState → Type 0
+LeadTo g n p [] b = b ≡ new_part p n
+LeadTo g n p (c ∷ calls) b = (a : PartState) × (LeadTo g n p calls a × Does g c a b)
 
 -- a call at a part
 pub record CallAt : Type 0 where
@@ -104,7 +104,7 @@ IsCarried (c ∷ past) = Brings c.part c.call past × IsCarried past
 
 -- These calls, the newest first, were made at n parts that describe the same graph.
 pub record IsRun (g : Graph) (n : ℕ) (calls : List CallAt) : Type 0 where
-  pub parts : (p : ℕ) → (a : PartState) × Reaches g n p (calls_at p calls) a
+  pub parts : (p : ℕ) → (a : PartState) × LeadTo g n p (calls_at p calls) a
   pub carried : IsCarried calls
 
 -- ---- each once
@@ -136,6 +136,27 @@ unfoldable pub AfterItsInputs : Type 0
 AfterItsInputs = (g : Graph) (n : ℕ) (past : List CallAt) (p t u : ℕ) → IsRun g n (record { part = p; call = Ran t } ∷ past)
     → HasInput g t u
     → IsHere g past p u
+
+-- ---- along chains
+-- Task t reads the first of these, each of them the next, and the last reads task s.
+abbrev pub IsChain : Graph → ℕ → List ℕ → ℕ → Type 0
+IsChain g t [] s = HasInput g t s
+IsChain g t (u ∷ us) s = HasInput g t u × IsChain g u us s
+
+abbrev pub Reaches : Graph → ℕ → ℕ → Type 0
+Reaches g t s = (between : List ℕ) × IsChain g t between s
+
+-- Task s is done at the part that owns it, and the value of each task that it reads is there.
+pub record IsDoneWithInputs (g : Graph) (calls : List CallAt) (s : ℕ) : Type 0 where
+  pub owner : ℕ
+  pub owns : Owns g owner s
+  pub ended : Has owner (is_end s) calls
+  pub inputs : (u : ℕ) → HasInput g s u → IsHere g calls owner u
+
+-- A task is run only after each task that it reaches by a chain of inputs is done, and all that this one reads came to its part.
+unfoldable pub AlongChains : Type 0
+AlongChains = (g : Graph) (n : ℕ) (past : List CallAt) (p t s : ℕ) → IsRun g n (record { part = p; call = Ran t } ∷ past)
+    → Reaches g t s → IsDoneWithInputs g past s
 
 -- ---- may leave
 abbrev pub newest_of : List Call → Option Call

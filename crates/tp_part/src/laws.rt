@@ -1,5 +1,5 @@
 //! The theorems about all parts of a graph together, over a network that brings messages in any order.
-ghost use Rattle.tp_part.specs.Laws.{AfterItsInputs, AllEnd, EachOnce, MayLeave, NeverSilent};
+ghost use Rattle.tp_part.specs.Laws.{AfterItsInputs, AllEnd, AlongChains, EachOnce, MayLeave, NeverSilent};
 
 /// Over all parts, each task is run at most once, at the part that owns it; each message is sent at most once, and arrives at most once.
 #[tactic(auto, using(crate::proofs::Theorems::each_once))]
@@ -11,6 +11,12 @@ pub fn each_once()
 #[tactic(auto, using(crate::proofs::Theorems::after_its_inputs))]
 pub fn after_its_inputs()
     ensures { AfterItsInputs }
+{}
+
+/// A task is run only after each task that it reaches by a chain of inputs is done, wherever that ran, and what that read had come there.
+#[tactic(auto, using(crate::proofs::Theorems::along_chains))]
+pub fn along_chains()
+    ensures { AlongChains }
 {}
 
 /// If the newest call at a part returned `Over`, no message is in flight to it, and none will be sent: it may leave.

@@ -9,7 +9,7 @@ mod part;
 mod pass;
 
 pub use edges::Edge;
-pub use laws::{after_its_inputs, all_end, each_once, may_leave, never_silent};
+pub use laws::{after_its_inputs, all_end, along_chains, each_once, may_leave, never_silent};
 pub use part::{Next, Part};
 
 #[cfg(test)]

@@ -2,11 +2,8 @@
 //! that lead to them from other parts and from them to other parts.
 ghost use Rattle.std.specs.Prelude.{◌≡◌, ◌⊎◌, ℕ, true, IfOk, IfErr, IfSome, IfNone, OnOk, OnErr, Ok, Err, Some, None, IsTrue, IsFalse};
 ghost use Rattle.tp_base.specs.Checks.{first_refusal};
-ghost use Rattle.tp_dag.specs.{Calls.IsDispatched, State.{IsReady, IsOver}};
 ghost use Rattle.tp_part.specs.Calls.{new_part, task_checks, start_checks, next_checks, done_checks, arrived_checks, MayDescribe};
-ghost use Rattle.tp_part.specs.Calls.{with_task, with_own, with_foreign, with_arrival, has_arrived, Runs, Sends, IsWaiting, Ends};
-ghost use Rattle.tp_part.specs.Calls.{IsOver as IsAtEnd};
-ghost use Rattle.tp_dag.specs.declared.pool.Next.TheVariants as PoolNext;
+ghost use Rattle.tp_part.specs.Calls.{with_task, with_own, with_foreign, with_arrival, has_arrived, Runs, Sends, IsWaiting, IsOver, Ends};
 
 use crate::describe::{add_incoming, add_outgoing, all_below, place_of, places_of};
 use crate::edges::Edges;
@@ -57,31 +54,6 @@ impl Model for Part {
     ghost view = { state_of };
 
     ghost invariant = { IsPart };
-}
-
-/// Starts the pool, which keeps no events, so that it cannot refuse it.
-fn start_pool(pool: &mut Pool)
-    requires untraced { pool.old.kept ≡ None }
-    requires fresh { IsFalse pool.old.started }
-    ensures { pool.new ≡ record pool.old { started = true } }
-{
-    let _ = pool.start();
-}
-
-/// Returns what the pool dispatches; it was started, so that it cannot refuse it.
-fn next_of(pool: &mut Pool) -> PoolNext
-    requires { IsTrue pool.old.started }
-    ensures run { (t : ℕ) → result ≡ PoolNext.Run t → IsDispatched t pool.old pool.new }
-    ensures wait { result ≡ PoolNext.Wait → (pool.new ≡ pool.old) }
-    ensures idle { result ≡ PoolNext.Wait → (t : ℕ) → IsReady t pool.old → ⊥ }
-    ensures some_left { result ≡ PoolNext.Wait → IsOver pool.old → ⊥ }
-    ensures finished { result ≡ PoolNext.Finished → IsOver pool.old }
-    ensures over { result ≡ PoolNext.Finished → (pool.new ≡ pool.old) }
-{
-    match pool.next() {
-        Ok(next) => next,
-        Err(_) => PoolNext::Wait,
-    }
 }
 
 impl Part {
@@ -218,10 +190,8 @@ impl Part {
         ensures checks { IfSome (first_refusal (start_checks self.old)) (λ r. result ≡ Err r) }
         ensures exact { IfErr result (λ r. first_refusal (start_checks self.old) ≡ Some r) }
     {
-        if self.pool.is_started() {
-            return Err(Refusal::WrongLife);
-        }
-        start_pool(&mut self.pool);
+        // it keeps no events, so that it is refused for nothing else
+        self.pool.start()?;
         Ok(())
     }
 
@@ -233,7 +203,7 @@ impl Part {
         ensures run { IfOk result (λ next. (t : ℕ) → next ≡ Next.Run t → Runs t self.old self.new) }
         ensures send { IfOk result (λ next. (u q : ℕ) → next ≡ Next.Send u q → Sends u q self.old self.new) }
         ensures wait { result ≡ Ok Next.Wait → IsWaiting self.old × (self.new ≡ self.old) }
-        ensures over { result ≡ Ok Next.Over → IsAtEnd self.old × (self.new ≡ self.old) }
+        ensures over { result ≡ Ok Next.Over → IsOver self.old × (self.new ≡ self.old) }
         ensures err { OnErr result (self.new ≡ self.old) }
         ensures checks { IfSome (first_refusal (next_checks self.old)) (λ r. result ≡ Err r) }
         ensures exact { IfErr result (λ r. first_refusal (next_checks self.old) ≡ Some r) }
@@ -246,7 +216,8 @@ impl Part {
             self.sent += 1;
             return Ok(Next::Send(edge.value, edge.target));
         }
-        match next_of(&mut self.pool) {
+        let next = self.pool.next()?;
+        match next {
             PoolNext::Run(place) => Ok(Next::Run(self.numbers[place as usize])),
             PoolNext::Wait => Ok(Next::Wait),
             PoolNext::Finished => Ok(Next::Over),

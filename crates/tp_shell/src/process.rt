@@ -1,7 +1,23 @@
-//! The standard streams of a process: output that keeps why a write failed, and messages that end if the reader of the
-//! output has closed its pipe. What is printed so is tested, not proved.
+//! The standard streams of a process: input and output that keep why a call failed, and messages that end if the reader
+//! of the output has closed its pipe. What is printed so is tested, not proved.
 use std::cell::Cell;
-use std::io::{self, ErrorKind, Write};
+use std::io::{self, ErrorKind, Read, Write};
+
+/// Standard input. It keeps the last error of a read.
+#[derive(Drop)]
+pub struct Input<'a, R: Read> {
+    pub reader: R,
+    pub failure: &'a Cell<Option<io::Error>>,
+}
+
+impl<'a, R: Read> Read for Input<'a, R> {
+    fn read(&mut self, bytes: &mut [u8]) -> io::Result<usize> {
+        match self.reader.read(bytes) {
+            Ok(count) => Ok(count),
+            Err(error) => Err(kept(self.failure, error)),
+        }
+    }
+}
 
 /// Standard output. It keeps the last error of a write.
 #[derive(Drop)]
@@ -54,9 +70,14 @@ impl<'a, W: Write> Write for Messages<'a, W> {
     }
 }
 
-/// Prints why standard output could not be written, if it could not.
-pub fn explain_failure<E: Write>(program: &str, failure: &Cell<Option<io::Error>>, err: &mut E) {
+/// Prints why a standard stream, of this name, could not be read or written, if it could not.
+pub fn explain_failure<E: Write>(
+    program: &str,
+    stream: &str,
+    failure: &Cell<Option<io::Error>>,
+    err: &mut E,
+) {
     if let Some(error) = failure.get() {
-        let _ = writeln!(err, "reason: {program}: standard output: {error}");
+        let _ = writeln!(err, "reason: {program}: {stream}: {error}");
     }
 }

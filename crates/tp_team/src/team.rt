@@ -52,12 +52,12 @@ impl Team {
     }
 
     /// What holds between any two calls, in whatever order they are made.
-    pub fn known(&self)
+    pub fn invariant(&self)
         ensures wake_ups { LosesNoWakeUp self.now }
         ensures never_stuck { NeverStuck self.now }
     {
         let _ready = self.state.has_ready();
-        self.state.pool.known();
+        self.state.pool.invariant();
         never_silent();
     }
 

@@ -3,6 +3,8 @@
 Each program measures all configurations of one process in turn, in each round, and checks each result against another method; a first round
 is not counted. Peers that need a process of their own run between. A program that cannot be compiled is named and left out.
 """
+import functools
+import itertools
 import os
 import re
 import shutil
@@ -21,17 +23,13 @@ CPP = ("g++", "-std=c++17", "-O2")
 WORKERS = 4
 # how many rounds a process does before the next process runs
 ROUNDS_IN_TURN = 5
-# order and tiles
-CHOLESKY = [(2048, 64), (2048, 128), (2048, 256), (4096, 64), (4096, 128), (4096, 256)]
-# side, block, steps
-JACOBI = [(1024, 32, 100), (1024, 64, 100), (2048, 128, 50)]
-# length, leaf
-SORT = [(2_000_000, 2_000), (2_000_000, 20_000)]
-EMPTY_TASKS, COUNTED_TASKS, BODY_TASKS = 100_000, 20_000, 16_000
-SHAPES = ["wide", "chain", "wave", "three", "stencil"]
-# microseconds of a body
-BODIES = [0.5, 1, 2, 5, 10, 20, 50]
-CALIBRATION = 20_000_000
+CHOLESKY = [(2048, 64), (2048, 128), (2048, 256), (4096, 64), (4096, 128), (4096, 256)]  # order and tiles
+JACOBI = [(1024, 32, 100), (1024, 64, 100), (2048, 128, 50)]  # side, block, steps
+SORT = [(2_000_000, 2_000), (2_000_000, 20_000)]  # length, leaf
+# graphs of small tasks: the factorizations of 83, 48 and 45 tiles in a row have as many
+EMPTY_TASKS, COUNTED_TASKS, BODY_TASKS = 98_770, 19_600, 16_215
+SHAPES, GROWING = ["wave", "three", "cholesky", "wide", "chain", "stencil"], ["wide", "three", "anywhere"]
+WITH_BODIES, MICROSECONDS, CALIBRATION = SHAPES[:3], [0.3, 1, 3, 10], 20_000_000
 
 # cachegrind counts an instruction that moves many bytes as one for each byte: this has glibc use loops
 STRINGS = [f"glibc.cpu.x86_rep_{name}_threshold=1000000000" for name in ("movsb", "stosb")]
@@ -47,22 +45,24 @@ class Way(NamedTuple):
     workers: int = 1
 
 
-POOL = [Way("pool", "1"), Way("pool", str(WORKERS), 1, WORKERS)]
-TRACED = Way("pool with a trace", "1t")
-LOOP, OPENMP = Way("one after the other", "loop"), Way("OpenMP tasks", f"omp:{WORKERS}", 1, WORKERS)
-OPENMP_ALONE = Way("OpenMP tasks", "omp:1")
+def ways(program, argument, workers=(1, WORKERS)):
+    return [Way(program, argument.format(count), 1, count) for count in workers]
+
+
+POOL, OPENMP = ways("pool", "{}"), ways("OpenMP tasks", "omp:{}")
+TRACED, LOOP = Way("pool with a trace", "1t"), Way("one after the other", "loop")
 
 
 class Process(NamedTuple):
     """One process of a comparison: its program, or None if that does not compile; its first arguments; and the ways that it measures."""
 
     program: str
-    size: list
+    size: tuple
     ways: list
     environment: dict = {}
 
     def command(self, rounds):
-        return [self.program, *self.size, str(rounds), *(way.argument for way in self.ways)]
+        return [self.program, *map(str, self.size), str(rounds), *(way.argument for way in self.ways)]
 
 
 class Programs(Peers):
@@ -70,8 +70,12 @@ class Programs(Peers):
         super().__init__(folder, SOURCES)
         self.over = shared_object.compile_part(shared_object.TEAM, folder), f"-L{TOP}/lib", "-lgerfmuod", "-pthread"
 
-    def own(self, name, folder="examples"):
-        return self.program(name, C, f"{folder}/{name}.c", (*self.over, "-lm"))
+    def own(self, source, size, its_ways):
+        return Process(self.program(os.path.basename(source), C, f"{source}.c", (*self.over, "-lm")), size, its_ways)
+
+    def tbb(self, name, size, workers=(1, WORKERS), title="oneTBB flow graph"):
+        program = self.program(f"{name}_tbb", CPP, f"bench/peers/{name}_tbb.cpp", ("-pthread", "-ltbb"))
+        return [Process(program, size, [way]) for way in ways(title, "{}", workers)]
 
     def cholesky(self, name="cholesky", *more):
         return self.program(name, (*C, "-DHAVE_BLAS"), "examples/cholesky.c", (*self.over, "-lopenblas", "-lm", *more))
@@ -79,6 +83,12 @@ class Programs(Peers):
     def starpu(self):
         options = running.run(["pkg-config", "--cflags", "--libs", "starpu-1.3"]).out.decode().split()
         return self.cholesky("cholesky_starpu", "-DHAVE_STARPU", *options)
+
+    @functools.lru_cache(maxsize=None)
+    def iterations(self, microseconds):
+        """Returns how many iterations of a body take as long."""
+        (_, times), = times_of(self.own("bench/grain", ("wide", 1, CALIBRATION), [LOOP]), 3)
+        return round(microseconds * CALIBRATION / (min(times) * 1000))
 
 
 def times_of(process, rounds):
@@ -91,13 +101,13 @@ def times_of(process, rounds):
     return [(int(tasks), [float(time) for time in times]) for _, tasks, *times in lines]
 
 
-def compare(bench, case, processes, counted=None):
-    """Returns a row for each way; `counted` has instructions by way. The processes take turns, a few rounds at a time."""
+def compare(bench, case, processes, counted=dict):
+    """Returns a row for each way; `counted` returns instructions by way. The processes take turns, a few rounds at a time."""
     if bench.only not in f"dag {case}":
         return []
     print(f"dag: {case}", file=sys.stderr, flush=True)
     processes = [process for process in processes if process.program]
-    found, left = {}, bench.rounds
+    found, left, instructions = {}, bench.rounds, counted()
     with busy_processes(bench.load):
         while left > 0:
             rounds = min(left, ROUNDS_IN_TURN)
@@ -108,78 +118,75 @@ def compare(bench, case, processes, counted=None):
     return [
         Row(
             "dag", case, "task", tasks, way.program, way.nodes, way.workers, bench.load, len(times), *quantiles(times),
-            None, None, None, None, (counted or {}).get(way),
+            None, None, None, None, instructions.get(way),
         ) for way, (tasks, times) in found.items()
     ]
 
 
 def cholesky(bench, programs):
-    sizes = [(1024, 128)] if bench.is_quick else CHOLESKY
-    whole = [Way("OpenBLAS dpotrf", f"whole:{workers}", 1, workers) for workers in (1, WORKERS)]
-    ways, with_starpu = [LOOP, *POOL, OPENMP, *whole], [Way("StarPU", "starpu", 1, WORKERS)]
-    one_thread = {"OPENBLAS_NUM_THREADS": "1"}
+    whole, one_thread = ways("OpenBLAS dpotrf", "whole:{}"), {"OPENBLAS_NUM_THREADS": "1"}
     starpu = {**one_thread, "STARPU_NCPU": str(WORKERS), "STARPU_SCHED": "lws", "STARPU_SILENT": "1", "STARPU_HOME": bench.folder}
-    for size in sizes:
-        words, case = list(map(str, size)), "Cholesky, order {}, tiles of {}".format(*size)
-        own = Process(programs.cholesky(), words, ways, one_thread), Process(programs.starpu(), words, with_starpu, starpu)
-        yield from compare(bench, case, own)
+    for size in [(1024, 128)] if bench.is_quick else CHOLESKY:
+        own = Process(programs.cholesky(), size, [LOOP, *POOL, OPENMP[1], *whole], one_thread)
+        other = Process(programs.starpu(), size, ways("StarPU", "starpu", [WORKERS]), starpu)
+        yield from compare(bench, "Cholesky, order {}, tiles of {}".format(*size), [own, other])
 
 
 def jacobi_and_sort(bench, programs):
     """Measures Jacobi steps on a grid in blocks, and merge sort, whose tasks add further ones."""
-    ways = [LOOP, *POOL, Way("OpenMP parallel for", f"omp:{WORKERS}", 1, WORKERS), OPENMP._replace(argument=f"dep:{WORKERS}")]
-    for name, case, sizes, quick_size, its_ways in (
-        ("jacobi", "Jacobi, {0} by {0} in blocks of {1}, {2} steps", JACOBI, (512, 64, 20), ways),
-        ("recursion", "merge sort, {:,} numbers, leaves of {:,}", SORT, (200_000, 2_000), [LOOP, *POOL, OPENMP]),
+    on_grid = [*ways("OpenMP parallel for", "omp:{}", [WORKERS]), *ways("OpenMP tasks", "dep:{}", [WORKERS])]
+    for source, case, sizes, quick_size, peers in (
+        ("examples/jacobi", "Jacobi, {0} by {0} in blocks of {1}, {2} steps", JACOBI, (512, 64, 20), on_grid),
+        ("examples/recursion", "merge sort, {:,} numbers, leaves of {:,}", SORT, (200_000, 2_000), OPENMP[1:]),
     ):
         for size in [quick_size] if bench.is_quick else sizes:
-            yield from compare(bench, case.format(*size), [Process(programs.own(name), [*map(str, size)], its_ways)])
-
-
-def on_tbb(programs, size, threads):
-    program = programs.program("grain_tbb", CPP, "bench/peers/grain_tbb.cpp", ("-pthread", "-ltbb"))
-    return Process(program, size, [Way("oneTBB flow graph", str(threads), 1, threads)])
-
-
-def size_of(shape, tasks, iterations):
-    """Returns the arguments of the programs `grain`: the graph, its number of tasks, and the iterations of each body."""
-    return [shape, str(tasks), str(iterations)]
+            yield from compare(bench, case.format(*size), [programs.own(source, size, [LOOP, *POOL, *peers])])
 
 
 def instructions_by_way(bench, programs, shape):
     """Returns the instructions of one round, by the difference to none, with empty bodies and one thread; none if they are not counted."""
     if not bench.counts or bench.load or not shutil.which("valgrind"):
         return {}
-    size, counts = size_of(shape, COUNTED_TASKS, 0), {}
-    own = [Process(programs.own("grain", "bench"), size, [way]) for way in (POOL[0], TRACED, OPENMP_ALONE)]
-    for process in (process for process in [*own, on_tbb(programs, size, 1)] if process.program):
+    size, counts = (shape, COUNTED_TASKS, 0), {}
+    own = [programs.own("bench/grain", size, [way]) for way in (POOL[0], TRACED, OPENMP[0])]
+    for process in (process for process in [*own, *programs.tbb("grain", size, [1])] if process.program):
         none, one = (running.instructions(process.command(rounds), env={**os.environ, **NO_STRING_MOVES}) for rounds in (0, 1))
         counts[process.ways[0]] = (one - none) * EMPTY_TASKS // COUNTED_TASKS
     return counts
 
 
 def empty(bench, programs):
-    ways = [*POOL, TRACED, OPENMP_ALONE, OPENMP]
-    for shape in ["wave", "three"] if bench.is_quick else SHAPES:
-        case = f"{shape}, empty bodies"
-        if bench.only in f"dag {case}":
-            counted, size = instructions_by_way(bench, programs, shape), size_of(shape, EMPTY_TASKS, 0)
-            own = Process(programs.own("grain", "bench"), size, ways)
-            yield from compare(bench, case, [own, *(on_tbb(programs, size, threads) for threads in (1, WORKERS))], counted)
+    """Measures graphs of empty bodies, and how the time of a task grows with their number."""
+    for shape in SHAPES[:2] if bench.is_quick else SHAPES:
+        size = shape, EMPTY_TASKS, 0
+        own = programs.own("bench/grain", size, [*POOL, TRACED, *OPENMP]), *programs.tbb("grain", size)
+        yield from compare(bench, f"{shape}, empty bodies", own, functools.partial(instructions_by_way, bench, programs, shape))
+    for shape, tasks in itertools.product(GROWING, (1_000, 10_000 if bench.is_quick else 1_000_000)):
+        yield from compare(bench, f"{shape}, {tasks:,} empty bodies", [programs.own("bench/grain", (shape, tasks, 0), POOL)])
 
 
 def bodies(bench, programs):
-    (_, times), = times_of(Process(programs.own("grain", "bench"), size_of("wide", 1, CALIBRATION), [LOOP]), 3)
-    speed = CALIBRATION / (min(times) * 1000)
-    ways = [LOOP, *POOL[1:], OPENMP]
-    for shape in ["stencil"] if bench.is_quick else ["stencil", "wave", "three"]:
-        for microseconds in BODIES[1::2] if bench.is_quick else BODIES:
-            size = size_of(shape, BODY_TASKS, round(microseconds * speed))
-            case = f"{shape}, bodies of {microseconds:g} us"
-            yield from compare(bench, case, [Process(programs.own("grain", "bench"), size, ways), on_tbb(programs, size, WORKERS)])
+    workers, sizes = (1, 2, WORKERS), (WITH_BODIES[:1], MICROSECONDS[1::2]) if bench.is_quick else (WITH_BODIES, MICROSECONDS)
+    for shape, microseconds in itertools.product(*sizes):
+        size = shape, BODY_TASKS, programs.iterations(microseconds)
+        own = programs.own("bench/grain", size, [LOOP, *ways("pool", "{}", workers), *ways("OpenMP tasks", "omp:{}", workers)])
+        yield from compare(bench, f"{shape}, bodies of {microseconds:g} us", [own, *programs.tbb("grain", size, workers)])
+
+
+def small_runs(bench, programs):
+    """Measures a tree that tasks spawn, a graph of 20 tasks that runs many times, and functions of Python."""
+    for microseconds in (0, 1):
+        size = 12 if bench.is_quick else 16, programs.iterations(microseconds)
+        own = programs.own("bench/tree", size, [LOOP, *POOL, *OPENMP]), *programs.tbb("tree", size, title="oneTBB task group")
+        yield from compare(bench, f"binary tree that tasks spawn, depth {size[0]}, bodies of {microseconds} us", own)
+    own = [*(Way(f"pool, {name}", f"{name}:2", 1, 2) for name in ("again", "clear", "new")), *ways("OpenMP tasks", "omp:{}", [2])]
+    yield from compare(bench, "wave of 20 tasks", [programs.own("bench/again", ("wave", 20, 1000), own)])
+    own, size = [*ways("pool", "pool:{}"), *ways("concurrent.futures", "executor:{}")], (f"{TOP}/python/bench/functions.py", 20_000)
+    package = {"PYTHONPATH": f"{TOP}/python", "GERFMUOD_LIBRARY": f"{TOP}/lib/{shared_object.SONAME}"}
+    yield from compare(bench, "Python, 20,000 empty functions", [Process(sys.executable, size, own, package)])
 
 
 def dag(bench):
     programs = Programs(bench.folder)
-    for part in (cholesky, jacobi_and_sort, empty, bodies):
+    for part in (cholesky, jacobi_and_sort, empty, bodies, small_runs):
         yield from part(bench, programs)

@@ -1,19 +1,22 @@
 """Measures programs over Open MPI on this machine: the detectors for distributed programs, also call by call and in simulations, the
-factorization of a matrix, and short tasks.
+factorization of a matrix, messages from task to task, and short tasks.
 
 The proved detector is that of lib/libgerfmuod.a. The others are hand-written, in capi/mpi/detectors.h: the same four counters over the
 same tree, Safra's ring (EWD 998), and repeated reductions of the counters (MPI_Iallreduce). The matrix is factored by graph_cholesky.c,
-mpi_cholesky.c and, if they are installed, StarPU and ScaLAPACK. The short tasks are those of graph_patterns.c.
+mpi_cholesky.c and, if they are installed, StarPU and ScaLAPACK. The messages are those of graph_costs.c, over MPICH too, the short tasks those of graph_patterns.c.
 """
 import functools
 import itertools
 import os
 import re
+import shutil
 import sys
 from statistics import median
 
-from .. import mpi, mpi_graphs, running
+from .. import mpi_graphs, running
 from ..c_programs import output_of
+from ..mpi_graphs import BLAS, ENVIRONMENT, MPIS, command_of, compiled
+from ..repository import TOP
 from ..shared_object import INCLUDE
 from .measuring import quantiles
 from .rows import ProcessRow
@@ -29,6 +32,7 @@ WAYS = {"graph": "one graph, with its description", "run": "one graph, described
 GRID, ITERATIONS = (16, 100), [50 * 2**power for power in range(11)]
 # a process whose instructions are counted does this number of turns
 TURNS = 1_000_000
+print_case = functools.partial(print, "processes:", file=sys.stderr, flush=True)
 NO_ROW = ProcessRow("processes", "", "", 1, 1, *[None] * 9)
 # lines that the programs print
 NUMBER = r"([\d.]+)"
@@ -41,6 +45,8 @@ SEARCH = rf"{NUMBER} ms to detect the end, {NUMBER} waves, {NUMBER} control mess
 STEPS = rf": {NUMBER} steps, {NUMBER} control messages, {NUMBER} waves"
 FACTORED = rf", {NUMBER} s, .*: right"
 TASKS = rf".*: {NUMBER} ns an iteration, microseconds{{}}, .*: right\n"
+COSTS = rf"to task {NUMBER} us, with MPI alone {NUMBER} us; a task of the other process {NUMBER} us"
+COSTS_OF = [("message of 8 bytes", "from task to task"), ("message of 8 bytes", "MPI alone"), ("description of a foreign task", "one graph")]
 STORM = rf"{NUMBER} waves, {NUMBER} control messages, at most {NUMBER} waves after the end"
 
 
@@ -51,14 +57,10 @@ def numbers_in(text, form):
     return [float(number) for number in found.groups()]
 
 
-def over_mpi(program, processes, arguments, form):
+def over_mpi(program, processes, arguments, form, over=MPIS[0]):
     """Returns the numbers that a program prints; exits with status 1 if it fails. (Open MPI would bind each of two processes to a core.)"""
     own = {"OMPI_MCA_hwloc_base_binding_policy": "none", "STARPU_HOME": os.path.dirname(program)}
-    return numbers_in(output_of(mpi.command_of(program, processes, arguments, 300), env={**mpi.environment(), **own}), form)
-
-
-def print_case(case):
-    print(f"processes: {case}", file=sys.stderr, flush=True)
+    return numbers_in(output_of(command_of(over, processes, program, arguments), env={**ENVIRONMENT, **own}), form)
 
 
 def row(case, argument, **values):
@@ -92,14 +94,13 @@ def search_tree(program, tree, rounds):
 
 def factor(bench, order, blocks, rounds):
     """Measures the factorization of a matrix by four threads in all; the programs take turns. ScaLAPACK has one thread a process."""
-    compiled = functools.partial(mpi_graphs.compiled, mpi_graphs.MPIS[0], bench.folder, options=mpi_graphs.BLAS)
-    compiler, link = (mpi_graphs.MPIS[0].compiler, "-O2", f"-I{INCLUDE}"), (*mpi_graphs.BLAS, *mpi.LINK)
-    options = ["-DHAVE_STARPU", *running.run(["pkg-config", "--cflags", "--libs", "starpumpi-1.3"]).out.decode().split()]
-    starpu = bench.peers.program("starpu", compiler, "../../capi/bench/peers/starpu_cholesky.c", (*options, *link))
+    factoring = functools.partial(compiled, MPIS[0], bench.folder, options=BLAS)
+    compiler, link = (MPIS[0].compiler, "-O2", f"-I{INCLUDE}"), (*BLAS, f"-L{TOP}/lib", "-lgerfmuod", "-pthread", "-lm")
+    starpu = bench.peers.program("starpu", compiler, "../../capi/bench/peers/starpu_cholesky.c", (*mpi_graphs.starpu(), *link))
     scalapack = bench.peers.program("pdpotrf", compiler, "pdpotrf.c", ("-lscalapack-openmpi", *link))
     own = {
-        "one graph over all processes": [compiled("graph_cholesky"), blocks[0]], "StarPU": [starpu, blocks[0]],
-        "a graph in each process": [compiled("mpi_cholesky"), blocks[0]], "StarPU, tasks inserted before": [starpu, blocks[0], "before"],
+        "one graph over all processes": [factoring("graph_cholesky"), blocks[0]], "StarPU": [starpu, blocks[0]],
+        "a graph in each process": [factoring("mpi_cholesky"), blocks[0]], "StarPU, tasks inserted before": [starpu, blocks[0], "before"],
         **{f"ScaLAPACK, blocks of {block}": [scalapack, block] for block in blocks},
     }
     for processes in (4, 2):
@@ -115,7 +116,7 @@ def factor(bench, order, blocks, rounds):
 
 def patterns(bench, sizes, rounds, runs):
     """Measures short tasks, of all sizes in each process; the ways take turns."""
-    program, kernels = mpi_graphs.compiled(mpi_graphs.MPIS[0], bench.folder, "graph_patterns"), []
+    program, kernels = compiled(MPIS[0], bench.folder, "graph_patterns"), []
     for pattern, processes in itertools.product(("stencil", "spread"), (2, 4)):
         print_case(f"{pattern}, {processes} processes")
         times = {(way, size): [] for way in WAYS for size in sizes}
@@ -128,6 +129,17 @@ def patterns(bench, sizes, rounds, runs):
         for (way, size), own in times.items():
             values = dict(zip(IDLE_FIELDS, quantiles(own)), rounds=len(own), tasks=GRID[0] * GRID[1], kernel_nanoseconds=min(kernels))
             yield NO_ROW._replace(case=f"{pattern}, {size:,} iterations", detector=WAYS[way], processes=processes, **values)
+
+
+def costs(bench, tasks, rounds):
+    """Measures a message from task to task and with MPI alone, and the description of a task of the other process, over each MPI."""
+    for over in (over for over in MPIS if shutil.which(over.compiler)):
+        print_case(f"messages from task to task, {over.name}")
+        program = compiled(over, bench.folder, "graph_costs")
+        numbers = zip(*(over_mpi(program, 2, [str(tasks)], COSTS, over) for _ in range(rounds)))
+        for (case, way), own in zip(COSTS_OF, numbers):
+            values = dict(zip(IDLE_FIELDS, quantiles(own)))
+            yield NO_ROW._replace(case=case, detector=f"{way}, {over.name}", processes=2, rounds=rounds, **values)
 
 
 def calls(bench, program, rounds, turns):
@@ -160,12 +172,13 @@ def storms(program, sizes):
 def measure(bench):
     quick = bench.is_quick
     program = bench.peers.over_library("processes")
-    if mpi.missing():
-        print(f"{mpi.missing()}: not installed, so nothing is measured over MPI", file=sys.stderr)
+    if not shutil.which(MPIS[0].compiler):
+        print_case(f"{MPIS[0].compiler} is not installed, so nothing is measured over MPI")
     else:
-        yield from idle(mpi.compile_program("latency", bench.folder), 200 if quick else 2_000)
-        yield from search_tree(mpi.compile_program("uts_mpi", bench.folder), "T0" if quick else "T1", 3 if quick else 5)
+        yield from idle(compiled(MPIS[0], bench.folder, "latency"), 200 if quick else 2_000)
+        yield from search_tree(compiled(MPIS[0], bench.folder, "uts_mpi"), "T0" if quick else "T1", 3 if quick else 5)
         yield from factor(bench, 512 if quick else 4096, [128, 64, 256], 3 if quick else 9)
+        yield from costs(bench, 1_000 if quick else 100_000, 3 if quick else 9)
         yield from patterns(bench, ITERATIONS[3::2] if quick else ITERATIONS, 2 if quick else 5, 3 if quick else 10)
     yield from calls(bench, program, bench.rounds, 1_000_000 if quick else 10_000_000)
     sizes = SIMULATED[:6] if quick else SIMULATED

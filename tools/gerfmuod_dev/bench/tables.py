@@ -264,7 +264,7 @@ def front(runs, body_rows, rod_rows):
         lines.append([f"{'' if case[0] == '`' else 'Rod: '}{case}, 4 workers, ms", *cells])
         without += [f"{case} ({name})"] * (name in WITHOUT_RUNTIME)
     parts = [table(["On four cores, a run (quartiles)", *FRONT], lines)]
-    return "\n\n".join(parts + [f"No runtime pays, with four workers, for {'; '.join(without)}."] * bool(without))
+    return "\n\n".join(parts + [f"Parallelism does not pay off, with four workers, for {'; '.join(without)}."] * bool(without))
 
 
 def library(rows):
@@ -281,64 +281,56 @@ def library(rows):
     return table(["Steps of", "Program", "nanoseconds a step", "instructions a step", "bytes a step"], lines)
 
 
-# a case of task graphs with bodies: its shape
-GRAPH_BODY = re.compile(r"(\w+), bodies of ([\d.]+) us$")
-GRAPH_WORKERS = 4
-
-
 def program_and_place(row):
     return f"{row.program}, {row.where}"
 
 
-def time_text(form, unit_of, row):
+def time_text(form, unit_of, _, row):
     """Returns the time of a row in a unit, with its quartiles if it has several workers."""
     times = [form.format(time * unit_of(row)) for time in (row.milliseconds, row.lower_quartile, row.upper_quartile)]
     return "{} ({}–{})".format(*times) if row.nodes * row.workers > 1 else times[0]
 
 
-def smallest_bodies(rows):
-    """Returns a table of METG(50%) of each program with four workers, in microseconds, with a line for each shape."""
-    own = {}
-    for row in (row for row in rows if row.nodes * row.workers == GRAPH_WORKERS):
-        own.setdefault((GRAPH_BODY.match(row.case)[1], program_and_place(row)), []).append(row)
+def speed_up(rows, row):
+    loop = found(rows, case=row.case, program="one after the other")
+    return f"{row.milliseconds * 1000 / row.units:.2f} us" if row == loop else TIME(loop, row)
 
-    def point_of(row, time):
-        kernel = found(rows, case=row.case, program="one after the other").milliseconds
-        return metg.Point(getattr(row, time) * 1000 * GRAPH_WORKERS / row.units, kernel * 1000 / row.units)
 
-    def size(*key):
-        points = own.get(key, [])
-        return metg.spelt_by_quartiles(lambda time: sorted((point_of(row, time) for row in points), key=lambda point: point.kernel))
+def growth(rows, row):
+    """Returns the nanoseconds a task, and their ratio to those of the smallest graph of this shape."""
+    least = next(other for other in having(rows, where=row.where) if other.case.split()[0] == row.case.split()[0])
+    return f"{NANOSECONDS(rows, row)}; {ratio(row.milliseconds * least.units, least.milliseconds * row.units):.2f}"
 
-    shapes, columns = (dict.fromkeys(keys) for keys in zip(*own))
-    return pivot("", shapes, dict(zip(columns, columns)), size)
+
+MILLISECONDS = functools.partial(time_text, "{:.1f}", lambda row: 1)
+NANOSECONDS = functools.partial(time_text, "{:,.0f}", lambda row: 1e6 / row.units)
+# the tables of task graphs: how the names of their cases begin (the first one that fits counts), and the text of a row among its rows
+GRAPHS = {
+    "Speed-up over the bodies one after the other, whose length is in microseconds": (r"\w+, bodies of", speed_up),
+    "Nanoseconds a task, with its description": (r"\w+, empty", NANOSECONDS),
+    "Nanoseconds a task, and their ratio to those of the smallest graph of the shape": (r"\w+, [\d,]+ empty", growth),
+    "Microseconds a run of 20 tasks": ("wave of", functools.partial(time_text, "{:.2f}", lambda row: 1e3 / row.units)),
+    "Milliseconds of Python": ("Python", MILLISECONDS),
+    "Milliseconds": ("", MILLISECONDS),
+}
 
 
 def task_graphs(rows):
-    small = [row for row in rows if GRAPH_BODY.match(row.case)]
-    empty = [row for row in rows if row.case.endswith("empty bodies")]
-    whole, counted = [row for row in rows if row not in small + empty], [row for row in empty if row.instructions]
-    nanoseconds = functools.partial(time_text, "{:,.0f}", lambda row: 1e6 / row.units)
-    parts = [
-        f"{title}:\n\n{grid('', own, 'case', program_and_place, text_of)}"
-        for title, own, text_of in (
-            ("Milliseconds", whole, functools.partial(time_text, "{:.1f}", lambda _: 1)),
-            ("Nanoseconds a task, with its description", empty, nanoseconds),
-            ("Instructions a task, with its description, one thread", counted, lambda row: cell(each_unit(row), "{:,.0f}")),
-        ) if own
-    ]
-    parts += [f"METG(50%) in microseconds, four workers:\n\n{smallest_bodies(small)}"] if small else []
-    return "\n\n".join(parts)
+    kinds = {row: next(title for title, (beginning, _) in GRAPHS.items() if re.match(beginning, row.case)) for row in rows}
+    shown = [(title, [row for row in rows if kinds[row] == title], text_of) for title, (_, text_of) in GRAPHS.items()]
+    counted = [row for row in rows if row.instructions]
+    shown.append(("Instructions a task, with its description, one thread", counted, lambda _, row: cell(each_unit(row), "{:,.0f}")))
+    tables = [(title, grid("", own, "case", program_and_place, functools.partial(text_of, own))) for title, own, text_of in shown if own]
+    return "\n\n".join(f"{title}:\n\n{text}" for title, text in tables)
 
 
 def times_and_messages(row):
     messages = cell(row.control_messages, "{:,.0f}") or "not counted"
-    quartiles = f"({row.lower_quartile:,.1f}–{row.upper_quartile:,.1f})"
-    return f"{row.microseconds:,.1f} {quartiles}; {messages}; {row.waves:,.0f}"
+    return f"{times_of('{:,.1f} ({:,.1f}–{:,.1f})', 1, row)}; {messages}; {row.waves:,.0f}"
 
 
-def milliseconds_of(row):
-    return f"{row.microseconds / 1000:,.0f} ({row.lower_quartile / 1000:,.0f}–{row.upper_quartile / 1000:,.0f})"
+def times_of(form, by, row):
+    return form.format(*(time / by for time in (row.microseconds, row.lower_quartile, row.upper_quartile)))
 
 
 def patterns_over_mpi(rows):
@@ -357,8 +349,10 @@ def detectors(rows):
     what = "microseconds to the last process that knows the end (quartiles); control messages; waves, rounds of the token, reductions"
     tasks, timed = [row.as_pattern for row in rows if row.tasks], [row for row in rows if row.microseconds is not None and not row.tasks]
     shown = [(case, what, times_and_messages) for case in distinct([row for row in timed if row.waves is not None], "case")]
-    factored = distinct([row for row in timed if row.waves is None], "case")
-    shown += [(case, "milliseconds (quartiles), with four threads in all", milliseconds_of) for case in factored]
+    whole = "milliseconds (quartiles), with four threads in all", functools.partial(times_of, "{:,.0f} ({:,.0f}–{:,.0f})", 1000)
+    short = "microseconds (quartiles)", functools.partial(times_of, "{:.3f} ({:.3f}–{:.3f})", 1)
+    cases = distinct([row for row in timed if row.waves is None], "case")
+    shown += [(case, *(whole if case.startswith("Cholesky") else short)) for case in cases]
     for case, *fields in (("simulated", "steps", "control_messages", "waves"), ("random programs", "control_messages", "waves")):
         text_of = functools.partial(lambda fields, row: ", ".join(f"{getattr(row, field):,.0f}" for field in fields), fields)
         shown.append((case, ", ".join(fields).replace("_", " "), text_of))

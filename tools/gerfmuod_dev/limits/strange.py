@@ -109,8 +109,7 @@ def manners(tally, options, folder):
     for (name, arguments, stdin), (situation, line, more, status, out, err) in rows:
         command = ["bash", "-c", line, "bash", getattr(options, name), *arguments, *more]
         result = running.run(command, stdin.encode(), env=USER, cwd=folder)
-        texts = zip((out, err), (result.out, result.err))
-        is_well = all(re.fullmatch(pattern.replace("NAME", name), text.decode(), re.S) for pattern, text in texts)
+        is_well = all(re.fullmatch(pattern.replace("NAME", name), text.decode(), re.S) for pattern, text in zip((out, err), result[1:]))
         is_well &= result.status == status and (more != ["--help"] or max(map(len, result.out.decode().split("\n"))) <= 80)
         tally.judge(is_well, f"{situation}, {name} {arguments}: {running.short(result.out)}, {result.description()}")
     reasons(tally, options, folder)

@@ -120,12 +120,13 @@ def progress(tally, options, folder):
         judge(tally, command, piped, run_at_terminal(command, stdin))
         quiet = run_at_terminal([*command, "--quiet"], stdin)
         tally.judge(quiet == piped, f"{arguments} --quiet at a terminal: {quiet.description()}")
-    for text, arguments, what, lines in CASES["typed"]:
-        command, help_command, text = [options.samples, *arguments], [options.samples, arguments[0], "--help"], text.encode()
-        piped, announced = running.run(command, text), f"Reading {what} from standard input up to Ctrl-D, {lines} < FILE\n"
+    for text, arguments, what, lines, silent in CASES["typed"]:
+        command, text = [options.samples, *arguments], text.encode()
+        piped, announced = running.run(command, text), f"Reading {what} from standard input up to Ctrl-D{lines} < FILE\n"
         judge(tally, command, piped._replace(err=announced.encode()), run_at_terminal(command, text, is_typed=True))
-        judge(tally, command, piped, run_at_terminal([*command, "--quiet"], text, is_typed=True))
-        judge(tally, help_command, running.run(help_command), run_at_terminal(help_command, b"", is_typed=True))
+        if silent:
+            judge(tally, command, piped, run_at_terminal([*command, *silent], text, is_typed=True))
+        judge(tally, command, running.run([*command, "--help"]), run_at_terminal([*command, "--help"], b"", is_typed=True))
     for name, arguments, status, out, err in CASES["refused"]:
         command = [options.samples, *arguments]
         judge(tally, command, Result(status, out.encode(), err.encode()), running.run(command, f"{folder}/{name}"))

@@ -23,7 +23,7 @@ SONAME = shared_object.SONAME
 USUAL = {"PREFIX": "/usr/gerfmuod", "LIBDIR": "/usr/gerfmuod/lib", "INCLUDEDIR": "/usr/gerfmuod/include"}
 OTHER = {"PREFIX": "/usr", "LIBDIR": "/usr/lib/x86_64-linux-gnu", "INCLUDEDIR": "/usr/include/gerfmuod", "MANDIR": "/srv/man"}
 LIST, DOCUMENTS = ("PREFIX", "/share/gerfmuod/installed"), ("PREFIX", "/share/doc/gerfmuod")
-# lines that a tab completes, and what runs then; lines of sh with the program that each needs and what it prints
+# lines that a tab completes, and what runs then; lines of sh with the program or the command that each needs and what it prints
 TABLES = repository.text_of(f"{repository.TOP}/tools/data/package/tables.json")
 # the shells with an option and a first command, and a program that only completion runs: others are written to a file with their input
 SHELLS = {"bash": ("--norc", ":"), "zsh": ("-f", "autoload -U compinit; compinit -uD"), "fish": ("--no-config", ":")}
@@ -101,7 +101,9 @@ def check_programs(tally, tree, folder):
     tables = json.loads(re.sub(r"@(\w+)@", lambda found: str(values[found[1]]), TABLES))
     has_pkg_config = tally.has("pkg-config", "programs over the installed package")
     for needed, expected, line in tables["lines"]:
-        if (has_pkg_config or needed == "cmake") and tally.has(needed, line):
+        if " " in needed and running.run(["sh", "-c", needed]).status:
+            tally.skips(line, needed)
+        elif (has_pkg_config or needed == "cmake") and (" " in needed or tally.has(needed, line)):
             check(tally, running.run(["sh", "-c", line], env=tree.environment()), line, expected)
 
 

@@ -1,6 +1,6 @@
-/* right.c: programs without a mistake, by name, each with a sum that it checks; some are slow. No verdict may be printed.
+/* right.c MODE [TIMES]: programs without a mistake, by name, each with a sum that it checks; some are slow. No verdict may be printed.
  *
- * The argument `modes` lists them, as in wrong.c. */
+ * The argument `modes` lists them, as in wrong.c. A mode runs TIMES times, with a barrier between. */
 #include <mpi.h>
 #include <pthread.h>
 #include <stdio.h>
@@ -9,6 +9,8 @@
 #include <unistd.h>
 
 static int me, n, next, before;
+static char *path;
+static MPI_Comm parent;
 enum { ROUNDS = 50 };
 
 #define WORLD MPI_COMM_WORLD
@@ -59,9 +61,13 @@ static void master(void) {
 static void requests(void) {
     int got[ROUNDS], indices[ROUNDS], done = 0, left = ROUNDS, index, is_done = 0;
     MPI_Request r[ROUNDS], s[ROUNDS];
+    MPI_Status one = {.MPI_ERROR = 42};
     for (int k = 0; k < ROUNDS; k++) MPI_Irecv(&got[k], 1, MPI_INT, before, k % 7, WORLD, &r[k]);
     for (int k = 0; k < ROUNDS; k++) MPI_Isend(&me, 1, MPI_INT, next, k % 7, WORLD, &s[k]);
-    MPI_Waitany(ROUNDS, r, &index, NO_STATUS);
+    MPI_Waitany(0, r, &index, &one);
+    check(index == MPI_UNDEFINED && one.MPI_SOURCE == MPI_ANY_SOURCE && one.MPI_ERROR == 42, "no requests");
+    MPI_Waitany(ROUNDS, r, &index, &one);
+    check(one.MPI_SOURCE == before && one.MPI_ERROR == 42, "one status");
     MPI_Waitsome(ROUNDS, r, &done, indices, MPI_STATUSES_IGNORE);
     left -= 1 + (done == MPI_UNDEFINED ? 0 : done);
     while (left > 0) {
@@ -181,6 +187,32 @@ static void slow(void) {
     MPI_Barrier(WORLD);
 }
 
+/* Spawns this program once more, without the library, and has a communicator with the ranks of both. (MPICH 4.0.2 over UCX cannot.) */
+static void spawn(void) {
+#ifdef OPEN_MPI
+    char program[] = "env", *arguments[] = {"-u", "LD_PRELOAD", path, "spawn", NULL};
+    MPI_Comm other = parent, merged;
+    int x = parent == MPI_COMM_NULL ? 7 : 0, size;
+    if (parent == MPI_COMM_NULL) MPI_Comm_spawn(program, arguments, 1, MPI_INFO_NULL, 0, WORLD, &other, MPI_ERRCODES_IGNORE);
+    MPI_Intercomm_merge(other, parent != MPI_COMM_NULL, &merged);
+    MPI_Bcast(&x, 1, MPI_INT, 0, merged);
+    MPI_Comm_size(merged, &size);
+    check(x == 7 && size > n, "spawn");
+    MPI_Comm_free(&merged);
+    MPI_Comm_disconnect(&other);
+#endif
+}
+
+/* Receives that this library does not see: at the end it looks for all their messages. */
+static void unseen(void) {
+    int x = -1;
+    for (int k = 0; k < 100; k++) {
+        MPI_Send(&me, 1, MPI_INT, next, 1, WORLD);
+        PMPI_Recv(&x, 1, MPI_INT, before, 1, WORLD, NO_STATUS);
+        check(x == before, "unseen");
+    }
+}
+
 static void files(void) {
     MPI_File file;
     char name[100];
@@ -277,11 +309,11 @@ static const struct mode {
     {"ring", ring}, {"synchronous", synchronous}, {"master", master}, {"requests", requests}, {"persistent", persistent},
     {"probes", probes}, {"collectives", collectives}, {"communicators", communicators}, {"cancelled", cancelled},
     {"intercommunicator", intercommunicator}, {"files", files}, {"slow", slow}, {"partitions", partitions}, {"many", many},
-    {"threads", threads}, {"random", random_messages},
+    {"threads", threads}, {"random", random_messages}, {"unseen", unseen}, {"spawn", spawn},
 };
 
 int main(int count, char **arguments) {
-    int granted, found = 0;
+    int granted, times = count > 2 ? atoi(arguments[2]) : 1, ran = 0;
     if (count < 2 || !strcmp(arguments[1], "modes")) {
         for (size_t k = 0; k < sizeof modes / sizeof *modes; k++) printf("%s\t2\t\n", modes[k].name);
         return 0;
@@ -289,11 +321,16 @@ int main(int count, char **arguments) {
     MPI_Init_thread(&count, &arguments, strcmp(arguments[1], "threads") ? MPI_THREAD_SINGLE : MPI_THREAD_MULTIPLE, &granted);
     MPI_Comm_rank(WORLD, &me);
     MPI_Comm_size(WORLD, &n);
+    MPI_Comm_get_parent(&parent);
+    path = arguments[0];
     next = (me + 1) % n;
     before = (me + n - 1) % n;
     for (size_t k = 0; k < sizeof modes / sizeof *modes; k++)
-        if (!strcmp(modes[k].name, arguments[1])) modes[k].run(), found = 1;
+        while (!strcmp(modes[k].name, arguments[1]) && ran < times) {
+            if (ran++) MPI_Barrier(WORLD);
+            modes[k].run();
+        }
     MPI_Finalize();
-    if (!me && found) puts("done");
-    return !found;
+    if (!me && parent == MPI_COMM_NULL) printf("done %d\n", ran);
+    return ran < times;
 }

@@ -1,11 +1,10 @@
 //! The calls on a task graph, as C gets their results.
-ghost use Rattle.gerfmuod.specs.Part.{IsDescribeCall, IsGraphCall, IsSpawnCall, IsTaskCall};
+ghost use Rattle.gerfmuod.specs.Part.{IsDescribeCall, IsGraphCall, IsSpawnCall};
 
-use crate::graph::access::RawAccess;
-use crate::graph::answer::{GraphResult, plain, refused};
-use crate::graph::data::{handle_added, task_added};
+use crate::graph::answer::{GraphResult, plain, refused, refused_with};
+use crate::graph::data::handle_added;
 use crate::graph::slot::GraphSlot;
-use crate::graph::team::{Call, call_of, called, described, spawned};
+use crate::graph::team::{Call, call_of, called, spawned};
 use tp_base::Refusal;
 use tp_team::TeamRefusal;
 
@@ -39,21 +38,6 @@ pub(crate) fn spawn(slot: &mut GraphSlot, class: u32, inputs: &[u32], outside: u
     spawned(&mut slot.team, class, inputs, outside)
 }
 
-/// Adds a task that accesses data.
-pub(crate) fn task(
-    slot: &mut GraphSlot,
-    class: u32,
-    accesses: &[RawAccess],
-    outside: u32,
-) -> GraphResult
-    ensures { IsTaskCall slot.old class accesses.now outside result slot.new }
-{
-    if !slot.is_open() {
-        return refused(TeamRefusal::Pool(Refusal::NoPool));
-    }
-    task_added(slot, class, accesses, outside)
-}
-
 /// Describes a whole graph.
 pub(crate) fn describe(
     slot: &mut GraphSlot,
@@ -66,5 +50,8 @@ pub(crate) fn describe(
     if !slot.is_open() {
         return refused(TeamRefusal::Pool(Refusal::NoPool));
     }
-    described(&mut slot.team, classes, offsets, inputs)
+    match slot.team.describe(classes, offsets, inputs) {
+        Ok(()) => plain(0, 0, 0),
+        Err((refusal, task)) => refused_with(refusal, task, 0),
+    }
 }

@@ -1,6 +1,6 @@
 //! Data handles, and tasks whose inputs are inferred from their accesses.
 ghost use Rattle.std.specs.Prelude.{◌≡◌, ◌⊎◌, length, true, false, IsTrue};
-ghost use Rattle.gerfmuod.specs.Part.{NoMemory, Pool, all_below, is_not_above, opened_with, IsHandle, IsTask, SpawnsTask, IsRefused};
+ghost use Rattle.gerfmuod.specs.Part.{NoMemory, Pool, all_below, is_not_above, opened_with, IsHandle, IsTaskCall, SpawnsTask, IsRefused};
 
 use crate::graph::access::{RawAccess, are_accesses, decode};
 use crate::graph::answer::{GraphResult, NO_MEMORY, plain, refused};
@@ -17,24 +17,26 @@ pub(crate) fn handle_added(slot: &mut GraphSlot) -> GraphResult
     if let Some(fault) = slot.team.fault() {
         return refused(fault.refusal);
     }
-    slot.flow.known();
+    slot.flow.invariant();
     match slot.flow.handle() {
         Ok(handle) => plain(0, handle.0, 0),
         Err(refusal) => refused(TeamRefusal::Pool(refusal)),
     }
 }
 
-/// Adds a task that accesses data to an open graph.
+/// Adds a task that accesses data.
 #[tactic(auto, using(crate::proofs::Growing::decoded_there))]
-pub(crate) fn task_added(
+pub(crate) fn task(
     slot: &mut GraphSlot,
     class: u32,
     accesses: &[RawAccess],
     outside: u32,
 ) -> GraphResult
-    requires { slot.old.is_open ≡ true }
-    ensures { IsTask class accesses.now outside slot.old result slot.new }
+    ensures { IsTaskCall slot.old class accesses.now outside result slot.new }
 {
+    if !slot.is_open() {
+        return refused(TeamRefusal::Pool(Refusal::NoPool));
+    }
     if !are_accesses(slot.flow.handles(), accesses) {
         return refused(TeamRefusal::Pool(Refusal::BadSpec));
     }
@@ -66,7 +68,7 @@ fn inferred(
     ensures spawns { SpawnsTask class accesses.now outside (opened_with team.old flow.old.state) result (opened_with team.new flow.new.state)
         ⊎ IsRefused (Pool NoMemory) (opened_with team.old flow.old.state) result (opened_with team.new flow.new.state) }
 {
-    flow.known();
+    flow.invariant();
     let number = team.tasks();
     inputs.clear();
     let Ok(()) = flow.find(number, accesses, inputs) else {

@@ -1,9 +1,9 @@
 //! The calls on a task graph that have a number, and those on the team of an open graph, as C gets their results.
 ghost use Rattle.std.specs.Prelude.{◌≡◌};
-ghost use Rattle.gerfmuod.specs.Part.{IsDescribe, IsSpawn, IsTeamCall, call_of};
+ghost use Rattle.gerfmuod.specs.Part.{IsSpawn, IsTeamCall, call_of};
 
 use crate::graph::answer::{
-    GraphResult, of_event, of_found_fault, of_reply, plain, refused, refused_with, task_named,
+    GraphResult, of_event, of_found_fault, of_reply, plain, refused, task_named,
 };
 use tp_team::{Arrival, Team};
 
@@ -103,20 +103,5 @@ pub(crate) fn spawned(team: &mut Team, class: u32, inputs: &[u32], outside: u32)
     match team.spawn(class, inputs, outside) {
         Ok(spawned) => plain(0, spawned.task, spawned.signals),
         Err(refusal) => refused(refusal),
-    }
-}
-
-/// Describes a whole graph.
-pub(crate) fn described(
-    team: &mut Team,
-    classes: &[u8],
-    offsets: &[u32],
-    inputs: &[u32],
-) -> GraphResult
-    ensures { IsDescribe (record { classes = classes.now; offsets = offsets.now; inputs = inputs.now }) team.old result team.new }
-{
-    match team.describe(classes, offsets, inputs) {
-        Ok(()) => plain(0, 0, 0),
-        Err((refusal, task)) => refused_with(refusal, task, 0),
     }
 }

@@ -1,11 +1,10 @@
 //! The calls on a part, as C gets their results.
 ghost use Rattle.std.specs.Prelude.{◌≡◌};
-ghost use Rattle.gerfmuod.specs.Part.{IsArrived, IsDone, IsNext, IsPartCall, IsSharedTaskCall, IsStarted, IsTaskOfCall, outcome_answer, part_call_of};
+ghost use Rattle.gerfmuod.specs.Part.{IsNext, IsPartCall, outcome_answer, part_call_of};
 
-use crate::graph::access::RawAccess;
 use crate::graph::answer::{GraphResult, plain, refused};
 use crate::part::slot::PartSlot;
-use crate::part::tasks::{handle_added, shared_task_added, task_added};
+use crate::part::tasks::handle_added;
 use tp_base::Refusal;
 use tp_part::{Next, Part};
 use tp_team::TeamRefusal;
@@ -50,36 +49,11 @@ pub(crate) fn call(slot: &mut PartSlot, number: u32, task: u32) -> GraphResult
             plain(0, 0, 0)
         }
         Some(PartCall::AddHandle) => handle_added(&mut slot.flow),
-        Some(PartCall::Start) => started(&mut slot.part),
+        Some(PartCall::Start) => of(slot.part.start()),
         Some(PartCall::Next) => next(&mut slot.part),
-        Some(PartCall::Done) => done(&mut slot.part, task),
-        Some(PartCall::Arrived) => arrived(&mut slot.part, task),
+        Some(PartCall::Done) => of(slot.part.done(task)),
+        Some(PartCall::Arrived) => of(slot.part.arrived(task)),
     }
-}
-
-/// Describes a task.
-pub(crate) fn task(slot: &mut PartSlot, class: u32, inputs: &[u32], owner: u32) -> GraphResult
-    ensures { IsTaskOfCall slot.old class inputs.now owner result slot.new }
-{
-    if !slot.is_open() {
-        return refused(TeamRefusal::Pool(Refusal::NoPool));
-    }
-    task_added(&mut slot.part, class, inputs, owner)
-}
-
-/// Describes a task that accesses data.
-pub(crate) fn shared_task(
-    slot: &mut PartSlot,
-    class: u32,
-    accesses: &[RawAccess],
-    owner: u32,
-) -> GraphResult
-    ensures { IsSharedTaskCall slot.old class accesses.now owner result slot.new }
-{
-    if !slot.is_open() {
-        return refused(TeamRefusal::Pool(Refusal::NoPool));
-    }
-    shared_task_added(slot, class, accesses, owner)
 }
 
 /// Returns the result of a call without a value.
@@ -90,13 +64,6 @@ fn of(outcome: Result<(), Refusal>) -> GraphResult
         Ok(()) => plain(0, 0, 0),
         Err(refusal) => refused(TeamRefusal::Pool(refusal)),
     }
-}
-
-fn started(part: &mut Part) -> GraphResult
-    ensures does { IsStarted part.old result part.new }
-    ensures kept { part.new.described ≡ part.old.described }
-{
-    of(part.start())
 }
 
 fn next(part: &mut Part) -> GraphResult
@@ -110,18 +77,4 @@ fn next(part: &mut Part) -> GraphResult
         Ok(Next::Over) => plain(4, 0, 0),
         Err(refusal) => refused(TeamRefusal::Pool(refusal)),
     }
-}
-
-fn done(part: &mut Part, task: u32) -> GraphResult
-    ensures does { IsDone task part.old result part.new }
-    ensures kept { part.new.described ≡ part.old.described }
-{
-    of(part.done(task))
-}
-
-fn arrived(part: &mut Part, task: u32) -> GraphResult
-    ensures does { IsArrived task part.old result part.new }
-    ensures kept { part.new.described ≡ part.old.described }
-{
-    of(part.arrived(task))
 }

@@ -1,7 +1,7 @@
 //! What a program in C describes of a graph over parts: data handles, and tasks by their inputs or by their accesses.
-ghost use Rattle.std.specs.Prelude.{◌≡◌, ◌⊎◌, length, false, true, IsTrue};
+ghost use Rattle.std.specs.Prelude.{◌≡◌, ◌⊎◌, length, false, IsTrue};
 ghost use Rattle.gerfmuod.specs.Part.{NoMemory, all_below, is_not_above, Pool, IsRefused, opened_as};
-ghost use Rattle.gerfmuod.specs.Part.{AddsShared, IsFlowHandle, IsSharedTask, IsTaskOf};
+ghost use Rattle.gerfmuod.specs.Part.{AddsShared, IsFlowHandle, IsSharedTaskCall, IsTaskOfCall};
 
 use crate::graph::access::{RawAccess, are_accesses, decode};
 use crate::graph::answer::{GraphResult, NO_MEMORY, plain, refused};
@@ -16,7 +16,7 @@ pub(crate) fn handle_added(flow: &mut Flow) -> GraphResult
     ensures does { IsFlowHandle flow.old.state result flow.new.state }
     ensures kept { flow.new.state.newest ≡ flow.old.state.newest }
 {
-    flow.known();
+    flow.invariant();
     match flow.handle() {
         Ok(handle) => plain(0, handle.0, 0),
         Err(refusal) => refused(TeamRefusal::Pool(refusal)),
@@ -24,26 +24,31 @@ pub(crate) fn handle_added(flow: &mut Flow) -> GraphResult
 }
 
 /// Describes a task by its inputs.
-pub(crate) fn task_added(part: &mut Part, class: u32, inputs: &[u32], owner: u32) -> GraphResult
-    ensures { IsTaskOf class inputs.now owner part.old result part.new }
+pub(crate) fn task(slot: &mut PartSlot, class: u32, inputs: &[u32], owner: u32) -> GraphResult
+    ensures { IsTaskOfCall slot.old class inputs.now owner result slot.new }
 {
-    match part.task(owner, class, inputs) {
+    if !slot.is_open() {
+        return refused(TeamRefusal::Pool(Refusal::NoPool));
+    }
+    match slot.part.task(owner, class, inputs) {
         Ok(task) => plain(0, task, 0),
         Err(refusal) => refused(TeamRefusal::Pool(refusal)),
     }
 }
 
-/// Describes a task by its accesses, at an open part.
+/// Describes a task by its accesses.
 #[tactic(auto, using(crate::proofs::Growing::decoded_there))]
-pub(crate) fn shared_task_added(
+pub(crate) fn shared_task(
     slot: &mut PartSlot,
     class: u32,
     accesses: &[RawAccess],
     owner: u32,
 ) -> GraphResult
-    requires { slot.old.is_open ≡ true }
-    ensures { IsSharedTask class accesses.now owner slot.old result slot.new }
+    ensures { IsSharedTaskCall slot.old class accesses.now owner result slot.new }
 {
+    if !slot.is_open() {
+        return refused(TeamRefusal::Pool(Refusal::NoPool));
+    }
     if !are_accesses(slot.flow.handles(), accesses) {
         return refused(TeamRefusal::Pool(Refusal::BadSpec));
     }
@@ -75,7 +80,7 @@ fn inferred(
     ensures adds { AddsShared class accesses.now owner (opened_as part.old flow.old.state) result (opened_as part.new flow.new.state)
         ⊎ IsRefused (Pool NoMemory) (opened_as part.old flow.old.state) result (opened_as part.new flow.new.state) }
 {
-    flow.known();
+    flow.invariant();
     let number = part.described();
     inputs.clear();
     let Ok(()) = flow.find(number, accesses, inputs) else {

@@ -1,16 +1,12 @@
 //! The reason for a line of a script or a trace that is not of the grammar, or that was refused.
 ghost use Rattle.tp_shell.specs.Streams.{MayExplain};
 
-use crate::reasons::number::{cut, number_of, short_number_of};
 use crate::reasons::pending::explain_pending;
 use crate::text::TextKind;
 use itoa::Buffer;
 use std::alloc::Global;
 use tp_base::MAX_INPUTS;
-use tp_shell::Diagnostics;
-
-/// How a message names what every number of a line is.
-static A_NUMBER: &str = "a number of at most six digits without leading zeros\n";
+use tp_shell::{A_NUMBER, Diagnostics, cut, number_of, short_number_of};
 
 /// The numbers after a keyword.
 #[derive(Clone, Copy)]

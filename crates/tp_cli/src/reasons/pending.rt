@@ -2,10 +2,9 @@
 ghost use Rattle.tp_shell.specs.Streams.{MayExplain};
 
 use crate::reasons::line::find_line;
-use crate::reasons::number::{cut, number_of};
 use itoa::Buffer;
 use std::alloc::{AllocError, Global};
-use tp_shell::Diagnostics;
+use tp_shell::{Diagnostics, cut, number_of};
 
 /// What may be pending, each kind with the numbers below a million. Only the opening has no number.
 const KINDS: [&str; 4] = ["opening ", "task ", "action ", "message "];

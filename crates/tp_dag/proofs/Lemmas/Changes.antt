@@ -375,7 +375,7 @@ module _ {ts : List Task} {ls : List Link} (s n : ℕ) (x y : Task) (f : Facts t
     }));
   }
 
-below_one : (s n : ℕ) → IsTrue (nat_lt s n && true) → s < n
+pub below_one : (s n : ℕ) → IsTrue (nat_lt s n && true) → s < n
 below_one s n h = grind (arith, nat_tests, h)
 
 pub link_places : {ts : List Task} {ls : List Link} {room : ℕ} (s n : ℕ) → MayLink n (s ∷ []) ts ls room → (s < n) × (n < length ts)

@@ -322,18 +322,6 @@ runs_shown p {new = new} t k same a own sent d e = subst (λ (s : PartState). Ru
       (there p.pool.tasks k d.becomes.was d.lowest.ready.task d.becomes.is d.lowest.ready.is)));
 })
 
--- ---- `start`, which the pool does not refuse
-pub was_started : (a b : PoolState) (r : Result (Unit {0}) Refusal) → OnOk r (b ≡ record a { started = true })
-    → IfErr r (λ (e : Refusal). (first_refusal (dag_calls.start_checks a) ≡ Some e) ⊎ ((e ≡ refusal.NoMemory) × IsTrue (dag.is_traced a)))
-    → a.kept ≡ None → IsFalse a.started → b ≡ record a { started = true }
-was_started a b (Ok u) ok err none fresh = ok
-was_started a b (Err e) ok err none fresh = absurd (elim err [
-  | inr x ↦ false≢true (sym (ap is_some none) ∙ x.1)
-  | inl x ↦ (let h : first_refusal (dag_calls.start_checks a) ≡ None = free _ _ _ fresh ∙ free _ _ _
-      (ap (λ (o : Option (List Event)). is_some o && nat_lt MAX_STEPS (dag.steps_of_trace (length a.tasks))) none) in
-      let z = sym h ∙ x in cc)
-])
-
 -- ---- `done`
 pub ends_shown : (p : Inside) {now new : PartState} {pool : PoolState} {outs : List Edge} {box : List ℕ} (t k : ℕ) → state_of p ≡ now
     → slice_get p.numbers.items k ≡ Some t → (d : IsReported k p.pool pool) → outs ≡ pass t p.outgoing

@@ -1,12 +1,12 @@
 -- The proof of `gerfmuod_part_task`: it passes its arguments on with a borrow of the part.
 use Rattle.gerfmuod.proofs.Borrowing.{refl, ◌$◌, !, done, enter, alloc_all, pass_all, free_all, exported, takes, reads, hands_on, frames}
 use Rattle.gerfmuod.proofs.Borrowing.{listed, u32, IsTaskOfCall, part_row, graph_result_laws}
-use Rattle.gerfmuod.proofs.part.{calls.task.Met.met, gerfmuod_part_task.Statement.statement}
+use Rattle.gerfmuod.proofs.part.{tasks.task.Met.met, gerfmuod_part_task.Statement.statement}
 use Rattle.gerfmuod.proofs.part.gerfmuod_part_task.Code as code
 
 pub gerfmuod_part_task_spec : {M : Type 1} → statement M
 gerfmuod_part_task_spec 𝓤 𝓛 𝓜 𝓡 wired =
     exported 𝓛 𝓜 𝓡 part_row graph_result_laws (listed 𝓛 u32) (λ κs a n u out new. IsTaskOfCall n a.0 a.1.0.now a.1.1.0 u new)
-    _ code.function (code.unfolded 𝓤 𝓛.H 𝓜 𝓡 wired) _ (met 𝓤 𝓛 𝓜 𝓡 (code.calls-gerfmuod::part::calls::task 𝓡.env wired))
+    _ code.function (code.unfolded 𝓤 𝓛.H 𝓜 𝓡 wired) _ (met 𝓤 𝓛 𝓜 𝓡 (code.calls-gerfmuod::part::tasks::task 𝓡.env wired))
     (λ κs a b o ts Q. enter ! _ _ _ _ _ $ alloc_all ! (λ l. pass_all ! refl ((tt, tt), ts) $
     takes 𝓛 _ ! refl ((tt, tt), (tt, tt)) $ hands_on 𝓛 _ ! (frames 𝓛 𝓜 𝓡) (reads 𝓛 _ ! refl) (λ v. refl) (λ v. free_all ! refl $ done !)))

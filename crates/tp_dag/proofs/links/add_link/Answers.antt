@@ -1,5 +1,10 @@
-use Rattle.tp_dag.proofs.Lemmas.{arith, linked_one}
+use Rattle.tp_dag.proofs.Lemmas.{◌∙◌, List, slice_get, ap, arith, below_one, linked_one, set_there, Task}
 use Rattle.tp_dag.proofs.links.add_link.Goals as goal
+
+pub set-requires-2-clause-was : goal.set-requires-2-clause-was
+set-requires-2-clause-was c = let l = below_one c.args.source c.args.target c.requires.lower in
+    ap (λ (xs : List Task). slice_get xs c.args.source) c.set.ensures
+    ∙ (set_there _ c.args.target c.args.source _ (λ h. omega (arith, h, l)) ∙ c.at-from.ensures)
 
 pub returns-clause-linked : goal.returns-clause-linked
 returns-clause-linked c = linked_one c.args.source c.args.target c.one_if.result c.len.result c.at-to.result c.at-from.result c.is_done.result

@@ -277,12 +277,6 @@ pub ready_few : {ts : List Task} {rs : List ℕ} (class : ℕ) → AreCounts ts 
     → slice_index_or rs class 0 ≤ MAX_TASKS
 ready_few {ts} class c few l = let r = c.right class 0 l in let k = count_few (is_ready class) ts in omega (arith, r, k, few)
 
--- ---- what the bodies read
-pub read_at : {ts now : List Task} {class : ℕ} (t : ℕ) (x : Task) → ts ≡ now → HasClass t class now → x ≡ slice_index_or ts t x
-    → (slice_get ts t ≡ Some x) × (class ≡ x.class)
-read_at {ts} {now} t x same h e = let is = ap (λ (xs : List Task). slice_get xs t) same ∙ h.is in
-    let q : h.task ≡ x = sym (e ∙ get_or_from_slice_get ts t h.task x is) in (is ∙ ap Some q, h.same ∙ ap (λ (z : Task). z.class) q)
-
 -- ---- the first n tasks are as they were described
 abbrev pub reset_to : ℕ → List Task → List Task
 reset_to n ts = map as_new (take n ts) ++ drop n ts

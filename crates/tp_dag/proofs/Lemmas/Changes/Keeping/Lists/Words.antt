@@ -10,7 +10,7 @@ pub use Rattle.std.specs.{Prelude.{if◌then◌else◌, ◌||◌, nat_lt}, Vec.v
 pub use Rattle.tp_base.specs.declared.{limits.TheConstants.MAX_STEPS, refusal.Refusal.Refusal}
 pub use Rattle.tp_dag.specs.Calls.{GoesTo, with_event, Becomes, Awaits, as_described, no_events, with_input, with_task, lacks_steps}
 pub use Rattle.tp_dag.specs.Calls.{IsLowest, MayHaveInput, MaySpawn, with_spawned, is_fresh_at, outside_at, one_more, one_less}
-pub use Rattle.tp_dag.specs.Counted.{one, entry_of, as_new, may_begin, is_ready, HasClass, AreCounts, AreCounted, TaskList, ready_at}
+pub use Rattle.tp_dag.specs.Counted.{one, entry_of, as_new, may_begin, is_ready, AreCounts, AreCounted, TaskList, ready_at}
 pub use Rattle.tp_dag.specs.{Counted.{NoneOf, NoneReady, ComesFirst}, Describing.{Graph, with_inputs, with_next, described, inputs_refusal}}
 pub use Rattle.tp_dag.specs.{Describing.{fault_of, class_of, from_of, inputs_of, next_fault, IsFirstFault}, Kept.{MayPassOn, HasRoom}}
 pub use Rattle.tp_dag.specs.Kept.{state_of, kept_of, blocks, done_at, is_from_to, owed, IsCounted, Owing, Facts, is_into, IsPool, input_of}

@@ -10,7 +10,7 @@ pub use Rattle.std.proofs.lemmas.{Map.Keys.any_passes_from_place as any_from, Op
 pub use Rattle.std.{proofs.lemmas.Option.slice_get-map, specs.List.{slice_index_or, list_any, list_all, Sorted.IsBinarySearchResult}}
 pub use Rattle.std.specs.{Option.{is_some, option_map}, Ordering.nat_cmp, Prelude.{slice_get, ◌*◌, ◌&&◌, not, ◌==◌, if◌then◌else◌, ◌||◌}}
 pub use Rattle.std.specs.{Prelude.{nat_lt, Result, Ok, Err, MatchResult, nat_le, OnOk, IfErr, is_err}, Vec.vec_capacity}
-pub use Rattle.tp_base.specs.{Checks.first_refusal, declared.{limits.TheConstants.MAX_STEPS, refusal.Refusal.Refusal}}
+pub use Rattle.tp_base.specs.{Checks.first_refusal, declared.refusal.Refusal.Refusal}
 pub use Rattle.tp_dag.proofs.Lemmas.Changes.Keeping.Lists.{all_set, all_push, set_here, set_there, get_push, some_same, at_below, le_or}
 pub use Rattle.tp_dag.proofs.Lemmas.Changes.Keeping.Lists.{map_get, map_got, map_same, count_next, count_none, count_at, count_zero}
 pub use Rattle.tp_dag.proofs.Lemmas.Changes.Keeping.Lists.{count_few, count_sum, count_set, count_push, same_or, count_same}
@@ -23,7 +23,7 @@ pub use Rattle.tp_part.specs.Calls.{start_checks, next_checks, arrived_checks, d
 pub use Rattle.tp_part.specs.{Calls.{with_arrival, Runs, IsWaiting, IsOver, is_read, has_arrived, task_at, is_running_at}, Edges.is_of}
 pub use Rattle.tp_part.specs.{Edges.{newest, places, is_edge, has_edge, new_edge, passed_on, pass, pass_one}, Kept.{AreAlike, Ascends}}
 pub use Rattle.tp_part.specs.Kept.{AreAwaited, SameBut, is_awaited_at, progress_of, state_of, is_passed, IsDone, Holds, AreIncoming}
-pub use Rattle.tp_part.specs.{Kept.{AreNumbers, ArePosted}, Laws.{Task, Graph, Owns, HasInput, Call, CallAt, Does, Reaches, calls_at}}
+pub use Rattle.tp_part.specs.{Kept.{AreNumbers, ArePosted}, Laws.{Task, Graph, Owns, HasInput, Call, CallAt, Does, LeadTo, calls_at}}
 pub use Rattle.tp_part.specs.Laws.{is_run, is_end, is_send, is_arrival, Has, WasSent, Brings, IsCarried, IsRun, times, AreOnce, IsHere}
 pub use Rattle.tp_part.specs.Laws.{newest_of, IsSettled, WaitsOrStops, AllEnded, NeverSilent, is_progress, is_among, reads, owned_by, goes}
 pub use Rattle.tp_part.specs.Laws.{sum_below, messages, AllEnd, Call.{Described, Started, Ran, Sent, Waited, Stopped, Ended, Came}}

@@ -1,10 +1,10 @@
 //! The reasons why a specification names no pool, and why several may not be registered.
 ghost use Rattle.tp_shell.specs.Streams.{MayExplain};
 
-use crate::reasons::number::short_number_of;
+use crate::diagnostics::Diagnostics;
+use crate::numbers::{A_NUMBER, short_number_of};
 use itoa::Buffer;
 use tp_base::{MAX_ORDER, MAX_POOLS, MAX_SEED, MAX_SIDE};
-use tp_shell::Diagnostics;
 
 /// How a message names the specification of each place.
 const SPECS: [&str; MAX_POOLS as usize] = [
@@ -46,7 +46,7 @@ enum WordReason {
 }
 
 /// Prints why a specification names no pool, if it names none.
-pub(crate) fn explain_word<E: Diagnostics>(word: &str, err: &mut E)
+pub fn explain_spec<E: Diagnostics>(word: &str, err: &mut E)
     ensures { MayExplain E.tells err.old err.new }
 {
     if let Some(reason) = word_reason(word) {
@@ -56,7 +56,7 @@ pub(crate) fn explain_word<E: Diagnostics>(word: &str, err: &mut E)
 
 /// Prints why several specifications may not be registered, if they may not: they are too many, or the first that names
 /// no pool or repeats another.
-pub(crate) fn explain_words<E: Diagnostics>(words: &[&str], err: &mut E)
+pub fn explain_specs<E: Diagnostics>(words: &[&str], err: &mut E)
     ensures { MayExplain E.tells err.old err.new }
 {
     if words.len() > SPECS.len() {
@@ -142,16 +142,10 @@ fn write_reason<E: Diagnostics>(word: &str, reason: WordReason, err: &mut E)
             ])
         }
         WordReason::Form(form) => write_form(word, form, err),
-        WordReason::NoNumber(field) => write_no_number(word, field.name(), err),
+        WordReason::NoNumber(field) => write_no_number(word, field.texts().0, err),
         WordReason::OutOfRange(field, number) => {
-            let mut digits = Buffer::new();
-            write_range(
-                word,
-                field.name(),
-                digits.format(number),
-                field.range(),
-                err,
-            )
+            let (name, range) = field.texts();
+            write_range(word, name, Buffer::new().format(number), range, err)
         }
         WordReason::Repeated => err.tell_parts(&["reason: ", word, " repeats an earlier one\n"]),
         WordReason::Undivided(side, order) => write_undivided(word, side, order, err),
@@ -169,13 +163,7 @@ fn write_form<E: Diagnostics>(word: &str, form: &str, err: &mut E)
 fn write_no_number<E: Diagnostics>(word: &str, name: &str, err: &mut E)
     ensures { MayExplain E.tells err.old err.new }
 {
-    err.tell_parts(&[
-        "reason: ",
-        word,
-        ": ",
-        name,
-        " is not a number of at most six digits without leading zeros\n",
-    ])
+    err.tell_parts(&["reason: ", word, ": ", name, " is not ", A_NUMBER])
 }
 
 /// Prints that a number of a specification, of this name, is out of range.
@@ -211,24 +199,15 @@ fn write_undivided<E: Diagnostics>(word: &str, side: u32, order: u32, err: &mut 
 }
 
 impl Field {
-    /// The name that the help of `tp run` uses.
-    fn name(self) -> &'static str {
+    /// The name that the help of `tp run` uses, and how a message describes the range.
+    fn texts(self) -> (&'static str, &'static str) {
         match self {
-            Field::Order => "ORDER",
-            Field::Side => "SIDE",
-            Field::Rows => "ROWS",
-            Field::Columns => "COLUMNS",
-            Field::Leaves => "LEAVES",
-            Field::Seed => "SEED",
-        }
-    }
-
-    /// Returns how a message describes the range of a number.
-    fn range(self) -> &'static str {
-        match self {
-            Field::Order | Field::Side | Field::Rows | Field::Columns => "not from 1 to 64",
-            Field::Leaves => "not a power of two from 1 to 1024",
-            Field::Seed => "not from 0 to 9999",
+            Field::Order => ("ORDER", "not from 1 to 64"),
+            Field::Side => ("SIDE", "not from 1 to 64"),
+            Field::Rows => ("ROWS", "not from 1 to 64"),
+            Field::Columns => ("COLUMNS", "not from 1 to 64"),
+            Field::Leaves => ("LEAVES", "not a power of two from 1 to 1024"),
+            Field::Seed => ("SEED", "not from 0 to 9999"),
         }
     }
 
