@@ -22,8 +22,9 @@
 
 /* The tags of messages: that the graph was stopped, and the first with a value. */
 enum { STOP = 0, FIRST_VALUE = 1 };
-/* After that number of polls without a message the main thread sleeps between them, each time longer, at most 1 << NAPS microseconds. */
-enum { POLLS = 200, NAPS = 6 };
+/* After SPINS polls without a message the main thread yields its processor between them, after POLLS it sleeps, each time longer, at most
+ * 1 << NAPS microseconds. */
+enum { SPINS = 50, POLLS = 250, NAPS = 6 };
 /* The values of a body for which there is room on the stack. */
 enum { FEW_VALUES = 8 };
 /* How many hashes of the description are kept, at most; the hash of none. */
@@ -157,24 +158,25 @@ uint32_t gerfmuod_mpi_open_fortran(gerfmuod_mpi **opened, MPI_Fint communicator)
 }
 
 /* The hash of Fowler, Noll and Vo (FNV-1a), over words. */
-static void mix(gerfmuod_mpi *graph, uint64_t word) { graph->hash = (graph->hash ^ word) * 0x100000001b3u; }
+static uint64_t mixed(uint64_t hash, uint64_t word) { return (hash ^ word) * 0x100000001b3u; }
 
-/* Keeps the hash, if it is the next one. Once there is no room, every second hash is dropped, and from then on not kept. */
+/* Keeps the hash. Once there is no room, every second hash is dropped, and from then on not kept. */
 static void keep_hash(gerfmuod_mpi *graph) {
-    if (graph->described & (graph->stride - 1)) return;
     if (graph->hashes_count < MOST_HASHES) graph->hashes[graph->hashes_count++] = graph->hash;
     else for (graph->hashes_count = 0, graph->stride *= 2; graph->hashes_count < MOST_HASHES / 2; graph->hashes_count++)
         graph->hashes[graph->hashes_count] = graph->hashes[2 * graph->hashes_count + 1];
 }
 
 /* Describes a task to the part. Returns its number, or none if the description was refused. */
-static uint32_t described(gerfmuod_mpi *graph, uint32_t class_, const gerfmuod_access *accesses, size_t count, int owner) {
-    mix(graph, (uint64_t)owner << 32 | (uint32_t)count << 2 | class_); /* a class above 3, and so many accesses, are refused */
-    for (size_t k = 0; k < count; k++) mix(graph, (uint64_t)accesses[k].handle << 32 | accesses[k].mode);
+static inline uint32_t described(gerfmuod_mpi *graph, uint32_t class_, const gerfmuod_access *accesses, size_t count, int owner) {
+    uint64_t hash = mixed(graph->hash, (uint64_t)owner << 32 | (uint32_t)count << 2 | class_); /* a class above 3, or so many, is refused */
+    for (size_t k = 0; k < count; k++) hash = mixed(hash, (uint64_t)accesses[k].handle << 32 | accesses[k].mode);
+    graph->hash = hash;
     gerfmuod_part_result result = gerfmuod_part_shared_task(&graph->part, class_, accesses, count, (uint32_t)owner);
-    if (result.refused) refuse(graph, result.refused);
-    else graph->described = result.number + 1, keep_hash(graph);
-    return result.refused ? GERFMUOD_GRAPH_NONE : result.number;
+    if (result.refused) return refuse(graph, result.refused), GERFMUOD_GRAPH_NONE;
+    graph->described = result.number + 1;
+    if (!(graph->described & (graph->stride - 1))) keep_hash(graph);
+    return result.number;
 }
 
 /* One more task of this process, which the part has. NULL if memory ran out. */
@@ -200,7 +202,7 @@ uint32_t gerfmuod_mpi_data(gerfmuod_mpi *graph, int owner, void *at, size_t size
     if (data) graph->data = data;
     if (!added || !data) return free(added), refuse(graph, GERFMUOD_REFUSED_NO_MEMORY), handle;
     data[graph->data_count++] = added;
-    mix(graph, (uint64_t)1 << 63 | size);
+    graph->hash = mixed(graph->hash, (uint64_t)1 << 63 | size);
     gerfmuod_part_result result = gerfmuod_part_call(&graph->part, GERFMUOD_PART_HANDLE, 0);
     if (result.refused) return refuse(graph, result.refused), handle;
     gerfmuod_access writes = GERFMUOD_WRITES(handle);
@@ -262,6 +264,12 @@ static copy *comes(gerfmuod_mpi *graph, datum *d) {
     return d->newest = added;
 }
 
+/* Where a task of this process finds the present version of a datum. */
+static void give(gerfmuod_mpi *graph, value *v, datum *d) {
+    if (d->owner == graph->me) v->at = &d->at;
+    else if (comes(graph, d)) *v = (value){&d->newest->at, d->newest}, d->newest->readers++;
+}
+
 /* The process where a task runs, or -1, with the reason in the graph. */
 static int process_of(gerfmuod_mpi *graph, const gerfmuod_access *accesses, size_t count) {
     int owner = -1;
@@ -282,12 +290,10 @@ void gerfmuod_mpi_task_on(gerfmuod_mpi *graph, uint32_t class_, gerfmuod_mpi_bod
     uint32_t number = owner < 0 ? GERFMUOD_GRAPH_NONE : described(graph, class_, accesses, count, owner);
     if (graph->refused) return;
     task *added = owner == graph->me ? own_task(graph, number, body, arguments, size, count) : NULL;
-    for (size_t k = 0; k < count && !graph->refused; k++) {
+    for (size_t k = 0; k < count; k++) {
         datum *d = graph->data[accesses[k].handle];
-        bool reads = accesses[k].mode != GERFMUOD_WRITE;
-        if (added && d->owner == graph->me) added->values[k].at = &d->at;
-        else if (added && comes(graph, d)) added->values[k] = (value){&d->newest->at, d->newest}, d->newest->readers++;
-        else if (d->owner == graph->me && reads) goes(graph, accesses[k].handle, owner, number);
+        if (added) give(graph, &added->values[k], d);
+        else if (d->owner == graph->me && accesses[k].mode != GERFMUOD_WRITE) goes(graph, accesses[k].handle, owner, number);
     }
     for (size_t k = 0; k < count; k++)
         if (accesses[k].mode != GERFMUOD_READ) {
@@ -529,18 +535,22 @@ static void forget_sent(gerfmuod_mpi *graph) {
 /* Pauses after some polls without a message. */
 static void pause_after(uint32_t *polls) {
     uint32_t naps = ++*polls > POLLS ? *polls - POLLS : 0;
+    if (*polls <= SPINS) return;
     if (naps) nanosleep(&(struct timespec){.tv_nsec = 1000L << (naps < NAPS ? naps : NAPS)}, NULL);
     else sched_yield();
 }
 
-/* Runs the task that the part returned to the main thread, if it did, has it return the next, and sends what is due: what the task wrote
- * goes before anything else is done. Returns whether there was something. */
+/* Runs a task, if one is ready and no message is due before it, and sends what is due: what the task wrote goes before anything else is
+ * done. The task that the part returns after it is kept in `next` until then. Returns whether there was something. */
 static bool advance(gerfmuod_mpi *graph, gerfmuod_part_result *next, bool *has_ended, int64_t *failure) {
     pthread_mutex_lock(&graph->lock);
-    if (next->next == GERFMUOD_PART_RUN && !graph->is_stopped) run_task(graph, next->number);
-    bool goes_on = !graph->is_over && !graph->is_stopped;
-    next->next = GERFMUOD_PART_NOTHING;
-    if (goes_on) *next = next_of(graph);
+    if (next->next != GERFMUOD_PART_RUN && !graph->is_over && !graph->is_stopped) *next = next_of(graph);
+    bool runs = next->next == GERFMUOD_PART_RUN && !graph->is_stopped && !graph->due.count;
+    if (runs) {
+        run_task(graph, next->number);
+        *next = (gerfmuod_part_result){0};
+        if (!graph->is_over && !graph->is_stopped) *next = next_of(graph);
+    }
     *has_ended = graph->is_over || graph->is_stopped; /* nothing is due any more once the part is over and this was sent */
     *failure = graph->is_stopped ? graph->failure : NO_FAILURE;
     letters due = graph->due;
@@ -550,23 +560,23 @@ static bool advance(gerfmuod_mpi *graph, gerfmuod_part_result *next, bool *has_e
     pthread_mutex_unlock(&graph->lock);
     for (uint32_t k = 0; k < due.count; k++) send_letter(graph, due.at[k]);
     if (tells) tell(graph);
-    return due.count || tells || next->next == GERFMUOD_PART_RUN;
+    return runs || due.count || tells || next->next == GERFMUOD_PART_RUN;
 }
 
 /* Runs tasks, sends and receives until this process is over or stopped, and then until all are. Leaves in `failure` what all agree on.
  * It does not wait for its sends: after a stop, their receivers may take them only in `drain`. */
-static void communicate(gerfmuod_mpi *graph, int64_t *failure) {
+static void communicate(gerfmuod_mpi *graph, bool is_alone, int64_t *failure) {
     MPI_Request agreed = MPI_REQUEST_NULL;
     gerfmuod_part_result next = {0};
-    bool has_ended = false;
+    bool has_ended = false, is_more = true;
     int agree = 0;
     int64_t mine = NO_FAILURE;
     for (uint32_t polls = 0; !agree;) {
-        bool is_more = false;
-        if (!has_ended) {
+        if (has_ended) MPI_Test(&agreed, &agree, MPI_STATUS_IGNORE), is_more = false;
+        else if (is_more || !is_alone) { /* without other threads there is news only after a message */
             is_more = advance(graph, &next, &has_ended, &mine);
             if (has_ended) MPI_Iallreduce(&mine, failure, 1, MPI_INT64_T, MPI_MIN, graph->communicator, &agreed);
-        } else MPI_Test(&agreed, &agree, MPI_STATUS_IGNORE);
+        }
         forget_sent(graph);
         while (receive(graph)) is_more = true;
         if (is_more) polls = 0;
@@ -652,7 +662,7 @@ uint32_t gerfmuod_mpi_run(gerfmuod_mpi *graph, uint32_t threads) {
     graph->is_stopped = refused != 0;
     pthread_mutex_unlock(&graph->lock);
     int64_t failure = NO_FAILURE;
-    if (!refused) communicate(graph, &failure);
+    if (!refused) communicate(graph, !others, &failure);
     for (uint32_t k = 0; k < begun; k++) pthread_join(started[k], NULL);
     free(started);
     if (failure != NO_FAILURE) drain(graph), graph->failure = failure, refused = GERFMUOD_REFUSED_STOPPED;
@@ -751,7 +761,7 @@ uint32_t gerfmuod_mpi_detector_test(gerfmuod_mpi_detector *detector, int *has_me
 }
 
 uint32_t gerfmuod_mpi_detector_wait(gerfmuod_mpi_detector *detector, int *has_message, MPI_Status *status) {
-    uint32_t polls = 0, refused;
+    uint32_t polls = SPINS, refused;
     for (bool has_ended = false;; pause_after(&polls))
         if ((refused = look(detector, has_message, status, &has_ended)) || *has_message || has_ended) return refused;
 }
