@@ -90,7 +90,7 @@ def check(tally, mpi, folder, options):
             jobs, times = ((20, 1) if patterns else (5, 20)) if options.full else (1, 1)
             if count >= int(least) and name in (options.only or [name]):
                 runs += [(job, path, mode, count, times) for job in range(jobs)]
-        with ThreadPoolExecutor(max(1, min(16, 24 * repository.processors() // count))) as pool:
+        with ThreadPoolExecutor(max(6, 8 * repository.processors() // count)) as pool:
             list(pool.map(lambda run: judge(tally, mpi, folder, *run[1:]), sorted(runs)))
 
 
