@@ -60,9 +60,9 @@ def run_programs(tally, folder, size):
     mpi_graphs.run_programs(tally, folder, size)
 
 
-def run_quick(tally, folder):
+def run_quick(tally, folder, size=QUICK):
     if all(tally.has(name, "the programs of capi/mpi") for name in COMMANDS):
-        run_programs(tally, folder, QUICK)
+        run_programs(tally, folder, size)
 
 
 def arguments(parser):
@@ -74,7 +74,4 @@ def run(options):
     reason = library.reason_not_built() or (missing and f"{missing}: not installed")
     if reason and not (options.quick and missing):
         sys.exit(f"{reason}: make lib builds the library, tools/mpi-packages prints the packages")
-    if options.quick:
-        run_quick(options.tally, options.temporary)
-    else:
-        run_programs(options.tally, options.temporary, FULL)
+    run_quick(options.tally, options.temporary, QUICK if options.quick else FULL)
