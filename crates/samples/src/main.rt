@@ -54,20 +54,18 @@ fn main(rt: HostRuntime) -> ExitCode {
         Err(error) => return ExitCode::from(status_of(&Err(Fault::Memory(error)), &mut err)),
     };
     let version = ["samples", "--version"];
-    let words = if asks_version(&words) {
-        version.as_slice()
-    } else {
-        words.as_slice()
-    };
     let mut screen = screen_of(&rt.stdin(), rt.stderr(), explains);
-    let status = if let Some((help, rest)) = draw_words(words) {
+    let status = if asks_version(&words) {
+        let outcome = answer(&rt, alloc, &version, &mut input, &mut out, screen);
+        told(outcome, &version, &mut err, explains)
+    } else if let Some((help, rest)) = draw_words(&words) {
         if let Some(screen) = &mut screen {
             tell_what_is_read(screen, help, rest);
         }
         draw(alloc, help, rest, &mut input, &mut out, &mut err, explains)
     } else {
-        let outcome = answer(&rt, alloc, words, &mut input, &mut out, screen);
-        told(outcome, words, &mut err, explains)
+        let outcome = answer(&rt, alloc, &words, &mut input, &mut out, screen);
+        told(outcome, &words, &mut err, explains)
     };
     if explains {
         explain_failure("samples", "standard input", &unread, &mut err);

@@ -71,8 +71,8 @@ pub(crate) fn answer<
 }
 
 /// Returns the fault of a profile that was not opened or written to this file.
-fn profile_result(alloc: Global, file: Option<&str>, result: io::Result<()>) -> Result<(), Fault> {
-    match (file, result) {
+fn profile_result(alloc: Global, file: Option<&str>, written: io::Result<()>) -> Result<(), Fault> {
+    match (file, written) {
         (Some(path), Err(error)) => { Err(Fault::NoProfile(format!(in alloc; "{path}: {error}")?)) }
         _ => Ok(()),
     }

@@ -36,23 +36,22 @@ fn main(rt: HostRuntime) -> ExitCode {
         Ok(words) => words,
         Err(_) => return complain(ErrorKind::OutOfMemory, &mut err),
     };
-    let version = ["tp", "--version"];
-    let words = if asks_version(&words) {
-        version.as_slice()
+    let (explains, version) = (!is_quiet(&rt), ["tp", "--version"]);
+    let status = if asks_version(&words) {
+        main_with(&rt, alloc, &version, &mut reader, &mut out, &mut err)
+    } else if explains {
+        let mut screen = Screen::of(&rt.stdin(), rt.stderr());
+        if let Some(screen) = &mut screen {
+            tell_what_is_read(screen, &words);
+        }
+        main_at_terminal(&rt, alloc, &words, &mut reader, &mut out, &mut err, screen)
     } else {
-        words.as_slice()
+        main_with(&rt, alloc, &words, &mut reader, &mut out, &mut err)
     };
-    if is_quiet(&rt) {
-        let status = main_with(&rt, alloc, words, &mut reader, &mut out, &mut err);
-        return ExitCode::from(status);
+    if explains {
+        explain_failure("tp", "standard input", &unread, &mut err);
+        explain_failure("tp", "standard output", &unwritten, &mut err);
     }
-    let mut screen = Screen::of(&rt.stdin(), rt.stderr());
-    if let Some(screen) = &mut screen {
-        tell_what_is_read(screen, words);
-    }
-    let status = main_at_terminal(&rt, alloc, words, &mut reader, &mut out, &mut err, screen);
-    explain_failure("tp", "standard input", &unread, &mut err);
-    explain_failure("tp", "standard output", &unwritten, &mut err);
     ExitCode::from(status)
 }
 
