@@ -1,6 +1,6 @@
 //! The calls on a core, as C gets their results.
 ghost use Rattle.std.specs.Prelude.{◌≡◌, ◌≢◌, ◌&&◌, IsTrue, None, OnSome, option_map};
-ghost use Rattle.gerfmuod.specs.Calls.{number_of, no_numbers, world_of, InEach, is_maker, plain, IsNeverEarly, is_quiet, counters};
+ghost use Rattle.gerfmuod.specs.Calls.{number_of, world_of, InEach, is_maker, plain, IsNeverEarly, is_quiet, counters};
 ghost use Rattle.gerfmuod.specs.Calls.{IsSettled, IsStep, IsByCall, IsCountersCall, IsSettleCall, IsStepCall};
 ghost use Rattle.gerfmuod.specs.Calls.{IsStatusCall, IsLeftCall, left_as, left_task, refused_step, IsReserveCall, made_step, maker_asked, IsMade, has_plain_reply};
 ghost use Rattle.gerfmuod.specs.Calls.{is_ending_if, refusal_told, reply_told, IsTold, raw_step, TellsNoEarlyEnd, opening, refusal_of};
@@ -10,7 +10,7 @@ use crate::pool::BoundedCore;
 use crate::raw_step::{RawStep, insert_step, other_step, step_of};
 use crate::slot::{CoreSlot, can_be};
 use tp_base::{ActionId, MessageId, NodeId, Refusal, Step, TaskId};
-use tp_core::{Life, Maker, Reply};
+use tp_core::{Life, Maker, NodeNumbers, Reply};
 
 /// Returns 0, or the number of `BadSpec` if a pool cannot have this number of nodes.
 pub(crate) fn opening(nodes: u32) -> u32
@@ -336,28 +336,22 @@ pub(crate) fn counted(slot: &mut CoreSlot, node: u32) -> Counters
     ensures { IsCountersCall node slot.old result slot.new }
 {
     if !slot.is_open() {
-        return uncounted(slot.refusal());
+        return counters(slot.refusal(), NodeNumbers::NONE);
     }
     if node >= slot.room.nodes() {
-        return uncounted(u16::from(Refusal::NoNode.number()));
+        return counters(u16::from(Refusal::NoNode.number()), NodeNumbers::NONE);
     }
-    let own = slot.room.core().numbers().nodes[node as usize];
-    Counters {
-        refused: 0,
-        pending: own.pending,
-        sent: own.sent,
-        received: own.received,
-    }
+    counters(0, slot.room.core().numbers().nodes[node as usize])
 }
 
-fn uncounted(refused: u16) -> Counters
-    ensures { result ≡ counters refused no_numbers }
+fn counters(refused: u16, own: NodeNumbers) -> Counters
+    ensures { result ≡ counters refused own }
 {
     Counters {
         refused: u32::from(refused),
-        pending: 0,
-        sent: 0,
-        received: 0,
+        pending: own.pending,
+        sent: own.sent,
+        received: own.received,
     }
 }
 
@@ -427,13 +421,9 @@ fn settled_room(room: &mut BoundedCore) -> Settled
     ensures has_room { result.refused ≢ 16 }
 {
     match room.settle() {
-        Ok((wave, steps)) => Settled {
-            refused: 0,
-            wave,
-            steps,
-        },
-        Err(Refusal::HistoryFull(steps)) => unsettled(16, steps),
-        Err(refusal) => unsettled(u16::from(refusal.number()), 0),
+        Ok((wave, steps)) => settled_as(0, wave, steps),
+        Err(Refusal::HistoryFull(steps)) => settled_as(16, 0, steps),
+        Err(refusal) => settled_as(u16::from(refusal.number()), 0, 0),
     }
 }
 
@@ -442,19 +432,19 @@ pub(crate) fn settled(slot: &mut CoreSlot) -> Settled
     ensures { IsSettleCall slot.old result slot.new }
 {
     if !slot.enter() {
-        return unsettled(slot.refusal(), 0);
+        return settled_as(slot.refusal(), 0, 0);
     }
     let answer = settled_room(&mut slot.room);
     slot.leave();
     answer
 }
 
-fn unsettled(refused: u16, steps: u32) -> Settled
-    ensures { result ≡ record { refused = refused; wave = 0; steps = steps } }
+fn settled_as(refused: u16, wave: u32, steps: u32) -> Settled
+    ensures { result ≡ record { refused = refused; wave = wave; steps = steps } }
 {
     Settled {
         refused: u32::from(refused),
-        wave: 0,
+        wave,
         steps,
     }
 }
