@@ -60,6 +60,7 @@ def _declare(library: ctypes.CDLL) -> ctypes.CDLL:
         "gerfmuod_team_open": (u32, [opened]),
         "gerfmuod_team_open_traced": (u32, [opened]),
         "gerfmuod_team_close": (None, [team]),
+        "gerfmuod_team_task": (u32, [team, u32, numbers, size, numbers]),
         "gerfmuod_team_spawn": (u32, [team, u32, numbers, size, u32, team, team, numbers]),
         "gerfmuod_team_task_on": (u32, [team, u32, ctypes.POINTER(Access), size, u32, team, team, numbers]),
         "gerfmuod_team_handle": (u32, [team, numbers]),

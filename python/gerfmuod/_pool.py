@@ -28,7 +28,9 @@ class Task(Generic[Result]):
     def __init__(self, owner: object, number: int) -> None:
         self.number = number
         self._owner = owner  # of one pool; a reference to the pool itself would be a cycle
-        self._end(None, None, False)
+        self._result: Any = None
+        self._error: Optional[BaseException] = None
+        self._is_done = False
 
     def _end(self, result: Any, error: Optional[BaseException], is_done: bool = True) -> None:
         self._result, self._error, self._is_done = result, error, is_done
@@ -91,13 +93,8 @@ def update(data: Any) -> Any:
     return Accessed(data, UPDATE)
 
 
-class _Job(NamedTuple):
-    """A task, its function and the arguments."""
-
-    task: "Task[Any]"
-    function: Callable[..., Any]
-    arguments: Tuple[Any, ...]
-    keywords: Dict[str, Any]
+#: A task, its function and the arguments.
+_Job = Tuple[Task[Any], Callable[..., Any], Tuple[Any, ...], Dict[str, Any]]
 
 
 class _Exit:
@@ -199,18 +196,18 @@ class _Run:
 
     def work(self) -> None:
         """Runs tasks until the run is over or stops."""
-        done = NONE
+        done, turn, team = NONE, library.gerfmuod_team_turn, self.team
         try:
             while True:
-                answer = library.gerfmuod_team_turn(self.team, done)
-                if answer.refused or answer.next != RUN:
+                answer = turn(team, done)
+                if answer.next != RUN:  # or it is refused
                     return
                 done = answer.number
                 self._call(done)  # if it fails, the next turn is refused
         except BaseException as error:  # not of a task's function
             self.fail(error)
         finally:
-            del self  # frames of an exception that a task keeps refer to this one
+            del self, team  # frames of an exception that a task keeps refer to this one
 
     def _call(self, number: int) -> None:
         """Calls the function of a task, which is dropped unless the pool keeps bodies."""
@@ -218,7 +215,9 @@ class _Run:
         if not self.keeps_jobs:
             self.jobs[number] = None
         try:
-            task._end(function(*map(_value, arguments), **{name: _value(it) for name, it in keywords.items()}), None)
+            if keywords:
+                keywords = {name: _value(it) for name, it in keywords.items()}
+            task._end(function(*map(_value, arguments), **keywords) if arguments or keywords else function(), None)
         except BaseException as error:
             task._end(None, error)
             self.fail(error, task)
@@ -273,6 +272,7 @@ class Pool:
         self._jobs: List[Optional[_Job]] = []
         self._keeps_bodies = keep_bodies
         self._newest = ctypes.c_uint32(NONE)  # the last task's number, which the library writes
+        self._at_newest = ctypes.byref(self._newest)
         self._failed: "Optional[Task[Any]]" = None
         self._lock: Any = threading.RLock()  # held while a task gets its number, and by calls that the library takes one at a time
         self._running = threading.Lock()  # held in a run
@@ -315,31 +315,42 @@ class Pool:
         """
         if not callable(function):
             raise TypeError(f"the function of a task is {function!r}")
-        after = tuple(after)
+        waits_for: List[int] = []
+        accesses: List[Tuple[int, int]] = []
+        for it in (*arguments, *keywords.values()) if keywords else arguments:
+            if isinstance(it, Task):
+                waits_for.append(self._number_of(it))
+            elif isinstance(it, Accessed):
+                accesses.append((self._number_of(it.data, Data), it.mode))
         for it in after:
             if not isinstance(it, Task):
                 raise TypeError(f"after has {it!r}, which is no task")
-        values = (*arguments, *keywords.values())
-        waits_for = [*(it for it in values if isinstance(it, Task)), *after]
-        accesses = [(self._number_of(it.data, Data), it.mode) for it in values if isinstance(it, Accessed)]
-        named = zip((READ, WRITE, UPDATE), (reads, writes, updates))
-        accesses += [(self._number_of(it, Handle), mode) for mode, handles in named for it in handles]
+            waits_for.append(self._number_of(it))
+        if reads or writes or updates:
+            named = zip((READ, WRITE, UPDATE), (reads, writes, updates))
+            accesses += [(self._number_of(it, Handle), mode) for mode, handles in named for it in handles]
         if accesses and waits_for:
             raise ValueError("a task names either tasks that it waits for or data")
-        call, inputs = (
-            (library.gerfmuod_team_task_on, (Access * len(accesses))(*accesses)) if accesses
-            else (library.gerfmuod_team_spawn, (ctypes.c_uint32 * len(waits_for))(*map(self._number_of, waits_for)))
-        )
-        wanted = _number("priority", priority), inputs, len(inputs), _number("releases", releases)
+        inputs: Any = accesses or waits_for
+        kind: Any = Access if accesses else ctypes.c_uint32
+        array = (kind * len(inputs))(*inputs) if inputs else None
+        call = library.gerfmuod_team_task
+        wanted: List[Any] = [_number("priority", priority), array, len(inputs)]
+        outside = _number("releases", releases)
+        if accesses or outside:  # a call with more arguments, which takes longer
+            call = library.gerfmuod_team_task_on if accesses else library.gerfmuod_team_spawn
+            wanted += outside, None, None
         team = self._open_team()
         with self._free_lock():
-            task: "Task[Result]" = Task(self._identity, len(self))
-            del self._jobs[task.number:]  # that of a call that was interrupted
-            self._jobs.append(_Job(task, function, arguments, keywords))  # before any thread can run it
-            refused = call(team, *wanted, None, None, ctypes.byref(self._newest))
+            number = (self._newest.value + 1) & NONE  # len(self)
+            task: "Task[Result]" = Task(self._identity, number)
+            del self._jobs[number:]  # that of a call that was interrupted
+            self._jobs.append((task, function, arguments, keywords))  # before any thread can run it
+            refused = call(team, *wanted, self._at_newest)
             if refused:
                 self._jobs.pop()
-        _check(team, refused)
+        if refused:
+            _check(team, refused)
         return task
 
     def handle(self) -> Handle:
@@ -503,7 +514,7 @@ class Pool:
                 raise RuntimeError("a pool runs again only if it was opened with keep_bodies=True")
             _check(team, call(team))
             for job in filter(None, self._jobs):
-                job.task._end(None, None, False)
+                job[0]._end(None, None, False)
 
     def trace(self) -> str:
         """Returns the events of the run as a trace, which ``tp audit`` judges; empty without ``traced``."""

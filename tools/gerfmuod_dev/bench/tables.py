@@ -308,7 +308,7 @@ NANOSECONDS = functools.partial(time_text, "{:,.0f}", lambda row: 1e6 / row.unit
 GRAPHS = {
     "Speed-up over the bodies one after the other, whose length is in microseconds": (r"\w+, bodies of", speed_up),
     "Nanoseconds a task, with its description": (r"\w+, empty", NANOSECONDS),
-    "Nanoseconds a task, and their ratio to those of the smallest graph of the shape": (r"\w+, [\d,]+ empty", growth),
+    "Nanoseconds a task, and their ratio to those of the smallest graph of the shape": (r"\w+, [\d,]+ empty bodies", growth),
     "Microseconds a run of 20 tasks": ("wave of", functools.partial(time_text, "{:.2f}", lambda row: 1e3 / row.units)),
     "Milliseconds of Python": ("Python", MILLISECONDS),
     "Milliseconds": ("", MILLISECONDS),
