@@ -113,6 +113,9 @@ opened n = opened_as true n
 abbrev pub opening : ℕ → ℕ
 opening n = if can_be n then 0 else number_of BadSpec
 
+abbrev pub closed : CoreState
+closed = record { use_is = Closed; core = new_core_of true 1 }
+
 -- the refusal of a call on a core that is not open, or on which another call runs
 abbrev pub refusal_of : Use → ℕ
 refusal_of Busy = 28
@@ -295,6 +298,10 @@ IsMade old None s answer new = (answer ≡ refusal_told BadSpec) × (new ≡ old
 abbrev pub counters : ℕ → NodeNumbers → Counters
 counters refused n = record { refused = refused; pending = n.pending; sent = n.sent; received = n.received }
 
+-- the counters of node i, or that there is no such node
+abbrev pub counters_at : ℕ → Accepted → Counters
+counters_at i a = if nat_lt i a.nodes then counters 0 (numbers_at i a) else counters (number_of NoNode) no_numbers
+
 abbrev pub left_as : (refused state number node missing : ℕ) → LeftTask
 left_as refused state number node missing =
     record { refused = refused; state = state; number = number; node = node; missing = missing }
@@ -381,8 +388,7 @@ IsStepsCall events room =
     IsCall (refused_batch events room) (λ a u b. IsBatch (take (length room) events) room a u.0 u.1 b)
 
 abbrev pub IsCountersCall : ℕ → CoreState → Counters → CoreState → Type 0
-IsCountersCall i = IsCall (λ k. counters k no_numbers)
-    (λ a u b. (u ≡ (if nat_lt i a.nodes then counters 0 (numbers_at i a) else counters (number_of NoNode) no_numbers)) × (b ≡ a))
+IsCountersCall i = IsCall (λ k. counters k no_numbers) (λ a u b. (u ≡ counters_at i a) × (b ≡ a))
 
 abbrev pub IsLeftCall : (from end : ℕ) → CoreState → LeftTask → CoreState → Type 0
 IsLeftCall from end = IsCall (λ k. left_as k 0 0 0 0) (λ a u b. IsLeft from end a u × (b ≡ a))
@@ -405,7 +411,7 @@ IsTraceCall room = IsCall (λ k. (record { outcome = 5; length = 0 }, room)) (λ
 pub record IsClosed (old : CoreState) (refused : ℕ) (new : CoreState) : Type 0 where
   pub if_closed : old.use_is ≡ Closed → (refused ≡ number_of NoPool) × (new ≡ old)
   pub if_busy : old.use_is ≡ Busy → (refused ≡ 28) × (new ≡ old)
-  pub if_open : old.use_is ≡ Open → (refused ≡ 0) × (new ≡ record { use_is = Closed; core = new_core_of true 1 })
+  pub if_open : old.use_is ≡ Open → (refused ≡ 0) × (new ≡ closed)
 
 -- If termination was detected, the core is a new one of the same nodes, with a list of its steps if it had one; else the call is
 -- refused and nothing changes.

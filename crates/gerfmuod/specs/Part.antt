@@ -48,8 +48,17 @@ outcome_answer (Ok x) = plain 0 0 0
 outcome_answer (Err r) = refusal_answer (Pool r)
 
 -- It changes as described, and the result has no number.
-abbrev pub IsPlain : List Check → (PartState → PartState → Type 0) → PartState → GraphResult → PartState → Type 0
-IsPlain checks Changes old answer new = IsJudged (refusal_of checks) false ((answer ≡ plain 0 0 0) × Changes old new) old answer new
+abbrev pub IsPlain : List Check → (Changed : Type 0) → PartState → GraphResult → PartState → Type 0
+IsPlain checks Changed old answer new = IsJudged (refusal_of checks) false ((answer ≡ plain 0 0 0) × Changed) old answer new
+
+abbrev pub IsStarted : PartState → GraphResult → PartState → Type 0
+IsStarted old answer new = IsPlain (start_checks old) (new ≡ record old { started = true }) old answer new
+
+abbrev pub IsDone : ℕ → PartState → GraphResult → PartState → Type 0
+IsDone task old answer new = IsPlain (done_checks old task) (Ends task old new) old answer new
+
+abbrev pub IsArrived : ℕ → PartState → GraphResult → PartState → Type 0
+IsArrived task old answer new = IsPlain (arrived_checks old task) (new ≡ with_arrival task old) old answer new
 
 -- What the part is to do next; the part changes so.
 abbrev pub next_answer : Next → GraphResult
@@ -67,6 +76,12 @@ Goes Over old new = IsOver old × (new ≡ old)
 abbrev pub IsNext : PartState → GraphResult → PartState → Type 0
 IsNext old answer new =
     IsJudged (refusal_of (next_checks old)) false ((next : Next) × (answer ≡ next_answer next) × Goes next old new) old answer new
+
+-- A task with these inputs is described; `number` is its number.
+abbrev pub IsTaskOf : ℕ → List ℕ → ℕ → PartState → GraphResult → PartState → Type 0
+IsTaskOf class inputs owner old answer new =
+    IsJudged (refusal_of (task_checks old owner class inputs)) true
+    ((answer ≡ plain 0 old.described 0) × (new ≡ with_task owner class inputs old)) old answer new
 
 -- ---- handles
 -- One more handle is there; `number` is its number.
@@ -93,6 +108,11 @@ pub record AddsShared (class : ℕ) (accesses : List Access) (owner : ℕ)
   pub judged : IsJudged (refusal_of (task_checks old.part owner class inputs)) true
       (AddsWith class accesses owner inputs old answer new) old answer new
 
+abbrev pub IsSharedTask : ℕ → List RawAccess → ℕ → PartView → GraphResult → PartView → Type 0
+IsSharedTask class accesses owner old answer new =
+    IsJudged (first (access_checks old.flow accesses)) true (AddsShared class (map access_of accesses) owner old answer new)
+    old answer new
+
 -- ---- the exported calls on a part, which may be open or not
 -- The part changes so; its handles are as before.
 pub record OfPart (Call : PartState → GraphResult → PartState → Type 0) (old : PartView) (answer : GraphResult) (new : PartView) : Type 0 where
@@ -111,29 +131,25 @@ abbrev pub IsOpenCall : Option PartCall → ℕ → PartView → GraphResult →
 IsOpenCall None task old answer new = IsRefused (Pool BadSpec) old answer new
 IsOpenCall (Some call.Close) task old answer new = (answer ≡ plain 0 0 0) × (new ≡ closed_part)
 IsOpenCall (Some call.AddHandle) task old answer new = OfFlow IsFlowHandle old answer new
-IsOpenCall (Some call.Start) task old answer new =
-    OfPart (IsPlain (start_checks old.part) (λ a b. b ≡ record a { started = true })) old answer new
+IsOpenCall (Some call.Start) task old answer new = OfPart IsStarted old answer new
 IsOpenCall (Some call.Next) task old answer new = OfPart IsNext old answer new
-IsOpenCall (Some call.Done) task old answer new = OfPart (IsPlain (done_checks old.part task) (Ends task)) old answer new
-IsOpenCall (Some call.Arrived) task old answer new =
-    OfPart (IsPlain (arrived_checks old.part task) (λ a b. b ≡ with_arrival task a)) old answer new
+IsOpenCall (Some call.Done) task old answer new = OfPart (IsDone task) old answer new
+IsOpenCall (Some call.Arrived) task old answer new = OfPart (IsArrived task) old answer new
 
 -- `gerfmuod_part_call`
 abbrev pub IsPartCall : PartView → ℕ → ℕ → GraphResult → PartView → Type 0
 IsPartCall old number task answer new =
     IfOpen old.is_open (IsOpenCall (part_call_of number) task old answer new) old answer new
 
--- `gerfmuod_part_task`: a task with these inputs is described; `number` is its number
+-- `gerfmuod_part_task`
 abbrev pub IsTaskOfCall : PartView → ℕ → List ℕ → ℕ → GraphResult → PartView → Type 0
 IsTaskOfCall old class inputs owner answer new =
-    IfOpen old.is_open (OfPart (λ a u b. IsJudged (refusal_of (task_checks a owner class inputs)) true
-    ((u ≡ plain 0 a.described 0) × (b ≡ with_task owner class inputs a)) a u b) old answer new) old answer new
+    IfOpen old.is_open (OfPart (IsTaskOf class inputs owner) old answer new) old answer new
 
 -- `gerfmuod_part_shared_task`
 abbrev pub IsSharedTaskCall : PartView → ℕ → List RawAccess → ℕ → GraphResult → PartView → Type 0
 IsSharedTaskCall old class accesses owner answer new =
-    IfOpen old.is_open (IsJudged (first (access_checks old.flow accesses)) true
-    (AddsShared class (map access_of accesses) owner old answer new) old answer new) old answer new
+    IfOpen old.is_open (IsSharedTask class accesses owner old answer new) old answer new
 
 -- ---- the view of a `PartSlot` in contracts, and what holds of each
 abbrev pub state_of : Inside → PartView

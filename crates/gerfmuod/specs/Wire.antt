@@ -70,10 +70,11 @@ abbrev pub IsKept : ℕ → Process → Process → Type 0
 IsKept number old new = (number ≡ 0) ⊎ (new ≡ old)
 
 -- An event at a process: what the call returns, and the process after it.
-pub record IsEvent (refusal : ProcessState → ℕ) (after : ProcessState → ProcessState) (old : Process) (k : ℕ) (new : Process) : Type 0 where
-  pub refused : k ≡ refusal (read old)
+pub record IsEvent (refusal : ProcessState → ℕ) (after : ProcessState → ProcessState) (old : Process) (number : ℕ) (new : Process)
+    : Type 0 where
+  pub refused : number ≡ refusal (read old)
   pub state : read new ≡ after (read old)
-  pub kept : IsKept k old new
+  pub kept : IsKept number old new
 
 -- The refusal of a control message: 109 if there is no such token, which is checked after whether the process is open.
 abbrev pub taken_as : ℕ → Option ControlMessage → ProcessState → ℕ

@@ -1,6 +1,6 @@
 //! The calls on a core, as C gets their results.
 ghost use Rattle.std.specs.Prelude.{◌≡◌, ◌≢◌, ◌&&◌, IsTrue, None, OnSome, option_map};
-ghost use Rattle.gerfmuod.specs.Calls.{number_of, world_of, InEach, is_maker, plain, IsNeverEarly, is_quiet, counters};
+ghost use Rattle.gerfmuod.specs.Calls.{number_of, no_numbers, world_of, InEach, is_maker, plain, IsNeverEarly, is_quiet, counters};
 ghost use Rattle.gerfmuod.specs.Calls.{IsSettled, IsStep, IsByCall, IsCountersCall, IsSettleCall, IsStepCall};
 ghost use Rattle.gerfmuod.specs.Calls.{IsStatusCall, IsLeftCall, left_as, left_task, refused_step, IsReserveCall, made_step, maker_asked, IsMade, has_plain_reply};
 ghost use Rattle.gerfmuod.specs.Calls.{is_ending_if, refusal_told, reply_told, IsTold, raw_step, TellsNoEarlyEnd, opening, refusal_of};
@@ -10,7 +10,7 @@ use crate::pool::BoundedCore;
 use crate::raw_step::{RawStep, insert_step, other_step, step_of};
 use crate::slot::{CoreSlot, can_be};
 use tp_base::{ActionId, MessageId, NodeId, Refusal, Step, TaskId};
-use tp_core::{Life, Maker, NodeNumbers, Reply};
+use tp_core::{Life, Maker, Reply};
 
 /// Returns 0, or the number of `BadSpec` if a pool cannot have this number of nodes.
 pub(crate) fn opening(nodes: u32) -> u32
@@ -336,22 +336,28 @@ pub(crate) fn counted(slot: &mut CoreSlot, node: u32) -> Counters
     ensures { IsCountersCall node slot.old result slot.new }
 {
     if !slot.is_open() {
-        return counters(slot.refusal(), NodeNumbers::NONE);
+        return uncounted(slot.refusal());
     }
     if node >= slot.room.nodes() {
-        return counters(u16::from(Refusal::NoNode.number()), NodeNumbers::NONE);
+        return uncounted(u16::from(Refusal::NoNode.number()));
     }
-    counters(0, slot.room.core().numbers().nodes[node as usize])
-}
-
-fn counters(refused: u16, own: NodeNumbers) -> Counters
-    ensures { result ≡ counters refused own }
-{
+    let own = slot.room.core().numbers().nodes[node as usize];
     Counters {
-        refused: u32::from(refused),
+        refused: 0,
         pending: own.pending,
         sent: own.sent,
         received: own.received,
+    }
+}
+
+fn uncounted(refused: u16) -> Counters
+    ensures { result ≡ counters refused no_numbers }
+{
+    Counters {
+        refused: u32::from(refused),
+        pending: 0,
+        sent: 0,
+        received: 0,
     }
 }
 
@@ -421,9 +427,13 @@ fn settled_room(room: &mut BoundedCore) -> Settled
     ensures has_room { result.refused ≢ 16 }
 {
     match room.settle() {
-        Ok((wave, steps)) => settled_as(0, wave, steps),
-        Err(Refusal::HistoryFull(steps)) => settled_as(16, 0, steps),
-        Err(refusal) => settled_as(u16::from(refusal.number()), 0, 0),
+        Ok((wave, steps)) => Settled {
+            refused: 0,
+            wave,
+            steps,
+        },
+        Err(Refusal::HistoryFull(steps)) => unsettled(16, steps),
+        Err(refusal) => unsettled(u16::from(refusal.number()), 0),
     }
 }
 
@@ -432,19 +442,19 @@ pub(crate) fn settled(slot: &mut CoreSlot) -> Settled
     ensures { IsSettleCall slot.old result slot.new }
 {
     if !slot.enter() {
-        return settled_as(slot.refusal(), 0, 0);
+        return unsettled(slot.refusal(), 0);
     }
     let answer = settled_room(&mut slot.room);
     slot.leave();
     answer
 }
 
-fn settled_as(refused: u16, wave: u32, steps: u32) -> Settled
-    ensures { result ≡ record { refused = refused; wave = wave; steps = steps } }
+fn unsettled(refused: u16, steps: u32) -> Settled
+    ensures { result ≡ record { refused = refused; wave = 0; steps = steps } }
 {
     Settled {
         refused: u32::from(refused),
-        wave,
+        wave: 0,
         steps,
     }
 }

@@ -54,6 +54,20 @@ fn outcome_of(verdict: Verdict) -> u32
     }
 }
 
+fn audited(alloc: Global, text: &[u8], buffer: &mut [u8]) -> Written
+    ensures { IsAudited text.now buffer.old result buffer.new }
+{
+    if text.len() > MAX_TEXT {
+        return unwritten(TOO_LONG);
+    }
+    let mut reader = text;
+    let mut written = Vec::new(alloc);
+    match audit(alloc, &mut reader, &mut written) {
+        Ok(verdict) => put(buffer, &written, outcome_of(verdict)),
+        Err(_) => unwritten(NO_MEMORY),
+    }
+}
+
 /// Judges a trace as `tp audit` does, and writes the verdict to the start of `buffer`.
 #[unsafe(no_mangle)]
 #[tactic(auto, using(crate::proofs::Steps::ended_over, crate::proofs::Steps::not_ended_claims, crate::proofs::Steps::reopened_over))]
@@ -68,15 +82,7 @@ pub extern "C" fn gerfmuod_audit(alloc: Global, text: &[u8], buffer: &mut [u8]) 
     // run once.
     ensures reopened { ReopenedIsOver }
 {
-    if text.len() > MAX_TEXT {
-        return unwritten(TOO_LONG);
-    }
-    let mut reader = text;
-    let mut written = Vec::new(alloc);
-    match audit(alloc, &mut reader, &mut written) {
-        Ok(verdict) => put(buffer, &written, outcome_of(verdict)),
-        Err(_) => unwritten(NO_MEMORY),
-    }
+    audited(alloc, text, buffer)
 }
 
 /// Writes the trace of the steps that a core has taken to the start of `buffer`; there is none if the core is not open, another
@@ -84,7 +90,10 @@ pub extern "C" fn gerfmuod_audit(alloc: Global, text: &[u8], buffer: &mut [u8]) 
 pub(crate) fn traced(slot: &mut CoreSlot, alloc: Global, buffer: &mut [u8]) -> Written
     ensures { IsTraceCall buffer.old slot.old (result, buffer.new) slot.new }
 {
-    if !slot.is_open() || !slot.room.is_recorded() {
+    if !slot.is_open() {
+        return unwritten(NO_TEXT);
+    }
+    if !slot.room.is_recorded() {
         return unwritten(NO_TEXT);
     }
     match print_steps(alloc, slot.room.steps(), slot.room.nodes()) {

@@ -193,6 +193,9 @@ IsGraphJudged None graph old answer new =
     ⊎ ((r : Refusal) × (task : ℕ) × IsFirstFault graph old.pool r task × Shows (refused_with (Pool r) task 0) old answer new)
     ⊎ ((task : ℕ) × Shows (refused_with (Pool NoMemory) task 0) old answer new)
 
+abbrev pub IsDescribe : Graph → State → GraphResult → State → Type 0
+IsDescribe graph old answer new = IsGraphJudged (first (describe_checks graph old)) graph old answer new
+
 -- ---- the view of a `GraphSlot` in contracts, and what holds of each
 abbrev pub state_of : Inside → GraphState
 state_of p = record { is_open = p.mark == MARK; team = p.team; flow = p.flow.state }
@@ -253,6 +256,11 @@ pub record SpawnsTask (class : ℕ) (accesses : List Access) (outside : ℕ)
   pub judged : IsJudged (first (spawn_checks old.team (of_pool (pool.spawn_checks old.team.pool class inputs outside)))) true
       (AddsTask class accesses outside inputs old answer new) old answer new
 
+abbrev pub IsTask : ℕ → List RawAccess → ℕ → GraphState → GraphResult → GraphState → Type 0
+IsTask class accesses outside old answer new =
+    IsJudged (first (access_checks old.flow accesses)) true (SpawnsTask class (map access_of accesses) outside old answer new)
+    old answer new
+
 -- ---- the exported calls on a task graph, which may be open or not
 -- The team of the graph changes so, and the graph stays open. Its handles are as before.
 pub record OfOpen (Call : State → GraphResult → State → Type 0) (old : GraphState) (answer : GraphResult) (new : GraphState) : Type 0 where
@@ -284,11 +292,8 @@ IsSpawnCall old class inputs outside answer new =
 
 -- `gerfmuod_graph_describe`
 abbrev pub IsDescribeCall : GraphState → Graph → GraphResult → GraphState → Type 0
-IsDescribeCall old graph answer new =
-    IfOpen old.is_open (OfOpen (IsGraphJudged (first (describe_checks graph old.team)) graph) old answer new) old answer new
+IsDescribeCall old graph answer new = IfOpen old.is_open (OfOpen (IsDescribe graph) old answer new) old answer new
 
 -- `gerfmuod_graph_task`
 abbrev pub IsTaskCall : GraphState → ℕ → List RawAccess → ℕ → GraphResult → GraphState → Type 0
-IsTaskCall old class accesses outside answer new =
-    IfOpen old.is_open (IsJudged (first (access_checks old.flow accesses)) true
-    (SpawnsTask class (map access_of accesses) outside old answer new) old answer new) old answer new
+IsTaskCall old class accesses outside answer new = IfOpen old.is_open (IsTask class accesses outside old answer new) old answer new
