@@ -1,10 +1,12 @@
 /* detector.c: the proved detector, with notices and control messages carried by MPI; when this rank is idle. */
+#define _GNU_SOURCE /* RUSAGE_THREAD */
 #include "check.h"
 #include <gerfmuod/process.h>
 #include <sched.h>
 #include <stdio.h>
 #include <stdlib.h>
 #include <string.h>
+#include <sys/resource.h>
 #include <time.h>
 
 enum { TAG_NOTICE = 1, TAG_CONTROL = 2 };
@@ -12,6 +14,8 @@ enum { PATIENCE = 64, AGAIN = 1024, LONG = 1024, LONG_FOR_DATA = 1 << 14, SLOTS 
 enum { NAP = 20000 /* ns */, NAPS = 512 /* before they get twice as long */, MOST_DOUBLINGS = 4 };
 /* After this number of seconds without the notice of a message that was received, this library gives up. */
 static const double UNANNOUNCED_SECONDS = 30;
+/* For this long after it lost its processor while it polled, a rank takes the computer for crowded. */
+static const double CROWDED_SECONDS = 0.05;
 
 /* Both kinds of messages have at most this size. */
 union letter {
@@ -155,10 +159,29 @@ static void nap(unsigned before) {
     nanosleep(&(struct timespec){0, NAP << doublings}, NULL);
 }
 
+static long preemptions(void) {
+    struct rusage used;
+    getrusage(RUSAGE_THREAD, &used);
+    return used.ru_nivcsw;
+}
+
+/* Whether a poll may keep others from a processor. */
+static int is_crowded(const struct wait *wait) {
+    static long taken;
+    static double until;
+    static int is_found;
+    long now;
+    if (checker.is_crowded || wait->rounds % PATIENCE) return checker.is_crowded || is_found;
+    now = preemptions();
+    if (now != taken && wait->rounds > PATIENCE) until = seconds() + CROWDED_SECONDS;
+    taken = now;
+    return is_found = until > 0 && seconds() < until;
+}
+
 /* A call that waits for long naps between its turns. If its message is coming it does so later, when its sender has a processor, and
  * its naps stay short: large messages move on in these turns. */
 static void give_way(const struct wait *wait) {
-    unsigned rounds = checker.is_crowded ? PATIENCE : wait->can_end ? LONG_FOR_DATA : LONG;
+    unsigned rounds = is_crowded(wait) ? PATIENCE : wait->can_end ? LONG_FOR_DATA : LONG;
     if (wait->rounds > rounds) nap(wait->can_end ? 0 : wait->rounds - rounds);
 }
 
