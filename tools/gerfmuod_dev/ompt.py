@@ -63,7 +63,7 @@ def try_all(tally, folder, is_full):
         expect(tally, folder, command, 0, SOUND[command], threads)
     try_others(tally, folder)
     count = 2_000_000 if is_full else 400_000
-    expect(tally, folder, f"barriers {count} 1", 0, f"{count} tasks")
+    expect(tally, folder, f"barriers {count} 1", 0, f"{count} tasks, 0 dependences; 1 end judged")
     print(f"{len(BROKEN)} faults named; {len(SOUND)} sound programs with {THREADS} threads; {count:,} tasks between two barriers")
 
 
