@@ -64,7 +64,7 @@ def compiled_fortran(mpi, folder, name):
     """Compiles a program in Fortran, with the modules, whose constants have to be those of the headers."""
     constants = re.findall(r"\b(gerfmuod_\w+) = (-?\d+)", "".join(map(text_of, FORTRAN_MODULES)))
     compared = "".join(f'_Static_assert({constant.upper()} == (uint32_t){value}, "");\n' for constant, value in constants)
-    text, path = f'#include "{SOURCE}"\n#include <gerfmuod/team.h>\n{compared}', f"{folder}/{name}_in_fortran"
+    text, path = f'#include "{SOURCE}"\n#include <gerfmuod.h>\n{compared}', f"{folder}/{name}_in_fortran"
     source = running.write(f"{folder}/mpi.c", text)
     output_of([mpi.compiler, "-O2", f"-I{INCLUDE}", "-c", source, "-o", f"{path}.o"])
     output_of([mpi.fortran, "-std=f2018", "-Wall", "-Wextra", "-Werror", "-O2", "-fcheck=all", *environment_options("FFLAGS"),
