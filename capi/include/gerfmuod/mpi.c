@@ -449,7 +449,7 @@ static void send_letter(gerfmuod_mpi *graph, letter l) {
 }
 
 /* Tells the others that the run was stopped. */
-static void tell(gerfmuod_mpi *graph) {
+static void announce(gerfmuod_mpi *graph) {
     for (int p = 0; p < graph->processes; p++)
         if (p != graph->me) send(graph, &graph->stops, p, (buffer){&graph->told, 1, MPI_INT64_T}, STOP);
 }
@@ -555,12 +555,12 @@ static bool advance(gerfmuod_mpi *graph, gerfmuod_part_result *next, bool *has_e
     *failure = graph->is_stopped ? graph->failure : NO_FAILURE;
     letters due = graph->due;
     graph->due = graph->taken, graph->taken = due, graph->due.count = 0;
-    bool tells = graph->told == NO_FAILURE && graph->is_stopped && graph->failure >> 32 == graph->me;
-    if (tells) graph->told = graph->failure;
+    bool announces = graph->told == NO_FAILURE && graph->is_stopped && graph->failure >> 32 == graph->me;
+    if (announces) graph->told = graph->failure;
     pthread_mutex_unlock(&graph->lock);
     for (uint32_t k = 0; k < due.count; k++) send_letter(graph, due.at[k]);
-    if (tells) tell(graph);
-    return runs || due.count || tells || next->next == GERFMUOD_PART_RUN;
+    if (announces) announce(graph);
+    return runs || due.count || announces || next->next == GERFMUOD_PART_RUN;
 }
 
 /* Runs tasks, sends and receives until this process is over or stopped, and then until all are. Leaves in `failure` what all agree on.
