@@ -5,3 +5,5 @@ pub mod World
 pub mod Epochs
 pub mod Opening
 pub mod Network
+pub mod Tasks
+pub mod Pool

@@ -7,6 +7,8 @@ mod epoch_state;
 mod laws;
 mod outcome;
 mod process;
+mod task_counts;
+mod task_laws;
 
 pub use control_message::{ControlMessage, Token};
 pub use laws::{
@@ -16,3 +18,5 @@ pub use laws::{
 };
 pub use outcome::{Next, Refusal};
 pub use process::Process;
+pub use task_counts::TaskCounts;
+pub use task_laws::{no_task_is_lost, tasks_are_work, tasks_never_early, tasks_never_silent};
