@@ -1,9 +1,16 @@
-/* gerfmuod/mpi_pool.c: tasks over the processes of a communicator that arise while they run. When a run has ended is decided by the
- * proved calls of gerfmuod/process.h. This file has the queue, the threads and the messages. It is tested, not proved.
+/* gerfmuod/mpi_pool.c: tasks over the processes of a communicator that arise while they run. How many tasks wait, run and are due to
+ * others, when this is work, and when a run has ended is decided by the proved calls of gerfmuod/process.h. This file has the lists of
+ * tasks, the threads and the messages. It is tested, not proved.
  *
- * The main thread alone talks to MPI and to the detector. To the detector a process has one piece of work, as long as a task waits or
- * runs here or one that was made here is not sent. A message has one task; its tag is the kind of the task, from 1. That a body failed is
- * a message too, and counted like one with a task, so that nothing of a run is in flight when it has ended. */
+ * The main thread alone talks to MPI and to the detector. A list changes in the same critical section as its count, so that they say the
+ * same whenever the lock is free. A message has one task; its tag is the kind of the task, from 1.
+ *
+ * That a body failed is a message too, and counted like one with a task, so that nothing of a run is in flight when it has ended: it is
+ * due while the body that failed still runs, and where it comes it waits, and is dropped at once with all that wait. A task that comes
+ * after it is dropped in the same way.
+ *
+ * What a process does before a run is the opening of the run: it ends when the run begins, and the next one begins when the run has
+ * ended. So the tasks that are made between two runs are of the next epoch, and wait or are due until that run. */
 #define _POSIX_C_SOURCE 200809L
 #include <gerfmuod/mpi_pool.h>
 
@@ -42,13 +49,13 @@ struct gerfmuod_mpi_pool {
     item *ready;           /* the newest first */
     item *due, **last_due; /* for other processes, the oldest first */
     item *stops;           /* kept for the others, if a body fails */
-    uint32_t running, sleeping;
+    gerfmuod_tasks tasks;  /* the numbers of these, and of the tasks that run */
+    uint32_t sleeping;
     bool is_over, is_stopped, lacks_kind;
     int64_t failure; /* the process and the kind whose body failed, or NO_FAILURE */
     uint64_t ran, sent;
     /* of the main thread alone */
     gerfmuod_mpi_detector detector;
-    bool is_working, has_run;
     item *sending;
 };
 
@@ -71,6 +78,7 @@ uint32_t gerfmuod_mpi_pool_open(gerfmuod_mpi_pool **opened, MPI_Comm communicato
     pthread_condattr_destroy(&attributes);
     pool->last_due = &pool->due;
     pool->failure = NO_FAILURE;
+    gerfmuod_tasks_open(&pool->tasks);
     return gerfmuod_mpi_detector_open(&pool->detector, communicator);
 }
 
@@ -92,11 +100,23 @@ static item *new_item(int to, int tag, const void *arguments, size_t size) {
     return added;
 }
 
-/* Leaves an item to a thread here, or to the main thread, which sends it. */
+/* A call on the counts that is not refused, because the lists say the same. Any thread makes it, and the main thread alone calls MPI. */
+static void sure(uint32_t refused) {
+    if (refused) abort();
+}
+
+/* Leaves an item that is counted to a thread here, or to the main thread, which sends it. */
 static void leave(gerfmuod_mpi_pool *pool, item *i) {
     if (i->to == pool->me) i->next = pool->ready, pool->ready = i;
     else i->next = NULL, *pool->last_due = i, pool->last_due = &i->next;
     if (pool->sleeping) pthread_cond_signal(&pool->work);
+}
+
+/* Counts and leaves an item that was made here. Refused: as gerfmuod_tasks_add. */
+static uint32_t make(gerfmuod_mpi_pool *pool, item *i) {
+    uint32_t refused = i->to == pool->me ? gerfmuod_tasks_add(&pool->tasks) : gerfmuod_tasks_add_due(&pool->tasks);
+    if (!refused) leave(pool, i);
+    return refused;
 }
 
 static void drop_all(item **first) {
@@ -108,6 +128,7 @@ static void drop_all(item **first) {
 static void stop(gerfmuod_mpi_pool *pool, int64_t failure) {
     if (failure < pool->failure) pool->failure = failure;
     pool->is_stopped = true;
+    gerfmuod_tasks_drop_waiting(&pool->tasks);
     drop_all(&pool->ready);
 }
 
@@ -117,7 +138,7 @@ static void stop_all(gerfmuod_mpi_pool *pool, uint32_t number) {
     for (item *i = pool->stops, *next; i; i = next) {
         next = i->next;
         memcpy(i->arguments, &failure, sizeof failure);
-        leave(pool, i);
+        sure(make(pool, i));
     }
     pool->stops = NULL;
     stop(pool, failure);
@@ -136,10 +157,9 @@ static bool keep_stops(gerfmuod_mpi_pool *pool) {
 
 /* Runs the newest task, if there is one; returns whether there was. The lock is held, but not while the body runs. */
 static bool turn(gerfmuod_mpi_pool *pool) {
+    if (gerfmuod_tasks_begin(&pool->tasks)) return false;
     item *i = pool->ready;
-    if (!i) return false;
     pool->ready = i->next;
-    pool->running++;
     pool->ran++;
     if (pool->ready && pool->sleeping) pthread_cond_signal(&pool->work);
     pthread_mutex_unlock(&pool->lock);
@@ -148,7 +168,7 @@ static bool turn(gerfmuod_mpi_pool *pool) {
     free(i);
     pthread_mutex_lock(&pool->lock);
     if (has_failed) stop_all(pool, number);
-    pool->running--;
+    sure(gerfmuod_tasks_done(&pool->tasks));
     return true;
 }
 
@@ -157,11 +177,10 @@ uint32_t gerfmuod_mpi_pool_spawn(gerfmuod_mpi_pool *pool, int to, uint32_t numbe
     if (number >= pool->kinds_count || size > INT_MAX) return GERFMUOD_REFUSED_BAD_SPEC;
     item *added = new_item(to, FIRST_KIND + (int)number, arguments, size);
     pthread_mutex_lock(&pool->lock);
-    bool is_stopped = pool->is_stopped;
-    if (added && !is_stopped) leave(pool, added);
+    uint32_t refused = pool->is_stopped ? GERFMUOD_REFUSED_STOPPED : added ? make(pool, added) : GERFMUOD_REFUSED_NO_MEMORY;
     pthread_mutex_unlock(&pool->lock);
-    if (is_stopped) return free(added), (uint32_t)GERFMUOD_REFUSED_STOPPED;
-    return added ? GERFMUOD_OK : GERFMUOD_REFUSED_NO_MEMORY;
+    if (refused) free(added);
+    return refused;
 }
 
 /* A thread beside the main thread, until the run is over. */
@@ -176,7 +195,7 @@ static void *work(void *context) {
 
 /* ---- the messages; all that follows is of the main thread */
 
-/* A call on the detector that a program which keeps its rules does not see refused. */
+/* A call of the main thread that a program which keeps its rules does not see refused. */
 static void must(const gerfmuod_mpi_pool *pool, uint32_t refused) {
     if (refused) MPI_Abort(gerfmuod_mpi_detector_communicator(&pool->detector), (int)refused);
 }
@@ -191,15 +210,15 @@ static void forget_sent(gerfmuod_mpi_pool *pool) {
     }
 }
 
-/* Sends what the threads left for it: work is open as long as something is due. Returns whether there was something. */
+/* Sends what the threads left for it, once all of it is counted. Returns whether there was something. */
 static bool send_due(gerfmuod_mpi_pool *pool) {
     pthread_mutex_lock(&pool->lock);
     item *due = pool->due;
+    for (item *i = due; i; i = i->next) must(pool, gerfmuod_tasks_send(&pool->tasks, &pool->detector.process));
     pool->due = NULL, pool->last_due = &pool->due;
     pthread_mutex_unlock(&pool->lock);
     for (item *i = due, *next; i; i = next) {
         next = i->next;
-        must(pool, gerfmuod_process_count_sent(&pool->detector.process));
         MPI_Isend(i->arguments, i->size, MPI_BYTE, i->to, i->tag, gerfmuod_mpi_detector_communicator(&pool->detector), &i->request);
         i->next = pool->sending, pool->sending = i;
         pool->sent += i->tag != STOP;
@@ -207,33 +226,38 @@ static bool send_due(gerfmuod_mpi_pool *pool) {
     return due != NULL;
 }
 
-/* Receives the message that the detector found. It is a part of the work of this process, which it begins if there was none. */
+/* Receives the message that the detector found. It is counted before another thread sees its task. */
 static void receive(gerfmuod_mpi_pool *pool, const MPI_Status *status) {
     int size;
     MPI_Get_count(status, MPI_BYTE, &size);
     item *i = new_item(pool->me, status->MPI_TAG, NULL, (size_t)size);
     if (!i) must(pool, GERFMUOD_REFUSED_NO_MEMORY);
-    must(pool, gerfmuod_process_count_received(&pool->detector.process, pool->detector.process.epoch));
     MPI_Recv(i->arguments, size, MPI_BYTE, status->MPI_SOURCE, status->MPI_TAG, gerfmuod_mpi_detector_communicator(&pool->detector),
              MPI_STATUS_IGNORE);
-    if (pool->is_working) must(pool, gerfmuod_process_finish_work(&pool->detector.process));
-    pool->is_working = true;
+    int64_t failure = NO_FAILURE;
+    if (i->tag == STOP) memcpy(&failure, i->arguments, sizeof failure);
     pthread_mutex_lock(&pool->lock);
-    int64_t failure;
-    if (i->tag == STOP) memcpy(&failure, i->arguments, sizeof failure), stop(pool, failure);
-    if (i->tag == STOP || pool->is_stopped) free(i);
-    else leave(pool, i);
+    must(pool, gerfmuod_tasks_receive(&pool->tasks, &pool->detector.process, pool->detector.process.epoch));
+    leave(pool, i);
+    if (failure != NO_FAILURE || pool->is_stopped) stop(pool, failure);
     pthread_mutex_unlock(&pool->lock);
 }
 
-/* Runs a task, if one is ready; returns whether it did. *is_idle says whether none is left here: once what is due is sent, only a
- * message brings work. */
-static bool advance(gerfmuod_mpi_pool *pool, bool *is_idle) {
+/* Runs a task, if one waits; returns whether it did. */
+static bool advance(gerfmuod_mpi_pool *pool) {
     pthread_mutex_lock(&pool->lock);
     bool is_more = turn(pool);
-    *is_idle = !pool->ready && !pool->running;
     pthread_mutex_unlock(&pool->lock);
     return is_more;
+}
+
+/* Finishes the work of this process, if no task is left here. Returns whether it has work. */
+static bool is_working(gerfmuod_mpi_pool *pool) {
+    pthread_mutex_lock(&pool->lock);
+    uint32_t settled = gerfmuod_tasks_settle(&pool->tasks, &pool->detector.process);
+    pthread_mutex_unlock(&pool->lock);
+    must(pool, settled > 1 ? settled : GERFMUOD_OK);
+    return gerfmuod_process_pending(&pool->detector.process) != 0;
 }
 
 /* Sleeps until a thread leaves something, but not long: a message may come. */
@@ -244,7 +268,7 @@ static void nap(gerfmuod_mpi_pool *pool) {
     if (until.tv_nsec >= SECOND) until.tv_nsec -= SECOND, until.tv_sec++;
     pthread_mutex_lock(&pool->lock);
     pool->sleeping++;
-    if (!pool->ready && !pool->due && pool->running) pthread_cond_timedwait(&pool->work, &pool->lock, &until);
+    if (!pool->ready && !pool->due && gerfmuod_tasks_running(&pool->tasks)) pthread_cond_timedwait(&pool->work, &pool->lock, &until);
     pool->sleeping--;
     pthread_mutex_unlock(&pool->lock);
 }
@@ -252,13 +276,12 @@ static void nap(gerfmuod_mpi_pool *pool) {
 /* Runs tasks, sends and receives until the detector knows the end. */
 static void communicate(gerfmuod_mpi_pool *pool) {
     for (bool has_ended = false; !has_ended;) {
-        bool is_idle, is_more = advance(pool, &is_idle);
+        bool is_more = advance(pool);
         int has_message = 0;
         MPI_Status status;
         is_more |= send_due(pool);
         forget_sent(pool);
-        if (is_idle && pool->is_working) must(pool, gerfmuod_process_finish_work(&pool->detector.process)), pool->is_working = false;
-        if (pool->is_working) must(pool, gerfmuod_mpi_detector_test(&pool->detector, &has_message, &status));
+        if (is_working(pool)) must(pool, gerfmuod_mpi_detector_test(&pool->detector, &has_message, &status));
         else must(pool, gerfmuod_mpi_detector_wait(&pool->detector, &has_message, &status)), has_ended = !has_message;
         if (has_message) receive(pool, &status);
         else if (!is_more && !has_ended) nap(pool);
@@ -286,8 +309,6 @@ static uint32_t start(gerfmuod_mpi_pool *pool, pthread_t *started, uint32_t othe
 /* Runs until the end; returns the failure that all agree on. */
 static int64_t run_all(gerfmuod_mpi_pool *pool) {
     int64_t failure;
-    if (pool->has_run) must(pool, gerfmuod_mpi_detector_reopen(&pool->detector));
-    pool->has_run = pool->is_working = true;
     communicate(pool);
     while (pool->sending) forget_sent(pool); /* all of them were received */
     MPI_Allreduce(&pool->failure, &failure, 1, MPI_INT64_T, MPI_MIN, gerfmuod_mpi_detector_communicator(&pool->detector));
@@ -304,10 +325,12 @@ uint32_t gerfmuod_mpi_pool_run(gerfmuod_mpi_pool *pool, uint32_t threads) {
     else if (!started || begun < others) refused = GERFMUOD_REFUSED_NOT_STARTED;
     refused = agree_to_run(pool, refused);
     pool->is_over = refused != 0, pool->is_stopped = false, pool->failure = NO_FAILURE;
+    if (!refused) must(pool, gerfmuod_tasks_close(&pool->tasks));
     pthread_mutex_unlock(&pool->lock);
     int64_t failure = refused ? NO_FAILURE : run_all(pool);
     pthread_mutex_lock(&pool->lock);
     pool->is_over = true, pool->is_stopped = false, pool->failure = failure;
+    if (!refused) must(pool, gerfmuod_tasks_reopen(&pool->tasks, &pool->detector.process));
     pthread_cond_broadcast(&pool->work);
     pthread_mutex_unlock(&pool->lock);
     for (uint32_t k = 0; k < begun; k++) pthread_join(started[k], NULL);

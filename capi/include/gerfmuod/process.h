@@ -1,4 +1,5 @@
-/* gerfmuod/process.h: termination detection for a distributed program, one process's part of it, with the code proved.
+/* gerfmuod/process.h: termination detection for a distributed program, one process's part of it, with the code proved; and, at the end,
+ * for one whose work is tasks that make tasks.
  *
  * Each of n processes, numbered 0 to n - 1, holds one gerfmuod_process: 96 bytes of plain data, without a pointer. The
  * library starts no thread, takes no lock and no memory, and does no input or output. Your transport (MPI, sockets,
@@ -116,14 +117,25 @@ typedef struct gerfmuod_control_message {
     uint64_t received;  /* at token 1: messages received by them */
 } gerfmuod_control_message;
 
+/* The tasks of one process, if running tasks make tasks. Read its fields, but leave writing to the library. */
+typedef struct gerfmuod_tasks {
+    uint64_t waiting; /* tasks that wait here */
+    uint64_t running; /* tasks that run here */
+    uint64_t due;     /* tasks that were made here for other processes, and are not sent */
+    uint8_t opening;  /* what the process does before its first task has not ended. A flag, set if it is not 0 */
+} gerfmuod_tasks;
+
 /* The library has the same sizes and places, which are proved. */
 GERFMUOD_ASSERT(gerfmuod_bool_has_1_byte, sizeof(bool) == 1);
 GERFMUOD_ASSERT(gerfmuod_process_has_96_bytes, sizeof(gerfmuod_process) == 96);
 GERFMUOD_ASSERT(gerfmuod_control_message_has_56_bytes, sizeof(gerfmuod_control_message) == 56);
+GERFMUOD_ASSERT(gerfmuod_tasks_has_32_bytes, sizeof(gerfmuod_tasks) == 32);
 #define GERFMUOD_PROCESS_AT(field, offset) \
     GERFMUOD_ASSERT(gerfmuod_process_##field##_at_##offset, offsetof(gerfmuod_process, field) == (offset))
 #define GERFMUOD_CONTROL_AT(field, offset) \
     GERFMUOD_ASSERT(gerfmuod_control_message_##field##_at_##offset, offsetof(gerfmuod_control_message, field) == (offset))
+#define GERFMUOD_TASKS_AT(field, offset) \
+    GERFMUOD_ASSERT(gerfmuod_tasks_##field##_at_##offset, offsetof(gerfmuod_tasks, field) == (offset))
 GERFMUOD_PROCESS_AT(mark, 0);
 GERFMUOD_PROCESS_AT(epoch, 8);
 GERFMUOD_PROCESS_AT(number, 16);
@@ -152,6 +164,11 @@ GERFMUOD_CONTROL_AT(token, 32);
 GERFMUOD_CONTROL_AT(processes, 36);
 GERFMUOD_CONTROL_AT(sent, 40);
 GERFMUOD_CONTROL_AT(received, 48);
+GERFMUOD_TASKS_AT(waiting, 0);
+GERFMUOD_TASKS_AT(running, 8);
+GERFMUOD_TASKS_AT(due, 16);
+GERFMUOD_TASKS_AT(opening, 24);
+#undef GERFMUOD_TASKS_AT
 #undef GERFMUOD_CONTROL_AT
 #undef GERFMUOD_PROCESS_AT
 
@@ -208,7 +225,85 @@ uint64_t gerfmuod_process_wave(const gerfmuod_process *process);
  * gerfmuod_process_next is due. It is valid until this thread calls gerfmuod_process_text again. Tested, not proved. */
 const char *gerfmuod_process_text(const gerfmuod_process *process);
 
-/* With ThreadSanitizer, each call above first reports that it reads or writes the process. */
+/* ---- tasks that make tasks
+ *
+ * If all work of a program is tasks, and running tasks make tasks, here or for other processes, a gerfmuod_tasks decides for each
+ * process when it has work. Your lists have the tasks; the calls below have their numbers. They make all calls on the process that count
+ * work and messages: it has one piece of work, as long as it is not idle. You make the others, gerfmuod_process_init, _take and _next.
+ *
+ *   begin       gerfmuod_tasks_open after gerfmuod_process_init: the opening may make tasks. gerfmuod_tasks_close once it has made all.
+ *   a task      gerfmuod_tasks_add if it is for this process, gerfmuod_tasks_add_due if it is for another one: in the opening, or while
+ *               the task that makes it runs. gerfmuod_tasks_begin before it runs, gerfmuod_tasks_done after it has made all its tasks.
+ *               gerfmuod_tasks_give if one that waits goes to another process.
+ *   messages    each message has one task. gerfmuod_tasks_send before the transport gets it; gerfmuod_tasks_receive with its epoch,
+ *               after it came and before a thread sees the task, which then waits.
+ *   after each  gerfmuod_tasks_settle, then gerfmuod_process_next.
+ *   of these
+ *   a stop      gerfmuod_tasks_drop_waiting drops all tasks that wait. Those that run end, and those that are due are sent.
+ *   once more   gerfmuod_tasks_reopen after ENDED, in the place of gerfmuod_process_reopen.
+ *
+ * Proved, for every n and every order of these calls and of control messages, whichever come, twice, late or never:
+ *   - never early: if gerfmuod_process_next returns ENDED, or gerfmuod_process_knows_end returns true, at no process does a task wait, run
+ *     or be due, no opening is open, and no task is in flight, then and later;
+ *   - none lost, none doubled: each task that was made waits, runs, is due, is in flight, is done or was dropped; after ENDED it is done,
+ *     or was dropped;
+ *   - a process has one piece of work unless it is idle, and never more than one;
+ *   - never silent: once no task is left, at most 15n - 11 calls and control messages do anything, and if n <= 2^20, until ENDED is
+ *     returned everywhere, one of them does something.
+ *
+ * Preconditions beyond those above: one call on a gerfmuod_tasks at a time, so with threads each is made under the lock of your lists. A
+ * call that also has a process is made by the thread that makes the calls on the process. A task runs once for each gerfmuod_tasks_begin,
+ * and each task that is counted as sent comes to one process. No other call counts work or messages of the process.
+ *
+ * A refused call changes neither struct. Any bytes are a valid gerfmuod_tasks. */
+
+/* Makes the counts of a process that was just opened: no task, and the opening. */
+void gerfmuod_tasks_open(gerfmuod_tasks *tasks);
+
+/* A task was made for this process: it waits. NO_WORK if the opening has ended and no task runs; COUNT_FULL if 2^43 wait. */
+GERFMUOD_CHECKED uint32_t gerfmuod_tasks_add(gerfmuod_tasks *tasks);
+
+/* A task was made for another process: it is due until gerfmuod_tasks_send. NO_WORK if the opening has ended and no task runs; COUNT_FULL
+ * if 2^43 are due. */
+GERFMUOD_CHECKED uint32_t gerfmuod_tasks_add_due(gerfmuod_tasks *tasks);
+
+/* A task that waits begins to run. NO_WORK if none waits; COUNT_FULL if 2^43 run. */
+GERFMUOD_CHECKED uint32_t gerfmuod_tasks_begin(gerfmuod_tasks *tasks);
+
+/* A running task is done: all tasks that it makes were made before. NO_WORK if none runs. */
+GERFMUOD_CHECKED uint32_t gerfmuod_tasks_done(gerfmuod_tasks *tasks);
+
+/* All tasks that wait are dropped. */
+void gerfmuod_tasks_drop_waiting(gerfmuod_tasks *tasks);
+
+/* A task that waits is given to another process: it is due until gerfmuod_tasks_send. NO_WORK if none waits; COUNT_FULL if 2^43 are
+ * due. */
+GERFMUOD_CHECKED uint32_t gerfmuod_tasks_give(gerfmuod_tasks *tasks);
+
+/* The opening ends: from now on only running tasks make tasks. NO_WORK if it has ended. */
+GERFMUOD_CHECKED uint32_t gerfmuod_tasks_close(gerfmuod_tasks *tasks);
+
+/* A task that is due is sent: counts its message. NO_WORK if none is due; then as gerfmuod_process_count_sent. */
+GERFMUOD_CHECKED uint32_t gerfmuod_tasks_send(gerfmuod_tasks *tasks, gerfmuod_process *process);
+
+/* A task comes in a message of an epoch, and waits here. If the process has work, this is a part of it. COUNT_FULL if 2^43 wait; then as
+ * gerfmuod_process_count_received. */
+GERFMUOD_CHECKED uint32_t gerfmuod_tasks_receive(gerfmuod_tasks *tasks, gerfmuod_process *process, uint64_t epoch);
+
+/* Finishes the work of the process if it has some and is idle. Returns 1 if it did, else 0; or NOT_OPEN, which is above 100. */
+GERFMUOD_CHECKED uint32_t gerfmuod_tasks_settle(const gerfmuod_tasks *tasks, gerfmuod_process *process);
+
+/* Begins the next epoch of the process, with an opening. Refused: as gerfmuod_process_reopen. */
+GERFMUOD_CHECKED uint32_t gerfmuod_tasks_reopen(gerfmuod_tasks *tasks, gerfmuod_process *process);
+
+/* These calls only read. A process is idle if no task waits, runs or is due here, and the opening has ended. */
+uint64_t gerfmuod_tasks_waiting(const gerfmuod_tasks *tasks);
+uint64_t gerfmuod_tasks_running(const gerfmuod_tasks *tasks);
+uint64_t gerfmuod_tasks_due(const gerfmuod_tasks *tasks);
+bool gerfmuod_tasks_is_opening(const gerfmuod_tasks *tasks);
+bool gerfmuod_tasks_is_idle(const gerfmuod_tasks *tasks);
+
+/* With ThreadSanitizer, each call above first reports that it reads or writes the process or the tasks. */
 #if defined(__SANITIZE_THREAD__)
 #include "tsan.h"
 #elif defined(__has_feature)

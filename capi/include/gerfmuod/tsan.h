@@ -1,6 +1,6 @@
-/* gerfmuod/tsan.h: the calls on a core and on a process as ThreadSanitizer sees them. core.h and process.h include this file if they
- * are compiled with -fsanitize=thread. The library is not, so each call first reports that it reads or writes the first bytes of the
- * core, or all of the process, whose fields a program may read. */
+/* gerfmuod/tsan.h: the calls on a core, a process and its tasks as ThreadSanitizer sees them. core.h and process.h include this file if
+ * they are compiled with -fsanitize=thread. The library is not, so each call first reports that it reads or writes the first bytes of the
+ * core, or all of the process or the tasks, whose fields a program may read. */
 #ifndef GERFMUOD_TSAN_H
 #define GERFMUOD_TSAN_H
 
@@ -92,6 +92,32 @@ GERFMUOD_TSAN(uint64_t, READ, process_sent, (const gerfmuod_process *process), (
 GERFMUOD_TSAN(uint64_t, READ, process_received, (const gerfmuod_process *process), (process))
 GERFMUOD_TSAN(uint64_t, READ, process_wave, (const gerfmuod_process *process), (process))
 GERFMUOD_TSAN(const char *, READ, process_text, (const gerfmuod_process *process), (process))
+#undef GERFMUOD_TSAN_READ
+#undef GERFMUOD_TSAN_WRITE
+#define GERFMUOD_TSAN_READ __tsan_read_range((void *)(uintptr_t)tasks, sizeof *tasks)
+#define GERFMUOD_TSAN_WRITE __tsan_write_range(tasks, sizeof *tasks)
+#define GERFMUOD_TSAN_PROCESS __tsan_write_range(process, sizeof *process)
+#define GERFMUOD_TSAN_SETTLE (GERFMUOD_TSAN_READ, GERFMUOD_TSAN_PROCESS)
+#define GERFMUOD_TSAN_BOTH (GERFMUOD_TSAN_WRITE, GERFMUOD_TSAN_PROCESS)
+static inline void gerfmuod_tsan_tasks_open(gerfmuod_tasks *tasks) { GERFMUOD_TSAN_WRITE, gerfmuod_tasks_open(tasks); }
+static inline void gerfmuod_tsan_tasks_drop_waiting(gerfmuod_tasks *tasks) { GERFMUOD_TSAN_WRITE, gerfmuod_tasks_drop_waiting(tasks); }
+GERFMUOD_TSAN(uint32_t, WRITE, tasks_add, (gerfmuod_tasks *tasks), (tasks))
+GERFMUOD_TSAN(uint32_t, WRITE, tasks_add_due, (gerfmuod_tasks *tasks), (tasks))
+GERFMUOD_TSAN(uint32_t, WRITE, tasks_begin, (gerfmuod_tasks *tasks), (tasks))
+GERFMUOD_TSAN(uint32_t, WRITE, tasks_done, (gerfmuod_tasks *tasks), (tasks))
+GERFMUOD_TSAN(uint32_t, WRITE, tasks_give, (gerfmuod_tasks *tasks), (tasks))
+GERFMUOD_TSAN(uint32_t, WRITE, tasks_close, (gerfmuod_tasks *tasks), (tasks))
+GERFMUOD_TSAN(uint32_t, BOTH, tasks_send, (gerfmuod_tasks *tasks, gerfmuod_process *process), (tasks, process))
+GERFMUOD_TSAN(uint32_t, BOTH, tasks_receive,
+              (gerfmuod_tasks *tasks, gerfmuod_process *process, uint64_t epoch),
+              (tasks, process, epoch))
+GERFMUOD_TSAN(uint32_t, SETTLE, tasks_settle, (const gerfmuod_tasks *tasks, gerfmuod_process *process), (tasks, process))
+GERFMUOD_TSAN(uint32_t, BOTH, tasks_reopen, (gerfmuod_tasks *tasks, gerfmuod_process *process), (tasks, process))
+GERFMUOD_TSAN(uint64_t, READ, tasks_waiting, (const gerfmuod_tasks *tasks), (tasks))
+GERFMUOD_TSAN(uint64_t, READ, tasks_running, (const gerfmuod_tasks *tasks), (tasks))
+GERFMUOD_TSAN(uint64_t, READ, tasks_due, (const gerfmuod_tasks *tasks), (tasks))
+GERFMUOD_TSAN(bool, READ, tasks_is_opening, (const gerfmuod_tasks *tasks), (tasks))
+GERFMUOD_TSAN(bool, READ, tasks_is_idle, (const gerfmuod_tasks *tasks), (tasks))
 
 #define gerfmuod_process_init gerfmuod_tsan_process_init
 #define gerfmuod_process_add_work gerfmuod_tsan_process_add_work
@@ -112,8 +138,28 @@ GERFMUOD_TSAN(const char *, READ, process_text, (const gerfmuod_process *process
 #define gerfmuod_process_received gerfmuod_tsan_process_received
 #define gerfmuod_process_wave gerfmuod_tsan_process_wave
 #define gerfmuod_process_text gerfmuod_tsan_process_text
+#define gerfmuod_tasks_open gerfmuod_tsan_tasks_open
+#define gerfmuod_tasks_add gerfmuod_tsan_tasks_add
+#define gerfmuod_tasks_add_due gerfmuod_tsan_tasks_add_due
+#define gerfmuod_tasks_begin gerfmuod_tsan_tasks_begin
+#define gerfmuod_tasks_done gerfmuod_tsan_tasks_done
+#define gerfmuod_tasks_drop_waiting gerfmuod_tsan_tasks_drop_waiting
+#define gerfmuod_tasks_give gerfmuod_tsan_tasks_give
+#define gerfmuod_tasks_close gerfmuod_tsan_tasks_close
+#define gerfmuod_tasks_send gerfmuod_tsan_tasks_send
+#define gerfmuod_tasks_receive gerfmuod_tsan_tasks_receive
+#define gerfmuod_tasks_settle gerfmuod_tsan_tasks_settle
+#define gerfmuod_tasks_reopen gerfmuod_tsan_tasks_reopen
+#define gerfmuod_tasks_waiting gerfmuod_tsan_tasks_waiting
+#define gerfmuod_tasks_running gerfmuod_tsan_tasks_running
+#define gerfmuod_tasks_due gerfmuod_tsan_tasks_due
+#define gerfmuod_tasks_is_opening gerfmuod_tsan_tasks_is_opening
+#define gerfmuod_tasks_is_idle gerfmuod_tsan_tasks_is_idle
 #undef GERFMUOD_TSAN_READ
 #undef GERFMUOD_TSAN_WRITE
+#undef GERFMUOD_TSAN_PROCESS
+#undef GERFMUOD_TSAN_SETTLE
+#undef GERFMUOD_TSAN_BOTH
 #endif
 
 #undef GERFMUOD_TSAN

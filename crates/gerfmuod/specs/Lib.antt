@@ -3,4 +3,5 @@ pub mod Calls
 pub mod CoreSlot
 pub mod Meanings
 pub mod Part
+pub mod Tasks
 pub mod Wire

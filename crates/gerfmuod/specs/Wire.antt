@@ -66,7 +66,7 @@ after_init (Ok p) = p
 after_init (Err e) = unopened
 
 -- A call that does not return 0 was refused and changed no byte.
-abbrev pub IsKept : ℕ → Process → Process → Type 0
+abbrev pub IsKept : {A : Type 0} → ℕ → A → A → Type 0
 IsKept number old new = (number ≡ 0) ⊎ (new ≡ old)
 
 -- An event at a process: what the call returns, and the process after it.

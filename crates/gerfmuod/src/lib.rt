@@ -14,4 +14,5 @@ mod pool;
 mod process;
 mod raw_step;
 mod slot;
+mod tasks;
 mod text;

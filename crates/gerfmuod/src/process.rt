@@ -256,7 +256,7 @@ pub extern "C" fn gerfmuod_process_wave(process: &Process) -> u64
 
 /// Returns 0, or the number of the refusal.
 #[inline(always)]
-fn outcome(answer: Result<(), Refusal>) -> u32
+pub(crate) fn outcome(answer: Result<(), Refusal>) -> u32
     ensures { result ≡ refused_as (result_err answer) }
 {
     match answer {
