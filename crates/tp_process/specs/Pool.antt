@@ -5,7 +5,7 @@ use Rattle.std.specs.Prelude.{IsTrue, nat_lt, if◌then◌else◌}
 use Rattle.tp_base.specs.Totals.{total}
 use Rattle.tp_process.specs.{Calls.moved, declared.outcome.Next.TheVariants.Ended}
 use Rattle.tp_process.specs.Tasks.{Tasks, added, added_due, began, can_begin, can_make, can_receive_task, can_send_task, can_settle, completed}
-use Rattle.tp_process.specs.Tasks.{dropped, is_idle, new_tasks, read_tasks, receives_task, sends_task, settled, task_received, task_sent}
+use Rattle.tp_process.specs.Tasks.{dropped, given, is_idle, new_tasks, read_tasks, receives_task, sends_task, settled, task_received, task_sent}
 use Rattle.tp_process.specs.{Tasks.without_opening, World.{World, Moves, beginning, came, control_at, does, is_step, is_taken, put}}
 
 pub record Pool : Type 0 where
@@ -26,6 +26,7 @@ pub data Call : Type 0 where
   Begin : Call
   Done : Call
   DropWaiting : Call
+  Give : Call
   Close : Call
   SendTask : (to : ℕ) → Call
   Receive : Call
@@ -49,6 +50,7 @@ calls n c i Done =
     if (c.tasks i).running == 0 then c else record c { tasks = put i (completed (c.tasks i)) c.tasks; done = c.done + 1 }
 calls n c i DropWaiting =
     record c { tasks = put i (dropped (c.tasks i)) c.tasks; dropped = c.dropped + (c.tasks i).waiting }
+calls n c i Give = record c { tasks = put i (given (c.tasks i)) c.tasks }
 calls n c i Close = record c { tasks = put i (without_opening (c.tasks i)) c.tasks }
 calls n c i (SendTask j) =
     if can_send_task (c.tasks i) (c.world.at i) && nat_lt j n

@@ -66,6 +66,16 @@ completed t = record t { running = t.running - 1 }
 abbrev pub dropped : Tasks → Tasks
 dropped t = record t { waiting = 0 }
 
+abbrev pub give_refusal : Tasks → Option Refusal
+give_refusal t = if t.waiting == 0 then Some Inactive else (if nat_lt t.due LIMIT then None else Some Full)
+
+abbrev pub can_give_task : Tasks → Bool
+can_give_task t = not (t.waiting == 0) && nat_lt t.due LIMIT
+
+-- A task that waits is for another process now.
+abbrev pub given : Tasks → Tasks
+given t = if can_give_task t then record t { waiting = t.waiting - 1; due = t.due + 1 } else t
+
 abbrev pub opening_refusal : Tasks → Option Refusal
 opening_refusal t = if t.opening then None else Some Inactive
 

@@ -3,8 +3,8 @@
 
 ghost use Rattle.std.specs.{Prelude.{◌≡◌, OnErr}, Result.result_err};
 ghost use Rattle.tp_process.specs.{Epochs.{reopen_refusal, reopened}, Opening.{checked, if_open}, State.read};
-ghost use Rattle.tp_process.specs.Tasks.{added, added_due, began, begin_refusal, completed, done_refusal, dropped, is_idle, make_refusal};
-ghost use Rattle.tp_process.specs.Tasks.{new_tasks, opening_refusal, process_after_receive, process_after_send, process_after_settle};
+ghost use Rattle.tp_process.specs.Tasks.{added, added_due, began, begin_refusal, completed, done_refusal, dropped, give_refusal, given};
+ghost use Rattle.tp_process.specs.Tasks.{is_idle, make_refusal, new_tasks, opening_refusal, process_after_receive, process_after_send, process_after_settle};
 ghost use Rattle.tp_process.specs.Tasks.{read_tasks, receive_task_refusal, send_task_refusal, settle_result, tasks_after_receive};
 ghost use Rattle.tp_process.specs.Tasks.{tasks_after_reopen, tasks_after_send, without_opening};
 
@@ -139,6 +139,25 @@ impl TaskCounts {
         ensures { read_tasks self.new ≡ dropped (read_tasks self.old) }
     {
         self.waiting = 0;
+    }
+
+    /// A task that waits here becomes due to another process.
+    ///
+    /// Refused: `Inactive` if none waits; `Full` if 2^43 tasks are due.
+    pub fn give(&mut self) -> Result<(), Refusal>
+        ensures refused { result_err result ≡ give_refusal (read_tasks self.old) }
+        ensures state { read_tasks self.new ≡ given (read_tasks self.old) }
+        ensures kept { OnErr result (self.new ≡ self.old) }
+    {
+        let Some(waiting) = self.waiting.checked_sub(1) else {
+            return Err(Refusal::Inactive);
+        };
+        if self.due >= LIMIT {
+            return Err(Refusal::Full);
+        }
+        self.waiting = waiting;
+        self.due += 1;
+        Ok(())
     }
 
     /// The opening ends: from now on only running tasks make tasks.

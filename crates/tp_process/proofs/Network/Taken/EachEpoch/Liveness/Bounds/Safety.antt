@@ -234,7 +234,7 @@ happens_cases n x (Comes k) Q same act take = comes (control_at x.controls k) re
       cond_both (is_for a (x.at a.to)) (takes a.from a.wave a.token (x.at a.to)) (x.at a.to) (λ z. Q (record x { at = put a.to z x.at }))
       (λ d. take k a there (ltb-true a.to n m)) (λ d. subst (λ f. Q (record x { at = f })) (sym (put_id a.to x.at)) same)) (λ m. same)
 
-moved_idle : (p : EpochState) → (moved p).state.pending ≡ p.pending
+pub moved_idle : (p : EpochState) → (moved p).state.pending ≡ p.pending
 moved_idle p =
     cond_both (is_miscounted p) _ _ (λ (m : Move). m.state.pending ≡ p.pending) (λ t. refl)
     (λ t. ap (λ (z : EpochState). z.pending) (acts_keeps (ready p)) ∙ ready_cases p (λ z. z.pending ≡ p.pending) (λ a b c. refl) refl)
