@@ -1,8 +1,9 @@
-/* gerfmuod.h: the whole library for C: its refusals, cores, processes, task graphs, teams of threads, and parts.
+/* gerfmuod.h: the whole library for C: its refusals, cores, processes, task graphs, teams of threads, parts, and workers.
  *
  * A program may include only what it uses: gerfmuod/core.h for the detector of a task runtime, gerfmuod/process.h for that of a
  * distributed program, gerfmuod/team.h for a task graph on threads, and gerfmuod/graph.h for one with threads of its own;
- * gerfmuod/parts.h for one whose threads are in groups that share no lock, gerfmuod/part.h for one over several processes.
+ * gerfmuod/parts.h for one whose threads are in groups that share no lock, gerfmuod/part.h for one over several processes;
+ * gerfmuod/workers.h for tasks that make tasks.
  * gerfmuod/mpi.h, which has the latter over MPI, is not among these.
  */
 #ifndef GERFMUOD_ALL_H
@@ -15,5 +16,6 @@
 #include "gerfmuod/process.h"
 #include "gerfmuod/refusals.h"
 #include "gerfmuod/team.h"
+#include "gerfmuod/workers.h"
 
 #endif

@@ -1,7 +1,7 @@
 """Adds the parts in C to the library for other languages, and links it as a shared object: libgerfmuod.so.0.
 
-The parts are in capi/src: gerfmuod_calls.c, the symbols of the calls that are inline for C, and gerfmuod_team.c and gerfmuod_parts.c,
-which are over POSIX threads. No proof covers them. The archive and the shared object define only names
+The parts are in capi/src: gerfmuod_calls.c, the symbols of the calls that are inline for C, and gerfmuod_team.c, gerfmuod_parts.c
+and gerfmuod_workers.c, which are over POSIX threads. No proof covers them. The archive and the shared object define only names
 gerfmuod_* for others; the shared object has a soname and needs only the C library. CC, CFLAGS and LDFLAGS are those of the
 environment.
 """
@@ -21,7 +21,7 @@ HEADERS = [*files_in(INCLUDE), *FORTRAN_MODULES]
 TEAM = f"{SOURCES}/gerfmuod_team.c"
 # each part in C, and a symbol of it
 PARTS = {f"{SOURCES}/gerfmuod_calls.c": "gerfmuod_core_insert", TEAM: "gerfmuod_team_open"}
-PARTS[f"{SOURCES}/gerfmuod_parts.c"] = "gerfmuod_parts_open"
+PARTS.update({f"{SOURCES}/gerfmuod_{name}.c": f"gerfmuod_{name}_open" for name in ("parts", "workers")})
 # what an archive defines for programs that are linked with it
 PUBLIC = "gerfmuod_*"
 SONAME = "libgerfmuod.so.0"

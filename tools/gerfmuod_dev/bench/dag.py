@@ -177,8 +177,9 @@ def small_runs(bench, programs):
     """Measures a tree that tasks spawn, a graph of 20 tasks that runs many times, and functions of Python."""
     for microseconds in (0, 1):
         size = 12 if bench.is_quick else 16, programs.iterations(microseconds)
-        own = programs.own("bench/tree", size, [LOOP, *POOL, *OPENMP]), *programs.tbb("tree", size, title="oneTBB task group")
-        yield from compare(bench, f"binary tree that tasks spawn, depth {size[0]}, bodies of {microseconds} us", own)
+        own = programs.own("bench/tree", size, [LOOP, *POOL, *ways("workers", "w{}"), *OPENMP])
+        peers = programs.tbb("tree", size, title="oneTBB task group")
+        yield from compare(bench, f"binary tree that tasks spawn, depth {size[0]}, bodies of {microseconds} us", [own, *peers])
     own = [*(Way(f"pool, {name}", f"{name}:2", 1, 2) for name in ("again", "clear", "new")), *ways("OpenMP tasks", "omp:{}", [2])]
     yield from compare(bench, "wave of 20 tasks", [programs.own("bench/again", ("wave", 20, 1000), own)])
     own, size = [*ways("pool", "pool:{}"), *ways("concurrent.futures", "executor:{}")], (f"{TOP}/python/bench/functions.py", 20_000)
