@@ -36,7 +36,7 @@ pub cell_value : CellLaw
 cell_value r rule w steps t i narrow low h = cell_is r rule w steps narrow t i low h
 
 -- ---- what a cell that has a value is computed from
-pub if_some : (b : Bool) (x y : List ℤ) → (if b then Some x else None) ≡ Some y → x ≡ y
+if_some : (b : Bool) (x y : List ℤ) → (if b then Some x else None) ≡ Some y → x ≡ y
 if_some true x y e = cc
 if_some false x y e = absurd (cc)
 

@@ -3,8 +3,5 @@ pub mod Events
 pub mod Gathers
 pub mod Cells
 pub mod Rows
-pub mod Splits
-pub mod PairedRows
 pub mod Sound
 pub mod Patterns
-pub mod Parts

@@ -45,7 +45,7 @@ row_whole w steps first count results some place whole once lack =
     omega (arith, times-none t results lack.none)
 
 -- ---- a row of blocks of one size
-pub list_same : (n : ℕ) (f g : ℕ → ℤ) → ((e : ℕ) → e < n → f e ≡ g e) → list_of n f ≡ list_of n g
+list_same : (n : ℕ) (f g : ℕ → ℤ) → ((e : ℕ) → e < n → f e ≡ g e) → list_of n f ≡ list_of n g
 list_same zero f g h = refl
 list_same (suc n) f g h =
     rw (h 0 (omega arith), list_same n (λ e. f (suc e)) (λ e. g (suc e)) (λ e q. h (suc e) (omega arith))) refl

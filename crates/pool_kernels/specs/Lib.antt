@@ -8,8 +8,6 @@ pub mod RunFaults
 pub mod Numbers
 pub mod Sums
 pub mod Doubles
-pub mod Pairs
 pub mod Plans
 pub mod Stirrings
 pub mod Patterns
-pub mod Transforms

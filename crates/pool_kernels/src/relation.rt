@@ -1,8 +1,6 @@
-//! The trait of relations, which say which columns of a row feed which of the next, and the relation of butterflies.
+//! The trait of relations, which say which columns of a row feed which of the next.
 ghost use Rattle.std.specs.Prelude.{◌≡◌, ◌≤◌, ◌<◌, ℕ, Bool};
-ghost use Rattle.pool_kernels.specs.{Grids.{AreSizes, ComesAgain}, Pairs.butterfly};
-
-use crate::digits::without;
+ghost use Rattle.pool_kernels.specs.Grids.{AreSizes, ComesAgain};
 
 /// A relation: which columns of a row feed which of the next. The author of one gets the grid of tasks over it, with
 /// its laws.
@@ -22,21 +20,4 @@ pub trait Relation: Copy {
         requires sizes { AreSizes width steps }
         ensures some { 1 ≤ result }
         ensures again { ComesAgain (relation self.now width) width steps result };
-}
-
-/// A butterfly: each column feeds itself and the one that differs from it in a single binary digit, digit 0 from row 0
-/// to row 1, digit 1 from row 1 to row 2, and so on.
-#[derive(Clone, Copy, Debug, PartialEq, Eq)]
-pub struct Butterfly;
-
-impl Relation for Butterfly {
-    ghost relation = { λ _ _. butterfly };
-
-    fn relates(&self, _width: u32, step: u32, from: u32, to: u32) -> bool {
-        without(step - 1, from as usize) == without(step - 1, to as usize)
-    }
-
-    fn period(&self, _width: u32, steps: u32) -> u32 {
-        steps
-    }
 }

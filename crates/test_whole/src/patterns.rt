@@ -1,16 +1,11 @@
-//! Task Bench's patterns: who feeds whom in six columns. Kernels over relations: the Walsh-Hadamard transform, and a
-//! check of a plan that is no graph.
+//! Task Bench's patterns: who feeds whom in six columns. A relation of one's own, and a check of a plan that is no graph.
 
 ghost use Rattle.std.specs.Prelude.{◌≡◌, ◌<◌, ◌≤◌, ◌==◌, ℕ, None, if◌then◌else◌, true};
 ghost use Rattle.pool_kernels.specs.Grids.{AreSizes};
 
-use pool_kernels::{
-    GraphFault, PairedBlocks, Pattern, Plan, Relation, SumOrDifference, check_plan, transformed,
-};
+use pool_kernels::{GraphFault, Pattern, Plan, Relation, Stirring, check_plan, run_kernel};
 use std::alloc::{AllocError, Global};
-use std::sync::Wait;
 use std::test::Fail;
-use std::thread::Threads;
 use tp_base::{NodeId, TaskId};
 use tp_work::Config;
 
@@ -96,29 +91,35 @@ fn each_relation_repeats_after_its_period(rt: HostRuntime) {
     }
 }
 
-/// Eight numbers and their transform, which has the sum of all in front.
-const NUMBERS: [i64; 8] = [1, 0, 1, 0, 0, 1, 1, 0];
+/// Each of four columns is fed by itself and another: in row 1 the pairs are 0 and 1, 2 and 3, in row 2 0 and 2, 1 and 3.
+#[derive(Clone, Copy)]
+struct Butterfly;
 
-const TRANSFORM: [i64; 8] = [4, 2, 0, -2, 0, 2, 0, 2];
+impl Relation for Butterfly {
+    ghost relation = { λ _ _ t j i. if t == 1 then (j / 2) == (i / 2) else (j % 2) == (i % 2) };
 
-/// Whether a pool of these nodes computes the transform in blocks of 2^inner numbers.
-fn is_made<R: Threads + Wait + Sync>(rt: &R, alloc: Global, inner: u32, nodes: u32) -> bool
-    requires { (1 ≤ nodes) × (nodes ≤ 8) × (inner ≤ 3) }
-{
-    let Some(blocks) = PairedBlocks::new(SumOrDifference, &NUMBERS, inner, 3 - inner) else {
-        return false;
-    };
-    match transformed(rt, alloc, blocks, Config::new(nodes, 2)) {
-        Ok(made) => made.as_slice() == TRANSFORM.as_slice(),
-        Err(_) => false,
+    fn relates(&self, _width: u32, step: u32, from: u32, to: u32) -> bool {
+        if step == 1 {
+            from / 2 == to / 2
+        } else {
+            from % 2 == to % 2
+        }
+    }
+
+    fn period(&self, _width: u32, steps: u32) -> u32 {
+        steps
     }
 }
 
+// A task sums its inputs, its column and 1: row 0 is 1, 2, 3, 4, row 1 is 3 + 1, 3 + 2, 7 + 3, 7 + 4.
 #[test]
-fn threads_make_the_transform(rt: HostRuntime) -> Result<(), Fail> {
-    for inner in [0, 1, 3] {
-        assert!(rt; is_made(&rt, rt.alloc(), inner, 1), "{inner}");
-        assert!(rt; is_made(&rt, rt.alloc(), inner, 3), "{inner}");
+fn threads_run_a_relation_of_ones_own(rt: HostRuntime) -> Result<(), Fail> {
+    let row: [i64; 4] = [14 + 1, 16 + 2, 14 + 3, 16 + 4];
+    for nodes in [1, 3] {
+        let (kernel, config) = (Stirring { iterations: 0 }, Config::new(nodes, 2));
+        let run = run_kernel(&rt, rt.alloc(), Butterfly, kernel, 4, 3, config);
+        let is_made = run.is_ok_and(|run| run.row.as_slice() == row.as_slice());
+        assert!(rt; is_made, "{nodes}");
     }
     Ok(())
 }
