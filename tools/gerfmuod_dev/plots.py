@@ -30,7 +30,7 @@ RUN = "run"
 PAGE = "docs/ARCHITECTURE.md"
 ROW = re.compile(r"^\|([^|\n]*)\| *([a-z]\w*) *\|([^|\n]*)\|[^|\n]*\|$", re.M)
 # a colour for each group, in the order of crates.txt
-FILLS = ["#e8e8e8", "#fde2b8", "#cfe3f7", "#d8efd0", "#e6dbf3", "#fbd5d5", "#f2f0c8", "#ffffff"]
+FILLS = ["#e8e8e8", "#fde2b8", "#cfe3f7", "#d8efd0", "#e6dbf3", "#fbd5d5", "#d3ebea", "#f2f0c8", "#ffffff"]
 GRAPH = "tools/data/crates.dot"
 DRAWING = f"{os.path.dirname(os.path.abspath(__file__))}/drawing.py"
 DIGEST = re.compile(r"<!-- digest of its inputs: (\w+) -->")
