@@ -36,7 +36,7 @@ struct measured {
     const size_t *units;
 };
 
-/* Runs each way in each round, of which the first is not counted, and prints the times. Exits the program if a result is wrong. */
+/* Runs each way in each round, and prints the times of all rounds but the first. Exits the program if a result is wrong. */
 static inline void measure(struct measured it, const char *rounds_text, char **ways, int count) {
     static double times[MAX_WAYS][MAX_ROUNDS];
     int rounds = atoi(rounds_text);

@@ -12,7 +12,7 @@
 
 static int me, processes, grid[2]; /* grid: the rows and columns of processes, over which tiles are dealt out */
 static int order, tile, tiles;
-static int thread_level = MPI_THREAD_FUNNELED; /* which threads call MPI: that of a runtime may, beside the main thread */
+static int thread_level = MPI_THREAD_FUNNELED; /* which threads call MPI: that of a runtime may, besides the main thread */
 
 /* The numbers of each tile (i, j), at i * tiles + j, if they are here. */
 static double **numbers;

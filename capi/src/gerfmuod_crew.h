@@ -10,7 +10,7 @@
 #include <stdlib.h>
 #include <time.h>
 
-/* How often a member, or the thread that waits for all of them, looks for a change before it sleeps, and the pauses of the
+/* How often a member, or the thread that waits for all of them, polls for a change before it sleeps, and the pauses of the
  * processor in between: some 50 microseconds in all. To wake a thread that sleeps takes as long. */
 enum { CREW_POLLS = 100, CREW_PAUSES = 16 };
 
@@ -38,7 +38,7 @@ struct crew {
     void *argument;
 };
 
-/* Releases the lock for a moment, if there is a poll left. Returns whether there was. */
+/* Releases and acquires the lock, if there is a poll left. Returns whether there was. */
 static bool crew_poll(struct crew *crew, uint32_t *polls) {
     if (*polls == 0) return false;
     --*polls;

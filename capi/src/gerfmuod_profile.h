@@ -1,7 +1,7 @@
 /* gerfmuod_profile.h: the times of a team's run, a part of gerfmuod_team.c: what its threads record, and the texts about it.
  *
  * Each thread writes into a ring of its own, and every call is made while the team's lock is held, except those that read a
- * clock. A turn reads a clock before it takes the lock, which ends the body before it; when it is told to wait; and when it
+ * clock. A turn reads a clock before it takes the lock, which ends the body before it; when it has to wait; and when it
  * ends. If the kernel derives CLOCK_MONOTONIC from the time stamp counter of x86-64, that clock is the counter itself, which is
  * faster to read. Two readings of both, at the start of the run and when its texts are written, convert ticks to nanoseconds. */
 #ifndef GERFMUOD_PROFILE_H

@@ -14,7 +14,7 @@
 struct gerfmuod_team {
     gerfmuod_graph graph;
     pthread_mutex_t lock;
-    pthread_cond_t news; /* threads that were told to sleep wait for it */
+    pthread_cond_t news; /* threads whose turn returned SLEEP wait for it */
     uint32_t threads, processors;
     bool is_traced;
     struct crew crew; /* the threads of gerfmuod_team_run, beside the caller; they stay until the team is closed */
@@ -36,7 +36,7 @@ static inline void acquire(gerfmuod_team *team) {
 }
 static inline void release(gerfmuod_team *team) { pthread_mutex_unlock(&team->lock); }
 
-/* If several threads have to be signalled, it is all that sleep; one that wakes up unasked is told to sleep again. */
+/* If several threads have to be signalled, it is all that sleep; the turn of one that wakes up unasked returns SLEEP again. */
 static inline void signal_sleepers(gerfmuod_team *team, uint32_t signals) {
     if (signals == 1) pthread_cond_signal(&team->news);
     else if (signals) pthread_cond_broadcast(&team->news);

@@ -30,7 +30,7 @@ RUN = "run"
 PAGE = "docs/ARCHITECTURE.md"
 ROW = re.compile(r"^\|([^|\n]*)\| *([a-z]\w*) *\|([^|\n]*)\|[^|\n]*\|$", re.M)
 # a colour for each group, in the order of crates.txt
-FILLS = ["#e8e8e8", "#fde2b8", "#cfe3f7", "#d8efd0", "#e6dbf3", "#fbd5d5", "#f2f0c8", "#ffffff"]
+FILLS = ["#e8e8e8", "#fde2b8", "#cfe3f7", "#d8efd0", "#e6dbf3", "#fbd5d5", "#d3ebea", "#f2f0c8", "#ffffff"]
 GRAPH = "tools/data/crates.dot"
 DRAWING = f"{os.path.dirname(os.path.abspath(__file__))}/drawing.py"
 DIGEST = re.compile(r"<!-- digest of its inputs: (\w+) -->")
@@ -46,7 +46,7 @@ def check_map(tally):
 
 
 def graph():
-    """Returns the graph: a cluster for each group, a box for each crate, dashed in the second tier, and an arrow to each below it."""
+    """Returns the graph: a cluster for each group, a box for each crate, dashed in the second tier, and arrows that no others imply."""
     second_tier = {crate for _, crate, tier in ROW.findall(text_of(PAGE)) if tier.strip() == "safe"}
     lines = []
     for (title, names), fill in zip(repository.groups(), FILLS):
@@ -55,7 +55,9 @@ def graph():
             style = "rounded,filled,dashed" if name in second_tier else "rounded,filled"
             lines.append(f'    {name} [fillcolor="{fill}" style="{style}"]')
         lines.append("  }")
-    lines += [f"  {name} -> {lower}" for name, crate in repository.crates().items() for lower in crate.below]
+    for name, crate in repository.crates().items():
+        implied = {lower for other in crate.below for lower in repository.crates([other]) if lower != other}
+        lines += [f"  {name} -> {lower}" for lower in crate.below if lower not in implied]
     return text_of(GRAPH).replace("LINES", "\n".join(lines))
 
 
@@ -117,9 +119,7 @@ def digest_of(plot):
 
 def draw(plot, path):
     if isinstance(plot, str):
-        # (tred removes the arrows that others imply)
-        reduced = subprocess.run(["tred"], input=plot, stdout=subprocess.PIPE, text=True, check=True).stdout
-        subprocess.run(["dot", f"-T{path[-3:]}", "-o", path], input=reduced, text=True, check=True)
+        subprocess.run(["dot", f"-T{path[-3:]}", "-o", path], input=plot, text=True, check=True)
     else:
         # (only what draws needs matplotlib)
         from . import drawing

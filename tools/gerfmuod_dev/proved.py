@@ -1,9 +1,9 @@
 """Checks that what documents cite is in the code: contracts, tests, mutants, and calls without memory. It is part of `tools/dev docs`.
 
 - A path is `crate::Type::name`, `crate::name` or `crate::Type`; each path in README.md and docs/*.md names a call or a type.
-- In docs/PROVED.md a sentence that begins with *By* cites paths. The brackets after a path, or after several with a comma between them,
-  name clauses that each of these has: (`refused`, `kept`), (one clause), (keeps) for what a type keeps, (requires `small`) for a
-  precondition. A path after *private* is one that only its own crate can use; any other is public.
+- In docs/PROVED.md a sentence that begins with *By* cites paths: a name alone has the type, or the crate, of the path before it. The
+  brackets after one or several name clauses that each of these has: (`refused`, `kept`), (one clause), (keeps) for what a type keeps,
+  (requires `small`) for a precondition. A path after *private* is one that only its own crate can use; any other is public.
 - After `test_whole` comes the name of a test of that crate, and after *Mutants: in* and a crate names of its mutants.
 - The last section of docs/measurements/out-of-memory.md has each public call that can run out of memory, and no other: a call whose
   docstring, type or contract says so, and that returns a `Result` or a refusal.
@@ -19,7 +19,7 @@ PAGE, OUT_OF_MEMORY = "docs/PROVED.md", "docs/measurements/out-of-memory.md"
 PATH = re.compile(r"`(\w+)::(\w+(?:::\w+)?)`")
 EVIDENCE = re.compile(r"\bBy\s.*?(?=\n\n|\n *- |\n#|\Z)", re.S)
 # within a sentence of evidence: a path, brackets, the word private, or the end of a part (`the trait T:` too)
-PART = re.compile(r"`(?P<path>\w+::\w+(?:::\w+)?)`|\((?P<brackets>[^()]*)\)|\b(?P<private>private)\b|(?P<end>;|\. |:\s)")
+PART = re.compile(r"`(?P<path>(?:\w+::){0,2}\w+)`|\((?P<brackets>[^()]*)\)|\b(?P<private>private)\b|(?P<end>;|\. |:\s)")
 TEST = re.compile(r"\b(test_\w+)`?,? `([a-z]\w+_\w+)`")
 MUTANTS = re.compile(r"\bMutants?(?::| in) .*?(?=\n\n|\n *- |\n#|\Z)", re.S)
 SAYS_MEMORY = re.compile(r"\b(NoMemory|AllocError|AllocFailed|TextFault|\w*Fault>|no memory for)")
@@ -36,10 +36,11 @@ def item_at(path):
 
 def citations_in(text):
     """Yields the citations of a sentence of evidence: a path, what the brackets behind it say, and whether it is private."""
-    paths, is_private = [], False
-    for part in [*PART.finditer(text), None]:
+    paths, is_private, folder = [], False, ""
+    for part in [*PART.finditer(" ".join(text.split())), None]:
         if part and part["path"]:
-            paths.append((part["path"], is_private))
+            folder, _, name = part["path"].rpartition("::") if "::" in part["path"] else (folder, "", part["path"])
+            paths.append((f"{folder}::{name}", is_private))
         elif part and part["private"]:
             is_private = True
         else:

@@ -16,7 +16,7 @@ def test_contracts_are_read():
 
 
 def test_citations_are_compared_with_the_code():
-    sentence = "By `tp_a::b`, `tp_a::c` (`d`, `e`) and the private `tp_a::f` (one clause); `tp_a::g`."
+    sentence = "By `tp_a::b`, `c` (`d`, `e`) and the private `tp_a::f` (one clause); `tp_a::g`."
     both, last = ("`d`, `e`", False), ("tp_a::g", "", False)
     assert [*proved.citations_in(sentence)] == [("tp_a::b", *both), ("tp_a::c", *both), ("tp_a::f", "one clause", True), last]
     cited = [citation for part in proved.EVIDENCE.findall(repository.text_of(proved.PAGE)) for citation in proved.citations_in(part)]

@@ -56,7 +56,7 @@ class Detector {
         if (!is_old && refused != GERFMUOD_REFUSED_NOT_YET) check(refused);
         return refused != GERFMUOD_REFUSED_NOT_YET;
     }
-    // Calls send(to, message) for each control message that is due, and returns whether the epoch has ended. Throws Refused:
+    // Calls send(to, message) for each control message to be sent, and returns whether the epoch has ended. Throws Refused:
     // Miscounted, at process 0.
     template <typename Send>
     bool ended(Send &&send) {

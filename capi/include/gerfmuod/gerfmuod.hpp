@@ -307,7 +307,7 @@ class Pool {
     // Ends the run: bodies that run are finished, no further one begins, and run() throws Refused: Stopped.
     void stop() { gerfmuod_team_stop(team.get(), GERFMUOD_GRAPH_NONE); }
 
-    // Runs all tasks on `threads` threads, of which the caller is one. Throws the first exception that a body threw; failed()
+    // Runs all tasks on `threads` threads, the caller among them. Throws the first exception that a body threw; failed()
     // is then the task of that body. Throws Refused as gerfmuod_team_run, and std::invalid_argument if the number is negative.
     void run(std::uint32_t threads = default_threads()) {
         begin(threads);
@@ -487,7 +487,7 @@ class Pool {
     template <typename T>
     static std::tuple<Result<T>> result_of(const ReadResult<T> &read) { return {read.result}; }
     static std::tuple<> result_of(TaskOptions) { return {}; }
-    // The options among the arguments of a task, of which they are the last one.
+    // The options of a task: the last one of its arguments.
     static TaskOptions options_of() { return {}; }
     template <typename First, typename... Rest>
     static TaskOptions options_of(const First &first, const Rest &...rest) {

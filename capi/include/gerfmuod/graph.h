@@ -15,7 +15,7 @@
  *     graph was ended by a fault; a turn returns SPIN or SLEEP only if no task is ready and not all are done;
  *   - no silent wait: if no task runs, none awaits an input from outside and not all are done, then some task is ready;
  *   - no lost wake-up: if a task is ready and a thread sleeps, then some thread spins or was signalled; once the run or the
- *     graph has ended, each sleeping thread was signalled. This counts threads that come back as they were told;
+ *     graph has ended, each sleeping thread was signalled. This counts threads that come back as their turns returned;
  *   - a task that accesses handles waits for what the order of the description needs: one that reads a handle, for its last writer; one
  *     that writes it, for the tasks that read it since or, if there are none, for that writer. If each body touches only what its task
  *     names, every run leaves in the data what the sequential program leaves;
@@ -58,7 +58,7 @@ extern "C" {
 #define GERFMUOD_GRAPH_MAX_HANDLES 134217728u
 /* The most steps of a traced run: 3 for each task and 10, so that 349,522 tasks fit. */
 #define GERFMUOD_GRAPH_MAX_STEPS 1048576u
-/* The most threads in turns that were told to wait. */
+/* The most threads that wait after a turn. */
 #define GERFMUOD_GRAPH_MAX_THREADS 4194304u
 
 /* The memory of a graph: on the stack, in a struct, or on the heap. */
@@ -66,7 +66,7 @@ typedef struct gerfmuod_graph {
     uint64_t words[64];
 } gerfmuod_graph;
 
-/* What a turn tells its thread. */
+/* What a turn returns to its thread. */
 enum gerfmuod_graph_next {
     GERFMUOD_GRAPH_NOTHING = 0, /* the call was no turn, or it was refused */
     GERFMUOD_GRAPH_RUN = 1,     /* run the task `number`, and report it in the next turn */
@@ -98,8 +98,8 @@ GERFMUOD_CHECKED gerfmuod_graph_result gerfmuod_graph_describe(gerfmuod_graph *g
                                                                const uint32_t *offsets, size_t offsets_count,
                                                                const uint32_t *inputs, size_t inputs_count);
 
-/* Adds one task, before a run or in it, with all that it waits for: all or nothing. It reads `count` earlier tasks, of which those
- * that are done count as nothing, and awaits `outside` inputs from outside. `number` of the result is its number. Refused, for the
+/* Adds one task, before a run or in it, with all that it waits for: all or nothing. It reads `count` earlier tasks; those that are
+ * done count as nothing. It awaits `outside` inputs from outside. `number` of the result is its number. Refused, for the
  * first reason that applies: ENDED if all tasks of a run are done; BAD_SPEC if the class is above 3; NO_TASK if an input is not
  * the number of an earlier task; HISTORY_FULL with GERFMUOD_GRAPH_MAX_OUTSIDE, MAX_TASKS or MAX_INPUTS, or with MAX_STEPS if the
  * graph is traced, was started and the trace of the run would have more; NO_MEMORY. */
@@ -128,19 +128,19 @@ GERFMUOD_CHECKED gerfmuod_graph_result gerfmuod_graph_task(gerfmuod_graph *graph
 enum gerfmuod_graph_call {
     /* Frees what the graph allocated. It is then not open, and may be opened again. */
     GERFMUOD_GRAPH_CLOSE = 0,
-    /* threads. Starts a run on so many threads: tasks may be returned. Signals all that sleep. Refused: if a run was started, RUNNING
+    /* threads. Starts a run on `threads` threads: tasks may be returned. Signals all that sleep. Refused: if a run was started, RUNNING
      * if a turn has not returned or a task runs, else ENDED if all tasks are done, else WRONG_LIFE; NO_THREAD if `threads` is
      * 0; if the graph is traced, HISTORY_FULL with MAX_STEPS if the trace of all tasks would have more, and NO_MEMORY. */
     GERFMUOD_GRAPH_START = 1,
     /* done, polls. A turn of a thread that ran a task, or is new: reports task `done`, or GERFMUOD_GRAPH_NONE, and returns what
-     * the thread does next. It is told to spin only if `polls` is not 0. A turn that began before the start waits for it. Once there
+     * the thread does next. It is SPIN only if `polls` is not 0. A turn that began before the start waits for it. Once there
      * is a fault, every turn is refused as that fault, with its task, or GERFMUOD_GRAPH_NONE, in `number`. A task that does not
      * run is a fault: NO_TASK or WRONG_LIFE. HISTORY_FULL, with GERFMUOD_GRAPH_NONE, if a turn has to wait and MAX_THREADS do: the
      * graph goes on without this thread. */
     GERFMUOD_GRAPH_TURN = 2,
-    /* done, polls. The same, of a thread that was told to spin. */
+    /* done, polls. The same, of a thread whose turn returned SPIN. */
     GERFMUOD_GRAPH_TURN_SPUN = 3,
-    /* done, polls. The same, of a thread that was told to sleep, and was signalled or woke by itself. */
+    /* done, polls. The same, of a thread whose turn returned SLEEP, and that was signalled or woke by itself. */
     GERFMUOD_GRAPH_TURN_WOKEN = 4,
     /* task, or GERFMUOD_GRAPH_NONE. Ends the graph because of it, with the fault STOPPED, and signals all that sleep. If all tasks
      * are done or there is a fault, nothing changes. Never refused but as NO_POOL. */
@@ -149,7 +149,7 @@ enum gerfmuod_graph_call {
      * if a turn has not returned or a task runs; WRONG_LIFE if not all tasks of a run are done, or if a task was added in it. */
     GERFMUOD_GRAPH_AGAIN = 6,
     /* task. One more input from outside for a task. Refused: NO_TASK; WRONG_LIFE if the task was returned, or if a run was started
-     * and it is ready, so that it may be returned at any time; HISTORY_FULL with MAX_OUTSIDE if it awaits so many. */
+     * and it is ready, so that it may be returned at any time; HISTORY_FULL with MAX_OUTSIDE if it awaits that many. */
     GERFMUOD_GRAPH_OUTSIDE = 7,
     /* task. One input from outside of a task is there. Refused: NO_TASK; WRONG_LIFE if the task awaits none. */
     GERFMUOD_GRAPH_RELEASE = 8,

@@ -42,7 +42,7 @@ typedef struct gerfmuod_mpi gerfmuod_mpi;
  * body touches. It calls no function of MPI. It returns 0, or another number if it failed: the graph is then stopped everywhere. */
 typedef int (*gerfmuod_mpi_body)(const void *arguments, void *const *values);
 
-/* Opens a graph without data or tasks. Collective, over all processes of the communicator, of which it makes a copy. *graph is NULL if
+/* Opens a graph without data or tasks. Collective, over all processes of the communicator, which it copies. *graph is NULL if
  * the call is refused: NO_MEMORY. */
 GERFMUOD_CHECKED uint32_t gerfmuod_mpi_open(gerfmuod_mpi **graph, MPI_Comm communicator);
 

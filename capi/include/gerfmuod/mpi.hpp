@@ -134,7 +134,7 @@ class Graph {
         gerfmuod_mpi_task_on(own, class_, call, &stored, sizeof stored, named, sizeof...(T));
     }
 
-    // Runs the graph on `threads` threads in each process, of which the caller is one, and returns when all tasks of the graph are
+    // Runs the graph on `threads` threads in each process, the caller among them, and returns when all tasks of the graph are
     // done. Collective; a graph runs once. If a body throws, each process finishes the bodies that run. Then run() throws that
     // exception in the process where it was thrown, and Stopped in the others. If several bodies threw in a process, it throws the
     // exception of the one that was described first. Throws Refused, the same one in every process and before any body runs, as

@@ -10,10 +10,10 @@
  *     while ((r = gerfmuod_part_call(&part, GERFMUOD_PART_NEXT, 0)).next != GERFMUOD_PART_OVER) ..
  *
  * Proved, for every graph, all owners, any number of parts that describe it, and messages in any order, lost and doubled ones
- * included, if each part takes only messages that some part was told to send:
+ * included, if each part takes only messages that a call returned at some part:
  *   - over all parts, each task is returned at most once, at its owner, and each message is returned at most once;
  *   - a task is returned only after each task that it reads was reported as done at its owner and its value arrived here;
- *   - a part whose newest call returned OVER may leave: each message that any part was told to send to it arrived;
+ *   - a part whose newest call returned OVER may leave: each message to it that a call returned at any part arrived;
  *   - no silent wait: if the newest call at each part returned WAIT or OVER, no task runs and no message is in flight, then each
  *     task of the graph is done, and each of these calls returned OVER;
  *   - all parts together return and take at most 2 calls for each task and 2 for each message. With the line above: all end;
@@ -42,7 +42,7 @@ typedef struct gerfmuod_part {
     uint64_t words[64];
 } gerfmuod_part;
 
-/* What GERFMUOD_PART_NEXT tells the caller. */
+/* What GERFMUOD_PART_NEXT returns. */
 enum gerfmuod_part_next {
     GERFMUOD_PART_NOTHING = 0, /* the call was another, or it was refused */
     GERFMUOD_PART_RUN = 1,     /* run the task `number`, and report it by GERFMUOD_PART_DONE */
@@ -66,7 +66,7 @@ void gerfmuod_part_open(gerfmuod_part *part, uint32_t number, uint32_t parts);
 /* Describes one more task of the whole graph: its class, the `count` tasks that it reads, and the part that owns it. `number` of the
  * result is its number. Refused, for the first reason that applies: WRONG_LIFE if the part was started; NO_NODE if there is no
  * such owner; BAD_SPEC if the class is above 3; NO_TASK if an input was not described before; HISTORY_FULL with
- * GERFMUOD_GRAPH_MAX_OUTSIDE if the task has more inputs, with MAX_TASKS if so many were described, with MAX_INPUTS if these would
+ * GERFMUOD_GRAPH_MAX_OUTSIDE if the task has more inputs, with MAX_TASKS if that many were described, with MAX_INPUTS if these would
  * have more inputs in all; NO_MEMORY. */
 GERFMUOD_CHECKED gerfmuod_part_result gerfmuod_part_task(gerfmuod_part *part, uint32_t class_, const uint32_t *inputs, size_t count,
                                                          uint32_t owner);

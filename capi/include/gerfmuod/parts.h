@@ -12,7 +12,7 @@
  *
  * A task runs once, on a thread of the part that it was described for, after the tasks that it waits for, also those of other parts: their
  * part then sends a message with the number of the task. All bodies use the same memory, so a message carries no value, and nothing is
- * copied. What runs next, and which message goes where, is decided by gerfmuod/part.h, where it says what is proved. This file and
+ * copied. What runs next, and which message goes where, is decided by gerfmuod/part.h, which says what is proved. This file and
  * gerfmuod_parts.c have the locks, the messages and the waiting; they are C, tested and not proved.
  *
  * One call on a graph at a time. Each returns GERFMUOD_OK or the refusal, an enum gerfmuod_refusal. A refused call changes nothing, but

@@ -9,7 +9,7 @@
  *     if (refused) printf("task %u: %s\n", gerfmuod_team_failed(team), gerfmuod_refusal_text(refused));
  *     gerfmuod_team_close(team);
  *
- * Which task a thread runs, when it waits and whom it wakes is decided by gerfmuod/graph.h, where it says what is proved. This
+ * Which task a thread runs, when it waits and whom it wakes is decided by gerfmuod/graph.h, which says what is proved. This
  * file and gerfmuod_team.c have the lock, the waiting and the times; they are C, tested and not proved. Every function except
  * open, close, record, run, run_async, again, reset, clear, profile and summary may be called by several threads at once, also from
  * a body, and by threads that run no tasks. Each returns GERFMUOD_OK or the refusal, an enum gerfmuod_refusal. A refused call changes
@@ -92,7 +92,7 @@ GERFMUOD_CHECKED uint32_t gerfmuod_team_release(gerfmuod_team *team, uint32_t ta
 
 /* ---- running */
 
-/* Runs all tasks on `threads` threads, of which the caller is one, and returns when all are done. The others are created by the
+/* Runs all tasks on `threads` threads, the caller among them, and returns when all are done. The others are created by the
  * first run that needs them, and stay until the team is closed: between runs they sleep. Refused before any body runs: as
  * GERFMUOD_GRAPH_START, and NOT_STARTED or NO_MEMORY, after which the team may be run again. After bodies ran: the fault that
  * ended the team, STOPPED if a body failed. */
@@ -102,7 +102,7 @@ GERFMUOD_CHECKED uint32_t gerfmuod_team_run(gerfmuod_team *team, uint32_t thread
  * record are refused as RUNNING. Refused as gerfmuod_team_run before any body runs. */
 GERFMUOD_CHECKED uint32_t gerfmuod_team_run_async(gerfmuod_team *team, uint32_t threads, gerfmuod_team_body body, void *context);
 
-/* Waits until the threads of gerfmuod_team_run_async have left the run, or for so many milliseconds. Not for a body. Returns as
+/* Waits until the threads of gerfmuod_team_run_async have left the run, or for that number of milliseconds. Not for a body. Returns as
  * gerfmuod_team_run after bodies ran, or RUNNING if the time is over. */
 #define GERFMUOD_TEAM_NO_LIMIT UINT32_MAX
 GERFMUOD_CHECKED uint32_t gerfmuod_team_wait(gerfmuod_team *team, uint32_t milliseconds);
