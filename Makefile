@@ -9,8 +9,8 @@
 #               over all processes, over Open MPI and MPICH, up to 16 processes (some minutes); then the Python programs over MPI, and the
 #               checker of MPI programs
 # make ompt     of these only lib/libgerfmuod_ompt.so, which checks the tasks of OpenMP programs (docs/OPENMP-PROGRAMS.md)
-# make gate     the gate: every proof from scratch, its mutants, each test, each program (see docs/GATE.md; ANEW=1: nothing
-#               that an earlier run on this machine passed is reused)
+# make gate     the gate: every proof, its mutants, each test, each program (see docs/GATE.md; ANEW=1: all from scratch, also with
+#               a toolchain whose `rt ci` reuses what an earlier run on this machine passed)
 # make mutants  tries all mutants of the crates that changed (ALL=1: of every crate; CRATE=tp_wave: of one)
 # make times    the gate, and the processor time that it takes
 # make soak     runs sample pools 600 times, half of them at 8 nodes with 8 workers each, compares the outputs and audits the traces;
@@ -89,7 +89,7 @@ lib/libgerfmuod_ompt.so: lib/libgerfmuod.a $(wildcard capi/preload/openmp/*.[ch]
 
 # (one job per check: each further job of a check loads the libraries again)
 gate:
-	RT_JOBS=$$(tools/dev lanes) $(RT) ci $(if $(ANEW),--anew)
+	RT_JOBS=$$(tools/dev lanes) $(RT) ci $(if $(ANEW),$$($(RT) help | grep -o -e --anew | head -n 1))
 
 mutants:
 	@tools/dev mutants $(if $(ALL),--all,$(CRATE))
