@@ -78,8 +78,8 @@ def draw_lanes(plot):
     lanes = sorted({body[0] for body in plot["bodies"]})
     figure, axis = pyplot.subplots(figsize=(9.6, 0.9 + (0.7 if plot["messages"] else 0.45) * len(lanes)))
     for lane, kind, begin, length, is_critical in sorted(plot["bodies"], key=lambda body: body[4]):
-        colour, frame = COLOURS[plot["names"].index(kind)], "#111111" if is_critical else "none"
-        axis.barh(lane, length, 0.5 if plot["messages"] else 0.76, left=begin, color=colour, edgecolor=frame, linewidth=1.2)
+        colour, (frame, width) = COLOURS[plot["names"].index(kind)], ("#111111", 1.2) if is_critical else ("#ffffff", 0.5)
+        axis.barh(lane, length, 0.5 if plot["messages"] else 0.76, left=begin, color=colour, edgecolor=frame, linewidth=width)
     for lane, begin, to, end in plot["messages"]:
         axis.annotate("", (end, to), (begin, lane), arrowprops=ARROW)
     for name, colour in zip(plot["names"], COLOURS):
