@@ -9,7 +9,7 @@
 #include <stdlib.h>
 #include <string.h>
 
-enum { TESTS_OF_A_SLOW_SEND = 500 };
+enum { TESTS_OF_A_SLOW_SEND = 100 };
 
 /* A send that is not complete: how many blocks its buffer has, their sizes and places, and what they had. It is known by the place of
  * its request: an MPI may give several the same one. */

@@ -76,12 +76,8 @@ def check_statements(tally, kind):
 
 def check_documents(tally):
     for path in documents():
-        text = text_of(path)
-        faults = {
-            "there is no": dead_links(path),
-            "not in the code:": unknown_blocks(text, path in GUIDE),
-        }
-        for fault, places in faults.items():
+        blocks = unknown_blocks(text_of(path), path in GUIDE)
+        for fault, places in ("there is no", dead_links(path)), ("not in the code:", blocks):
             tally.judge(not places, f"{path}: {fault} {', '.join(map(str, places))}")
     print(f"{len(documents())} documents")
 

@@ -10,6 +10,7 @@ STYLE = {
     "svg.hashsalt": "gerfmuod", "font.size": 9, "axes.titlesize": 10, "axes.titleweight": "bold", "axes.spines.top": False,
     "axes.spines.right": False, "axes.prop_cycle": matplotlib.cycler(color=COLOURS), "legend.frameon": False,
 }
+ARROW = {"arrowstyle": "-|>", "color": "#49525c", "linewidth": 0.8, "mutation_scale": 7, "shrinkA": 0, "shrinkB": 0}
 PLAIN = ticker.FuncFormatter(lambda value, _: f"{value:,g}")
 
 
@@ -72,16 +73,19 @@ def draw_bars(plot):
     return with_legend(figure, axis)
 
 
-def draw_threads(plot):
-    """A run: a row for each thread, a bar for each body in the colour of its kind, framed if it is on the critical path."""
-    figure, axis = pyplot.subplots(figsize=(9.6, 0.9 + 0.45 * plot["threads"]))
-    for thread, kind, begin, length, is_critical in sorted(plot["bodies"], key=lambda body: body[4]):
-        colour, frame = COLOURS[plot["names"].index(kind)], "#111111" if is_critical else "none"
-        axis.barh(thread, length, 0.76, left=begin, color=colour, edgecolor=frame, linewidth=1.2)
+def draw_lanes(plot):
+    """A run: a lane for each thread or process, a bar for each body, framed if it is on the critical path, an arrow for each message."""
+    lanes = sorted({body[0] for body in plot["bodies"]})
+    figure, axis = pyplot.subplots(figsize=(9.6, 0.9 + (0.7 if plot["messages"] else 0.45) * len(lanes)))
+    for lane, kind, begin, length, is_critical in sorted(plot["bodies"], key=lambda body: body[4]):
+        colour, (frame, width) = COLOURS[plot["names"].index(kind)], ("#111111", 1.2) if is_critical else ("#ffffff", 0.5)
+        axis.barh(lane, length, 0.5 if plot["messages"] else 0.76, left=begin, color=colour, edgecolor=frame, linewidth=width)
+    for lane, begin, to, end in plot["messages"]:
+        axis.annotate("", (end, to), (begin, lane), arrowprops=ARROW)
     for name, colour in zip(plot["names"], COLOURS):
         axis.barh(1, 0, color=colour, label=name)
     axis.barh(1, 0, color="none", edgecolor="#111111", label="on the critical path")
-    axis.set_yticks(range(1, plot["threads"] + 1), [f"thread {number}" for number in range(1, plot["threads"] + 1)])
+    axis.set_yticks(lanes, [f"{plot['lane']} {number}" for number in lanes])
     axis.invert_yaxis()
     axis.set_xlim(0, plot["elapsed"])
     axis.set_xlabel(f"milliseconds ({plot['title']})")
@@ -90,5 +94,5 @@ def draw_threads(plot):
 
 def draw(plot, path):
     with matplotlib.rc_context(STYLE):
-        figure = {"lines": draw_lines, "bars": draw_bars, "threads": draw_threads}[plot["kind"]](plot)
+        figure = {"lines": draw_lines, "bars": draw_bars, "lanes": draw_lanes}[plot["kind"]](plot)
         figure.savefig(path, metadata={"Date": None, "Creator": None} if path.endswith(".svg") else None, dpi=110)

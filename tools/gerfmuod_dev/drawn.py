@@ -1,19 +1,18 @@
-"""Draws the pictures of runs in docs/figures: of stored traces, with bin/samples, and of a run of Cholesky.
+"""Draws the pictures of runs in docs/figures: of stored traces, with bin/samples, and of two runs of Cholesky.
 
-`tools/dev try samples` compares the pictures of traces with what the program draws unproved. Cholesky (capi/examples/cholesky.c)
-runs with lib/libgerfmuod.a, over OpenBLAS if that is installed; the times of the fastest of a few runs are stored and drawn. Prints
-a line for each picture. The status is 1 if one could not be drawn; without a library that was built from these sources, the picture
-of Cholesky is left as it is.
+`tools/dev try samples` compares the pictures of traces with what the program draws unproved. Cholesky (capi/examples/cholesky.c;
+capi/mpi/graph_cholesky.c over Open MPI) runs with lib/libgerfmuod.a, over OpenBLAS if that is installed; the times of the fastest of a few
+runs are stored and drawn. Prints a line for each picture. The status is 1 if one could not be drawn; without a library that was built from
+these sources, or without Open MPI, a picture of Cholesky is left as it is.
 """
-import os
+import shutil
 
-from . import dag_programs, library, plots, running
-from .event_format import Profile
+from . import dag_programs, library, mpi_graphs, plots, running
 from .repository import figure, text_of
 from .tries import PICTURES
 
-# the picture of Cholesky, the order of its matrix and of its tiles, and the numbers of threads and of runs
-CHOLESKY, ORDER, TILE, THREADS, RUNS = "cholesky", 2048, 256, 4, 9
+# of the pictures of Cholesky the orders of the matrices, that of their tiles, the number of threads or processes, and that of runs
+ON_THREADS, OVER_MPI, TILE, THREADS, RUNS = 2048, 1536, 256, 4, 9
 
 
 def draw_trace(samples, name):
@@ -24,19 +23,25 @@ def draw_trace(samples, name):
     return result.status == status
 
 
-def draw_cholesky(library_folder, folder):
-    build, path, file, texts = dag_programs.Build(library_folder, folder), f"{folder}/cholesky", f"{folder}/cholesky.json", []
-    ways = dag_programs.CHOLESKY_OVER_BLAS, dag_programs.CHOLESKY
-    if not any(dag_programs.succeeds(build.command(way, path)) for way in ways):
-        return False
-    for _ in range(RUNS):
-        command = [path, "--profile", file, str(ORDER), str(TILE), "1", str(THREADS)]
-        if running.run(command, env={**os.environ, "OPENBLAS_NUM_THREADS": "1"}).status:
-            return False
-        texts.append(text_of(file))
-    fastest = min(texts, key=lambda text: Profile(text).about["elapsed_us"])
-    running.write(plots.RUN_PATH, plots.rows_of_run(fastest, ORDER // TILE))
-    return plots.write([CHOLESKY]) == 0
+def draw_cholesky(name, command, file, rows_of=str):
+    """Stores and draws the fastest of a few runs, each of which writes a file, of whose text a function returns the rows."""
+    environment = {**mpi_graphs.ENVIRONMENT, "GERFMUOD_ROWS": file}
+    texts = [not running.run(command, env=environment).status and rows_of(text_of(file)) for _ in range(RUNS)]
+    if all(texts):
+        running.write(plots.RUNS[name], min(texts, key=lambda text: plots.plot_of_run(text)["elapsed"]))
+    return all(texts) and plots.write([name]) == 0
+
+
+def draw_threads(library_folder, folder):
+    build, path, file = dag_programs.Build(library_folder, folder), f"{folder}/cholesky", f"{folder}/cholesky.json"
+    is_built = any(dag_programs.succeeds(build.command(way, path)) for way in (dag_programs.CHOLESKY_OVER_BLAS, dag_programs.CHOLESKY))
+    command = [path, "--profile", file, str(ON_THREADS), str(TILE), "1", str(THREADS)]
+    return is_built and draw_cholesky("cholesky", command, file, lambda events: plots.rows_of_run(events, ON_THREADS // TILE))
+
+
+def draw_processes(mpi, folder):
+    command = mpi_graphs.command_of(mpi, THREADS, mpi_graphs.with_rows(mpi, folder), [str(OVER_MPI), str(TILE), "1"])
+    return draw_cholesky("four-processes", command, f"{folder}/rows")
 
 
 def draw(path, action, *arguments_of, missing=""):
@@ -53,7 +58,9 @@ def arguments(parser):
 
 def run(options):
     running.require(options.samples)
-    no_library = "" if options.library else library.reason_not_built()
+    no_library, mpi = "" if options.library else library.reason_not_built(), mpi_graphs.MPIS[0]
     are_drawn = [draw(figure(name), draw_trace, options.samples, name) for name in PICTURES]
-    are_drawn.append(draw(figure(CHOLESKY), draw_cholesky, options.library or "lib", options.temporary, missing=no_library))
+    are_drawn.append(draw(figure("cholesky"), draw_threads, options.library or "lib", options.temporary, missing=no_library))
+    missing = no_library or f"{mpi.name} is not installed" * (not shutil.which(mpi.compiler))
+    are_drawn.append(draw(figure("four-processes"), draw_processes, mpi, options.temporary, missing=missing))
     return 0 if all(are_drawn) else 1

@@ -13,8 +13,8 @@ import shutil
 import sys
 
 from . import library, mpi_graphs, profiles, repository, running
-from .c_programs import Run, judge, start
-from .mpi_graphs import ENVIRONMENT, MPIS, command_of, compiled
+from .c_programs import start
+from .mpi_graphs import ENVIRONMENT, MPIS, command_of, compiled, judge_run
 
 # the faults that uts_mpi.c has as an argument; mpi_cholesky.c has the second one
 FAULTS = ["late", "early", "uncounted"]
@@ -26,11 +26,6 @@ COMMANDS = (MPIS[0].compiler, MPIS[0].runner[0])
 Size = collections.namedtuple("Size", "trees matrix counts seeds")
 QUICK = Size(["T0"], ["256", "32"], [1, 2, 4], "60")
 FULL = Size(["T1", "T3"], ["1024", "64"], [1, 2, 4, 8, 16], "1000")
-
-
-def judge_processes(tally, program, processes, arguments, seconds=300):
-    options = {"env": ENVIRONMENT, "timeout": seconds + running.SECONDS}
-    print(judge(tally, command_of(MPIS[0], processes, program, arguments, seconds), Run([]), **options).strip(), flush=True)
 
 
 def judge_fault(tally, program, runs, seconds):
@@ -45,15 +40,15 @@ def run_programs(tally, folder, size):
     program, idle, cholesky = (compiled(MPIS[0], folder, name) for name in ("uts_mpi", "latency", "mpi_cholesky"))
     path = f"{folder}/events.json"
     for tree, processes in itertools.product(size.trees, size.counts):
-        judge_processes(tally, program, processes, [tree])
+        judge_run(tally, MPIS[0], processes, program, [tree])
     for processes in QUICK.counts:
-        judge_processes(tally, program, processes, ["--profile", path, "T0"], 60)
+        judge_run(tally, MPIS[0], processes, program, ["--profile", path, "T0"])
         # (an offset of a clock is not exact)
         found = profiles.faults(repository.text_of(path, ""), profiles.process_faults, processes, has_one_clock=False)
         tally.judge(not found, f"events of {processes} processes: {'; '.join(found)[:2000]}")
     for detector in ["proved", *PEERS]:
-        judge_processes(tally, program, 4, ["T0", detector], 60)
-        judge_processes(tally, idle, 4, [detector, "20"], 60)
+        for own, arguments_of in (program, ["T0", detector]), (idle, [detector, "20"]):
+            judge_run(tally, MPIS[0], 4, own, arguments_of)
     for fault in FAULTS:
         judge_fault(tally, program, [["T0", "proved", fault, str(seed)] for seed in range(1, SEEDS + 1)], 5)
     judge_fault(tally, cholesky, [[*QUICK.matrix, "2", FAULTS[1]]] * SEEDS, 10)

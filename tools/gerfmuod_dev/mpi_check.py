@@ -13,9 +13,9 @@ import subprocess
 import tempfile
 from concurrent.futures import ThreadPoolExecutor
 
-from . import library, repository, running
+from . import library, mpi_graphs, repository, running
 from .c_programs import output_of
-from .mpi_graphs import ROOT, Mpi
+from .mpi_graphs import ROOT
 from .shared_object import environment_options
 
 FOLDER, NAME = "capi/preload/mpi", "libgerfmuod_mpi_check.so"
@@ -24,8 +24,7 @@ OPTIONS += environment_options("CFLAGS")
 LINK = ["-Llib", "-Wl,-Bstatic", "-lgerfmuod", "-Wl,-Bdynamic", "-ldl", "-Wl,-z,defs", f"-Wl,--version-script={FOLDER}/mpi_check.map"]
 LINK += environment_options("LDFLAGS")
 # (a rank that yields while it polls loses a time slice each time on a busy machine)
-MPIS = [Mpi("Open MPI", "mpicc.openmpi", "mpifort.openmpi", "mpirun.openmpi --oversubscribe --mca mpi_yield_when_idle 0".split()),
-        Mpi("MPICH", "mpicc.mpich", "mpifort.mpich", ["mpirun.mpich"])]
+MPIS = [mpi._replace(runner=" ".join(mpi.runner).replace("idle 1", "idle 0").split()) for mpi in mpi_graphs.MPIS]
 FORTRAN_MODES = "right\t2\t\nwrong\t2\t\t: 0 +MPI_Recv +message from 1, tag 8, MPI_COMM_WORLD +\\S+ in \\w+\t4 bytes from rank 1, tag 7"
 VERDICT = re.compile(r"DEADLOCK|UNSAFE|LOST|MISMATCH|no verdict|bug of this library|without MPI_Finalize")
 

@@ -34,7 +34,8 @@ CPP = ["-std=c++17", *WARNINGS, "-DOMPI_SKIP_MPICXX", "-DMPICH_SKIP_MPICXX", "-O
 JACOBI, PATTERN = "100 steps of 32000 cells, sum 1000.000000", "checksum 543689408: right"
 IN_CPP = {"jacobi": JACOBI, "graph_bodies": "processes: as they should be"}
 IN_FORTRAN = {"jacobi": JACOBI, "graph_failures": "the chain ended, was stopped and was refused"}
-BLAS, SCALAPACK = ["-DHAVE_BLAS", "-lopenblas"], "/usr/lib/x86_64-linux-gnu/libscalapack-openmpi.so"
+BLAS = ["-DHAVE_BLAS", "-lopenblas"] if os.path.exists("/usr/include/x86_64-linux-gnu/cblas-openblas.h") else []
+SCALAPACK = "/usr/lib/x86_64-linux-gnu/libscalapack-openmpi.so"
 # mpirun has ended by then if a process ended in a body; it takes less than 2 seconds
 SECONDS_OF_CRASH, WELL = 30, "have the value"
 # the number of graphs in which a damage is sought, at three processes. With some the program hangs, and is ended after these seconds
@@ -72,8 +73,22 @@ def compiled_fortran(mpi, folder, name):
     return path
 
 
+def with_rows(mpi, folder):
+    """Compiles the factorization with graph_rows.c, which writes the times of a run to $GERFMUOD_ROWS."""
+    wrapped = ["-Wl," + ",".join(f"--wrap=gerfmuod_mpi_{name}" for name in ("data", "task_on", "run"))]
+    return compiled(mpi, folder, "graph_cholesky", (SOURCE, f"{FOLDER}/graph_rows.c"), [*wrapped, *BLAS], f"{folder}/with_rows")
+
+
 def command_of(mpi, processes, program, arguments, seconds=running.SECONDS):
     return ["timeout", "-k", "5", str(seconds), *mpi.runner, "-n", str(processes), program, *arguments]
+
+
+def judge_run(tally, mpi, processes, program, arguments, expected="", seconds=running.SECONDS):
+    """Runs a program and prints what it prints; counts whether it succeeds, and prints a text."""
+    environment = {**ENVIRONMENT, "STARPU_HOME": os.path.dirname(program), "GERFMUOD_ROWS": f"{program}.rows"}
+    options = {"env": environment, "timeout": seconds + running.SECONDS}
+    output = judge(tally, command_of(mpi, processes, program, arguments, seconds), Run([], 0, expected), **options)
+    print(mpi.name, output.strip(), sep=": ", flush=True)
 
 
 def starpu():
@@ -106,8 +121,7 @@ def judge_crashes(tally, mpi, program):
 def run_programs(tally, folder, size):
     """Runs each program with these numbers of processes, the fuzz over this number of seeds; the damages with one MPI."""
     found = [mpi for mpi in MPIS if tally.has(mpi.compiler, f"task graphs over {mpi.name}")]
-    blas, names = BLAS if os.path.exists("/usr/include/x86_64-linux-gnu/cblas-openblas.h") else [], ("graph_cholesky", "mpi_cholesky")
-    peers = [("../../bench/peers/pdpotrf", ["-lscalapack-openmpi"])] * bool(blas and os.path.exists(SCALAPACK))
+    peers = [("../../bench/peers/pdpotrf", ["-lscalapack-openmpi"])] * bool(BLAS and os.path.exists(SCALAPACK))
     peers += [("../bench/peers/starpu_cholesky", starpu())] * (len(starpu()) > 1)
     if len(peers) < 2:
         tally.skips("factorizations by ScaLAPACK, StarPU or OpenBLAS", "libscalapack-openmpi-dev, libstarpu-dev or libopenblas-dev")
@@ -115,9 +129,9 @@ def run_programs(tally, folder, size):
         fuzz, jacobi, costs = (compiled(mpi, folder, name) for name in ("graph_fuzz", "mpi_jacobi", "graph_costs"))
         crash, search, patterns = (compiled(mpi, folder, name) for name in ("graph_crash", "uts_mpi", "graph_patterns"))
         pool_fuzz, pool_search = (compiled(mpi, folder, name, (POOL, SOURCE)) for name in ("pool_fuzz", "pool_search"))
-        factoring = [compiled(mpi, folder, name, options=blas) for name in names]
+        factoring = [with_rows(mpi, folder), *(compiled(mpi, folder, name, options=BLAS) for name in ("graph_cholesky", "mpi_cholesky"))]
         for name, options in peers * (mpi.name == "Open MPI"):
-            factoring.append(compiled(mpi, folder, name, path=f"{folder}/{os.path.basename(name)}", options=[*options, *blas]))
+            factoring.append(compiled(mpi, folder, name, path=f"{folder}/{os.path.basename(name)}", options=[*options, *BLAS]))
         runs = [(program, ["1", size.seeds, *rest], "") for program in (fuzz, pool_fuzz) for rest in (["1"], ["2"], ["2", "fails"])]
         runs += [(jacobi, [], JACOBI), (crash, ["none", "2"], WELL), (search, ["T0"], "right")]
         runs += [(pool_search, [tree, "2"], "right") for tree in size.trees]
@@ -129,10 +143,8 @@ def run_programs(tally, folder, size):
         for processes in size.counts:
             # (with 16 processes the threads of StarPU, which never sleep, take minutes)
             own = [run for run in runs if processes <= 4 or "starpu" not in run[0]]
-            for program, arguments, expected in [*own, *[(costs, ["100"], "a message of 8 bytes")] * (processes == 2)]:
-                command = command_of(mpi, processes, program, arguments)
-                options = {"env": {**ENVIRONMENT, "STARPU_HOME": folder}, "timeout": 2 * running.SECONDS}
-                print(mpi.name, judge(tally, command, Run([], 0, expected), **options).strip(), sep=": ", flush=True)
+            for run in [*own, *[(costs, ["100"], "a message of 8 bytes")] * (processes == 2)]:
+                judge_run(tally, mpi, processes, *run)
         judge_crashes(tally, mpi, crash)
     for mpi in found[:1]:
         judge_damages(tally, mpi, folder)

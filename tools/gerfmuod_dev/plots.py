@@ -1,14 +1,12 @@
 """Draws the plots of docs/figures with matplotlib, and the map of the crates with graphviz.
 
-Plots of measurements are drawn from the rows of docs/measurements, the run of Cholesky from cholesky-run.csv there, and the map from
+Plots are drawn from the rows of docs/measurements, runs of Cholesky from cholesky-run.csv and four-processes.csv there, and the map from
 crates.txt and the table of docs/ARCHITECTURE.md. A file ends with a digest of what it shows and of the code that draws it; `make
 test` compares these digests, without matplotlib and graphviz. `tools/bench-packages` prints the packages. The status is 1 if a
 plot could not be drawn: a package is missing.
 """
-import csv
 import functools
 import hashlib
-import io
 import json
 import math
 import os
@@ -22,11 +20,9 @@ from .bench import figures
 from .event_format import Profile
 from .repository import TOP, text_of
 
-RUN_PATH = f"{TOP}/docs/measurements/cholesky-run.csv"
+# the rows of runs of Cholesky: on threads, and over MPI, as capi/mpi/graph_rows.c writes them
+RUNS = {name: f"{TOP}/docs/measurements/{name.replace('sky', 'sky-run')}.csv" for name in ("cholesky", "four-processes")}
 KINDS = ["factor", "solve", "square", "product"]
-RUN_COLUMNS = ["thread", "task", "kind", "begin us", "length us"]
-# the kind of its first row, which has the number of threads, that of tasks, and the length of the run
-RUN = "run"
 PAGE = "docs/ARCHITECTURE.md"
 ROW = re.compile(r"^\|([^|\n]*)\| *([a-z]\w*) *\|([^|\n]*)\|[^|\n]*\|$", re.M)
 # a colour for each group, in the order of crates.txt
@@ -85,31 +81,34 @@ def critical_path(tasks, lengths):
 
 
 def rows_of_run(events, tiles):
-    """Returns the rows of a run with this number of tiles in a row, from its trace events, as the file stores them."""
-    profile, tasks, text = Profile(events), tasks_of(tiles), io.StringIO()
-    rows = [RUN_COLUMNS, [len(profile.about["workers"]), len(tasks), RUN, 0.0, profile.about["elapsed_us"]]]
-    for event in sorted((event for event in profile.slices if "task" in event["args"]), key=lambda event: event["args"]["task"]):
-        task = event["args"]["task"]
-        rows.append([event["tid"], task, tasks[task][0], event["ts"], event["dur"]])
-    csv.writer(text, lineterminator="\n").writerows(rows)
-    return text.getvalue()
+    """Returns the rows of a run with this number of tiles in a row, from its trace events; the first one is of the whole run."""
+    profile, tasks = Profile(events), tasks_of(tiles)
+    bodies = sorted((event["args"]["task"], event["tid"], event["ts"], event["dur"]) for event in profile.slices if "task" in event["args"])
+    rows = [["thread", "task", "kind", "begin us", "length us"]]
+    rows.append([len(profile.about["workers"]), len(tasks), "run", 0.0, profile.about["elapsed_us"]])
+    rows += [[thread, task, tasks[task][0], begin, length] for task, thread, begin, length in bodies]
+    return "".join(",".join(map(str, row)) + "\n" for row in rows)
 
 
-def plot_of_run(text=None):
-    """Returns what the plot of a run shows, in milliseconds: of the rows of a text, or of the stored ones."""
-    _, first, *rows = csv.reader((text or text_of(RUN_PATH)).splitlines())
-    threads, count, elapsed = int(first[0]), int(first[1]), float(first[4]) / 1000
+def plot_of_run(text):
+    """Returns what the plot of a run shows, in milliseconds. If a row has a number as its kind, it is a message to that process."""
+    columns, *rows = (line.split(",") for line in text.splitlines())
+    (lanes, count, *_, elapsed), *rows = ([int(row[0]), int(row[1]), row[2], *(float(time) / 1000 for time in row[3:])] for row in rows)
     # n tiles in a row have n (n + 1) (n + 2) / 6 tasks
-    tiles = next(tiles for tiles in range(1, count + 1) if math.comb(tiles + 2, 3) == count)
-    path, length = critical_path(tasks_of(tiles), [float(row[4]) / 1000 for row in rows])
-    bodies = [[int(row[0]), row[2], float(row[3]) / 1000, float(row[4]) / 1000, int(row[1]) in path] for row in rows]
-    title = f"{count} tasks on {threads} threads: {elapsed:.1f} ms; the critical path: {length:.1f} ms"
-    return {"kind": "threads", "names": KINDS, "threads": threads, "bodies": bodies, "elapsed": elapsed, "title": title}
+    tasks = tasks_of(next(tiles for tiles in range(1, count + 1) if math.comb(tiles + 2, 3) == count))
+    messages = [[lane, begin, int(to), begin + length] for lane, _, to, begin, length in rows if to.isdigit()]
+    rows = [row for row in rows if not row[2].isdigit()]
+    path, length = critical_path(tasks, [row[4] for row in rows])
+    bodies = [[lane, tasks[task][0], begin, length, task in path] for lane, task, _, begin, length in rows]
+    on = f"{lanes} processes, {len(messages)} messages" if messages else f"{lanes} threads"
+    title = f"{count} tasks on {on}: {elapsed:.1f} ms; the critical path: {length:.1f} ms"
+    runs = {"lane": columns[0], "bodies": bodies, "messages": messages, "elapsed": elapsed, "title": title}
+    return {"kind": "lanes", "names": KINDS, **runs}
 
 
 # each plot with a function that returns what it shows, or nothing; the map is text for `dot`
 PLOTS = {name: functools.partial(figures.plot_of, name) for name in figures.PLOTS}
-PLOTS.update(cholesky=plot_of_run, crates=graph)
+PLOTS.update({name: lambda path=path: plot_of_run(text_of(path)) for name, path in RUNS.items()}, crates=graph)
 
 
 def digest_of(plot):

@@ -22,9 +22,10 @@
 
 /* The tags of messages: that the graph was stopped, and the first with a value. */
 enum { STOP = 0, FIRST_VALUE = 1 };
-/* After SPINS polls without a message the main thread yields its processor between them, after POLLS it sleeps, each time longer, at most
- * 1 << NAPS microseconds. */
-enum { SPINS = 50, POLLS = 250, NAPS = 6 };
+/* After SPINS polls in vain the main thread yields its processor between them, after POLLS it sleeps, each time longer, at most 1 << NAPS
+ * microseconds. If a yield takes LONG nanoseconds, other threads need the processor: then CROWDED pauses are sleeps from the first one on.
+ * A thread that wakes gets the processor soon, one that yielded only after the others. */
+enum { SPINS = 50, POLLS = 250, NAPS = 6, LONG = 200000, CROWDED = 300 };
 /* The values of a body for which there is room on the stack. */
 enum { FEW_VALUES = 8 };
 /* How many hashes of the description are kept, at most; the hash of none. */
@@ -134,15 +135,44 @@ static void *grown(void *block, uint32_t count, size_t size) {
     return count & (count - 1) ? block : realloc(block, (count ? 2 * (size_t)count : 1) * size);
 }
 
+/* ---- waiting */
+
+/* Pauses after some polls in vain. */
+static void pause_after(uint32_t *polls) {
+    static _Thread_local uint32_t crowded; /* how many pauses are still sleeps */
+    uint32_t naps = ++*polls > POLLS ? *polls - POLLS : crowded && *polls > SPINS ? *polls - SPINS : 0;
+    struct timespec before, after;
+    if (naps) {
+        nanosleep(&(struct timespec){.tv_nsec = 1000L << (naps < NAPS ? naps : NAPS)}, NULL);
+        if (crowded) crowded--;
+    } else if (*polls > SPINS) {
+        clock_gettime(CLOCK_MONOTONIC, &before);
+        sched_yield();
+        clock_gettime(CLOCK_MONOTONIC, &after);
+        if ((after.tv_sec - before.tv_sec) * 1000000000 + after.tv_nsec - before.tv_nsec > LONG) crowded = CROWDED;
+    }
+}
+
+/* Waits for a request as MPI_Wait does, but that may keep the processor from the process that it waits for. It sleeps only if others need
+ * the processor: a message that is on its way may need this process. mpi_pool.c calls it, too. */
+void gerfmuod_mpi_await(MPI_Request *request) {
+    int is_complete = 1; /* also if MPI fails, and returns that */
+    for (uint32_t polls = 0; MPI_Test(request, &is_complete, MPI_STATUS_IGNORE), !is_complete; is_complete = 1, pause_after(&polls))
+        if (polls == POLLS) polls = SPINS;
+}
+
+/* Begins what has a request, and waits for it. */
+#define AWAIT(begin) do { MPI_Request request = MPI_REQUEST_NULL; begin; gerfmuod_mpi_await(&request); } while (0)
+
 /* ---- the description */
 uint32_t gerfmuod_mpi_open(gerfmuod_mpi **opened, MPI_Comm communicator) {
     gerfmuod_mpi *graph = calloc(1, sizeof *graph);
     uint64_t *hashes = malloc(MOST_HASHES * sizeof *hashes);
     int lacks = !graph || !hashes, lack;
-    MPI_Allreduce(&lacks, &lack, 1, MPI_INT, MPI_MAX, communicator);
+    AWAIT(MPI_Iallreduce(&lacks, &lack, 1, MPI_INT, MPI_MAX, communicator, &request));
     *opened = lack ? NULL : graph;
     if (lack) return free(graph), free(hashes), (uint32_t)GERFMUOD_REFUSED_NO_MEMORY;
-    MPI_Comm_dup(communicator, &graph->communicator);
+    AWAIT(MPI_Comm_idup(communicator, &graph->communicator, &request));
     MPI_Comm_rank(graph->communicator, &graph->me);
     MPI_Comm_size(graph->communicator, &graph->processes);
     gerfmuod_part_open(&graph->part, (uint32_t)graph->me, (uint32_t)graph->processes);
@@ -480,7 +510,7 @@ static void await_sends(gerfmuod_mpi *graph, uint32_t reader) {
         else high = middle;
     }
     for (; low < graph->receipts_count && graph->receipts[low].reader == reader; low++)
-        MPI_Wait(&graph->receipts[low].of->request, MPI_STATUS_IGNORE);
+        gerfmuod_mpi_await(&graph->receipts[low].of->request);
 }
 
 static void receive_value(gerfmuod_mpi *graph, int from, uint32_t number) {
@@ -493,7 +523,7 @@ static void receive_value(gerfmuod_mpi *graph, int from, uint32_t number) {
         add_place(graph, &p, count, c->at, c->size);
     }
     buffer b = buffer_of(graph, p);
-    MPI_Recv(b.at, b.count, b.type, from, FIRST_VALUE + (int)number, graph->communicator, MPI_STATUS_IGNORE);
+    AWAIT(MPI_Irecv(b.at, b.count, b.type, from, FIRST_VALUE + (int)number, graph->communicator, &request));
     free_type(&b);
     await_sends(graph, number);
     pthread_mutex_lock(&graph->lock);
@@ -530,14 +560,6 @@ static void forget_sent(gerfmuod_mpi *graph) {
         if (is_complete) *at = m->next_sent;
         else at = &m->next_sent;
     }
-}
-
-/* Pauses after some polls without a message. */
-static void pause_after(uint32_t *polls) {
-    uint32_t naps = ++*polls > POLLS ? *polls - POLLS : 0;
-    if (*polls <= SPINS) return;
-    if (naps) nanosleep(&(struct timespec){.tv_nsec = 1000L << (naps < NAPS ? naps : NAPS)}, NULL);
-    else sched_yield();
 }
 
 /* Runs a task, if one is ready and no message is due before it, and sends what is due: what the task wrote goes before anything else is
@@ -587,9 +609,10 @@ static void communicate(gerfmuod_mpi *graph, bool is_alone, int64_t *failure) {
 /* After a stop: receives what is still in flight, so that nothing of this run is left in the communicator. */
 static void drain(gerfmuod_mpi *graph) {
     uint64_t *sent = must_have(graph, (size_t)graph->processes, sizeof *sent);
-    MPI_Alltoall(graph->sent_to, 1, MPI_UINT64_T, sent, 1, MPI_UINT64_T, graph->communicator);
+    AWAIT(MPI_Ialltoall(graph->sent_to, 1, MPI_UINT64_T, sent, 1, MPI_UINT64_T, graph->communicator, &request));
     for (int p = 0; p < graph->processes; p++)
-        while (graph->received_from[p] < sent[p]) receive(graph);
+        for (uint32_t polls = 0; graph->received_from[p] < sent[p];)
+            if (!receive(graph)) pause_after(&polls);
     free(sent);
 }
 
@@ -598,7 +621,7 @@ static void drain(gerfmuod_mpi *graph) {
 /* Whether a hash is the same in all processes. */
 static bool is_common(const gerfmuod_mpi *graph, uint64_t hash) {
     uint64_t mine[2] = {hash, ~hash}, all[2];
-    MPI_Allreduce(mine, all, 2, MPI_UINT64_T, MPI_MAX, graph->communicator);
+    AWAIT(MPI_Iallreduce(mine, all, 2, MPI_UINT64_T, MPI_MAX, graph->communicator, &request));
     return all[0] == ~all[1];
 }
 
@@ -611,7 +634,7 @@ static uint64_t hash_of(const gerfmuod_mpi *graph, uint32_t count) {
 /* Leaves as the failure where the descriptions begin to differ, and the lowest process whose one is not that of process 0. */
 static void find_difference(gerfmuod_mpi *graph) {
     uint32_t mine[2] = {graph->described, graph->stride}, most[2];
-    MPI_Allreduce(mine, most, 2, MPI_UINT32_T, MPI_MAX, graph->communicator);
+    AWAIT(MPI_Iallreduce(mine, most, 2, MPI_UINT32_T, MPI_MAX, graph->communicator, &request));
     uint32_t stride = most[1], low = 0, high = most[0] / stride + 1; /* how many strides are the same, and how many are not */
     while (high - low > 1) {
         uint32_t middle = low + (high - low) / 2;
@@ -621,13 +644,13 @@ static void find_difference(gerfmuod_mpi *graph) {
     uint64_t hash = hash_of(graph, high * stride), first = hash;
     MPI_Bcast(&first, 1, MPI_UINT64_T, 0, graph->communicator);
     int64_t different = hash == first ? NO_FAILURE : failure_of(graph, low * stride);
-    MPI_Allreduce(&different, &graph->failure, 1, MPI_INT64_T, MPI_MIN, graph->communicator);
+    AWAIT(MPI_Iallreduce(&different, &graph->failure, 1, MPI_INT64_T, MPI_MIN, graph->communicator, &request));
 }
 
 /* What all processes return, if one of them may not run. */
 static uint32_t agree_to_run(gerfmuod_mpi *graph, uint32_t refused) {
     uint64_t mine[3] = {refused ? (uint64_t)(graph->processes - graph->me) << 32 | refused : 0, graph->hash, ~graph->hash}, all[3];
-    MPI_Allreduce(mine, all, 3, MPI_UINT64_T, MPI_MAX, graph->communicator);
+    AWAIT(MPI_Iallreduce(mine, all, 3, MPI_UINT64_T, MPI_MAX, graph->communicator, &request));
     if (all[0]) return (uint32_t)all[0];
     if (all[1] == ~all[2]) return GERFMUOD_OK;
     find_difference(graph);
@@ -666,7 +689,7 @@ uint32_t gerfmuod_mpi_run(gerfmuod_mpi *graph, uint32_t threads) {
     for (uint32_t k = 0; k < begun; k++) pthread_join(started[k], NULL);
     free(started);
     if (failure != NO_FAILURE) drain(graph), graph->failure = failure, refused = GERFMUOD_REFUSED_STOPPED;
-    while (graph->sending) forget_sent(graph); /* all of them were received, or are being received */
+    for (message *m = graph->sending; m; m = m->next_sent) gerfmuod_mpi_await(&m->request); /* all are received, or being received */
     return refused;
 }
 
@@ -710,7 +733,7 @@ void gerfmuod_mpi_close(gerfmuod_mpi *graph) {
 /* ---- the detector */
 uint32_t gerfmuod_mpi_detector_open(gerfmuod_mpi_detector *detector, MPI_Comm communicator) {
     int me, processes;
-    for (int k = 0; k < 2; k++) MPI_Comm_dup(communicator, &detector->communicators[k]);
+    for (int k = 0; k < 2; k++) AWAIT(MPI_Comm_idup(communicator, &detector->communicators[k], &request));
     for (int k = 0; k < 4; k++) detector->requests[k] = MPI_REQUEST_NULL;
     MPI_Comm_rank(communicator, &me);
     MPI_Comm_size(communicator, &processes);
@@ -769,6 +792,6 @@ uint32_t gerfmuod_mpi_detector_wait(gerfmuod_mpi_detector *detector, int *has_me
 uint32_t gerfmuod_mpi_detector_reopen(gerfmuod_mpi_detector *detector) { return gerfmuod_process_reopen(&detector->process); }
 
 void gerfmuod_mpi_detector_close(gerfmuod_mpi_detector *detector) {
-    for (int k = 0; k < 4; k++) MPI_Wait(&detector->requests[k], MPI_STATUS_IGNORE);
+    for (int k = 0; k < 4; k++) gerfmuod_mpi_await(&detector->requests[k]);
     for (int k = 0; k < 2; k++) MPI_Comm_free(&detector->communicators[k]);
 }

@@ -62,10 +62,14 @@ struct gerfmuod_mpi_pool {
 /* Signed, as MPICH compares MPI_UINT64_T too. */
 #define NO_FAILURE INT64_MAX
 
+/* Begins what has a request, and waits for it by a function of mpi.c. */
+#define AWAIT(begin) do { MPI_Request request = MPI_REQUEST_NULL; begin; gerfmuod_mpi_await(&request); } while (0)
+void gerfmuod_mpi_await(MPI_Request *request);
+
 uint32_t gerfmuod_mpi_pool_open(gerfmuod_mpi_pool **opened, MPI_Comm communicator) {
     gerfmuod_mpi_pool *pool = calloc(1, sizeof *pool);
     int lacks = !pool, lack;
-    MPI_Allreduce(&lacks, &lack, 1, MPI_INT, MPI_MAX, communicator);
+    AWAIT(MPI_Iallreduce(&lacks, &lack, 1, MPI_INT, MPI_MAX, communicator, &request));
     *opened = lack ? NULL : pool;
     if (lack) return free(pool), (uint32_t)GERFMUOD_REFUSED_NO_MEMORY;
     MPI_Comm_rank(communicator, &pool->me);
@@ -232,8 +236,8 @@ static void receive(gerfmuod_mpi_pool *pool, const MPI_Status *status) {
     MPI_Get_count(status, MPI_BYTE, &size);
     item *i = new_item(pool->me, status->MPI_TAG, NULL, (size_t)size);
     if (!i) must(pool, GERFMUOD_REFUSED_NO_MEMORY);
-    MPI_Recv(i->arguments, size, MPI_BYTE, status->MPI_SOURCE, status->MPI_TAG, gerfmuod_mpi_detector_communicator(&pool->detector),
-             MPI_STATUS_IGNORE);
+    AWAIT(MPI_Irecv(i->arguments, size, MPI_BYTE, status->MPI_SOURCE, status->MPI_TAG,
+                    gerfmuod_mpi_detector_communicator(&pool->detector), &request));
     int64_t failure = NO_FAILURE;
     if (i->tag == STOP) memcpy(&failure, i->arguments, sizeof failure);
     pthread_mutex_lock(&pool->lock);
@@ -294,7 +298,7 @@ static void communicate(gerfmuod_mpi_pool *pool) {
 static uint32_t agree_to_run(gerfmuod_mpi_pool *pool, uint32_t refused) {
     int64_t mine[3] = {refused ? (int64_t)(pool->processes - pool->me) << 32 | refused : 0, pool->kinds_count, -(int64_t)pool->kinds_count};
     int64_t all[3];
-    MPI_Allreduce(mine, all, 3, MPI_INT64_T, MPI_MAX, gerfmuod_mpi_detector_communicator(&pool->detector));
+    AWAIT(MPI_Iallreduce(mine, all, 3, MPI_INT64_T, MPI_MAX, gerfmuod_mpi_detector_communicator(&pool->detector), &request));
     if (all[0]) return (uint32_t)all[0];
     return all[1] == -all[2] ? GERFMUOD_OK : GERFMUOD_REFUSED_DIFFERENT;
 }
@@ -310,8 +314,8 @@ static uint32_t start(gerfmuod_mpi_pool *pool, pthread_t *started, uint32_t othe
 static int64_t run_all(gerfmuod_mpi_pool *pool) {
     int64_t failure;
     communicate(pool);
-    while (pool->sending) forget_sent(pool); /* all of them were received */
-    MPI_Allreduce(&pool->failure, &failure, 1, MPI_INT64_T, MPI_MIN, gerfmuod_mpi_detector_communicator(&pool->detector));
+    for (; pool->sending; forget_sent(pool)) gerfmuod_mpi_await(&pool->sending->request); /* all of them were received */
+    AWAIT(MPI_Iallreduce(&pool->failure, &failure, 1, MPI_INT64_T, MPI_MIN, gerfmuod_mpi_detector_communicator(&pool->detector), &request));
     return failure;
 }
 

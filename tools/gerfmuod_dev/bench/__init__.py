@@ -25,7 +25,7 @@ with no busy process and with four. It begins only on a machine at rest, and its
 import os
 import sys
 
-from .. import library, plots, repository, running
+from .. import library, mpi_graphs, plots, repository
 from ..repository import processors
 from . import comparing, conditions, document, figures, rows, soundness, tables
 from .cases import FRONT, MEASUREMENTS, PROGRAMS
@@ -125,16 +125,12 @@ def compare_outputs(tally, folder):
         except SystemExit as error:
             reason = error
         tally.judge(not reason, reason)
-    starpu = ["-DHAVE_STARPU", *running.run(["pkg-config", "--cflags", "--libs", "starpumpi-1.3"]).out.decode().split()]
-    starpu += [f"-L{repository.TOP}/lib", "-lgerfmuod", "-pthread", "-lm"]
-    peers.program("starpu", ("mpicc", f"-I{repository.TOP}/capi/include"), "../../capi/bench/peers/starpu_cholesky.c", tuple(starpu))
+    starpu = (*mpi_graphs.starpu(), f"-L{repository.TOP}/lib", "-lgerfmuod", "-pthread", "-lm")
+    peers.program("starpu", ("mpicc", f"-I{repository.TOP}/capi/include"), "../../capi/bench/peers/starpu_cholesky.c", starpu)
     peers.program("grain_tbb", tuple(CPP), "../../capi/bench/peers/grain_tbb.cpp", ("-pthread", "-ltbb"))
     peers.over_library("processes")
     for source, needed in peers.left_out.items():
-        if needed:
-            tally.skips(f"bench/peers/{source}", needed)
-        else:
-            tally.fails(f"bench/peers/{source} is left out")
+        tally.skips(f"bench/peers/{source}", needed) if needed else tally.fails(f"bench/peers/{source} is left out")
     return None
 
 

@@ -281,10 +281,6 @@ def library(rows):
     return table(["Steps of", "Program", "nanoseconds a step", "instructions a step", "bytes a step"], lines)
 
 
-def program_and_place(row):
-    return f"{row.program}, {row.where}"
-
-
 def time_text(form, unit_of, _, row):
     """Returns the time of a row in a unit, with its quartiles if it has several workers."""
     times = [form.format(time * unit_of(row)) for time in (row.milliseconds, row.lower_quartile, row.upper_quartile)]
@@ -320,8 +316,8 @@ def task_graphs(rows):
     shown = [(title, [row for row in rows if kinds[row] == title], text_of) for title, (_, text_of) in GRAPHS.items()]
     counted = [row for row in rows if row.instructions]
     shown.append(("Instructions a task, with its description, one thread", counted, lambda _, row: cell(each_unit(row), "{:,.0f}")))
-    tables = [(title, grid("", own, "case", program_and_place, functools.partial(text_of, own))) for title, own, text_of in shown if own]
-    return "\n\n".join(f"{title}:\n\n{text}" for title, text in tables)
+    column_of, tables = "{0.program}, {0.where}".format, [(title, own, functools.partial(text_of, own)) for title, own, text_of in shown if own]
+    return "\n\n".join(f"{title}:\n\n{grid('', own, 'case', column_of, text_of_row)}" for title, own, text_of_row in tables)
 
 
 def times_and_messages(row):
@@ -372,13 +368,11 @@ def detectors(rows):
 def preloaded(rows):
     """Returns a line for each case: its time without the checker and with it, and the ratio of both."""
 
-    fields = ("microseconds", "lower_quartile", "upper_quartile")
-
     def cell_of(case, name):
-        own = {row.detector: row for row in having(rows, case=case)}
-        if name in own:
-            return "{:.2f} ({:.2f}–{:.2f})".format(*(getattr(own[name], field) for field in fields))
-        return ratio_of_rows(*fields, own["with"], own["without"])
+        if own := found(rows, case=case, detector=name):
+            return times_of("{:.2f} ({:.2f}–{:.2f})", 1, own)
+        both = (found(rows, case=case, detector=way) for way in ("with", "without"))
+        return ratio_of_rows("microseconds", "lower_quartile", "upper_quartile", *both)
 
     return pivot("Microseconds (quartiles)", distinct(rows, "case"), {name: name for name in ("without", "with", "ratio")}, cell_of)
 
