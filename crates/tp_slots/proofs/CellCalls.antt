@@ -1,32 +1,8 @@
 -- How a call on raw cells meets its contract: what it gets, and what it has to leave. Assumes `Logic`.
 -- docs/PROOFS-OF-CELLS.md explains such a proof step by step.
-use Prim.Native.Nat.{ℕ}
-use Rattle.std.proofs.{alloc.Calls.Goes-blank, mem.Param.El, raw_atomic.Walks.{proved_at, leaves}}
-use Rattle.tp_slots.proofs.{CellSteps.{seen, borrow}, CellsMemory.Cr}
-use base.Fml.{ftrue, flft}
-use base.Logic.{SProp, ent, emp, via, id⊢, emp∗}
-use contract.Lifetimes.{Lfts, Shares, Outlives, AllOutlive}
-use contract.Running.{Running, MachineTables, tables}
-use denote.Builtin.{RefMutOf}
-use denote.Exit.{yes, Last, left}
-use denote.Laws.{Are, Ises}
-use denote.Param.Mute.{blank}
-use denote.RattleType.{Denots, Valss, flat, owns}
-use denote.Ref.{mut_vals}
-use denote.Signature.{Slot, Signature, plain, types_at, type_at}
-use denote.Steps.{nothing}
-use denote.Triple.{Clauses.{Ended, Clauses, Lasts, at_exit, closing}, End.{Kepts, Fins}, Entry.{Args, Vals, Res, alive}, Spec.Meets}
-use denote.Triple.Walked.{Stays, stay_dropped, stay_ref, fits_of, has_of, walk_of, AllGo, Goes-ref}
-use lib.Dec.{T}
-use mathlib.Core.{List.{List, [], ◌∷◌}, Path.◌≡◌}
-use mir.Syntax.{Fn, Callee}
-use mir.Val.{Val}
-use prog.Model.{Model}
-use prog.Wp.{WpFn, Closed}
-use seplogic.Ra.Ura.{Ura}
-use types.Kit.{Sq, ⋆, ‵, raw, ◌⊛◌, prop, ◌$◌, ◌∵◌, !, qed, by, move, keep, drop, split, split3, fsplit, fsplit3, fjoin, fjoin3, feq_i}
-use types.Kit.{group, use0}
-use types.Logic.{Logic, sem}
+pub mod CellSteps
+pub use CellSteps.*
+use Rattle.std.proofs.raw_atomic.Walks.{leaves}
 
 module _ {n : ℕ} where
   -- of none of these parameters has the call anything left when it returns
@@ -139,7 +115,7 @@ module _ (E : El) (outlives : List (Outlives 2)) (ss : List (Slot 2)) (ks : Kept
         let κs = y.0.0 in let qs = y.0.1 in let a = y.0.3 in let vss = y.0.4 in
         qed 𝓛 (((‵ (flft κs.0 qs.0) ⊛ ‵ (flft κs.1.0 qs.1.0) ⊛ ‵ ftrue) ⊛ ‵ (owns (types_at B.params κs) a vss))
         ∷ raw ((c κs a).requires y.1) ∷ []) ∵
-        split ! $ move ! (1 ∷ []) $ fsplit ! $ fsplit3 ! $ drop ! $ move ! (3 ∷ []) $ split3 ! $ keep ! (3 ∷ 4 ∷ 0 ∷ 1 ∷ 5 ∷ 6 ∷ []) $
+        split ! $ move ! (1 ∷ []) $ fsplit ! $ fsplit3 ! $ skip ! $ move ! (3 ∷ []) $ split3 ! $ keep ! (3 ∷ 4 ∷ 0 ∷ 1 ∷ 5 ∷ 6 ∷ []) $
         walk κs qs a vss y.1 are.0.0 are.1 ((walk_of 𝓛 Lent held c).post y) (λ v r new ws.
         qed 𝓛 (‵ (seen E a.0 new) ∷ ‵ (borrow E a.0 κs.0) ∷ ‵ (flft κs.0 qs.0) ∷ ‵ (flft κs.1.0 qs.1.0)
         ∷ ‵ ((type_at res κs).own_val r (v ∷ [])) ∷ raw ((c κs a).ensures y.1 r (at_exit Lent κs a (new, ws))) ∷ []) ∵

@@ -1,18 +1,7 @@
-pub mod Chained
-pub mod Keeping
-pub mod Moves
-pub mod Housed
-pub mod Standing
-pub mod CellsSharing
-pub mod CellsMemory
-pub mod CellsLeases
-pub mod ChainLemmas
-pub mod CellsCrossing
-pub mod CellWords
-pub mod CellSteps
+-- The lemmas on slots and those on raw cells; each file has the next one below it. Crates above cite `Sound` and `PlaceLists`.
+pub mod Lemmas
 pub mod CellCalls
-pub mod SlabItems
-pub mod Sound
-pub mod Kept
-pub mod PlaceLists
-pub mod Naming
+pub use Rattle.tp_slots.proofs.Lemmas.Naming as Naming
+pub use Rattle.tp_slots.proofs.Lemmas.Naming.Moves as Moves
+pub use Rattle.tp_slots.proofs.Lemmas.Naming.Moves.Keeping.Lists.SlabItems.PlaceLists.Sound as Sound
+pub use Rattle.tp_slots.proofs.Lemmas.Naming.Moves.Keeping.Lists.SlabItems.PlaceLists as PlaceLists

@@ -1,30 +1,6 @@
 -- How a store's parts change with one task: it enters, gets an input, begins, is done.
-use Rattle.std.proofs.Common.{◌≡◌, ◌≢◌, ◌^◌, ℕ, zero, suc, ◌+◌, ◌-◌, ◌<◌, ◌≤◌, Bool, true, false, cond, List, [], ◌∷◌, ◌++◌, length, get_or}
-use Rattle.std.proofs.Common.{replicate, map, Option, Some, None, is_some, is_none, IfSome, IsSome, unwrap_or, count_by, set, vec_len}
-use Rattle.std.proofs.{Common.{vec_capacity, inl, inr, refl, sym, ap, subst, ◌∙◌, arith}, lemmas.Bool.{cases_eq, Decides.nat_tests}}
-use Rattle.std.{proofs.lemmas.List.{length-set, get_or-replicate, Sums.{sum_by-cons, sum_by-set}}, specs.Cmp.nat_cmp_total}
-use Rattle.std.specs.{Option.{option_map, IsSomeAnd}, Ordering.nat_cmp, Prelude.{nat_lt, if◌then◌else◌, ◌==◌, ◌||◌, not, MatchBool}}
-use Rattle.std.specs.declared.vec.Vec.{Vec}
-use Rattle.tp_base.specs.{Table.lookup, declared.{ids.TaskId.TaskId, refusal.Refusal.TheVariants.{TaskKnown, WrongLife, SlotTaken}}}
-use Rattle.tp_slots.proofs.{PlaceLists.{front-each, front_none-each, without_front-each}, Sound.{get_inserted, IsSound-nothing_held}}
-use Rattle.tp_slots.proofs.Sound.{IsSound-with_item, IsSound-without_item, IsSound-without_next, IsIdle-front, idle_with_item}
-use Rattle.tp_slots.proofs.Sound.{idle_when_taken, without_front-empty}
-use Rattle.tp_store.proofs.Contents.{same_number, task_here, NotReady, unknown, waiting, waits_not, ready_in, front_ready, IsSound-put}
-use Rattle.tp_store.proofs.Contents.{IsSound-begun, IsSound-done, counts-moved, moves, is_counted, some_counted, unfinished_life}
-use Rattle.tp_store.proofs.{Contents.waiting_unfinished, Filling.{no_values, lacks_life, lacking_life, not_begun_life, waiting_life}}
-use Rattle.tp_store.proofs.{Filling.IsTask-fresh, Keeping.{room_under, get-tasks_of, tasks-put, numbers_same, none_listed, item_here}}
-use Rattle.tp_store.proofs.Keeping.{item_there, gone_here, gone_there, listed_items, listed_sound, listed_lists, at_item, seen, seen_live}
-use Rattle.tp_store.{proofs.Keeping.{few_live, live_held, nothing_there, content_same, IsKept-grown}, specs.Content.{Task, Content, fresh}}
-use Rattle.tp_store.specs.Content.{with_value, begun, done, supplied, life_lacking, refusal_of_value, refusal_of_deliver, refusal_of_done}
-use Rattle.tp_store.specs.Content.{delivered_to, with_task, with_delivered, with_begun, with_done, changed_tasks, nothing_stored, task_of}
-use Rattle.tp_store.specs.Content.{life_of, values_of, unfinished, counts_of, is_waiting, is_ready, is_running, is_unfinished, has_begun}
-use Rattle.tp_store.specs.{Entries.{Entries, entry_at}, Items.Item, Kept.{one, task_under, Parts, number_of, number_at, tasks_of}}
-use Rattle.tp_store.specs.{Kept.{content_of, with_listed, with_supplied, moved_counts, IsCounted, IsKept, IsGrown, Leaves}, Sound.IsTask}
-use Rattle.tp_store.specs.{Sound.{IsSound, LacksSome, lacking, is_task}, declared.index.Entry.{Entry, TheVariants.{Live, Done}}}
-use Rattle.tp_store.specs.declared.life.{Counts.Counts, Delivered.TheVariants.{Inserted, Filled}, Life.{Life, TheVariants.{Waiting, Ready}}}
-use Rattle.tp_store.specs.declared.life.Life.TheVariants.{Running, Done as Over}
-use Rattle.std.specs.FinMap as finite
-use Rattle.tp_slots.specs.Content as slots
+pub mod Keeping
+pub use Keeping.*
 
 abbrev pub item : {V : Type 0} → TaskId → Task V → Item V
 item t x = record { number = t; task = x }
@@ -125,11 +101,9 @@ module _ {V A : Type 0} where
 module _ {V A : Type 0} {parts : Parts V A} (kept : IsKept parts) (t : TaskId) {p : ℕ} (stands : entry_at parts.index t.0
     ≡ Some (Live p)) where
   pub its_task : (x : Task V) × (slots.item_at parts.places p ≡ Some (item t x))
-  its_task = go (slots.item_at parts.places p) (kept.live t.0 p stands)
-    where
-      go : (o : Option (Item V)) → IsSomeAnd o (λ i. i.number.0 ≡ t.0) → (x : Task V) × (o ≡ Some (item t x))
-      go None h = absurd h
-      go (Some i) h = (i.task, λ k. Some (record { number = same_number t i.number h k; task = i.task }))
+  its_task =
+      let i = item_with (slots.item_at parts.places p) t.0 (kept.live t.0 p stands) in
+      (i.0.task, i.1 ∙ (λ k. Some (record { number = same_number t i.0.number i.2 k; task = i.0.task })))
 
   pub taken_there : slots.IsTaken parts.places p
   taken_there = ap is_some its_task.1
@@ -247,15 +221,14 @@ module _ {V A : Type 0} {parts : Parts V A} (kept : IsKept parts) {e : slots.Con
   entered t p arity class d end now life h l nothing low space free written placed is counted =
       let g = only_grown in
       let y : Item V = item t (fresh arity class) in
-      let self : (t.0 == t.0) ≡ true = grind (arith, nat_tests) in
-      let here : entry_at end t.0 ≡ Some (Live p) = rw self at (written t.0) in
+      let here : entry_at end t.0 ≡ Some (Live p) = rw (eq-eqb t.0 t.0 refl) at (written t.0) in
       let none : entry_at index t.0 ≡ None = grown.entries t.0 ∙ nothing in
       let unknown_task : task_of (content_of grown_parts) t ≡ None = seen g.kept refl t None none in
       let held = finite.len-insert nat_cmp_total e.items p y
       ∙ ap (λ (o : Option (Item V)). cond (is_some o) (slots.held_count e) (slots.held_count e + 1)) free in
       let same = ap (λ c. slots.held_count c) grown.places in
       let all = listed g.kept end t p (fresh arity class) None
-      (λ q apart. let e : (q == t.0) ≡ false = grind (arith, nat_tests) in rw e at (written q)) here
+      (λ q apart. rw (ne_eqb q t.0 apart) at (written q)) here
       (λ q at. let its = g.kept.live q p at in absurd (rw free at its)) (λ q at. let clash : None ≡ Some (Live q) = sym none ∙ at in cc)
       (idle_when_taken e p y g.kept.lists free) (ap (option_map (λ x. x.life)) unknown_task)
       (subst (NotReady {V = V}) (sym unknown_task) unknown)
@@ -410,9 +383,8 @@ module _ {V : Type 0} (s : Content V) (t : TaskId) (none : task_of s t ≡ None)
 
   pub first_accepted : refusal_of_deliver inserted t arity slot ≡ None
   first_accepted =
-      let same : (arity == arity) ≡ true = grind (arith, nat_tests) in
       let free : get_or (replicate {A = Option V} arity None) slot None ≡ None = get_or-replicate arity slot None None low in
-      rw (task_here s t (fresh arity class), not_begun_life arity, same, free) refl
+      rw (task_here s t (fresh arity class), not_begun_life arity, eq-eqb arity arity refl, free) refl
 
   pub first_delivered : (value : V) → with_delivered inserted t arity class slot value ≡ with_delivered s t arity class slot value
   first_delivered value =
@@ -487,18 +459,15 @@ module _ {V A : Type 0} {parts : Parts V A} (kept : IsKept parts) {s : Content V
       pub is : is_ready x.life ≡ true
 
     next_task : (t : TaskId) × (x : Task V) × Next t x
-    next_task = some_item (slots.item_at parts.places p) refl (IsIdle-front parts.places p kept.lists (sym first)).taken
-      where
-        some_item : (o : Option (Item V)) → slots.item_at parts.places p ≡ o → is_some o ≡ true → (t : TaskId) × (x : Task V) × Next t x
-        some_item None e h = cc
-        some_item (Some i) e h =
-            let stands = kept.owner p i e in
-            let front : slots.front (content_of parts).ready ≡ Some i.number =
-            front-each (number_at parts.places) parts.places.ready p (sym first) ∙ ap (λ o. Some (number_of o)) e in
-            let x = front_ready (content_of parts) i.number kept.sound front in
-            let both : Some i.task ≡ Some x.0 = sym (task_is kept i.number stands i.task e) ∙ x.1 in
-            let same : i.task ≡ x.0 = cc in
-            (i.number, i.task, record { stands = stands; at = e; front = front; is = ap (λ y. is_ready y.life) same ∙ x.2 })
+    next_task =
+        let found = value_of (slots.item_at parts.places p) (IsIdle-front parts.places p kept.lists (sym first)).taken in
+        let i = found.0 in let stands = kept.owner p i found.1 in
+        let front : slots.front (content_of parts).ready ≡ Some i.number =
+        front-each (number_at parts.places) parts.places.ready p (sym first) ∙ ap (λ o. Some (number_of o)) found.1 in
+        let x = front_ready (content_of parts) i.number kept.sound front in
+        let both : Some i.task ≡ Some x.0 = sym (task_is kept i.number stands i.task found.1) ∙ x.1 in
+        let same : i.task ≡ x.0 = cc in
+        (i.number, i.task, record { stands = stands; at = found.1; front = front; is = ap (λ y. is_ready y.life) same ∙ x.2 })
 
     -- it can begin
     pub can_begin : slots.IsTaken (slots.without_next parts.places) p
@@ -601,15 +570,14 @@ module _ {V A : Type 0} {parts : Parts V A} (kept : IsKept parts) {s : Content V
         let without = slots.without_item parts.places p in
         let now : Parts V A =
         record { places = without; index = new; results = after; counts = moved_counts parts.counts (Some Running) Over } in
-        let self : (t.0 == t.0) ≡ true = grind (arith, nat_tests) in
-        let here : entry_at new t.0 ≡ Some (Done i.task.arity i.task.class) = rw self at (written t.0) ∙ ap Some is in
+        let here : entry_at new t.0 ≡ Some (Done i.task.arity i.task.class) = rw (eq-eqb t.0 t.0 refl) at (written t.0) ∙ ap Some is in
         let known = task_is kept t stands i.task at in
         let task : IsTask i.task = rw known at (kept.sound.tasks t) in
         let given_away : i.task.values ≡ [] = rw runs at task.slots in
         let fewer = rw at at (finite.len-remove nat_cmp_total parts.places.items p) in
         let put : IsPut parts now t p (done i.task) (Some Running) c.ready = record {
           items = λ q apart. gone_there parts.places p q apart;
-          entries = λ q apart. let e : (q == t.0) ≡ false = grind (arith, nat_tests) in rw e at (written q);
+          entries = λ q apart. rw (ne_eqb q t.0 apart) at (written q);
           own = own kept t stands;
           only = only kept t stands;
           here = record {
@@ -640,8 +608,8 @@ wrong_life _ apart = refl
 -- ---- A store with no task
 no_entries : {X : Type 0} → finite.entries (finite.empty {X = X} {R = nat_cmp}) ≡ []
 no_entries {X} =
-    no_values (finite.entries (finite.empty {X = X} {R = nat_cmp})) (sym (finite.len-empty nat_cmp X)
-    ∙ finite.len-entries (finite.empty {X = X} {R = nat_cmp}))
+    nil_from_length (finite.entries (finite.empty {X = X} {R = nat_cmp})) (sym (finite.len-entries (finite.empty {X = X} {R = nat_cmp}))
+    ∙ finite.len-empty nat_cmp X)
 
 pub none_live : (V : Type 0) → unfinished (nothing_stored {V = V}) ≡ 0
 none_live V = rw (no_entries {X = Task V}) refl

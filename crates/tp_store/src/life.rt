@@ -19,7 +19,7 @@ pub enum Life {
 
 impl Life {
     /// Returns the life of a task that lacks `count` inputs.
-    #[tactic(auto, using(crate::proofs::Filling::ready_life, crate::proofs::Filling::waiting_life))]
+    #[tactic(auto, using(crate::proofs::Changes::ready_life, crate::proofs::Changes::waiting_life))]
     pub(crate) fn lacking(count: u8) -> Life
         ensures { result ≡ life_lacking count }
     {

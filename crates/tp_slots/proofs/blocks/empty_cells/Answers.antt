@@ -1,5 +1,4 @@
-use Rattle.std.proofs.{Common.{ap, ◌∙◌, arith}, lemmas.List.length-set}
-use Rattle.tp_slots.proofs.{CellsMemory.full_within, Housed.{full_at, emptied_pointers, emptied_gone, emptied_kept, all_gone}}
+use Rattle.tp_slots.proofs.Moves.{ap, ◌∙◌, arith, length-set, full_inside, full_at, emptied_pointers, emptied_gone, emptied_kept, all_gone}
 use Rattle.tp_slots.proofs.blocks.empty_cells.Goals as goal
 
 pub read-requires : goal.read-requires
@@ -11,7 +10,7 @@ read-requires g c =
 pub loop-place-preserved : goal.loop-place-preserved
 loop-place-preserved g c =
     let cs = c.loop-place.cells.cells in let place = c.loop-place.place in
-    let inside = full_within cs place _ _ c.read.ensures.value in
+    let inside = full_inside cs place _ (_, c.read.ensures.value) in
     let at = ap (λ d. d.0) c.read.ensures.value in
     rw c.read.ensures.cells (record {
       long = length-set cs place _ ∙ c.loop-place.invariant.long;

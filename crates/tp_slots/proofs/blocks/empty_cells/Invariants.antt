@@ -1,5 +1,4 @@
-use Rattle.std.proofs.Common.{◌≡◌, ℕ, ◌<◌, ◌≤◌, length, None}
-use Rattle.tp_slots.specs.{Blocks.pointers_of, Cells.cell_at}
+use Rattle.tp_slots.proofs.Moves.{◌≡◌, ℕ, ◌<◌, ◌≤◌, length, None, pointers_of, cell_at}
 use Rattle.tp_slots.proofs.blocks.empty_cells.Given as goal
 
 abbrev pub invariant-loop-place : goal.invariant-loop-place

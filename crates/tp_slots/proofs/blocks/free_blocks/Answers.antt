@@ -1,5 +1,4 @@
-use Rattle.std.proofs.{Common.{◌∙◌, ap, length, ◌∷◌, [], arith}, lemmas.List.length-append}
-use Rattle.tp_slots.proofs.Housed.{last_block}
+use Rattle.tp_slots.proofs.Moves.{◌∙◌, ap, length, ◌∷◌, [], arith, length-append, last_block}
 use Rattle.tp_slots.proofs.blocks.free_blocks.Goals as goal
 
 pub deallocate-requires : goal.deallocate-requires

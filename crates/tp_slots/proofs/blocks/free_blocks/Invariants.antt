@@ -1,5 +1,4 @@
-use Rattle.std.proofs.Common.{◌≡◌, ◌≤◌, length, All}
-use Rattle.tp_slots.specs.{Blocks.{IsBlock, rows_of}, Cells.empty_at}
+use Rattle.tp_slots.proofs.Moves.{◌≡◌, ◌≤◌, length, All, IsBlock, rows_of, empty_at}
 use Rattle.tp_slots.proofs.blocks.free_blocks.Given as goal
 
 abbrev pub invariant-loop-block : goal.invariant-loop-block

@@ -1,6 +1,5 @@
-use Rattle.std.{proofs.Common.{◌≡◌, ◌++◌, ap, ◌∙◌, arith}, specs.Mem.type_size}
-use Rattle.tp_slots.{proofs.Housed.{pointers_from, row_pointers}, specs.{Blocks.pointers_in, contracts.blocks.list_cells.T-row}}
-use Rattle.tp_slots.specs.contracts.chains.Slot.{the_row}
+use Rattle.tp_slots.proofs.Moves.{◌≡◌, ◌++◌, ap, ◌∙◌, arith, type_size, pointers_from, row_pointers, pointers_in}
+use Rattle.tp_slots.specs.contracts.{blocks.list_cells.T-row, chains.Slot.the_row}
 use Rattle.tp_slots.proofs.blocks.list_cells.Goals as goal
 
 pub returns : goal.returns

@@ -1,5 +1,5 @@
-use Rattle.std.{proofs.Common.{◌≡◌, ◌+◌, ◌≤◌, ◌++◌}, specs.{Mem.type_size, Vec.{vec_len, vec_capacity}}}
-use Rattle.tp_slots.{proofs.Housed.pointers_from, specs.{Blocks.pointers_in, contracts.{blocks.list_cells.T-row, chains.Slot.the_row}}}
+use Rattle.tp_slots.proofs.Moves.{◌≡◌, ◌+◌, ◌≤◌, ◌++◌, type_size, vec_len, vec_capacity, pointers_from, pointers_in}
+use Rattle.tp_slots.specs.contracts.{blocks.list_cells.T-row, chains.Slot.the_row}
 use Rattle.tp_slots.proofs.blocks.list_cells.Given as goal
 
 abbrev pub invariant-loop-index : goal.invariant-loop-index

@@ -1,21 +1,20 @@
 -- `allocate` creates a row of empty cells. Before: a `&` to the allocator. The raw call takes its token and gives room for an
 -- array, and the right to free it. The room is cut into empty cells, next to each other, and the right goes into the deed; if the
 -- allocation fails, nothing is owned but the refusal. Assumes `Logic`.
-use Rattle.std.proofs.RcSteps.{Good, first_Good}
-use Rattle.tp_slots.proofs.{CellCalls.takes_all, CellSteps.{enters, asked_beside, told, owner_made, mark_put}, CellWords.{◌≡◌, refl, sym}}
-use Rattle.tp_slots.proofs.CellWords.{ap, subst, ℕ, ◌*◌, ◌<◌, ◌^◌, arith, List, [], ◌∷◌, ◌++◌, true, false, lit<, Fn, Body, w64, ty_array}
-use Rattle.tp_slots.proofs.CellWords.{inst_fn, Val, vptr, vint, vstruct, vcons, vnil, Env, Wp, after_seq, at_return, tables, id⊢, Fml}
-use Rattle.tp_slots.proofs.CellWords.{Incl-trans, ftrue, fsep, flft, ◌⊑◌, Sq, prop, ‵, raw, ◌⊛◌, later, any_q, at_ret, ◌$◌, !, by, move}
-use Rattle.tp_slots.proofs.CellWords.{keep, use1, use2, use3, split, join, await, fsplit, fjoin, feq_i, flt_i, After, whole, agg, live, vrt}
-use Rattle.tp_slots.proofs.CellWords.{in_variant, stop, fld, bin, lit, size_word, align_word, of_opd, switches_on, and_then, no_more, first}
-use Rattle.tp_slots.proofs.CellWords.{exec, returns, alloc_all, pass_all, free_all, look_at, get, get_in, get_tag, is, sets, sets_last}
-use Rattle.tp_slots.proofs.CellWords.{lands_as, env, RattleType, layout, Ptr, block_ptr, InBlock, after, word, word-Good, as_written, El, R}
-use Rattle.tp_slots.proofs.CellWords.{elτ, Option, IfOk, Ok, Err, empty_at, cells_own, row_from, align, capped, capped_fits, Is, owned}
-use Rattle.tp_slots.proofs.CellWords.{Struct, Struct-Makes, Tuple, calls_at, framed, FitsInBlock, Al, Answer-typed, Takes, at_takes}
-use Rattle.tp_slots.proofs.{CellWords.{Answered, Takes-goes, Takes-gives, answers, head, arm_body, ok_of, err_of}, CellsLeases.uncapped}
-use Rattle.tp_slots.proofs.{CellsLeases.{block_ty, block_size, block_align, args, P, sz, of_room, pointers_from, row_is}, CellsMemory.Cr}
-use Rattle.tp_slots.proofs.{CellsMemory.{Bs, mark, word_made, three_val, three_of}, cells.allocate.Statement.statement}
-use Rattle.tp_slots.specs.contracts.cells.allocate.{ended, clauses, Key.name as #self}
+use Rattle.tp_slots.proofs.CellCalls.{IsGood, first_Good, takes_all, enters, asked_beside, told, owner_made, mark_put, ◌≡◌, refl, sym, ap}
+use Rattle.tp_slots.proofs.CellCalls.{subst, ℕ, ◌*◌, ◌<◌, ◌^◌, arith, List, [], ◌∷◌, ◌++◌, true, false, lit<, Fn, Body, w64, ty_array}
+use Rattle.tp_slots.proofs.CellCalls.{inst_fn, Val, vptr, vint, vstruct, vcons, vnil, Env, Wp, after_seq, at_return, tables, id⊢, Fml}
+use Rattle.tp_slots.proofs.CellCalls.{Incl-trans, ftrue, fsep, flft, ◌⊑◌, Sq, prop, ‵, raw, ◌⊛◌, later, any_q, at_ret, ◌$◌, !, by, move}
+use Rattle.tp_slots.proofs.CellCalls.{keep, use1, use2, use3, split, join, await, fsplit, fjoin, feq_i, flt_i, After, whole, agg, live, vrt}
+use Rattle.tp_slots.proofs.CellCalls.{in_variant, stop, fld, bin, lit, size_word, align_word, of_opd, switches_on, and_then, no_more, first}
+use Rattle.tp_slots.proofs.CellCalls.{exec, returns, alloc_all, pass_all, free_all, look_at, get, get_in, get_tag, is, sets, sets_last}
+use Rattle.tp_slots.proofs.CellCalls.{lands_as, env, RattleType, layout, Ptr, block_ptr, InBlock, after, word, word-Good, as_written, El, R}
+use Rattle.tp_slots.proofs.CellCalls.{elτ, Option, IfOk, Ok, Err, empty_at, cells_own, row_from, align, capped, capped_fits, Is, owned}
+use Rattle.tp_slots.proofs.CellCalls.{Struct, Struct-Makes, Tuple, calls_at, framed, FitsInBlock, Al, Answer-typed, Takes, at_takes}
+use Rattle.tp_slots.proofs.CellCalls.{Answered, Takes-goes, Takes-gives, answers, head, arm_body, ok_of, err_of, uncapped, block_ty}
+use Rattle.tp_slots.proofs.CellCalls.{block_size, block_align, block_args, P, sz, of_room, pointers_from, row_is, Cr, Bs, mark, word_made}
+use Rattle.tp_slots.{proofs.{CellCalls.{three_val, three_of}, cells.allocate.Statement.statement}, specs.contracts.cells.allocate.ended}
+use Rattle.tp_slots.specs.contracts.cells.allocate.{clauses, Key.name as #self}
 use denote.Struct.Declared as Declared
 use Rattle.std.specs.contracts.result.Result as RS
 use Rattle.std.specs.contracts.alloc.AllocError as AE
@@ -25,11 +24,11 @@ use Rattle.tp_slots.proofs.cells.allocate.Code as code
 pub allocate_spec : {M : Type 1} → statement M
 allocate_spec 𝓤 𝓛 𝓜 𝓡 wired X W LX LW g d dd met md =
     let E : El = record { row = X; laws = LX } in let Z : Al = record { row = W; laws = LW; g = g; d = d; drops = dd } in
-    let fn : Fn = inst_fn (args E Z) code.function in let 𝓣 = tables 𝓤 𝓛.H 𝓜 𝓡 𝓡.env in
+    let fn : Fn = inst_fn (block_args E Z) code.function in let 𝓣 = tables 𝓤 𝓛.H 𝓜 𝓡 𝓡.env in
     let D : RattleType = D-type.the_row (R E) (P E Z) g in let Three : RattleType = Tuple (Bs E ∷ Cr E ∷ D ∷ []) in
     let Out : RattleType = RS.the_row Three AE.the_row in let Takes-here = Takes Z 𝓛 𝓜.mem 𝓡.returns in
     takes_all 𝓛 (ended X W g d dd) (clauses X W g d dd 𝓛 𝓜.mem 𝓡.returns) 𝓜 𝓡 (λ κs x f. tt, (λ κs x f. tt, tt))
-    (#self (args E Z)) fn (code.unfolded 𝓤 𝓛.H 𝓜 𝓡 wired (X, (W, tt)) d dd) (λ κs qs bounds a vss ghost are Post ends.
+    (#self (block_args E Z)) fn (code.unfolded 𝓤 𝓛.H 𝓜 𝓡 wired (X, (W, tt)) d dd) (λ κs qs bounds a vss ghost are Post ends.
     let κ = κs.0 in let q = qs.0 in let rb = a.0.ref_ptr.0 in let ro = a.0.ref_ptr.1 in let heap = a.0.now in let len : ℕ = a.1.0 in
     let others : Fml = fsep (flft κs.1.0 qs.1.0) (fsep (flft κs.1.1.0 qs.1.1.0) ftrue) in
     let Made : Out.Denot → Type 0 = λ r. IfOk r (λ t. (t.1.cells ≡ row_from (R E) t.0.ptr len) × (t.1.cells ≡ empty_at t.2.row)
@@ -64,7 +63,7 @@ allocate_spec 𝓤 𝓛 𝓜 𝓡 wired X W LX LW g d dd met md =
     let base : (Bs E).Denot = record { ptr = p } in let cells : (Cr E).Denot = record { mark = record {}; cells = row } in
     let deed : D.Denot = record { mark = record {}; at = p; len = len; alloc = heap; row = pointers_from E p len } in
     let made : Val = three_val (word p) mark mark in
-    let typed : Good (layout Three) made = (tt, ((tt, tt), ((tt, tt), ((tt, tt), tt)))) in let ok = first_Good (layout Three) made typed in
+    let typed : IsGood (layout Three) made = (tt, ((tt, tt), ((tt, tt), ((tt, tt), tt)))) in let ok = first_Good (layout Three) made typed in
     lands_as ! e refl (Answer-typed true b o) $ first ! $ switches_on ! (get_tag ! (vrt ! refl (fld ! refl (stop !))) (whole !)) $
     exec ! 𝓣.C 𝓣.Λ N (arm_body 0 both) Then $
     sets ! (of_opd ! (get_in ! (vrt ! refl (fld ! refl (stop !))) (in_variant ! 0 0 refl refl (whole !)))) refl (tt, tt) $
@@ -87,7 +86,7 @@ allocate_spec 𝓤 𝓛 𝓜 𝓡 wired X W LX LW g d dd met md =
     -- a refusal: [the token; the other tokens]
     (λ e.
     let Refusal : RattleType = Struct (Declared.shape AE.the_type) in let none : Val = live 1 (vcons (vstruct vnil) vnil) in
-    let typed : Good (layout Out) none = (tt, (record { fits = lit< tt }, (tt, tt))) in
+    let typed : IsGood (layout Out) none = (tt, (record { fits = lit< tt }, (tt, tt))) in
     lands_as ! e refl (Answer-typed false 0 0) $ first ! $ switches_on ! (get_tag ! (vrt ! refl (fld ! refl (stop !))) (whole !)) $
     exec ! 𝓣.C 𝓣.Λ N (arm_body 1 both) Then $
     sets ! (of_opd ! (get_in ! (vrt ! refl (fld ! refl (stop !))) (in_variant ! 1 0 refl refl (whole !)))) refl (tt, tt) $

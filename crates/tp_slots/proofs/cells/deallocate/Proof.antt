@@ -1,33 +1,29 @@
 -- `deallocate` frees a block. Before: a `&` to the allocator, all cells of the block, each empty, and the deed, which has the
 -- right to free it. The cells are joined to room for one array; the raw call takes that room and the right, and returns the
 -- token. Assumes `Logic`.
-use Rattle.tp_slots.proofs.{CellCalls.takes_all, CellSteps.{address_is, owner_is, enters, asked_beside}, CellWords.{◌≡◌, refl, sym, ap}}
-use Rattle.tp_slots.proofs.CellWords.{subst, ◌∙◌, ℕ, ◌*◌, ◌<◌, ◌^◌, arith, List, [], ◌∷◌, ◌++◌, Fn, w64, ty_array, inst_fn, Val, vptr, vint}
-use Rattle.tp_slots.proofs.CellWords.{vunit, tables, id⊢, Fml, Incl-trans, ftrue, fsep, froom, flft, ◌⊑◌, ‵, raw, ◌⊛◌, later, given, at_ret}
-use Rattle.tp_slots.proofs.CellWords.{◌$◌, !, by, move, keep, use1, split, join, group, rewrite, await, learn, fsplit, feq_i, feq_l, flt_l}
-use Rattle.tp_slots.proofs.CellWords.{whole, sub, stop, fld, bin, unit_lit, size_word, align_word, of_opd, and_then, no_more, first, blocks}
-use Rattle.tp_slots.proofs.CellWords.{exec, returns, alloc_all, pass_all, free_all, look_at, get, get_in, is, sets, lands_last, env, Ptr}
-use Rattle.tp_slots.proofs.CellWords.{ptr_val, in_a_block, nothing, after, word, word-Good, as_raw, El, R, elτ, empty_at, cells_own}
-use Rattle.tp_slots.proofs.CellWords.{row_from, align, capped, capped_fits, calls_at_last, framed, Al, token, Gives, at_gives, Gives-goes}
-use Rattle.tp_slots.proofs.{CellWords.Gives-Gives, CellsLeases.{uncapped, block_ty, block_size, block_align, args, sz, to_room, no_block}}
-use Rattle.tp_slots.{proofs.{CellsMemory.{Cell, mark}, cells.deallocate.Statement.statement}, specs.contracts.cells.deallocate.ended}
+use Rattle.tp_slots.proofs.CellCalls.{takes_all, address_is, owner_is, enters, asked_beside, ◌≡◌, refl, sym, ap, subst, ◌∙◌, ℕ, ◌*◌, ◌<◌}
+use Rattle.tp_slots.proofs.CellCalls.{◌^◌, arith, List, [], ◌∷◌, ◌++◌, Fn, w64, ty_array, inst_fn, Val, vptr, vint, vunit, tables, id⊢, Fml}
+use Rattle.tp_slots.proofs.CellCalls.{Incl-trans, ftrue, fsep, froom, flft, ◌⊑◌, ‵, raw, ◌⊛◌, later, given, at_ret, ◌$◌, !, by, move, keep}
+use Rattle.tp_slots.proofs.CellCalls.{use1, split, join, group, rewrite, await, learn, fsplit, feq_i, feq_l, flt_l, whole, sub, stop, fld}
+use Rattle.tp_slots.proofs.CellCalls.{bin, unit_lit, size_word, align_word, of_opd, and_then, no_more, first, blocks, exec, returns}
+use Rattle.tp_slots.proofs.CellCalls.{alloc_all, pass_all, free_all, look_at, get, get_in, is, sets, lands_last, env, Ptr, ptr_val}
+use Rattle.tp_slots.proofs.CellCalls.{in_a_block, nothing, after, word, word-Good, as_raw, El, R, elτ, empty_at, cells_own, row_from, align}
+use Rattle.tp_slots.proofs.CellCalls.{capped, capped_fits, calls_at_last, framed, Al, token, Gives, at_gives, Gives-goes, Gives-Gives}
+use Rattle.tp_slots.proofs.CellCalls.{uncapped, block_ty, block_size, block_align, block_args, sz, to_room, no_block, Cell, mark, T, bare}
+use Rattle.tp_slots.{proofs.{CellCalls.{ty_unit, has_ty, WT}, cells.deallocate.Statement.statement}, specs.contracts.cells.deallocate.ended}
 use Rattle.tp_slots.specs.contracts.cells.deallocate.{clauses, Key.name as #self}
-use lib.Dec.{T}
-use mir.Raw.{raw as bare}
-use mir.Syntax.{ty_unit}
-use mir.Val.{has_ty, WT}
 use Rattle.tp_slots.proofs.cells.deallocate.Code as code
 
 pub deallocate_spec : {M : Type 1} → statement M
 deallocate_spec 𝓤 𝓛 𝓜 𝓡 wired X W LX LW g d dd met md =
     let E : El = record { row = X; laws = LX } in
     let Z : Al = record { row = W; laws = LW; g = g; d = d; drops = dd } in
-    let fn : Fn = inst_fn (args E Z) code.function in
+    let fn : Fn = inst_fn (block_args E Z) code.function in
     let 𝓣 = tables 𝓤 𝓛.H 𝓜 𝓡 𝓡.env in
     let Gives-here = Gives Z 𝓛 𝓜.mem 𝓡.returns in
     takes_all 𝓛 (ended X W g d dd) (clauses X W g d dd 𝓛 𝓜.mem 𝓡.returns) 𝓜 𝓡
     (λ κs x f. tt, (λ κs x f. tt, (λ κs x f. tt, (λ κs x f. tt, (λ κs x f. tt, tt)))))
-    (#self (args E Z)) fn (code.unfolded 𝓤 𝓛.H 𝓜 𝓡 wired (X, (W, tt)) d dd) (λ κs qs bounds a vss ghost are Post ends.
+    (#self (block_args E Z)) fn (code.unfolded 𝓤 𝓛.H 𝓜 𝓡 wired (X, (W, tt)) d dd) (λ κs qs bounds a vss ghost are Post ends.
     let κ = κs.0 in let q = qs.0 in let rb = a.0.ref_ptr.0 in let ro = a.0.ref_ptr.1 in let heap = a.0.now in
     let p : Ptr = a.1.0.ptr in let len : ℕ = a.1.1.0 in let cells = a.1.1.1.0.cells in let deed = a.1.1.1.1.0 in
     let others : Fml = fsep (flft κs.1.0 qs.1.0) (fsep (flft κs.1.1.0 qs.1.1.0) ftrue) in

@@ -1,6 +1,5 @@
-use Rattle.std.proofs.Common.{◌≡◌, [], get_or, None, arith, below_more}
-use Rattle.tp_slots.proofs.{Chained.{chain_of, chains_set, chains_put, chains_long}, Sound.{front_at, front_none, without_front-empty}}
-use Rattle.tp_slots.specs.Content.{front}
+use Rattle.tp_slots.proofs.Moves.{◌≡◌, [], get_or, None, arith, below_more, chain_of, chains_set, chains_put, chains_long, front_at}
+use Rattle.tp_slots.proofs.Moves.{front_none, without_front-empty, front}
 use Rattle.tp_slots.proofs.lists.pop_from.Goals as goal
 
 pub take_front-requires : goal.take_front-requires

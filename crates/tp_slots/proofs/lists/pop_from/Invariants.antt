@@ -1,5 +1,4 @@
-use Rattle.std.proofs.Common.{◌≡◌, ℕ, ◌<◌, List, [], get_or}
-use Rattle.tp_slots.specs.Lists.{AreChains}
+use Rattle.tp_slots.proofs.Moves.{◌≡◌, ℕ, ◌<◌, List, [], get_or, AreChains}
 use Rattle.tp_slots.proofs.lists.pop_from.Given as goal
 
 abbrev pub invariant-loop-chain : goal.invariant-loop-chain

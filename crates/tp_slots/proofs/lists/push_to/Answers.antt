@@ -1,5 +1,4 @@
-use Rattle.std.proofs.Common.{[], get_or, arith}
-use Rattle.tp_slots.proofs.{Chained.{chain_of, chains_pushed}, Sound.stands-le-times}
+use Rattle.tp_slots.proofs.Moves.{[], get_or, arith, chain_of, chains_pushed, stands-le-times}
 use Rattle.tp_slots.proofs.lists.push_to.Goals as goal
 
 pub append-requires-clause-chain : goal.append-requires-clause-chain

@@ -1,5 +1,4 @@
-use Rattle.std.proofs.Common.{◌≡◌, ◌++◌, drop}
-use Rattle.tp_slots.specs.{Commands.{State, start, replies_of}, Names.Told}
+use Rattle.tp_slots.proofs.Naming.{◌≡◌, ◌++◌, drop, State, start, replies_of, Told}
 use Rattle.tp_slots.proofs.run.run_slots.Given as goal
 
 -- the slots are in some state, and the replies so far with those to the remaining commands are those to all

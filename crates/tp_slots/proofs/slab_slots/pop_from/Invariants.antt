@@ -1,5 +1,4 @@
-use Rattle.std.proofs.Common.{◌≡◌, ℕ, ◌<◌, [], get_or}
-use Rattle.tp_slots.specs.SlabSlots.{places_of, EachHolds}
+use Rattle.tp_slots.proofs.Lemmas.{◌≡◌, ℕ, ◌<◌, [], get_or, places_of, EachHolds}
 use Rattle.tp_slots.proofs.slab_slots.pop_from.Given as goal
 
 abbrev pub invariant-loop-queue : goal.invariant-loop-queue

@@ -1,5 +1,4 @@
-use Rattle.std.proofs.Common.{◌≡◌, ℕ, take}
-use Rattle.tp_slots.specs.SlabSlots.{places_of, EachHolds}
+use Rattle.tp_slots.proofs.Lemmas.{◌≡◌, ℕ, take, places_of, EachHolds}
 use Rattle.tp_slots.proofs.slab_slots.reserve_each.Given as goal
 
 abbrev pub invariant-loop-queue : goal.invariant-loop-queue

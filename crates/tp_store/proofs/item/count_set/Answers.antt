@@ -1,5 +1,4 @@
-use Rattle.std.proofs.Common.{false, arith}
-use Rattle.tp_store.proofs.{Filling.count_set-take_more, item.count_set.Goals.{then-is_set, else-is_set}}
+use Rattle.tp_store.proofs.{Changes.{false, arith, count_set-take_more}, item.count_set.Goals.{then-is_set, else-is_set}}
 use Rattle.tp_store.proofs.item.count_set.Goals as goal
 
 pub loop-is_set-preserved : goal.loop-is_set-preserved

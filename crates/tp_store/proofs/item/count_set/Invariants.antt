@@ -1,5 +1,4 @@
-use Rattle.std.proofs.Common.{◌≡◌, ◌≤◌, take}
-use Rattle.tp_store.specs.Items.{count_set}
+use Rattle.tp_store.proofs.Changes.{◌≡◌, ◌≤◌, take, count_set}
 use Rattle.tp_store.proofs.item.count_set.Given as goal
 
 abbrev pub invariant-loop-is_set : goal.invariant-loop-is_set

@@ -1,6 +1,4 @@
-use Rattle.std.proofs.Common.{◌≡◌, Some, ap, ◌∙◌}
-use Rattle.tp_slots.{proofs.Sound.idle_with_item, specs.Content.{item_at, with_item}}
-use Rattle.tp_store.{proofs.Keeping.{item_here, at_item}, specs.Kept.{with_listed, moved_counts}}
+use Rattle.tp_store.proofs.Changes.{◌≡◌, Some, ap, ◌∙◌, idle_with_item, item_at, with_item, item_here, at_item, with_listed, moved_counts}
 use Rattle.tp_store.proofs.places.supply.Given as given
 use Rattle.tp_store.proofs.places.supply.Goals as goal
 

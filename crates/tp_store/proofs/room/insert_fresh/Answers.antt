@@ -1,7 +1,5 @@
-use Rattle.std.proofs.Common.{◌≡◌, rules, refl, ap, ◌∙◌, arith}
-use Rattle.tp_slots.specs.Content.{item_at, with_item}
-use Rattle.tp_store.proofs.{Changes.{only_grown, entered}, Keeping.{item_here, at_item, few_live, low_not_full, refusals, on_err, told}}
-use Rattle.tp_store.specs.Kept.{with_listed}
+use Rattle.tp_store.proofs.Changes.{◌≡◌, rules, refl, ap, ◌∙◌, arith, item_at, with_item, only_grown, entered, item_here, at_item, few_live}
+use Rattle.tp_store.proofs.Changes.{low_not_full, refusals, on_err, told, with_listed}
 use Rattle.tp_store.proofs.room.insert_fresh.Goals as goal
 
 pub live-requires : goal.live-requires

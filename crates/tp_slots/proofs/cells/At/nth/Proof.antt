@@ -1,13 +1,12 @@
 -- `nth` moves an address along a row of cells. Before: the address, which owns nothing; it is in a block, and the distance to the
 -- cell fits a word. So the machine's sum of the two is defined, and it is the new address. Assumes `Logic`.
-use Rattle.std.specs.Mem.{type_size}
-use Rattle.tp_slots.proofs.{CellCalls.takes_all, CellSteps.{address_is, kept_in, enters, told}, CellWords.{◌≡◌, refl, sym, ap, ◌∙◌, ℕ, ◌+◌}}
-use Rattle.tp_slots.proofs.CellWords.{◌*◌, ◌<◌, ◌^◌, arith, [], ◌∷◌, ◌++◌, Fn, w64, inst_fn, vint, tables, id⊢, fact, ◌⊑◌, ‵, raw, ◌⊛◌}
-use Rattle.tp_slots.proofs.CellWords.{at_ret, ◌$◌, !, by, keep, use1, split, split3, rewrite, whole, sub, agg, stop, fld, bin, size_lit}
-use Rattle.tp_slots.proofs.CellWords.{of_opd, and_then, no_more, first, blocks, exec, returns, alloc_all, pass_all, free_all, look_at}
-use Rattle.tp_slots.proofs.CellWords.{take_at, give_at, get, get_in, sets, sets_last, env, Ptr, block_ptr, ◌+ₚ◌, InBlock, at_block}
-use Rattle.tp_slots.proofs.{CellWords.{block_of, count_of, heard, after, word, word-Good, El, R, args}, CellsMemory.word_made}
-use Rattle.tp_slots.{proofs.cells.At.nth.Statement.statement, specs.contracts.cells.At.nth.{ended, clauses, Key.name as #self}}
+use Rattle.tp_slots.proofs.CellCalls.{type_size, takes_all, address_is, kept_in, enters, told, ◌≡◌, refl, sym, ap, ◌∙◌, ℕ, ◌+◌, ◌*◌, ◌<◌}
+use Rattle.tp_slots.proofs.CellCalls.{◌^◌, arith, [], ◌∷◌, ◌++◌, Fn, w64, inst_fn, vint, tables, id⊢, fact, ◌⊑◌, ‵, raw, ◌⊛◌, at_ret, ◌$◌}
+use Rattle.tp_slots.proofs.CellCalls.{by, !, keep, use1, split, split3, rewrite, whole, sub, agg, stop, fld, bin, size_lit, of_opd}
+use Rattle.tp_slots.proofs.CellCalls.{and_then, no_more, first, blocks, exec, returns, alloc_all, pass_all, free_all, look_at, take_at}
+use Rattle.tp_slots.proofs.CellCalls.{give_at, get, get_in, sets, sets_last, env, Ptr, block_ptr, ◌+ₚ◌, InBlock, at_block, block_of}
+use Rattle.tp_slots.proofs.{CellCalls.{count_of, heard, after, word, word-Good, El, R, args, word_made}, cells.At.nth.Statement.statement}
+use Rattle.tp_slots.specs.contracts.cells.At.nth.{ended, clauses, Key.name as #self}
 use Rattle.tp_slots.proofs.cells.At.nth.Code as code
 
 -- the machine adds the bytes to the count of the address

@@ -1,6 +1,4 @@
-use Rattle.tp_slots.{proofs.CellsCrossing.Cells-sync, specs.contracts.cells.Cells.the_row}
-use denote.Param.Send.{IsSync}
-use denote.RattleType.{RattleType}
+use Rattle.tp_slots.{proofs.CellCalls.{Cells-sync, IsSync, RattleType}, specs.contracts.cells.Cells.the_row}
 
 pub sync : (R : RattleType) → IsSync R → IsSync (the_row R)
 sync = Cells-sync

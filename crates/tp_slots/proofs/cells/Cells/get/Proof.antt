@@ -1,14 +1,13 @@
 -- `get` returns a `&` to the value of a full cell. Before: a `&` to the cells, which borrows each of them. The one at
 -- the index is seen, so its address is in a block, and the borrowed cell has a `&` to its value; nothing is given back.
 -- Assumes `Logic`.
-use Rattle.tp_slots.proofs.{CellCalls.takes_all, CellSteps.{address_is, kept_in, enters, asked, told}, CellWords.{◌≡◌, refl, List, [], ◌∷◌}}
-use Rattle.tp_slots.proofs.CellWords.{◌++◌, Fn, w64, inst_fn, Val, vptr, vint, tables, id⊢, ftrue, fsep, flft, ◌⊑◌, ‵, ◌⊛◌, at_ret, ◌$◌}
-use Rattle.tp_slots.proofs.CellWords.{◌∵◌, !, qed, by, done, move, keep, use1, split, join, rewrite, fsplit, fjoin, feq_i, skip, whole, sub}
-use Rattle.tp_slots.proofs.CellWords.{stop, hop, from, fld, addr, of_opd, first, blocks, exec, returns, alloc_all, pass_all, free_all}
-use Rattle.tp_slots.proofs.CellWords.{look_at, look_in_at, take_at, give_at, get, sets, sets_last, env, Ptr, null_ptr, in_a_block, lent_at}
-use Rattle.tp_slots.proofs.CellWords.{hide, unhide, after, word, word-Good, El, R, args, Some, cell_at, IsFull, cell_lent}
-use Rattle.tp_slots.proofs.{CellsMemory.{Cell, full_within, cell_seen}, cells.Cells.get.Statement.statement}
-use Rattle.tp_slots.specs.contracts.cells.Cells.get.{ended, clauses, Key.name as #self}
+use Rattle.tp_slots.proofs.CellCalls.{takes_all, address_is, kept_in, enters, asked, told, ◌≡◌, refl, List, [], ◌∷◌, ◌++◌, Fn, w64, inst_fn}
+use Rattle.tp_slots.proofs.CellCalls.{Val, vptr, vint, tables, id⊢, ftrue, fsep, flft, ◌⊑◌, ‵, ◌⊛◌, at_ret, ◌$◌, ◌∵◌, !, qed, by, done}
+use Rattle.tp_slots.proofs.CellCalls.{move, keep, use1, split, join, rewrite, fsplit, fjoin, feq_i, skip, whole, sub, stop, hop, from, fld}
+use Rattle.tp_slots.proofs.CellCalls.{addr, of_opd, first, blocks, exec, returns, alloc_all, pass_all, free_all, look_at, look_in_at}
+use Rattle.tp_slots.proofs.CellCalls.{take_at, give_at, get, sets, sets_last, env, Ptr, null_ptr, in_a_block, lent_at, hide, unhide, after}
+use Rattle.tp_slots.proofs.CellCalls.{word, word-Good, El, R, args, Some, cell_at, IsFull, cell_lent, Cell, full_inside, cell_seen}
+use Rattle.tp_slots.{proofs.cells.Cells.get.Statement.statement, specs.contracts.cells.Cells.get.{ended, clauses, Key.name as #self}}
 use Rattle.tp_slots.proofs.cells.Cells.get.Code as code
 
 pub get_spec : {M : Type 1} → statement M
@@ -21,7 +20,7 @@ get_spec 𝓤 𝓛 𝓜 𝓡 wired X LX =
     let κ = κs.0 in let r = a.0 in let d = r.now in let p : Ptr = a.1.0.ptr in let i = a.1.1.0 in
     -- [the tokens; what the arguments own; the `requires`]
     move ! (2 ∷ []) $ asked ! (κs.1.0 ⊑ X.lives) (IsFull d.cells i p) (λ full.
-    let x = full.0 in let within = full_within d.cells i p x full.1 in
+    let x = full.0 in let within = full_inside d.cells i p full in
     use1 𝓛 (‵ (flft κ qs.0) ⊛ ‵ (fsep (flft κs.1.0 qs.1.0) ftrue)) (id⊢ 𝓤 _) $ split ! $
     move ! (2 ∷ []) $ fsplit ! $ fsplit ! $ keep ! (1 ∷ 3 ∷ 4 ∷ []) $
     enters ! 𝓣.C 𝓣.Λ fn (vptr r.ref_ptr.0 r.ref_ptr.1 ∷ word p ∷ vint w64 i ∷ []) Post

@@ -2,16 +2,15 @@
 -- taken out, and its value is reborrowed under a new name; what is left waits for the value to be returned, and then
 -- the cells are whole again, with the last value in that cell. So the cells follow the reborrowed value, and nothing is
 -- given back now. Assumes `Logic`.
-use Rattle.tp_slots.proofs.{CellCalls.takes_all, CellSteps.{address_is, kept_in, enters, asked, told, cell_opened, Around, cell_returns}}
-use Rattle.tp_slots.proofs.CellWords.{◌≡◌, refl, [], ◌∷◌, ◌++◌, set, Fn, named, w64, inst_fn, vptr, vint, tables, full_share, never, id⊢}
-use Rattle.tp_slots.proofs.CellWords.{GName, Fml, ftrue, fsep, flft, sem, ◌⊑◌, ‵, raw, ◌⊛◌, some, later, at_ret, ◌$◌, !, by, move, keep}
-use Rattle.tp_slots.proofs.CellWords.{use1, split, split3, join, group, rewrite, await, pick, fsplit, fsplit3, fjoin3, whole, sub, stop}
-use Rattle.tp_slots.proofs.CellWords.{hop, from, fld, addr, of_opd, first, blocks, exec, returns, alloc_all, pass_all, free_all, look_at}
-use Rattle.tp_slots.proofs.CellWords.{look_in_at, take_at, give_at, get, sets, sets_last, env, Ptr, in_a_block, lies_at, MutBor, MutRef}
-use Rattle.tp_slots.proofs.{CellWords.{after, word, word-Good, El, R, args, el_x, Some, cell_at, IsFull, with_cells}, CellsMemory.Cr}
-use Rattle.tp_slots.{proofs.{CellsMemory.full_within, cells.Cells.get_mut.Statement.statement}, specs.contracts.cells.Cells.get_mut.ended}
+use Rattle.tp_slots.proofs.CellCalls.{takes_all, address_is, kept_in, enters, asked, told, cell_opened, Around, cell_returns, ◌≡◌, refl, []}
+use Rattle.tp_slots.proofs.CellCalls.{◌∷◌, ◌++◌, set, Fn, named, w64, inst_fn, vptr, vint, tables, full_share, never, id⊢, GName, Fml}
+use Rattle.tp_slots.proofs.CellCalls.{ftrue, fsep, flft, sem, ◌⊑◌, ‵, raw, ◌⊛◌, some, later, at_ret, ◌$◌, !, by, move, keep, use1, split}
+use Rattle.tp_slots.proofs.CellCalls.{split3, join, group, rewrite, await, pick, fsplit, fsplit3, fjoin3, whole, sub, stop, hop, from, fld}
+use Rattle.tp_slots.proofs.CellCalls.{addr, of_opd, first, blocks, exec, returns, alloc_all, pass_all, free_all, look_at, look_in_at}
+use Rattle.tp_slots.proofs.CellCalls.{take_at, give_at, get, sets, sets_last, env, Ptr, in_a_block, lies_at, MutBor, MutRef, after, word}
+use Rattle.tp_slots.proofs.CellCalls.{word-Good, El, R, args, el_x, Some, cell_at, IsFull, with_cells, Cr, full_inside, follows, Part}
+use Rattle.tp_slots.{proofs.{CellCalls.lends_Part, cells.Cells.get_mut.Statement.statement}, specs.contracts.cells.Cells.get_mut.ended}
 use Rattle.tp_slots.specs.contracts.cells.Cells.get_mut.{clauses, Key.name as #self}
-use denote.Follow.{follows, Part, lends_Part}
 use Rattle.tp_slots.proofs.cells.Cells.get_mut.Code as code
 
 pub get_mut_spec : {M : Type 1} → statement M
@@ -26,7 +25,7 @@ get_mut_spec 𝓤 𝓛 𝓜 𝓡 wired X LX =
     let new : el_x E → (Cr E).Denot = λ w. with_cells d (set d.cells i (p, Some w)) in
     -- [the tokens; what the arguments own; the `requires`]
     move ! (2 ∷ []) $ asked ! (κs.1.0 ⊑ X.lives) (IsFull d.cells i p) (λ full.
-    let x = full.0 in let within = full_within d.cells i p x full.1 in
+    let x = full.0 in let within = full_inside d.cells i p full in
     use1 𝓛 (‵ (flft κ q) ⊛ ‵ (fsep (flft κs.1.0 qs.1.0) ftrue)) (id⊢ 𝓤 _) $ split ! $
     move ! (2 ∷ []) $ fsplit ! $ fsplit3 ! $ keep ! (1 ∷ 2 ∷ 4 ∷ 5 ∷ []) $
     enters ! 𝓣.C 𝓣.Λ fn (vptr rb ro ∷ word p ∷ vint w64 i ∷ []) Post

@@ -1,10 +1,10 @@
 -- `join` takes over the cells of another owner. Before: the borrow of the cells, and the other ones. No memory is touched:
 -- both lists are owned, so their concatenation is, and the borrow is closed at it. Assumes `Logic`.
-use Rattle.tp_slots.proofs.{CellCalls.gives_back, CellSteps.{owner_is, enters, told, cells_opened, cells_closed}, CellWords.{◌≡◌, refl}}
-use Rattle.tp_slots.proofs.CellWords.{List, [], ◌∷◌, ◌++◌, Fn, inst_fn, Val, vptr, vunit, tables, ‵, ◌$◌, !, by, move, keep, use2, fsplit}
-use Rattle.tp_slots.proofs.CellWords.{feq_i, unit_lit, of_opd, returns, alloc_all, pass_all, free_all, look_at, sets, unit, plain, El, R}
-use Rattle.tp_slots.proofs.{CellWords.{args, cells_own, with_cells}, CellsMemory.{Cr, mark, cells_glue}}
-use Rattle.tp_slots.{proofs.cells.Cells.join.Statement.statement, specs.contracts.cells.Cells.join.{ended, clauses, Key.name as #self}}
+use Rattle.tp_slots.proofs.CellCalls.{gives_back, owner_is, enters, told, cells_opened, cells_closed, ◌≡◌, refl, List, [], ◌∷◌, ◌++◌, Fn}
+use Rattle.tp_slots.proofs.CellCalls.{inst_fn, Val, vptr, vunit, tables, ‵, ◌$◌, !, by, move, keep, use2, fsplit, feq_i, unit_lit, of_opd}
+use Rattle.tp_slots.proofs.CellCalls.{returns, alloc_all, pass_all, free_all, look_at, sets, unit, plain, El, R, args, cells_own}
+use Rattle.tp_slots.proofs.{CellCalls.{with_cells, Cr, mark, cells_glue}, cells.Cells.join.Statement.statement}
+use Rattle.tp_slots.specs.contracts.cells.Cells.join.{ended, clauses, Key.name as #self}
 use Rattle.tp_slots.proofs.cells.Cells.join.Code as code
 
 pub join_spec : {M : Type 1} → statement M

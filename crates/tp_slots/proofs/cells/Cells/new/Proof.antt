@@ -1,8 +1,8 @@
 -- `new` creates the owner of no cells. Before: nothing. Owning no cells takes nothing, so the owner is created. Assumes `Logic`.
-use Rattle.tp_slots.proofs.{CellCalls.takes_all, CellSteps.{enters, told, owner_made}, CellWords.{◌≡◌, refl, [], ◌∷◌, Fn, inst_fn, tables}}
-use Rattle.tp_slots.proofs.CellWords.{◌$◌, !, by, keep, agg, and_then, no_more, returns, alloc_all, pass_all, free_all, look_at, get, sets}
-use Rattle.tp_slots.proofs.{CellWords.{nothing, El, args}, CellsMemory.{Cr, mark}, cells.Cells.new.Statement.statement}
-use Rattle.tp_slots.specs.contracts.cells.Cells.new.{ended, clauses, Key.name as #self}
+use Rattle.tp_slots.proofs.CellCalls.{takes_all, enters, told, owner_made, ◌≡◌, refl, [], ◌∷◌, Fn, inst_fn, tables, ◌$◌, !, by, keep, agg}
+use Rattle.tp_slots.proofs.CellCalls.{and_then, no_more, returns, alloc_all, pass_all, free_all, look_at, get, sets, nothing, El, args, Cr}
+use Rattle.tp_slots.{proofs.{CellCalls.mark, cells.Cells.new.Statement.statement}, specs.contracts.cells.Cells.new.{ended, clauses}}
+use Rattle.tp_slots.specs.contracts.cells.Cells.new.Key.{name as #self}
 use Rattle.tp_slots.proofs.cells.Cells.new.Code as code
 
 pub new_spec : {M : Type 1} → statement M

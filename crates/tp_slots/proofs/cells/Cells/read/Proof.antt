@@ -1,13 +1,13 @@
 -- `read` moves the value out of a full cell. Before: the borrow of the cells. The raw read gives the value, and leaves the
 -- cell's room; so the cell goes back into the list empty, and the borrow is closed. Assumes `Logic`.
-use Rattle.tp_slots.proofs.{CellCalls.gives_back, CellSteps.{address_is, kept_in, enters, asked, told_both, cell_opened, cell_closed}}
-use Rattle.tp_slots.proofs.CellWords.{◌≡◌, refl, sym, [], ◌∷◌, ◌++◌, set, Fn, w64, inst_fn, Val, vptr, vint, tables, full_share, never, id⊢}
-use Rattle.tp_slots.proofs.CellWords.{fat, froom, ◌⊑◌, ‵, ◌⊛◌, some, given, at_ret, ◌$◌, !, by, move, keep, use1, split, rewrite, pick}
-use Rattle.tp_slots.proofs.CellWords.{learn, whole, sub, stop, hop, from, fld, look, load, of_opd, first, blocks, exec, returns, alloc_all}
-use Rattle.tp_slots.proofs.CellWords.{pass_all, free_all, look_at, look_in_at, take_at, give_at, get, sets, sets_last, env, Ptr, in_a_block}
-use Rattle.tp_slots.proofs.CellWords.{lies_at, usize, plain, after, word, word-Good, as_raw, El, R, args, elτ, Good, Some, None, cell_at}
-use Rattle.tp_slots.proofs.{CellWords.{IsFull, cell_owns, with_cells}, CellsMemory.{Bs, full_within, value_out}}
-use Rattle.tp_slots.{proofs.cells.Cells.read.Statement.statement, specs.contracts.cells.Cells.read.{ended, clauses, Key.name as #self}}
+use Rattle.tp_slots.proofs.CellCalls.{gives_back, address_is, kept_in, enters, asked, told_both, cell_opened, cell_closed, ◌≡◌, refl, sym}
+use Rattle.tp_slots.proofs.CellCalls.{[], ◌∷◌, ◌++◌, set, Fn, w64, inst_fn, Val, vptr, vint, tables, full_share, never, id⊢, fat, froom}
+use Rattle.tp_slots.proofs.CellCalls.{◌⊑◌, ‵, ◌⊛◌, some, given, at_ret, ◌$◌, !, by, move, keep, use1, split, rewrite, pick, learn, whole}
+use Rattle.tp_slots.proofs.CellCalls.{sub, stop, hop, from, fld, look, load, of_opd, first, blocks, exec, returns, alloc_all, pass_all}
+use Rattle.tp_slots.proofs.CellCalls.{free_all, look_at, look_in_at, take_at, give_at, get, sets, sets_last, env, Ptr, in_a_block, lies_at}
+use Rattle.tp_slots.proofs.CellCalls.{usize, plain, after, word, word-Good, as_raw, El, R, args, elτ, Good, Some, None, cell_at, IsFull}
+use Rattle.tp_slots.proofs.{CellCalls.{cell_owns, with_cells, Bs, full_inside, value_out}, cells.Cells.read.Statement.statement}
+use Rattle.tp_slots.specs.contracts.cells.Cells.read.{ended, clauses, Key.name as #self}
 use Rattle.tp_slots.proofs.cells.Cells.read.Code as code
 
 pub read_spec : {M : Type 1} → statement M
@@ -22,7 +22,7 @@ read_spec 𝓤 𝓛 𝓜 𝓡 wired X LX =
     let r = a.0 in let d = r.now in let p : Ptr = a.1.0.ptr in let i = a.1.1.0 in
     -- [the borrow, in three entries; the type's token; what the other arguments own; the `requires`]
     move ! (5 ∷ []) $ asked ! (κs.1.0 ⊑ X.lives) (IsFull d.cells i p) (λ full.
-    let x = full.0 in let within = full_within d.cells i p x full.1 in
+    let x = full.0 in let within = full_inside d.cells i p full in
     keep ! (0 ∷ 1 ∷ 2 ∷ 3 ∷ []) $ enters ! 𝓣.C 𝓣.Λ fn (vptr r.ref_ptr.0 r.ref_ptr.1 ∷ word p ∷ vint w64 i ∷ []) Post
     (λ j. passed j ++ (address_is E a.1.0 vss.1.0 are.0 j ++ (are.1.0.0 j ++ []))) $
     alloc_all ! (λ l. pass_all ! refl ((tt, tt), (word-Good [] p, ((tt, record { fits = are.1.0.1 }), tt))) $

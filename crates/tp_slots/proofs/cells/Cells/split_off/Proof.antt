@@ -1,11 +1,10 @@
 -- `split_off` gives up the later cells. Before: the borrow of the cells. No memory is touched: the list is owned, so both its
 -- parts are; the borrow is closed at the first, and a new owner is created from the second. Assumes `Logic`.
-use Rattle.tp_slots.proofs.{CellCalls.gives_back, CellSteps.{enters, told_both, owner_made, cells_opened, cells_closed}, CellWords.◌≡◌}
-use Rattle.tp_slots.proofs.CellWords.{refl, [], ◌∷◌, ◌++◌, take, drop, Fn, w64, inst_fn, vptr, vint, tables, ‵, ◌⊛◌, ◌$◌, !, by, move, keep}
-use Rattle.tp_slots.proofs.CellWords.{use1, split, agg, and_then, no_more, returns, alloc_all, pass_all, free_all, look_at, get, sets}
-use Rattle.tp_slots.proofs.{CellWords.{usize, plain, El, R, args, cells_own, with_cells}, CellsMemory.{Cr, mark, cells_cut}}
-use Rattle.tp_slots.{proofs.cells.Cells.split_off.Statement.statement, specs.contracts.cells.Cells.split_off.{ended, clauses}}
-use Rattle.tp_slots.specs.contracts.cells.Cells.split_off.Key.{name as #self}
+use Rattle.tp_slots.proofs.CellCalls.{gives_back, enters, told_both, owner_made, cells_opened, cells_closed, ◌≡◌, refl, [], ◌∷◌, ◌++◌, take}
+use Rattle.tp_slots.proofs.CellCalls.{drop, Fn, w64, inst_fn, vptr, vint, tables, ‵, ◌⊛◌, ◌$◌, !, by, move, keep, use1, split, agg}
+use Rattle.tp_slots.proofs.CellCalls.{and_then, no_more, returns, alloc_all, pass_all, free_all, look_at, get, sets, usize, plain, El, R}
+use Rattle.tp_slots.proofs.{CellCalls.{args, cells_own, with_cells, Cr, mark, cells_cut}, cells.Cells.split_off.Statement.statement}
+use Rattle.tp_slots.specs.contracts.cells.Cells.split_off.{ended, clauses, Key.name as #self}
 use Rattle.tp_slots.proofs.cells.Cells.split_off.Code as code
 
 pub split_off_spec : {M : Type 1} → statement M

@@ -1,14 +1,13 @@
 -- `write` fills an empty cell. Before: the borrow of the cells, and the value. The raw write takes the cell's room and the
 -- value, and gives the cell full; so it goes back into the list, and the borrow is closed. Assumes `Logic`.
-use Rattle.tp_slots.proofs.{CellCalls.gives_back, CellSteps.{address_is, value_is, kept_in, enters, asked, told, cell_opened, cell_closed}}
-use Rattle.tp_slots.proofs.CellWords.{◌≡◌, refl, sym, List, [], ◌∷◌, ◌++◌, set, Fn, w64, inst_fn, Val, vptr, vint, vunit, tables}
-use Rattle.tp_slots.proofs.CellWords.{full_share, never, id⊢, ◌⊑◌, ‵, at_ret, ◌$◌, !, by, move, keep, use2, rewrite, fsplit, feq_i, skip}
-use Rattle.tp_slots.proofs.CellWords.{whole, sub, stop, hop, from, fld, init, unit_lit, of_opd, assigns_last, first, blocks, exec, returns}
-use Rattle.tp_slots.proofs.CellWords.{alloc_all, pass_all, free_all, look_at, look_in_at, take_at, give_at, get, sets, env, lone, Ptr}
-use Rattle.tp_slots.proofs.CellWords.{block_ptr, in_a_block, lies_at, room_for, unit, usize, plain, after, word, word-Good, as_written, El}
-use Rattle.tp_slots.proofs.{CellWords.{R, args, elτ, Some, None, IsEmpty, with_cells}, CellsMemory.{Bs, value_in}}
-use Rattle.tp_slots.{proofs.cells.Cells.write.Statement.statement, specs.contracts.cells.Cells.write.{ended, clauses, Key.name as #self}}
-use mir.Raw.{raw as bare}
+use Rattle.tp_slots.proofs.CellCalls.{gives_back, address_is, value_is, kept_in, enters, asked, told, cell_opened, cell_closed, ◌≡◌, refl}
+use Rattle.tp_slots.proofs.CellCalls.{sym, List, [], ◌∷◌, ◌++◌, set, Fn, w64, inst_fn, Val, vptr, vint, vunit, tables, full_share, never}
+use Rattle.tp_slots.proofs.CellCalls.{id⊢, ◌⊑◌, ‵, at_ret, ◌$◌, !, by, move, keep, use2, rewrite, fsplit, feq_i, skip, whole, sub, stop}
+use Rattle.tp_slots.proofs.CellCalls.{hop, from, fld, init, unit_lit, of_opd, assigns_last, first, blocks, exec, returns, alloc_all}
+use Rattle.tp_slots.proofs.CellCalls.{pass_all, free_all, look_at, look_in_at, take_at, give_at, get, sets, env, lone, Ptr, block_ptr}
+use Rattle.tp_slots.proofs.CellCalls.{in_a_block, lies_at, room_for, unit, usize, plain, after, word, word-Good, as_written, El, R, args}
+use Rattle.tp_slots.proofs.{CellCalls.{elτ, Some, None, IsEmpty, with_cells, Bs, value_in, bare}, cells.Cells.write.Statement.statement}
+use Rattle.tp_slots.specs.contracts.cells.Cells.write.{ended, clauses, Key.name as #self}
 use Rattle.tp_slots.proofs.cells.Cells.write.Code as code
 
 pub write_spec : {M : Type 1} → statement M

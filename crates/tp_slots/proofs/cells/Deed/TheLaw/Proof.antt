@@ -1,11 +1,6 @@
 -- A `&` to a deed holds nothing. Assumes `Logic`.
-use Rattle.std.specs.declared.alloc.Allocator.{Ghosts}
+use Rattle.tp_slots.proofs.CellCalls.{Ghosts, Laws, copy_shared, RattleType, RawPtr, nothing_shr_laws, field_copy, of_Lends, Lends-nothing}
 use Rattle.tp_slots.proofs.cells.Deed.TheLaw.Statement.{statement}
-use denote.Param.{Laws.Laws, Shared.copy_shared}
-use denote.RattleType.{RattleType}
-use denote.RawPtr.{RawPtr}
-use denote.SharingLaws.{nothing_shr_laws}
-use denote.Struct.{Laws.field_copy, Lending.{of_Lends, Lends-nothing}}
 use Rattle.std.specs.contracts.marker.PhantomData as marker
 use Rattle.tp_slots.specs.contracts.cells.Deed as C
 

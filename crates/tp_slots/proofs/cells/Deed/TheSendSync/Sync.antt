@@ -1,7 +1,4 @@
-use Rattle.std.specs.declared.alloc.Allocator.{Ghosts}
-use Rattle.tp_slots.{proofs.CellsCrossing.Deed-sync, specs.contracts.cells.Deed.the_row}
-use denote.Param.Send.{IsSync}
-use denote.RattleType.{RattleType}
+use Rattle.tp_slots.{proofs.CellCalls.{Ghosts, Deed-sync, IsSync, RattleType}, specs.contracts.cells.Deed.the_row}
 
 pub sync : (R A : RattleType) (g : Ghosts A.Denot) → IsSync (the_row R A g)
 sync = Deed-sync

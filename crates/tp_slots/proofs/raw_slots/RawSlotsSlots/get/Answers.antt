@@ -1,5 +1,4 @@
-use Rattle.std.proofs.Common.{◌<◌, length, ap, sym, ◌∙◌, arith}
-use Rattle.tp_slots.{proofs.Keeping.{taken_raw, item_raw, table_long, located}, specs.Content.item_at}
+use Rattle.tp_slots.proofs.Moves.{◌<◌, length, ap, sym, ◌∙◌, arith, taken_raw, item_raw, table_long, located, item_at}
 use Rattle.tp_slots.proofs.raw_slots.RawSlotsSlots.get.Goals as goal
 
 pub index-at-requires : goal.index-at-requires

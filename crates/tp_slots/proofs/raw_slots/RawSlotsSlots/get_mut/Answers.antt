@@ -1,6 +1,5 @@
-use Rattle.std.proofs.Common.{◌<◌, length, refl, ap, sym, ◌∙◌, arith}
-use Rattle.tp_slots.proofs.{Keeping.{taken_raw, item_raw, table_long, located, opened, settled, content_is}, Moves.rewritten}
-use Rattle.tp_slots.specs.{Content.{item_at, with_item}, SlabSlots.Roomy}
+use Rattle.tp_slots.proofs.Moves.{◌<◌, length, refl, ap, sym, ◌∙◌, arith, taken_raw, item_raw, table_long, located, opened, settled}
+use Rattle.tp_slots.proofs.Moves.{content_is, rewritten, item_at, with_item, Roomy}
 use Rattle.tp_slots.proofs.raw_slots.RawSlotsSlots.get_mut.Goals as goal
 
 pub index-at-requires : goal.index-at-requires

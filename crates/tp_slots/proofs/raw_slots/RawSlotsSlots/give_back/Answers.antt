@@ -1,6 +1,5 @@
-use Rattle.std.proofs.Common.{◌+◌, ◌<◌, length, refl, ap, sym, ◌∙◌, arith}
-use Rattle.tp_slots.proofs.{Keeping.{taken_raw, item_raw, table_long, located, opened, settled, content_is}, Moves.{given_back, between}}
-use Rattle.tp_slots.specs.Content.{item_at, without_item}
+use Rattle.tp_slots.proofs.Moves.{◌+◌, ◌<◌, length, refl, ap, sym, ◌∙◌, arith, taken_raw, item_raw, table_long, located, opened, settled}
+use Rattle.tp_slots.proofs.Moves.{content_is, given_back, between, item_at, without_item}
 use Rattle.tp_slots.proofs.raw_slots.RawSlotsSlots.give_back.Goals as goal
 
 pub index-at-requires : goal.index-at-requires

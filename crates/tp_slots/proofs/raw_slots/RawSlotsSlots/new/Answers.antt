@@ -1,4 +1,4 @@
-use Rattle.tp_slots.proofs.{Keeping.settled, Moves.nothing}
+use Rattle.tp_slots.proofs.Moves.{settled, nothing}
 use Rattle.tp_slots.proofs.raw_slots.RawSlotsSlots.new.Goals as goal
 
 pub invariant_of-result : goal.invariant_of-result

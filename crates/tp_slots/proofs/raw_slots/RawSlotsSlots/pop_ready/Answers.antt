@@ -1,5 +1,4 @@
-use Rattle.std.proofs.Common.{ap, ◌∙◌}
-use Rattle.tp_slots.{proofs.{Keeping.{opened, settled, content_is}, Moves.popped, Sound.IsIdle-front}, specs.Content.without_next}
+use Rattle.tp_slots.proofs.Moves.{ap, ◌∙◌, opened, settled, content_is, popped, IsIdle-front, without_next}
 use Rattle.tp_slots.proofs.raw_slots.RawSlotsSlots.pop_ready.Goals as goal
 
 pub invariant_of-self : goal.invariant_of-self

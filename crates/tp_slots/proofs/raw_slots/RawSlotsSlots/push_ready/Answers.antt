@@ -1,5 +1,5 @@
-use Rattle.std.proofs.Common.{◌<◌, length, ap, sym, ◌∙◌, arith}
-use Rattle.tp_slots.{proofs.{Keeping.{taken_raw, table_long, located, opened, settled, content_is}, Moves.pushed}, specs.Content.with_ready}
+use Rattle.tp_slots.proofs.Moves.{◌<◌, length, ap, sym, ◌∙◌, arith, taken_raw, table_long, located, opened, settled, content_is, pushed}
+use Rattle.tp_slots.proofs.Moves.{with_ready}
 use Rattle.tp_slots.proofs.raw_slots.RawSlotsSlots.push_ready.Goals as goal
 
 pub index-at-requires : goal.index-at-requires

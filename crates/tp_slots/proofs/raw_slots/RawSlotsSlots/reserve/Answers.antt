@@ -1,6 +1,5 @@
-use Rattle.std.proofs.Common.{◌≡◌, ◌<◌, length, ap, ◌∙◌, arith}
-use Rattle.tp_slots.proofs.{Keeping.{opened, settled, content_is}, Kept.{is_full, is_not_full, told}, Moves.{grown, few_held, all_full}}
-use Rattle.tp_slots.specs.Content.{held_count}
+use Rattle.tp_slots.proofs.{Lemmas.{is_full, is_not_full, told}, Moves.{◌≡◌, ◌<◌, length, ap, ◌∙◌, arith, opened, settled, content_is}}
+use Rattle.tp_slots.proofs.Moves.{grown, few_held, all_full, held_count}
 use Rattle.tp_slots.proofs.raw_slots.RawSlotsSlots.reserve.Goals as goal
 
 pub returns-then-self-gt0-clause-not_full : goal.returns-then-self-gt0-clause-not_full

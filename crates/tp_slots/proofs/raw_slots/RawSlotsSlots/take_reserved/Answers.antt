@@ -1,6 +1,5 @@
-use Rattle.std.proofs.Common.{◌<◌, ◌-◌, length, ap, sym, ◌∙◌, arith}
-use Rattle.tp_slots.proofs.{Keeping.{opened, settled, content_is, table_long, located}, Moves.{filled, begun, swapped, few_held}}
-use Rattle.tp_slots.{proofs.Sound.idle_when_taken, specs.Content.{item_at, with_item, held_count}}
+use Rattle.tp_slots.proofs.Moves.{◌<◌, ◌-◌, length, ap, sym, ◌∙◌, arith, opened, settled, content_is, table_long, located, filled, begun}
+use Rattle.tp_slots.proofs.Moves.{swapped, few_held, idle_when_taken, item_at, with_item, held_count}
 use Rattle.tp_slots.proofs.raw_slots.RawSlotsSlots.take_reserved.Goals as goal
 
 pub invariant_of-self : goal.invariant_of-self

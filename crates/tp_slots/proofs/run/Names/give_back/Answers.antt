@@ -1,6 +1,4 @@
-use Rattle.std.proofs.Common.{◌≡◌, false}
-use Rattle.tp_slots.{proofs.Naming.{idle_at, given_back, known, GiveBack_reply}, specs.Names.name_at}
-use Rattle.tp_slots.specs.declared.run.Standing.TheVariants.{Held}
+use Rattle.tp_slots.proofs.Naming.{◌≡◌, false, idle_at, given_back, known, GiveBack_reply, name_at, Held}
 use Rattle.tp_slots.proofs.run.Names.give_back.Goals as goal
 
 pub give_back-requires : goal.give_back-requires

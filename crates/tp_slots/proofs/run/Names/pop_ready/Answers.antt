@@ -1,6 +1,5 @@
-use Rattle.std.proofs.Common.{◌≡◌, Some, None, true, ap, sym, ◌∙◌, arith}
-use Rattle.tp_slots.specs.declared.run.Reply.TheVariants.{Next}
-use Rattle.tp_slots.proofs.Naming.{next_none, next_number, within, popped, unchanged_without_front}
+use Rattle.tp_slots.proofs.Naming.{◌≡◌, Some, None, true, ap, sym, ◌∙◌, arith, Next, next_none, next_number, within, popped}
+use Rattle.tp_slots.proofs.Naming.{unchanged_without_front}
 use Rattle.tp_slots.proofs.run.Names.pop_ready.Goals as goal
 
 pub returns-in_default : goal.returns-in_default

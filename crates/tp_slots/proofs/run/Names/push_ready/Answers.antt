@@ -1,6 +1,4 @@
-use Rattle.std.proofs.Common.{◌≡◌, false}
-use Rattle.tp_slots.{proofs.Naming.{idle_at, pushed, known, has_item, PushReady_reply}, specs.Names.name_at}
-use Rattle.tp_slots.specs.declared.run.Standing.TheVariants.{Held}
+use Rattle.tp_slots.proofs.Naming.{◌≡◌, false, idle_at, pushed, known, has_item, PushReady_reply, name_at, Held}
 use Rattle.tp_slots.proofs.run.Names.push_ready.Goals as goal
 
 pub push_ready-requires-clause-idle : goal.push_ready-requires-clause-idle

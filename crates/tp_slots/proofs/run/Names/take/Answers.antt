@@ -1,6 +1,5 @@
-use Rattle.std.proofs.Common.{◌≡◌, ◌<◌, ◌++◌, ◌∷◌, [], List, false, subst, ap, sym, ◌∙◌, length, count_by, is_some, arith}
-use Rattle.tp_slots.proofs.{Kept.is_full_from, Naming.{taken, refused, elsewhere, Take_reply, Take_refused}}
-use Rattle.tp_slots.specs.declared.run.{Reply.TheVariants.Taken, Standing.{Standing, TheVariants.{Held, Gone}}}
+use Rattle.tp_slots.proofs.{Lemmas.is_full_from, Naming.{◌≡◌, ◌<◌, ◌++◌, ◌∷◌, [], List, false, subst, ap, sym, ◌∙◌, length, count_by}}
+use Rattle.tp_slots.proofs.Naming.{is_some, arith, taken, refused, elsewhere, Take_reply, Take_refused, Taken, Standing, Held, Gone}
 use Rattle.tp_slots.proofs.run.Names.take.Goals as goal
 
 pub returns-in_ok-insert-in-Ok-clause-reply : goal.returns-in_ok-insert-in-Ok-clause-reply

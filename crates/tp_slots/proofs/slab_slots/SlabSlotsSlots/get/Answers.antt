@@ -1,5 +1,4 @@
-use Rattle.std.proofs.Common.{ap, sym, ◌∙◌, arith, option_copied}
-use Rattle.tp_slots.{proofs.{Kept.has_key, SlabItems.get-items_of}, specs.Content.item_at}
+use Rattle.tp_slots.proofs.Lemmas.{ap, sym, ◌∙◌, arith, option_copied, has_key, get-items_of, item_at}
 use Rattle.tp_slots.proofs.slab_slots.SlabSlotsSlots.get.Goals as goal
 
 pub unwrap-requires : goal.unwrap-requires

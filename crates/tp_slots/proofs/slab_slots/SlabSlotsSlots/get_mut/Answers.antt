@@ -1,6 +1,4 @@
-use Rattle.std.proofs.Common.{refl, ap, sym, ◌∙◌}
-use Rattle.tp_slots.{proofs.{Kept.{has_key, IsKept-rewritten, with_value_roomy}, SlabItems.get-items_of}, specs.Content.item_at}
-use Rattle.tp_slots.specs.{Content.with_item, SlabSlots.Roomy}
+use Rattle.tp_slots.proofs.Lemmas.{refl, ap, sym, ◌∙◌, has_key, IsKept-rewritten, with_value_roomy, get-items_of, item_at, with_item, Roomy}
 use Rattle.tp_slots.proofs.slab_slots.SlabSlotsSlots.get_mut.Goals as goal
 
 pub index_mut-requires : goal.index_mut-requires

@@ -1,5 +1,4 @@
-use Rattle.std.proofs.Common.{ap, sym, ◌∙◌}
-use Rattle.tp_slots.{proofs.{Kept.{has_key, IsKept-removed, without_items}, SlabItems.get-items_of}, specs.Content.{item_at, without_item}}
+use Rattle.tp_slots.proofs.Lemmas.{ap, sym, ◌∙◌, has_key, IsKept-removed, without_items, get-items_of, item_at, without_item}
 use Rattle.tp_slots.proofs.slab_slots.SlabSlotsSlots.give_back.Goals as goal
 
 pub remove-requires : goal.remove-requires

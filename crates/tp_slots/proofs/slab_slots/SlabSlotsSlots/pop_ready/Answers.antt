@@ -1,4 +1,4 @@
-use Rattle.tp_slots.proofs.Kept.{front_idle, IsKept-popped}
+use Rattle.tp_slots.proofs.Lemmas.{front_idle, IsKept-popped}
 use Rattle.tp_slots.proofs.slab_slots.SlabSlotsSlots.pop_ready.Goals as goal
 
 pub invariant_of-self : goal.invariant_of-self

@@ -1,5 +1,4 @@
-use Rattle.std.proofs.{Common.arith, lemmas.List.length-map}
-use Rattle.tp_slots.proofs.Kept.{has_room, IsKept-pushed}
+use Rattle.tp_slots.proofs.Lemmas.{arith, length-map, has_room, IsKept-pushed}
 use Rattle.tp_slots.proofs.slab_slots.SlabSlotsSlots.push_ready.Goals as goal
 
 pub push_to-requires-clause-room : goal.push_to-requires-clause-room

@@ -1,5 +1,4 @@
-use Rattle.std.proofs.Common.{arith}
-use Rattle.tp_slots.proofs.Kept.{held, is_full, is_not_full, told}
+use Rattle.tp_slots.proofs.Lemmas.{arith, held, is_full, is_not_full, told}
 use Rattle.tp_slots.proofs.slab_slots.SlabSlotsSlots.reserve.Goals as goal
 
 pub returns-then-self-gt0-clause-not_full : goal.returns-then-self-gt0-clause-not_full

@@ -1,6 +1,5 @@
-use Rattle.std.proofs.Common.{◌≡◌, ◌<◌, None, ap, sym, ◌∙◌, arith}
-use Rattle.tp_slots.proofs.{Kept.{IsKept-inserted, with_items, held}, SlabItems.get-items_of, Sound.idle_when_taken}
-use Rattle.tp_slots.specs.{Content.{item_at, with_item}, SlabSlots.content_of}
+use Rattle.tp_slots.proofs.Lemmas.{◌≡◌, ◌<◌, None, ap, sym, ◌∙◌, arith, IsKept-inserted, with_items, held, get-items_of, idle_when_taken}
+use Rattle.tp_slots.proofs.Lemmas.{item_at, with_item, content_of}
 use Rattle.tp_slots.proofs.slab_slots.SlabSlotsSlots.take_reserved.Goals as goal
 
 pub invariant_of-self : goal.invariant_of-self

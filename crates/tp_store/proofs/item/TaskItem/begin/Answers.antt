@@ -1,5 +1,4 @@
-use Rattle.std.proofs.Common.{◌≡◌, ap, ◌∙◌}
-use Rattle.tp_store.{proofs.Filling.{IsFilled-begun, all_inputs}, specs.declared.life.Life.TheVariants.Ready}
+use Rattle.tp_store.proofs.Changes.{◌≡◌, ap, ◌∙◌, IsFilled-begun, all_inputs, Ready}
 use Rattle.tp_store.proofs.item.TaskItem.begin.Goals as goal
 
 pub invariant_of-self : goal.invariant_of-self

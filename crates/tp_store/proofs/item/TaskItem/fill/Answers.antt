@@ -1,5 +1,4 @@
-use Rattle.std.proofs.Common.{rules, arith}
-use Rattle.tp_store.proofs.Filling.{can_insert, item_filled}
+use Rattle.tp_store.proofs.Changes.{rules, arith, can_insert, item_filled}
 use Rattle.tp_store.proofs.item.TaskItem.fill.Goals as goal
 
 pub insert_reserved-requires : goal.insert_reserved-requires

@@ -1,5 +1,4 @@
-use Rattle.std.proofs.Common.{◌≡◌, false}
-use Rattle.tp_store.{proofs.Filling.has_slot, specs.Content.has_begun}
+use Rattle.tp_store.proofs.Changes.{◌≡◌, false, has_slot, has_begun}
 use Rattle.tp_store.proofs.item.TaskItem.has_value.Goals as goal
 
 pub returns-then-slot-self : goal.returns-then-slot-self

@@ -1,5 +1,4 @@
-use Rattle.std.proofs.Common.{ap, length, ◌∙◌, arith}
-use Rattle.tp_store.proofs.Filling.{IsFilled-fresh, fresh_item}
+use Rattle.tp_store.proofs.Changes.{ap, length, ◌∙◌, arith, IsFilled-fresh, fresh_item}
 use Rattle.tp_store.proofs.item.TaskItem.new.Goals as goal
 
 pub invariant_of-result : goal.invariant_of-result

@@ -1,6 +1,5 @@
-use Rattle.std.proofs.Common.{subst, ap, sym, rules, ◌∙◌, arith}
-use Rattle.tp_store.proofs.{Changes.{none_next, same_slots, can_begin, some_ready, begins, begun_all}, Contents.begun_goes_on}
-use Rattle.tp_store.specs.{Content.{unfinished, with_begun, NoneGoesBack}, Kept.{content_of, Leaves}, Sound.IsSound}
+use Rattle.tp_store.proofs.Changes.{subst, ap, sym, rules, ◌∙◌, arith, none_next, same_slots, can_begin, some_ready, begins, begun_all}
+use Rattle.tp_store.proofs.Changes.{begun_goes_on, unfinished, with_begun, NoneGoesBack, content_of, Leaves, IsSound}
 use Rattle.tp_store.proofs.store.TaskStore.begin.Given as given
 use Rattle.tp_store.proofs.store.TaskStore.begin.Goals as goal
 

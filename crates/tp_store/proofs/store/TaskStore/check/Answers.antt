@@ -1,6 +1,5 @@
-use Rattle.std.proofs.Common.{Some, None, ap, sym, refl, ◌∙◌}
-use Rattle.tp_store.proofs.{Changes.taken_there, Keeping.{seen, seen_live, few_live, new_answer, answers, known_refusal, unknown_refusal}}
-use Rattle.tp_store.specs.declared.index.Entry.TheVariants.{Done}
+use Rattle.tp_store.proofs.Changes.{Some, None, ap, sym, refl, ◌∙◌, taken_there, seen, seen_live, few_live, new_answer, answers}
+use Rattle.tp_store.proofs.Changes.{known_refusal, unknown_refusal, Done}
 use Rattle.tp_store.proofs.store.TaskStore.check.Goals as goal
 
 pub check_new-requires : goal.check_new-requires

@@ -1,5 +1,4 @@
-use Rattle.std.proofs.Common.{None, sym, refl, ◌∙◌}
-use Rattle.tp_store.proofs.Keeping.{seen, known, few_live, new_answer, answers, insert_refusal}
+use Rattle.tp_store.proofs.Changes.{None, sym, refl, ◌∙◌, seen, known, few_live, new_answer, answers, insert_refusal}
 use Rattle.tp_store.proofs.store.TaskStore.check_insert.Goals as goal
 
 pub check_new-requires : goal.check_new-requires

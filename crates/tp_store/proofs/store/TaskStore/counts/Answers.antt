@@ -1,5 +1,4 @@
-use Rattle.std.proofs.Common.{ap, ◌∙◌}
-use Rattle.tp_store.{proofs.Counting.unfinished_counted, specs.Content.counts_of}
+use Rattle.tp_store.proofs.Changes.{ap, ◌∙◌, unfinished_counted, counts_of}
 use Rattle.tp_store.proofs.store.TaskStore.counts.Goals as goal
 
 pub returns-clause-unfinished : goal.returns-clause-unfinished

@@ -1,9 +1,7 @@
-use Rattle.std.proofs.Common.{◌≡◌, Some, None, unwrap_or, rules, refl, subst, ap, sym, ◌∙◌, arith}
-use Rattle.tp_base.specs.declared.refusal.Refusal.TheVariants.{NoMemory}
-use Rattle.tp_store.proofs.{Changes.{taken_there, can_supply, supplied_all, fills}, Contents.delivered_goes_on, Keeping.{seen, seen_live}}
-use Rattle.tp_store.{proofs.Keeping.{known_refusal, accepts, refuses, not_some, on_err, goes_on}, specs.Content.unfinished}
-use Rattle.tp_store.specs.{Content.{refusal_of_deliver, delivered_to, with_delivered, NoneGoesBack}, Kept.Leaves}
-use Rattle.tp_store.specs.declared.{index.Entry.TheVariants.Done, life.Delivered.TheVariants.Filled}
+use Rattle.tp_store.proofs.Changes.{◌≡◌, Some, None, unwrap_or, rules, refl, subst, ap, sym, ◌∙◌, arith, NoMemory, taken_there, can_supply}
+use Rattle.tp_store.proofs.Changes.{supplied_all, fills, delivered_goes_on, seen, seen_live, known_refusal, accepts, refuses, not_some}
+use Rattle.tp_store.proofs.Changes.{on_err, goes_on, unfinished, refusal_of_deliver, delivered_to, with_delivered, NoneGoesBack, Leaves}
+use Rattle.tp_store.proofs.Changes.{Done, Filled}
 use Rattle.tp_store.proofs.store.TaskStore.deliver.Given as given
 use Rattle.tp_store.proofs.store.TaskStore.deliver.Goals as goal
 

@@ -1,7 +1,5 @@
-use Rattle.std.proofs.Common.{unwrap_or, rules, refl, ap, sym, ◌∙◌, arith}
-use Rattle.tp_base.specs.declared.refusal.Refusal.TheVariants.{NoMemory}
-use Rattle.tp_store.proofs.{Changes.{can_supply, supplied_all, first_checked, first_all, inserts}, Keeping.{nothing_there, unknown_refusal}}
-use Rattle.tp_store.specs.Content.{refusal_of_new}
+use Rattle.tp_store.proofs.Changes.{unwrap_or, rules, refl, ap, sym, ◌∙◌, arith, NoMemory, can_supply, supplied_all, first_checked}
+use Rattle.tp_store.proofs.Changes.{first_all, inserts, nothing_there, unknown_refusal, refusal_of_new}
 use Rattle.tp_store.proofs.store.TaskStore.deliver_unknown.Goals as goal
 
 pub insert_fresh-requires : goal.insert_fresh-requires

@@ -1,7 +1,6 @@
-use Rattle.std.{proofs.Common.{◌<◌, ◌-◌, Some, None, subst, arith, ap, sym, refl, ◌∙◌}, specs.Option.option_map}
-use Rattle.tp_store.proofs.{Changes.{taken_there, life_there, can_finish, done_all, wrong_life}, Contents.done_goes_on, Keeping.seen}
-use Rattle.tp_store.specs.{Content.{unfinished, refusal_of_done, with_done, NoneGoesBack}, Kept.Leaves}
-use Rattle.tp_store.specs.declared.index.Entry.TheVariants.{Done}
+use Rattle.tp_store.proofs.Changes.{◌<◌, ◌-◌, Some, None, subst, arith, ap, sym, refl, ◌∙◌, option_map, taken_there, life_there, can_finish}
+use Rattle.tp_store.proofs.Changes.{done_all, wrong_life, done_goes_on, seen, unfinished, refusal_of_done, with_done, NoneGoesBack, Leaves}
+use Rattle.tp_store.proofs.Changes.{Done}
 use Rattle.tp_store.proofs.store.TaskStore.done.Given as given
 use Rattle.tp_store.proofs.store.TaskStore.done.Goals as goal
 

@@ -1,6 +1,4 @@
-use Rattle.std.{proofs.Common.{is_some, ap, sym, ◌∙◌}, specs.Prelude.nat_lt}
-use Rattle.tp_slots.specs.Content.{front}
-use Rattle.tp_store.proofs.Contents.{available}
+use Rattle.tp_store.proofs.Changes.{is_some, ap, sym, ◌∙◌, nat_lt, front, available}
 use Rattle.tp_store.proofs.store.TaskStore.has_ready.Goals as goal
 
 pub returns : goal.returns

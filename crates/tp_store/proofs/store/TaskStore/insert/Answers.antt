@@ -1,7 +1,5 @@
-use Rattle.std.proofs.Common.{unwrap_or, subst, ap, sym, refl, ◌∙◌, rules, arith}
-use Rattle.tp_base.specs.declared.refusal.Refusal.TheVariants.{NoMemory}
-use Rattle.tp_store.proofs.{Changes.seen_made, Contents.inserted_goes_on, Keeping.{accepts, refuses, insertable, nothing_there, on_err}}
-use Rattle.tp_store.{proofs.Keeping.{no_ok, told}, specs.Content.{refusal_of_new, NoneGoesBack}}
+use Rattle.tp_store.proofs.Changes.{unwrap_or, subst, ap, sym, refl, ◌∙◌, rules, arith, NoMemory, seen_made, inserted_goes_on, accepts}
+use Rattle.tp_store.proofs.Changes.{refuses, insertable, nothing_there, on_err, no_ok, told, refusal_of_new, NoneGoesBack}
 use Rattle.tp_store.proofs.store.TaskStore.insert.Goals as goal
 
 -- ---- it was known, or there is no place for it

@@ -1,5 +1,4 @@
-use Rattle.std.proofs.Common.{is_some, ap, ◌∙◌}
-use Rattle.tp_store.proofs.Keeping.{is_there}
+use Rattle.tp_store.proofs.Changes.{is_some, ap, ◌∙◌, is_there}
 use Rattle.tp_store.proofs.store.TaskStore.knows.Goals as goal
 
 pub returns : goal.returns

@@ -1,5 +1,4 @@
-use Rattle.std.{proofs.Common.{Some, None, ap, sym, ◌∙◌}, specs.Option.option_map}
-use Rattle.tp_store.{proofs.{Changes.taken_there, Keeping.{seen, seen_live}}, specs.declared.index.Entry.TheVariants.Done}
+use Rattle.tp_store.proofs.Changes.{Some, None, ap, sym, ◌∙◌, option_map, taken_there, seen, seen_live, Done}
 use Rattle.tp_store.proofs.store.TaskStore.life.Goals as goal
 
 pub returns-in-Some-Live-clause-life : goal.returns-in-Some-Live-clause-life

@@ -1,5 +1,4 @@
-use Rattle.std.proofs.Common.{ap, ◌∙◌}
-use Rattle.tp_store.{proofs.Changes.{IsKept-new, none_live, nothing_kept}, specs.Content.unfinished}
+use Rattle.tp_store.proofs.Changes.{ap, ◌∙◌, IsKept-new, none_live, nothing_kept, unfinished}
 use Rattle.tp_store.proofs.store.TaskStore.new.Goals as goal
 
 pub invariant_of-result : goal.invariant_of-result

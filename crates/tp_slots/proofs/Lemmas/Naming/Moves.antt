@@ -1,22 +1,6 @@
 -- The slots after each call.
-use Rattle.slab.specs.Slab.{entries_from}
-use Rattle.std.proofs.Common.{◌≡◌, ◌≢◌, ℕ, zero, suc, ◌+◌, ◌*◌, ◌<◌, ◌≤◌, false, cond, List, [], ◌∷◌, ◌++◌, length, get_or, set, Option}
-use Rattle.std.proofs.{Common.{Some, None, is_some, refl, sym, ap, subst, ◌∙◌, inl, inr, arith}, lemmas.Bool.{cases_eq, Decides.nat_tests}}
-use Rattle.std.proofs.lemmas.List.{get_or-set_same, length-append, length-map, get_or_append_left, Elements.All-push}
-use Rattle.std.specs.{Cmp.nat_cmp_total, Ordering.nat_cmp, declared.alloc.Global.Global}
-use Rattle.tp_slots.proofs.{Chained.{KeepsLinks, others_kept, next_kept, chain_same, chains_same}, Housed.{rows_pushed, rows_long}}
-use Rattle.tp_slots.proofs.Keeping.{decide_lt, RawBy, raw_item, taken_slot, items_same, pointers_same, put_linked, put_tabled, put_first}
-use Rattle.tp_slots.proofs.{Keeping.{put_pointers, content_put, content_cleared, length_put, put_links}, Sound.{stands, stands-cons}}
-use Rattle.tp_slots.proofs.Sound.{stands-le-times, times-with_last, times-front, without_front-empty, IsSound-with_item}
-use Rattle.tp_slots.proofs.Sound.{IsSound-without_item, IsSound-with_ready, IsSound-without_next, IsSound-nothing_held}
-use Rattle.tp_slots.specs.{Blocks.{pointers_of, pointers_in, HoldsFirst, IsBlock, rows_of}, Cells.{cell_at, IsFull, empty_at}}
-use Rattle.tp_slots.specs.{ChainLends.{slot_with, holding, with_item_at, vacated, without_item_at}, Chains.{next_in, item_in, next_at}}
-use Rattle.tp_slots.specs.{Chains.{IsChain, KeepsOthers, IsPath, IsBack}, Content.{Content, times, item_at, IsTaken, IsIdle, with_item}}
-use Rattle.tp_slots.specs.{Content.{without_item, with_ready, with_last, front, without_front, held_count, IsSound}, Lists.AreChains}
-use Rattle.tp_slots.specs.{RawSlots.{items_in, content_of, IsLinked, IsHoused}, declared.{blocks.Block.Block, cells.At.At}}
-use Rattle.tp_slots.specs.declared.chains.{Chain.Chain, Link.Link, Slot.Slot}
-use denote.RawPtr.{Ptr, null_ptr}
-use Rattle.std.specs.FinMap as map
+pub mod Keeping
+pub use Keeping.*
 
 -- no place is in more lists without the front
 fewer : (rs : List (List ℕ)) (p : ℕ) → times p (without_front rs) ≤ times p rs
@@ -46,11 +30,6 @@ module _ {T : Type 0} where
 
   held_same : (c : Content T) (place : ℕ) (w : T) → IsTaken c place → held_count (with_item c place w) ≡ held_count c
   held_same c place w taken = map.len-insert nat_cmp_total c.items place w ∙ ap (λ b. cond b (map.len c.items) (map.len c.items + 1)) taken
-
-  pub full_within : (cs : List (Ptr × Option (Slot T))) (i : ℕ) (p : Ptr) (x : Slot T) → cell_at cs i ≡ (p, Some x) → i < length cs
-  full_within [] i p x e = let clash : None ≡ Some x = ap (λ (c : Ptr × Option (Slot T)). c.1) e in cc
-  full_within (c ∷ cs) zero p x e = omega arith
-  full_within (c ∷ cs) (suc i) p x e = omega (arith, full_within cs i p x e)
 
   -- no list goes through an empty cell
   empty_place : (cs : List (Ptr × Option (Slot T))) (ps : List ℕ) (o : Option (Link T)) (place : ℕ) → (cell_at cs place).1 ≡ None
@@ -89,7 +68,7 @@ module _ {T : Type 0} where
 
   longer_links : (cs : List (Ptr × Option (Slot T))) (row : List Ptr) → KeepsLinks cs (cs ++ empty_at row)
   longer_links cs row l full =
-      (full.0, get_or_append_left cs (empty_at row) (null_ptr, None) l.place (full_within cs l.place l.ptr full.0 full.1) ∙ full.1)
+      (full.0, get_or_append_left cs (empty_at row) (null_ptr, None) l.place (full_inside cs l.place l.ptr full) ∙ full.1)
 
   longer_pointers : (cs : List (Ptr × Option (Slot T))) (row : List Ptr) → pointers_of (cs ++ empty_at row) ≡ pointers_of cs ++ row
   longer_pointers [] [] = refl
@@ -136,7 +115,7 @@ module _ {T : Type 0} where
       (h : RawBy alloc blocks table cs used room free ready vacant lists) where
     -- a taken place is used, and not free
     pub taken_used : (place : ℕ) → IsTaken (content_of cs lists) place → place < used
-    taken_used place taken = elim (decide_lt place used) [
+    taken_used place taken = elim (cases_lt place used) [
       | inl lt ↦ lt
       | inr ge ↦
           let y = (taken_slot cs lists place taken).2 in
@@ -262,7 +241,7 @@ module _ {T : Type 0} where
         let y = full.0 in let q = (cell_at cs place).0 in
         let slot_is : (cell_at cs place).1 ≡ Some y = ap (λ (c : Ptr × Option (Slot T)). c.1) full.1 in
         let s : Slot T = slot_with y w in
-        let inside = full_within cs place p y full.1 in
+        let inside = full_inside cs place p full in
         let leads : s.next ≡ next_at cs place = sym (ap next_in slot_is) in
         let is : with_item_at cs place w ≡ set cs place (q, Some s) = ap (λ (o : Option (Slot T)). set cs place (q, holding w o)) slot_is in
         let vacant_at : stands place vacant ≡ 1 + stands place rest =
@@ -303,7 +282,7 @@ module _ {T : Type 0} where
         )
       where
         full_used : (place : ℕ) (p : Ptr) (y : Slot T) → cell_at cs place ≡ (p, Some y) → place < used
-        full_used place p y is = elim (decide_lt place used) [
+        full_used place p y is = elim (cases_lt place used) [
           | inl lt ↦ lt
           | inr ge ↦ let none : None ≡ Some y = sym (h.tabled.fresh place ge) ∙ ap (λ (c : Ptr × Option (Slot T)). c.1) is in cc
         ]

@@ -1,11 +1,6 @@
 -- How the number of a finite map's values that pass a test moves.
-use Rattle.std.proofs.Common.{◌≡◌, ℕ, suc, ◌+◌, Bool, true, false, cond, List, [], ◌∷◌, length, Option, Some, None, is_some, count_by, refl}
-use Rattle.std.{proofs.{Common.{sym, ap, ◌∙◌, arith}, Math.Dec.T, lemmas.List.Sums.sum_by-cons}, specs.Cmp.nat_cmp_total}
-use Rattle.std.specs.{FinMap.Entries.{put, find, is_sorted, by_order, length-put}, Ordering.{nat_cmp, is_eq}, Prelude.◌&&◌}
-use Rattle.std.specs.declared.cmp.Ordering.TheVariants.{Less, Equal, Greater}
-use Rattle.tp_store.specs.Content.{Task, Content, unfinished, counts_of, is_waiting, is_ready, is_running, is_unfinished}
-use Rattle.tp_store.specs.declared.life.{Counts.Counts, Life.{Life, TheVariants.{Waiting, Ready, Running, Done}}}
-use Rattle.std.specs.FinMap as map
+pub mod Filling
+pub use Filling.*
 
 pub later_sorted : (a b : Bool) → T (a && b) → T b
 later_sorted true b h = h
@@ -51,10 +46,10 @@ module _ {X : Type 0} (test : X → Bool) where
         | Greater ↦ λ more. omega (arith, passing-cons e (put nat_cmp k v es), passing-cons e es, passing-put k v es (later_sorted _ _ h))
       ] refl
 
-  pub passing-insert : (m : map.FinMap nat_cmp X) (k : ℕ) (v : X)
-      → passing (map.entries (map.insert m k v)) + one_if (map.get m k) ≡ passing (map.entries m) + cond (test v) 1 0
+  pub passing-insert : (m : finite.FinMap nat_cmp X) (k : ℕ) (v : X)
+      → passing (finite.entries (finite.insert m k v)) + one_if (finite.get m k) ≡ passing (finite.entries m) + cond (test v) 1 0
   passing-insert m k v =
-      rw (map.entries-insert nat_cmp_total m k v, map.get-entries m k) (passing-put k v (map.entries m) (map.entries_sorted m))
+      rw (finite.entries-insert nat_cmp_total m k v, finite.get-entries m k) (passing-put k v (finite.entries m) (finite.entries_sorted m))
 
 -- tasks that are not done wait, are ready or run
 pub unfinished_sum : {V : Type 0} (es : List (ℕ × Task V))
@@ -77,9 +72,9 @@ unfinished_sum {V} (e ∷ es) =
     one_of (Waiting k) = refl
     one_of Ready = refl
     one_of Running = refl
-    one_of Done = refl
+    one_of Over = refl
 
 module _ {V : Type 0} where
   pub unfinished_counted : (s : Content V) (counts : Counts) → counts ≡ counts_of s
       → unfinished s ≡ counts.waiting + counts.ready + counts.running
-  unfinished_counted s counts e = unfinished_sum (map.entries s.tasks) ∙ ap (λ k. k.waiting + k.ready + k.running) (sym e)
+  unfinished_counted s counts e = unfinished_sum (finite.entries s.tasks) ∙ ap (λ k. k.waiting + k.ready + k.running) (sym e)

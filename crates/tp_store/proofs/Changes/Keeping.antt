@@ -1,19 +1,7 @@
 -- The content that the slots and the index represent, what they say of one task, and how a change of one task changes it.
-use Rattle.std.proofs.Common.{◌≡◌, ◌≢◌, ℕ, zero, suc, ◌<◌, ◌==◌, ◌^◌, Bool, true, false, cond, List, length, map, Option, Some, None}
-use Rattle.std.proofs.Common.{IsSome, unwrap_or, IfSome, refl, sym, ap, subst, ◌∙◌, inl, inr, arith, ◌≤◌, [], ◌∷◌, get_or, count_by, ◌+◌}
-use Rattle.std.proofs.{Common.{is_some, MatchOption, Result, Ok, Err, OnOk, IfErr, OnErr}, lemmas.Bool.{cases_eq, Decides.nat_tests}}
-use Rattle.std.{proofs.lemmas.List.Sums.sum_by-cons, specs.{Cmp.nat_cmp_total, Option.{option_map, IsSomeAnd, IsSome}, Ordering.nat_cmp}}
-use Rattle.std.specs.{Prelude.{nat_lt, if◌then◌else◌}, Result.IsErrAnd, declared.vec.Vec.Vec}
-use Rattle.tp_base.specs.{Table.lookup, declared.{ids.TaskId.TaskId, refusal.Refusal.{Refusal, TheVariants.{TaskKnown, StoreFull}}}}
-use Rattle.tp_base.specs.declared.refusal.Refusal.TheVariants.{NoMemory}
-use Rattle.tp_slots.proofs.{PlaceLists.{same_each, with_last-each}, Sound.{get_inserted, get_removed, IsSound-with_ready}}
-use Rattle.tp_store.{proofs.{Contents.is_itself, Counting.unfinished_counted}, specs.Content.{Task, with_value, Content, task_of}}
-use Rattle.tp_store.specs.Content.{unfinished, refusal_of_new, refusal_of_insert, refusal_of_deliver, refusal_of_value, counts_of}
-use Rattle.tp_store.specs.{Content.NoneGoesBack, Entries.{Entries, entry_at}, Items.Item, Kept.{task_under, with_found, tasks_below}}
-use Rattle.tp_store.specs.{Kept.{tasks_of, number_of, number_at, Parts, content_of, IsKept, IsGrown}, Sound.{is_task, times_ready}}
-use Rattle.tp_store.specs.declared.{index.Entry.{Entry, TheVariants.{Live, Done}}, life.Life.TheVariants.Done as over}
-use Rattle.std.specs.FinMap as finite
-use Rattle.tp_slots.specs.Content as slots
+pub mod Contents
+pub use Contents.*
+use Rattle.tp_store.specs.Kept.{tasks_below}
 
 -- there is room for each entry
 pub room_under : (index : Entries) (t : ℕ) (e : Entry) → entry_at index t ≡ Some e → IsSome (lookup index t)
@@ -39,13 +27,9 @@ module _ {V : Type 0} where
       ∙ ap (cond (q == n) (task_under c (unwrap_or (lookup index n) None))) (get-tasks_below c index n q)
       ∙ (elim (cases_eq q n) [
         | inl same ↦
-            let here : (q == n) ≡ true = grind (arith, nat_tests) in
             let low : nat_lt q (suc n) ≡ true = grind (arith, nat_tests) in
-            rw (here, low) (ap (λ k. task_under c (unwrap_or (lookup index k) None)) (sym same))
-        | inr apart ↦
-            let there : (q == n) ≡ false = grind (arith, nat_tests) in
-            let low : nat_lt q (suc n) ≡ nat_lt q n = grind (arith, nat_tests) in
-            rw (there, low) refl
+            rw (eq-eqb q n same, low) (ap (λ k. task_under c (unwrap_or (lookup index k) None)) (sym same))
+        | inr apart ↦ let low : nat_lt q (suc n) ≡ nat_lt q n = grind (arith, nat_tests) in rw (ne_eqb q n apart, low) refl
       ])
 
   -- the state of a task is what the entry of its number says
@@ -72,14 +56,11 @@ module _ {V : Type 0} where
       → tasks_of d new ≡ finite.insert (tasks_of c index) t x
   tasks-put c d index new t p x items entries apart here = finite.same_map nat_cmp_total finite.nat_cmp-IsAntisymmetric _ _ (λ q.
       get-tasks_of d new q ∙ (elim (cases_eq q t) [
-        | inl same ↦ let e : (q == t) ≡ true =
-            grind (arith, nat_tests) in ap (λ k. task_under d (entry_at new k)) same ∙ here
-            ∙ sym (ap (λ b. cond b (Some x) (finite.get (tasks_of c index) q)) e)
-        | inr differs ↦
-            let e : (q == t) ≡ false = grind (arith, nat_tests) in
-            ap (task_under d) (entries q differs) ∙ under_same c d p (entry_at index q) items (apart q differs)
+        | inl same ↦ ap (λ k. task_under d (entry_at new k)) same ∙ here
+            ∙ sym (ap (λ b. cond b (Some x) (finite.get (tasks_of c index) q)) (eq-eqb q t same))
+        | inr differs ↦ ap (task_under d) (entries q differs) ∙ under_same c d p (entry_at index q) items (apart q differs)
             ∙ sym (get-tasks_of c index q)
-            ∙ sym (ap (λ b. cond b (Some x) (finite.get (tasks_of c index) q)) e)
+            ∙ sym (ap (λ b. cond b (Some x) (finite.get (tasks_of c index) q)) (ne_eqb q t differs))
       ]) ∙ sym (get_inserted (tasks_of c index) t x q))
 
   -- no task is changed
@@ -98,20 +79,16 @@ module _ {V : Type 0} where
 
   -- ---- what is at a place after a change
   pub item_here : (c : slots.Content (Item V)) (p : ℕ) (i : Item V) → slots.item_at (slots.with_item c p i) p ≡ Some i
-  item_here c p i = let e : (p == p) ≡ true =
-      grind (arith, nat_tests) in get_inserted c.items p i p ∙ ap (λ b. cond b (Some i) (finite.get c.items p)) e
+  item_here c p i = get_inserted c.items p i p ∙ ap (λ b. cond b (Some i) (finite.get c.items p)) (eq-eqb p p refl)
 
   pub item_there : (c : slots.Content (Item V)) (p q : ℕ) (i : Item V) → q ≢ p → slots.item_at (slots.with_item c p i) q ≡ slots.item_at c q
-  item_there c p q i apart = let e : (q == p) ≡ false =
-      grind (arith, nat_tests) in get_inserted c.items p i q ∙ ap (λ b. cond b (Some i) (finite.get c.items q)) e
+  item_there c p q i apart = get_inserted c.items p i q ∙ ap (λ b. cond b (Some i) (finite.get c.items q)) (ne_eqb q p apart)
 
   pub gone_there : (c : slots.Content (Item V)) (p q : ℕ) → q ≢ p → slots.item_at (slots.without_item c p) q ≡ slots.item_at c q
-  gone_there c p q apart = let e : (q == p) ≡ false =
-      grind (arith, nat_tests) in get_removed c.items p q ∙ ap (λ b. cond b None (finite.get c.items q)) e
+  gone_there c p q apart = get_removed c.items p q ∙ ap (λ b. cond b None (finite.get c.items q)) (ne_eqb q p apart)
 
   pub gone_here : (c : slots.Content (Item V)) (p : ℕ) → slots.item_at (slots.without_item c p) p ≡ None
-  gone_here c p = let e : (p == p) ≡ true =
-      grind (arith, nat_tests) in get_removed c.items p p ∙ ap (λ b. cond b None (finite.get c.items p)) e
+  gone_here c p = get_removed c.items p p ∙ ap (λ b. cond b None (finite.get c.items p)) (eq-eqb p p refl)
 
   -- ---- a place is queued if its task is ready
   abbrev pub listed : Bool → slots.Content (Item V) → ℕ → ℕ → slots.Content (Item V)
@@ -135,6 +112,11 @@ module _ {V : Type 0} where
   pub at_item : (o : Option (Item V)) (i : Item V) (P : Item V → Type 0) → o ≡ Some i → IfSome o P → P i
   at_item None i P e h = let clash : None ≡ Some i = e in cc
   at_item (Some j) i P e h = let same : j ≡ i = cc in subst P same h
+
+  -- the item of this number, if there is one
+  pub item_with : (o : Option (Item V)) (k : ℕ) → IsSomeAnd o (λ i. i.number.0 ≡ k) → (i : Item V) × (o ≡ Some i) × (i.number.0 ≡ k)
+  item_with None k h = absurd h
+  item_with (Some i) k h = (i, refl, h)
 
 -- ---- a place is queued only if its task is
 module _ (f : ℕ → TaskId) (p : ℕ) where
@@ -181,14 +163,10 @@ module _ {V A : Type 0} {parts : Parts V A} (kept : IsKept parts) {s : Content V
   -- a number with an entry has a task
   pub known : (t : TaskId) (e : Entry) → entry_at parts.index t.0 ≡ Some e → (x : Task V) × (task_of s t ≡ Some x)
   known t (Done arity class) is =
-      (record { life = over; arity = arity; class = class; values = [] }, seen kept view t (Some (Done arity class)) is)
+      (record { life = Over; arity = arity; class = class; values = [] }, seen kept view t (Some (Done arity class)) is)
   known t (Live place) is =
-      let i = some_of (slots.item_at parts.places place) (kept.live t.0 place is) in
+      let i = item_with (slots.item_at parts.places place) t.0 (kept.live t.0 place is) in
       (i.0.task, seen_live kept view t place i.0 is i.1)
-    where
-      some_of : (o : Option (Item V)) → IsSomeAnd o (λ i. i.number.0 ≡ t.0) → (i : Item V) × (o ≡ Some i)
-      some_of None h = absurd h
-      some_of (Some i) h = (i, refl)
 
   -- whether a new task is taken
   pub new_answer : (r : Result (Unit {0}) Refusal) → OnOk r (parts.counts.waiting + parts.counts.ready + parts.counts.running < 65536)
@@ -267,9 +245,6 @@ module _ {V A : Type 0} {parts : Parts V A} (kept : IsKept parts)
   -- ---- a task for which room may be reserved
   module _ (t : TaskId) where
     -- the state of the task determines the entry of its number
-    pub unknown : entry_at parts.index t.0 ≡ None → task_of s t ≡ None
-    unknown e = seen kept view t None e
-
     pub nothing_there : task_of s t ≡ None → entry_at parts.index t.0 ≡ None
     nothing_there none = at_entry (entry_at parts.index t.0) refl
       where
@@ -281,7 +256,7 @@ module _ {V A : Type 0} {parts : Parts V A} (kept : IsKept parts)
     is_there = at_entry (entry_at parts.index t.0) refl
       where
         at_entry : (o : Option Entry) → entry_at parts.index t.0 ≡ o → is_some (entry_at parts.index t.0) ≡ is_some (task_of s t)
-        at_entry None is = ap is_some is ∙ sym (ap is_some (unknown is))
+        at_entry None is = ap is_some is ∙ sym (ap is_some (seen kept view t None is))
         at_entry (Some e) is = let x = known kept view t e is in ap is_some is ∙ sym (ap is_some x.1)
 
     pub low_not_full : slots.held_count parts.places < 65536 → refusal_of_new s ≡ None

@@ -1,12 +1,6 @@
 -- How a task's item keeps its invariant.
-use Rattle.smallvec.specs.SmallVec.{SmallVec, small_vec_len, HasRoomFor}
-use Rattle.std.proofs.Common.{◌≡◌, ℕ, zero, suc, ◌+◌, ◌-◌, ◌<◌, ◌≤◌, Bool, true, false, cond, List, [], length, take, set, get_or, map}
-use Rattle.std.proofs.Common.{replicate, insert, Option, Some, None, is_some, is_none, count_by, refl, sym, ap, ◌∙◌, arith, ◌∷◌, add-one}
-use Rattle.std.proofs.{Math.Seq.take-set-lt, lemmas.List.{take-replicate, length-take-le, length-replicate, length-set, get_or-take}}
-use Rattle.std.proofs.lemmas.List.{Edits.length-insert, Sums.{sum_by-set, sum_by-cons}}
-use Rattle.tp_store.specs.{Content.{Task, fresh, with_value, has_begun, is_waiting, life_lacking, supplied}, Items.{count_set, spread}}
-use Rattle.tp_store.specs.{Items.{slots_of, IsFilled}, Sound.{IsTask, LacksSome, lacking}, declared.life.Life.{Life, TheVariants.Waiting}}
-use Rattle.tp_store.specs.declared.life.Life.TheVariants.{Ready, Running, Done}
+pub mod Words
+pub use Words.*
 
 -- ---- Flags and values as the slots of a task
 -- ---- flags
@@ -39,18 +33,7 @@ count_set-take [] (suc k) = omega arith
 count_set-take (false ∷ fs) (suc k) = count_set-take fs k
 count_set-take (true ∷ fs) (suc k) = omega (arith, count_set-take fs k)
 
-pub take-take : (fs : List Bool) (j k : ℕ) → j ≤ k → take j (take k fs) ≡ take j fs
-take-take fs zero k h = refl
-take-take [] (suc j) zero h = refl
-take-take [] (suc j) (suc k) h = refl
-take-take (f ∷ fs) (suc j) zero h = absurd (omega arith)
-take-take (f ∷ fs) (suc j) (suc k) h = ap (λ l. f ∷ l) (take-take fs j k (omega arith))
-
 module _ {V : Type 0} where
-  pub no_values : (vs : List V) → 0 ≡ length vs → vs ≡ []
-  no_values [] e = refl
-  no_values (v ∷ vs) e = absurd (omega arith)
-
   pub length-spread : (fs : List Bool) (vs : List V) → length (spread fs vs) ≡ length fs
   length-spread [] vs = refl
   length-spread (false ∷ fs) vs = ap suc (length-spread fs vs)
@@ -81,7 +64,7 @@ module _ {V : Type 0} where
   -- if no slot lacks its value, the slots are the values
   pub spread-all : (fs : List Bool) (vs : List V) → count_set fs ≡ length vs → count_by is_none (spread fs vs) ≡ 0
       → map (λ v. Some v) vs ≡ spread fs vs
-  spread-all [] vs e none = rw (no_values vs e) refl
+  spread-all [] vs e none = rw (nil_from_length vs (sym e)) refl
   spread-all (false ∷ fs) vs e none = absurd (omega (arith, sum_by-cons (λ (o : Option V). cond (is_none o) 1 0) None (spread fs vs)))
   spread-all (true ∷ fs) [] e none = absurd (omega arith)
   spread-all (true ∷ fs) (v ∷ vs) e none =
@@ -121,6 +104,11 @@ waiting_life zero h = absurd (omega arith)
 waiting_life (suc k) h = refl
 
 module _ {V : Type 0} where
+  -- the task of an item
+  abbrev pub item_task : Life → ℕ → ℕ → List Bool → List V → Task V
+  item_task life arity class filled values =
+      record { life = life; arity = arity; class = class; values = slots_of life arity filled values }
+
   -- ---- a fresh task
   pub slots_fresh : (arity : ℕ) → arity ≤ 16 → slots_of {V = V} (life_lacking arity) arity (replicate 16 false) [] ≡ replicate arity None
   slots_fresh arity h = rw (not_begun_life arity, take-replicate arity 16 false h) (spread_none arity)
@@ -138,19 +126,10 @@ module _ {V : Type 0} where
   }
 
   pub fresh_item : (arity class : ℕ) (values : List V) → arity ≤ 16 → values ≡ []
-      → record {
-        life = life_lacking arity;
-        arity = arity;
-        class = class;
-        values = slots_of (life_lacking arity) arity (replicate 16 false) values;
-      } ≡ fresh arity class
-  fresh_item arity class values h none = λ i. record {
-    life = life_lacking arity;
-    arity = arity;
-    class = class;
-    values = (ap (slots_of (life_lacking arity) arity
-        (replicate 16 false)) none ∙ slots_fresh arity h) i;
-  }
+      → item_task (life_lacking arity) arity class (replicate 16 false) values ≡ fresh arity class
+  fresh_item arity class values h none =
+      let same = ap (slots_of (life_lacking arity) arity (replicate 16 false)) none ∙ slots_fresh arity h in
+      λ i. record { life = life_lacking arity; arity = arity; class = class; values = same i }
 
   pub IsFilled-fresh : (arity class : ℕ) (values : SmallVec V) → arity ≤ 16 → class < 4 → values.items ≡ [] → arity ≤ values.capacity
       → IsFilled (fresh {V = V} arity class) (replicate 16 false) values
@@ -174,11 +153,11 @@ module _ {V : Type 0} where
         ∙ ap is_some free
 
     pub before : count_set (take slot filled) ≤ length values.items
-    before = omega (arith, is.each, count_set-take (take arity filled) slot, ap count_set (take-take filled slot arity (omega arith)))
+    before = omega (arith, is.each, count_set-take (take arity filled) slot, ap count_set (take-take slot arity filled (omega arith)))
 
     values_after : spread (take arity (set filled slot true)) new.items ≡ set (spread (take arity filled) values.items) slot (Some value)
     values_after =
-        rw (take-set-lt arity filled slot true low, items, ← take-take filled slot arity (omega arith))
+        rw (take-set-lt arity filled slot true low, items, ← take-take slot arity filled (omega arith))
         (spread-set (take arity filled) values.items slot value (omega (arith, length-take-le arity filled long))
         (get_or-take arity filled slot false low ∙ not_set) is.each)
 
@@ -187,13 +166,7 @@ module _ {V : Type 0} where
     slots_after = rw (not_begun_life (k - 1)) values_after
 
     -- its item is the task with that value
-    pub filled_task : record {
-      life = supplied (Waiting k);
-      arity = arity;
-      class = class;
-      values = slots_of (supplied (Waiting k)) arity
-          (set filled slot true) new.items;
-    } ≡ with_value task slot value
+    pub filled_task : item_task (supplied (Waiting k)) arity class (set filled slot true) new.items ≡ with_value task slot value
     filled_task = λ i. record { life = supplied (Waiting k); arity = arity; class = class; values = slots_after i }
 
     lacks_one_less : count_by is_none (set (spread (take arity filled) values.items) slot (Some value)) ≡ k - 1
@@ -244,23 +217,18 @@ module _ {V : Type 0} where
 
   -- whether a slot has its value
   pub has_slot : (life : Life) (arity class slot : ℕ) (filled : List Bool) (values : SmallVec V) → has_begun life ≡ false
-      → IsFilled {V = V} (record { life = life; arity = arity; class = class; values = slots_of life arity filled values.items }) filled
-      values → slot < arity
+      → IsFilled (item_task life arity class filled values.items) filled values → slot < arity
       → get_or filled slot false ≡ is_some (get_or (slots_of life arity filled values.items) slot None)
   has_slot life arity class slot filled values e is low =
       rw e (sym (get_or-take arity filled slot false low) ∙ sym (spread-get (take arity filled) values.items slot is.each))
 
   -- ---- the same if only a test shows that the task waits
-  abbrev pub item_task : Life → ℕ → ℕ → List Bool → List V → Task V
-  item_task life arity class filled values =
-      record { life = life; arity = arity; class = class; values = slots_of life arity filled values }
-
   pub can_insert : (life : Life) (arity class slot : ℕ) (filled : List Bool) (values : SmallVec V) → is_waiting life ≡ true
       → IsFilled (item_task life arity class filled values.items) filled values
       → slot < arity → (count_set (take slot filled) ≤ small_vec_len values) × HasRoomFor values 1
   can_insert (Waiting k) arity class slot filled values e is low =
       let waits : 0 < k = is.task.lacks in (
-        omega (arith, is.each, count_set-take (take arity filled) slot, ap count_set (take-take filled slot arity (omega arith))),
+        omega (arith, is.each, count_set-take (take arity filled) slot, ap count_set (take-take slot arity filled (omega arith))),
         omega (arith, is.room),
       )
   can_insert _ arity class slot filled values e is low = cc

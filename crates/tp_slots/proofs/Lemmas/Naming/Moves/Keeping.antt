@@ -1,22 +1,9 @@
 -- How each call keeps the slots linked, counted and housed.
-use Rattle.slab.{proofs.SlabLemmas.Updates-set, specs.Slab.Slab}
-use Rattle.std.proofs.Common.{◌≡◌, ◌≢◌, ℕ, zero, suc, ◌+◌, ◌<◌, ◌≤◌, ◌⊎◌, true, List, [], ◌∷◌, length, get_or, set, map as each, replicate}
-use Rattle.std.proofs.{Common.{Option, Some, None, is_some, refl, sym, ap, subst, ◌∙◌, inl, inr, arith}, Math.ListN.get_or-map}
-use Rattle.std.proofs.lemmas.{Bool.{cases_eq, Decides.nat_tests}, List.{length-replicate, length-set, length-map, map-set, get_or-set_same}}
-use Rattle.std.{proofs.lemmas.List.{get_or-set_other, Sums.count_by-le-length}, specs.declared.alloc.Global.Global}
-use Rattle.tp_slots.proofs.{ChainLemmas.full_inside, Chained.{KeepsLinks, chain_same, chains_same}, SlabItems.{items_of, get-items_of}}
-use Rattle.tp_slots.proofs.{SlabItems.{len-items_of, items_of-insert, items_of-remove}, Sound.{stands, stands-cons, distinct_keys}}
-use Rattle.tp_slots.specs.{Blocks.{pointers_of, pointers_in, HoldsFirst}, Cells.cell_at, Chains.{next_in, item_in, next_at, IsPath}}
-use Rattle.tp_slots.specs.{Chains.IsChain, Content.{item_at, IsTaken, with_item, without_item, IsSound}, Lists.AreChains}
-use Rattle.tp_slots.specs.RawSlots.{places_from, places_of, items_in, content_of, raw_content, IsLinked, IsCounted, IsHoused, IsRaw}
-use Rattle.tp_slots.specs.declared.{blocks.Block.Block, cells.At.At, chains.{Chain.Chain, Link.Link, Slot.Slot}}
-use denote.RawPtr.{Ptr, null_ptr}
-use Rattle.std.specs.FinMap as map
+pub mod Lists
+pub use Lists.*
+pub use Rattle.tp_slots.specs.RawSlots.{places_of, content_of}
 
-full_row : (n q : ℕ) → q < n → get_or {A = Option ℕ} (replicate n (Some 0)) q None ≡ Some 0
-full_row zero q h = absurd (omega arith)
-full_row (suc n) zero h = refl
-full_row (suc n) (suc q) h = full_row n q (omega arith)
+-- ==== The places and items that the cells have, and a slot with another item.
 
 -- distinct numbers below n are at most n
 distinct_below : (n : ℕ) (ps : List ℕ) → ((q : ℕ) → stands q ps ≤ 1) → ((q : ℕ) → 0 < stands q ps → q < n) → length ps ≤ n
@@ -25,20 +12,12 @@ distinct_below n ps once below =
     let all : length ps ≤ map.len (items_of s) = distinct_keys (items_of s) ps (λ q. elim (cases_eq (stands q ps) 0) [
       | inl none ↦ omega arith
       | inr some ↦
-          let has : map.contains_key (items_of s) q ≡ true = ap is_some (get-items_of s q ∙ full_row n q (below q (omega arith))) in
+          let has : map.contains_key (items_of s) q ≡ true = ap is_some (get-items_of s q ∙ get_or-replicate n q (Some 0) None (below q (omega arith))) in
           rw has (once q)
     ]) in
     let zero_item : Option ℕ = Some 0 in
     let row : List (Option ℕ) = replicate n zero_item in
     omega (arith, all, len-items_of s, count_by-le-length is_some row, length-replicate n zero_item)
-
-pub decide_lt : (m n : ℕ) → (m < n) ⊎ (n ≤ m)
-decide_lt m zero = inr (omega arith)
-decide_lt zero (suc n) = inl (omega arith)
-decide_lt (suc m) (suc n) = elim (decide_lt m n) [
-  | inl lt ↦ inl (omega (arith, lt))
-  | inr ge ↦ inr (omega (arith, ge))
-]
 
 module _ {T : Type 0} where
   path_inside : (cs : List (Ptr × Option (Slot T))) (ps : List ℕ) (o : Option (Link T)) → IsPath cs o ps → (q : ℕ) → 0 < stands q ps
@@ -68,7 +47,7 @@ module _ {T : Type 0} where
       followed cs ps chain.front (length cs) (distinct_below (length cs) ps h.once (path_inside cs ps chain.front h.path)) h.path
 
   pub all_places : (cs : List (Ptr × Option (Slot T))) (qs : List (Chain T)) (rs : List (List ℕ)) → AreChains cs qs rs
-      → each (places_of cs) qs ≡ rs
+      → map (places_of cs) qs ≡ rs
   all_places cs [] [] h = refl
   all_places cs [] (r ∷ rs) h = absurd h
   all_places cs (q ∷ qs) [] h = absurd h
@@ -89,29 +68,21 @@ module _ {T : Type 0} where
   slot_of None x e = cc
   slot_of (Some y) x e = (y, refl)
 
-  some_item : (o : Option T) → is_some o ≡ true → (x : T) × (o ≡ Some x)
-  some_item None e = cc
-  some_item (Some x) e = (x, refl)
-
-  pub some_slot : (o : Option (Slot T)) → is_some o ≡ true → (x : Slot T) × (o ≡ Some x)
-  some_slot None e = cc
-  some_slot (Some x) e = (x, refl)
-
   pub taken_slot : (cs : List (Ptr × Option (Slot T))) (rs : List (List ℕ)) (place : ℕ) → IsTaken (content_of cs rs) place
       → (is_some (item_in (cell_at cs place).1) ≡ true) × (place < length cs) × ((y : Slot T) × ((cell_at cs place).1 ≡ Some y))
   taken_slot cs rs place taken =
       let has : is_some (item_in (cell_at cs place).1) ≡ true = ap is_some (sym (raw_item cs rs place)) ∙ taken in
-      let x = some_item (item_in (cell_at cs place).1) has in
+      let x = value_of (item_in (cell_at cs place).1) has in
       let y = slot_of (cell_at cs place).1 x.0 x.1 in
       (has, full_inside cs place (cell_at cs place).0 (y.0, λ i. ((cell_at cs place).0, y.1 i)), y)
 
   pub taken_raw : (cs : List (Ptr × Option (Slot T))) (ready : List (Chain T)) (place : ℕ) → IsTaken (raw_content cs ready) place
       → (is_some (item_in (cell_at cs place).1) ≡ true) × (place < length cs) × ((y : Slot T) × ((cell_at cs place).1 ≡ Some y))
-  taken_raw cs ready = taken_slot cs (each (places_of cs) ready)
+  taken_raw cs ready = taken_slot cs (map (places_of cs) ready)
 
   pub item_raw : (cs : List (Ptr × Option (Slot T))) (ready : List (Chain T)) (place : ℕ)
       → item_at (raw_content cs ready) place ≡ item_in (cell_at cs place).1
-  item_raw cs ready = raw_item cs (each (places_of cs) ready)
+  item_raw cs ready = raw_item cs (map (places_of cs) ready)
 
   pub items_same : (cs ds : List (Ptr × Option (Slot T))) → length ds ≡ length cs
       → ((i : ℕ) → item_in (cell_at ds i).1 ≡ item_in (cell_at cs i).1) → items_in ds ≡ items_in cs
@@ -159,7 +130,7 @@ module _ {T : Type 0} where
   pub opened : {alloc : Global} {blocks : List (Block T)} {table : List (At (Slot T))} {cs : List (Ptr × Option (Slot T))} {used room : ℕ}
       {free : Chain T} {ready : List (Chain T)}
       → IsRaw alloc blocks table cs used room free ready
-      → RawBy alloc blocks table cs used room free ready (places_of cs free) (each (places_of cs) ready)
+      → RawBy alloc blocks table cs used room free ready (places_of cs free) (map (places_of cs) ready)
   opened h = record { linked = h.linked; counted = h.counted; tabled = h.tabled; housed = h.housed }
 
   pub settled : {alloc : Global} {blocks : List (Block T)} {table : List (At (Slot T))} {cs : List (Ptr × Option (Slot T))}
@@ -271,3 +242,118 @@ module _ {T : Type 0} where
       empty = put_empty vacant none h.empty;
       sound = sound;
     }
+
+-- ==== The addresses of the cells of a block, and how blocks are freed.
+
+-- this many pointers, each s bytes after the one before
+abbrev pub pointers_from : ℕ → Ptr → ℕ → List Ptr
+pointers_from s p zero = []
+pointers_from s p (suc n) = pointers_from s p n ++ (p +ₚ (n * s)) ∷ []
+
+at_start : (p : Ptr) (s : ℕ) → p +ₚ (0 * s) ≡ p
+at_start (block_ptr b o) s = let e : o + 0 * s ≡ o = omega arith in ap (block_ptr b) e
+at_start null_ptr s = refl
+
+further : (p : Ptr) (n s : ℕ) → (p +ₚ s) +ₚ (n * s) ≡ p +ₚ (suc n * s)
+further (block_ptr b o) n s = let e : (o + s) + n * s ≡ o + suc n * s = omega arith in ap (block_ptr b) e
+further null_ptr n s = refl
+
+shifted : (s : ℕ) (p : Ptr) (n : ℕ) → p ∷ pointers_from s (p +ₚ s) n ≡ pointers_from s p (suc n)
+shifted s p zero = ap (λ q. q ∷ []) (sym (at_start p s))
+shifted s p (suc n) =
+    ap (λ (l : List Ptr). l ++ ((p +ₚ s) +ₚ (n * s)) ∷ []) (shifted s p n) ∙ ap (λ q. pointers_from s p (suc n) ++ q ∷ []) (further p n s)
+
+row_is : (R : RattleType) (p : Ptr) (n : ℕ) → row_from R p n ≡ empty_at (pointers_from (type_size R) p n)
+row_is R p zero = refl
+row_is R p (suc n) = ap (λ l. (p, None) ∷ l) (row_is R (p +ₚ type_size R) n) ∙ ap empty_at (shifted (type_size R) p n)
+
+module _ {X : Type 0} where
+  same_pointers : (xs ys : List Ptr) → empty_at {X = X} xs ≡ empty_at ys → xs ≡ ys
+  same_pointers xs ys e = sym (each_back xs) ∙ ap (map (λ c. c.0)) e ∙ each_back ys
+    where
+      each_back : (xs : List Ptr) → map (λ (c : Ptr × Option X). c.0) (empty_at xs) ≡ xs
+      each_back [] = refl
+      each_back (x ∷ xs) = ap (λ l. x ∷ l) (each_back xs)
+
+pub row_pointers : (R : RattleType) (p : Ptr) (n : ℕ) (row : List Ptr) → row_from R p n ≡ empty_at row
+    → pointers_from (type_size R) p n ≡ row
+row_pointers R p n row e = same_pointers _ _ (sym (row_is R p n) ∙ e)
+
+module _ {T : Type 0} where
+  pub rows_long : (alloc : Global) (blocks : List (Block T)) → All (IsBlock alloc) blocks → length (rows_of blocks) ≡ length blocks * 256
+  rows_long alloc [] h = refl
+  rows_long alloc (b ∷ blocks) h =
+      let first : IsBlock alloc b = h 0 b (omega arith) in
+      omega (arith, length-append b.deed.row (rows_of blocks), first.row, rows_long alloc blocks (λ k d lt. h (suc k) d (omega arith)))
+
+  -- cells that are all empty
+  pub all_empty : (cs : List (Ptr × Option (Slot T))) → ((p : ℕ) → p < length cs → (cell_at cs p).1 ≡ None) → cs ≡ empty_at (pointers_of cs)
+  all_empty [] h = refl
+  all_empty (c ∷ cs) h =
+      let here : c.1 ≡ None = h 0 (omega arith) in let rest = all_empty cs (λ p lt. h (suc p) (omega arith)) in λ i. (c.0, here i) ∷ rest i
+
+  pub rows_pushed : (blocks : List (Block T)) (block : Block T) → rows_of (blocks ++ block ∷ []) ≡ rows_of blocks ++ block.deed.row
+  rows_pushed [] block = append-nil block.deed.row
+  rows_pushed (b ∷ blocks) block =
+      ap (λ l. b.deed.row ++ l) (rows_pushed blocks block) ∙ sym (append_assoc b.deed.row (rows_of blocks) block.deed.row)
+
+  -- the last block's cells are the last ones
+  pub last_block : (alloc : Global) (blocks rest : List (Block T)) (block : Block T) (cs : List (Ptr × Option (Slot T))) (n : ℕ)
+      → All (IsBlock alloc) blocks → cs ≡ empty_at (rows_of blocks) → blocks ≡ rest ++ block ∷ [] → n ≡ length rest
+      → All (IsBlock alloc) rest × IsBlock alloc block × (take (n * 256) cs ≡ empty_at (rows_of rest))
+      × (drop (n * 256) cs ≡ empty_at block.deed.row)
+  last_block alloc blocks rest block cs n all cs_is split n_is =
+      let whole : All (IsBlock alloc) (rest ++ block ∷ []) = subst (All (IsBlock alloc)) split all in
+      let first : All (IsBlock alloc) rest = All-left (IsBlock alloc) rest (block ∷ []) whole in
+      let last : IsBlock alloc block = All-last (IsBlock alloc) rest block whole in
+      let old : List (Ptr × Option (Slot T)) = empty_at (rows_of rest) in let new = empty_at block.deed.row in
+      let is : cs ≡ old ++ new =
+      cs_is ∙ ap (λ bs. empty_at (rows_of bs)) split ∙ ap empty_at (rows_pushed rest block)
+      ∙ map-append (λ p. (p, None)) (rows_of rest) block.deed.row in
+      let long : length old ≡ n * 256 =
+      length-map (rows_of rest) (λ p. (p, None)) ∙ rows_long alloc rest first ∙ ap (λ k. k * 256) (sym n_is) in (
+        first,
+        last,
+        subst (λ k. take k cs ≡ old) long (ap (take (length old)) is ∙ take-append_seam old new),
+        subst (λ k. drop k cs ≡ new) long (ap (drop (length old)) is ∙ drop-append_seam old new),
+      )
+    where
+      All-left : {X : Type 0} (P : X → Type 0) (xs ys : List X) → All P (xs ++ ys) → All P xs
+      All-left P xs ys h k d lt = subst P (get_or_append_left xs ys d k lt) (h k d (omega (arith, length-append xs ys)))
+
+      All-last : {X : Type 0} (P : X → Type 0) (xs : List X) (x : X) → All P (xs ++ x ∷ []) → P x
+      All-last P xs x h = subst P (get_or_push xs x x (length xs) refl) (h (length xs) x (omega (arith, length-append xs (x ∷ []))))
+
+module _ {T : Type 0} (cs : List (Ptr × Option (Slot T))) (place : ℕ) (p : Ptr) (inside : place < length cs) (at : (cell_at cs place).0
+    ≡ p) where
+  pub emptied_pointers : pointers_of (set cs place (p, None)) ≡ pointers_of cs
+  emptied_pointers = map-set_same (λ (c : Ptr × Option (Slot T)). c.0) cs place (p, None) (null_ptr, None) (sym at)
+
+  pub emptied_gone : (q : ℕ) → ((k : ℕ) → k < place → (cell_at cs k).1 ≡ None) → q < place + 1
+      → (cell_at (set cs place (p, None)) q).1 ≡ None
+  emptied_gone q before lt = elim (cases_eq q place) [
+    | inl same ↦ ap (λ k. (cell_at (set cs place (p, None)) k).1) same
+        ∙ ap (λ (c : Ptr × Option (Slot T)). c.1) (get_or-set_same cs place (p, None) (null_ptr, None) inside)
+    | inr differs ↦ ap (λ (c : Ptr × Option (Slot T)). c.1) (get_or-set_other cs place q (p, None) (null_ptr, None) differs)
+        ∙ before q (omega (arith, differs))
+  ]
+
+  pub emptied_kept : (q : ℕ) → place + 1 ≤ q → cell_at (set cs place (p, None)) q ≡ cell_at cs q
+  emptied_kept q le = get_or-set_other cs place q (p, None) (null_ptr, None) (λ e. omega (arith, e))
+
+pub full_at : {T : Type 0} (table : List (At (Slot T))) (cs : List (Ptr × Option (Slot T))) (used place : ℕ) (d : At (Slot T))
+    → HoldsFirst table cs used → place < used → place < length table → IsFull cs place (get_or table place d).ptr
+full_at table cs used place d h lt inside =
+    let y = value_of (cell_at cs place).1 (h.filled place lt) in
+    let at = located table cs place d h.table_is inside in
+    (y.0, λ i. (at i, y.1 i))
+
+-- the first cells are empty, and no later one was used
+pub all_gone : {T : Type 0} (table : List (At (Slot T))) (cs ds : List (Ptr × Option (Slot T))) (used : ℕ) → HoldsFirst table cs used
+    → pointers_of ds ≡ pointers_of cs → ((p : ℕ) → p < used → (cell_at ds p).1 ≡ None) → ((p : ℕ) → used ≤ p → cell_at ds p ≡ cell_at cs p)
+    → ds ≡ empty_at (pointers_in table)
+all_gone table cs ds used h same gone kept =
+    all_empty ds (λ p lt. elim (cases_lt p used) [
+      | inl below ↦ gone p below
+      | inr above ↦ ap (λ (c : Ptr × Option (Slot _)). c.1) (kept p above) ∙ h.fresh p above
+    ]) ∙ ap empty_at (same ∙ sym h.table_is)

@@ -1,17 +1,28 @@
--- Raw cells may cross threads as their values and their allocator may. Assumes `Logic`.
-use Rattle.std.specs.{Prelude.{List, [], ◌∷◌, Option, Some, None}, declared.alloc.Allocator.Ghosts}
-use Rattle.tp_slots.specs.CellsOwnership.{cells_own, cells_lent}
-use base.Fml.{Fml, ftrue}
-use base.Fraction.{full_share}
-use base.Shift.{Keyless}
-use denote.Exit.{Exit, unchanged, leaves, hidden, under}
-use denote.Param.Send.{IsSend, IsSync, Quiet, Common, AllSend, Frees, part_keyless, owning_send, struct_send, struct_sync, sendable}
-use denote.RattleType.{RattleType}
-use denote.RawPtr.{Ptr, block_ptr, null_ptr, block_of, count_of, lies_at, room_for, in_block}
-use denote.Struct.{Lending.lent_at, Owning.{shape, fields, to}, Struct.exits_of}
-use mir.Syntax.{Ty}
-use Rattle.tp_slots.specs.contracts.cells.Cells as Cells
-use Rattle.tp_slots.specs.contracts.cells.Deed as Deed
+-- How a `&` to the cells is created, that it obeys the laws of a `&`, and that cells may cross threads. Assumes `Logic`.
+pub mod Words
+pub use Words.*
+use denote.Exit.{leaves}
+
+module _ (R : RattleType) (L : RowLaws R) where
+  cell_lent_laws : (p : Ptr) (c : Option R.Denot) → ShrLaws (cell_lent R p c)
+  cell_lent_laws p (Some x) = lent_at_shr_laws R L p x
+  cell_lent_laws p None = nothing_shr_laws
+
+  pub cells_lent_laws : (cs : List (Ptr × Option R.Denot)) → ShrLaws (cells_lent R cs)
+  cells_lent_laws [] = nothing_shr_laws
+  cells_lent_laws (c ∷ cs) = beside_shr_laws _ _ (cell_lent_laws c.0 c.1) (cells_lent_laws cs)
+
+module _ {M : Type 1} {𝓤 : Ura M} (𝓛 : Logic 𝓤) (l : Lft) (R : RattleType) (L : Laws R) (inc : Incl l R.lives) where
+  Lends-cell : (p : Ptr) (c : Option R.Denot) → Lends 𝓛 (cell_owns R p c) (cell_lent R p c) l
+  Lends-cell p (Some x) = Lends-lies 𝓛 R l p x (Shares-less 𝓛 R R.lives l inc (L.shares 𝓛) x)
+  Lends-cell p None = Lends-nothing 𝓛 (cell_owns R p None) l
+
+  pub Lends-cells : (cs : List (Ptr × Option R.Denot)) → Lends 𝓛 (cells_own R cs) (cells_lent R cs) l
+  Lends-cells [] = Lends-nothing 𝓛 ftrue l
+  Lends-cells (c ∷ cs) = Lends-both 𝓛 (cell_owns R c.0 c.1) (cells_own R cs) (cell_lent R c.0 c.1) (cells_lent R cs) l
+      (Lends-cell c.0 c.1) (Lends-cells cs)
+
+-- ==== Raw cells may cross threads as their values and their allocator may.
 
 quiet : {D X : Type 0} (to : D → X) (e : Exit X) → Quiet e → Quiet (hidden (under to e))
 quiet to unchanged q = λ x w. tt

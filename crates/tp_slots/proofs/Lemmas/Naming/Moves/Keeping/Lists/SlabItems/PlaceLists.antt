@@ -1,7 +1,6 @@
 -- The four lists with a function applied to each place.
-use Rattle.std.proofs.Common.{◌≡◌, ℕ, zero, suc, ◌<◌, List, [], ◌∷◌, ◌++◌, map, length, Some, None, refl, sym, ap, ◌∙◌, arith}
-use Rattle.std.proofs.lemmas.Bool.Decides.{nat_tests}
-use Rattle.tp_slots.{proofs.Sound.{stands, stands-cons}, specs.Content.{times, front, without_front, with_last}}
+pub mod Sound
+pub use Sound.*
 
 module _ {X : Type 0} where
   -- the lists, with f of each
@@ -37,12 +36,8 @@ module _ {X : Type 0} where
   without_front-each f ([] ∷ rs) = ap (λ l. [] ∷ l) (without_front-each f rs)
   without_front-each f ((x ∷ xs) ∷ rs) = refl
 
-  map-push : (f : ℕ → X) (xs : List ℕ) (x : ℕ) → map f (xs ++ x ∷ []) ≡ map f xs ++ f x ∷ []
-  map-push f [] x = refl
-  map-push f (y ∷ ys) x = ap (λ l. f y ∷ l) (map-push f ys x)
-
   pub with_last-each : (f : ℕ → X) (rs : List (List ℕ)) (class k : ℕ) (p : X) → class < length rs → f k ≡ p
       → with_last (each f rs) class p ≡ each f (with_last rs class k)
   with_last-each f [] class k p lt e = absurd (omega arith)
-  with_last-each f (r ∷ rs) zero k p lt e = ap (λ l. l ∷ each f rs) (ap (λ y. map f r ++ y ∷ []) (sym e) ∙ sym (map-push f r k))
+  with_last-each f (r ∷ rs) zero k p lt e = ap (λ l. l ∷ each f rs) (ap (λ y. map f r ++ y ∷ []) (sym e) ∙ sym (map-append f r (k ∷ [])))
   with_last-each f (r ∷ rs) (suc class) k p lt e = ap (λ l. map f r ∷ l) (with_last-each f rs class k p (omega arith) e)

@@ -1,31 +1,8 @@
 -- Steps of the walks of calls on raw cells: between a borrow of all cells and the one cell at an address. Assumes `Logic`.
 -- docs/PROOFS-OF-CELLS.md explains such a proof step by step.
-use Prim.Native.Nat.{ℕ, ◌<◌}
-use Rattle.std.{proofs.{RcSteps.word, mem.Param.{El, R, el_x, Good, lawful, one}}, specs.Prelude.Some}
-use Rattle.tp_slots.{proofs.CellsMemory.{Cr, Bs, Mark, Cell, One, mark, mark_made, Besides, cell_out, cell_in}, specs.Cells.cell_at}
-use Rattle.tp_slots.specs.{CellsLends.with_cells, CellsOwnership.cells_own}
-use base.Fml.{Fml, Lft, Share, fsep, fat, flft, fobs, fauth, fbor, fobor}
-use base.Fraction.{full_share}
-use base.Logic.{SProp, ent, sep, emp, via, mono∗, id⊢, emp∗}
-use base.Stored.{Gv}
-use contract.Monad.{fact, fact_i}
-use denote.Laws.{Is}
-use denote.Memory.{mem, part_of, cell_at as mem_cell}
-use denote.Param.{layout}
-use denote.RawPtr.{Ptr, block_ptr, lies_at}
-use denote.Ref.{MutBor}
-use denote.Steps.{opens, closes, heard}
-use lib.ListN.{length, set}
-use mathlib.Core.{List.{List, [], ◌∷◌, ◌++◌}, Path.{◌≡◌, refl, sym, subst}}
-use mir.Syntax.{Fn}
-use mir.Val.{Val, vstruct, of_list}
-use prog.Wp.{Calls, Loops, WpFn}
-use seplogic.Ra.Ura.{Ura}
-use types.Kit.{Item, Goal, Seq, Step, step, Soaks, ‵, raw, ◌⊛◌, prop, allocs, params', runs, at_ret, ◌$◌, ◌∵◌, !, qed, done, move, split}
-use types.Kit.{split3, fsplit, fsplit3, fjoin, fpack, use0, use1, use2, rewrite, regoal}
-use types.Logic.{Logic, sem}
-use types.Run.{enter}
-use types.SemTy.{Body as Borrowed}
+pub mod CellsMemory
+pub use CellsMemory.*
+use denote.Memory.{part_of}
 
 -- ---- the machine values that the arguments are passed as
 module _ (E : El) where

@@ -1,44 +1,21 @@
 -- What the walks of the functions on raw cells share. Assumes `Logic`.
 --     cell_out, cell_in, cell_seen      one cell is taken out of the row, put back, or seen
-use Prim.Native.Nat.{ℕ, zero, suc, ◌<◌}
-use Rattle.std.{proofs.{RcSteps.{Good, word}, mem.Param.{El, R, el_x}}, specs.Prelude.{Option, Some, None}}
-use Rattle.tp_slots.specs.{Cells.cell_at, CellsOwnership.{cell_owns, cells_own, cell_lent, cells_lent}}
-use base.Fml.{Fml, Lft, ftrue, fat, fsep}
-use base.Fraction.{full_share}
-use base.Logic.{ent, sep, emp, ex, guard, via, fst∗, snd∗, id⊢}
-use borrow.Table.OneValue.{part_in, part_out}
-use denote.Laws.{Is, shows}
-use denote.Memory.{part_at}
-use denote.Param.{param, layout, Laws.{Laws, param_laws}}
-use denote.RattleType.{RattleType, Valss}
-use denote.RawPtr.{Ptr, RawPtr, ptr_val}
-use denote.Shadow.{makes_shadow}
-use denote.Steps.{nothing, peeks}
-use denote.Struct.{Owning.shape, Struct.{Shape, Struct, within}, Tuple.{Tuple, tuple_type}}
-use lib.ListN.{length, set, take, drop}
-use mathlib.Core.{List.{List, [], ◌∷◌, ◌++◌}, Path.{◌≡◌, refl, ap}}
-use mir.Val.{Val, vstruct, vcons, vnil}
-use native.Mathlib.Omega.{arith}
-use seplogic.Ra.Ura.{Ura}
-use types.Kit.{check, show, Item, Goal, Step, step, ‵, some, pick, ◌⊛◌, ◌$◌, ◌∵◌, !, qed, move, drop as skip, use1, use2, split, fsplit}
-use types.Kit.{fjoin, fpack, feq_i, done}
-use types.Logic.{Logic, sem}
-use denote.Struct.Declared as Declared
-use Rattle.tp_slots.specs.contracts.cells.Cells as C-type
-use Rattle.tp_slots.specs.contracts.cells.At as B-type
+pub mod CellsLeases
+pub use CellsLeases.*
+pub use Rattle.tp_slots.proofs.Lemmas.Naming.Moves.Keeping.Lists.{full_inside}
 
 module _ (E : El) where
   -- the type of an owner of cells
   abbrev pub Cr : RattleType
-  Cr = C-type.the_row (R E)
+  Cr = Cells.the_row (R E)
 
   -- the type of an address
   abbrev pub Bs : RattleType
-  Bs = B-type.the_row (R E)
+  Bs = At.the_row (R E)
 
   -- the one field of `Cells`, which takes no bytes
   abbrev pub Mark : RattleType
-  Mark = Struct (shape (C-type.the_type (R E)))
+  Mark = Struct (shape (Cells.the_type (R E)))
 
   -- a cell as the lists have it: its address, and its value if it is full
   abbrev pub Cell : Type 0
@@ -79,12 +56,12 @@ module _ (i : ℕ) (Y : RattleType) (L : Laws Y) {M : Type 1} {𝓤 : Ura M} (�
 
   -- a value at an address is memory with a machine value, of its type, and separately what the value owns
   pub value_out : (x : Y.Denot) (b o : ℕ) → ent 𝓤 (sem 𝓛 (part_at (param i Y) full_share x b o))
-      (ex 𝓤 (λ (v : Val). guard 𝓤 (Good (layout Y) v) (sep 𝓤 (H.at full_share (layout Y) b o v) (sem 𝓛 (Y.own_val x (v ∷ []))))))
+      (ex 𝓤 (λ (v : Val). guard 𝓤 (IsGood (layout Y) v) (sep 𝓤 (H.at full_share (layout Y) b o v) (sem 𝓛 (Y.own_val x (v ∷ []))))))
   value_out x b o = qed 𝓛 (‵ (part_at (param i Y) full_share x b o) ∷ []) ∵
       use1 𝓛 (some (λ (v : Val). ‵ (fat full_share (layout Y) b o v) ⊛ ‵ (Y.own_val x (v ∷ []))))
       (part_out 𝓛 (param i Y) refl full_share x b o) $ pick ! (λ v. split ! $ move ! (1 ∷ []) $
       peeks ! (param i Y) (Is (param i Y)) (shows 𝓛 (param i Y)) x (v ∷ []) (λ p.
-      show ! (λ (w : Val). guard 𝓤 (Good (layout Y) w) (sep 𝓤 (H.at full_share (layout Y) b o w) (sem 𝓛 (Y.own_val x (w ∷ []))))) v
+      show ! (λ (w : Val). guard 𝓤 (IsGood (layout Y) w) (sep 𝓤 (H.at full_share (layout Y) b o w) (sem 𝓛 (Y.own_val x (w ∷ []))))) v
       $ check ! (((param_laws i Y L).lawful 𝓛).typed x (v ∷ []) p).0 $ move ! (1 ∷ 0 ∷ []) $ done !))
 
   -- and back
@@ -106,12 +83,6 @@ three_of 𝓛 R S T x y z u v w =
     feq_i ! (List Val) (three_val u v w ∷ []) (three_val u v w ∷ []) refl $ fjoin ! $
     fpack ! (Valss (R ∷ S ∷ T ∷ [])) (within (Declared.shape (tuple_type (R ∷ S ∷ T ∷ []))) (x, (y, (z, tt))) (three_val u v w ∷ []))
     (u ∷ [], (v ∷ [], (w ∷ [], tt))) $ done !
-
--- a full cell is one of the list
-pub full_within : {X : Type 0} (cs : List (Ptr × Option X)) (i : ℕ) (p : Ptr) (x : X) → cell_at cs i ≡ (p, Some x) → i < length cs
-full_within [] i p x e = let clash : None ≡ Some x = ap (λ (c : Ptr × Option _). c.1) e in cc
-full_within (c ∷ cs) zero p x e = omega arith
-full_within (c ∷ cs) (suc i) p x e = omega (arith, full_within cs i p x e)
 
 module _ (E : El) where
   -- the cells but for the i-th

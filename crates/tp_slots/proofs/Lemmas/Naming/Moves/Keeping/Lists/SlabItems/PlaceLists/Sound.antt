@@ -1,11 +1,11 @@
 -- How the changes of a content keep it sound.
-use Rattle.std.proofs.Common.{◌≡◌, ◌≢◌, ℕ, zero, suc, ◌+◌, ◌<◌, ◌≤◌, ◌==◌, true, false, cond, List, [], ◌∷◌, ◌++◌, length, get_or, set}
-use Rattle.std.proofs.{Common.{Some, None, is_some, count_by, refl, sym, ap, subst, ◌∙◌, inl, inr, arith, zero-le}, lemmas.Bool.cases_eq}
-use Rattle.std.{proofs.lemmas.{Bool.Decides.nat_tests, List.{length-set, Sums.{sum_by-cons, sum_by-append}}}, specs.Cmp.nat_cmp_total}
-use Rattle.std.specs.{Cmp.unsigned_tied, Ordering.nat_cmp}
-use Rattle.tp_slots.specs.Content.{Content, times, item_at, front, without_front, with_last, nothing_held, IsTaken, IsIdle, held_count}
-use Rattle.tp_slots.specs.Content.{with_item, without_item, with_ready, without_next, IsSound}
-use Rattle.std.specs.FinMap as map
+pub mod Words
+pub use Words.*
+
+-- the value of an option that has one
+pub value_of : {X : Type 0} (o : Option X) → is_some o ≡ true → (x : X) × (o ≡ Some x)
+value_of None e = cc
+value_of (Some x) e = (x, refl)
 
 -- how often a place is in one list
 abbrev pub stands : ℕ → List ℕ → ℕ

@@ -1,18 +1,6 @@
 -- How the commands keep `Tells`: what the names say of a state.
-use Rattle.std.proofs.Common.{◌≡◌, ◌≢◌, ℕ, zero, suc, ◌+◌, ◌<◌, ◌≤◌, ◌==◌, nat_lt, Bool, true, false, cond, List, [], ◌∷◌, ◌++◌, map}
-use Rattle.std.proofs.Common.{length, get_or, set, Option, Some, None, is_some, IsSome, count_by, refl, sym, ap, subst, ◌∙◌, inl, inr}
-use Rattle.std.proofs.{Common.arith, lemmas.{Bool.{cases_eq, cases_lt, Decides.nat_tests}, List.{length-set, length-append}}}
-use Rattle.std.proofs.lemmas.List.{get_or-set_same, get_or-set_other, get_or_past, Sums.{sum_by-cons, sum_by-append, sum_by-set}}
-use Rattle.std.specs.{Cmp.{nat_cmp_total, unsigned_tied}, Ordering.{nat_cmp, eq_by_cmp}}
-use Rattle.tp_base.specs.declared.Refusal.TheVariants.{StoreFull}
-use Rattle.tp_slots.proofs.{PlaceLists.{each, same_each, front-each, front_none-each, without_front-each, with_last-each}, Sound.stands}
-use Rattle.tp_slots.proofs.Sound.{stands-cons, times-with_last, times-front, length-without_front, without_front-empty, get_inserted}
-use Rattle.tp_slots.{proofs.Sound.get_removed, specs.{Commands.{State, start, held, is_listed, is_full, reply_of, after}, Content.Content}}
-use Rattle.tp_slots.specs.Content.{times, front, without_front, with_last, item_at, IsIdle, held_count, with_item, without_item, with_ready}
-use Rattle.tp_slots.specs.{Content.{without_next, nothing_held}, Names.{name_at, place_of, Agrees, Tells}}
-use Rattle.tp_slots.specs.declared.run.{Command.TheVariants.{Take, PushReady, GiveBack}, Reply.TheVariants.{Taken, Refused, Plain, Item}}
-use Rattle.tp_slots.specs.declared.run.Standing.{Standing, TheVariants.{Gone, Held}}
-use Rattle.std.specs.FinMap as map
+pub mod Moves
+pub use Moves.*
 
 module _ {X : Type 0} where
   pub get_or_push_other : (xs : List X) (x d : X) (j : ℕ) → j ≢ length xs → get_or (xs ++ x ∷ []) j d ≡ get_or xs j d
@@ -20,12 +8,6 @@ module _ {X : Type 0} where
   get_or_push_other [] x d (suc j) ne = refl
   get_or_push_other (y ∷ ys) x d zero ne = refl
   get_or_push_other (y ∷ ys) x d (suc j) ne = get_or_push_other ys x d j (λ e. ne (ap suc e))
-
-  pub get_or_push_same : (xs : List X) (x d : X) (j : ℕ) → j ≡ length xs → get_or (xs ++ x ∷ []) j d ≡ x
-  get_or_push_same [] x d zero e = refl
-  get_or_push_same [] x d (suc j) e = absurd (omega arith)
-  get_or_push_same (y ∷ ys) x d zero e = absurd (omega arith)
-  get_or_push_same (y ∷ ys) x d (suc j) e = get_or_push_same ys x d j (omega arith)
 
   pub count_push : (items : List (Option X)) (o : Option X)
       → count_by is_some (items ++ o ∷ []) ≡ count_by is_some items + cond (is_some o) 1 0
@@ -80,10 +62,6 @@ agrees_lists : (c d : Content ℕ) (n : Standing) (o : Option ℕ) (l m : Bool) 
 agrees_lists c d Gone o l m e is a = (a.0, sym is ∙ a.1)
 agrees_lists c d (Held q f) o l m e is a = (ap (λ i. map.get i q) (sym e) ∙ a.0, a.1, a.2 ∙ is)
 
-some_value : (o : Option ℕ) → is_some o ≡ true → (v : ℕ) × (o ≡ Some v)
-some_value None e = cc
-some_value (Some v) e = (v, refl)
-
 listed : (k : ℕ) (rs : List (List ℕ)) → 0 < times k rs → nat_lt 0 (times k rs) ≡ true
 listed k rs h = grind (arith, nat_tests)
 
@@ -126,8 +104,8 @@ module _ (c : Content ℕ) (names : List Standing) (numbers : ℕ → Option ℕ
     long = omega (arith, t.long, length-append names (Held p false ∷ []), length-append s.items (Some v ∷ []));
     agree = λ k. elim (cases_eq k (length names)) [
       | inl same ↦
-          let here : name_at (names ++ Held p false ∷ []) k ≡ Held p false = get_or_push_same names (Held p false) Gone k same in
-          let item : get_or (s.items ++ Some v ∷ []) k None ≡ Some v = get_or_push_same s.items (Some v) None k (same ∙ t.long) in
+          let here : name_at (names ++ Held p false ∷ []) k ≡ Held p false = get_or_push names (Held p false) Gone k (sym same) in
+          let item : get_or (s.items ++ Some v ∷ []) k None ≡ Some v = get_or_push s.items (Some v) None k (sym (same ∙ t.long)) in
           let new : (p == p) ≡ true = grind (arith, nat_tests) in
           let not_listed : is_listed s k ≡ false =
           agrees_unlisted c (held s k) (is_listed s k)
@@ -139,7 +117,7 @@ module _ (c : Content ℕ) (names : List Standing) (numbers : ℕ → Option ℕ
     ];
     numbered = λ k q a ek. elim (cases_eq k (length names)) [
       | inl same ↦
-          let is : q ≡ p = sym (ap place_of (sym (get_or_push_same names (Held p false) Gone k same) ∙ ek)) in
+          let is : q ≡ p = sym (ap place_of (sym (get_or_push names (Held p false) Gone k (sym same)) ∙ ek)) in
           ap new is ∙ here ∙ ap (λ n. Some n) (sym same)
       | inr other ↦
           let old : name_at names k ≡ Held q a = sym (get_or_push_other names (Held p false) Gone k other) ∙ ek in
@@ -174,13 +152,13 @@ module _ (c : Content ℕ) (names : List Standing) (numbers : ℕ → Option ℕ
     where
       name_after : (k : ℕ) → name_at (names ++ Gone ∷ []) k ≡ name_at names k
       name_after k = elim (cases_eq k (length names)) [
-        | inl same ↦ get_or_push_same names Gone Gone k same ∙ sym (gone_past k (omega arith))
+        | inl same ↦ get_or_push names Gone Gone k (sym same) ∙ sym (gone_past k (omega arith))
         | inr other ↦ get_or_push_other names Gone Gone k other
       ]
 
       item_after : (k : ℕ) → get_or (s.items ++ None ∷ []) k None ≡ held s k
       item_after k = elim (cases_eq k (length s.items)) [
-        | inl same ↦ get_or_push_same s.items None None k same ∙ sym (get_or_past s.items k None (omega arith))
+        | inl same ↦ get_or_push s.items None None k (sym same) ∙ sym (get_or_past s.items k None (omega arith))
         | inr other ↦ get_or_push_other s.items None None k other
       ]
 
@@ -330,7 +308,7 @@ module _ (c : Content ℕ) (names : List Standing) (numbers : ℕ → Option ℕ
   pub has_item : (k p : ℕ) (f : Bool) → name_at names k ≡ Held p f → (v : ℕ) × (item_at c p ≡ Some v)
   has_item k p f e =
       let a = agrees_held c (name_at names k) p f (held s k) (is_listed s k) e (t.agree k) in
-      some_value (item_at c p) (ap is_some a.0 ∙ a.1)
+      value_of (item_at c p) (ap is_some a.0 ∙ a.1)
 
   pub next_none : front c.ready ≡ None → front s.ready ≡ None
   next_none e = (elim (front s.ready) as (λ o. front s.ready ≡ o → front s.ready ≡ None) [

@@ -1,22 +1,6 @@
 -- The layout of a block of cells. Assumes `Logic`.
-use Prim.Native.Nat.{ℕ, zero, suc, ◌+◌, ◌*◌, ◌<◌, ◌^◌}
-use Rattle.std.{proofs.{alloc.Calls.Al, mem.Param.{El, R, elτ}}, specs.{Mem.type_size, Prelude.None}}
-use Rattle.tp_slots.specs.{Cells.empty_at, CellsOwnership.{cell_owns, cells_own, row_from}}
-use base.Fml.{froom}
-use base.Logic.{ent, never, fst∗}
-use denote.Param.{param, bounded}
-use denote.RattleType.{RattleType}
-use denote.RawPtr.{Ptr, block_ptr, null_ptr, ◌+ₚ◌}
-use mathlib.Core.{List.{List, [], ◌∷◌}, Path.{◌≡◌, refl, sym, ap, ◌∙◌}}
-use mir.Raw.{raw as bare}
-use mir.Syntax.{Ty, Args, a_type, ty_array, dcons, dnil}
-use native.Mathlib.{Nat.{zero-mul, suc-mul}, Omega.arith}
-use prog.Capped.{capped_is}
-use prog.Memory.{size, align, capped}
-use prog.RawLaws.{size-raw, align-raw}
-use seplogic.Ra.Ura.{Ura}
-use types.Kit.{‵, move, ◌⊛◌, ◌$◌, ◌∵◌, !, qed, by, keep, use1, split, frame, done}
-use types.Logic.{Logic, sem}
+pub mod CellsSharing
+pub use CellsSharing.*
 
 -- if the product fits a word, the count is zero or the size fits too
 pub uncapped : (i k : ℕ) → i * k < 2 ^ 64 → i * capped k ≡ i * k
@@ -51,8 +35,8 @@ module _ (E : El) where
   block_align n = ap capped (align-raw (ty_array (elτ E) n))
 
 module _ (E : El) (Z : Al) where
-  abbrev pub args : Args
-  args = bounded (a_type ∷ a_type ∷ []) (E.row, (Z.row, tt)) (dcons Z.d (dcons Z.drops dnil))
+  abbrev pub block_args : MirArgs
+  block_args = bounded (a_type ∷ a_type ∷ []) (E.row, (Z.row, tt)) (dcons Z.d (dcons Z.drops dnil))
 
   abbrev pub P : RattleType
   P = param 1 Z.row

@@ -1,19 +1,6 @@
 -- How the changes of a store's content keep it sound, and how its counts move.
-use Rattle.std.proofs.Common.{◌≡◌, ◌≢◌, ℕ, zero, suc, ◌+◌, ◌<◌, ◌≤◌, ◌==◌, Bool, true, false, cond, List, [], ◌∷◌, ◌++◌, length, get_or}
-use Rattle.std.proofs.Common.{set, Option, Some, None, is_some, unwrap_or, count_by, refl, sym, ap, subst, ◌∙◌, inl, inr, arith}
-use Rattle.std.proofs.{Math.Dec.T, lemmas.{Bool.{cases_eq, Decides.nat_tests}, List.{length-set, get_or-set_same, get_or-set_other}}}
-use Rattle.std.{proofs.lemmas.List.Sums.{sum_by-cons, sum_by-append}, specs.{Cmp.unsigned_tied, FinMap.Entries.{find, is_sorted}}}
-use Rattle.std.specs.{FinMap.Entries.below_all, Option.option_map, Ordering.{nat_cmp, is_lt, is_eq}, Prelude.{nat_lt, ◌&&◌, not}}
-use Rattle.std.specs.{Prelude.if◌then◌else◌, declared.cmp.Ordering.{Ordering, TheVariants.{Less, Equal, Greater}}}
-use Rattle.tp_base.specs.declared.ids.TaskId.{TaskId}
-use Rattle.tp_slots.{proofs.Sound.get_inserted, specs.Content.{front, without_front, with_last}}
-use Rattle.tp_store.{proofs.Counting.{one_if, later_sorted, passing, passing-cons, passing-insert}, specs.Content.{Task, Content, task_of}}
-use Rattle.tp_store.specs.Content.{life_of, stage, NoneGoesBack, supplied, life_lacking, fresh, begun, done, changed_tasks, with_task}
-use Rattle.tp_store.specs.Content.{with_inserted, with_delivered, with_begun, with_done, count_lives, unfinished, counts_of, is_unfinished}
-use Rattle.tp_store.specs.{Content.{is_waiting, is_ready, is_running, is_done, has_begun}, Kept.{one, moved_counts, IsCounted}}
-use Rattle.tp_store.specs.{Sound.{IsTask, IsSound, is_task, times_ready, times_done}, declared.life.{Counts.Counts, Life.Life}}
-use Rattle.tp_store.specs.declared.life.Life.TheVariants.{Waiting, Ready, Running, Done}
-use Rattle.std.specs.FinMap as finite
+pub mod Counting
+pub use Counting.*
 
 -- ---- the lists
 module _ {X : Type 0} where
@@ -37,13 +24,9 @@ pub with_last-count : (rs : List (List TaskId)) (k j : ℕ) (t u : TaskId) → k
     → count_by (is_task u) (get_or (with_last rs k t) j [])
     ≡ count_by (is_task u) (get_or rs j []) + cond (j == k) (cond (is_task u t) 1 0) 0
 with_last-count rs k j t u h = elim (cases_eq j k) [
-  | inl same ↦
-      let e : (j == k) ≡ true = grind (arith, nat_tests) in
-      rw (e, same) (ap (count_by (is_task u)) (get_or-set_same rs k (get_or rs k [] ++ t ∷ []) [] h)
+  | inl same ↦ rw (eq-eqb j k same, same) (ap (count_by (is_task u)) (get_or-set_same rs k (get_or rs k [] ++ t ∷ []) [] h)
       ∙ count-push (is_task u) (get_or rs k []) t)
-  | inr apart ↦
-      let e : (j == k) ≡ false = grind (arith, nat_tests) in
-      rw e (ap (count_by (is_task u)) (get_or-set_other rs k j (get_or rs k [] ++ t ∷ []) [] apart) ∙ omega arith)
+  | inr apart ↦ rw (ne_eqb j k apart) (ap (count_by (is_task u)) (get_or-set_other rs k j (get_or rs k [] ++ t ∷ []) [] apart) ∙ omega arith)
 ]
 
 -- two numbers that are equal are one
@@ -84,12 +67,10 @@ module _ {V : Type 0} where
   task_of-put s t u x = get_inserted s.tasks t.0 x u.0
 
   pub task_here : (s : Content V) (t : TaskId) (x : Task V) → finite.get (finite.insert s.tasks t.0 x) t.0 ≡ Some x
-  task_here s t x = let e : (t.0 == t.0) ≡ true =
-      grind (arith, nat_tests) in task_of-put s t t x ∙ ap (λ b. cond b (Some x) (task_of s t)) e
+  task_here s t x = task_of-put s t t x ∙ ap (λ b. cond b (Some x) (task_of s t)) (eq-eqb t.0 t.0 refl)
 
   task_there : (s : Content V) (t u : TaskId) (x : Task V) → u.0 ≢ t.0 → finite.get (finite.insert s.tasks t.0 x) u.0 ≡ task_of s u
-  task_there s t u x apart = let e : (u.0 == t.0) ≡ false =
-      grind (arith, nat_tests) in task_of-put s t u x ∙ ap (λ b. cond b (Some x) (task_of s u)) e
+  task_there s t u x apart = task_of-put s t u x ∙ ap (λ b. cond b (Some x) (task_of s u)) (ne_eqb u.0 t.0 apart)
 
   abbrev pub ready_in : Option (Task V) → ℕ → ℕ
   ready_in o class = if unwrap_or (option_map (λ x. is_ready x.life && (x.class == class)) o) false then 1 else 0
@@ -165,10 +146,8 @@ module _ {V : Type 0} where
           grind (arith, nat_tests, count, is_other t u apart))
           (λ class. let count = rw (is_itself t) at (with_last-count s.ready x.class class t t low) in
           rw e (count ∙ elim (cases_eq class x.class) [
-            | inl same ↦ let a : (class == x.class) ≡ true = grind (arith, nat_tests) in let b : (x.class == class) ≡ true =
-                grind (arith, nat_tests) in rw (a, b) (omega (arith, none class))
-            | inr differs ↦ let a : (class == x.class) ≡ false = grind (arith, nat_tests) in let b : (x.class == class) ≡ false =
-                grind (arith, nat_tests) in rw (a, b) (omega (arith, none class))
+            | inl same ↦ rw (eq-eqb class x.class same, eq-eqb x.class class (sym same)) (omega (arith, none class))
+            | inr differs ↦ rw (ne_eqb class x.class differs, ne_eqb x.class class (λ e. differs (sym e))) (omega (arith, none class))
           ]))
           (λ u apart. refl) over
 
@@ -217,19 +196,15 @@ module _ {V : Type 0} where
           ≡ count_by (is_task u) (get_or (without_front s.ready) class []) + cond (class == at.0)
           (cond (is_task u t) 1 0) 0
       list class u = rw at.4 (elim (cases_eq class at.0) [
-        | inl same ↦
-            let e : (class == at.0) ≡ true = grind (arith, nat_tests) in
-            rw (e, same, get_or-set_same s.ready at.0 at.1 [] at.2, at.3) (omega (arith, sum_by-cons (λ w. cond (is_task u w) 1 0) t at.1))
-        | inr apart ↦
-            let e : (class == at.0) ≡ false = grind (arith, nat_tests) in
-            rw (e, get_or-set_other s.ready at.0 class at.1 [] apart) (omega arith)
+        | inl same ↦ rw (eq-eqb class at.0 same, same, get_or-set_same s.ready at.0 at.1 [] at.2, at.3)
+            (omega (arith, sum_by-cons (λ w. cond (is_task u w) 1 0) t at.1))
+        | inr apart ↦ rw (ne_eqb class at.0 apart, get_or-set_other s.ready at.0 class at.1 [] apart) (omega arith)
       ])
 
       -- it was in the list of its own class
       own : at.0 ≡ x.class
       own =
-          let e : (at.0 == at.0) ≡ true = grind (arith, nat_tests) in
-          let some : 0 < times_ready s at.0 t = omega (arith, rw (e, is_itself t) at (list at.0 t)) in
+          let some : 0 < times_ready s at.0 t = omega (arith, rw (eq-eqb at.0 at.0 refl, is_itself t) at (list at.0 t)) in
           let y = ready_when (Some x) at.0 (rw known at (subst (λ n. 0 < n) (sound.ready at.0 t) some)) in
           let same : x ≡ y.0 = let both = y.1 in cc in
           y.3 ∙ sym (ap (λ z. z.class) same)
@@ -240,17 +215,11 @@ module _ {V : Type 0} where
       gone : (class : ℕ) → count_by (is_task t) (get_or (without_front s.ready) class []) ≡ 0
       gone class = elim (cases_eq class at.0) [
         | inl same ↦
-            let e : (class == at.0) ≡ true = grind (arith, nat_tests) in
-            let count = rw (e, is_itself t) at (list class t) in
-            let b : (x.class == class) ≡ true = grind (arith, nat_tests, own) in
-            let is = rw (known, ready, b) at (sound.ready class t) in
-            omega (arith, count, is)
+            let is = rw (known, ready, eq-eqb x.class class (sym (same ∙ own))) at (sound.ready class t) in
+            omega (arith, rw (eq-eqb class at.0 same, is_itself t) at (list class t), is)
         | inr apart ↦
-            let e : (class == at.0) ≡ false = grind (arith, nat_tests) in
-            let count = rw e at (list class t) in
-            let b : (x.class == class) ≡ false = grind (arith, nat_tests, own) in
-            let is = rw (known, ready, b) at (sound.ready class t) in
-            omega (arith, count, is)
+            let is = rw (known, ready, ne_eqb x.class class (λ e. apart (sym (own ∙ e)))) at (sound.ready class t) in
+            omega (arith, rw (ne_eqb class at.0 apart) at (list class t), is)
       ]
 
   pub IsSound-done : (s : Content V) (t : TaskId) (x : Task V) (value : V) → IsSound s → task_of s t ≡ Some x → is_running x.life ≡ true
@@ -297,7 +266,7 @@ module _ {V : Type 0} where
 
   -- a task of a life is counted
   pub some_counted : (test : Life → Bool) (s : Content V) (t : TaskId) (w : Task V) → task_of s t ≡ Some w → test w.life ≡ true
-      → test Done ≡ false → 0 < count_lives test s
+      → test Over ≡ false → 0 < count_lives test s
   some_counted test s t w known is not =
       let move = rw (is, not) at (moves s t (done w) s.ready s.results (Some w.life) (ap (option_map (λ y. y.life)) known) test) in
       omega (arith, move)
@@ -417,10 +386,10 @@ module _ {X : Type 0} where
       first_below false b p = p
 
       tied : (k : ℕ) → k ≡ e.0 → find nat_cmp k (e ∷ es) ≡ Some e.1
-      tied k same = let is : (k == e.0) ≡ true = grind (arith, nat_tests) in rw (unsigned_tied k e.0, is) refl
+      tied k same = rw (unsigned_tied k e.0, eq-eqb k e.0 same) refl
 
       untied : (k : ℕ) → k ≢ e.0 → find nat_cmp k (e ∷ es) ≡ find nat_cmp k es
-      untied k apart = let is : (k == e.0) ≡ false = grind (arith, nat_tests) in rw (unsigned_tied k e.0, is) refl
+      untied k apart = rw (unsigned_tied k e.0, ne_eqb k e.0 apart) refl
 
 -- a task is ready if one is counted
 pub available : {V : Type 0} (c : Content V) → IsSound c → is_some (front c.ready) ≡ nat_lt 0 (count_lives is_ready c)
@@ -433,8 +402,7 @@ available {V} c sound = go (front c.ready) refl
       | true ↦ λ e.
           let t : TaskId = record { 0 = k } in
           let known : task_of c t ≡ Some x = finite.get-entries c.tasks k ∙ at in
-          let same : (x.class == x.class) ≡ true = grind (arith, nat_tests) in
-          let once : ready_in (task_of c t) x.class ≡ 1 = rw (known, e, same) refl in
+          let once : ready_in (task_of c t) x.class ≡ 1 = rw (known, e, eq-eqb x.class x.class refl) refl in
           let listed = sound.ready x.class t ∙ once in
           let none = rw (no_front c.ready x.class empty) at listed in
           absurd (omega arith)

@@ -1,16 +1,7 @@
--- How `SlabSlots` keeps its invariant.
-use Rattle.slab.specs.Slab.{Slab, slab_len, HasRoomFor, Updates, ContainsKey, with_value}
-use Rattle.std.proofs.Common.{◌≡◌, ℕ, suc, ◌+◌, ◌-◌, ◌<◌, ◌≤◌, ◌==◌, true, false, cond, List, length, get_or, [], Result, Ok, Err, IfErr}
-use Rattle.std.proofs.Common.{Option, Some, None, is_some, IfSome, refl, sym, ap, subst, ◌∙◌, inl, inr, arith, deque_len}
-use Rattle.std.{proofs.lemmas.Bool.{cases_eq, Decides.nat_tests}, specs.{Cmp.nat_cmp_total, Result.IsErrAnd, VecDeque.deque_capacity}}
-use Rattle.std.specs.declared.collections.VecDeque.{VecDeque}
-use Rattle.tp_base.specs.declared.refusal.Refusal.{Refusal, TheVariants.{NoMemory, StoreFull}}
-use Rattle.tp_slots.proofs.SlabItems.{items_of, get-items_of, len-items_of, items_of-insert, items_of-remove, items_of-with_value, items_at}
-use Rattle.tp_slots.proofs.Sound.{room_to_push, IsSound-with_item, IsSound-without_item, IsSound-with_ready, IsSound-without_next}
-use Rattle.tp_slots.{proofs.Sound.IsIdle-front, specs.Content.{Content, IsTaken, IsIdle, held_count, refusal_of_take, with_item}}
-use Rattle.tp_slots.specs.{Content.{without_item, front, without_front, with_last, IsSound}, SlabSlots.{Roomy, places_of, content_of}}
-use Rattle.tp_slots.specs.SlabSlots.{EachHolds, IsKept}
-use Rattle.std.specs.FinMap as map
+-- How `SlabSlots` keeps its invariant, and the lemmas on slots that the proofs of this crate use.
+pub mod Naming
+pub use Naming.*
+pub use Rattle.tp_slots.specs.SlabSlots.{places_of, content_of}
 
 module _ {T : Type 0} where
   len_rewritten : (s : Slab T) (key : ℕ) (v : T) → ContainsKey s key → slab_len (with_value s key v) ≡ slab_len s
@@ -66,11 +57,6 @@ module _ {T A : Type 0} where
       → content_of s q ≡ record (content_of s r) { ready = places }
   with_places s r q places same = λ i. record { items = items_of s; ready = same i }
 
-  -- only the capacities differ
-  pub same_content : (s new : Slab T) (r q : List (VecDeque ℕ A)) → new ≡ record s { capacity = new.capacity } → places_of q ≡ places_of r
-      → content_of new q ≡ content_of s r
-  same_content s new r q rest same = λ i. record { items = items_of (rest i); ready = same i }
-
   pub with_value_roomy : (s : Slab T) (r : List (VecDeque ℕ A)) (room key : ℕ) (v : T) → ContainsKey s key
       → ◌≡◌ {A = Roomy T} (record { content = content_of (with_value s key v) r; room = room })
       (record { content = with_item (content_of s r) key v; room = room })
@@ -104,19 +90,6 @@ module _ {T A : Type 0} where
     lists = λ k d h. omega (arith, kept.lists k d h);
     within = omega (arith, kept.within);
   }
-
-  -- the same content, with other room
-  pub IsKept-reserved : (s new : Slab T) (r q : List (VecDeque ℕ A)) (room more : ℕ) → IsKept s r room
-      → new ≡ record s { capacity = new.capacity } → places_of q ≡ places_of r → HasRoomFor new more → EachHolds (slab_len s + more) q
-      → slab_len s + more ≤ 65536 → IsKept new q more
-  IsKept-reserved s new r q room more kept rest same spare lists within =
-      let long : slab_len new ≡ slab_len s = ap slab_len rest in
-      record {
-        sound = subst IsSound (sym (same_content s new r q rest same)) kept.sound;
-        spare = spare;
-        lists = subst (λ (n : ℕ). EachHolds (n + more) q) (sym long) lists;
-        within = omega arith;
-      }
 
   pub IsKept-pushed : (s : Slab T) (r q : List (VecDeque ℕ A)) (room class place : ℕ) → IsKept s r room → IsIdle (content_of s r) place
       → class < 4 → places_of q ≡ with_last (places_of r) class place → EachHolds (slab_len s + room) q → IsKept s q room
