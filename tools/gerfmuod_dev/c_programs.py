@@ -1,9 +1,10 @@
 """Compiles the programs of capi/ and runs them: tools/data/capi.json has them in the order of their runs, in two parts.
 
-A row has a program, further options of the compiler, its runs, and its runs under valgrind and with the sanitizers of SANITIZERS; "full"
-has those of the long form. A run is its arguments, if it succeeds, or a list: the expected status (-1: any but 0), a text that the output
-contains, and the arguments of one or more runs. Each case of a test over cmocka counts. CC, CXX, FC, CFLAGS, CXXFLAGS, FFLAGS and LDFLAGS
-are those of the environment. After a run that did not end, the time limit is shorter, so that a library that hangs does not take hours.
+A row has a program, sources to compile with it, further options of the compiler, its runs, and its runs under valgrind and with the
+sanitizers of SANITIZERS; "full" has those of the long form. A run is its arguments, if it succeeds, or a list: the expected status (-1: any
+but 0), a text that the output contains, and the arguments of one or more runs. Each case of a test over cmocka counts. CC, CXX, FC, CFLAGS,
+CXXFLAGS, FFLAGS and LDFLAGS are those of the environment. After a run that did not end, the time limit is shorter, so that a library that
+hangs does not take hours.
 """
 import functools
 import json
@@ -65,7 +66,7 @@ def programs(part, is_full=False):
     return [
         Program(
             row["program"], tuple(row.get("options", ())),
-            (TEAM,) if part == "dag" and row["program"].endswith(".c") else (),
+            tuple(row.get("sources", [TEAM] if part == "dag" and row["program"].endswith(".c") else ())),
             {kind: sum(map(runs_of, runs), []) for kind, runs in (row["full"] if is_full else row).items() if kind in KINDS},
         )
         for row in rows if not is_full or "full" in row

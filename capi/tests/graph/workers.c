@@ -132,26 +132,44 @@ static int meet(gerfmuod_worker *worker, void *unused) {
     return 0;
 }
 
-/* Makes the tasks late, when all other workers sleep, and waits for them itself. */
-static int call_others(gerfmuod_worker *worker, void *unused) {
+/* Makes the tasks, if it is late when all other workers sleep, and waits for them itself. */
+static int call_others(gerfmuod_worker *worker, void *is_late) {
     struct timespec late = {0, 20000000};
-    nanosleep(&late, NULL);
+    if (is_late) nanosleep(&late, NULL);
     for (uint32_t k = 1; k < wanted; k++)
         if (gerfmuod_worker_spawn(worker, meet, NULL)) return 1;
-    return meet(worker, unused);
+    return meet(worker, NULL);
 }
 
 CASE(workers_that_sleep_are_woken_for_tasks) {
-    for (uint32_t run = 0; run < 40; run++) {
+    for (uint32_t run = 0; run < 24; run++) {
         gerfmuod_workers *workers = opened(wanted = 2 + run % (MOST_THREADS - 1));
-        for (uint32_t again = 0; again < 2; again++) {
+        for (uint32_t again = 0; again < 20; again++) {
             arrived = 0;
-            assert_int_equal(gerfmuod_workers_spawn(workers, call_others, NULL), GERFMUOD_OK);
+            assert_int_equal(gerfmuod_workers_spawn(workers, call_others, again % 10 ? NULL : &wanted), GERFMUOD_OK);
             assert_int_equal(gerfmuod_workers_run(workers), GERFMUOD_OK);
             assert_int_equal(arrived, wanted);
         }
         gerfmuod_workers_close(workers);
     }
+}
+
+/* ---- the order of one worker */
+static int leave_order(gerfmuod_worker *worker, void *argument) {
+    (void)worker, *(uint32_t *)argument = arrived++;
+    return 0;
+}
+
+CASE(one_worker_runs_its_newest_task_first) {
+    uint32_t order[1000];
+    gerfmuod_workers *workers = opened(1);
+    for (uint32_t again = 0; again < 2; again++) {
+        arrived = 0;
+        for (uint32_t k = 0; k < 1000; k++) assert_int_equal(gerfmuod_workers_spawn(workers, leave_order, &order[k]), GERFMUOD_OK);
+        assert_int_equal(gerfmuod_workers_run(workers), GERFMUOD_OK);
+        for (uint32_t k = 0; k < 1000; k++) assert_int_equal(order[k], 999 - k);
+    }
+    gerfmuod_workers_close(workers);
 }
 
 /* ---- memory and threads that lack */
@@ -221,6 +239,7 @@ int main(void) {
         cmocka_unit_test(roots_go_to_all_workers_and_a_run_without_tasks_ends),
         cmocka_unit_test(a_body_that_fails_stops_the_run),
         cmocka_unit_test(workers_that_sleep_are_woken_for_tasks),
+        cmocka_unit_test(one_worker_runs_its_newest_task_first),
         cmocka_unit_test(each_allocation_and_thread_that_fails_is_reported),
         cmocka_unit_test(a_list_that_cannot_grow_refuses_the_task_alone),
     };
