@@ -467,8 +467,9 @@ calm_came n x y s (Some l) =
           )
     ]
 
-cond_count : (b h : Bool) (u v d c f : ℕ) → bit b + d ≤ bit h + c → u + c ≤ v + f → cond b (u + 1) u + d ≤ cond h (v + 1) v + f
-cond_count b h u v d c f e g = grind (arith, nat_tests)
+cond_more : (b : Bool) (u : ℕ) → cond b (u + 1) u ≡ bit b + u
+cond_more true u = omega arith
+cond_more false u = omega arith
 
 total_ones : (n : ℕ) → total n (λ j. 1) ≡ n
 total_ones zero = refl
@@ -487,7 +488,8 @@ Follows n c o d y =
 follows_same : (n : ℕ) (c : Pool) (o : PoolEvent) (y : World) (d : Pool) → d.world ≡ c.world → is_useful_call n c o ≡ false → IsCalm n c.world y
     → Follows n c o d y
 follows_same n c o y d e none s =
-    inl (subst (λ w. IsCalm n w y) (sym e) s, rw none (subst (λ w. total n (λ j. (w.at j).pending) ≤ working n c) (sym e) (omega arith)))
+    let same : working n d ≡ working n c = ap (λ w. total n (λ j. (w.at j).pending)) e in
+    inl (subst (λ w. IsCalm n w y) (sym e) s, rw none (omega (arith, same)))
 
 module _ (n i : ℕ) (c : Pool) (y : World) (l : i < n) (z : IsDone n c) (s : IsCalm n c.world y) where
   follows_settle : Follows n c (Calls i Settle) (calls n c i Settle) y
@@ -525,8 +527,8 @@ module _ (n i : ℕ) (c : Pool) (y : World) (l : i < n) (z : IsDone n c) (s : Is
       } in
       inr (
         Does i Moves,
-        (subst (IsCalm n (does n c.world i Moves)) (sym (ap (λ b. cond b new y) (lt-ltb i n l))) calms,
-        rw (lt-ltb i n l, next) (omega (arith, sums, moved_idle p))),
+        subst (IsCalm n (does n c.world i Moves)) (sym (ap (λ b. cond b new y) (lt-ltb i n l))) calms,
+        rw (lt-ltb i n l, next) (omega (arith, sums, moved_idle p)),
       )
 
   follows_next : Follows n c (Calls i Next) (calls n c i Next) y
@@ -564,9 +566,9 @@ follows_brings n k c y s =
     let work : working n (pool_step n c (Brings k)) ≡ working n c = total-equal n _ _ (λ j l. came_idle n x o j) in
     inr (
       Comes k,
-      (subst (λ m. IsCalm n (came n x o) (came n y m)) (sym there) calms.0,
+      subst (λ m. IsCalm n (came n x o) (came n y m)) (sym there) calms.0,
       subst (λ m. bit (is_taken n x o) + working n (pool_step n c (Brings k)) ≤ bit (is_taken n y m) + working n c) (sym there)
-      (rw calms.1 (omega (arith, work)))),
+      (rw calms.1 (omega (arith, work))),
     )
 
 follows : (n : ℕ) (c : Pool) (o : PoolEvent) (y : World) → IsDone n c → IsCalm n c.world y → Follows n c o (pool_step n c o) y
@@ -597,14 +599,20 @@ follows_later n (o ∷ later) events past z s =
           record {
             more = old.more;
             calm = f.0;
-            useful = cond_count (is_useful_call n c o) false (useful_calls n later events) (useful n old.more past) _ _ _ f.1 old.useful;
+            useful = omega (arith, cond_more (is_useful_call n c o) (useful_calls n later events), f.1, old.useful);
           }
       | inr f ↦
+          let u : Bool = is_useful n (after n (old.more ++ past)) f.0 in
           record {
             more = f.0 ∷ old.more;
-            calm = f.1.0;
-            useful = cond_count (is_useful_call n c o) (is_useful n (after n (old.more ++ past)) f.0) (useful_calls n later events)
-                (useful n old.more past) _ _ _ f.1.1 old.useful;
+            calm = f.1;
+            useful = omega (
+              arith,
+              cond_more (is_useful_call n c o) (useful_calls n later events),
+              cond_more u (useful n old.more past),
+              f.2,
+              old.useful,
+            );
           }
     ]
 
@@ -628,7 +636,7 @@ soon_done n later events l z =
 
 from_event : (n : ℕ) (c : Pool) (e : Event) → is_useful n c.world e ≡ true → (o : PoolEvent) × (is_useful_call n c o ≡ true)
 from_event n c (Does i Moves) t = (Calls i Next, t)
-from_event n c (Does i _) t = absurd (cc (and_parts (ltb i n) false t).1)
+from_event n c (Does i _) t = absurd (cc t)
 from_event n c (Comes k) t = (Brings k, t)
 
 pub goes_on_done : GoesOnDoneLaw
