@@ -1,9 +1,9 @@
 -- The theorems of a pool in which running tasks make tasks: its events are events of the detector, and its numbers add
 -- up.
-use Rattle.tp_process.proofs.Network.{◌≡◌, ℕ, ◌+◌, ◌<◌, refl, sym, ◌∙◌, ap, subst, inl, inr, ◌*◌, ◌≤◌, arith, Some, ◌⊎◌, Bool, true, false}
+use Rattle.tp_process.proofs.Network.{◌≡◌, ℕ, ◌+◌, ◌<◌, refl, sym, ◌∙◌, ap, subst, inl, inr, ◌≤◌, arith, Some, ◌⊎◌, Bool, true, false}
 use Rattle.tp_process.proofs.Network.{cond, List, [], ◌∷◌, ltb, ◌-◌, eqb, not, ◌&&◌, ◌++◌, Option, None, ◌^◌, cases_eq, ltb-true, and_parts}
-use Rattle.tp_process.proofs.Network.{cond_both, and_from, cases_Bool, nat_tests, append_assoc, total-equal, total-le, total-zero, total, closed, sent}
-use Rattle.tp_process.proofs.Network.{received, can_receive, can_send, Act, Event, Does, Comes, Sends, Receives, Closes, Moves, World, put, put_id}
+use Rattle.tp_process.proofs.Network.{cond_both, cases_Bool, nat_tests, append_assoc, total-equal, total-le, total-zero, total, closed}
+use Rattle.tp_process.proofs.Network.{received, can_receive, can_send, Event, Does, Comes, Sends, Receives, Closes, Moves, World, put, put_id}
 use Rattle.tp_process.proofs.Network.{total_put, total_add, takes_idle, takes, took, moved, moved_idle, is_for, is_due, is_taken, useful, is_useful}
 use Rattle.tp_process.proofs.Network.{happens, after, does, came, control_at, posted, ControlMessage, EpochState, IsQuiet, Ended, put_put, put_holds}
 use Rattle.tp_process.proofs.Network.{never_early, ended, soon, goes_on, each_or, fun_ext, eq-eqb, ne_eqb, lt-ltb, put_same, LIMIT, zero, suc}
@@ -14,7 +14,7 @@ use Rattle.tp_process.specs.Pool.{AreCounted, IsDone, IsWork, Pool, PoolEvent, C
 use Rattle.tp_process.specs.Pool.{Close, Give, SendTask, Receive, Settle, Next, calls, pool, pool_step, is_useful_call, useful_calls}
 use Rattle.tp_process.specs.Calls.{ends}
 use Rattle.tp_process.specs.Tasks.{Tasks, added, added_due, began, can_begin, can_make, can_receive_task, can_send_task, can_settle, completed}
-use Rattle.tp_process.specs.Tasks.{dropped, given, is_idle, receives_task, sends_task, settled, task_received, task_sent, without_opening}
+use Rattle.tp_process.specs.Tasks.{dropped, given, is_idle, receives_task, settled, without_opening}
 
 -- ==== What a call does, at its process and to the sums.
 abbrev left : Tasks → ℕ
@@ -162,10 +162,12 @@ module _ (n i : ℕ) (c : Pool) where
         events = elim (cases_Bool (eqb p.pending 0)) [
           | inl z ↦
               (Does i Receives ∷ [], λ past q. rw (a.0, z, lt-ltb i n l, both) refl ∙ ap (λ w. happens n w (Does i Receives)) q)
-          | inr z ↦
-              (Does i Closes ∷ Does i Receives ∷ [], λ past q.
-              rw (a.0, z, lt-ltb i n l, both) (sym (closes_over (received p) (put i (under i - 1) under)))
-              ∙ ap (λ w. happens n (happens n w (Does i Receives)) (Does i Closes)) q)
+          | inr z ↦ (
+            Does i Closes ∷ Does i Receives ∷ [],
+            λ past q.
+                rw (a.0, z, lt-ltb i n l, both) (sym (closes_over (received p) (put i (under i - 1) under)))
+                ∙ ap (λ w. happens n (happens n w (Does i Receives)) (Does i Closes)) q,
+          )
         ];
         idle = λ f u. absurd (omega (arith, comes, u));
         still = λ f u g. absurd (omega (arith, comes, u));
@@ -451,24 +453,24 @@ calm_came n x y s (Some l) =
       | inl t ↦
           let here : y.at l.to ≡ calm (x.at l.to) = s.at l.to (ltb-true l.to n t) in
           let p : EpochState = x.at l.to in
-          let new : took l (y.at l.to) ≡ calm (took l p) = ap (took l) here ∙ sym (calm_took l p) in
-          (
+          let new : took l (y.at l.to) ≡ calm (took l p) = ap (took l) here ∙ sym (calm_took l p) in (
             rw t
-            (record {
-              at = λ j m.
-                  elim (cases_eq j l.to) [
-                    | inl d ↦ rw (eq-eqb j l.to d) new
-                    | inr off ↦ rw (ne_eqb j l.to off) (s.at j m)
-                  ];
-              controls = s.controls;
-            }),
+                (record {
+                  at = λ j m.
+                      elim (cases_eq j l.to) [
+                        | inl d ↦ rw (eq-eqb j l.to d) new
+                        | inr off ↦ rw (ne_eqb j l.to off) (s.at j m)
+                      ];
+                  controls = s.controls;
+                }),
             ap (λ (q : EpochState). ltb l.to n && (is_for l q && is_due l.from l.wave l.token q)) here
-            ∙ ap (λ b. ltb l.to n && (is_for l p && b)) (calm_due l.from l.wave l.token p),
+                ∙ ap (λ b. ltb l.to n && (is_for l p && b)) (calm_due l.from l.wave l.token p),
           )
     ]
 
-cond_count : (b h : Bool) (u v d c f : ℕ) → bit b + d ≤ bit h + c → u + c ≤ v + f → cond b (u + 1) u + d ≤ cond h (v + 1) v + f
-cond_count b h u v d c f e g = grind (arith, nat_tests)
+cond_more : (b : Bool) (u : ℕ) → cond b (u + 1) u ≡ bit b + u
+cond_more true u = omega arith
+cond_more false u = omega arith
 
 total_ones : (n : ℕ) → total n (λ j. 1) ≡ n
 total_ones zero = refl
@@ -487,7 +489,8 @@ Follows n c o d y =
 follows_same : (n : ℕ) (c : Pool) (o : PoolEvent) (y : World) (d : Pool) → d.world ≡ c.world → is_useful_call n c o ≡ false → IsCalm n c.world y
     → Follows n c o d y
 follows_same n c o y d e none s =
-    inl (subst (λ w. IsCalm n w y) (sym e) s, rw none (subst (λ w. total n (λ j. (w.at j).pending) ≤ working n c) (sym e) (omega arith)))
+    let same : working n d ≡ working n c = ap (λ w. total n (λ j. (w.at j).pending)) e in
+    inl (subst (λ w. IsCalm n w y) (sym e) s, rw none (omega (arith, same)))
 
 module _ (n i : ℕ) (c : Pool) (y : World) (l : i < n) (z : IsDone n c) (s : IsCalm n c.world y) where
   follows_settle : Follows n c (Calls i Settle) (calls n c i Settle) y
@@ -525,8 +528,8 @@ module _ (n i : ℕ) (c : Pool) (y : World) (l : i < n) (z : IsDone n c) (s : Is
       } in
       inr (
         Does i Moves,
-        (subst (IsCalm n (does n c.world i Moves)) (sym (ap (λ b. cond b new y) (lt-ltb i n l))) calms,
-        rw (lt-ltb i n l, next) (omega (arith, sums, moved_idle p))),
+        subst (IsCalm n (does n c.world i Moves)) (sym (ap (λ b. cond b new y) (lt-ltb i n l))) calms,
+        rw (lt-ltb i n l, next) (omega (arith, sums, moved_idle p)),
       )
 
   follows_next : Follows n c (Calls i Next) (calls n c i Next) y
@@ -564,9 +567,9 @@ follows_brings n k c y s =
     let work : working n (pool_step n c (Brings k)) ≡ working n c = total-equal n _ _ (λ j l. came_idle n x o j) in
     inr (
       Comes k,
-      (subst (λ m. IsCalm n (came n x o) (came n y m)) (sym there) calms.0,
+      subst (λ m. IsCalm n (came n x o) (came n y m)) (sym there) calms.0,
       subst (λ m. bit (is_taken n x o) + working n (pool_step n c (Brings k)) ≤ bit (is_taken n y m) + working n c) (sym there)
-      (rw calms.1 (omega (arith, work)))),
+          (rw calms.1 (omega (arith, work))),
     )
 
 follows : (n : ℕ) (c : Pool) (o : PoolEvent) (y : World) → IsDone n c → IsCalm n c.world y → Follows n c o (pool_step n c o) y
@@ -597,14 +600,20 @@ follows_later n (o ∷ later) events past z s =
           record {
             more = old.more;
             calm = f.0;
-            useful = cond_count (is_useful_call n c o) false (useful_calls n later events) (useful n old.more past) _ _ _ f.1 old.useful;
+            useful = omega (arith, cond_more (is_useful_call n c o) (useful_calls n later events), f.1, old.useful);
           }
       | inr f ↦
+          let u : Bool = is_useful n (after n (old.more ++ past)) f.0 in
           record {
             more = f.0 ∷ old.more;
-            calm = f.1.0;
-            useful = cond_count (is_useful_call n c o) (is_useful n (after n (old.more ++ past)) f.0) (useful_calls n later events)
-                (useful n old.more past) _ _ _ f.1.1 old.useful;
+            calm = f.1;
+            useful = omega (
+              arith,
+              cond_more (is_useful_call n c o) (useful_calls n later events),
+              cond_more u (useful n old.more past),
+              f.2,
+              old.useful,
+            );
           }
     ]
 
@@ -628,7 +637,7 @@ soon_done n later events l z =
 
 from_event : (n : ℕ) (c : Pool) (e : Event) → is_useful n c.world e ≡ true → (o : PoolEvent) × (is_useful_call n c o ≡ true)
 from_event n c (Does i Moves) t = (Calls i Next, t)
-from_event n c (Does i _) t = absurd (cc (and_parts (ltb i n) false t).1)
+from_event n c (Does i _) t = absurd (cc t)
 from_event n c (Comes k) t = (Brings k, t)
 
 pub goes_on_done : GoesOnDoneLaw

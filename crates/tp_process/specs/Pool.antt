@@ -1,6 +1,6 @@
 -- A pool over all processes of one epoch, in which running tasks make tasks: its state, its events, and the theorems
 -- about it. What an event does to a process is what the call of `TaskCounts` or of `Process` does.
-use Rattle.std.specs.Prelude.{ℕ, ◌+◌, ◌-◌, ◌*◌, ◌^◌, ◌==◌, ◌&&◌, ◌≡◌, ◌<◌, ◌≤◌, ◌⊎◌, List, [], ◌∷◌, ◌++◌, Bool, true, false, not}
+use Rattle.std.specs.Prelude.{ℕ, ◌+◌, ◌-◌, ◌*◌, ◌^◌, ◌==◌, ◌&&◌, ◌≡◌, ◌<◌, ◌≤◌, ◌⊎◌, List, [], ◌∷◌, ◌++◌, Bool, false}
 use Rattle.std.specs.Prelude.{IsTrue, nat_lt, if◌then◌else◌}
 use Rattle.tp_base.specs.Totals.{total}
 use Rattle.tp_process.specs.{Calls.moved, declared.outcome.Next.TheVariants.Ended}
