@@ -7,8 +7,9 @@
  *     refused = gerfmuod_mpi_pool_run(pool, threads);       // body calls gerfmuod_mpi_pool_spawn
  *     gerfmuod_mpi_pool_close(pool);
  *
- * That a run has not ended too early is what the detector of gerfmuod/process.h guarantees, which is proved; the queue, the threads and
- * the messages here are tested. For tasks that are all known before, and wait for each other's data: gerfmuod/mpi.h.
+ * That a run has not ended too early and loses no task is what the counts of tasks and the detector of gerfmuod/process.h guarantee, which
+ * are proved; the lists of tasks, the threads and the messages here are tested. For tasks that are all known before, and wait for each
+ * other's data: gerfmuod/mpi.h.
  *
  * The calling thread is one of the threads, and alone calls MPI, so MPI_THREAD_FUNNELED is enough. It sends and receives between two
  * bodies: a body that runs long there delays the messages of its process.
@@ -43,7 +44,7 @@ uint32_t gerfmuod_mpi_pool_kind(gerfmuod_mpi_pool *pool, gerfmuod_mpi_pool_body 
 /* Makes a task of this kind in process `to`, with a copy of `size` bytes: before a run, between two, or in a body on any thread. A task
  * is run once, in the order that the pool likes. Refused, for the first reason that applies, and then no task is made: NO_NODE if there
  * is no such process; BAD_SPEC if there is no such kind or more than INT_MAX bytes; STOPPED if a body of this run failed, as far as is
- * known here; NO_MEMORY. */
+ * known here; NO_MEMORY; in a run NO_WORK if no body runs here. */
 GERFMUOD_CHECKED uint32_t gerfmuod_mpi_pool_spawn(gerfmuod_mpi_pool *pool, int to, uint32_t kind, const void *arguments, size_t size);
 
 /* Runs the tasks on `threads` threads in each process, and returns when no process has a task and none is in flight, or when a body

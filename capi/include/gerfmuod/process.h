@@ -242,7 +242,8 @@ const char *gerfmuod_process_text(const gerfmuod_process *process);
  *   a stop      gerfmuod_tasks_drop_waiting drops all tasks that wait. Those that run end, and those that are due are sent.
  *   once more   gerfmuod_tasks_reopen after ENDED, in the place of gerfmuod_process_reopen.
  *
- * Proved, for every n and every order of these calls and of control messages, whichever come, twice, late or never:
+ * Proved of an epoch, for every n and every order of these calls and of control messages, whichever come, twice, late or never;
+ * gerfmuod_tasks_reopen leads to the state in which an epoch begins:
  *   - never early: if gerfmuod_process_next returns ENDED, or gerfmuod_process_knows_end returns true, at no process does a task wait, run
  *     or be due, no opening is open, and no task is in flight, then and later;
  *   - none lost, none doubled: each task that was made waits, runs, is due, is in flight, is done or was dropped; after ENDED it is done,

@@ -1,4 +1,4 @@
-/* unlocked.c: two threads make a call each on one core or process, with or without the mutex that protects it.
+/* unlocked.c: two threads make a call each on one core, process or its tasks, with or without the mutex that protects it.
  *
  *   unlocked CALL.. [unlocked]     built with -fsanitize=thread
  *
@@ -13,6 +13,7 @@
 
 static gerfmuod_core core;
 static gerfmuod_process process;
+static gerfmuod_tasks tasks;
 static gerfmuod_control_message message;
 static gerfmuod_step step = {GERFMUOD_STEP_READY, 0, 0, 0, 0};
 static gerfmuod_step_result result;
@@ -55,7 +56,24 @@ static volatile uint64_t returned[2]; /* so that no compiler leaves out a read *
     X(process_received, false, gerfmuod_process_received(&process))                                      \
     X(process_wave, false, gerfmuod_process_wave(&process))                                              \
     X(process_text, false, (uint64_t)*gerfmuod_process_text(&process))                                   \
-    X(process_fields, false, process.pending) /* the program's own read of a field that the library writes */
+    X(process_fields, false, process.pending) /* the program's own read of a field of the library */     \
+    X(tasks_open, true, (gerfmuod_tasks_open(&tasks), 0))                                                \
+    X(tasks_add, true, gerfmuod_tasks_add(&tasks))                                                       \
+    X(tasks_add_due, true, gerfmuod_tasks_add_due(&tasks))                                               \
+    X(tasks_begin, true, gerfmuod_tasks_begin(&tasks))                                                   \
+    X(tasks_done, true, gerfmuod_tasks_done(&tasks))                                                     \
+    X(tasks_drop_waiting, true, (gerfmuod_tasks_drop_waiting(&tasks), 0))                                \
+    X(tasks_give, true, gerfmuod_tasks_give(&tasks))                                                     \
+    X(tasks_close, true, gerfmuod_tasks_close(&tasks))                                                   \
+    X(tasks_send, true, gerfmuod_tasks_send(&tasks, &process))                                           \
+    X(tasks_receive, true, gerfmuod_tasks_receive(&tasks, &process, 0))                                  \
+    X(tasks_settle, false, gerfmuod_tasks_settle(&tasks, &process))                                      \
+    X(tasks_reopen, true, gerfmuod_tasks_reopen(&tasks, &process))                                       \
+    X(tasks_waiting, false, gerfmuod_tasks_waiting(&tasks))                                              \
+    X(tasks_running, false, gerfmuod_tasks_running(&tasks))                                              \
+    X(tasks_due, false, gerfmuod_tasks_due(&tasks))                                                      \
+    X(tasks_is_opening, false, gerfmuod_tasks_is_opening(&tasks))                                        \
+    X(tasks_is_idle, false, gerfmuod_tasks_is_idle(&tasks))
 
 enum call {
 #define NAME(name, writes, expression) name,
@@ -82,6 +100,7 @@ static uint64_t make(enum call call) {
 
 static enum call other_of(enum call call) {
     if (call < process_init) return does_write[call] ? core_status : core_step;
+    if (call > process_fields) return does_write[call] ? tasks_waiting : tasks_add;
     return does_write[call] ? process_pending : process_add_work;
 }
 

@@ -1,5 +1,5 @@
-/* layout.c: checks that the library reads and writes a gerfmuod_process as C declares it, field by field, and that bytes which
- * are not a process or not a control message are refused and change nothing.
+/* layout.c: checks that the library reads and writes a gerfmuod_process and a gerfmuod_tasks as C declares them, field by field, and
+ * that bytes which are not a process or not a control message are refused and change nothing.
  *
  * Each check fills a struct in C, calls the library once, and compares the result and each byte except the padding at the end
  * with a struct that C wrote. Each field is read by some call and written by some call. With the argument `swapped` two fields
@@ -252,6 +252,73 @@ CASE(any_bytes) {
     }
 }
 
+static void check_tasks_at(int line, uint32_t got, uint32_t wanted, const gerfmuod_tasks *t, const gerfmuod_tasks *as) {
+    uint64_t running = is_swapped ? as->due : as->running, due = is_swapped ? as->running : as->due;
+    bool is_same = got == wanted && t->waiting == as->waiting && t->running == running && t->due == due && t->opening == as->opening;
+    check_text(__FILE__, line, is_same, "returned %u, not %u, or another struct", (unsigned)got, (unsigned)wanted);
+}
+#define check_tasks(got, wanted, t, as) check_tasks_at(__LINE__, got, wanted, t, as)
+
+/* The calls on the tasks alone: each field is read and written, each refusal is returned, and a refused call changes nothing. */
+CASE(tasks_alone) {
+    const uint64_t most = GERFMUOD_PROCESS_MAX_COUNT;
+    gerfmuod_tasks t, as = {.waiting = 0, .running = 0, .due = 0, .opening = 1};
+    memset(&t, 0xff, sizeof t);
+    gerfmuod_tasks_open(&t);
+    check_tasks(0, 0, &t, &as);
+    t = as = (gerfmuod_tasks){.waiting = 0x010203040506u, .running = 0x011213141516u, .due = 0x012223242526u, .opening = 0x80};
+    assert_int_equal(gerfmuod_tasks_waiting(&t), as.waiting);
+    assert_int_equal(gerfmuod_tasks_running(&t), as.running);
+    assert_int_equal(gerfmuod_tasks_due(&t), as.due);
+    assert_int_equal(gerfmuod_tasks_is_opening(&t) && !gerfmuod_tasks_is_idle(&t), 1);
+    as.waiting++, check_tasks(gerfmuod_tasks_add(&t), GERFMUOD_OK, &t, &as);
+    as.due++, check_tasks(gerfmuod_tasks_add_due(&t), GERFMUOD_OK, &t, &as);
+    as.waiting--, as.running++, check_tasks(gerfmuod_tasks_begin(&t), GERFMUOD_OK, &t, &as);
+    as.running--, check_tasks(gerfmuod_tasks_done(&t), GERFMUOD_OK, &t, &as);
+    as.waiting--, as.due++, check_tasks(gerfmuod_tasks_give(&t), GERFMUOD_OK, &t, &as);
+    as.opening = 0, check_tasks(gerfmuod_tasks_close(&t), GERFMUOD_OK, &t, &as);
+    check_tasks(gerfmuod_tasks_close(&t), GERFMUOD_REFUSED_NO_WORK, &t, &as);
+    t.waiting = as.waiting = t.running = as.running = t.due = as.due = most;
+    check_tasks(gerfmuod_tasks_add(&t), GERFMUOD_REFUSED_COUNT_FULL, &t, &as);
+    check_tasks(gerfmuod_tasks_add_due(&t), GERFMUOD_REFUSED_COUNT_FULL, &t, &as);
+    check_tasks(gerfmuod_tasks_begin(&t), GERFMUOD_REFUSED_COUNT_FULL, &t, &as);
+    check_tasks(gerfmuod_tasks_give(&t), GERFMUOD_REFUSED_COUNT_FULL, &t, &as);
+    as.waiting = 0, gerfmuod_tasks_drop_waiting(&t), check_tasks(0, 0, &t, &as);
+    check_tasks(gerfmuod_tasks_begin(&t), GERFMUOD_REFUSED_NO_WORK, &t, &as);
+    check_tasks(gerfmuod_tasks_give(&t), GERFMUOD_REFUSED_NO_WORK, &t, &as);
+    t.running = as.running = 0;
+    check_tasks(gerfmuod_tasks_done(&t), GERFMUOD_REFUSED_NO_WORK, &t, &as);
+    check_tasks(gerfmuod_tasks_add(&t), GERFMUOD_REFUSED_NO_WORK, &t, &as);
+    check_tasks(gerfmuod_tasks_add_due(&t), GERFMUOD_REFUSED_NO_WORK, &t, &as);
+}
+
+/* The calls on the tasks and the process. */
+CASE(tasks_and_process) {
+    gerfmuod_process p = known_bytes(mark), is = p;
+    gerfmuod_tasks t = {.waiting = 0x010203040506u, .running = 0, .due = 1, .opening = 0}, as = t;
+    as.due--, is.sent++, check_tasks(gerfmuod_tasks_send(&t, &p), GERFMUOD_OK, &t, &as), check(0, 0, &p, &is);
+    check_tasks(gerfmuod_tasks_send(&t, &p), GERFMUOD_REFUSED_NO_WORK, &t, &as);
+    as.waiting++, is.received++, check_tasks(gerfmuod_tasks_receive(&t, &p, p.epoch), GERFMUOD_OK, &t, &as), check(0, 0, &p, &is);
+    check_tasks(gerfmuod_tasks_receive(&t, &p, p.epoch + 1), GERFMUOD_REFUSED_NOT_YET, &t, &as);
+    check_tasks(gerfmuod_tasks_receive(&t, &p, p.epoch - 1), GERFMUOD_REFUSED_LATE, &t, &as);
+    p.pending = 0, is.pending = 1, as.waiting++, is.received++;
+    check_tasks(gerfmuod_tasks_receive(&t, &p, p.epoch), GERFMUOD_OK, &t, &as), check(0, 0, &p, &is);
+    check_tasks(gerfmuod_tasks_settle(&t, &p), 0, &t, &as), check(0, 0, &p, &is);
+    t.waiting = as.waiting = GERFMUOD_PROCESS_MAX_COUNT;
+    check_tasks(gerfmuod_tasks_receive(&t, &p, p.epoch), GERFMUOD_REFUSED_COUNT_FULL, &t, &as);
+    t.waiting = as.waiting = 0, is.pending = 0;
+    check_tasks(gerfmuod_tasks_settle(&t, &p), 1, &t, &as), check(0, 0, &p, &is);
+    check_tasks(gerfmuod_tasks_settle(&t, &p), 0, &t, &as), check(0, 0, &p, &is);
+    check_tasks(gerfmuod_tasks_reopen(&t, &p), GERFMUOD_REFUSED_NOT_ENDED, &t, &as), check(0, 0, &p, &is);
+    p.over = true, is = (gerfmuod_process){.mark = mark, .epoch = p.epoch + 1, .number = 5, .processes = 13, .pending = 1};
+    as.opening = 1, check_tasks(gerfmuod_tasks_reopen(&t, &p), GERFMUOD_OK, &t, &as), check(0, 0, &p, &is);
+    t.due = as.due = 1, p.mark = is.mark = mark ^ 1;
+    check_tasks(gerfmuod_tasks_send(&t, &p), GERFMUOD_REFUSED_NOT_OPEN, &t, &as);
+    check_tasks(gerfmuod_tasks_receive(&t, &p, p.epoch), GERFMUOD_REFUSED_NOT_OPEN, &t, &as);
+    check_tasks(gerfmuod_tasks_settle(&t, &p), GERFMUOD_REFUSED_NOT_OPEN, &t, &as);
+    check_tasks(gerfmuod_tasks_reopen(&t, &p), GERFMUOD_REFUSED_NOT_OPEN, &t, &as), check(0, 0, &p, &is);
+}
+
 CASE(beginnings) {
     gerfmuod_process p, none = {.pending = 1};
     const gerfmuod_process as = {.mark = 0x67657266u, .number = 0x01020304, .processes = 0x81020304u, .pending = 1};
@@ -267,7 +334,8 @@ int main(int argc, char **argv) {
     const struct CMUnitTest cases[] = {
         cmocka_unit_test(beginnings), cmocka_unit_test(readers),   cmocka_unit_test(work_and_messages),
         cmocka_unit_test(wave),       cmocka_unit_test(end),       cmocka_unit_test(not_open),
-        cmocka_unit_test(any_flags),  cmocka_unit_test(any_bytes),
+        cmocka_unit_test(any_flags),  cmocka_unit_test(any_bytes), cmocka_unit_test(tasks_alone),
+        cmocka_unit_test(tasks_and_process),
     };
     gerfmuod_process first;
     is_swapped = argc > 1 && !strcmp(argv[1], "swapped");
