@@ -143,7 +143,7 @@ class Order(Case):
         barrier, pool = threading.Barrier(3), Pool()
         for _ in range(3):
             pool.task(barrier.wait, 60)
-        with unittest.mock.patch("gerfmuod._pool._processors", lambda: 3):
+        with unittest.mock.patch("os.sched_getaffinity", lambda _: {0, 1, 2}):
             pool.run()
 
     def test_tasks_run_on_several_threads(self):
