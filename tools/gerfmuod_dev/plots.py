@@ -22,15 +22,12 @@ from .repository import TOP, text_of
 
 # the rows of runs of Cholesky: on threads, and over MPI, as capi/mpi/graph_rows.c writes them
 RUNS = {name: f"{TOP}/docs/measurements/{name.replace('sky', 'sky-run')}.csv" for name in ("cholesky", "four-processes")}
-KINDS = ["factor", "solve", "square", "product"]
 PAGE = "docs/ARCHITECTURE.md"
 ROW = re.compile(r"^\|([^|\n]*)\| *([a-z]\w*) *\|([^|\n]*)\|[^|\n]*\|$", re.M)
 # a colour for each group, in the order of crates.txt
 FILLS = ["#e8e8e8", "#fde2b8", "#cfe3f7", "#d8efd0", "#e6dbf3", "#fbd5d5", "#d3ebea", "#f2f0c8", "#ffffff"]
 GRAPH = "tools/data/crates.dot"
-DRAWING = f"{os.path.dirname(os.path.abspath(__file__))}/drawing.py"
 DIGEST = re.compile(r"<!-- digest of its inputs: (\w+) -->")
-PACKAGES = "apt-get install $(tools/bench-packages)"
 
 
 def check_map(tally):
@@ -103,7 +100,7 @@ def plot_of_run(text):
     on = f"{lanes} processes, {len(messages)} messages" if messages else f"{lanes} threads"
     title = f"{count} tasks on {on}: {elapsed:.1f} ms; the critical path: {length:.1f} ms"
     runs = {"lane": columns[0], "bodies": bodies, "messages": messages, "elapsed": elapsed, "title": title}
-    return {"kind": "lanes", "names": KINDS, **runs}
+    return {"kind": "lanes", "names": ["factor", "solve", "square", "product"], **runs}
 
 
 # each plot with a function that returns what it shows, or nothing; the map is text for `dot`
@@ -112,7 +109,8 @@ PLOTS.update({name: lambda path=path: plot_of_run(text_of(path)) for name, path 
 
 
 def digest_of(plot):
-    text = plot if isinstance(plot, str) else json.dumps(plot, sort_keys=True) + text_of(DRAWING)
+    code = text_of(f"{os.path.dirname(os.path.abspath(__file__))}/drawing.py")
+    text = plot if isinstance(plot, str) else json.dumps(plot, sort_keys=True) + code
     return hashlib.sha256(text.encode()).hexdigest()[:32]
 
 
@@ -140,7 +138,7 @@ def write(names=PLOTS):
                 os.remove(path)
         except (FileNotFoundError, ImportError, subprocess.CalledProcessError) as error:
             faults += 1
-            print(f"{name} is not drawn: {error} ({PACKAGES})", file=sys.stderr)
+            print(f"{name} is not drawn: {error} (apt-get install $(tools/bench-packages))", file=sys.stderr)
     return faults
 
 

@@ -23,8 +23,8 @@
 /* The tags of messages: that the graph was stopped, and the first with a value. */
 enum { STOP = 0, FIRST_VALUE = 1 };
 /* After SPINS polls in vain the main thread yields its processor between them, after POLLS it sleeps, each time longer, at most 1 << NAPS
- * microseconds. If a yield takes LONG nanoseconds, other threads need the processor: then CROWDED pauses are sleeps from the first one on.
- * A thread that wakes gets the processor soon, one that yielded only after the others. */
+ * microseconds. If a yield takes LONG nanoseconds, other threads need the processor: then CROWDED pauses are sleeps instead of yields. A
+ * thread that wakes gets the processor soon, one that yielded only after the others. */
 enum { SPINS = 50, POLLS = 250, NAPS = 6, LONG = 200000, CROWDED = 300 };
 /* The values of a body for which there is room on the stack. */
 enum { FEW_VALUES = 8 };

@@ -67,8 +67,7 @@ def measured(options, name, folder, peers):
     loads = [0, processors()] if options.full and name == "run" else [0]
     for load in loads if options.load is None else [options.load]:
         rounds = options.rounds or (PROCESSES if name in TIMED else ROUNDS)[form]
-        counts = options.full or options.instructions
-        bench = Bench(peers, folder, rounds, RUNS[form], load, counts, form == "quick", options.only)
+        bench = Bench(peers, folder, rounds, RUNS[form], load, options.full or options.instructions, form == "quick", options.only)
         for row in MEASUREMENTS[name](bench):
             found.append(row)
             if reasons := soundness.impossible(name, found):

@@ -316,8 +316,9 @@ def task_graphs(rows):
     shown = [(title, [row for row in rows if kinds[row] == title], text_of) for title, (_, text_of) in GRAPHS.items()]
     counted = [row for row in rows if row.instructions]
     shown.append(("Instructions a task, with its description, one thread", counted, lambda _, row: cell(each_unit(row), "{:,.0f}")))
-    column_of, tables = "{0.program}, {0.where}".format, [(title, own, functools.partial(text_of, own)) for title, own, text_of in shown if own]
-    return "\n\n".join(f"{title}:\n\n{grid('', own, 'case', column_of, text_of_row)}" for title, own, text_of_row in tables)
+    column_of = "{0.program}, {0.where}".format
+    tables = ((title, grid("", own, "case", column_of, functools.partial(text_of, own))) for title, own, text_of in shown if own)
+    return "\n\n".join(f"{title}:\n\n{text}" for title, text in tables)
 
 
 def times_and_messages(row):
