@@ -1,11 +1,9 @@
 -- The sums over consecutive nodes.
 use Rattle.std.proofs.{Common.{◌≡◌, List, [], ◌∷◌, ◌++◌, length, map, refl, sym, ap, subst, ◌∙◌, arith}, Math.Seq.get_or-append_seam}
 use Rattle.std.proofs.lemmas.List.{flat_map_more, get_or-map, get_or_append_left, length-append, length-map, map-append}
-use Rattle.std.{proofs.lemmas.List.Elements.All-append, specs.{List.{All, flat_map}, Prelude.Some}}
-use Rattle.tp_base.specs.declared.ids.TaskId.{TaskId}
-use Rattle.tp_board.specs.{Numbers.ShareNumbers, Reopening.begun_anew}
-use Rattle.tp_graph.specs.{Graphs.TaskGraph, Left.{AreResults, result_of}, Serial.Results}
-use Rattle.tp_node.specs.{Locals.Numbers, Nodes.{NodeState, anew}}
+use Rattle.std.{proofs.lemmas.List.{Elements.All-append, Sums.sum_by-cons}, specs.{List.{All, flat_map}, Prelude.{Some, sum_by, ◌+◌}}}
+use Rattle.{tp_base.specs.declared.ids.TaskId.TaskId, tp_graph.specs.{Graphs.TaskGraph, Left.{AreResults, result_of}, Serial.Results}}
+use Rattle.{tp_board.specs.{Numbers.ShareNumbers, Reopening.begun_anew}, tp_node.specs.{Locals.Numbers, Nodes.{NodeState, anew}}}
 
 -- the images of a list, and of one more element
 pub mapped-more : {X Y : Type 0} (f : X → Y) (xs : List X) (x : X) (made new : List Y) (last : Y)
@@ -26,6 +24,13 @@ module _ {G : Type 0} where
 
   abbrev pub results_of : NodeState G → List (TaskId × Numbers)
   results_of n = n.state.store.results
+
+  -- The results of the nodes that are left are those of the next one and of the rest.
+  pub results_left : (n : NodeState G) (left rest : List (NodeState G)) → left ≡ n ∷ rest
+      → sum_by (λ (m : NodeState G). length (results_of m)) left
+      ≡ length (results_of n) + sum_by (λ (m : NodeState G). length (results_of m)) rest
+  results_left n left rest e =
+      ap (sum_by (λ (m : NodeState G). length (results_of m))) e ∙ sum_by-cons (λ (m : NodeState G). length (results_of m)) n rest
 
   -- the results of one more node
   pub results-more : (nodes : List (NodeState G)) (n : NodeState G) (results new more : Results)

@@ -1,13 +1,3 @@
-pub mod FiniteSets
-pub mod FiniteMaps
-pub mod Refusals
-pub mod Idle
-pub mod Right
-pub mod Putting
-pub mod Kept
-pub mod Brought
-pub mod Answering
-pub mod Turns
-pub mod Begins
+pub mod Lemmas
+pub mod Finite
 pub mod Gathering
-pub mod Running

@@ -1,11 +1,9 @@
 -- The effects of those calls of a node that return more than success.
 use Rattle.std.specs.Prelude.{ℕ, ◌≡◌, List, [], ◌∷◌, Bool, MatchBool, MatchOption, Some, Result, Err, IfErr, map}
 use Rattle.tp_base.specs.{Checks.{Check, first_refusal}, declared.refusal.Refusal.{Refusal, TheVariants.NoMemory}}
-use Rattle.tp_board.specs.{Calls.Appends, Numbers.receiving, States.BoardState}
-use Rattle.tp_graph.specs.{Carried.{Begun, Carried}, Graphs.TaskGraph}
-use Rattle.tp_node.specs.Nodes.{HasNoSeed, IsNextSeed, NodeState, after, begun_with, event_of, seeded, seeding, with_received}
-use Rattle.tp_node.specs.PoolLinks.{PoolLinkState, generation_of}
-use Rattle.tp_slots.specs.Content.{front}
+use Rattle.{tp_board.specs.{Calls.Appends, Numbers.receiving, States.BoardState}, tp_graph.specs.Carried.{Begun, Carried}}
+use Rattle.{tp_graph.specs.Graphs.TaskGraph, tp_node.specs.Nodes.{HasNoSeed, IsNextSeed, NodeState, after, begun_with, event_of, seeded}}
+use Rattle.{tp_node.specs.{Nodes.{seeding, with_received}, PoolLinks.{PoolLinkState, generation_of}}, tp_slots.specs.Content.front}
 use Rattle.tp_store.specs.Content.{values_of}
 use Rattle.tp_base.specs.declared.step.Step.TheVariants as steps
 

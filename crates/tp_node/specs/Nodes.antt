@@ -1,13 +1,12 @@
 -- What contracts see of a node, and how its calls change it.
 use Rattle.std.specs.{Coded.{Coded, code_by, coded×, coded_ℕ, coded_ℤ, coded_list}, Prelude.{ℕ, ◌+◌, ◌-◌, ◌≡◌, ◌<◌, ◌≤◌, List, true}}
 use Rattle.std.specs.Prelude.{Option, None, Some, length, is_some, MatchOption, if◌then◌else◌, slice_index_or, refl}
-use Rattle.tp_base.specs.{History.Event, declared.{ids.TaskId.TaskId, step.Step.Step}}
-use Rattle.tp_board.specs.Numbers.{ShareNumbers, ending, event, node_at, numbers_after, first_numbers}
-use Rattle.tp_graph.specs.{Carried.Carried, Graphs.TaskGraph, Left.AreResults, Values.value_of, declared.feed.Feed.Feed}
-use Rattle.tp_node.specs.Actions.{Actions, without_opening, with_named, without_named, with_message, without_message, Brought}
-use Rattle.tp_node.specs.Locals.{LocalState, Numbers, first_state, pending_here, state_code}
-use Rattle.tp_store.specs.Content.{Task, Content, task_of, with_inserted, with_delivered, with_begun, with_done}
-use Rattle.tp_wave.specs.Machine.{pending_at}
+use Rattle.{tp_base.specs.{History.Event, declared.{ids.TaskId.TaskId, step.Step.Step}}, tp_board.specs.Numbers.{ShareNumbers, ending}}
+use Rattle.{tp_board.specs.Numbers.{event, node_at, numbers_after, first_numbers}, tp_graph.specs.{Carried.Carried, Graphs.TaskGraph}}
+use Rattle.{tp_graph.specs.{Left.AreResults, Values.value_of, declared.feed.Feed.Feed}, tp_node.specs.Actions.{Actions, without_opening}}
+use Rattle.tp_node.specs.{Actions.{with_named, without_named, with_message, without_message, Brought}, Locals.{LocalState, Numbers}}
+use Rattle.{tp_node.specs.Locals.{first_state, pending_here, state_code}, tp_store.specs.Content.{Task, Content, task_of, with_inserted}}
+use Rattle.{tp_store.specs.Content.{with_delivered, with_begun, with_done}, tp_wave.specs.Machine.pending_at}
 use Rattle.tp_base.specs.declared.step.Step.TheVariants as steps
 
 -- A node has the graph that its pool computes, and the number of nodes; its own state; and its shares' numbers, which include its

@@ -1,7 +1,6 @@
 -- A new pool.
-use Rattle.std.specs.Prelude.{ℕ, List, map}
-use Rattle.tp_board.specs.Numbers.{first_links, first_shares}
-use Rattle.tp_node.specs.{Nodes.{NodeState, first_node}, PoolLinks.{PoolLinkState, empty_pool_link}}
+use Rattle.{std.specs.Prelude.{ℕ, List, map}, tp_board.specs.Numbers.{first_links, first_shares}, tp_node.specs.Nodes.NodeState}
+use Rattle.tp_node.specs.{Nodes.first_node, PoolLinks.{PoolLinkState, empty_pool_link}}
 
 -- n new nodes, in rising order
 abbrev pub first_nodes : {G : Type 0} → G → ℕ → List (NodeState G)

@@ -2,12 +2,11 @@
 use Rattle.std.specs.Prelude.{ℕ, ◌==◌, ◌&&◌, ◌||◌, List, [], ◌∷◌, Bool, not, is_some, is_none, slice_index_or, None}
 use Rattle.tp_base.specs.{Checks.Check, declared.{ids.TaskId.TaskId, limits.TheConstants.MAX_LIVE_TASKS}}
 use Rattle.tp_base.specs.declared.refusal.Refusal.TheVariants.{TaskKnown, WrongLife, Inactive, ActionKnown, NoAction, SlotTaken, Stranger}
-use Rattle.tp_base.specs.declared.refusal.Refusal.TheVariants.{StoreFull}
-use Rattle.tp_board.specs.{Routes.is_send_between, States.{BoardState, full_check}}
-use Rattle.tp_graph.specs.{Carried.Carried, Graphs.TaskGraph, declared.feed.Feed.Feed}
+use Rattle.{tp_base.specs.declared.refusal.Refusal.TheVariants.StoreFull, tp_board.specs.{Routes.is_send_between, States.BoardState}}
+use Rattle.{tp_board.specs.States.full_check, tp_graph.specs.{Carried.Carried, Graphs.TaskGraph, declared.feed.Feed.Feed}}
 use Rattle.tp_node.specs.{Actions.has_message, Locals.{LocalState, is_inactive}, Nodes.NodeState, PoolLinks.{PoolLinkState, generation_of}}
-use Rattle.tp_store.specs.{Content.{Content, task_of, is_running, has_begun, unfinished}, Sound.passes}
-use Rattle.tp_wave.specs.{Generations.present, Machine.steps_of, Steps.any}
+use Rattle.{tp_store.specs.{Content.{Content, task_of, is_running, has_begun, unfinished}, Sound.passes}, tp_wave.specs.Generations.present}
+use Rattle.tp_wave.specs.{Machine.steps_of, Steps.any}
 use Rattle.std.specs.FinSet as set
 
 -- ---- tests

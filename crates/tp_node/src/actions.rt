@@ -32,7 +32,7 @@ impl Model for OpenActions {
 
 impl OpenActions {
     /// Returns the actions of a new node: only the opening one is open. It allocates nothing.
-    #[tactic(auto, using(crate::proofs::FiniteSets::len_empty, crate::proofs::FiniteMaps::feeds_empty))]
+    #[tactic(auto, using(crate::proofs::Finite::len_empty, crate::proofs::Finite::feeds_empty))]
     pub(crate) fn new(alloc: Global) -> Self
         ensures first { result ≡ first_actions }
         ensures counted { open_count result ≡ 1 }
@@ -55,7 +55,7 @@ impl OpenActions {
     }
 
     /// Returns whether a named action is open.
-    #[tactic(auto, using(crate::proofs::FiniteSets::len_some))]
+    #[tactic(auto, using(crate::proofs::Finite::len_some))]
     pub(crate) fn has_named(&self, action: ActionId) -> bool
         ensures open { result ≡ set.contains self.now.named action.0 }
         ensures counted { IsTrue result → opening_count self.now < open_count self.now }
@@ -64,7 +64,7 @@ impl OpenActions {
     }
 
     /// Returns whether the action of a message is open.
-    #[tactic(auto, using(crate::proofs::FiniteMaps::feeds_some))]
+    #[tactic(auto, using(crate::proofs::Finite::feeds_some))]
     pub(crate) fn has_message(&self, message: MessageId) -> bool
         ensures open { result ≡ has_message self.now message.0 }
         ensures counted { IsTrue result → opening_count self.now < open_count self.now }
@@ -83,7 +83,7 @@ impl OpenActions {
     }
 
     /// Opens a named action, which allocates.
-    #[tactic(auto, using(crate::proofs::FiniteSets::len_with))]
+    #[tactic(auto, using(crate::proofs::Finite::len_with))]
     pub(crate) fn open_named(&mut self, action: ActionId) -> Result<(), AllocError>
         requires { set.contains self.old.named action.0 ≡ false }
         ensures opened { OnOk result (self.new ≡ with_named self.old action.0) }
@@ -95,7 +95,7 @@ impl OpenActions {
     }
 
     /// Closes a named action.
-    #[tactic(auto, using(crate::proofs::FiniteSets::len_without))]
+    #[tactic(auto, using(crate::proofs::Finite::len_without))]
     pub(crate) fn close_named(&mut self, action: ActionId)
         requires { IsTrue (set.contains self.old.named action.0) }
         ensures closed { self.new ≡ without_named self.old action.0 }
@@ -106,7 +106,7 @@ impl OpenActions {
     }
 
     /// Opens the action of a message that brought a feed, which allocates.
-    #[tactic(auto, using(crate::proofs::FiniteMaps::feeds_with))]
+    #[tactic(auto, using(crate::proofs::Finite::feeds_with))]
     pub(crate) fn open_message(&mut self, message: MessageId, feed: Feed) -> Result<(), AllocError>
         requires { has_message self.old message.0 ≡ false }
         ensures opened { OnOk result (self.new ≡ with_message self.old message.0 feed) }
@@ -118,7 +118,7 @@ impl OpenActions {
     }
 
     /// Closes the action of a message.
-    #[tactic(auto, using(crate::proofs::FiniteMaps::feeds_without))]
+    #[tactic(auto, using(crate::proofs::Finite::feeds_without))]
     pub(crate) fn close_message(&mut self, message: MessageId)
         requires { IsTrue (has_message self.old message.0) }
         ensures closed { self.new ≡ without_message self.old message.0 }

@@ -14,10 +14,9 @@ pub(crate) struct FeedMap {
 }
 
 impl Model for FeedMap {
-    ghost use Rattle.std.specs.{Coded.coded_ℕ, Ordering.nat_cmp};
-    ghost use Rattle.std.specs.FinMap as finite;
-    ghost use Rattle.tp_graph.specs.declared.feed.Feed.{Feed as FeedSeen};
+    ghost use Rattle.{std.specs.{Coded.coded_ℕ, Ordering.nat_cmp}, tp_graph.specs.declared.feed.Feed.Feed as FeedSeen};
     ghost use Rattle.tp_node.specs.Actions.{feed_code};
+    ghost use Rattle.std.specs.FinMap as finite;
 
     ghost Value = { finite.FinMap nat_cmp FeedSeen };
 

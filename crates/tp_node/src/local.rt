@@ -1,17 +1,14 @@
 //! A node without ledgers: its store, its open actions and its monitor.
-ghost use Rattle.std.specs.Prelude.{◌≡◌, ◌+◌, ◌≤◌, ◌<◌, true, None, Some, map, unwrap_or, is_some, OnOk, OnErr, IfOk, IfErr, IfSome};
-ghost use Rattle.std.specs.Prelude.{OnSome, IsTrue, MatchOption};
-ghost use Rattle.std.specs.FinSet as set;
-ghost use Rattle.std.specs.{Option.option_map, Result.result_err};
-ghost use Rattle.tp_base.specs.Checks.{first_refusal};
-ghost use Rattle.tp_monitor.specs.{Monitors.IsWithinLimits, declared.TaskpoolState.TheVariants.Terminated};
-ghost use Rattle.tp_slots.specs.Content.{front};
-ghost use Rattle.tp_store.specs.Content.{with_inserted, with_delivered, with_begun, with_done, delivered_to, values_of, counts_of, task_of};
-ghost use Rattle.tp_store.specs.{Content.{life_of, unfinished, refusal_of_done, inserted_by}, Sound.IsSound};
-ghost use Rattle.tp_store.specs.declared.life.Life.TheVariants as lives;
+ghost use Rattle.std.specs.{Option.option_map, Prelude.{◌≡◌, ◌+◌, ◌≤◌, ◌<◌, true, None, Some, map, unwrap_or, is_some, OnOk, OnErr, IfOk}};
+ghost use Rattle.{std.specs.{Prelude.{IfErr, IfSome, OnSome, IsTrue, MatchOption}, Result.result_err}, tp_base.specs.Checks.first_refusal};
+ghost use Rattle.{tp_monitor.specs.{Monitors.IsWithinLimits, declared.TaskpoolState.TheVariants.Terminated}, tp_slots.specs.Content.front};
 ghost use Rattle.tp_node.specs.Actions.{open_count, without_opening, with_named, without_named, with_message, without_message, has_message};
 ghost use Rattle.tp_node.specs.Locals.{first_state, pending_here, is_live, standing, refusal_of_insertion, refusal_of_delivery};
 ghost use Rattle.tp_node.specs.Locals.{send_checks, receive_checks, end_checks, open_checks, close_checks, ready_checks, finish_checks};
+ghost use Rattle.tp_store.specs.Content.{with_inserted, with_delivered, with_begun, with_done, delivered_to, values_of, counts_of, task_of};
+ghost use Rattle.tp_store.specs.{Content.{life_of, unfinished, refusal_of_done, inserted_by}, Sound.IsSound};
+ghost use Rattle.std.specs.FinSet as set;
+ghost use Rattle.tp_store.specs.declared.life.Life.TheVariants as lives;
 
 use crate::actions::OpenActions;
 use crate::holder::Holder;
@@ -40,9 +37,8 @@ pub struct Local {
 }
 
 impl Model for Local {
-    ghost use Rattle.std.specs.Coded.{coded_list, coded_ℤ};
+    ghost use Rattle.{std.specs.Coded.{coded_list, coded_ℤ}, tp_store.specs.Content.unfinished};
     ghost use Rattle.tp_node.specs.{Actions.{open_count, opening_count}, Locals.{LocalState, state_code, IsCounted, state_of, Numbers}};
-    ghost use Rattle.tp_store.specs.Content.{unfinished};
 
     ghost Value = { LocalState Numbers };
 

@@ -3,8 +3,7 @@ ghost use Rattle.std.specs.{Prelude.{◌≡◌, ◌+◌, ◌-◌, ◌<◌, ◌==
 ghost use Rattle.tp_base.specs.{Checks.first_refusal, declared.Refusal.TheVariants.{WrongLife, HistoryFull}};
 ghost use Rattle.tp_monitor.specs.Monitors.{IsWithinLimits, first_numbers, ready_numbers, sent_numbers, received_numbers};
 ghost use Rattle.tp_monitor.specs.Monitors.{message_ended_numbers, monitored_pending, standing, is_idle};
-ghost use Rattle.tp_monitor.specs.declared.TaskpoolState.TheVariants.{Terminated};
-ghost use Rattle.tp_node.specs.NodeMonitors.{the_pool};
+ghost use Rattle.{tp_monitor.specs.declared.TaskpoolState.TheVariants.Terminated, tp_node.specs.NodeMonitors.the_pool};
 
 use std::marker::Model;
 use tp_base::{MAX_LIVE_TASKS, MAX_STEPS, PoolId, Refusal};
@@ -21,8 +20,7 @@ pub(crate) struct NodeMonitor {
 }
 
 impl Model for NodeMonitor {
-    ghost use Rattle.tp_monitor.specs.Monitors.{Monitored};
-    ghost use Rattle.tp_node.specs.NodeMonitors.{IsNodeMonitor};
+    ghost use Rattle.{tp_monitor.specs.Monitors.Monitored, tp_node.specs.NodeMonitors.IsNodeMonitor};
 
     ghost Value = { Monitored };
 

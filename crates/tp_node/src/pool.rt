@@ -1,7 +1,6 @@
 //! Opening a pool: its nodes, its links and its board.
 ghost use Rattle.std.specs.{List.All, Prelude.{◌≡◌, ◌≤◌, [], map, vec_len, IfErr, IfOk, None}};
-ghost use Rattle.tp_base.specs.declared.refusal.Refusal.TheVariants.{NoMemory};
-ghost use Rattle.tp_board.specs.Numbers.{first_links, first_numbers};
+ghost use Rattle.{tp_base.specs.declared.refusal.Refusal.TheVariants.NoMemory, tp_board.specs.Numbers.{first_links, first_numbers}};
 ghost use Rattle.tp_node.specs.{Nodes.first_node, PoolLinks.empty_pool_link, Pools.{first_nodes, first_pool_links}};
 
 use crate::node::Node;

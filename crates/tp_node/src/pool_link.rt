@@ -1,9 +1,8 @@
 //! A link of a pool: a queue of messages together with its share of the messages in flight.
 ghost use Rattle.std.specs.Prelude.{◌≡◌, ◌+◌, ◌<◌, ◌≤◌, ◌↔◌, [], ◌∷◌, ◌++◌, drop, length, option_copied, slice_get, IfErr, IfOk, IsOk};
-ghost use Rattle.std.specs.Prelude.{OnErr, OnOk, Some, IsTrue};
+ghost use Rattle.{std.specs.Prelude.{OnErr, OnOk, Some, IsTrue}, tp_graph.specs.{Carried.{Carried, IsFeed}, Values.value_of}};
 ghost use Rattle.tp_board.specs.{Calls.{AnswersFirst, Appends}, Numbers.{event, is_send, numbers_after, receiving, sending}};
 ghost use Rattle.tp_board.specs.States.{full_check};
-ghost use Rattle.tp_graph.specs.{Carried.{Carried, IsFeed}, Values.value_of};
 ghost use Rattle.tp_node.specs.PoolLinks.{IsOnWay, empty_pool_link, generation_of, link_of, message_on, with_message};
 ghost use Rattle.tp_wave.specs.{Generations.present, Machine.{is_send_to, steps_of, under_way}, Steps.{any, count}};
 

@@ -1,12 +1,11 @@
 //! Reopening a pool, which begins its next generation.
 ghost use Rattle.std.specs.{List.{All, flat_map}, Prelude.{◌≡◌, ◌≤◌, ◌<◌, ◌+◌, ◌^◌, [], ◌∷◌, ◌++◌, IfErr, IfOk, IsTrue, MatchOption}};
 ghost use Rattle.std.specs.{Prelude.{OnErr, OnOk, length, map, sum_by, vec_capacity, vec_len}, Result.result_err};
-ghost use Rattle.tp_base.specs.Checks.{first_refusal};
-ghost use Rattle.tp_base.specs.declared.step.Step.TheVariants as steps;
+ghost use Rattle.{tp_base.specs.Checks.first_refusal, tp_node.specs.{Calls.AnswersWithBoth, Nodes.{IsOfPool, anew}}};
 ghost use Rattle.tp_board.specs.{Calls.{AnswersFirst, Appends}, Fresh.HasRoom, Numbers.event, States.{full_check, with_event}};
 ghost use Rattle.tp_graph.specs.Left.{AreResults};
-ghost use Rattle.tp_node.specs.{Calls.AnswersWithBoth, Nodes.{IsOfPool, anew}};
 ghost use Rattle.tp_wave.specs.{Cut.IsQuietHistory, Generations.{present, present_events}, Machine.steps_of, Sums.is_ended};
+ghost use Rattle.tp_base.specs.declared.step.Step.TheVariants as steps;
 
 use crate::node::{Node, UnsharedNode};
 use crate::pool::Pool;

@@ -1,10 +1,9 @@
 //! The calls of a node that open and close actions, and the announcement of termination.
 ghost use Rattle.std.specs.Prelude.{◌≡◌, [], ◌∷◌, IfErr, OnErr, OnOk};
-ghost use Rattle.tp_board.specs.{Calls.{AnswersFirst, Appends}, States.{AnswersBy, IsAtPiece}};
+ghost use Rattle.{tp_board.specs.{Calls.{AnswersFirst, Appends}, States.{AnswersBy, IsAtPiece}}, tp_store.specs.Content.unfinished};
 ghost use Rattle.tp_monitor.specs.declared.state.TaskpoolState.TheVariants.{Terminated};
 ghost use Rattle.tp_node.specs.{Locals.{pending_here, standing, EachOnce}, Nodes.{HasNoSeed, closed_with, closing, closing_of, event_of}};
 ghost use Rattle.tp_node.specs.{Nodes.{made_ready, opened_with, opening_of, over}, Refused.{close_checks, open_checks, ready_checks}};
-ghost use Rattle.tp_store.specs.Content.{unfinished};
 
 use crate::node::Node;
 use tp_base::{ActionId, Refusal, Step};

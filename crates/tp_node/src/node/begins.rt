@@ -1,9 +1,7 @@
 //! Beginning several ready tasks at once.
 ghost use Rattle.std.specs.Prelude.{◌≡◌, ◌≤◌, ◌<◌, [], ◌∷◌, None, Some, min, IfErr, IfOk, IfSome, IsOk, MatchOption, OnErr};
-ghost use Rattle.tp_board.specs.{Calls.Appends, States.{AnswersBy, IsPastPiece, full_check}};
-ghost use Rattle.tp_node.specs.{Begins.{BeginsSome, ready_count}, Calls.Begins};
-ghost use Rattle.tp_slots.specs.Content.{front};
-ghost use Rattle.tp_store.specs.{Content.life_of, Sound.IsSound};
+ghost use Rattle.{tp_board.specs.{Calls.Appends, States.{AnswersBy, IsPastPiece, full_check}}, tp_slots.specs.Content.front};
+ghost use Rattle.{tp_node.specs.{Begins.{BeginsSome, ready_count}, Calls.Begins}, tp_store.specs.{Content.life_of, Sound.IsSound}};
 ghost use Rattle.tp_store.specs.declared.life.Life.TheVariants as lives;
 
 use crate::node::Node;

@@ -2,13 +2,11 @@
 ghost use Rattle.std.specs.Prelude.{◌≡◌, ◌≤◌, ◌<◌, ◌+◌, [], ◌∷◌, false, Some, None, slice_get, IfOk, IsTrue, MatchOption, OnErr, OnOk};
 ghost use Rattle.tp_base.specs.Checks.{first_refusal};
 ghost use Rattle.tp_board.specs.{Calls.{AnswersFirst, AnswersWith, Appends}, Numbers.{is_send, receiving, sending}};
-ghost use Rattle.tp_graph.specs.Carried.{IsFeed};
+ghost use Rattle.{tp_graph.specs.Carried.IsFeed, tp_wave.specs.{Generations.present, Machine.{is_send_to, steps_of}, Steps.{any, count}}};
 ghost use Rattle.tp_node.specs.{Actions.{has_message, without_message}, Calls.{Receives, Rests}, Feeds.{HasFeed, next_feed_of, next_home}};
 ghost use Rattle.tp_node.specs.{Feeds.passed_on, Nodes.{HasBrought, after, delivered_with, ending_of, event_of, putting_at, with_actions}};
 ghost use Rattle.tp_node.specs.{Nodes.with_sent, PoolLinks.{generation_of, message_on, with_message}, Refused.deliver_checks};
-ghost use Rattle.tp_node.specs.Refused.{message_checks, receive_checks, send_checks};
-ghost use Rattle.tp_store.specs.Content.{refusal_of_deliver};
-ghost use Rattle.tp_wave.specs.{Generations.present, Machine.{is_send_to, steps_of}, Steps.{any, count}};
+ghost use Rattle.{tp_node.specs.Refused.{message_checks, receive_checks, send_checks}, tp_store.specs.Content.refusal_of_deliver};
 
 use crate::node::Node;
 use crate::node::tasks::make_room;

@@ -1,17 +1,13 @@
 //! The calls of a node that insert, begin and finish tasks, and pass on their feeds within the node.
 ghost use Rattle.std.specs.Prelude.{◌≡◌, ◌≤◌, ◌<◌, ◌+◌, ◌-◌, ℕ, [], ◌∷◌, false, Some, None, if◌then◌else◌, is_some, IfErr, IfOk, IsTrue};
-ghost use Rattle.std.specs.Prelude.{MatchBool, MatchOption, OnErr, OnOk};
-ghost use Rattle.tp_base.specs.declared.refusal.Refusal.TheVariants.{NoMemory, StoreFull, WrongLife};
+ghost use Rattle.{std.specs.Prelude.{MatchBool, MatchOption, OnErr, OnOk}, tp_graph.specs.{Carried.IsFeed, Left.left_of, Values.IsInput}};
+ghost use Rattle.tp_base.specs.{Checks.first_refusal, declared.refusal.Refusal.TheVariants.{NoMemory, StoreFull, WrongLife}};
 ghost use Rattle.tp_board.specs.{Calls.{AnswersFirst, AnswersByWith, Appends}, States.{AnswersBy, IsAtPiece, IsPastPiece, full_check}};
-ghost use Rattle.tp_graph.specs.{Carried.IsFeed, Left.left_of, Values.IsInput};
 ghost use Rattle.tp_node.specs.{Calls.{Begins, Rests, SeedsIf}, Feeds.{HasFeed, next_feed_of, next_home, passed_on}, Nodes.HasNoSeed};
 ghost use Rattle.tp_node.specs.Nodes.{IsFirst, IsNextSeed, IsSeed, IsSeedOf, done_with, event_of, fed_with, inserting, putting_at, seeded};
 ghost use Rattle.tp_node.specs.{Nodes.{seeding, task_at}, Refused.{begin_checks, done_checks, feed_checks, lacks_place, runs, seed_checks}};
-ghost use Rattle.tp_node.specs.Refused.{slot_checks};
-ghost use Rattle.tp_slots.specs.Content.{front};
-ghost use Rattle.tp_store.specs.Content.{refusal_of_deliver, task_of};
+ghost use Rattle.{tp_node.specs.Refused.slot_checks, tp_slots.specs.Content.front, tp_store.specs.Content.{refusal_of_deliver, task_of}};
 ghost use Rattle.tp_base.specs.declared.step.Step.TheVariants as steps;
-ghost use Rattle.tp_base.specs.Checks.{first_refusal};
 
 use crate::Local;
 use crate::node::Node;

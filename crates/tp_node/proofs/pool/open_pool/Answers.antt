@@ -1,6 +1,4 @@
-use Rattle.std.proofs.Common.{◌∙◌, ap, map}
-use Rattle.tp_board.specs.Numbers.{LinkNumbers, ShareNumbers}
-use Rattle.tp_node.specs.{Nodes.first_node, PoolLinks.empty_pool_link}
+use Rattle.tp_node.{proofs.Lemmas.{◌∙◌, ap, map, LinkNumbers, ShareNumbers}, specs.{Nodes.first_node, PoolLinks.empty_pool_link}}
 use Rattle.tp_node.proofs.pool.open_pool.Goals as goal
 
 pub open_parts-requires-clause-first : goal.open_parts-requires-clause-first

@@ -1,9 +1,7 @@
-use Rattle.std.proofs.{Common.{◌≡◌, ◌∷◌, ◌++◌, [], suc, sym, ap, ◌∙◌, arith, length, map}, lemmas.List.Elements.All-rest}
-use Rattle.std.specs.Vec.Iter.{into_iter_items}
-use Rattle.tp_node.specs.Nodes.{IsOfPool, NodeState}
-use Rattle.tp_node.proofs.reopening.put_together.Goals as goal
+use Rattle.{std.proofs.lemmas.List.Elements.All-rest, tp_node.proofs.reopening.put_together.Goals.loop-left-preserved as goal}
+use Rattle.tp_node.proofs.Lemmas.{◌≡◌, ◌∷◌, ◌++◌, [], suc, sym, ap, ◌∙◌, arith, length, map, into_iter_items, IsOfPool, NodeState}
 
-pub loop-left-preserved : goal.loop-left-preserved
+pub loop-left-preserved : goal
 loop-left-preserved g c =
     let numbers = λ (n : NodeState g.row.G.Denot). n.numbers in
     let rest = into_iter_items c.next.new.self in

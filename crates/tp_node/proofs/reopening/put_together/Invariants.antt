@@ -1,8 +1,7 @@
 use Rattle.std.specs.{List.All, Prelude.{◌≡◌, ◌+◌, ◌≤◌, length, map, vec_capacity, vec_len}, Vec.Iter.into_iter_items}
-use Rattle.tp_node.specs.Nodes.{IsOfPool}
-use Rattle.tp_node.proofs.reopening.put_together.Given as goal
+use Rattle.tp_node.{proofs.reopening.put_together.Given.invariant-loop-left as goal, specs.Nodes.IsOfPool}
 
-abbrev pub invariant-loop-left : goal.invariant-loop-left
+abbrev pub invariant-loop-left : goal
 invariant-loop-left g l =
     record {
       nodes : l.nodes.items ≡ l.yielded;

@@ -1,6 +1,4 @@
-use Rattle.std.proofs.Common.{◌∙◌, ap, sym, map}
-use Rattle.tp_board.specs.Reopening.{begun_anew}
-use Rattle.tp_node.{proofs.Gathering.numbers_anew, specs.Nodes.NodeState}
+use Rattle.{tp_board.specs.Reopening.begun_anew, tp_node.proofs.{Gathering.numbers_anew, Lemmas.{◌∙◌, ap, sym, map, NodeState}}}
 use Rattle.tp_node.proofs.reopening.reopen_nodes.Goals as goal
 
 pub put_together-requires-clause-first : goal.put_together-requires-clause-first

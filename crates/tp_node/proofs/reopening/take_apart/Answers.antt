@@ -1,19 +1,14 @@
-use Rattle.std.proofs.Common.{rules, suc, List, ◌≡◌, ◌+◌, ◌∷◌, [], ◌∙◌, ap, arith, length, sym, subst, vec_len}
+use Rattle.std.proofs.Common.{rules, suc, List, ◌≡◌, ◌∷◌, [], ◌∙◌, ap, arith, length, sym, subst, vec_len}
 use Rattle.std.proofs.lemmas.{Iterator.{Adapters.YieldsList-from_vec, Consumers.YieldsList-end}, List.Elements.{All-append, All-cons}}
-use Rattle.std.{proofs.lemmas.List.{Elements.All-nil, Sums.sum_by-cons}, specs.{List.All, Prelude.sum_by, Vec.Iter.into_iter_items}}
-use Rattle.tp_node.{proofs.Gathering.{All-of_map, mapped-more, results-more, results_of, right-more}, specs.Nodes.{IsOfPool, NodeState}}
-use Rattle.tp_node.specs.Nodes.{anew}
+use Rattle.{std.{proofs.lemmas.List.Elements.All-nil, specs.{List.All, Vec.Iter.into_iter_items}}, tp_node.specs.Nodes.{NodeState, anew}}
+use Rattle.tp_node.{proofs.Gathering.{All-of_map, mapped-more, results_left, results-more, results_of, right-more}, specs.Nodes.IsOfPool}
 use Rattle.tp_node.proofs.reopening.take_apart.Goals as goal
 
 pub put_behind-requires : goal.put_behind-requires
 put_behind-requires g c =
     let more : vec_len c.apart-share.result.1 ≡ length (results_of c.in-Some.node) =
     search rules ∙ ap length c.apart-share.ensures.results in
-    let left : sum_by (λ (n : NodeState g.row.G.Denot). length (results_of n)) (into_iter_items c.loop-node.node-iterator)
-    ≡ length (results_of c.in-Some.node) + sum_by (λ (n : NodeState g.row.G.Denot). length (results_of n))
-    (into_iter_items c.next.new.self) =
-    ap (sum_by (λ (n : NodeState g.row.G.Denot). length (results_of n))) c.in-Some.ensures.steps.0
-    ∙ sum_by-cons (λ (n : NodeState g.row.G.Denot). length (results_of n)) c.in-Some.node (into_iter_items c.next.new.self) in
+    let left = results_left c.in-Some.node (into_iter_items c.loop-node.node-iterator) _ c.in-Some.ensures.steps.0 in
     omega (arith, more, left, c.loop-node.invariant.results_room)
 
 pub returns-clause-right : goal.returns-clause-right
@@ -33,10 +28,7 @@ loop-node-preserved g c =
     let yielded = c.loop-node.yielded in
     let kept = c.loop-node.invariant in
     let more : vec_len c.apart-share.result.1 ≡ length (results_of node) = search rules ∙ ap length c.apart-share.ensures.results in
-    let left : sum_by (λ (n : NodeState g.row.G.Denot). length (results_of n)) (into_iter_items c.loop-node.node-iterator)
-    ≡ length (results_of node) + sum_by (λ (n : NodeState g.row.G.Denot). length (results_of n)) (into_iter_items c.next.new.self) =
-    ap (sum_by (λ (n : NodeState g.row.G.Denot). length (results_of n))) c.in-Some.ensures.steps.0
-    ∙ sum_by-cons (λ (n : NodeState g.row.G.Denot). length (results_of n)) node (into_iter_items c.next.new.self) in
+    let left = results_left node (into_iter_items c.loop-node.node-iterator) _ c.in-Some.ensures.steps.0 in
     let fewer : length (into_iter_items c.loop-node.node-iterator) ≡ suc (length (into_iter_items c.next.new.self)) =
     ap length c.in-Some.ensures.steps.0 in
     let P = IsOfPool g.K.Ledgers.names.nodes {G = g.row.G.Denot} in

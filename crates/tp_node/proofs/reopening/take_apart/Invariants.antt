@@ -1,6 +1,5 @@
 use Rattle.std.specs.{List.{All, flat_map}, Prelude.{◌≡◌, ◌≤◌, ◌+◌, length, map, sum_by, vec_capacity, vec_len}, Vec.Iter.into_iter_items}
-use Rattle.tp_graph.specs.Left.{AreResults}
-use Rattle.tp_node.specs.Nodes.{IsOfPool, anew}
+use Rattle.{tp_graph.specs.Left.AreResults, tp_node.specs.Nodes.{IsOfPool, anew}}
 use Rattle.tp_node.proofs.reopening.take_apart.Given as goal
 
 abbrev pub invariant-loop-node : goal.invariant-loop-node

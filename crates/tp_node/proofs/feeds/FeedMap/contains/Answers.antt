@@ -1,6 +1,4 @@
-use Rattle.std.proofs.Common.{ap, is_some, sym, ◌∙◌}
-use Rattle.tp_node.proofs.FiniteMaps.{get-feeds}
-use Rattle.tp_node.proofs.feeds.FeedMap.contains.Goals as goal
+use Rattle.{std.proofs.Common.{ap, is_some, sym, ◌∙◌}, tp_node.proofs.{Finite.get-feeds, feeds.FeedMap.contains.Goals.returns as goal}}
 
-pub returns : goal.returns
+pub returns : goal
 returns c = rw (← c.self.view_is) (c.contains_key.ensures ∙ ap is_some (sym (get-feeds c.self.inside.feeds.entries c.args.number)))

@@ -1,6 +1,5 @@
-use Rattle.tp_node.proofs.FiniteMaps.{feeds-remove}
-use Rattle.tp_node.proofs.feeds.FeedMap.remove.Goals as goal
+use Rattle.tp_node.proofs.{Finite.feeds-remove, feeds.FeedMap.remove.Goals.returns as goal}
 
-pub returns : goal.returns
+pub returns : goal
 returns c = rw (← c.self.view_is)
     (feeds-remove c.self.inside.feeds.entries c.remove.new.self.entries c.args.number c.remove.ensures.updates.0)

@@ -1,5 +1,4 @@
-use Rattle.std.{proofs.Common.{◌<◌, subst}, specs.Prelude.OnSome}
-use Rattle.tp_node.{proofs.Idle.begun_counts, specs.{Actions.open_count, Locals.{LocalState, pending_here, Numbers}}}
+use Rattle.tp_node.{proofs.Lemmas.{◌<◌, subst, OnSome, begun_counts, LocalState, pending_here, Numbers}, specs.Actions.open_count}
 use Rattle.tp_node.proofs.local.Local.begin.Goals as goal
 
 pub returns-clause-active : goal.returns-clause-active

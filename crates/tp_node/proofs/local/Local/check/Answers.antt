@@ -1,10 +1,8 @@
-use Rattle.std.proofs.Common.{sym, ap, ◌∙◌}
-use Rattle.tp_node.proofs.Refusals.{delivery_active, delivery_of_known, refusal_is}
-use Rattle.tp_node.proofs.local.Local.check.Goals as goal
+use Rattle.{std.proofs.Common.{sym, ap, ◌∙◌}, tp_node.proofs.Lemmas.{delivery_active, delivery_of_known, refusal_is}}
 use Rattle.tp_node.proofs.local.Local.check.Goals.{else-pending-eq0-via-then-pending-eq0+else-not-is_known}
-use Rattle.tp_node.proofs.local.Local.check.Goals.{else-pending-eq0-via-else-pending-eq0}
+use Rattle.tp_node.proofs.local.Local.check.Goals.{else-pending-eq0-via-else-pending-eq0, returns as goal}
 
-pub returns : goal.returns
+pub returns : goal
 returns c =
     let store = ap (λ l. l.store) (sym c.self.view_is) in
     refusal_is _ _ c.check.ensures

@@ -1,6 +1,4 @@
-use Rattle.std.proofs.{Common.{sym, ap, ◌∙◌, unwrap_or}, lemmas.Result.err_from_is_err_and}
-use Rattle.tp_base.specs.declared.Refusal.TheVariants.{NoMemory}
-use Rattle.tp_node.proofs.Refusals.{insertion_is}
+use Rattle.{std.proofs.lemmas.Result.err_from_is_err_and, tp_node.proofs.Lemmas.{sym, ap, ◌∙◌, unwrap_or, NoMemory, insertion_is}}
 use Rattle.tp_node.proofs.local.Local.insert.Goals as goal
 
 pub returns-in_err-insert-clause-refused : goal.returns-in_err-insert-clause-refused

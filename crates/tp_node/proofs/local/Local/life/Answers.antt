@@ -1,6 +1,4 @@
-use Rattle.std.{proofs.Common.{◌<◌, arith, subst}, specs.Prelude.IsTrue}
-use Rattle.tp_node.{proofs.Idle.live_counts, specs.Locals.{LocalState, is_live, pending_here, Numbers}}
-use Rattle.tp_store.specs.Content.{unfinished}
+use Rattle.tp_node.proofs.Lemmas.{◌<◌, arith, subst, IsTrue, live_counts, LocalState, is_live, pending_here, Numbers, unfinished}
 use Rattle.tp_node.proofs.local.Local.life.Goals as goal
 
 pub returns-clause-active : goal.returns-clause-active

@@ -1,6 +1,4 @@
-use Rattle.std.proofs.Common.{arith, ap, sym, ◌∙◌}
-use Rattle.tp_node.specs.Locals.{Numbers}
-use Rattle.tp_store.{proofs.Changes.none_live, specs.Content.unfinished}
+use Rattle.{tp_node.proofs.Lemmas.{arith, ap, sym, ◌∙◌, Numbers, unfinished}, tp_store.proofs.Changes.none_live}
 use Rattle.tp_node.proofs.local.Local.reopen.Goals as goal
 
 pub invariant_of-self : goal.invariant_of-self

@@ -1,6 +1,4 @@
-use Rattle.std.proofs.Common.{◌≡◌, ◌+◌, ◌<◌, ◌∙◌, List, Option, arith, subst, sym}
-use Rattle.tp_graph.specs.Carried.{Begun}
-use Rattle.tp_node.{proofs.Begins.{HasBegun, begins_one}, specs.Begins.{BeginsSome, ready_count}}
+use Rattle.tp_node.proofs.Lemmas.{◌≡◌, ◌+◌, ◌<◌, ◌∙◌, List, Option, arith, subst, sym, Begun, HasBegun, begins_one, BeginsSome, ready_count}
 use Rattle.tp_node.proofs.node.Node.begin_each.Goals as goal
 
 pub loop-preserved : goal.loop-preserved

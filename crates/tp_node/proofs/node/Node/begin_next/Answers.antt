@@ -1,4 +1,4 @@
-use Rattle.tp_node.proofs.{Kept.begun_keeps, Right.ready_inputs}
+use Rattle.tp_node.proofs.Lemmas.{begun_keeps, ready_inputs}
 use Rattle.tp_node.proofs.node.Node.begin_next.Goals as goal
 
 pub new-requires-clause-known : goal.new-requires-clause-known

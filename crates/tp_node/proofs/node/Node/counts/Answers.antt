@@ -1,7 +1,4 @@
-use Rattle.std.proofs.Common.{ap, ◌∙◌}
-use Rattle.tp_store.specs.Content.{counts_of}
-use Rattle.tp_node.specs.Nodes.{NodeState}
-use Rattle.tp_node.proofs.node.Node.counts.Goals as goal
+use Rattle.{tp_node.proofs.{Lemmas.{ap, ◌∙◌, NodeState}, node.Node.counts.Goals.returns as goal}, tp_store.specs.Content.counts_of}
 
-pub returns : goal.returns
+pub returns : goal
 returns g c = c.counts.ensures ∙ ap (λ (n : NodeState g.row.G.Denot). counts_of n.state.store) c.self.view_is

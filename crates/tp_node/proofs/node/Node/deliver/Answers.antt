@@ -1,7 +1,5 @@
-use Rattle.std.{proofs.Common.{◌<◌, subst, rules}, specs.Prelude.Err}
-use Rattle.tp_board.specs.Calls.{AnswersWith}
-use Rattle.tp_graph.specs.declared.feed.Feed.{Feed}
-use Rattle.tp_node.{proofs.{Answering.refused_with, Brought.brought_counts}, specs.{Nodes.{HasBrought, NodeState}, Refused.deliver_checks}}
+use Rattle.tp_node.proofs.Lemmas.{◌<◌, subst, rules, Err, AnswersWith, Feed, refused_with, brought_counts, HasBrought, NodeState}
+use Rattle.tp_node.specs.Refused.{deliver_checks}
 use Rattle.tp_node.proofs.node.Node.deliver.Goals as goal
 
 pub room_to_deliver-requires-clause-active : goal.room_to_deliver-requires-clause-active

@@ -1,7 +1,5 @@
-use Rattle.std.proofs.Common.{◌≡◌, IsTrue, Some, ap, subst, sym, ◌∙◌, rules}
-use Rattle.tp_base.specs.declared.ids.TaskId.{TaskId}
-use Rattle.tp_graph.{proofs.Left.result_left, specs.Left.{left_of, result_of}}
-use Rattle.tp_node.{proofs.{Kept.done_keeps, Running.{it_runs, running_done}}, specs.{Nodes.{NodeState, done_with}, Refused.runs}}
+use Rattle.{tp_graph.{proofs.Left.result_left, specs.Left.left_of}, tp_node.{proofs.Lemmas.{NodeState, runs}, specs.Nodes.done_with}}
+use Rattle.tp_node.proofs.Lemmas.{◌≡◌, IsTrue, Some, ap, subst, sym, ◌∙◌, rules, TaskId, result_of, done_keeps, it_runs, running_done}
 use Rattle.tp_node.proofs.node.Node.done.Goals as goal
 
 pub unreachable-requires : goal.unreachable-requires

@@ -1,5 +1,4 @@
-use Rattle.std.{proofs.Common.{subst, sym}, specs.Prelude.IsTrue}
-use Rattle.tp_node.{proofs.Brought.open_counts, specs.{Actions.has_message, Nodes.NodeState}}
+use Rattle.tp_node.proofs.Lemmas.{subst, sym, IsTrue, open_counts, has_message, NodeState}
 use Rattle.tp_node.proofs.node.Node.end.Goals as goal
 
 pub append_end-requires-clause-active : goal.append_end-requires-clause-active

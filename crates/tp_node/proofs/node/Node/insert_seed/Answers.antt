@@ -1,9 +1,7 @@
-use Rattle.std.proofs.Common.{◌≡◌, subst, sym}
-use Rattle.tp_base.specs.declared.step.Step.TheVariants.{Insert}
-use Rattle.tp_node.{proofs.Kept.seed_keeps, specs.Nodes.{NodeState, IsSeed, IsSeedOf, inserting, task_at}}
-use Rattle.tp_node.proofs.node.Node.insert_seed.Goals as goal
+use Rattle.{tp_base.specs.declared.step.Step.TheVariants.Insert, tp_node.proofs.node.Node.insert_seed.Goals.invariant_of-self-2 as goal}
+use Rattle.tp_node.{proofs.Lemmas.{◌≡◌, subst, sym, seed_keeps, NodeState, inserting, task_at}, specs.Nodes.{IsSeed, IsSeedOf}}
 
-pub invariant_of-self-2 : goal.invariant_of-self-2
+pub invariant_of-self-2 : goal
 invariant_of-self-2 g c =
     let seed : IsSeed (g.G.Graph.meaning c.self.inside.graph) c.self.inside.nodes c.self.inside.shares.node c.self.inside.local.store
     c.args.task =

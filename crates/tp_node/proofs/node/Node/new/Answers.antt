@@ -1,8 +1,7 @@
-use Rattle.std.proofs.Common.{arith, sym, ap, subst, ◌∙◌, length}
-use Rattle.tp_node.{proofs.Kept.{here_at_first, right_at_first}, specs.{Locals.{LocalState, Numbers}, Nodes.{AreHere, AreRightValues}}}
-use Rattle.tp_node.proofs.node.Node.new.Goals as goal
+use Rattle.{std.proofs.Common.{arith, sym, ap, subst, ◌∙◌, length}, tp_node.proofs.node.Node.new.Goals.invariant_of-result as goal}
+use Rattle.tp_node.{proofs.Lemmas.{here_at_first, right_at_first}, specs.{Locals.{LocalState, Numbers}, Nodes.{AreHere, AreRightValues}}}
 
-pub invariant_of-result : goal.invariant_of-result
+pub invariant_of-result : goal
 invariant_of-result g c = record {
   nodes = c.requires.pool.0;
   some = c.requires.pool.1;

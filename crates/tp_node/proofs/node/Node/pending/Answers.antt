@@ -1,5 +1,4 @@
-use Rattle.std.proofs.Common.{ap, sym, ◌∙◌}
-use Rattle.tp_node.specs.{Locals.pending_here, Nodes.NodeState}
+use Rattle.{std.proofs.Common.{ap, sym, ◌∙◌}, tp_node.specs.{Locals.pending_here, Nodes.NodeState}}
 use Rattle.tp_node.proofs.node.Node.pending.Goals as goal
 
 pub returns-clause-counted : goal.returns-clause-counted

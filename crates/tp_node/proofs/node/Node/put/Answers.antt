@@ -1,10 +1,6 @@
-use Rattle.std.proofs.{Common.{◌≡◌, ◌-◌, ◌+◌, ◌<◌, ◌∙◌, None, ap, subst, sym, is_some, unwrap_or}, lemmas.Result.err_from_is_err_and}
-use Rattle.std.specs.Prelude.{if◌then◌else◌}
-use Rattle.tp_base.specs.declared.{refusal.Refusal.TheVariants.NoMemory, step.Step.TheVariants.Supply}
-use Rattle.tp_graph.specs.Values.{IsInput}
-use Rattle.tp_node.{proofs.{Kept.{inserts_if, put_keeps}, Refusals.delivery_free}, specs.{Locals.pending_here, Nodes.NodeState}}
-use Rattle.tp_node.specs.Nodes.{inserting}
-use Rattle.tp_store.specs.Content.{inserted_by, refusal_of_deliver, task_of}
+use Rattle.{std.proofs.lemmas.Result.err_from_is_err_and, tp_base.specs.declared.step.Step.TheVariants.Supply, tp_node.proofs.Lemmas.◌≡◌}
+use Rattle.tp_node.proofs.Lemmas.{◌-◌, ◌+◌, ◌<◌, ◌∙◌, None, ap, subst, sym, is_some, unwrap_or, if◌then◌else◌, NoMemory, IsInput, put_keeps}
+use Rattle.tp_node.proofs.Lemmas.{inserts_if, delivery_free, pending_here, NodeState, inserting, inserted_by, refusal_of_deliver, task_of}
 use Rattle.tp_node.proofs.node.Node.put.Goals as goal
 
 pub invariant_of-self-2 : goal.invariant_of-self-2

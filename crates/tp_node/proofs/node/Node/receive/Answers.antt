@@ -1,6 +1,4 @@
-use Rattle.std.proofs.Common.{◌≡◌, arith, refl, sym, ap, ◌∙◌, rules}
-use Rattle.tp_board.specs.Numbers.{ShareNumbers}
-use Rattle.tp_node.{proofs.Answering.{brings, none_first, sent_first}, specs.Nodes.NodeState}
+use Rattle.tp_node.proofs.Lemmas.{◌≡◌, arith, refl, sym, ap, ◌∙◌, rules, ShareNumbers, brings, none_first, sent_first, NodeState}
 use Rattle.tp_node.proofs.node.Node.receive.Goals as goal
 
 pub returns-in_default-clause-received : goal.returns-in_default-clause-received

@@ -1,5 +1,4 @@
-use Rattle.std.proofs.Common.{ap, sym, ◌∙◌}
-use Rattle.tp_node.specs.Nodes.{NodeState}
+use Rattle.{std.proofs.Common.{ap, sym, ◌∙◌}, tp_node.specs.Nodes.NodeState}
 use Rattle.tp_node.proofs.node.Node.sent.Goals as goal
 
 pub returns-clause-counted : goal.returns-clause-counted

@@ -1,6 +1,4 @@
-use Rattle.std.{proofs.Common.{ap, ◌∙◌}, specs.Prelude.slice_get}
-use Rattle.tp_node.specs.PoolLinks.{PoolLinkState}
-use Rattle.tp_node.proofs.pool_link.PoolLink.front.Goals as goal
+use Rattle.tp_node.proofs.{Lemmas.{ap, ◌∙◌, slice_get, PoolLinkState}, pool_link.PoolLink.front.Goals.returns as goal}
 
-pub returns : goal.returns
+pub returns : goal
 returns g c = c.front.ensures ∙ ap (λ (w : PoolLinkState g.row.G.Denot). slice_get w.messages 0) c.self.view_is

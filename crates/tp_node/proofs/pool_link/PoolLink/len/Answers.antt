@@ -1,6 +1,4 @@
-use Rattle.std.proofs.Common.{ap, length, ◌∙◌}
-use Rattle.tp_node.specs.PoolLinks.{PoolLinkState}
-use Rattle.tp_node.proofs.pool_link.PoolLink.len.Goals as goal
+use Rattle.tp_node.proofs.{Lemmas.{ap, length, ◌∙◌, PoolLinkState}, pool_link.PoolLink.len.Goals.returns as goal}
 
-pub returns : goal.returns
+pub returns : goal
 returns g c = c.len.ensures ∙ ap (λ (w : PoolLinkState g.row.G.Denot). length w.messages) c.self.view_is

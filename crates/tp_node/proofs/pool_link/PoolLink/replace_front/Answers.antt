@@ -1,5 +1,4 @@
-use Rattle.std.proofs.Common.{ap, sym, ◌∙◌}
-use Rattle.tp_node.{proofs.Answering.pool_link_with_front, specs.PoolLinks.PoolLinkState}
+use Rattle.{std.proofs.Common.{ap, sym, ◌∙◌}, tp_node.{proofs.Lemmas.pool_link_with_front, specs.PoolLinks.PoolLinkState}}
 use Rattle.tp_node.proofs.pool_link.PoolLink.replace_front.Goals as goal
 
 pub invariant_of-self : goal.invariant_of-self

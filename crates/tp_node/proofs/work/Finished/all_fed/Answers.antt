@@ -1,5 +1,4 @@
-use Rattle.std.proofs.Common.{rules, tests}
-use Rattle.tp_node.proofs.work.Finished.all_fed.Goals as goal
+use Rattle.{std.proofs.Common.{rules, tests}, tp_node.proofs.work.Finished.all_fed.Goals.returns as goal}
 
-pub returns : goal.returns
+pub returns : goal
 returns g c = search (rules, tests)

@@ -1,6 +1,4 @@
-use Rattle.std.proofs.Common.{ap, ◌∙◌}
-use Rattle.tp_graph.specs.Carried.{Ran}
-use Rattle.tp_node.specs.Feeds.{next_feed_of}
+use Rattle.{std.proofs.Common.{ap, ◌∙◌}, tp_graph.specs.Carried.Ran, tp_node.specs.Feeds.next_feed_of}
 use Rattle.tp_node.proofs.work.Finished.next_feed.Goals as goal
 
 pub returns-clause-same : goal.returns-clause-same

@@ -1,7 +1,5 @@
-use Rattle.std.proofs.Common.{◌≡◌, arith, sym, ap, subst, ◌∙◌, length}
-use Rattle.tp_board.specs.Numbers.{ShareNumbers, first_numbers}
-use Rattle.tp_node.{proofs.Kept.{here_at_first, right_at_first}, specs.{Locals.{LocalState, Numbers}, Nodes.{AreHere, AreRightValues}}}
-use Rattle.tp_node.specs.Nodes.{NodeState}
+use Rattle.{tp_board.specs.Numbers.first_numbers, tp_node.proofs.Lemmas.{AreHere, AreRightValues, NodeState}}
+use Rattle.tp_node.proofs.Lemmas.{◌≡◌, arith, sym, ap, subst, ◌∙◌, length, ShareNumbers, here_at_first, right_at_first, LocalState, Numbers}
 use Rattle.tp_node.proofs.node.unshared.UnsharedNode.with_shares.Goals as goal
 
 pub invariant_of-result : goal.invariant_of-result

@@ -1,20 +1,80 @@
--- The result of beginning several tasks in a row.
-use Rattle.std.proofs.Common.{◌≡◌, ℕ, zero, suc, ◌+◌, ◌<◌, ◌≤◌, true, false, List, [], ◌∷◌, ◌++◌, map, take, drop, Option, Some, None}
-use Rattle.std.proofs.{Common.{is_some, unwrap_or, refl, sym, ap, subst, ◌∙◌, inl, inr, arith, count_by, add-one}, lemmas.Bool.cases_eq}
-use Rattle.std.{proofs.lemmas.{Bool.Decides.nat_tests, List.{length-append, map-append, reverse-append}}, specs.Option.option_map}
-use Rattle.std.specs.{Ordering.nat_cmp, Prelude.{IfSome, MatchOption, Result, Ok, max, nat_lt, reverse}}
-use Rattle.tp_base.specs.{History.Event, declared.{ids.TaskId.TaskId, refusal.Refusal.Refusal}}
-use Rattle.tp_board.{proofs.Answering.same_answer, specs.{Calls.Appends, Numbers.event, States.{AnswersBy, BoardState, full_check}}}
-use Rattle.tp_board.specs.States.{with_reserved}
-use Rattle.tp_graph.specs.Carried.{Begun}
-use Rattle.tp_node.{proofs.Right.{here, there}, specs.Begins.{AreWorksOf, BeginsSome, IsWorkOf, begins_of, begun_with_each, joined}}
-use Rattle.tp_node.specs.{Begins.{next_ready, ready_count}, Calls.{Begins, Rests}, Nodes.{NodeState, begun_with, event_of}}
-use Rattle.tp_slots.specs.Content.{front, without_front}
-use Rattle.tp_store.{proofs.Contents.{available, moves}, specs.Content.{Content, Task, begun, count_lives, is_ready, life_of, task_of}}
-use Rattle.tp_store.specs.{Content.{values_of, with_begun}, Sound.IsSound, declared.life.Life.TheVariants.{Ready, Running}}
-use Rattle.std.specs.FinMap as finite
-use Rattle.tp_base.specs.declared.step.Step.TheVariants as steps
+-- The lemmas that the answers of this crate use: the results of a node's turn and of beginning several tasks in a row; in
+-- the modules below, what its calls keep and what they refuse.
+use Rattle.tp_board.specs.declared.turn.Turn.TheVariants.{Idle}
+pub mod Keeping
+pub use Keeping.*
 
+-- ==== The result of a node's turn.
+-- ---- the turn of a node
+nothing : (old new : BoardState) → new ≡ old → Appends [] old new
+nothing old new same = rw same (record { history = refl; limit = refl; reserved = omega arith; fault = refl })
+
+one_event : (e : Event) (old new : BoardState) → new ≡ with_event e old → Appends (e ∷ []) old new
+one_event e old new is = rw is (record { history = refl; limit = refl; reserved = omega arith; fault = refl })
+
+when_none : {A : Type 0} (o : Option A) (P : Type 0) → (o ≡ None → P) → IfNone o P
+when_none None P f = f refl
+when_none (Some x) P f = tt
+
+when_some : {A : Type 0} (o : Option A) (P : A → Type 0) → ((x : A) → o ≡ Some x → P x) → IfSome o P
+when_some None P f = tt
+when_some (Some x) P f = f x refl
+
+-- if no fault was set, nothing is owed
+pub unset : {X : Type 0} (o : Option X) (P : Type 0) → is_some o ≡ false → IfSome o (λ _. P)
+unset None P none = tt
+unset (Some x) P none = absurd cc
+
+-- the node, one of this many, with a board that has no fault and goes from old to new, and the call returns r
+module _ {G K : Type 0} (node : NodeState G) {old new : BoardState} {r : Result (Turn K) Refusal} (sound : is_some old.fault ≡ false)
+    (turn : MakesFirst node.nodes node.numbers.node (turn_steps node.numbers.node) old new r) where
+  -- the first of its control steps that it may make
+  abbrev first_step : Option Step
+  first_step = find (may_make node.nodes node.numbers.node old.history) (turn_steps node.numbers.node)
+
+  is_first : first_step ≡ turn_of node old
+  is_first = sym (ap (λ fault. if fault then None else first_step) sound)
+
+  pub idle : IfNone (turn_of node old) ((r ≡ Ok Idle) × Appends [] old new)
+  idle = when_none (turn_of node old) ((r ≡ Ok Idle) × Appends [] old new) (λ is. let none = turn.none (is_first ∙ is) in
+      (none.0, nothing old new none.1))
+
+  pub appended : IfSome (turn_of node old) (λ s. OnOk r (Appends (control_event s ∷ []) old new))
+  appended =
+      when_some (turn_of node old) (λ s. OnOk r (Appends (control_event s ∷ []) old new))
+      (λ s is. on_ok_weaker r (one_event (control_event s) old new) (turn.some s (is_first ∙ is)).event)
+
+  pub answered : IfSome (turn_of node old) (λ s. IfOk r (IsMade (ends node.nodes old.history s)))
+  answered = when_some (turn_of node old) (λ s. IfOk r (IsMade (ends node.nodes old.history s))) (λ s is.
+      (turn.some s (is_first ∙ is)).answer)
+
+  pub refused : IfSome (turn_of node old) (λ s. AnswersBy (full_check 1 old ∷ []) 1 old r)
+  refused = when_some (turn_of node old) (λ s. AnswersBy (full_check 1 old ∷ []) 1 old r) (λ s is. (turn.some s (is_first ∙ is)).refusal)
+
+  unchanged_by : (o : Option Step) → turn_of node old ≡ o → OnErr r (new ≡ old)
+  unchanged_by None is = subst (λ (q : Result (Turn K) Refusal). OnErr q (new ≡ old)) (sym (turn.none (is_first ∙ is)).0) tt
+  unchanged_by (Some s) is = (turn.some s (is_first ∙ is)).refused
+
+  at_piece_by : (o : Option Step) → turn_of node old ≡ o → IfErr r (IsAtPiece old)
+  at_piece_by None is = subst (λ (q : Result (Turn K) Refusal). IfErr q (IsAtPiece old)) (sym (turn.none (is_first ∙ is)).0) tt
+  at_piece_by (Some s) is = (turn.some s (is_first ∙ is)).piece
+
+  pub at_piece : IfErr r (IsAtPiece old)
+  at_piece = at_piece_by (turn_of node old) refl
+
+  pub kept : OnErr r (Appends [] old new)
+  kept = on_err_weaker r (nothing old new) (unchanged_by (turn_of node old) refl)
+
+-- What is known of the turn is about the node and the board before it.
+pub turn_told : {G K : Type 0} {n i : ℕ} {start new : BoardState} {r : Result (Turn K) Refusal} (node : NodeState G) (old : BoardState)
+    → n ≡ node.nodes → i ≡ node.numbers.node → start ≡ old → MakesFirst n i (turn_steps i) start new r
+    → MakesFirst node.nodes node.numbers.node (turn_steps node.numbers.node) old new r
+turn_told {G} {K} {n} {i} {start} {new} {r} node old nodes number board turn =
+    subst (λ b. MakesFirst node.nodes node.numbers.node (turn_steps node.numbers.node) b new r) board
+    (subst (λ j. MakesFirst node.nodes j (turn_steps j) start new r) number
+    (subst (λ m. MakesFirst m i (turn_steps i) start new r) nodes turn))
+
+-- ==== The result of beginning several tasks in a row.
 -- ---- the lists of ready tasks
 joined_front : {X : Type 0} (rs : List (List X)) (x : X) → front rs ≡ Some x → joined rs ≡ x ∷ joined (without_front rs)
 joined_front [] x e = absurd cc
@@ -125,19 +185,6 @@ module _ {G : Type 0} where
     pub left : ready_count new + i ≡ ready_count old
     pub reserved : before.reserved ≤ later.reserved + i
 
-  pub none_begun : (n : NodeState G) (b : BoardState) → HasBegun n b 0 n b []
-  none_begun n b = record {
-    some = record {
-      number = refl;
-      works = tt;
-      events = record { history = refl; limit = refl; reserved = omega arith; fault = refl };
-      begun = refl;
-    };
-    rest = refl;
-    left = omega arith;
-    reserved = omega arith;
-  }
-
   module _ (old : NodeState G) (before : BoardState) (i : ℕ) (now : NodeState G) (mid : BoardState) (places : List (Option (Begun G)))
       (has : HasBegun old before i now mid places)
       (new : NodeState G) (later : BoardState) where
@@ -204,13 +251,7 @@ pub begins_reserved : {G : Type 0} (o : Option (Begun G)) (old new : NodeState G
     → MatchOption o ((front old.state.store.ready ≡ None) × (new ≡ old) × (later ≡ mid)) (Begins old new mid later)
     → MatchOption o ((front old.state.store.ready ≡ None) × Rests old new before later) (Begins old new before later)
 begins_reserved None old new before mid later more is begins =
-    let none : Appends [] mid later = record {
-      history = ap (λ (z : BoardState). z.history) begins.2;
-      limit = ap (λ (z : BoardState). z.limit) begins.2;
-      reserved = let e = ap (λ (z : BoardState). z.reserved) begins.2 in omega (arith, e);
-      fault = ap (λ (z : BoardState). z.fault) begins.2;
-    } in
-    (begins.0, (from_reserved [] more before mid later is none, begins.1))
+    (begins.0, (from_reserved [] more before mid later is (nothing mid later begins.2), begins.1))
 begins_reserved (Some work) old new before mid later more is begins = record {
   first = begins.first;
   graph = begins.graph;
