@@ -46,16 +46,14 @@ agrees_inserted : (c : Content ℕ) (p v : ℕ) (n : Standing) (o : Option ℕ) 
 agrees_inserted c p v Gone o l free a = a
 agrees_inserted c p v (Held q f) o l free a = elim (cases_eq q p) [
   | inl same ↦ let none : o ≡ None = sym a.0 ∙ ap (item_at c) same ∙ free in let some : is_some o ≡ true = a.1 in cc
-  | inr differs ↦ let e : (q == p) ≡ false =
-      grind (arith, nat_tests) in (get_inserted c.items p v q ∙ ap (λ b. cond b (Some v) (item_at c q)) e ∙ a.0, a.1, a.2)
+  | inr differs ↦ (get_inserted c.items p v q ∙ ap (λ b. cond b (Some v) (item_at c q)) (ne_eqb q p differs) ∙ a.0, a.1, a.2)
 ]
 
 agrees_removed : (c : Content ℕ) (p : ℕ) (n : Standing) (o : Option ℕ) (l : Bool) → ((q : ℕ) (f : Bool) → n ≡ Held q f → q ≢ p)
     → Agrees c n o l → Agrees (without_item c p) n o l
 agrees_removed c p Gone o l apart a = a
 agrees_removed c p (Held q f) o l apart a =
-    let differs : q ≢ p = apart q f refl in
-    let e : (q == p) ≡ false = grind (arith, nat_tests) in (get_removed c.items p q ∙ ap (λ b. cond b None (item_at c q)) e ∙ a.0, a.1, a.2)
+    (get_removed c.items p q ∙ ap (λ b. cond b None (item_at c q)) (ne_eqb q p (apart q f refl)) ∙ a.0, a.1, a.2)
 
 -- the lists alone do not matter to it
 agrees_lists : (c d : Content ℕ) (n : Standing) (o : Option ℕ) (l m : Bool) → c.items ≡ d.items → l ≡ m → Agrees c n o l → Agrees d n o m
@@ -106,11 +104,10 @@ module _ (c : Content ℕ) (names : List Standing) (numbers : ℕ → Option ℕ
       | inl same ↦
           let here : name_at (names ++ Held p false ∷ []) k ≡ Held p false = get_or_push names (Held p false) Gone k (sym same) in
           let item : get_or (s.items ++ Some v ∷ []) k None ≡ Some v = get_or_push s.items (Some v) None k (sym (same ∙ t.long)) in
-          let new : (p == p) ≡ true = grind (arith, nat_tests) in
           let not_listed : is_listed s k ≡ false =
           agrees_unlisted c (held s k) (is_listed s k)
           (subst (λ n. Agrees c n (held s k) (is_listed s k)) (gone_past k (omega arith)) (t.agree k)) in
-          rw (here, item) (get_inserted c.items p v p ∙ ap (λ b. cond b (Some v) (item_at c p)) new, refl, sym not_listed)
+          rw (here, item) (get_inserted c.items p v p ∙ ap (λ b. cond b (Some v) (item_at c p)) (eq-eqb p p refl), refl, sym not_listed)
       | inr other ↦
           rw (get_or_push_other names (Held p false) Gone k other, get_or_push_other s.items (Some v) None k (λ e. other (e ∙ sym t.long)))
           (agrees_inserted c p v (name_at names k) (held s k) (is_listed s k) free (t.agree k))

@@ -63,7 +63,8 @@ allocate_spec 𝓤 𝓛 𝓜 𝓡 wired X W LX LW g d dd met md =
     let base : (Bs E).Denot = record { ptr = p } in let cells : (Cr E).Denot = record { mark = record {}; cells = row } in
     let deed : D.Denot = record { mark = record {}; at = p; len = len; alloc = heap; row = pointers_from E p len } in
     let made : Val = three_val (word p) mark mark in
-    let typed : IsGood (layout Three) made = (tt, ((tt, tt), ((tt, tt), ((tt, tt), tt)))) in let ok = first_Good (layout Three) made typed in
+    let typed : IsGood (layout Three) made = (tt, ((tt, tt), ((tt, tt), ((tt, tt), tt)))) in
+    let ok = first_Good (layout Three) made typed in
     lands_as ! e refl (Answer-typed true b o) $ first ! $ switches_on ! (get_tag ! (vrt ! refl (fld ! refl (stop !))) (whole !)) $
     exec ! 𝓣.C 𝓣.Λ N (arm_body 0 both) Then $
     sets ! (of_opd ! (get_in ! (vrt ! refl (fld ! refl (stop !))) (in_variant ! 0 0 refl refl (whole !)))) refl (tt, tt) $

@@ -26,7 +26,8 @@ pub with_last-count : (rs : List (List TaskId)) (k j : ℕ) (t u : TaskId) → k
 with_last-count rs k j t u h = elim (cases_eq j k) [
   | inl same ↦ rw (eq-eqb j k same, same) (ap (count_by (is_task u)) (get_or-set_same rs k (get_or rs k [] ++ t ∷ []) [] h)
       ∙ count-push (is_task u) (get_or rs k []) t)
-  | inr apart ↦ rw (ne_eqb j k apart) (ap (count_by (is_task u)) (get_or-set_other rs k j (get_or rs k [] ++ t ∷ []) [] apart) ∙ omega arith)
+  | inr apart ↦ rw (ne_eqb j k apart) (ap (count_by (is_task u)) (get_or-set_other rs k j (get_or rs k [] ++ t ∷ []) [] apart)
+      ∙ omega arith)
 ]
 
 -- two numbers that are equal are one

@@ -1,4 +1,4 @@
-use Rattle.tp_store.proofs.Changes.{◌≡◌, rules, refl, ap, ◌∙◌, arith, item_at, with_item, only_grown, entered, item_here, at_item, few_live}
+use Rattle.tp_store.proofs.Changes.{rules, refl, ap, ◌∙◌, arith, item_at, with_item, only_grown, entered, item_here, at_item, few_live}
 use Rattle.tp_store.proofs.Changes.{low_not_full, refusals, on_err, told, with_listed}
 use Rattle.tp_store.proofs.room.insert_fresh.Goals as goal
 

@@ -12,7 +12,8 @@ distinct_below n ps once below =
     let all : length ps ≤ map.len (items_of s) = distinct_keys (items_of s) ps (λ q. elim (cases_eq (stands q ps) 0) [
       | inl none ↦ omega arith
       | inr some ↦
-          let has : map.contains_key (items_of s) q ≡ true = ap is_some (get-items_of s q ∙ get_or-replicate n q (Some 0) None (below q (omega arith))) in
+          let full = get_or-replicate {A = Option ℕ} n q (Some 0) None (below q (omega arith)) in
+          let has : map.contains_key (items_of s) q ≡ true = ap is_some (get-items_of s q ∙ full) in
           rw has (once q)
     ]) in
     let zero_item : Option ℕ = Some 0 in

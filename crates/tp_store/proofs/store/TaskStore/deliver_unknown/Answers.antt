@@ -1,4 +1,4 @@
-use Rattle.tp_store.proofs.Changes.{unwrap_or, rules, refl, ap, sym, ◌∙◌, arith, NoMemory, can_supply, supplied_all, first_checked}
+use Rattle.tp_store.proofs.Changes.{unwrap_or, rules, refl, ap, sym, ◌∙◌, NoMemory, can_supply, supplied_all, first_checked}
 use Rattle.tp_store.proofs.Changes.{first_all, inserts, nothing_there, unknown_refusal, refusal_of_new}
 use Rattle.tp_store.proofs.store.TaskStore.deliver_unknown.Goals as goal
 

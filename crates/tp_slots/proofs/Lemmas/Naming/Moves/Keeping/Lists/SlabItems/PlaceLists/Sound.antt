@@ -114,11 +114,8 @@ module _ {T : Type 0} where
   get_removed m k q = map.get-remove nat_cmp_total m k q ∙ ap (λ b. cond b None (map.get m q)) (unsigned_tied q k)
 
   pub taken_with_item : (c : Content T) (place : ℕ) (item : T) → IsTaken (with_item c place item) place
-  taken_with_item c place item = let e : (place == place) ≡ true =
-      grind (
-        arith,
-        nat_tests,
-      ) in ap is_some (get_inserted c.items place item place ∙ ap (λ b. cond b (Some item) (map.get c.items place)) e)
+  taken_with_item c place item =
+      ap is_some (get_inserted c.items place item place ∙ ap (λ b. cond b (Some item) (map.get c.items place)) (eq-eqb place place refl))
 
   pub idle_with_item : (c : Content T) (place : ℕ) (item : T) → IsIdle c place → IsIdle (with_item c place item) place
   idle_with_item c place item idle = record { taken = taken_with_item c place item; unlisted = idle.unlisted }
@@ -142,8 +139,8 @@ module _ {T : Type 0} where
     four = s.four;
     once = s.once;
     taken = λ q h. elim (cases_eq q place) [
-      | inl same ↦ rw (get_inserted c.items place item q) (let e : (q == place) ≡ true = grind (arith, nat_tests) in rw e refl)
-      | inr differs ↦ rw (get_inserted c.items place item q) (let e : (q == place) ≡ false = grind (arith, nat_tests) in rw e (s.taken q h))
+      | inl same ↦ rw (get_inserted c.items place item q, eq-eqb q place same) refl
+      | inr differs ↦ rw (get_inserted c.items place item q, ne_eqb q place differs) (s.taken q h)
     ];
   }
 
@@ -153,7 +150,7 @@ module _ {T : Type 0} where
     once = s.once;
     taken = λ q h. elim (cases_eq q place) [
       | inl same ↦ absurd (let none : times q c.ready ≡ 0 = subst (λ p. times p c.ready ≡ 0) (sym same) idle.unlisted in omega arith)
-      | inr differs ↦ rw (get_removed c.items place q) (let e : (q == place) ≡ false = grind (arith, nat_tests) in rw e (s.taken q h))
+      | inr differs ↦ rw (get_removed c.items place q, ne_eqb q place differs) (s.taken q h)
     ];
   }
 

@@ -5,13 +5,14 @@ pub use Rattle.std.proofs.Common.{◌≡◌, ℕ, suc, ◌+◌, ◌-◌, ◌<◌
 pub use Rattle.std.proofs.Common.{IfErr, Option, Some, None, is_some, IfSome, refl, sym, ap, subst, ◌∙◌, inl, inr, arith, ◌≢◌, zero, nat_lt}
 pub use Rattle.std.proofs.Common.{Bool, ◌∷◌, ◌++◌, map, set, IsSome, count_by, ◌*◌, take, drop, append_assoc, append-nil, All, ◌⊎◌}
 pub use Rattle.std.proofs.{Common.{replicate, zero-le, below_more, option_copied}, Math.{ListN.get_or-map, Seq.map-set_same}}
-pub use Rattle.std.proofs.{Math.Seq.{take-append_seam, drop-append_seam}, lemmas.Bool.{cases_eq, cases_lt, Decides.nat_tests}}
-pub use Rattle.std.proofs.lemmas.List.{length-set, length-append, get_or-set_same, get_or-set_other, get_or_past, length-map}
-pub use Rattle.std.proofs.lemmas.List.{get_or_append_left, length-replicate, map-set, take_more_set, get_or-map as get_or-map_within}
-pub use Rattle.std.proofs.lemmas.List.{get_or-replicate, get_or_push, map-append, take_all, Elements.{All-push, All-set}, Sums.sum_by-cons}
-pub use Rattle.std.{proofs.lemmas.List.Sums.{sum_by-append, sum_by-set, count_by-le-length}, specs.Cmp.{nat_cmp_total, unsigned_tied}}
-pub use Rattle.std.specs.{Mem.type_size, Ordering.{nat_cmp, eq_by_cmp}, Result.IsErrAnd, Vec.{vec_len, vec_capacity}, VecDeque.deque_len}
-pub use Rattle.std.specs.{VecDeque.deque_capacity, declared.{alloc.Global.Global, collections.VecDeque.VecDeque}}
+pub use Rattle.std.proofs.{Math.Seq.{take-append_seam, drop-append_seam}, lemmas.Bool.{cases_eq, cases_lt, eq-eqb, ne_eqb}}
+pub use Rattle.std.proofs.lemmas.{Bool.Decides.nat_tests, List.{length-set, length-append, get_or-set_same, get_or-set_other, get_or_past}}
+pub use Rattle.std.proofs.lemmas.List.{length-map, get_or_append_left, length-replicate, map-set, take_more_set}
+pub use Rattle.std.proofs.lemmas.List.{get_or-map as get_or-map_within, get_or-replicate, get_or_push, map-append, take_all}
+pub use Rattle.std.proofs.lemmas.List.{nil_from_length, Elements.{All-push, All-set}, Sums.{sum_by-cons, sum_by-append, sum_by-set}}
+pub use Rattle.std.{proofs.lemmas.List.Sums.count_by-le-length, specs.{Cmp.{nat_cmp_total, unsigned_tied}, Mem.type_size, Ordering.nat_cmp}}
+pub use Rattle.std.specs.{Ordering.eq_by_cmp, Result.IsErrAnd, Vec.{vec_len, vec_capacity}, VecDeque.{deque_len, deque_capacity}}
+pub use Rattle.std.specs.declared.{alloc.Global.Global, collections.VecDeque.VecDeque}
 pub use Rattle.tp_base.specs.declared.refusal.Refusal.{Refusal, TheVariants.{NoMemory, StoreFull}}
 pub use Rattle.tp_slots.specs.{Blocks.{pointers_of, pointers_in, HoldsFirst, IsBlock, rows_of}, Cells.{cell_at, IsFull, empty_at}}
 pub use Rattle.tp_slots.specs.{CellsOwnership.row_from, ChainLends.{slot_with, holding, with_item_at, vacated, without_item_at}}
