@@ -39,38 +39,28 @@ record Effect (n i : ℕ) (call : Call) (c d : Pool) : Type 0 where
   pub still : is_idle (c.tasks i) ≡ true → c.world.under_way i ≡ 0 → is_own call ≡ false → d.world ≡ c.world
 
 module _ (n i : ℕ) (c : Pool) where
-  of_tasks : (call : Call) (new : Tasks) (m b o r : ℕ) → (IsWork (c.tasks i) (c.world.at i).pending → IsWork new (c.world.at i).pending)
+  of_tasks : (call : Call) (new : Tasks) (m b o r : ℕ) → (is_idle new ≡ false → is_idle (c.tasks i) ≡ false)
       → m + (c.begun + c.dropped + left (c.tasks i)) ≡ c.made + (b + r + left new)
-      → b + (c.done + (c.tasks i).running) ≡ c.begun + (o + new.running) → (is_idle (c.tasks i) ≡ true → is_idle new ≡ true)
+      → b + (c.done + (c.tasks i).running) ≡ c.begun + (o + new.running)
       → Effect n i call c (record c { tasks = put i new c.tasks; made = m; begun = b; done = o; dropped = r })
-  of_tasks call new m b o r work made begun idle =
+  of_tasks call new m b o r busy made begun =
       record {
         new = new;
         state = c.world.at i;
         tasks = refl;
         at = sym (put_id i c.world.at);
-        work = work;
+        work = λ w. record { at_most = w.at_most; some = λ f. w.some (busy f) };
         made = omega (arith, made);
         begun = begun;
         events = ([], λ past e. e);
-        idle = λ t u. (idle t, refl);
+        idle = λ t u. (elim (cases_Bool (is_idle new)) [ inl e ↦ e | inr f ↦ absurd (cc (t, busy f)) ], refl);
         still = λ t u e. refl;
       }
 
   of_none : (call : Call) → Effect n i call c c
   of_none call =
-      record {
-        new = c.tasks i;
-        state = c.world.at i;
-        tasks = sym (put_id i c.tasks);
-        at = sym (put_id i c.world.at);
-        work = λ w. w;
-        made = omega arith;
-        begun = omega arith;
-        events = ([], λ past e. e);
-        idle = λ t u. (t, refl);
-        still = λ t u e. refl;
-      }
+      subst (λ f. Effect n i call c (record c { tasks = f })) (put_id i c.tasks)
+      (of_tasks call (c.tasks i) c.made c.begun c.done c.dropped (λ f. f) (omega arith) (omega arith))
 
   closes_over : (r : EpochState) (under : ℕ → ℕ)
       → does n (record c.world { at = put i r c.world.at; under_way = under }) i Closes
@@ -80,45 +70,32 @@ module _ (n i : ℕ) (c : Pool) where
 
   effect : i < n → (call : Call) → Effect n i call c (calls n c i call)
   effect l Add =
-      let t : Tasks = c.tasks i in
-      cond_both (can_make t.waiting t) _ c (Effect n i Add c) (λ e.
-      of_tasks Add (added t) (c.made + 1) c.begun c.done c.dropped (λ w. rw e (record { at_most = w.at_most; some = λ f. w.some (grind (arith, nat_tests)) }))
-      (rw e (omega arith)) (rw e (omega arith)) (λ f. grind (arith, nat_tests))) (λ e. of_none Add)
+      cond_both (can_make (c.tasks i).waiting (c.tasks i)) _ c (Effect n i Add c) (λ e.
+      of_tasks Add (added (c.tasks i)) (c.made + 1) c.begun c.done c.dropped (λ f. grind (arith, nat_tests)) (rw e (omega arith))
+      (rw e (omega arith))) (λ e. of_none Add)
   effect l AddDue =
-      let t : Tasks = c.tasks i in
-      cond_both (can_make t.due t) _ c (Effect n i AddDue c) (λ e.
-      of_tasks AddDue (added_due t) (c.made + 1) c.begun c.done c.dropped (λ w. rw e (record { at_most = w.at_most; some = λ f. w.some (grind (arith, nat_tests)) }))
-      (rw e (omega arith)) (rw e (omega arith)) (λ f. grind (arith, nat_tests))) (λ e. of_none AddDue)
+      cond_both (can_make (c.tasks i).due (c.tasks i)) _ c (Effect n i AddDue c) (λ e.
+      of_tasks AddDue (added_due (c.tasks i)) (c.made + 1) c.begun c.done c.dropped (λ f. grind (arith, nat_tests)) (rw e (omega arith))
+      (rw e (omega arith))) (λ e. of_none AddDue)
   effect l Begin =
-      let t : Tasks = c.tasks i in
-      cond_both (can_begin t) _ c (Effect n i Begin c) (λ e.
-      let some : (eqb t.waiting 0 ≡ false) = grind (arith, nat_tests) in
-      let waits : 0 < t.waiting = grind (arith, nat_tests) in
-      of_tasks Begin (began t) c.made (c.begun + 1) c.done c.dropped
-      (λ w. rw e (record { at_most = w.at_most; some = λ f. w.some (grind (arith, nat_tests)) }))
-      (rw e (omega (arith, waits))) (rw e (omega arith)) (λ f. grind (arith, nat_tests))) (λ e. of_none Begin)
+      cond_both (can_begin (c.tasks i)) _ c (Effect n i Begin c) (λ e.
+      let waits : 0 < (c.tasks i).waiting = grind (arith, nat_tests) in
+      of_tasks Begin (began (c.tasks i)) c.made (c.begun + 1) c.done c.dropped (λ f. grind (arith, nat_tests)) (rw e (omega (arith, waits)))
+      (rw e (omega arith))) (λ e. of_none Begin)
   effect l Done =
-      let t : Tasks = c.tasks i in
-      cond_both (eqb t.running 0) c _ (Effect n i Done c) (λ e. of_none Done) (λ e.
-      let runs : 0 < t.running = grind (arith, nat_tests) in
-      of_tasks Done (completed t) c.made c.begun (c.done + 1) c.dropped
-      (λ w. record { at_most = w.at_most; some = λ f. w.some (grind (arith, nat_tests)) })
-      (omega arith) (omega (arith, runs)) (λ f. grind (arith, nat_tests)))
+      cond_both (eqb (c.tasks i).running 0) c _ (Effect n i Done c) (λ e. of_none Done) (λ e.
+      let runs : 0 < (c.tasks i).running = grind (arith, nat_tests) in
+      of_tasks Done (completed (c.tasks i)) c.made c.begun (c.done + 1) c.dropped (λ f. grind (arith, nat_tests)) (omega arith)
+      (omega (arith, runs)))
   effect l DropWaiting =
-      let t : Tasks = c.tasks i in
-      of_tasks DropWaiting (dropped t) c.made c.begun c.done (c.dropped + t.waiting)
-      (λ w. record { at_most = w.at_most; some = λ f. w.some (grind (arith, nat_tests)) })
-      (omega arith) (omega arith) (λ f. grind (arith, nat_tests))
+      of_tasks DropWaiting (dropped (c.tasks i)) c.made c.begun c.done (c.dropped + (c.tasks i).waiting) (λ f. grind (arith, nat_tests))
+      (omega arith) (omega arith)
   effect l Give =
-      let t : Tasks = c.tasks i in
-      of_tasks Give (given t) c.made c.begun c.done c.dropped
-      (λ w. record { at_most = w.at_most; some = λ f. w.some (grind (arith, nat_tests)) })
-      (grind (arith, nat_tests)) (grind (arith, nat_tests)) (λ f. grind (arith, nat_tests))
+      of_tasks Give (given (c.tasks i)) c.made c.begun c.done c.dropped (λ f. grind (arith, nat_tests)) (grind (arith, nat_tests))
+      (grind (arith, nat_tests))
   effect l Close =
-      let t : Tasks = c.tasks i in
-      of_tasks Close (without_opening t) c.made c.begun c.done c.dropped
-      (λ w. record { at_most = w.at_most; some = λ f. w.some (grind (arith, nat_tests)) })
-      (omega arith) (omega arith) (λ f. grind (arith, nat_tests))
+      of_tasks Close (without_opening (c.tasks i)) c.made c.begun c.done c.dropped (λ f. grind (arith, nat_tests)) (omega arith)
+      (omega arith)
   effect l (SendTask j) =
       let t : Tasks = c.tasks i in
       let p : EpochState = c.world.at i in
@@ -156,7 +133,8 @@ module _ (n i : ℕ) (c : Pool) where
         state = receives_task t p;
         tasks = rw a.0 refl;
         at = refl;
-        work = λ w. rw (a.0, b.1) (record { at_most = grind (arith, nat_tests, w.at_most); some = λ f. grind (arith, nat_tests, w.at_most) });
+        work = λ w.
+            rw (a.0, b.1) (record { at_most = grind (arith, nat_tests, w.at_most); some = λ f. grind (arith, nat_tests, w.at_most) });
         made = omega (arith, sums, comes);
         begun = omega arith;
         events = elim (cases_Bool (eqb p.pending 0)) [
@@ -215,8 +193,9 @@ came_idle n x None j = refl
 came_idle n x (Some l) j =
     let p : EpochState = x.at l.to in
     let same : (took l p).pending ≡ p.pending
-    = cond_both (is_for l p) (takes l.from l.wave l.token p) p (λ z. z.pending ≡ p.pending) (λ t. takes_idle l.from l.wave l.token p) (λ t. refl) in
-    cond_both (ltb l.to n) _ x (λ z. (z.at j).pending ≡ (x.at j).pending) (λ t. put_same (λ z. z.pending) l.to j (took l p) x.at same) (λ t. refl)
+    = cond_both (is_for l p) _ p (λ z. z.pending ≡ p.pending) (λ t. takes_idle l.from l.wave l.token p) (λ t. refl) in
+    cond_both (ltb l.to n) _ x (λ z. (z.at j).pending ≡ (x.at j).pending)
+    (λ t. put_same (λ z. z.pending) l.to j (took l p) x.at same) (λ t. refl)
 
 pub work : WorkLaw
 work n j [] l = record { at_most = omega arith; some = λ f. refl }
@@ -255,7 +234,8 @@ events_all n [] = ([], refl)
 events_all n (o ∷ events) = let b = events_all n events in let s = event_of n (pool n events) o in (s.0 ++ b.0, s.1 b.0 b.1)
 
 done_after : (n : ℕ) (later events : List PoolEvent)
-    → ((past more : List Event) → (pool n events).world ≡ after n past → IsQuiet n (after n (more ++ past))) → IsDone n (pool n (later ++ events))
+    → ((past more : List Event) → (pool n events).world ≡ after n past → IsQuiet n (after n (more ++ past)))
+    → IsDone n (pool n (later ++ events))
 done_after n later events quiet =
     let a = events_all n events in
     let b = events_later n later events a.0 a.1 in
@@ -378,8 +358,8 @@ finish n (suc k) past l few =
     = rw (f.above k (omega arith)) (ap (λ m. record (x.at k) { pending = m }) (omega (arith, few k (omega (arith, l))))) in
     subst (λ z. Finished n (suc k) x z) (sym (ap (λ b. cond b (does n y k Closes) y) (lt-ltb k n (omega (arith, l)))))
     (record {
-      below = λ j m. put_holds (λ i z. z ≡ calm (x.at i)) k j (closed (y.at k)) y.at (λ d. rw d one) (λ off. f.below j (omega (arith, m, off)));
-      above = λ j m. put_holds (λ i z. z ≡ x.at i) k j (closed (y.at k)) y.at (λ d. absurd (omega (arith, d, m))) (λ off. f.above j (omega (arith, m)));
+      below = λ j m. put_holds (λ i z. z ≡ calm (x.at i)) k j _ y.at (λ d. rw d one) (λ off. f.below j (omega (arith, m, off)));
+      above = λ j m. put_holds (λ i z. z ≡ x.at i) k j _ y.at (λ d. absurd (omega (arith, d, m))) (λ off. f.above j (omega (arith, m)));
       under_way = f.under_way;
       controls = f.controls;
     })
@@ -486,8 +466,8 @@ Follows n c o d y =
     (IsCalm n d.world y × (bit (is_useful_call n c o) + working n d ≤ working n c))
     ⊎ ((e : Event) × IsCalm n d.world (happens n y e) × (bit (is_useful_call n c o) + working n d ≤ bit (is_useful n y e) + working n c))
 
-follows_same : (n : ℕ) (c : Pool) (o : PoolEvent) (y : World) (d : Pool) → d.world ≡ c.world → is_useful_call n c o ≡ false → IsCalm n c.world y
-    → Follows n c o d y
+follows_same : (n : ℕ) (c : Pool) (o : PoolEvent) (y : World) (d : Pool) → d.world ≡ c.world → is_useful_call n c o ≡ false
+    → IsCalm n c.world y → Follows n c o d y
 follows_same n c o y d e none s =
     let same : working n d ≡ working n c = ap (λ w. total n (λ j. (w.at j).pending)) e in
     inl (subst (λ w. IsCalm n w y) (sym e) s, rw none (omega (arith, same)))
@@ -498,7 +478,8 @@ module _ (n i : ℕ) (c : Pool) (y : World) (l : i < n) (z : IsDone n c) (s : Is
       let t : Tasks = c.tasks i in
       let p : EpochState = c.world.at i in
       let sums = total_put n i (settled t p) c.world.at (λ q. q.pending) l in
-      let same : calm (settled t p) ≡ calm p = calm_if (can_settle t p) (closed p) p ∙ cond_both (can_settle t p) (calm p) (calm p) (λ q. q ≡ calm p) (λ e. refl) (λ e. refl) in
+      let same : calm (settled t p) ≡ calm p = calm_if (can_settle t p) (closed p) p ∙
+      cond_both (can_settle t p) _ _ (λ q. q ≡ calm p) (λ e. refl) (λ e. refl) in
       let less : bit (can_settle t p) + (settled t p).pending ≤ p.pending = grind (arith, nat_tests) in
       inl (
         record {
