@@ -150,9 +150,9 @@ def spoiled(text):
     """Yields texts with one fault each, for a text with slices, flows, an instant and metadata."""
     content = json.loads(text)
     events = content["traceEvents"]
-    first = {phase: next(place for place, event in enumerate(events) if event["ph"] == phase) for phase in "Xsfi"}
+    first = {phase: next(place for place, event in enumerate(events) if event["ph"] == phase) for phase in "XsfiM"}
     for phase, key, value in (
-        ("s", "id", []), ("f", "id", ""),
+        ("s", "id", []), ("f", "id", ""), ("M", "args", {}),
         *((phase, key, None) for phase in "Xsfi" for key in FIELDS[phase][0].split()),
         ("X", "ts", "1"), ("X", "dur", -1), ("X", "dur", True), ("X", "unknown", 1), ("i", "s", "x"), ("f", "bp", "x"), ("s", "id", "lost"),
         ("s", "ts", 1e9), ("f", "tid", 99), ("X", "ph", "Y"), ("X", "args", [1]), ("i", "pid", -1), ("i", "pid", "1"), ("f", "ts", 0),
@@ -163,8 +163,8 @@ def spoiled(text):
         yield json.dumps({**content, "traceEvents": [*events[: first[phase]], event, *events[first[phase] + 1:]]})
     overlapping = events[first["X"]]
     overlapping = {**overlapping, "ts": overlapping["ts"] + overlapping["dur"] / 2}
-    yield json.dumps({**content, "traceEvents": [*events, events[first["s"]]]})
-    yield json.dumps({**content, "traceEvents": [*events, overlapping]})
+    for more in (events[first["s"]], overlapping, {"ph": "C", "name": "c", "pid": 0, "ts": 0, "args": {}}):
+        yield json.dumps({**content, "traceEvents": [*events, more]})
     yield json.dumps({**content, "displayTimeUnit": "s"})
     yield text.replace('"ts":', '"ts":NaN,"was":', 1)
     yield text.replace('"ph":', '"ph":"X","ph":', 1)

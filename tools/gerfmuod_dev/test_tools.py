@@ -21,7 +21,7 @@ def test_stored_events_are_those_of_their_traces(name):
     text = tries.stored_outputs(f"{tries.OUTPUTS}/samples")[name]
     trace, tally = repository.text_of(f"{tries.STATUSES}/samples/{name}"), running.Tally()
     pages.check_events(tally, {"": trace}, {"": text})
-    assert (tally.passed, tally.failed) == (2, 0)
+    assert (tally.passed, tally.failed) == (2, 0) and not tries.agrees(text, f"{text}x")
     pages.check_events(tally, {"": trace.replace("begin ", "supply ", 1)}, {"": text})
     assert (tally.passed, tally.failed) == (3, 1)
 
