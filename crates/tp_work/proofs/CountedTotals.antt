@@ -1,10 +1,8 @@
 -- If each task has one of some things, and no other task has any, their number is that of the tasks.
 use Rattle.std.proofs.Common.{◌≡◌, ◌∙◌, ◌+◌, ◌<◌, ◌≤◌, ◌==◌, ℕ, zero, suc, Bool, true, false, cond, Some, List, [], ◌∷◌, length, refl, sym}
 use Rattle.std.{proofs.{Common.{ap, arith}, lemmas.{Bool.Decides.nat_tests, List.Sums.sum_by-cons}}, specs.{List.count_by, Prelude.nat_lt}}
-use Rattle.tp_base.specs.declared.step.Step.{Step, TheVariants.{Insert, Begin, Done}}
-use Rattle.tp_graph.specs.{Found.HasEachOnce, Serial.Results}
-use Rattle.tp_wave.specs.Steps.{count, is_done}
-use Rattle.tp_work.specs.Lives.{LivesOnce, life, moments, with_moment}
+use Rattle.{tp_base.specs.declared.step.Step.{Step, TheVariants.{Insert, Begin, Done}}, tp_graph.specs.{Found.HasEachOnce, Serial.Results}}
+use Rattle.{tp_wave.specs.Steps.{count, is_done}, tp_work.specs.Lives.{LivesOnce, life, moments, with_moment}}
 
 abbrev bit : Bool → ℕ
 bit b = cond b 1 0

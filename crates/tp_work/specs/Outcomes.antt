@@ -1,14 +1,11 @@
 -- The outcome of a pool once all its threads have ended, or its fault.
 use Rattle.std.specs.Prelude.{ℕ, List, Bool, false, length, slice_index_or, ◌≡◌, ◌+◌, ◌*◌, ◌≤◌, ◌⊎◌, if◌then◌else◌, IsTrue, MatchOption}
-use Rattle.std.specs.Prelude.{vec_len}
-use Rattle.tp_base.specs.declared.{limits.TheConstants.{MAX_IDLE_TURNS, MAX_NODES, MAX_STEPS, MAX_WORKERS}, refusal.Refusal.Refusal}
-use Rattle.tp_base.specs.declared.refusal.Refusal.TheVariants.{HistoryFull, Missing, NoMemory, NoNode, Stranger}
-use Rattle.tp_board.specs.{Numbers.{is_done, is_send}, States.BoardState}
-use Rattle.tp_graph.specs.{Found.{HasEachOnce, times}, Graphs.TaskGraph, Left.AreResults, Serial.Results}
-use Rattle.tp_node.specs.Nodes.{NodeState}
-use Rattle.tp_wave.specs.{Machine.{IsRun, steps_of}, Steps.count, Sums.is_ended}
-use Rattle.tp_work.specs.{Lives.{LivesOnce, generations}, Reports.{IsReport, IsReportOf}, declared.config.{Config.Config, Fault.Fault}}
-use Rattle.tp_work.specs.declared.{config.Outcome.Outcome, gathered.Report.Report}
+use Rattle.{std.specs.Prelude.vec_len, tp_base.specs.declared.limits.TheConstants.{MAX_IDLE_TURNS, MAX_NODES, MAX_STEPS, MAX_WORKERS}}
+use Rattle.tp_base.specs.declared.refusal.Refusal.{Refusal, TheVariants.{HistoryFull, Missing, NoMemory, NoNode, Stranger}}
+use Rattle.{tp_board.specs.{Numbers.{is_done, is_send}, States.BoardState}, tp_graph.specs.{Found.{HasEachOnce, times}, Graphs.TaskGraph}}
+use Rattle.{tp_graph.specs.{Left.AreResults, Serial.Results}, tp_node.specs.Nodes.NodeState, tp_wave.specs.Machine.{IsRun, steps_of}}
+use Rattle.{tp_wave.specs.{Steps.count, Sums.is_ended}, tp_work.specs.{Lives.{LivesOnce, generations}, Reports.{IsReport, IsReportOf}}}
+use Rattle.tp_work.specs.declared.{config.{Config.Config, Fault.Fault, Outcome.Outcome}, gathered.Report.Report}
 
 -- the limits of a configuration
 pub record IsWithinLimits (c : Config) : Type 0 where

@@ -1,12 +1,10 @@
 -- The report of a pool.
 use Rattle.std.specs.{List.{All, count_by, flat_map}, Prelude.{ℕ, ◌+◌, ◌≡◌, ◌≤◌, List, Some, None, Result, IsTrue, MatchResult, length}}
-use Rattle.std.specs.Prelude.{sum_by, vec_len}
-use Rattle.tp_base.specs.{Totals.total, declared.{limits.TheConstants.MAX_STEPS, refusal.Refusal.Refusal}}
-use Rattle.tp_board.specs.{Numbers.{is_done, is_recv, is_send}, States.BoardState}
-use Rattle.tp_graph.specs.{Graphs.TaskGraph, Left.AreResults}
-use Rattle.tp_node.specs.{Locals.pending_here, Nodes.NodeState, PoolLinks.PoolLinkState}
-use Rattle.tp_wave.specs.{Cut.IsQuietHistory, Generations.{AreRuns, present, present_events}, Machine.{pending_at, steps_of, under_way}}
-use Rattle.tp_wave.specs.{Steps.count, Sums.is_ended}
+use Rattle.{std.specs.Prelude.{sum_by, vec_len}, tp_base.specs.{Totals.total, declared.limits.TheConstants.MAX_STEPS}}
+use Rattle.{tp_base.specs.declared.refusal.Refusal.Refusal, tp_board.specs.{Numbers.{is_done, is_recv, is_send}, States.BoardState}}
+use Rattle.{tp_graph.specs.{Graphs.TaskGraph, Left.AreResults}, tp_node.specs.{Locals.pending_here, Nodes.NodeState}}
+use Rattle.{tp_node.specs.PoolLinks.PoolLinkState, tp_wave.specs.{Cut.IsQuietHistory, Generations.{AreRuns, present, present_events}}}
+use Rattle.tp_wave.specs.{Machine.{pending_at, steps_of, under_way}, Steps.count, Sums.is_ended}
 use Rattle.tp_work.specs.declared.gathered.Report.{Report}
 
 -- to how many of these nodes termination was announced

@@ -1,9 +1,7 @@
 -- What a node's lock protects: the node, and the begun work that waits for a worker.
 use Rattle.std.specs.{Coded.{Coded, code_by, coded×, coded_ℕ, coded_ℤ, coded_list}, List.All, Prelude.{ℕ, ℤ, ◌≡◌, ◌≤◌, List, [], ◌∷◌}}
-use Rattle.std.specs.Prelude.{length, refl}
-use Rattle.tp_board.specs.States.{BoardState}
-use Rattle.tp_graph.specs.Carried.{Begun}
-use Rattle.tp_node.specs.{Calls.{Begins, Rests}, Nodes.{NodeState, node_code}}
+use Rattle.{std.specs.Prelude.{length, refl}, tp_board.specs.States.BoardState, tp_graph.specs.Carried.Begun, tp_node.specs.Calls.Begins}
+use Rattle.tp_node.specs.{Calls.Rests, Nodes.{NodeState, node_code}}
 
 -- a node, and the work that waits there, next one first
 pub record RunQueueState (G : Type 0) : Type 0 where

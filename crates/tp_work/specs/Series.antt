@@ -1,8 +1,7 @@
 -- A series: the generations of a pool that is reopened and run again.
 use Rattle.std.specs.{List.{All, AllZip}, Prelude.{ℕ, ◌+◌, ◌*◌, ◌≡◌, ◌<◌, ◌⊎◌, List, [], IsTrue, length, reverse, vec_len}}
 use Rattle.tp_base.specs.declared.{limits.TheConstants.MAX_STEPS, refusal.Refusal.{Refusal, TheVariants.{HistoryFull, Missing, NoMemory}}}
-use Rattle.tp_board.specs.Numbers.{is_done}
-use Rattle.tp_graph.specs.{Found.HasEachOnce, Graphs.TaskGraph, Left.AreResults}
+use Rattle.{tp_board.specs.Numbers.is_done, tp_graph.specs.{Found.HasEachOnce, Graphs.TaskGraph, Left.AreResults}}
 use Rattle.tp_wave.specs.{Generations.{AreRuns, present_events}, Machine.{History, steps_of}, Steps.count, Sums.is_ended}
 use Rattle.tp_work.specs.{Lives.{LivesInEach, LivesOnce, generations, sent_in}, Outcomes.{HasEnded, IsFaultBy, Lacks}}
 use Rattle.tp_work.specs.declared.{config.Fault.Fault, gathered.Report.Report, series.{Round.Round, Series.Series}}

@@ -1,6 +1,5 @@
 //! A run whose tasks are counted for a progress line.
-ghost use Rattle.std.specs.Prelude.{IfErr, IfOk};
-ghost use Rattle.tp_work.specs.Outcomes.{IsFault, IsOutcome, IsWithinLimits};
+ghost use Rattle.{std.specs.Prelude.{IfErr, IfOk}, tp_work.specs.Outcomes.{IsFault, IsOutcome, IsWithinLimits}};
 
 use crate::config::{Config, Fault, Outcome};
 use crate::counted_graph::Counted;

@@ -1,10 +1,8 @@
 //! The report of a pool: the sums over its nodes and links, and what its board kept.
 ghost use Rattle.std.specs.{List.{All, flat_map}, Prelude.{◌≡◌, ◌<◌, ◌≤◌, ◌+◌, ◌-◌, ◌*◌, ◌++◌, ◌∷◌, [], IfErr, IfOk, length, map, sum_by}};
-ghost use Rattle.std.specs.Prelude.{vec_capacity, vec_len};
-ghost use Rattle.tp_base.specs.declared.refusal.Refusal.TheVariants.{NoMemory};
+ghost use Rattle.{std.specs.Prelude.{vec_capacity, vec_len}, tp_work.specs.Reports.{AreOfTheRun, IsGathered, IsOfItsRun, told_of_end}};
+ghost use Rattle.{tp_base.specs.declared.refusal.Refusal.TheVariants.NoMemory, tp_node.specs.{Nodes.counted_of, PoolLinks.link_of}};
 ghost use Rattle.tp_graph.specs.Left.{AreResults};
-ghost use Rattle.tp_node.specs.{Nodes.counted_of, PoolLinks.link_of};
-ghost use Rattle.tp_work.specs.Reports.{AreOfTheRun, IsGathered, IsOfItsRun, told_of_end};
 
 use std::alloc::{AllocError, Global};
 use tp_base::{History, Refusal, TaskId};

@@ -1,10 +1,9 @@
 //! Checks in the history that each task was inserted, began and was done exactly once in each generation.
 ghost use Rattle.std.specs.Prelude.{◌≡◌, ◌<◌, ◌≤◌, ◌+◌, ◌↔◌, ◌++◌, ◌∷◌, [], length, map, reverse, slice_set, vec_capacity, vec_len, All};
-ghost use Rattle.std.specs.Prelude.{IfOk, IfSome, IsFalse, IsTrue, List, MatchOption, None};
-ghost use Rattle.tp_base.specs.{History.Event, declared.limits.TheConstants.MAX_STEPS};
-ghost use Rattle.tp_wave.specs.{Machine.{step_of, steps_of}, Steps.{any, is_reopen}};
-ghost use Rattle.tp_work.specs.Lives as lives;
+ghost use Rattle.{std.specs.Prelude.{IfOk, IfSome, IsFalse, IsTrue, List, MatchOption, None}, tp_wave.specs.Machine.{step_of, steps_of}};
+ghost use Rattle.{tp_base.specs.{History.Event, declared.limits.TheConstants.MAX_STEPS}, tp_wave.specs.Steps.{any, is_reopen}};
 ghost use Rattle.tp_work.specs.Lives.{AreStages, IsFollowed, LivesInEach, LivesOnce, generations, sent_in, stage};
+ghost use Rattle.tp_work.specs.Lives as lives;
 
 use std::alloc::{AllocError, Global};
 use tp_base::{History, Step};

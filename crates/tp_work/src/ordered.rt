@@ -1,6 +1,5 @@
 //! A run whose results are in the order of tasks.
-ghost use Rattle.std.specs.Prelude.{IfErr, IfOk};
-ghost use Rattle.tp_graph.specs.{Graphs.KeepsAll, Left.AreResults, Serial.{AreInTaskOrder, AreValues}};
+ghost use Rattle.{std.specs.Prelude.{IfErr, IfOk}, tp_graph.specs.{Graphs.KeepsAll, Left.AreResults, Serial.{AreInTaskOrder, AreValues}}};
 ghost use Rattle.tp_work.specs.Outcomes.{IsFault, IsWithinLimits};
 
 use crate::config::{Config, Fault};

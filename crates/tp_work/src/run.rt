@@ -1,7 +1,6 @@
 //! Running a pool once, and its outcome.
 ghost use Rattle.std.specs.Prelude.{◌≡◌, ℕ, IfErr, IfOk, vec_len};
-ghost use Rattle.tp_graph.specs.Graphs.{TaskGraph};
-ghost use Rattle.tp_work.specs.{Outcomes.{IsFault, IsOutcome, IsWithinLimits}, Series.IsSeries};
+ghost use Rattle.{tp_graph.specs.Graphs.TaskGraph, tp_work.specs.{Outcomes.{IsFault, IsOutcome, IsWithinLimits}, Series.IsSeries}};
 
 use crate::config::{Config, Fault, Outcome};
 use crate::gate::Gate;

@@ -1,11 +1,8 @@
 //! The run queue of a node: begun tasks that wait for a worker, and how many of the ready ones begin at a time.
-ghost use Rattle.std.specs.{Option.option_to_list, Prelude.{◌≡◌, ◌≢◌, ◌⊎◌, ◌+◌, ◌-◌, ◌++◌, ◌*◌, ◌/◌, ◌<◌, ◌≤◌, [], None, Some, IfErr}};
-ghost use Rattle.std.specs.Prelude.{IfNone, IsFalse, IsOk, IsTrue, MatchOption, OnErr, OnOk, length, max, min, reverse, vec_capacity};
-ghost use Rattle.std.specs.Prelude.{vec_len};
-ghost use Rattle.tp_base.specs.declared.refusal.Refusal.TheVariants.{NoMemory};
-ghost use Rattle.tp_board.specs.{Calls.Appends, States.AnswersBy};
-ghost use Rattle.tp_node.specs.{Begins.{next_task, ready_count}, Refused.begin_checks};
-ghost use Rattle.tp_work.specs.RunQueues.{BeginsEach};
+ghost use Rattle.std.specs.{Option.option_to_list, Prelude.{◌≡◌, ◌≢◌, ◌⊎◌, ◌+◌, ◌-◌, ◌++◌, ◌*◌, ◌/◌, ◌<◌, ◌≤◌, [], None, Some, IfErr, max}};
+ghost use Rattle.std.specs.Prelude.{IfNone, IsFalse, IsOk, IsTrue, MatchOption, OnErr, OnOk, length, min, reverse, vec_capacity, vec_len};
+ghost use Rattle.{tp_base.specs.declared.refusal.Refusal.TheVariants.NoMemory, tp_board.specs.{Calls.Appends, States.AnswersBy}};
+ghost use Rattle.{tp_node.specs.{Begins.{next_task, ready_count}, Refused.begin_checks}, tp_work.specs.RunQueues.BeginsEach};
 
 use std::alloc::Global;
 use std::marker::Model;
@@ -71,8 +68,7 @@ pub(crate) struct RunQueue<G: Graph, K: Ledgers> {
 }
 
 impl<G: Graph, K: Ledgers> Model for RunQueue<G, K> {
-    ghost use Rattle.std.specs.Prelude.{reverse};
-    ghost use Rattle.tp_work.specs.RunQueues.{RunQueueState, IsRunQueue, run_queue_code};
+    ghost use Rattle.{std.specs.Prelude.reverse, tp_work.specs.RunQueues.{RunQueueState, IsRunQueue, run_queue_code}};
 
     ghost Value = { RunQueueState G };
 

@@ -1,11 +1,9 @@
 //! Runs one generation of a pool: starts the workers, waits for them, and takes the pool out of its locks.
 ghost use Rattle.std.specs.{Option.unwrap_or, Prelude.{◌≡◌, ◌≢◌, ◌≤◌, ◌↔◌, ◌*◌, ◌-◌, length, vec_len, IfErr, IfOk, IfSome, IsTrue}};
-ghost use Rattle.std.specs.Prelude.{MatchOption, MatchResult, Err, IsOk, None, OnOk, Some};
+ghost use Rattle.{std.specs.Prelude.{MatchOption, MatchResult, Err, IsOk, None, OnOk, Some}, tp_board.specs.States.with_fault};
 ghost use Rattle.tp_base.specs.declared.{limits.TheConstants.MAX_STEPS, refusal.Refusal.TheVariants.{Missing, NoMemory, Stranger}};
-ghost use Rattle.tp_board.specs.States.{with_fault};
-ghost use Rattle.tp_wave.specs.{Generations.present, Machine.steps_of, Sums.is_ended};
+ghost use Rattle.{tp_wave.specs.{Generations.present, Machine.steps_of, Sums.is_ended}, tp_work.specs.Reports.{IsReportOf, told_of_end}};
 ghost use Rattle.tp_work.specs.{Lives.generations, Outcomes.{IsMisplaced, IsUngathered, IsWithinLimits}, Places.IsWhole, Reports.IsEnd};
-ghost use Rattle.tp_work.specs.Reports.{IsReportOf, told_of_end};
 
 use crate::config::{Config, Fault};
 use crate::failed_task::FailedTask;

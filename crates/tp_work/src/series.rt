@@ -1,13 +1,11 @@
 //! Running a pool through several generations, reopened after each but the last.
-ghost use Rattle.std.specs.{List.All, Prelude.{◌≡◌, ◌≤◌, ◌<◌, ◌+◌, ◌*◌, ◌-◌, ◌++◌, ◌∷◌, [], ℕ, length, map, reverse, slice_index}};
-ghost use Rattle.std.specs.Prelude.{slice_index_or, vec_capacity, vec_len, Err, IfErr, IfOk, IfSome, MatchOption, MatchResult, None, Ok};
-ghost use Rattle.std.specs.Prelude.{OnOk, Some, if◌then◌else◌};
+ghost use Rattle.{std.specs.{List.All, Prelude.if◌then◌else◌}, tp_graph.specs.{Found.HasEachOnce, Graphs.TaskGraph, Left.AreResults}};
+ghost use Rattle.std.specs.Prelude.{◌≡◌, ◌≤◌, ◌<◌, ◌+◌, ◌*◌, ◌-◌, ◌++◌, ◌∷◌, [], ℕ, length, map, reverse, slice_index, slice_index_or};
+ghost use Rattle.std.specs.Prelude.{vec_capacity, vec_len, Err, IfErr, IfOk, IfSome, MatchOption, MatchResult, None, Ok, OnOk, Some};
 ghost use Rattle.tp_base.specs.declared.{limits.TheConstants.MAX_STEPS, refusal.Refusal.TheVariants.{HistoryFull, Missing, NoMemory}};
-ghost use Rattle.tp_graph.specs.{Found.HasEachOnce, Graphs.TaskGraph, Left.AreResults};
-ghost use Rattle.tp_wave.specs.Generations.{present_events};
-ghost use Rattle.tp_work.specs.{Lives.{generations, sent_in}, Outcomes.{HasEnded, IsAnswer, IsFaultOf, IsWithinLimits, Lacks}};
-ghost use Rattle.tp_work.specs.{Places.IsWhole, Reports.{IsEnd, IsOver, IsReport}, Series.{AddsKept, IsDoneOnceInEach, IsKept, IsSeries}};
-ghost use Rattle.tp_work.specs.{Series.{IsSeriesFault, with_messages}, declared.series.Round.Round};
+ghost use Rattle.{tp_wave.specs.Generations.present_events, tp_work.specs.{Lives.{generations, sent_in}, declared.series.Round.Round}};
+ghost use Rattle.tp_work.specs.{Outcomes.{HasEnded, IsAnswer, IsFaultOf, IsWithinLimits, Lacks}, Reports.{IsEnd, IsOver, IsReport}};
+ghost use Rattle.tp_work.specs.{Places.IsWhole, Series.{AddsKept, IsDoneOnceInEach, IsKept, IsSeries, IsSeriesFault, with_messages}};
 
 use crate::config::{Config, Fault};
 use crate::failed_task::FailedTask;

@@ -1,5 +1,4 @@
-use Rattle.std.proofs.Common.{IfErr, IfOk, subst}
-use Rattle.tp_work.specs.Outcomes.{IsFault, IsOutcome}
+use Rattle.{std.proofs.Common.{IfErr, IfOk, subst}, tp_work.specs.Outcomes.{IsFault, IsOutcome}}
 use Rattle.tp_work.proofs.counted_run.run_pool_told.Goals as goal
 
 pub returns-clause-outcome : goal.returns-clause-outcome

@@ -1,8 +1,6 @@
-use Rattle.std.{proofs.Common.{rules, List, ◌≡◌, ap, sym, subst, ◌∙◌, length}, specs.{List.{All, count_by}, Prelude.sum_by}}
-use Rattle.tp_board.specs.Numbers.{LinkNumbers, ShareNumbers}
-use Rattle.tp_node.specs.{Nodes.{NodeState, counted_of}, PoolLinks.link_of}
-use Rattle.tp_wave.specs.{Generations.present_events, Machine.pending_at}
-use Rattle.tp_work.proofs.Gathering.{All-of_map, done_by, sum_by-map}
+use Rattle.{tp_board.specs.Numbers.LinkNumbers, tp_work.proofs.Lemmas.{present_events, pending_at, done_by, sum_by-map}}
+use Rattle.tp_node.{proofs.Gathering.All-of_map, specs.PoolLinks.link_of}
+use Rattle.tp_work.proofs.Lemmas.{rules, List, ◌≡◌, ap, sym, subst, ◌∙◌, length, All, count_by, sum_by, ShareNumbers, NodeState, counted_of}
 use Rattle.tp_work.proofs.gathered.gather.Goals as goal
 
 pub returns-clause-gathered : goal.returns-clause-gathered

@@ -1,7 +1,4 @@
-use Rattle.std.proofs.Common.{rules, ◌≡◌, ◌++◌, ◌∷◌, [], ◌∙◌, ap, arith, length, vec_len}
-use Rattle.tp_board.specs.Numbers.{ShareNumbers}
-use Rattle.tp_graph.specs.Serial.{Results}
-use Rattle.tp_node.proofs.Gathering.{results_of}
+use Rattle.tp_work.proofs.Lemmas.{rules, ◌≡◌, ◌++◌, ◌∷◌, [], ◌∙◌, ap, arith, length, vec_len, ShareNumbers, Results, results_of}
 use Rattle.tp_work.proofs.gathered.take_node.Goals as goal
 
 pub unreachable-requires : goal.unreachable-requires

@@ -1,8 +1,7 @@
 use Rattle.std.proofs.Common.{rules, suc, ◌≡◌, ◌+◌, ◌∙◌, refl, ap, arith, length, length-append, vec_len, sym, subst}
-use Rattle.std.{proofs.lemmas.{Iterator.{Adapters.YieldsList-from_vec, Consumers.YieldsList-end}, List.Sums.sum_by-cons}, specs.List.All}
-use Rattle.std.specs.{Prelude.{List, sum_by}, Vec.Iter.into_iter_items}
-use Rattle.tp_node.{proofs.Gathering.{mapped-more, results-more, results_of, right-more}, specs.Nodes.{NodeState, counted_of}}
-use Rattle.tp_work.proofs.Gathering.{All-of_map}
+use Rattle.std.{proofs.lemmas.Iterator.{Adapters.YieldsList-from_vec, Consumers.YieldsList-end}, specs.{List.All, Prelude.List}}
+use Rattle.{std.specs.Vec.Iter.into_iter_items, tp_node.specs.Nodes.counted_of}
+use Rattle.tp_node.{proofs.Gathering.{All-of_map, mapped-more, results_left, results-more, results_of, right-more}, specs.Nodes.NodeState}
 use Rattle.tp_work.proofs.gathered.take_nodes.Goals as goal
 
 pub take_node-requires-clause-shares : goal.take_node-requires-clause-shares
@@ -13,11 +12,7 @@ take_node-requires-clause-shares g c κs within =
 
 pub take_node-requires-clause-results : goal.take_node-requires-clause-results
 take_node-requires-clause-results g c κs within =
-    let left : sum_by (λ (n : NodeState g.row.G.Denot). length (results_of n)) (into_iter_items c.loop-node.node-iterator)
-    ≡ length (results_of c.in-Some.node) + sum_by (λ (n : NodeState g.row.G.Denot). length (results_of n))
-    (into_iter_items c.next.new.self) =
-    ap (sum_by (λ (n : NodeState g.row.G.Denot). length (results_of n))) c.in-Some.ensures.steps.0
-    ∙ sum_by-cons (λ (n : NodeState g.row.G.Denot). length (results_of n)) c.in-Some.node (into_iter_items c.next.new.self) in
+    let left = results_left c.in-Some.node (into_iter_items c.loop-node.node-iterator) _ c.in-Some.ensures.steps.0 in
     omega (arith, left, c.loop-node.invariant.results_room)
 
 pub returns-clause-right : goal.returns-clause-right
@@ -36,11 +31,7 @@ loop-node-preserved g c =
     let more : vec_len c.take_node.new.results ≡ vec_len c.loop-node.results + length (results_of c.in-Some.node) =
     search rules ∙ ap length c.take_node.ensures.results ∙ length-append c.loop-node.results.items (results_of c.in-Some.node)
     ∙ search rules in
-    let left : sum_by (λ (n : NodeState g.row.G.Denot). length (results_of n)) (into_iter_items c.loop-node.node-iterator)
-    ≡ length (results_of c.in-Some.node) + sum_by (λ (n : NodeState g.row.G.Denot). length (results_of n))
-    (into_iter_items c.next.new.self) =
-    ap (sum_by (λ (n : NodeState g.row.G.Denot). length (results_of n))) c.in-Some.ensures.steps.0
-    ∙ sum_by-cons (λ (n : NodeState g.row.G.Denot). length (results_of n)) c.in-Some.node (into_iter_items c.next.new.self) in
+    let left = results_left c.in-Some.node (into_iter_items c.loop-node.node-iterator) _ c.in-Some.ensures.steps.0 in
     let put : vec_len c.take_node.new.shares ≡ vec_len c.loop-node.shares + 1 =
     search rules ∙ ap length c.take_node.ensures.shares ∙ length-append c.loop-node.shares.items _ ∙ search rules in
     let fewer : length (into_iter_items c.loop-node.node-iterator) ≡ suc (length (into_iter_items c.next.new.self)) =

@@ -1,6 +1,5 @@
 use Rattle.std.specs.{List.{All, flat_map}, Prelude.{◌≡◌, ◌≤◌, ◌+◌, length, map, sum_by, vec_capacity, vec_len}, Vec.Iter.into_iter_items}
-use Rattle.tp_graph.specs.Left.{AreResults}
-use Rattle.tp_node.specs.Nodes.{counted_of}
+use Rattle.{tp_graph.specs.Left.AreResults, tp_node.specs.Nodes.counted_of}
 use Rattle.tp_work.proofs.gathered.take_nodes.Given as goal
 
 abbrev pub invariant-loop-node : goal.invariant-loop-node

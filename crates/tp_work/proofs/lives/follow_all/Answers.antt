@@ -1,9 +1,6 @@
-use Rattle.std.proofs.Common.{rules, ◌≡◌, ◌∙◌, ◌+◌, ◌-◌, ◌<◌, ℕ, length, map, refl, sym, ap, subst, arith, take, vec_len}
-use Rattle.std.proofs.lemmas.List.{length-drop, length-map, length-reverse}
-use Rattle.tp_base.specs.History.{Event}
-use Rattle.tp_wave.specs.{Generations.ended_generations, Machine.History}
-use Rattle.tp_work.proofs.{Living.{oldest, oldest-all, oldest_next, through}, Walking.{ended-before, sent-few, stages-tell-all}}
-use Rattle.tp_work.specs.Lives.{IsFollowed, LivesInEach, sent_in}
+use Rattle.{std.proofs.lemmas.List.length-drop, tp_work.proofs.Lemmas.{sent-few, stages-tell-all, IsFollowed, LivesInEach, sent_in}}
+use Rattle.tp_work.proofs.Lemmas.{rules, ◌≡◌, ◌∙◌, ◌+◌, ◌-◌, ◌<◌, ℕ, length, map, refl, sym, ap, subst, arith, take, vec_len, length-map}
+use Rattle.tp_work.proofs.Lemmas.{length-reverse, Event, ended_generations, History, oldest, oldest-all, oldest_next, through, ended-before}
 use Rattle.tp_work.proofs.lives.follow_all.Goals as goal
 
 pub follow_on-requires-clause-few : goal.follow_on-requires-clause-few
@@ -23,10 +20,8 @@ follow_on-requires-clause-room c =
     λ reopens.
     let h = c.args.history.now.events in
     let past = oldest c.loop-place.place h in
-    let ended = ended-before h c.loop-place.place (
-      c.in-Some.field-0-0,
-      c.in-Some.step,
-    ) (search rules) (sym c.at.ensures ∙ c.in-Some.is) reopens in
+    let event : Event = (c.in-Some.field-0-0, c.in-Some.step) in
+    let ended = ended-before h c.loop-place.place event (search rules) (sym c.at.ensures ∙ c.in-Some.is) reopens in
     let long : vec_len c.loop-place.sent ≡ length c.loop-place.sent.items = search rules in
     omega (
       arith,

@@ -1,7 +1,5 @@
-use Rattle.std.proofs.Common.{◌≡◌, ◌∙◌, ◌+◌, IsFalse, IsTrue, cond, refl, sym, subst}
-use Rattle.tp_wave.specs.{Machine.step_of, Steps.{is_reopen, is_send}}
-use Rattle.tp_work.proofs.{Living.Told, Walking.{followed-on, followed-reopened, goes_on_unless, no_life-on, no_life-reopened}}
-use Rattle.tp_work.proofs.Walking.{sends_not_unless}
+use Rattle.tp_work.proofs.Lemmas.{◌≡◌, ◌∙◌, ◌+◌, IsFalse, IsTrue, cond, refl, sym, subst, step_of, is_reopen, is_send, Told, followed-on}
+use Rattle.tp_work.proofs.Lemmas.{followed-reopened, goes_on_unless, no_life-on, no_life-reopened, sends_not_unless}
 use Rattle.tp_work.proofs.lives.follow_on.Goals as goal
 
 pub returns-then-not-all_over-clause-no : goal.returns-then-not-all_over-clause-no

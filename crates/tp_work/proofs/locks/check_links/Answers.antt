@@ -1,6 +1,4 @@
-use Rattle.std.proofs.Common.{rules, ◌≡◌, ◌∙◌, sym, ap}
-use Rattle.tp_node.specs.PoolLinks.{PoolLinkState}
-use Rattle.tp_work.{proofs.Placing.in_order-more, specs.Places.link_place}
+use Rattle.tp_work.{proofs.Lemmas.{rules, ◌≡◌, ◌∙◌, sym, ap, PoolLinkState, in_order-more}, specs.Places.link_place}
 use Rattle.tp_work.proofs.locks.check_links.Goals as goal
 
 pub loop-place-preserved : goal.loop-place-preserved

@@ -1,5 +1,4 @@
-use Rattle.std.proofs.Common.{rules}
-use Rattle.tp_work.proofs.locks.check_pool_link.Goals as goal
+use Rattle.{std.proofs.Common.rules, tp_work.proofs.locks.check_pool_link.Goals.returns-clause-to as goal}
 
-pub returns-clause-to : goal.returns-clause-to
+pub returns-clause-to : goal
 returns-clause-to g c = search rules

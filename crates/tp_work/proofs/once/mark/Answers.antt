@@ -1,5 +1,4 @@
-use Rattle.std.proofs.Common.{rules}
-use Rattle.tp_work.proofs.once.mark.Goals as goal
+use Rattle.{std.proofs.Common.rules, tp_work.proofs.once.mark.Goals.returns-clause-fresh as goal}
 
-pub returns-clause-fresh : goal.returns-clause-fresh
+pub returns-clause-fresh : goal
 returns-clause-fresh c = search rules

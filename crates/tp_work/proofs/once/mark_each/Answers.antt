@@ -1,9 +1,6 @@
-use Rattle.std.proofs.Common.{ℕ, ap, subst, sym}
-use Rattle.tp_work.proofs.Marking.{not_once}
-use Rattle.tp_work.proofs.once.mark_each.Goals as goal
-use Rattle.tp_graph.specs.Found.{HasEachOnce}
+use Rattle.tp_work.proofs.{Lemmas.{ℕ, ap, subst, sym, not_once, HasEachOnce}, once.mark_each.Goals.returns-then-not-mark-clause-no as goal}
 
-pub returns-then-not-mark-clause-no : goal.returns-then-not-mark-clause-no
+pub returns-then-not-mark-clause-no : goal
 returns-then-not-mark-clause-no c =
     λ _ once.
     not_once c.args.results.now c.loop-task.marks c.loop-task.task-index c.loop-task-item.result.0.0 c.loop-task-item.result

@@ -1,6 +1,4 @@
-use Rattle.std.specs.Prelude.{take}
-use Rattle.tp_work.specs.Outcomes.{AreMarks}
-use Rattle.tp_work.proofs.once.mark_each.Given as goal
+use Rattle.{std.specs.Prelude.take, tp_work.{proofs.once.mark_each.Given.invariant-loop-task as goal, specs.Outcomes.AreMarks}}
 
-abbrev pub invariant-loop-task : goal.invariant-loop-task
+abbrev pub invariant-loop-task : goal
 invariant-loop-task l = AreMarks (take l.task-index l.results) l.marks

@@ -1,8 +1,6 @@
-use Rattle.std.proofs.Common.{arith}
-use Rattle.tp_work.proofs.Single.{is_outcome, only_one}
-use Rattle.tp_work.proofs.run.outcome_of.Goals as goal
+use Rattle.{std.proofs.Common.arith, tp_work.proofs.{Lemmas.{is_outcome, only_one}, run.outcome_of.Goals.returns as goal}}
 
-pub returns : goal.returns
+pub returns : goal
 returns c =
     λ n workers g is.
     is_outcome n workers g c.args.series c.in-Some.round

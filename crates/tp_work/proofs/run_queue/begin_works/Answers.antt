@@ -1,5 +1,4 @@
-use Rattle.std.proofs.Common.{sym, subst, arith}
-use Rattle.tp_work.{proofs.Beginning.{then_one, then_rests}, specs.RunQueues.BeginsEach}
+use Rattle.{std.proofs.Common.{sym, subst, arith}, tp_work.{proofs.Lemmas.{then_one, then_rests}, specs.RunQueues.BeginsEach}}
 use Rattle.tp_work.proofs.run_queue.begin_works.Goals as goal
 
 pub returns-in-Ok-None-clause-begun : goal.returns-in-Ok-None-clause-begun

@@ -1,6 +1,5 @@
-use Rattle.std.proofs.Common.{arith}
-use Rattle.tp_work.proofs.Walking.{many_generations}
-use Rattle.tp_work.proofs.runner.check_board.Goals.{then-generation-number-via-then-generation-number, then-generation-number-via-else-generation-number+then-limit-ne-MAX_STEPS}
+use Rattle.tp_work.proofs.{Lemmas.{arith, many_generations}, runner.check_board.Goals.then-generation-number-via-then-generation-number}
+use Rattle.tp_work.proofs.runner.check_board.Goals.{then-generation-number-via-else-generation-number+then-limit-ne-MAX_STEPS}
 use Rattle.tp_work.proofs.runner.check_board.Goals as goal
 
 pub returns-clause-number : goal.returns-clause-number

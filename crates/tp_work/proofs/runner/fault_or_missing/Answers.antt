@@ -1,7 +1,4 @@
-use Rattle.std.{proofs.Common.{◌≡◌, ◌∙◌, ap, subst, sym}, specs.{Option.{option_or, unwrap_or}, Prelude.{Option, Some}}}
-use Rattle.tp_base.specs.declared.refusal.Refusal.{Refusal, TheVariants.Missing}
-use Rattle.tp_board.specs.States.{BoardState}
-use Rattle.tp_work.proofs.Reporting.{first_or}
+use Rattle.tp_work.proofs.Lemmas.{◌≡◌, ◌∙◌, ap, subst, sym, option_or, unwrap_or, Option, Some, Refusal, Missing, BoardState, first_or}
 use Rattle.tp_work.proofs.runner.fault_or_missing.Goals as goal
 
 pub returns-clause-fault : goal.returns-clause-fault

@@ -1,8 +1,6 @@
-use Rattle.std.proofs.Common.{ℕ, sym, subst}
-use Rattle.tp_work.{proofs.Reporting.is_report, specs.Reports.IsReportOf}
-use Rattle.tp_work.proofs.runner.report_of.Goals as goal
+use Rattle.tp_work.proofs.{Lemmas.{ℕ, sym, subst, is_report, IsReportOf}, runner.report_of.Goals.returns-in-Ok-clause-report as goal}
 
-pub returns-in-Ok-clause-report : goal.returns-in-Ok-clause-report
+pub returns-in-Ok-clause-report : goal
 returns-in-Ok-clause-report g c =
     subst (λ (n : ℕ). IsReportOf n (g.G.Graph.meaning c.args.graph.now) c.args.pool.nodes.items c.args.pool.board c.in-Ok.report)
     (sym c.requires.nodes)

@@ -1,5 +1,4 @@
-use Rattle.std.proofs.Common.{rules}
-use Rattle.tp_work.proofs.series.answer_to.Goals as goal
+use Rattle.{std.proofs.Common.rules, tp_work.proofs.series.answer_to.Goals.returns as goal}
 
-pub returns : goal.returns
+pub returns : goal
 returns c = search rules

@@ -1,11 +1,7 @@
-use Rattle.std.proofs.{Common.{rules, ◌≡◌, ◌∙◌, ◌<◌, ◌∷◌, [], ℕ, sym, ap, subst, inr, length}, lemmas.List.length-append}
-use Rattle.std.proofs.lemmas.{List.Elements.All-push, Option.MatchOption-at_none, Result.{IfErr-weaker, IfOk-weaker, on_ok_weaker}}
-use Rattle.std.specs.{List.All, Prelude.{MatchOption, vec_len}}
-use Rattle.tp_graph.specs.{Found.HasEachOnce, Serial.Results}
-use Rattle.tp_node.specs.declared.pool.Pool.{Pool}
-use Rattle.tp_wave.specs.{Generations.present_events, Machine.History}
-use Rattle.tp_work.proofs.{Reporting.lack_by_check, Rounds.{at_none, fault_of_lack, missing_or_memory, series_fault}}
-use Rattle.tp_work.specs.{Lives.generations, Outcomes.Lacks, Series.IsKept, declared.series.Round.Round}
+use Rattle.std.proofs.lemmas.{Option.MatchOption-at_none, Result.{IfOk-weaker, on_ok_weaker}}
+use Rattle.tp_work.proofs.Lemmas.{rules, ◌≡◌, ◌∙◌, ◌<◌, ◌∷◌, [], ℕ, sym, ap, subst, inr, length, length-append, All-push, IfErr-weaker, All}
+use Rattle.tp_work.proofs.Lemmas.{MatchOption, vec_len, HasEachOnce, Results, Pool, present_events, History, lack_by_check, at_none}
+use Rattle.tp_work.proofs.Lemmas.{fault_of_lack, missing_or_memory, series_fault, generations, Lacks, IsKept, Round}
 use Rattle.tp_work.proofs.series.keep.Goals as goal
 
 pub returns-clause-nodes : goal.returns-clause-nodes
@@ -25,8 +21,7 @@ returns-clause-kept g c =
     let n = g.K.Ledgers.names.nodes in
     let graph = g.G.Graph.meaning c.args.graph in
     let tasks : c.tasks-tasks.result ≡ graph.tasks = search rules in
-    let says = lack_by_check (HasEachOnce c.tasks-tasks.result c.deref.result.now) c.each_once.result c.lack_by-lack.result
-    c.each_once.ensures c.lack_by-lack.ensures in
+    let says = lack_by_check _ c.each_once.result c.lack_by-lack.result c.each_once.ensures c.lack_by-lack.ensures in
     let last : Round =
     record {
       results = c.args.results;
@@ -58,8 +53,7 @@ returns-clause-lack g c =
     let n = g.K.Ledgers.names.nodes in
     let graph = g.G.Graph.meaning c.args.graph in
     let tasks : c.tasks-tasks.result ≡ graph.tasks = search rules in
-    let says = lack_by_check (HasEachOnce c.tasks-tasks.result c.deref.result.now) c.each_once.result c.lack_by-lack.result
-    c.each_once.ensures c.lack_by-lack.ensures in
+    let says = lack_by_check _ c.each_once.result c.lack_by-lack.result c.each_once.ensures c.lack_by-lack.ensures in
     IfErr-weaker c.keep_unless.result _ _
     (λ f told. fault_of_lack n graph f c.args.pool.nodes.items c.args.pool.board (HasEachOnce graph.tasks c.args.results.items)
     c.lack_by-lack.result
@@ -73,8 +67,7 @@ returns-clause-fault g c =
     let n = g.K.Ledgers.names.nodes in
     let graph = g.G.Graph.meaning c.args.graph in
     let tasks : c.tasks-tasks.result ≡ graph.tasks = search rules in
-    let says = lack_by_check (HasEachOnce c.tasks-tasks.result c.deref.result.now) c.each_once.result c.lack_by-lack.result
-    c.each_once.ensures c.lack_by-lack.ensures in
+    let says = lack_by_check _ c.each_once.result c.lack_by-lack.result c.each_once.ensures c.lack_by-lack.ensures in
     IfErr-weaker c.keep_unless.result _ _
     (λ f told count few. series_fault n graph count f c.args.pool.nodes.items c.args.pool.board
     (Lacks (HasEachOnce c.tasks-tasks.result c.deref.result.now))

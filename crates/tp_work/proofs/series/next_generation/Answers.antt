@@ -1,5 +1,4 @@
-use Rattle.std.proofs.Common.{length, arith}
-use Rattle.tp_work.{proofs.Rounds.{at_some, series_fault}, specs.Outcomes.IsAnswer}
+use Rattle.{std.proofs.Common.{length, arith}, tp_work.{proofs.Lemmas.{at_some, series_fault}, specs.Outcomes.IsAnswer}}
 use Rattle.tp_work.proofs.series.next_generation.Goals as goal
 
 pub returns-in-Err-clause-fault : goal.returns-in-Err-clause-fault

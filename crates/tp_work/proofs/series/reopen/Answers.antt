@@ -1,10 +1,7 @@
-use Rattle.std.proofs.{Common.{◌∙◌, ◌<◌, ◌≤◌, ◌≡◌, Err, Ok, sym, ap, subst, arith, inl, length}, lemmas.Result.IfErr-weaker}
-use Rattle.tp_base.specs.declared.{limits.TheConstants.MAX_STEPS, refusal.Refusal.TheVariants.HistoryFull}
-use Rattle.tp_node.specs.declared.pool.Pool.{Pool}
-use Rattle.tp_wave.specs.{Generations.present_events, Machine.History}
-use Rattle.tp_work.proofs.{Reporting.ended_of_over, Rounds.{at_none, fault_weaker, full_refusal, full_refused, not_reopened, refused_by}}
-use Rattle.tp_work.{proofs.Rounds.{series_fault, whole-reopened}, specs.{Lives.generations, Outcomes.IsFaultOf, Places.IsWhole}}
-use Rattle.tp_work.specs.{Reports.told_of_end, Series.IsNotReopened}
+use Rattle.tp_work.proofs.Lemmas.{◌∙◌, ◌<◌, ◌≤◌, ◌≡◌, Err, Ok, sym, ap, subst, arith, inl, length, IfErr-weaker, MAX_STEPS, HistoryFull}
+use Rattle.tp_work.proofs.Lemmas.{Pool, present_events, History, ended_of_over, at_none, fault_weaker, full_refusal, full_refused}
+use Rattle.tp_work.proofs.Lemmas.{not_reopened, refused_by, series_fault, whole-reopened, generations, IsFaultOf, IsWhole, told_of_end}
+use Rattle.tp_work.proofs.Lemmas.{IsNotReopened}
 use Rattle.tp_work.proofs.series.reopen.Goals as goal
 
 pub keep-requires-clause-whole : goal.keep-requires-clause-whole

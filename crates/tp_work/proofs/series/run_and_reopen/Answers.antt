@@ -1,5 +1,4 @@
-use Rattle.std.proofs.{Common.{ℕ, ◌∙◌, ◌*◌, ◌<◌, ap, sym, subst}, lemmas.Result.IfErr-weaker}
-use Rattle.tp_work.{proofs.Rounds.both_ok, specs.Series.{AddsKept, IsSeriesFault}}
+use Rattle.tp_work.{proofs.Lemmas.{ℕ, ◌∙◌, ◌*◌, ◌<◌, ap, sym, subst, IfErr-weaker, both_ok, IsSeriesFault}, specs.Series.AddsKept}
 use Rattle.tp_work.proofs.series.run_and_reopen.Goals as goal
 
 pub returns-in-Ok-clause-kept : goal.returns-in-Ok-clause-kept

@@ -1,7 +1,4 @@
-use Rattle.std.{proofs.Common.{◌∙◌, sym, ap, subst}, specs.Prelude.{IfErr, IfOk}}
-use Rattle.tp_board.specs.Names.{PoolNames}
-use Rattle.tp_graph.specs.Graphs.{TaskGraph}
-use Rattle.tp_work.specs.Series.{IsSeries, IsSeriesFault}
+use Rattle.{tp_board.specs.Names.PoolNames, tp_work.proofs.Lemmas.{◌∙◌, sym, ap, subst, IfErr, IfOk, TaskGraph, IsSeries, IsSeriesFault}}
 use Rattle.tp_work.proofs.series.run_only.Goals as goal
 
 pub run_earlier-requires-clause-config : goal.run_earlier-requires-clause-config

@@ -1,5 +1,4 @@
-use Rattle.std.proofs.lemmas.Result.{IfErr-weaker}
-use Rattle.tp_work.{proofs.Rounds.{at_none, made_is, made_or_lack, match_err, match_ok}, specs.{Outcomes.Lacks, Series.IsDoneOnceInEach}}
+use Rattle.tp_work.proofs.Lemmas.{IfErr-weaker, at_none, made_is, made_or_lack, match_err, match_ok, Lacks, IsDoneOnceInEach}
 use Rattle.tp_work.proofs.series.sent_of.Goals as goal
 
 pub returns-in-None-clause-once : goal.returns-in-None-clause-once

@@ -1,7 +1,5 @@
-use Rattle.std.proofs.{Common.{rules, ◌≡◌, ◌∙◌, ◌+◌, ℕ, IsTrue, length, map, refl, reverse, ap, subst, vec_len}, lemmas.List.length-map}
-use Rattle.std.proofs.lemmas.List.{length-reverse}
-use Rattle.tp_graph.specs.Found.{HasEachOnce}
-use Rattle.tp_work.{proofs.Rounds.is_series, specs.{Lives.{LivesInEach, generations, sent_in}, Series.IsKept, declared.series.Round.Round}}
+use Rattle.tp_work.proofs.Lemmas.{rules, ◌≡◌, ◌∙◌, ◌+◌, ℕ, IsTrue, length, map, refl, reverse, ap, subst, vec_len, length-map}
+use Rattle.tp_work.proofs.Lemmas.{length-reverse, HasEachOnce, is_series, LivesInEach, generations, sent_in, IsKept, Round}
 use Rattle.tp_work.proofs.series.series_from.Goals as goal
 
 pub told_rounds-requires-clause-sent : goal.told_rounds-requires-clause-sent

@@ -1,7 +1,6 @@
 use Rattle.std.proofs.{Common.{◌≡◌, ◌∙◌, ◌+◌, length, sym, ap, inl, inr, arith, vec_len}, lemmas.Result.{IfErr-weaker, on_ok_weaker}}
-use Rattle.tp_wave.specs.Machine.{History}
-use Rattle.tp_work.{proofs.Reporting.{ended_of_over, is_fault_by, of_report, over_of_end, why_weaker}, specs.Lives.generations}
-use Rattle.tp_work.specs.Series.{IsSeriesLack}
+use Rattle.{tp_wave.specs.Machine.History, tp_work.specs.Series.IsSeriesLack}
+use Rattle.tp_work.{proofs.Lemmas.{ended_of_over, is_fault_by, of_report, over_of_end, why_weaker}, specs.Lives.generations}
 use Rattle.tp_work.proofs.series.series_of.Goals as goal
 
 pub series_from-requires-clause-report : goal.series_from-requires-clause-report

@@ -1,9 +1,6 @@
-use Rattle.std.{proofs.Common.{◌≡◌, subst, sym}, specs.Prelude.length}
-use Rattle.tp_base.specs.declared.refusal.Refusal.{Refusal}
-use Rattle.tp_work.{proofs.Rounds.fault_weaker, specs.Outcomes.IsAnswer}
-use Rattle.tp_work.proofs.series.stopped.Goals as goal
+use Rattle.tp_work.proofs.{Lemmas.{◌≡◌, subst, sym, length, Refusal, fault_weaker, IsAnswer}, series.stopped.Goals.returns as goal}
 
-pub returns : goal.returns
+pub returns : goal
 returns g c =
     let h = c.args.pool.board.history in
     fault_weaker g.K.Ledgers.names.nodes (g.G.Graph.meaning c.args.graph) c.stopped_for.result c.args.pool.nodes.items c.args.pool.board

@@ -1,8 +1,6 @@
-use Rattle.std.proofs.Common.{◌≡◌, ℕ, subst}
-use Rattle.tp_work.{proofs.Rounds.fault_of_gathered, specs.Outcomes.IsFaultOf}
-use Rattle.tp_work.proofs.series.stopped_for.Goals as goal
+use Rattle.tp_work.proofs.{Lemmas.{◌≡◌, ℕ, subst, fault_of_gathered, IsFaultOf}, series.stopped_for.Goals.returns as goal}
 
-pub returns : goal.returns
+pub returns : goal
 returns g c =
     subst (λ (n : ℕ). IsFaultOf n (g.G.Graph.meaning c.args.graph) c.args.pool.nodes.items c.args.pool.board (λ e. e ≡ c.args.refusal)
     c.fault_with.result) c.nodes-nodes.ensures.number

@@ -1,8 +1,7 @@
 use Rattle.std.specs.Prelude.{ℕ, ◌≡◌, ◌<◌, ◌≤◌, length, slice_index, slice_index_or}
-use Rattle.tp_work.specs.{Series.with_messages, declared.series.Round.Round}
-use Rattle.tp_work.proofs.series.tell.Given as goal
+use Rattle.tp_work.{proofs.series.tell.Given.invariant-loop-place as goal, specs.{Series.with_messages, declared.series.Round.Round}}
 
-abbrev pub invariant-loop-place : goal.invariant-loop-place
+abbrev pub invariant-loop-place : goal
 invariant-loop-place l =
     record {
       length : length l.rounds ≡ length l.initial.rounds;

@@ -1,6 +1,5 @@
-use Rattle.std.proofs.{Common.{rules, ◌≡◌, ◌∙◌, ◌+◌, [], ◌∷◌, length, map, sym, ap, subst, arith, vec_len}, lemmas.List.length-append}
-use Rattle.std.{proofs.lemmas.List.{with_items_is, Elements.All-push}, specs.{List.All, Vec.with_items}}
-use Rattle.tp_work.{proofs.Rounds.{kept-told, messages-told}, specs.{Series.IsKept, declared.series.Round.Round}}
+use Rattle.{std.{proofs.lemmas.List.with_items_is, specs.Vec.with_items}, tp_work.proofs.Lemmas.{kept-told, messages-told, IsKept, Round}}
+use Rattle.tp_work.proofs.Lemmas.{rules, ◌≡◌, ◌∙◌, ◌+◌, [], ◌∷◌, length, map, sym, ap, subst, arith, vec_len, length-append, All-push, All}
 use Rattle.tp_work.proofs.series.told_rounds.Goals as goal
 
 pub returns-clause-kept : goal.returns-clause-kept
@@ -12,16 +11,9 @@ returns-clause-kept c =
     (All-push (IsKept n workers graph) c.args.rounds.items c.args.last kept own) in
     let rounds : vec_len c.args.rounds ≡ length c.args.rounds.items = search rules in
     let many : vec_len c.push_reserved.new.self ≡ vec_len c.args.rounds + 1 = search rules in
-    let size : length c.tell.new.rounds ≡ vec_len c.push_reserved.new.self =
-    omega (
-      arith,
-      c.tell.ensures.length,
-      ap length all,
-      ap length c.push_reserved.ensures.items,
-      length-append c.args.rounds.items (c.args.last ∷ []),
-      rounds,
-      many,
-    ) in
+    let more : length c.deref_mut.result.now ≡ vec_len c.args.rounds + 1 =
+    omega (arith, ap length all, ap length c.push_reserved.ensures.items, length-append c.args.rounds.items (c.args.last ∷ []), rounds) in
+    let size : length c.tell.new.rounds ≡ vec_len c.push_reserved.new.self = omega (arith, c.tell.ensures.length, more, many) in
     let same : (with_items c.push_reserved.new.self c.tell.new.rounds).items ≡ c.tell.new.rounds =
     with_items_is c.push_reserved.new.self c.tell.new.rounds size in
     subst (All (IsKept n workers graph)) (sym same)

@@ -1,6 +1,5 @@
 use Rattle.std.{proofs.Common.{◌++◌, ap, subst, ◌∙◌}, specs.{Option.option_to_list, Prelude.reverse}}
-use Rattle.tp_node.specs.Nodes.{NodeState}
-use Rattle.tp_work.{proofs.Beginning.{begun_before, begun_first}, specs.RunQueues.{BeginsEach, RunQueueState}}
+use Rattle.{tp_node.specs.Nodes.NodeState, tp_work.{proofs.Lemmas.{begun_before, begun_first}, specs.RunQueues.{BeginsEach, RunQueueState}}}
 use Rattle.tp_work.proofs.run_queue.RunQueue.begin.Goals as goal
 
 pub returns-then-share-gt1-clause-begun : goal.returns-then-share-gt1-clause-begun

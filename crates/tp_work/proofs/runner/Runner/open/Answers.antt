@@ -1,8 +1,7 @@
 use Rattle.std.proofs.{Common.{◌≡◌, ◌∙◌, ◌*◌, ◌-◌, ℕ, sym, ap, length, vec_len}, lemmas.{List.length-map, Result.IfOk-weaker}}
-use Rattle.tp_base.specs.declared.limits.TheConstants.{MAX_STEPS}
+use Rattle.{tp_base.specs.declared.limits.TheConstants.MAX_STEPS, tp_work.proofs.Lemmas.{length-first_links, length-first_shares}}
 use Rattle.tp_board.specs.{Names.PoolNames, Numbers.{ShareNumbers, first_links, first_shares}, States.BoardState}
 use Rattle.tp_node.specs.{Nodes.first_node, PoolLinks.empty_pool_link, Pools.{first_nodes, first_pool_links}, declared.pool.Pool.Pool}
-use Rattle.tp_work.proofs.Placing.{length-first_links, length-first_shares}
 use Rattle.tp_work.proofs.runner.Runner.open.Goals as goal
 
 pub returns-clause-nodes : goal.returns-clause-nodes

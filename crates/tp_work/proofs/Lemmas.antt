@@ -1,20 +1,9 @@
--- Rounds compared with the events of their generations.
-use Rattle.std.proofs.Common.{◌≡◌, ◌∙◌, ◌+◌, ◌<◌, ◌≤◌, ◌⊎◌, ℕ, true, false, List, [], ◌∷◌, ◌++◌, length, map, reverse, Option, Some, None}
-use Rattle.std.proofs.Common.{IfErr, IfOk, IfSome, IsTrue, MatchOption, MatchResult, OnOk, Result, Ok, Err, refl, sym, ap, subst, inl, inr}
-use Rattle.std.proofs.{Common.{arith, get_or, vec_len}, lemmas.{Bool.{cases_lt, Decides.nat_tests}, List.{get_or-map, get_or_default}}}
-use Rattle.std.proofs.lemmas.List.{length-map, map-append, same_lists, Elements.{All-cons, All-head, All-map, All-nil, All-push, All-tail}}
-use Rattle.std.{proofs.lemmas.Simd.map-map, specs.{List.{All, AllZip, range_with_len}, Prelude.nat_lt}}
-use Rattle.tp_base.specs.declared.{limits.TheConstants.MAX_STEPS, refusal.Refusal.{Refusal, TheVariants.{HistoryFull, Missing, NoMemory}}}
-use Rattle.tp_board.specs.States.{BoardState, full_check}
-use Rattle.tp_graph.specs.Graphs.{TaskGraph}
-use Rattle.tp_node.specs.{Calls.AnswersWithBoth, Nodes.{NodeState, anew}, PoolLinks.PoolLinkState}
-use Rattle.tp_wave.{proofs.Generations.{ended_generations_law, steps-present}, specs.Generations.{AreRuns, ended_generations, present}}
-use Rattle.tp_wave.specs.{Generations.present_events, Machine.{History, steps_of}, Sums.is_ended}
-use Rattle.tp_work.{proofs.{CountedTotals.{count-done, length-once}, Walking.reverse-cons}, specs.Lives.{LivesInEach, LivesOnce}}
-use Rattle.tp_work.specs.{Lives.{generations, sent_in}, Outcomes.{IsAnswer, IsFaultOf, IsUngathered, Lacks}, Places.IsWhole}
-use Rattle.tp_work.specs.{Reports.{IsReport, IsReportOf}, Series.{IsKept, IsNotReopened, IsRound, IsSeries, IsSeriesFault, IsSeriesLack}}
-use Rattle.tp_work.specs.{Series.with_messages, declared.{config.Fault.Fault, gathered.Report.Report, series.{Round.Round, Series.Series}}}
+-- The lemmas that the answers of this crate use: reports, a series of one generation, and rounds compared with the events
+-- of their generations; in the modules below, tasks that begin, parts at their places, and lives.
+pub mod Parts
+pub use Parts.*
 
+-- ==== Rounds compared with the events of their generations.
 -- ---- lists
 All-reverse : {X : Type 0} (P : X → Type 0) (xs : List X) → All P xs → All P (reverse xs)
 All-reverse P [] all = All-nil P
@@ -155,10 +144,8 @@ module _ {G : Type 0} where
       → MatchResult gathered (λ r. f ≡ record { refusal = refusal; report = Some r; failed = None })
       (λ e. f ≡ record { refusal = e; report = None; failed = None })
       → IsFaultOf n g nodes board (λ e. e ≡ refusal) f
-  fault_of_gathered n g f nodes board refusal (Ok r) report memory is =
-      subst (IsFaultOf n g nodes board (λ e. e ≡ refusal)) (sym is) (refl, report)
-  fault_of_gathered n g f nodes board refusal (Err e) report memory is =
-      subst (IsFaultOf n g nodes board (λ e. e ≡ refusal)) (sym is) memory
+  fault_of_gathered n g f nodes board refusal (Ok r) report memory is = rw is (refl, report)
+  fault_of_gathered n g f nodes board refusal (Err e) report memory is = rw is memory
 
   -- The fault of a pool that stops for what is missing.
   pub fault_of_lack : (n : ℕ) (g : TaskGraph) (f : Fault) (nodes : List (NodeState G)) (board : BoardState) (Holds : Type 0)
@@ -233,10 +220,9 @@ module _ {T E : Type 0} (Holds : Type 0) where
   pub made_or_lack : (made : Result (Option T) E) (result : Result T Refusal)
       → MatchResult made (λ it. MatchOption it (result ≡ Err Missing) (λ m. result ≡ Ok m)) (λ _. result ≡ Err NoMemory)
       → IfOk made (λ it. MatchOption it (Holds → ⊥) (λ _. Holds)) → MatchResult result (λ _. Holds) (Lacks Holds)
-  made_or_lack (Ok (Some m)) result is says = subst (λ (r : Result T Refusal). MatchResult r (λ _. Holds) (Lacks Holds)) (sym is) says
-  made_or_lack (Ok None) result is says =
-      subst (λ (r : Result T Refusal). MatchResult r (λ _. Holds) (Lacks Holds)) (sym is) (inl (refl, says))
-  made_or_lack (Err e) result is says = subst (λ (r : Result T Refusal). MatchResult r (λ _. Holds) (Lacks Holds)) (sym is) (inr refl)
+  made_or_lack (Ok (Some m)) result is says = rw is says
+  made_or_lack (Ok None) result is says = rw is (inl (refl, says))
+  made_or_lack (Err e) result is says = rw is (inr refl)
 
 -- What holds for what was made holds for what is returned.
 pub made_is : {T E : Type 0} (P : T → Type 0) (made : Result (Option T) E) (result : Result T Refusal)
@@ -262,12 +248,222 @@ module _ {G : Type 0} where
       → IsWhole n graph nodes links → new ≡ map anew nodes → same ≡ links
       → IsWhole n graph new same
   whole-reopened n graph nodes new links same whole began kept =
-      subst (λ (ls : List (PoolLinkState G)). IsWhole n graph new ls) (sym kept)
-      (subst (λ (ns : List (NodeState G)). IsWhole n graph ns links) (sym began)
-      (record {
+      rw (kept, began) (record {
         nodes_are = length-map nodes anew ∙ whole.nodes_are;
         links_are = whole.links_are;
         order = map-map (λ (s : NodeState G). s.numbers.node) anew nodes ∙ whole.order
             ∙ ap (range_with_len 0) (sym (length-map nodes anew));
         of_graph = All-map (λ s. s.graph ≡ graph) anew nodes whole.of_graph;
-      }))
+      })
+
+-- ==== What a report shows of a pool whose nodes are at their places.
+module _ {G : Type 0} where
+  -- what is pending at the nodes is what is pending in the run
+  pub pending_of_run : (n : ℕ) (nodes : List (NodeState G)) (r : Report) → length nodes ≡ n → AreInOrder nodes → AreOfTheRun nodes r
+      → sum_by (λ s. pending_here s.state) nodes ≡ total n (λ i. pending_at i (present_events r.history.events))
+  pending_of_run n nodes r each order agree =
+      let now : ℕ → ℕ = λ i. pending_at i (present_events r.history.events) in
+      sum_by-same (λ s. pending_here s.state) (λ s. now s.numbers.node) nodes agree
+      ∙ sym (sum_by-map now (λ (s : NodeState G). s.numbers.node) nodes)
+      ∙ ap (sum_by now) (order ∙ ap (range_with_len 0) each)
+      ∙ total-range now n
+
+  -- termination is announced to at most all nodes
+  announced_to : (n : ℕ) (nodes : List (NodeState G)) (announced : ℕ) → announced ≡ told_of_end nodes → length nodes ≡ n → announced ≤ n
+  announced_to n nodes announced told each =
+      let few : told_of_end nodes ≤ length nodes = count_by-le-length (λ (s : NodeState G). s.state.ended) nodes in
+      omega (arith, few, told, each)
+
+  pub is_report : (n : ℕ) (meaning : G
+      → TaskGraph) (graph : G) (nodes : List (NodeState G)) (links : List (PoolLinkState G)) (board : BoardState) (r : Report)
+      → IsGathered nodes links board r → IsOfItsRun n r → AreOfTheRun nodes r → IsWhole n graph nodes links
+      → ((g : G) → AreOf g nodes → AreResults (meaning g) r.results.items) → IsReport n (meaning graph) r
+  is_report n meaning graph nodes links board r gathered run agree whole right =
+      record {
+        of_run = run;
+        balance = gathered.balance;
+        pending = gathered.pending ∙ pending_of_run n nodes r whole.nodes_are whole.order agree;
+        done = gathered.done;
+        announced = announced_to n nodes r.announced gathered.announced whole.nodes_are;
+        right = right graph whole.of_graph;
+      }
+
+-- ---- a refusal that workers returned
+-- The first fault of two is one.
+kept-first : (kept : Option Refusal) (e : Refusal) → option_or kept (Some e) ≡ None → ⊥
+kept-first None e none = let bad : Some e ≡ None = none in cc
+kept-first (Some first) e none = let bad : Some first ≡ None = none in cc
+
+-- If a board has no fault after this was set, nothing was set.
+pub untold : (told : Option Refusal) (old new : BoardState) → MatchOption told (new ≡ old) (λ fault. new ≡ with_fault fault old)
+    → new.fault ≡ None → told ≡ None
+untold None old new is none = refl
+untold (Some e) old new is none = absurd (kept-first old.fault e (sym (ap (λ (b : BoardState). b.fault) is) ∙ none))
+
+-- If a board has no fault at the end, it had none before.
+pub none_before : {T : Type 0} (end : Result T Refusal) (old new : BoardState) → OnOk end (new ≡ old)
+    → IfErr end (λ e. new ≡ with_fault e old) → new.fault ≡ None → old.fault ≡ None
+none_before (Ok token) old new same told none = ap (λ (b : BoardState). b.fault) (sym same) ∙ none
+none_before (Err e) old new same told none = absurd (kept-first old.fault e (sym (ap (λ (b : BoardState). b.fault) told) ∙ none))
+
+-- The first fault, or another that is set, is the fault.
+pub first_or : (fault : Option Refusal) (other : Refusal) → option_or fault (Some (unwrap_or fault other)) ≡ Some (unwrap_or fault other)
+first_or None other = refl
+first_or (Some e) other = refl
+
+-- what is said of a fault if it was set
+if_some : (fault : Option Refusal) (P : Type 0) (A : Refusal → Type 0) → MatchOption fault P A → IfSome fault A
+if_some None P A p = tt
+if_some (Some e) P A p = p
+
+-- What a check says that is missing.
+pub lack_by_check : {E : Type 0} (Holds : Type 0) (checked : Result Bool E) (lack : Option Refusal)
+    → IfOk checked (λ yes. IsTrue yes ↔ Holds)
+    → MatchResult checked (λ yes. lack ≡ (if yes then None else Some Missing)) (λ _. lack ≡ Some NoMemory)
+    → MatchOption lack Holds (Lacks Holds)
+lack_by_check Holds (Ok true) lack told is = rw is (told.0 refl)
+lack_by_check Holds (Ok false) lack told is = rw is (inl (refl, λ holds. let no : false ≡ true = told.1 holds in cc))
+lack_by_check Holds (Err e) lack told is = rw is (inr refl)
+
+-- ---- faults
+-- The report of a pool that stops gives its fault.
+pub is_fault_by : (n : ℕ) (g : TaskGraph) (rounds : ℕ) (Why : Report → Refusal → Type 0) (f : Fault) (r : Report) → IsReport n g r
+    → length (generations r.history.events) ≤ rounds → f.report ≡ Some r
+    → MatchOption r.fault (Why r f.refusal) (λ e. IsAnswer (length r.history.events) e f.refusal) → IsFaultBy n g rounds Why f
+is_fault_by n g rounds Why f r report few is why = rw is (report, few, why)
+
+-- what follows from why, if no fault was set
+pub why_weaker : (fault : Option Refusal) (P Q : Type 0) (A : Refusal → Type 0) → (fault ≡ None → P → Q) → MatchOption fault P A
+    → MatchOption fault Q A
+why_weaker None P Q A f p = f refl p
+why_weaker (Some e) P Q A f p = p
+
+module _ {G : Type 0} where
+  -- A pool without a fault is over when its threads have ended.
+  pub over_of_end : {T : Type 0} (n : ℕ) (nodes : List (NodeState G)) (board : BoardState) (end : Result T Refusal)
+      → IsEnd n nodes board end → board.fault ≡ None → IsOver n nodes board
+  over_of_end n nodes board (Ok token) over none = over
+  over_of_end n nodes board (Err e) fault none = let bad : Some e ≡ None = sym fault ∙ none in cc
+
+  -- Its report says so.
+  pub ended_of_over : (n : ℕ) (g : TaskGraph) (nodes : List (NodeState G)) (board : BoardState) (r : Report)
+      → IsReportOf n g nodes board r → IsOver n nodes board → HasEnded n r
+  ended_of_over n g nodes board r report over =
+      record {
+        detected = report.report.of_run.ended ∙ ap (λ (h : History). is_ended n (present (steps_of h))) report.history ∙ over.detected;
+        announced = report.announced ∙ over.announced;
+      }
+
+  -- The fault with this report, and the refusal for what was set, is that of these nodes and this board.
+  pub of_report : (n : ℕ) (g : TaskGraph) (f : Fault) (r : Report) (nodes : List (NodeState G)) (board : BoardState) (P : Type 0)
+      → IsReportOf n g nodes board r → f.report ≡ Some r
+      → MatchOption r.fault P (λ e. IsAnswer (length r.history.events) e f.refusal)
+      → IsFaultOf n g nodes board (λ e. IfSome board.fault (λ fault. IsAnswer (length board.history) fault e)) f
+  of_report n g f r nodes board P report is why =
+      let Own : History → Option Refusal → Type 0 = λ h o. IfSome o (λ e. IsAnswer (length h) e f.refusal) in
+      subst (λ (o : Option Report). MatchOption o (f.refusal ≡ NoMemory)
+      (λ s. IfSome board.fault (λ fault. IsAnswer (length board.history) fault f.refusal) × IsReportOf n g nodes board s))
+      (sym is) (
+        subst (λ (h : History). Own h board.fault) report.history
+            (subst (Own r.history.events) report.fault (if_some r.fault P (λ e. IsAnswer (length r.history.events) e f.refusal) why)),
+        report,
+      )
+
+-- ==== A series of one generation is a run.
+-- If no generation ended, the present one has all events.
+all_present : (h : History) → length (ended_generations h) ≡ 0 → present_events h ≡ h
+all_present [] none = refl
+all_present (e ∷ past) none =
+    elim (cases_Bool (is_reopen e.1)) [
+      | inl reopens ↦
+          absurd (let bad : length (present_events past ∷ ended_generations past) ≡ 0 = rw reopens at none in omega (arith, bad))
+      | inr on ↦ present-goes_on e past on ∙ ap (λ (xs : History). e ∷ xs) (all_present past (rw on at none))
+    ]
+
+only_generation : (h : History) → length (generations h) ≤ 1 → generations h ≡ h ∷ []
+only_generation h few =
+    let none : length (ended_generations h) ≡ 0 = omega (arith, few) in
+    ap (λ (hs : List History). present_events h ∷ hs) (nil_from_length (ended_generations h) none)
+    ∙ ap (λ (p : History). p ∷ []) (all_present h none)
+
+pub is_outcome : (n workers : ℕ) (g : TaskGraph) (s : Series) (round : Round) → s.rounds.items ≡ round ∷ [] → IsSeries n workers g 1 s
+    → IsOutcome n workers g
+    (record {
+      results = round.results;
+      tasks = round.tasks;
+      messages = round.messages;
+      announced = round.announced;
+      workers = round.workers;
+      history = s.history;
+    })
+is_outcome n workers g s round only is =
+    let h = s.history.events in
+    let each : AllZip (IsRound n workers g) (reverse (generations h)) (round ∷ []) =
+    subst (λ (rounds : List Round). AllZip (IsRound n workers g) (reverse (generations h)) rounds) only is.each in
+    let long : 1 ≡ length (reverse (generations h)) = AllZip-long (IsRound n workers g) (reverse (generations h)) (round ∷ []) each in
+    let few : length (generations h) ≤ 1 = omega (arith, long, length-reverse (generations h)) in
+    let one = only_generation h few in
+    let it : IsRound n workers g h round =
+    (subst (λ (hs : List History). AllZip (IsRound n workers g) (reverse hs) (round ∷ [])) one each).0 in
+    let none : length (ended_generations h) ≡ 0 = omega (arith, few) in
+    record {
+      each_once = it.each_once;
+      right = it.right;
+      run = subst (IsRun n) (all_present h none) (present_run n h is.runs);
+      ended = it.ended;
+      announced = it.announced;
+      lives = it.lives;
+      tasks = it.tasks;
+      messages = it.messages;
+      answered = it.answered;
+    }
+
+-- a list of one round, whose last one is this
+pub only_one : (rest rounds : List Round) (round : Round) → rounds ≡ rest ++ round ∷ [] → length rounds ≡ 1 → rounds ≡ round ∷ []
+only_one rest rounds round is one =
+    let none : length rest ≡ 0 = omega (arith, one, ap length is, length-append rest (round ∷ [])) in
+    is ∙ ap (λ (xs : List Round). xs ++ round ∷ []) (nil_from_length rest none)
+
+-- ---- faults
+lacks_too : (P Q : Type 0) (e : Refusal) → (Q → P) → Lacks P e → Lacks Q e
+lacks_too P Q e f (inl missing) = inl (missing.0, λ q. missing.1 (f q))
+lacks_too P Q e f (inr memory) = inr memory
+
+once_in_each : (tasks : ℕ) (r : Report) → length (generations r.history.events) ≤ 1 → IsDoneOnce tasks r → IsDoneOnceInEach tasks r
+once_in_each tasks r few once =
+    let h = r.history.events in (
+      once.0,
+      subst (λ (hs : List History). All (λ g. LivesOnce tasks (steps_of g)) hs) (sym (only_generation h few))
+          (All-cons (λ g. LivesOnce tasks (steps_of g)) h [] once.1 (All-nil (λ g. LivesOnce tasks (steps_of g)))),
+    )
+
+stops_once : (n tasks : ℕ) (r : Report) (e : Refusal) → length (generations r.history.events) ≤ 1 → HasEnded n r
+    → StopsAfter (length (generations r.history.events)) 1 tasks r e → IsLack n tasks r e
+stops_once n tasks r e few ended (inl earlier) = absurd (omega (arith, earlier.0))
+stops_once n tasks r e few ended (inr last) =
+    (ended, lacks_too (IsDoneOnceInEach tasks r) (IsDoneOnce tasks r) e (once_in_each tasks r few) last.1)
+
+lacks_once : (n tasks : ℕ) (r : Report) (e : Refusal) → length (generations r.history.events) ≤ 1 → IsSeriesLack n tasks 1 r e
+    → IsLack n tasks r e
+lacks_once n tasks r e few (inl over) = stops_once n tasks r e few over.0 over.1
+lacks_once n tasks r e few (inr reopened) = absurd (omega (arith, few, reopened.0.reopened))
+
+by_report : (n : ℕ) (g : TaskGraph) (e : Refusal) (o : Option Report)
+    → MatchOption o (IsUngathered e)
+    (λ r. IsReport n g r
+    × (length (generations r.history.events) ≤ 1)
+    × MatchOption r.fault (IsSeriesLack n g.tasks 1 r e) (λ fault. IsAnswer (length r.history.events) fault e))
+    → MatchOption o (IsUngathered e)
+    (λ r. IsReport n g r
+    × (length (generations r.history.events) ≤ 1)
+    × MatchOption r.fault (IsLack n g.tasks r e) (λ fault. IsAnswer (length r.history.events) fault e))
+by_report n g e None given = given
+by_report n g e (Some r) given = (
+  given.0,
+  given.1,
+  why_weaker r.fault _ _ (λ fault. IsAnswer (length r.history.events) fault e)
+      (λ none lack. lacks_once n g.tasks r e given.1 lack) given.2,
+)
+
+pub is_fault : (n : ℕ) (g : TaskGraph) (f : Fault) → IsSeriesFault n g 1 f → IsFault n g f
+is_fault n g f given = by_report n g f.refusal f.report given
