@@ -192,7 +192,7 @@ def jobs_of(crates):
         if os.path.exists(f"crates/{crate}/src/main.rt"):
             yield functools.partial(try_program, crate)
         if cases := list(cases_of(crate).items()):
-            groups = 1 if is_built(crate) else repository.lanes(repository.MEMORY_OF_A_TRIAL)
+            groups = 1 if is_built(crate) or len(cases) < 9 else repository.lanes(repository.MEMORY_OF_A_TRIAL)
             yield from (functools.partial(try_cases, crate, dict(cases[first::groups])) for first in range(groups))
         if crate == "samples":
             yield functools.partial(try_pictures, crate)
