@@ -1,6 +1,6 @@
 //! Task Bench's patterns: who feeds whom in six columns. A relation of one's own, and a check of a plan that is no graph.
 
-ghost use Rattle.std.specs.Prelude.{◌≡◌, ◌<◌, ◌≤◌, ◌==◌, ℕ, None, if◌then◌else◌, true};
+ghost use Rattle.std.specs.Prelude.{◌≡◌, ◌<◌, ◌≤◌, ◌==◌, ◌/◌, ◌%◌, ℕ, None, if◌then◌else◌, true};
 ghost use Rattle.pool_kernels.specs.Grids.{AreSizes};
 
 use pool_kernels::{GraphFault, Pattern, Plan, Relation, Stirring, check_plan, run_kernel};
