@@ -1,6 +1,7 @@
 -- The open actions of a node. Each is the opening one, a named one, or that of a message that was received.
 use Rattle.std.specs.{Coded.{Coded, code_by, coded×, coded_ℕ, coded_bool}, Ordering.nat_cmp, Prelude.{ℕ, ◌+◌, ◌≡◌, Bool, true, false, Some}}
-use Rattle.{std.specs.Prelude.{if◌then◌else◌, refl}, tp_graph.specs.declared.feed.Feed.Feed}
+use Rattle.std.specs.Prelude.{if◌then◌else◌, refl}
+use Rattle.tp_graph.specs.declared.feed.Feed.{Feed}
 use Rattle.std.specs.FinMap as finite
 use Rattle.std.specs.FinSet as set
 

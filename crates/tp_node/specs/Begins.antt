@@ -1,5 +1,6 @@
 -- Several tasks of a node that begin in a row.
-use Rattle.{std.specs.Prelude.{ℕ, ◌≡◌, List, [], ◌∷◌, ◌++◌, Option, Some, length, map, reverse, take}, tp_base.specs.History.Event}
+use Rattle.std.specs.Prelude.{ℕ, ◌≡◌, List, [], ◌∷◌, ◌++◌, Option, Some, length, map, reverse, take}
+use Rattle.tp_base.specs.History.{Event}
 use Rattle.{tp_base.specs.declared.ids.TaskId.TaskId, tp_board.specs.{Calls.Appends, States.BoardState}, tp_graph.specs.Carried.Begun}
 use Rattle.{tp_node.specs.Nodes.{NodeState, begun_with, event_of}, tp_slots.specs.Content.front, tp_store.specs.Content.counts_of}
 use Rattle.tp_store.specs.Content.{values_of}

@@ -1,5 +1,6 @@
 -- The feeds of a finished task.
-use Rattle.{std.specs.Prelude.{ℕ, ◌+◌, ◌<◌}, tp_graph.specs.{Carried.{Ran, feed_at}, Graphs.TaskGraph, declared.feed.Feed.Feed}}
+use Rattle.std.specs.Prelude.{ℕ, ◌+◌, ◌<◌}
+use Rattle.tp_graph.specs.{Carried.{Ran, feed_at}, Graphs.TaskGraph, declared.feed.Feed.Feed}
 
 module _ {G : Type 0} where
   -- a feed was not passed on

@@ -1,5 +1,6 @@
 -- The invariant of a node's monitor.
-use Rattle.{std.specs.Prelude.{◌≡◌, Some}, tp_base.specs.declared.PoolId.PoolId, tp_monitor.specs.Monitors.{Monitored, IsMonitor}}
+use Rattle.std.specs.Prelude.{◌≡◌, Some}
+use Rattle.{tp_base.specs.declared.PoolId.PoolId, tp_monitor.specs.Monitors.{Monitored, IsMonitor}}
 
 -- the number of the one pool that is monitored
 abbrev pub the_pool : PoolId

@@ -1,5 +1,6 @@
 -- What contracts see of a link of a pool: a queue of messages with its share.
-use Rattle.{std.specs.Prelude.{ℕ, ◌≡◌, List, [], ◌∷◌, ◌++◌, length, All, ℤ}, tp_board.specs.Numbers.{LinkNumbers, node_at}}
+use Rattle.std.specs.Prelude.{ℕ, ◌≡◌, List, [], ◌∷◌, ◌++◌, length, All, ℤ}
+use Rattle.tp_board.specs.Numbers.{LinkNumbers, node_at}
 use Rattle.{tp_board.specs.States.BoardState, tp_graph.specs.{Carried.Carried, Graphs.TaskGraph, Link.Line, declared.feed.Feed.Feed}}
 use Rattle.tp_wave.specs.{Generations.generation, Machine.steps_of}
 

@@ -1,5 +1,6 @@
 //! The node of a pool: its type with its invariant, and the calls that only read it.
-ghost use Rattle.{std.specs.Prelude.{◌≡◌, ◌≤◌, ◌<◌, length, IsTrue}, tp_wave.specs.Generations.{AreRuns, present_events}};
+ghost use Rattle.std.specs.Prelude.{◌≡◌, ◌≤◌, ◌<◌, length, IsTrue};
+ghost use Rattle.tp_wave.specs.Generations.{AreRuns, present_events};
 ghost use Rattle.{tp_board.specs.Numbers.first_numbers, tp_graph.specs.Left.AreResults, tp_store.specs.Content.counts_of};
 ghost use Rattle.tp_node.specs.{Locals.{pending_here, standing}, Nodes.{AgreesWith, counted_of, first_node}};
 

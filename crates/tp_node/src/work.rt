@@ -109,7 +109,8 @@ pub struct Finished<G: Graph> {
 }
 
 impl<G: Graph> Model for Finished<G> {
-    ghost use Rattle.{std.specs.Prelude.◌≡◌, tp_graph.specs.Carried.{Ran, HasRun}};
+    ghost use Rattle.std.specs.Prelude.{◌≡◌};
+    ghost use Rattle.tp_graph.specs.Carried.{Ran, HasRun};
 
     ghost Value = { Ran G };
 

@@ -1,5 +1,6 @@
 -- What is known of a finished task and of its node while a worker passes feeds on.
-use Rattle.{std.specs.Prelude.{ℕ, ◌≡◌, ◌<◌}, tp_graph.specs.{Carried.Ran, Graphs.TaskGraph}, tp_node.specs.Feeds.{HasFeed, next_home}}
+use Rattle.std.specs.Prelude.{ℕ, ◌≡◌, ◌<◌}
+use Rattle.{tp_graph.specs.{Carried.Ran, Graphs.TaskGraph}, tp_node.specs.Feeds.{HasFeed, next_home}}
 use Rattle.tp_node.specs.Nodes.{NodeState}
 
 module _ {G : Type 0} where

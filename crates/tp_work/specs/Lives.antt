@@ -1,6 +1,7 @@
 -- The stages of a task's life in the events.
 use Rattle.std.specs.{List.All, Prelude.{ℕ, zero, suc, ◌==◌, ◌≡◌, List, [], ◌∷◌, length, map, reverse, Option, Some, None, IsFalse}}
-use Rattle.{std.specs.Prelude.{if◌then◌else◌, nat_lt, slice_index_or}, tp_base.specs.declared.step.Step.{Step, TheVariants.{Insert, Begin}}}
+use Rattle.std.specs.Prelude.{if◌then◌else◌, nat_lt, slice_index_or}
+use Rattle.tp_base.specs.declared.step.Step.{Step, TheVariants.{Insert, Begin}}
 use Rattle.{tp_base.specs.declared.step.Step.TheVariants.Done, tp_wave.specs.Generations.{ended_generations, present_events}}
 use Rattle.tp_wave.specs.{Machine.{History, steps_of}, Steps.{any, count, is_reopen, is_send}}
 

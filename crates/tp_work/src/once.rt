@@ -1,5 +1,6 @@
 //! Checks that each task has exactly one result.
-ghost use Rattle.{std.specs.Prelude.{◌≡◌, ◌<◌, ◌↔◌, false, true, length, slice_set, All, IfOk, IsTrue}, tp_graph.specs.Found.HasEachOnce};
+ghost use Rattle.std.specs.Prelude.{◌≡◌, ◌<◌, ◌↔◌, false, true, length, slice_set, All, IfOk, IsTrue};
+ghost use Rattle.tp_graph.specs.Found.{HasEachOnce};
 ghost use Rattle.tp_work.specs.Outcomes.{AreMarks, is_marked};
 
 use std::alloc::{AllocError, Global};

@@ -1,5 +1,6 @@
 //! Running a pool through several generations, reopened after each but the last.
-ghost use Rattle.{std.specs.{List.All, Prelude.if◌then◌else◌}, tp_graph.specs.{Found.HasEachOnce, Graphs.TaskGraph, Left.AreResults}};
+ghost use Rattle.std.specs.{List.All, Prelude.if◌then◌else◌};
+ghost use Rattle.tp_graph.specs.{Found.HasEachOnce, Graphs.TaskGraph, Left.AreResults};
 ghost use Rattle.std.specs.Prelude.{◌≡◌, ◌≤◌, ◌<◌, ◌+◌, ◌*◌, ◌-◌, ◌++◌, ◌∷◌, [], ℕ, length, map, reverse, slice_index, slice_index_or};
 ghost use Rattle.std.specs.Prelude.{vec_capacity, vec_len, Err, IfErr, IfOk, IfSome, MatchOption, MatchResult, None, Ok, OnOk, Some};
 ghost use Rattle.tp_base.specs.declared.{limits.TheConstants.MAX_STEPS, refusal.Refusal.TheVariants.{HistoryFull, Missing, NoMemory}};

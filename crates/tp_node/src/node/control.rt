@@ -1,5 +1,6 @@
 //! The control turn of a node.
-ghost use Rattle.{std.specs.Prelude.{◌≡◌, [], ◌∷◌, IfErr, IfNone, IfOk, IfSome, OnErr, OnOk}, tp_node.specs.Turns.turn_of};
+ghost use Rattle.std.specs.Prelude.{◌≡◌, [], ◌∷◌, IfErr, IfNone, IfOk, IfSome, OnErr, OnOk};
+ghost use Rattle.tp_node.specs.Turns.{turn_of};
 ghost use Rattle.tp_board.specs.{Calls.Appends, States.{AnswersBy, IsAtPiece, full_check}, Turns.{IsMade, control_event, ends}};
 
 use crate::node::Node;

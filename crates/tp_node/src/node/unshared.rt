@@ -1,5 +1,6 @@
 //! A node without its shares, which a reopening takes away and gives back.
-ghost use Rattle.{std.specs.Prelude.{◌≡◌, ◌≤◌}, tp_graph.specs.Left.AreResults, tp_node.specs.Nodes.{IsOfPool, anew}};
+ghost use Rattle.std.specs.Prelude.{◌≡◌, ◌≤◌};
+ghost use Rattle.{tp_graph.specs.Left.AreResults, tp_node.specs.Nodes.{IsOfPool, anew}};
 
 use crate::Local;
 use crate::node::Node;
@@ -21,7 +22,8 @@ pub(crate) struct UnsharedNode<G: Graph> {
 }
 
 impl<G: Graph> Model for UnsharedNode<G> {
-    ghost use Rattle.{std.specs.Prelude.◌≡◌, tp_node.specs.{Locals.{first_state, pending_here}, Nodes.{NodeState, first_node, node_code}}};
+    ghost use Rattle.std.specs.Prelude.{◌≡◌};
+    ghost use Rattle.tp_node.specs.{Locals.{first_state, pending_here}, Nodes.{NodeState, first_node, node_code}};
 
     ghost Value = { NodeState G };
 

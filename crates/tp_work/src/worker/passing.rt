@@ -1,5 +1,6 @@
 //! How a worker passes on the feeds of a finished task, in as few critical sections as possible.
-ghost use Rattle.{std.specs.Prelude.{◌≡◌, ◌<◌, ◌≤◌, IfOk, MatchOption, OnOk}, tp_work.specs.Feeds.{GoesTo, IsFarther, IsSameNode}};
+ghost use Rattle.std.specs.Prelude.{◌≡◌, ◌<◌, ◌≤◌, IfOk, MatchOption, OnOk};
+ghost use Rattle.tp_work.specs.Feeds.{GoesTo, IsFarther, IsSameNode};
 ghost use Rattle.tp_node.specs.Feeds.{HasFeed};
 ghost use Rattle.tp_node.specs.Feeds as feeds;
 

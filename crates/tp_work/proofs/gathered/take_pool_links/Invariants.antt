@@ -1,4 +1,5 @@
-use Rattle.{std.specs.Prelude.{◌≡◌, map, vec_capacity}, tp_node.specs.PoolLinks.link_of}
+use Rattle.std.specs.Prelude.{◌≡◌, map, vec_capacity}
+use Rattle.tp_node.specs.PoolLinks.{link_of}
 use Rattle.tp_work.proofs.gathered.take_pool_links.Given as goal
 
 abbrev pub invariant-loop-pool_link : goal.invariant-loop-pool_link

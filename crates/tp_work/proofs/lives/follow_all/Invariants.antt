@@ -1,4 +1,5 @@
-use Rattle.{std.specs.Prelude.{◌≡◌, vec_capacity}, tp_work.{proofs.Lemmas.oldest, specs.Lives.IsFollowed}}
+use Rattle.std.specs.Prelude.{◌≡◌, vec_capacity}
+use Rattle.tp_work.{proofs.Lemmas.oldest, specs.Lives.IsFollowed}
 use Rattle.tp_work.proofs.lives.follow_all.Given as goal
 
 abbrev pub invariant-loop-place : goal.invariant-loop-place

@@ -1,4 +1,5 @@
-use Rattle.{std.specs.{List.range_with_len, Prelude.{◌≡◌, map, take}}, tp_work.specs.Places.link_place}
+use Rattle.std.specs.{List.range_with_len, Prelude.{◌≡◌, map, take}}
+use Rattle.tp_work.specs.Places.{link_place}
 use Rattle.tp_work.proofs.locks.check_links.Given as goal
 
 abbrev pub invariant-loop-place : goal.invariant-loop-place

@@ -1,4 +1,5 @@
-use Rattle.{std.proofs.lemmas.List.Elements.All-more, tp_work.proofs.Lemmas.{◌≡◌, ◌∙◌, sym, ap, arith, NodeState, in_order-more}}
+use Rattle.tp_work.proofs.Lemmas.{◌≡◌, ◌∙◌, sym, ap, arith, NodeState, in_order-more}
+use Rattle.std.proofs.lemmas.List.Elements.{All-more}
 use Rattle.tp_work.proofs.locks.check_nodes.Goals as goal
 
 pub loop-place-preserved : goal.loop-place-preserved

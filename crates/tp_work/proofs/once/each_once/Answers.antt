@@ -1,4 +1,5 @@
-use Rattle.{std.proofs.Common.{◌≡◌, length, arith}, tp_work.proofs.{Lemmas.marks-tell, once.each_once.Goals.returns as goal}}
+use Rattle.std.proofs.Common.{◌≡◌, length, arith}
+use Rattle.tp_work.proofs.{Lemmas.marks-tell, once.each_once.Goals.returns as goal}
 
 pub returns : goal
 returns c =

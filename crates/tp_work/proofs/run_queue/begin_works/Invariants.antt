@@ -1,4 +1,5 @@
-use Rattle.{std.specs.Prelude.{◌+◌, ◌-◌, ◌≤◌, vec_capacity, vec_len}, tp_work.specs.RunQueues.BeginsEach}
+use Rattle.std.specs.Prelude.{◌+◌, ◌-◌, ◌≤◌, vec_capacity, vec_len}
+use Rattle.tp_work.specs.RunQueues.{BeginsEach}
 use Rattle.tp_work.proofs.run_queue.begin_works.Given as goal
 
 abbrev pub invariant-loop : goal.invariant-loop

@@ -1,4 +1,5 @@
-use Rattle.{std.specs.{List.All, Prelude.{◌≡◌, ◌+◌, ◌-◌, ◌*◌, vec_capacity, vec_len}}, tp_work.specs.Series.IsKept}
+use Rattle.std.specs.{List.All, Prelude.{◌≡◌, ◌+◌, ◌-◌, ◌*◌, vec_capacity, vec_len}}
+use Rattle.tp_work.specs.Series.{IsKept}
 use Rattle.tp_work.proofs.series.run_earlier.Given as goal
 
 abbrev pub invariant-loop-number : goal.invariant-loop-number

@@ -1,4 +1,5 @@
-use Rattle.{std.{proofs.Common.{◌≡◌, Some, None, ap, sym, ◌∙◌}, specs.Result.result_err}, tp_node.proofs.Lemmas.idle_finishes}
+use Rattle.std.{proofs.Common.{◌≡◌, Some, None, ap, sym, ◌∙◌}, specs.Result.result_err}
+use Rattle.tp_node.proofs.Lemmas.{idle_finishes}
 use Rattle.tp_node.proofs.local.Local.announce.Goals as goal
 
 pub unreachable-requires : goal.unreachable-requires

@@ -1,4 +1,5 @@
-use Rattle.{std.proofs.Common.{sym, ap, ◌∙◌}, tp_node.proofs.Lemmas.{delivery_active, delivery_of_known, refusal_is}}
+use Rattle.std.proofs.Common.{sym, ap, ◌∙◌}
+use Rattle.tp_node.proofs.Lemmas.{delivery_active, delivery_of_known, refusal_is}
 use Rattle.tp_node.proofs.local.Local.check.Goals.{else-pending-eq0-via-then-pending-eq0+else-not-is_known}
 use Rattle.tp_node.proofs.local.Local.check.Goals.{else-pending-eq0-via-else-pending-eq0, returns as goal}
 

@@ -1,4 +1,5 @@
-use Rattle.{std.specs.Prelude.◌≡◌, tp_node.proofs.{Lemmas.HasBegun, node.Node.begin_each.Given.invariant-loop as goal}}
+use Rattle.std.specs.Prelude.{◌≡◌}
+use Rattle.tp_node.proofs.{Lemmas.HasBegun, node.Node.begin_each.Given.invariant-loop as goal}
 
 abbrev pub invariant-loop : goal
 invariant-loop g l = record {

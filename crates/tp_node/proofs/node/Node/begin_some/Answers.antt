@@ -1,4 +1,5 @@
-use Rattle.{std.proofs.Common.{◌≡◌, min, rules}, tp_node.{proofs.Lemmas.room_answers, specs.Begins.ready_count}}
+use Rattle.std.proofs.Common.{◌≡◌, min, rules}
+use Rattle.tp_node.{proofs.Lemmas.room_answers, specs.Begins.ready_count}
 use Rattle.tp_node.proofs.node.Node.begin_some.Goals as goal
 
 pub begin_each-requires-send-G : goal.begin_each-requires-send-G

@@ -1,4 +1,5 @@
-use Rattle.{std.proofs.Common.{◌≡◌, ap, false, is_some, sym, ◌∙◌, rules}, tp_board.specs.Numbers.ShareNumbers}
+use Rattle.std.proofs.Common.{◌≡◌, ap, false, is_some, sym, ◌∙◌, rules}
+use Rattle.tp_board.specs.Numbers.{ShareNumbers}
 use Rattle.tp_node.{proofs.Lemmas.{answered, appended, at_piece, idle, kept, refused, turn_told, unset}, specs.Nodes.NodeState}
 use Rattle.tp_node.proofs.node.Node.control_turn.Goals as goal
 

@@ -1,4 +1,5 @@
-use Rattle.{std.proofs.lemmas.Result.err_from_is_err_and, tp_base.specs.declared.step.Step.TheVariants.Supply, tp_node.proofs.Lemmas.◌≡◌}
+use Rattle.tp_node.proofs.Lemmas.{◌≡◌}
+use Rattle.{std.proofs.lemmas.Result.err_from_is_err_and, tp_base.specs.declared.step.Step.TheVariants.Supply}
 use Rattle.tp_node.proofs.Lemmas.{◌-◌, ◌+◌, ◌<◌, ◌∙◌, None, ap, subst, sym, is_some, unwrap_or, if◌then◌else◌, NoMemory, IsInput, put_keeps}
 use Rattle.tp_node.proofs.Lemmas.{inserts_if, delivery_free, pending_here, NodeState, inserting, inserted_by, refusal_of_deliver, task_of}
 use Rattle.tp_node.proofs.node.Node.put.Goals as goal

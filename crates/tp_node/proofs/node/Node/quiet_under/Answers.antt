@@ -1,4 +1,5 @@
-use Rattle.{std.proofs.Common.{◌≡◌, ap, subst, ◌∙◌, arith, rules}, tp_wave.specs.{Generations.present_events, Machine.pending_at}}
+use Rattle.std.proofs.Common.{◌≡◌, ap, subst, ◌∙◌, arith, rules}
+use Rattle.tp_wave.specs.{Generations.present_events, Machine.pending_at}
 use Rattle.{tp_node.{proofs.Lemmas.each_once, specs.{Locals.EachOnce, Nodes.NodeState}}, tp_store.specs.Content.unfinished}
 use Rattle.tp_node.proofs.node.Node.quiet_under.Goals as goal
 

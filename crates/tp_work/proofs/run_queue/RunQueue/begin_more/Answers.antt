@@ -1,4 +1,5 @@
-use Rattle.{std.proofs.Common.{rules, ◌≤◌, ◌≡◌, arith, length, vec_len}, tp_work.proofs.Lemmas.run_queue_turned}
+use Rattle.std.proofs.Common.{rules, ◌≤◌, ◌≡◌, arith, length, vec_len}
+use Rattle.tp_work.proofs.Lemmas.{run_queue_turned}
 use Rattle.tp_work.proofs.run_queue.RunQueue.begin_more.Goals as goal
 
 pub invariant_of-self-2 : goal.invariant_of-self-2

@@ -1,4 +1,5 @@
-use Rattle.{std.specs.Prelude.{◌≡◌, ◌-◌, MatchOption}, tp_work.specs.Feeds.{GoesTo, IsSameNode}}
+use Rattle.std.specs.Prelude.{◌≡◌, ◌-◌, MatchOption}
+use Rattle.tp_work.specs.Feeds.{GoesTo, IsSameNode}
 use Rattle.tp_work.proofs.worker.Worker.pass_feeds.Given as goal
 
 abbrev pub invariant-loop-next : goal.invariant-loop-next

@@ -1,4 +1,5 @@
-use Rattle.{std.proofs.Common.{rules, sym, ◌≡◌, ◌<◌}, tp_node.specs.Feeds.{HasFeed, next_home}, tp_work.proofs.Lemmas.home_alone}
+use Rattle.std.proofs.Common.{rules, sym, ◌≡◌, ◌<◌}
+use Rattle.{tp_node.specs.Feeds.{HasFeed, next_home}, tp_work.proofs.Lemmas.home_alone}
 use Rattle.tp_work.proofs.worker.passing.next_home.Goals as goal
 
 pub returns-then-nodes-eq1 : goal.returns-then-nodes-eq1

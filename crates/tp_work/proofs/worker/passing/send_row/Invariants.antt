@@ -1,4 +1,5 @@
-use Rattle.{std.specs.Prelude.◌-◌, tp_work.specs.Feeds.{IsFarther, IsSameNode}}
+use Rattle.std.specs.Prelude.{◌-◌}
+use Rattle.tp_work.specs.Feeds.{IsFarther, IsSameNode}
 use Rattle.tp_work.proofs.worker.passing.send_row.Given as goal
 
 abbrev pub invariant-loop-home : goal.invariant-loop-home
