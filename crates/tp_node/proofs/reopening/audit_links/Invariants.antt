@@ -1,5 +1,5 @@
 use Rattle.std.specs.{List.All, Prelude.{◌≡◌, [], take}}
-use Rattle.tp_node.proofs.reopening.audit_links.Given.invariant-loop-pool_link as goal
+use Rattle.tp_node.proofs.reopening.audit_links.Given.{invariant-loop-pool_link as goal}
 
 abbrev pub invariant-loop-pool_link : goal
 invariant-loop-pool_link g l =

@@ -1,5 +1,5 @@
 use Rattle.std.proofs.Common.{◌≡◌, ◌∙◌, length, arith, vec_len}
-use Rattle.tp_work.proofs.series.run_earlier.Goals.loop-number-preserved as goal
+use Rattle.tp_work.proofs.series.run_earlier.Goals.{loop-number-preserved as goal}
 
 pub loop-number-preserved : goal
 loop-number-preserved g c =

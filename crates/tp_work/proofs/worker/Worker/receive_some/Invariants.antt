@@ -1,5 +1,5 @@
 use Rattle.std.specs.Prelude.{◌≡◌}
-use Rattle.tp_work.proofs.worker.Worker.receive_some.Given.invariant-loop as goal
+use Rattle.tp_work.proofs.worker.Worker.receive_some.Given.{invariant-loop as goal}
 
 abbrev pub invariant-loop : goal
 invariant-loop g l = l.here.graph ≡ l.fn.here.graph
