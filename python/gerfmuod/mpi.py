@@ -265,8 +265,9 @@ class Graph:
     def _finish(self, finished: Any) -> int:
         """Reports a body that returned; returns how many did."""
         try:
-            number, error = finished.get(timeout=PAUSE)
+            number, error = finished.get_nowait()
         except queue.Empty:
+            time.sleep(PAUSE)  # (get with a short timeout may wait for the next body to return, in Python 3.11)
             return 0
         if error:
             self._error, self._failure = error, self.rank << 32 | number
