@@ -15,31 +15,18 @@ blocks_same old new t e h = ap (λ (b : Bool). (e.target == t) && not b) h
 
 pub done_set : (tasks : List Task) (t s : ℕ) (x y : Task) → slice_get tasks t ≡ Some x → is_done y.stage ≡ is_done x.stage
     → done_at (slice_get (set tasks t y) s) ≡ done_at (slice_get tasks s)
-done_set tasks t s x y is same = elim (same_or s t) [
-  | inl e ↦ subst (λ (j : ℕ). done_at (slice_get (set tasks t y) j) ≡ done_at (slice_get tasks j)) (sym e)
-      (ap done_at (set_here tasks t x y is) ∙ (same ∙ sym (ap done_at is)))
-  | inr e ↦ ap done_at (set_there tasks t s y e)
-]
+done_set tasks t s x y is same = let h = set_here tasks t x y is in let o = set_there tasks t s y in grind (arith, h, o, is, same)
 
 pub done_push : (tasks : List Task) (s : ℕ) (y : Task) → is_done y.stage ≡ false
     → done_at (slice_get (tasks ++ y ∷ []) s) ≡ done_at (slice_get tasks s)
-done_push tasks s y h = elim (get_push tasks s y) [
-  | inl e ↦ ap done_at e.1
-  | inr e ↦ ap done_at e.1 ∙ (h ∙ sym (ap done_at (slice_get_past tasks s (let n = e.0 in omega (arith, n)))))
-]
+done_push tasks s y h = elim (get_push tasks s y)
+    [ inl e ↦ ap done_at e.1 | inr e ↦ ap done_at e.1 ∙ (h ∙ sym (ap done_at (slice_get_past tasks s (omega (arith, e.0))))) ]
 
 -- a task that was counted is counted, if as many inputs keep it waiting or are owed
-pub counted_as : {more more' : ℕ → ℕ} {old new : List Task} {links : List Link} (t : ℕ) {x : Task}
-    → count_where (blocks new t) links + more' t ≡ count_where (blocks old t) links + more t → IsCounted more old links t x
-    → IsCounted more' new links t x
-counted_as t same c = record {
-  class = c.class;
-  few = c.few;
-  missing = (let m = c.missing in omega (arith, m, same));
-  inputs = c.inputs;
-  outputs = c.outputs;
-  begun = c.begun;
-}
+pub counted_as : {more more' : ℕ → ℕ} {old new : List Task} {links : List Link} (t : ℕ) {x : Task} → count_where (blocks new t) links
+    + more' t ≡ count_where (blocks old t) links + more t → IsCounted more old links t x → IsCounted more' new links t x
+counted_as t same c =
+    record { class = c.class; few = c.few; missing = omega (arith, c.missing); inputs = c.inputs; outputs = c.outputs; begun = c.begun }
 
 -- the same tasks are done
 pub blocked_as : (old new : List Task) (links : List Link) (t : ℕ) → ((s : ℕ) → done_at (slice_get new s) ≡ done_at (slice_get old s))
@@ -48,24 +35,15 @@ blocked_as old new links t same = count_same (blocks new t) (blocks old t) links
 
 -- as another task, of which as much is missing but from outside, and which is fresh if something is
 pub counted_to : {more more' : ℕ → ℕ} {tasks : List Task} {links : List Link} (t : ℕ) {x : Task} (y : Task) → IsCounted more tasks links t x
-    → y.class ≡ x.class → y.inputs ≡ x.inputs → y.outputs ≡ x.outputs → y.outside ≤ MAX_OUTSIDE
-    → y.missing + x.outside + more t ≡ x.missing + y.outside + more' t → (is_fresh y.stage ≡ false → y.missing ≡ 0)
-    → IsCounted more' tasks links t y
-counted_to t y c class inputs outputs few missing begun = record {
-  class = (let l = c.class in omega (arith, l, class));
-  few = few;
-  missing = (let m = c.missing in omega (arith, m, missing));
-  inputs = inputs ∙ c.inputs;
-  outputs = outputs ∙ c.outputs;
-  begun = begun;
-}
+    → y.class ≡ x.class → y.inputs ≡ x.inputs → y.outputs ≡ x.outputs → y.outside ≤ MAX_OUTSIDE → y.missing + x.outside + more t
+    ≡ x.missing + y.outside + more' t → (is_fresh y.stage ≡ false → y.missing ≡ 0) → IsCounted more' tasks links t y
+counted_to t y c class inputs outputs few missing begun = let k = c.class in let m = c.missing in record
+    { class = omega arith; few = few; missing = omega arith; inputs = inputs ∙ c.inputs; outputs = outputs ∙ c.outputs; begun = begun }
 
 -- all inputs are of these tasks, if there are as many
-pub linked_in : {old new : List Task} {links : List Link} → length old ≤ length new
-    → ((k : ℕ) (e : Link) → slice_get links k ≡ Some e → IsLinked old links k e) → (k : ℕ) (e : Link) → slice_get links k ≡ Some e
-    → IsLinked new links k e
-linked_in l all k e h = let p = all k e h in
-    record { before = p.before; within = (let w = p.within in omega (arith, l, w)); older = p.older }
+pub linked_in : {old new : List Task} {links : List Link} → length old ≤ length new → ((k : ℕ) (e : Link)
+    → slice_get links k ≡ Some e → IsLinked old links k e) → (k : ℕ) (e : Link) → slice_get links k ≡ Some e → IsLinked new links k e
+linked_in l all k e h = let p = all k e h in record { before = p.before; within = omega (arith, p.within); older = p.older }
 
 -- a task is written, and as many inputs keep others waiting or are owed
 pub owing_written : {more more' : ℕ → ℕ} {tasks : List Task} {links : List Link} (t : ℕ) (y : Task) → Owing more tasks links
@@ -74,7 +52,7 @@ pub owing_written : {more more' : ℕ → ℕ} {tasks : List Task} {links : List
 owing_written {more} {more'} {tasks} {links} t y f others here = record {
   few_links = f.few_links;
   counted = all_set (IsCounted more' (set tasks t y) links) tasks t y (λ u z g o. counted_as u (others u o) (f.counted u z g)) here;
-  linked = linked_in (let l = length-set tasks t y in omega (arith, l)) f.linked;
+  linked = linked_in (omega (arith, length-set tasks t y)) f.linked;
 }
 
 -- the same are done; what is owed may change there
@@ -82,7 +60,7 @@ pub owing_set : {more more' : ℕ → ℕ} {tasks : List Task} {links : List Lin
     → slice_get tasks t ≡ Some x → is_done y.stage ≡ is_done x.stage → ((u : ℕ) → u ≢ t → more' u ≡ more u)
     → IsCounted more' tasks links t y → Owing more' (set tasks t y) links
 owing_set {tasks = tasks} {links = links} t x y f is same owed c = owing_written t y f
-    (λ u o. let b = blocked u in let w = owed u o in omega (arith, b, w)) (counted_as t (let b = blocked t in omega (arith, b)) c)
+    (λ u o. omega (arith, blocked u, owed u o)) (counted_as t (omega (arith, blocked t)) c)
   where
     blocked : (u : ℕ) → count_where (blocks (set tasks t y) u) links ≡ count_where (blocks tasks u) links
     blocked u = blocked_as tasks (set tasks t y) links u (λ s. done_set tasks t s x y is same)
@@ -92,8 +70,8 @@ pub facts_push : {tasks : List Task} {links : List Link} (y : Task) → Facts ta
 facts_push {tasks} {links} y f class outside missing fresh bare none = record {
   few_links = f.few_links;
   counted = all_push (IsCounted (λ t. 0) (tasks ++ y ∷ []) links) tasks y
-      (λ u z g. counted_as u (let b = blocked_as tasks (tasks ++ y ∷ []) links u same in omega (arith, b)) (f.counted u z g)) here;
-  linked = linked_in (let l = length_push tasks y in omega (arith, l)) f.linked;
+      (λ u z g. counted_as u (omega (arith, blocked_as tasks (tasks ++ y ∷ []) links u same)) (f.counted u z g)) here;
+  linked = linked_in (omega (arith, length_push tasks y)) f.linked;
 }
   where
     same : (s : ℕ) → done_at (slice_get (tasks ++ y ∷ []) s) ≡ done_at (slice_get tasks s)
@@ -104,47 +82,40 @@ facts_push {tasks} {links} y f class outside missing fresh bare none = record {
     here u e = record {
       class = class;
       few = outside;
-      missing = (let z = count_zero (blocks (tasks ++ y ∷ []) u) links (λ k i h. let w = (f.linked k i h).within in
-          one_else i.target u (not (done_at (slice_get (tasks ++ y ∷ []) i.source))) (λ n. omega (arith, w, n, e))) in
-          omega (arith, z, missing));
+      missing = (let z = count_zero (blocks (tasks ++ y ∷ []) u) links (λ k i h. one_else i.target u
+          (not (done_at (slice_get (tasks ++ y ∷ []) i.source))) (λ n. omega (arith, (f.linked k i h).within))) in omega arith);
       inputs = bare ∙ sym (count_zero (is_into u) links
-          (λ k i h. let w = (f.linked k i h).within in ap one (ne_eqb i.target u (λ n. omega (arith, w, n, e)))));
+          (λ k i h. ap one (ne_eqb i.target u (λ n. omega (arith, (f.linked k i h).within)))));
       outputs = none ∙ sym (no_output (newest u links (length links)) refl);
       begun = fresh_keeps fresh;
     }
       where
         no_output : (m : ℕ) → newest u links (length links) ≡ m → newest u links (length links) ≡ 0
         no_output zero h = h
-        no_output (suc k) h = let w = newest_at u links (length links) k h in let g = at_below links k w.within in
-            let q = eqb-true g.0.source u (sym (ap (is_of u) g.1) ∙ w.from) in let p = f.linked k g.0 g.1 in
-            let b = p.before in let v = p.within in absurd (omega (arith, b, v, q, e))
+        no_output (suc k) h = let w = newest_at u links (length links) k h in let g = at_below links k w.within in let p =
+            f.linked k g.0 g.1 in absurd (omega (arith, p.before, p.within, eqb-true g.0.source u (sym (ap (is_of u) g.1) ∙ w.from)))
 
 -- ==== Room for the events to come, when a task is written or added
 to_come_set : (xs : List Entry) (t : ℕ) (x y : Entry) → slice_get xs t ≡ Some x
     → to_come (set xs t y) + events_of x.stage ≡ to_come xs + events_of y.stage
 to_come_set [] t x y h = cc
 to_come_set (z ∷ zs) zero x y h = let o : events_of z.stage ≡ events_of x.stage = ap (λ (e : Entry). events_of e.stage) (some_same z x h) in
-    omega (arith, o)
-to_come_set (z ∷ zs) (suc t) x y h = let r = to_come_set zs t x y h in omega (arith, r)
+    omega arith
+to_come_set (z ∷ zs) (suc t) x y h = omega (arith, to_come_set zs t x y h)
 
 to_come_push : (xs : List Entry) (y : Entry) → to_come (xs ++ y ∷ []) ≡ to_come xs + events_of y.stage
 to_come_push [] y = omega arith
-to_come_push (z ∷ zs) y = let r = to_come_push zs y in omega (arith, r)
+to_come_push (z ∷ zs) y = omega (arith, to_come_push zs y)
 
 pub to_come_few : (xs : List Entry) → to_come xs ≤ 2 * count_where is_unfinished xs
 to_come_few [] = omega arith
-to_come_few (x ∷ xs) = let r = to_come_few xs in let n = count_next is_unfinished x xs in let o = by_stage x.stage in omega (arith, r, n, o)
-  where
-    by_stage : (s : Stage) → events_of s ≤ 2 * one (not (is_done s))
-    by_stage stage.Fresh = omega arith
-    by_stage _ = omega arith
+to_come_few (x ∷ xs) = grind (arith, to_come_few xs)
 
 -- a task with an event to come has room for it
 pub room_for_one : {s b : Bool} (ts : List Task) {e c : ℕ} (t : ℕ) (x : Task) → HasRoom s b (map entry_of ts) e c → IsTrue s → IsTrue b
     → slice_get ts t ≡ Some x → 1 ≤ events_of x.stage → e < c
-room_for_one ts t x i h g is some = let m = i.room h g in
-    let s = to_come_set (map entry_of ts) t (entry_of x) (record (entry_of x) { stage = stage.Done }) (map_get entry_of ts t x is) in
-    omega (arith, m, s, some)
+room_for_one ts t x i h g is some = let s = to_come_set
+    (map entry_of ts) t (entry_of x) (record (entry_of x) { stage = stage.Done }) (map_get entry_of ts t x is) in omega (arith, i.room h g)
 
 -- a task is written: the events and those to come are no more
 pub room_set : {s b : Bool} (ts : List Task) {e c : ℕ} (t : ℕ) (x y : Task) (e' c' : ℕ) → HasRoom s b (map entry_of ts) e c
@@ -152,25 +123,22 @@ pub room_set : {s b : Bool} (ts : List Task) {e c : ℕ} (t : ℕ) (x y : Task) 
     → (IsFalse s → y.stage ≡ x.stage) → HasRoom s b (map entry_of (set ts t y)) e' c'
 room_set {s} {b} ts t x y e' c' i is le lc same stays = let g = map_get entry_of ts t x is in
     subst (λ (es : List Entry). HasRoom s b es e' c') (sym (map-set entry_of ts t y)) (record {
-      fits = λ h k. let m = i.fits h k in let l = length-set (map entry_of ts) t (entry_of y) in omega (arith, m, l);
-      room = λ h k. let m = i.room h k in
-          let r = to_come_set (map entry_of ts) t (entry_of x) (entry_of y) g in omega (arith, m, r, le, lc);
+      fits = λ h k. omega (arith, i.fits h k, length-set (map entry_of ts) t (entry_of y));
+      room = λ h k. omega (arith, i.room h k, to_come_set (map entry_of ts) t (entry_of x) (entry_of y) g);
       none = λ h. same h ∙ i.none h;
       fresh = λ h. all_set (λ (u : ℕ) (z : Entry). z.stage ≡ stage.Fresh) (map entry_of ts) t (entry_of y) (λ u z q o. i.fresh h u z q)
           (stays h ∙ i.fresh h t (entry_of x) g);
     })
 
 -- a task is added, for which room was made
-pub room_added : {s b : Bool} (ts : List Task) {e c : ℕ} (y : Task) (e' c' : ℕ) → HasRoom s b (map entry_of ts) e c → y.stage ≡ stage.Fresh
-    → e' ≡ e → (IsTrue s → IsTrue b → steps_of_trace (length ts + 1) ≤ MAX_STEPS)
-    → (IsTrue s → IsTrue b → e + 2 * (count_where is_unfinished (map entry_of ts) + 1) ≤ c')
-    → HasRoom s b (map entry_of (ts ++ y ∷ [])) e' c'
+pub room_added : {s b : Bool} (ts : List Task) {e c : ℕ} (y : Task) (e' c' : ℕ) → HasRoom s b (map entry_of ts) e c
+    → y.stage ≡ stage.Fresh → e' ≡ e → (IsTrue s → IsTrue b → steps_of_trace (length ts + 1) ≤ MAX_STEPS) → (IsTrue s
+    → IsTrue b → e + 2 * (count_where is_unfinished (map entry_of ts) + 1) ≤ c') → HasRoom s b (map entry_of (ts ++ y ∷ [])) e' c'
 room_added {s} {b} ts y e' c' i fresh ee fits room =
     subst (λ (es : List Entry). HasRoom s b es e' c') (sym (map-append entry_of ts (y ∷ []))) (record {
-      fits = λ h k. let m = fits h k in let l = length_push (map entry_of ts) (entry_of y) in
-          let n = length-map ts entry_of in omega (arith, m, l, n);
-      room = λ h k. let m = room h k in let r = to_come_push (map entry_of ts) (entry_of y) in let f = to_come_few (map entry_of ts) in
-          let o : events_of y.stage ≡ 2 = ap events_of fresh in omega (arith, m, r, f, o, ee);
+      fits = λ h k. omega (arith, fits h k, length_push (map entry_of ts) (entry_of y), length-map ts entry_of);
+      room = λ h k. let f = to_come_few (map entry_of ts) in
+          let o : events_of y.stage ≡ 2 = ap events_of fresh in omega (arith, room h k, to_come_push (map entry_of ts) (entry_of y));
       none = λ h. ee ∙ i.none h;
       fresh = λ h. all_push (λ (u : ℕ) (z : Entry). z.stage ≡ stage.Fresh) (map entry_of ts) (entry_of y) (i.fresh h) (λ k m. fresh);
     })
@@ -182,31 +150,22 @@ room_same {s} {b} {es} {e} {c} fs i same = subst (λ (gs : List Entry). HasRoom 
 -- the checks of `start`, `task` and `spawn` say that a trace fits
 pub fits_if : (p : Inside) {now : PoolState} (n : ℕ) → state_of p ≡ now → IsFalse (lacks_steps now n) → IsTrue p.traced
     → steps_of_trace n ≤ MAX_STEPS
-fits_if p n same h tr =
-    by_cases p.traced p.events.items MAX_STEPS (steps_of_trace n) (subst (λ (a : PoolState). IsFalse (lacks_steps a n)) (sym same) h) tr
-  where
-    by_cases : (b : Bool) (es : List Event) (m k : ℕ) → IsFalse (is_some (kept_of b es) && nat_lt m k) → IsTrue b → k ≤ m
-    by_cases true es m k g t = grind (arith, nat_tests, g)
-    by_cases false es m k g t = cc
+fits_if p n same h tr = let g = subst (λ (a : PoolState). IsFalse (lacks_steps a n)) (sym same) h in grind (arith, nat_tests, g, tr)
 
 pub fits_more : (p : Inside) {now : PoolState} → state_of p ≡ now → IsFalse (now.started && lacks_steps now (length now.tasks + 1))
     → IsTrue p.started → IsTrue p.traced → steps_of_trace (length p.tasks + 1) ≤ MAX_STEPS
-fits_more p {now} same h st tr =
-    let f = fits_if p (length now.tasks + 1) same (right_false now.started _ h (sym (ap (λ (a : PoolState). a.started) same) ∙ st)) tr in
-    let n = ap (λ (a : PoolState). length a.tasks) same in let l = length-map p.tasks entry_of in omega (arith, f, n, l)
+fits_more p {now} same h st tr = let f = fits_if p (length now.tasks + 1) same (right_false now.started _ h (sym (ap (λ (a : PoolState).
+    a.started) same) ∙ st)) tr in let n = ap (λ (a : PoolState). length a.tasks) same in omega (arith, length-map p.tasks entry_of)
   where
     right_false : (a b : Bool) → IsFalse (a && b) → IsTrue a → IsFalse b
-    right_false true b x y = x
-    right_false false b x y = cc
+    right_false a b x y = grind arith
 
 -- ==== The test of a ready task: it says what the relation says, and what the pool stores of a task decides it.
 pub fresh_stage : (s : Stage) → IsTrue (is_fresh s) → s ≡ stage.Fresh
-fresh_stage stage.Fresh h = refl
-fresh_stage _ h = cc
+fresh_stage s h = grind arith
 
 done_stage : (s : Stage) → IsTrue (is_done s) → s ≡ stage.Done
-done_stage stage.Done h = refl
-done_stage _ h = cc
+done_stage s h = grind arith
 
 done_entry : (o : Option Entry) → is_done_at o ≡ true → (x : Entry) × (o ≡ Some x) × (x.stage ≡ stage.Done)
 done_entry (Some x) h = (x, refl, done_stage x.stage h)
@@ -214,41 +173,32 @@ done_entry None h = cc
 
 -- ---- the test and the relation
 pub both_true : (a b : Bool) → IsTrue a → IsTrue b → IsTrue (a && b)
-both_true true true h g = refl
-both_true true false h g = cc
-both_true false _ h g = cc
+both_true a b h g = grind arith
 
 module _ (a : PoolState) (t : ℕ) where
   -- the source of an input of t is done if that does not keep t waiting
   by_done : (k : ℕ) (d : Bool) → IsFalse ((k == k) && not d) → d ≡ true
-  by_done k true h = refl
-  by_done k false h = absurd (grind (arith, nat_tests, h))
+  by_done k d h = grind (arith, nat_tests, h)
 
   to_relation : (o : Option Entry) → slice_get a.tasks t ≡ o → IsTrue (is_ready_entry a t o) → IsReady t a
   to_relation None is h = cc
-  to_relation (Some x) is h = let p = and_parts (is_fresh x.stage) _ h in
-      let q = and_parts (x.outside == 0) (count_where (keeps_waiting a.tasks t) a.inputs == 0) p.1 in
-      let z = eqb-true (count_where (keeps_waiting a.tasks t) a.inputs) 0 q.1 in record {
+  to_relation (Some x) is h = let p = and_parts (is_fresh x.stage) _ h in let q = and_parts (x.outside == 0) (count_where
+      (keeps_waiting a.tasks t) a.inputs == 0) p.1 in let z = eqb-true (count_where (keeps_waiting a.tasks t) a.inputs) 0 q.1 in record {
         task = x;
         is = is;
         fresh = fresh_stage x.stage p.0;
         outside = eqb-true x.outside 0 q.0;
-        inputs = λ s r.
-            let free = count_none (keeps_waiting a.tasks t) a.inputs r.0 (record { source = s; target = t }) z r.1 in
+        inputs = λ s r. let free = count_none (keeps_waiting a.tasks t) a.inputs r.0 (record { source = s; target = t }) z r.1 in
             let y = done_entry (slice_get a.tasks s) (by_done t (is_done_at (slice_get a.tasks s)) free) in
             record { task = y.0; is = y.1; stage = y.2 };
       }
 
   to_test : IsReady t a → IsTrue (is_ready_now a t)
-  to_test r = subst (λ (o : Option Entry). IsTrue (is_ready_entry a t o)) (sym r.is)
-      (both_true (is_fresh r.task.stage) ((r.task.outside == 0) && (count_where (keeps_waiting a.tasks t) a.inputs == 0)) (ap is_fresh r.fresh)
-      (both_true (r.task.outside == 0) (count_where (keeps_waiting a.tasks t) a.inputs == 0) (eq-eqb r.task.outside 0 r.outside)
-      (eq-eqb _ 0 (count_zero (keeps_waiting a.tasks t) a.inputs (λ k i h. free k i h (same_or i.target t))))))
+  to_test r = let z = count_zero (keeps_waiting a.tasks t) a.inputs (λ k i h. free k i h (same_or i.target t)) in
+      let s = r.is in let f = r.fresh in let o = r.outside in grind (arith, nat_tests, z, s, f, o)
     where
       off : (b d : Bool) → d ≡ true → one (b && not d) ≡ 0
-      off true true h = refl
-      off true false h = cc
-      off false _ h = refl
+      off b d h = grind arith
 
       free : (k : ℕ) (i : Input) → slice_get a.inputs k ≡ Some i → (i.target ≡ t) ⊎ (i.target ≢ t) → one (keeps_waiting a.tasks t i) ≡ 0
       free k i h (inr o) = one_else i.target t (not (is_done_at (slice_get a.tasks i.source))) o
@@ -298,21 +248,17 @@ test_none p t same h = ap (λ (a : PoolState). is_ready_now a t) (sym same)
 
 -- ---- the number of ready tasks
 by_class : (k : ℕ) (b : Bool) → k < 4 → one b ≡ one ((k == 0) && b) + one ((k == 1) && b) + one ((k == 2) && b) + one ((k == 3) && b)
-by_class zero b l = grind (arith, nat_tests)
-by_class (suc zero) b l = grind (arith, nat_tests)
-by_class (suc (suc zero)) b l = grind (arith, nat_tests)
-by_class (suc (suc (suc zero))) b l = grind (arith, nat_tests)
-by_class (suc (suc (suc (suc k)))) b l = absurd (omega (arith, l))
+by_class k b l = grind (arith, nat_tests)
 
 count_classes : (ts : List Task) → ((t : ℕ) (x : Task) → slice_get ts t ≡ Some x → x.class < 4) → count_where may_begin ts
     ≡ count_where (is_ready 0) ts + count_where (is_ready 1) ts + count_where (is_ready 2) ts + count_where (is_ready 3) ts
 count_classes [] h = refl
-count_classes (x ∷ ts) h = let r = count_classes ts (λ t y g. h (suc t) y g) in let o = by_class x.class (may_begin x) (h 0 x refl) in
-    let n = count_next may_begin x ts in let n0 = count_next (is_ready 0) x ts in let n1 = count_next (is_ready 1) x ts in
-    let n2 = count_next (is_ready 2) x ts in let n3 = count_next (is_ready 3) x ts in omega (arith, r, o, n, n0, n1, n2, n3)
+count_classes (x ∷ ts) h = let r = count_classes ts (λ t y g. h (suc t) y g) in let n = count_next may_begin x ts in
+    let n0 = count_next (is_ready 0) x ts in let n1 = count_next (is_ready 1) x ts in let n2 = count_next (is_ready 2) x ts in
+    let n3 = count_next (is_ready 3) x ts in omega (arith, by_class x.class (may_begin x) (h 0 x refl))
 
-pub ready_count : (p : Inside) {now : PoolState} → state_of p ≡ now → Facts p.tasks p.links.items → ready_tasks now
-    ≡ count_where (is_ready 0) p.tasks + count_where (is_ready 1) p.tasks + count_where (is_ready 2) p.tasks + count_where (is_ready 3) p.tasks
+pub ready_count : (p : Inside) {now : PoolState} → state_of p ≡ now → Facts p.tasks p.links.items → ready_tasks now ≡ count_where
+    (is_ready 0) p.tasks + count_where (is_ready 1) p.tasks + count_where (is_ready 2) p.tasks + count_where (is_ready 3) p.tasks
 ready_count p same f = ap ready_tasks (sym same) ∙ (ap (count_below (is_ready_now (state_of p))) (length-map p.tasks entry_of)
     ∙ (below_all (is_ready_now (state_of p)) may_begin p.tasks (λ t x is. test_ready p t x refl f is)
     ∙ count_classes p.tasks (λ t x is. (f.counted t x is).class)))
@@ -325,11 +271,7 @@ ready_begins p {now} t x same f is r = sym (test_ready p t x same f is) ∙ (tes
 
 -- ---- all are done
 pub over_if : (a : PoolState) → count_where is_unfinished a.tasks ≡ 0 → IsOver a
-over_if a z t y h = by_test y.stage (count_none is_unfinished a.tasks t y z h)
-  where
-    by_test : (s : Stage) → IsFalse (not (is_done s)) → s ≡ stage.Done
-    by_test stage.Done h = refl
-    by_test _ h = cc
+over_if a z t y h = let n = count_none is_unfinished a.tasks t y z h in grind (arith, n)
 
 pub over_none : (p : Inside) {now : PoolState} → state_of p ≡ now → IsOver now → count_where is_unfinished (map entry_of p.tasks) ≡ 0
 over_none p {now} same over = ap (λ (a : PoolState). count_where is_unfinished a.tasks) same
@@ -347,24 +289,22 @@ lowest_of p {now} (Some t) same f h = let r : IsReady t now = (test_is now t).0 
     let c = ap (λ (e : Entry). e.class) (seen_at p t h.task r.task same r.is h.is) in record {
       ready = r;
       lowest = λ u q. let g = stored_at p u q.task same q.is in let d = ap (λ (e : Entry). e.class) g.2 in
-          let m = h.lowest u g.0 g.1 (ready_begins p u g.0 same f g.1 q) in omega (arith, c, d, m);
+          omega (arith, h.lowest u g.0 g.1 (ready_begins p u g.0 same f g.1 q));
     }
 
 pub none_of : (p : Inside) {now : PoolState} (o : Option ℕ) → state_of p ≡ now → Facts p.tasks p.links.items
     → IfNone o (NoneReady p.tasks) → IfNone o ((t : ℕ) → IsReady t now → ⊥)
 none_of p (Some t) same f h = h
-none_of p None same f h = λ t r. let g = stored_at p t r.task same r.is in let x : Task = g.0 in
-    not_here x.class (may_begin x) (sym (ap (ready_at x.class) g.1) ∙ h x.class (f.counted t x g.1).class t) (ready_begins p t x same f g.1 r)
+none_of p None same f h = λ t r. let g = stored_at p t r.task same r.is in let x : Task = g.0 in not_here x.class
+    (may_begin x) (sym (ap (ready_at x.class) g.1) ∙ h x.class (f.counted t x g.1).class t) (ready_begins p t x same f g.1 r)
 
 pub consistent : (p : Inside) → IsPool p → IsConsistent (state_of p)
 consistent p i = record {
-  lower = λ k j h.
-      let g = map_got input_of p.links.items k j h in let q = i.facts.linked k g.0 g.1 in let l = q.before in let w = q.within in
-      let s : g.0.source ≡ j.source = ap (λ (j : Input). j.source) g.2 in
-      let t : g.0.target ≡ j.target = ap (λ (j : Input). j.target) g.2 in
-      let n = length-map p.tasks entry_of in (omega (arith, l, s, t), omega (arith, w, t, n));
-  classes = λ t y h. let g = map_got entry_of p.tasks t y h in let c = (i.facts.counted t g.0 g.1).class in
-      let s : g.0.class ≡ y.class = ap (λ (e : Entry). e.class) g.2 in omega (arith, c, s);
+  lower = λ k j h. let g = map_got input_of p.links.items k j h in
+      let q = i.facts.linked k g.0 g.1 in let s : g.0.source ≡ j.source = ap (λ (j : Input). j.source) g.2 in let t : g.0.target
+      ≡ j.target = ap (λ (j : Input). j.target) g.2 in (omega (arith, q.before), omega (arith, q.within, length-map p.tasks entry_of));
+  classes = λ t y h. let g = map_got entry_of p.tasks t y h in
+      let s : g.0.class ≡ y.class = ap (λ (e : Entry). e.class) g.2 in omega (arith, (i.facts.counted t g.0 g.1).class);
   fits = λ st tr. i.room.fits st (by_traced p.events.items p.traced tr);
 }
   where

@@ -50,21 +50,7 @@ abbrev pub no_test : ℕ → Bool
 no_test t = false
 
 pub goes_new : (number parts : ℕ) → Goes no_test no_test no_test (λ u q. false) (new_part number parts)
-goes_new number parts = record {
-  tasks = record { long = refl; at = λ k t x a b. cc; own = λ t h. absurd (false≢true h) };
-  values = record { came = λ i e h. cc; came_in = λ u h. absurd (false≢true h) };
-  messages = record {
-    due = λ i e h. cc;
-    box_is = λ j i h. cc;
-    box_some = λ i e h p. cc;
-    box_once = λ j l i a b. cc;
-    sent_is = λ u q h. absurd (false≢true h);
-    sent_some = λ j i e l a b. cc;
-    few = omega arith;
-  };
-  fed = λ k i x e a b f t. cc;
-  early = λ h. (λ t. refl, λ t. refl, λ u. refl);
-}
+goes_new number parts = grind arith
 
 -- ---- what a value that is passed on leaves
 pub pass_value : (u : ℕ) (e : Edge) → (passed_on u e).value ≡ e.value
@@ -93,12 +79,7 @@ pass_other u e v = ap (λ (b : Bool). cond b (pass_one e) e) (ne_eqb e.value u v
 -- the test has value u, too
 pub passed_is : (u : ℕ) (e : Edge) (B : ℕ → Bool) → e.passed ≡ B e.value
     → (passed_on u e).passed ≡ ((u == (passed_on u e).value) || B (passed_on u e).value)
-passed_is u e B h = elim (cases_eq e.value u) [
-  | inl v ↦ ap (λ (x : Edge). x.passed) (pass_here u e v)
-      ∙ sym (ap (λ (b : Bool). b || B (passed_on u e).value) (eq-eqb u (passed_on u e).value (sym (pass_value u e ∙ v))))
-  | inr v ↦ ap (λ (x : Edge). x.passed) (pass_other u e v) ∙ (h ∙ (ap B (sym (pass_value u e))
-      ∙ sym (ap (λ (b : Bool). b || B (passed_on u e).value) (ne_eqb u (passed_on u e).value (λ s. v (sym (s ∙ pass_value u e)))))))
-]
+passed_is u e B h = grind (arith, nat_tests, h)
 
 -- ---- the places of a value
 pub record PlacesOf (u : ℕ) (es : List Edge) (n : ℕ) (ks : List ℕ) : Type 0 where
@@ -107,38 +88,29 @@ pub record PlacesOf (u : ℕ) (es : List Edge) (n : ℕ) (ks : List ℕ) : Type 
   pub once : (j l i : ℕ) → slice_get ks j ≡ Some i → slice_get ks l ≡ Some i → j ≡ l
 
 pub places_of : (u : ℕ) (es : List Edge) (n : ℕ) → PlacesOf u es n (places u es n)
-places_of u es zero = record { is = λ j i h. cc; some = λ i l h. absurd (omega (arith, l)); once = λ j l i a b. cc }
+places_of u es zero = record { is = λ j i h. cc; some = λ i l h. absurd (omega arith); once = λ j l i a b. cc }
 places_of u es (suc n) = go (is_of u (slice_get es n)) refl (places_of u es n)
   where
-    below : (l i : ℕ) → PlacesOf u es n (places u es n) → n ≡ i → slice_get (places u es n) l ≡ Some i → ⊥
-    below l i r s h = (let w = (r.is l i h).0 in omega (arith, s, w))
-
     once_next : PlacesOf u es n (places u es n) → (j l i : ℕ) → slice_get (n ∷ places u es n) j ≡ Some i
         → slice_get (n ∷ places u es n) l ≡ Some i → j ≡ l
     once_next r zero zero i a b = refl
-    once_next r zero (suc l) i a b = absurd (below l i r (some_same n i a) b)
-    once_next r (suc j) zero i a b = absurd (below j i r (some_same n i b) a)
+    once_next r zero (suc l) i a b = absurd (omega (arith, some_same n i a, (r.is l i b).0))
+    once_next r (suc j) zero i a b = absurd (omega (arith, some_same n i b, (r.is j i a).0))
     once_next r (suc j) (suc l) i a b = ap suc (r.once j l i a b)
 
     go : (b : Bool) → is_of u (slice_get es n) ≡ b → PlacesOf u es n (places u es n)
         → PlacesOf u es (suc n) (cond b (n ∷ places u es n) (places u es n))
     go false f r = record {
-      is = λ j i h. (let a = r.is j i h in let l = a.0 in (omega (arith, l), a.1));
-      some = λ i l h. elim (same_or i n) [
-        | inl s ↦ true_or_false (is_of u (slice_get es i)) h (ap (λ (k : ℕ). is_of u (slice_get es k)) s ∙ f)
-        | inr o ↦ r.some i (omega (arith, l, o)) h
-      ];
+      is = λ j i h. (let a = r.is j i h in (omega (arith, a.0), a.1));
+      some = λ i l h. r.some i (grind (arith, l, h, f)) h;
       once = r.once;
     }
     go true t r = record {
       is = λ j i h. elim (front n (places u es n) j i h) [
-        | inl s ↦ (omega (arith, s), ap (λ (k : ℕ). is_of u (slice_get es k)) (sym s) ∙ t)
-        | inr m ↦ (let a = r.is m.0 i m.1 in let l = a.0 in (omega (arith, l), a.1))
+        | inl s ↦ (omega arith, ap (λ (k : ℕ). is_of u (slice_get es k)) (sym s) ∙ t)
+        | inr m ↦ (let a = r.is m.0 i m.1 in (omega (arith, a.0), a.1))
       ];
-      some = λ i l h. elim (same_or i n) [
-        | inl s ↦ (0, ap Some (sym s))
-        | inr o ↦ (let a = r.some i (omega (arith, l, o)) h in (suc a.0, a.1))
-      ];
+      some = λ i l h. elim (same_or i n) [ inl s ↦ (0, ap Some (sym s)) | inr o ↦ (let a = r.some i (omega arith) h in (suc a.0, a.1)) ];
       once = once_next r;
     }
 
@@ -149,12 +121,8 @@ module _ (R E : ℕ → Bool) (ns : List ℕ) (xs : List Progress) (g : TasksGo 
       → ((v : ℕ) → t ≢ v → (R2 v ≡ R v) × (E2 v ≡ E v)) → TasksGo R2 E2 ns (set xs k y)
   tasks_set y R2 E2 here apart = record {
     long = length-set xs k y ∙ g.long;
-    at = λ j v z b d. elim (set_apart xs k j z y d) [
-      | inl o ↦ (let a = g.at j v z b o.0 in let c = apart v (λ e. o.1 (same_place ns j k t up (b ∙ ap Some (sym e)) own)) in
-          (a.0 ∙ ap not (sym c.0), a.1 ∙ sym c.1))
-      | inr o ↦ subst (λ (w : ℕ). Agrees R2 E2 w z) (there ns k t v own (subst (λ (i : ℕ). slice_get ns i ≡ Some v) o.0 b))
-          (subst (λ (w : Progress). Agrees R2 E2 t w) (sym o.1) here)
-    ];
+    at = λ j v z b d. (let p = set_apart xs k j z y d in let q = g.at j v z b in let s = same_place ns j k t up in let c = apart v in
+        grind (arith, p, q, s, c, b, own, here));
     own = λ v h. elim (cases_eq t v) [
       | inl e ↦ (k, own ∙ ap Some e)
       | inr o ↦ (let c = apart v o in g.own v (ap (λ (b : Bool). b || E v) (sym c.0) ∙ (ap (λ (b : Bool). R2 v || b) (sym c.1) ∙ h)))
@@ -163,10 +131,8 @@ module _ (R E : ℕ → Bool) (ns : List ℕ) (xs : List Progress) (g : TasksGo 
 
 fed_set : (xs : List Progress) (ins : List Edge) (k : ℕ) (y : Progress) → AreFed xs ins
     → ((i : ℕ) (e : Edge) → slice_get ins i ≡ Some e → e.target ≡ k → e.passed ≡ true) → AreFed (set xs k y) ins
-fed_set xs ins k y fed all j i z e d f h to = elim (set_apart xs k j z y d) [
-  | inl o ↦ fed j i z e o.0 f h to
-  | inr o ↦ all i e h (to ∙ o.0)
-]
+fed_set xs ins k y fed all j i z e d f h to = elim (set_apart xs k j z y d)
+    [ inl o ↦ fed j i z e o.0 f h to | inr o ↦ all i e h (to ∙ o.0) ]
 
 also : (B : ℕ → Bool) (t v : ℕ) → t ≢ v → ((t == v) || B v) ≡ B v
 also B t v o = ap (λ (c : Bool). c || B v) (ne_eqb t v o)
@@ -204,36 +170,25 @@ module _ (E : ℕ → Bool) (S : ℕ → ℕ → Bool) (outs : List Edge) (box :
       | inr v ↦ (let w = g.box_some i m.0 m.1 (ap (λ (z : Edge). z.passed) (sym (pass_other t m.0 v) ∙ m.2) ∙ p) in
           (w.0, push_old box posted w.0 i w.1))
     ]);
-    box_once = λ j l i b d. elim (push_cases box posted j i b) [
-      | inl o ↦ elim (push_cases box posted l i d) [ inl q ↦ g.box_once j l i o q | inr q ↦ absurd (clash j i q.0 o q.2) ]
-      | inr o ↦ elim (push_cases box posted l i d) [
-        | inl q ↦ absurd (clash l i o.0 q o.2)
-        | inr q ↦ o.1 ∙ (ap (λ (n : ℕ). length box + n) ((places_of t outs (length outs)).once o.0 q.0 i o.2 q.2) ∙ sym q.1)
-      ]
-    ];
-    sent_is = λ u q h. (let w = g.sent_is u q h in record {
-      message = w.message;
-      before = w.before;
-      place = w.place;
-      at = push_old box posted w.message w.place w.at;
-      edge = ap (λ (xs : List Pair). slice_get xs w.place) (pass_ends t outs) ∙ w.edge;
-    });
-    sent_some = λ j i e l b h. (let m = map_got (passed_on t) outs i e h in let f = g.few in elim (push_cases box posted j i b) [
-      | inl o ↦ subst (λ (z : Edge). S z.value z.target ≡ true) m.2
-          (ap (λ (w : ℕ). S w (passed_on t m.0).target) (pass_value t m.0) ∙ (ap (S m.0.value) (pass_target t m.0)
-          ∙ g.sent_some j i m.0 l o m.1))
-      | inr o ↦ (let n = o.1 in absurd (omega (arith, n, l, f)))
+    box_once = λ j l i b d. (let p = push_cases box posted j i b in let q = push_cases box posted l i d in let o = g.box_once j l i in
+        let c = clash j i in let e = clash l i in let f = (places_of t outs (length outs)).once in grind (arith, p, q, o, c, e, f));
+    sent_is = λ u q h. (let w = g.sent_is u q h in let at = push_old box posted w.message w.place w.at in
+        let edge = ap (λ (xs : List Pair). slice_get xs w.place) (pass_ends t outs) ∙ w.edge in
+        record { message = w.message; before = w.before; place = w.place; at = at; edge = edge });
+    sent_some = λ j i e l b h. (let m = map_got (passed_on t) outs i e h in elim (push_cases box posted j i b) [
+      | inl o ↦ subst (λ (z : Edge). S z.value z.target ≡ true) m.2 (ap (λ (w : ℕ). S w (passed_on t m.0).target) (pass_value t m.0)
+          ∙ (ap (S m.0.value) (pass_target t m.0) ∙ g.sent_some j i m.0 l o m.1))
+      | inr o ↦ absurd (omega (arith, o.1, g.few))
     ]);
-    few = (let l = length-append box posted in let f = g.few in omega (arith, l, f));
+    few = omega (arith, length-append box posted, g.few);
   }
 
 module _ {R E C : ℕ → Bool} {S : ℕ → ℕ → Bool} {a : PartState} (g : Goes R E C S a) where
   module _ (up : Ascends a.numbers) (t k : ℕ) (x : Progress) (own : slice_get a.numbers k ≡ Some t)
       (is : slice_get a.tasks k ≡ Some x) where
     -- a task runs
-    pub goes_run : x.stage ≡ stage.Fresh → IsTrue a.started
-        → ((i : ℕ) (e : Edge) → slice_get a.incoming i ≡ Some e → e.target ≡ k → IsTrue e.passed)
-        → Goes (λ v. (t == v) || R v) E C S (record a { tasks = set a.tasks k (record x { stage = stage.Running }) })
+    pub goes_run : x.stage ≡ stage.Fresh → IsTrue a.started → ((i : ℕ) (e : Edge) → slice_get a.incoming i ≡ Some e → e.target
+        ≡ k → IsTrue e.passed) → Goes (λ v. (t == v) || R v) E C S (record a { tasks = set a.tasks k (record x { stage = stage.Running }) })
     goes_run fresh started arrived = record {
       tasks = tasks_set R E a.numbers a.tasks g.tasks up t k own (record x { stage = stage.Running }) (λ v. (t == v) || R v) E
           (sym (ap not (here_too R t)), sym (ap is_done fresh) ∙ (g.tasks.at k t x own is).1) (λ v o. (also R t v o, refl));
@@ -244,13 +199,11 @@ module _ {R E C : ℕ → Bool} {S : ℕ → ℕ → Bool} {a : PartState} (g : 
     }
 
     -- a task is done
-    pub goes_end : x.stage ≡ stage.Running
-        → Goes R (λ v. (t == v) || E v) C S
-        (record a {
-          tasks = set a.tasks k (record x { stage = stage.Done });
-          outgoing = pass t a.outgoing;
-          outbox = a.outbox ++ places t a.outgoing (length a.outgoing);
-        })
+    pub goes_end : x.stage ≡ stage.Running → Goes R (λ v. (t == v) || E v) C S (record a {
+      tasks = set a.tasks k (record x { stage = stage.Done });
+      outgoing = pass t a.outgoing;
+      outbox = a.outbox ++ places t a.outgoing (length a.outgoing);
+    })
     goes_end runs = (let was = g.tasks.at k t x own is in let ran = not-false (R t) (sym was.0 ∙ ap is_fresh runs) in record {
       tasks = tasks_set R E a.numbers a.tasks g.tasks up t k own (record x { stage = stage.Done }) R (λ v. (t == v) || E v)
           (sym (ap not ran), sym (here_too E t)) (λ v o. (refl, also E t v o));
@@ -266,25 +219,18 @@ module _ {R E C : ℕ → Bool} {S : ℕ → ℕ → Bool} {a : PartState} (g : 
   goes_send u q i e due is value target = (
       let sent_is : (v r : ℕ) → (((u == v) && (q == r)) || S v r) ≡ true → WasPosted v r a.outgoing a.outbox (a.sent + 1) =
       λ v r h. elim (or_cases ((u == v) && (q == r)) (S v r) h) [
-        | inl b ↦ (let p = and_parts (u == v) (q == r) b in record {
-          message = a.sent;
-          before = omega arith;
-          place = i;
-          at = due;
-          edge = map_get ends a.outgoing i e is ∙ ap Some (same_ends (value ∙ eqb-true u v p.0) (target ∙ eqb-true q r p.1));
-        })
-        | inr b ↦ (let w = g.messages.sent_is v r b in let l = w.before in
-            record { message = w.message; before = omega (arith, l); place = w.place; at = w.at; edge = w.edge })
+        | inl b ↦ (let p = and_parts (u == v) (q == r) b in let edge = map_get ends a.outgoing i e is ∙ ap Some (same_ends (value ∙ eqb-true
+            u v p.0) (target ∙ eqb-true q r p.1)) in record { message = a.sent; before = omega arith; place = i; at = due; edge = edge })
+        | inr b ↦ (let w = g.messages.sent_is v r b in
+            record { message = w.message; before = omega (arith, w.before); place = w.place; at = w.at; edge = w.edge })
       ] in
       let sent_some : (j k : ℕ) (d : Edge) → j < a.sent + 1 → slice_get a.outbox j ≡ Some k → slice_get a.outgoing k ≡ Some d
       → (((u == d.value) && (q == d.target)) || S d.value d.target) ≡ true = λ j k d l b h. elim (same_or j a.sent) [
-        | inl s ↦ (let k_is = there a.outbox a.sent k i (subst (λ (m : ℕ). slice_get a.outbox m ≡ Some k) s b) due in
-            let d_is = there a.outgoing i d e (subst (λ (m : ℕ). slice_get a.outgoing m ≡ Some d) k_is h) is in
-            or_left ((u == d.value) && (q == d.target)) (S d.value d.target) (and_from (u == d.value) (q == d.target)
-            (eq-eqb u d.value (sym (ap (λ (z : Edge). z.value) d_is ∙ value))) (eq-eqb q d.target (sym (ap (λ (z : Edge). z.target) d_is
-            ∙ target)))))
-        | inr o ↦ or_right ((u == d.value) && (q == d.target)) (S d.value d.target) (g.messages.sent_some j k d (omega (arith, l, o)) b h)
-      ] in let w = slice_get_within a.outbox a.sent i due in let few : a.sent + 1 ≤ length a.outbox = omega (arith, w) in assumption)
+        | inl s ↦ (let k_is = there a.outbox a.sent k i (rw s at b) due in let d_is = there a.outgoing i d e (rw k_is at h) is in
+            or_left _ _ (and_from (u == d.value) (q == d.target) (eq-eqb u d.value (sym (ap (λ (z : Edge). z.value) d_is ∙ value)))
+            (eq-eqb q d.target (sym (ap (λ (z : Edge). z.target) d_is ∙ target)))))
+        | inr o ↦ or_right _ _ (g.messages.sent_some j k d (omega arith) b h)
+      ] in let few : a.sent + 1 ≤ length a.outbox = omega (arith, slice_get_within a.outbox a.sent i due) in assumption)
 
   -- a value arrives
   pub goes_come : (u : ℕ) → IsTrue a.started → is_read u a.incoming ≡ true → Goes R E (λ v. (u == v) || C v) S (with_arrival u a)
@@ -294,17 +240,15 @@ module _ {R E C : ℕ → Bool} {S : ℕ → ℕ → Bool} {a : PartState} (g : 
       came = λ i e h. (let m = map_got (passed_on u) a.incoming i e h in
           subst (λ (z : Edge). z.passed ≡ ((u == z.value) || C z.value)) m.2 (passed_is u m.0 C (g.values.came i m.0 m.1)));
       came_in = λ v h. elim (or_cases (u == v) (C v) h) [
-        | inl b ↦ (let r = any_at (λ (e : Edge). e.value == u) a.incoming read in
-            let v_is = pass_value u r.item ∙ (eqb-true r.item.value u r.test_is ∙ eqb-true u v b) in
-            (r.place, passed_on u r.item, map_get (passed_on u) a.incoming r.place r.item r.is, v_is))
+        | inl b ↦ (let r = any_at (λ (e : Edge). e.value == u) a.incoming read in let v_is = pass_value u r.item ∙ (eqb-true r.item.value
+            u r.test_is ∙ eqb-true u v b) in (r.place, passed_on u r.item, map_get (passed_on u) a.incoming r.place r.item r.is, v_is))
         | inr b ↦ (let w = g.values.came_in v b in
             (w.0, passed_on u w.1, map_get (passed_on u) a.incoming w.0 w.1 w.2, pass_value u w.1 ∙ w.3))
       ];
     };
     messages = g.messages;
-    fed = λ k i x e d f h to. (let m = map_got (passed_on u) a.incoming i e h in
-        ap (λ (z : Edge). z.passed) (sym m.2) ∙ pass_stays u m.0
-        (g.fed k i x m.0 d f m.1 (sym (pass_target u m.0) ∙ (ap (λ (z : Edge). z.target) m.2 ∙ to))));
+    fed = λ k i x e d f h to. (let m = map_got (passed_on u) a.incoming i e h in ap (λ (z : Edge). z.passed) (sym m.2)
+        ∙ pass_stays u m.0 (g.fed k i x m.0 d f m.1 (sym (pass_target u m.0) ∙ (ap (λ (z : Edge). z.target) m.2 ∙ to))));
     early = λ h. true_or_false a.started started h;
   }
 
@@ -314,36 +258,30 @@ module _ {R E C : ℕ → Bool} {S : ℕ → ℕ → Bool} {a : PartState} (g : 
 
   -- an own task is described
   pub goes_own : (class : ℕ) (us : List ℕ) → IsFalse a.started → Goes R E C S (with_own class us a)
-  goes_own class us before = (let none_yet = g.early before in let c = length a.tasks in let even = g.tasks.long in record {
-    tasks = record {
-      long = length_push a.tasks fresh ∙ (ap (λ (n : ℕ). n + 1) even ∙ sym (length_push a.numbers a.described));
-      at = λ k t x b d. elim (last_cases a.tasks k x fresh d) [
-        | inr o ↦ subst (λ (z : Progress). Agrees R E t z) (sym o.1) (sym (ap not (none_yet.0 t)), sym (none_yet.1 t))
-        | inl o ↦ elim (last_cases a.numbers k t a.described b) [
-          | inl q ↦ g.tasks.at k t x q o
-          | inr q ↦ (let w = slice_get_within a.tasks k x o in let e = q.0 in absurd (omega (arith, w, even, e)))
-        ]
-      ];
-      own = λ t h. true_or_false (R t || E t) h (ap (λ (b : Bool). b || E t) (none_yet.0 t) ∙ none_yet.1 t);
-    };
-    values = record {
-      came = λ i e h. elim (push_cases a.incoming (edges_to c a.numbers us) i e h) [
-        | inl o ↦ g.values.came i e o
-        | inr o ↦ ap (λ (z : Edge). z.passed) ((split c a.numbers us).edges_is o.0 e o.2).2 ∙ sym (none_yet.2 e.value)
-      ];
-      came_in = λ u h. true_or_false (C u) h (none_yet.2 u);
-    };
-    messages = g.messages;
-    fed = λ k i x e b f h to. elim (last_cases a.tasks k x fresh b) [
-      | inr o ↦ true_or_false (is_fresh x.stage) (ap (λ (z : Progress). is_fresh z.stage) o.1) f
-      | inl o ↦ (let w = slice_get_within a.tasks k x o in let t = at_below a.numbers k (omega (arith, w, even)) in
-          true_or_false (is_fresh x.stage) ((g.tasks.at k t.0 x t.1 o).0 ∙ ap not (none_yet.0 t.0)) f)
-    ];
-    early = g.early;
-  })
-    where
-      fresh : Progress
-      fresh = record { class = class; stage = stage.Fresh }
+  goes_own class us before = (let none_yet = g.early before in let c = length a.tasks in let even = g.tasks.long in
+      let fresh : Progress = record { class = class; stage = stage.Fresh } in record {
+        tasks = record {
+          long = length_push a.tasks fresh ∙ (ap (λ (n : ℕ). n + 1) even ∙ sym (length_push a.numbers a.described));
+          at = λ k t x b d. (let p = last_cases a.tasks k x fresh d in let q = last_cases a.numbers k t a.described b in
+              let s = g.tasks.at k t x in let w = slice_get_within a.tasks k x in let r = none_yet.0 t in let e = none_yet.1 t in
+              grind (arith, p, q, s, w, r, e, even));
+          own = λ t h. true_or_false (R t || E t) h (ap (λ (b : Bool). b || E t) (none_yet.0 t) ∙ none_yet.1 t);
+        };
+        values = record {
+          came = λ i e h. elim (push_cases a.incoming (edges_to c a.numbers us) i e h) [
+            | inl o ↦ g.values.came i e o
+            | inr o ↦ ap (λ (z : Edge). z.passed) ((split c a.numbers us).edges_is o.0 e o.2).2 ∙ sym (none_yet.2 e.value)
+          ];
+          came_in = λ u h. true_or_false (C u) h (none_yet.2 u);
+        };
+        messages = g.messages;
+        fed = λ k i x e b f h to. elim (last_cases a.tasks k x fresh b) [
+          | inr o ↦ true_or_false (is_fresh x.stage) (ap (λ (z : Progress). is_fresh z.stage) o.1) f
+          | inl o ↦ (let t = at_below a.numbers k (omega (arith, slice_get_within a.tasks k x o)) in
+              true_or_false (is_fresh x.stage) ((g.tasks.at k t.0 x t.1 o).0 ∙ ap not (none_yet.0 t.0)) f)
+        ];
+        early = g.early;
+      })
 
   -- a task of another part is described: nothing was posted yet
   pub goes_foreign : (q : ℕ) (us : List ℕ) → IsFalse a.started → Goes R E C S (with_foreign q us a)
@@ -364,10 +302,8 @@ module _ {R E C : ℕ → Bool} {S : ℕ → ℕ → Bool} {a : PartState} (g : 
   }
     where
       due : (i : ℕ) (e : Edge) → slice_get (with_messages q a.numbers us a.outgoing) i ≡ Some e → e.passed ≡ E e.value
-      due i e h = elim (messages_is q i a.numbers us a.outgoing e h) [
-        | inl o ↦ g.messages.due i e o
-        | inr o ↦ ap (λ (z : Edge). z.passed) o.2 ∙ sym ((g.early before).1 e.value)
-      ]
+      due i e h = elim (messages_is q i a.numbers us a.outgoing e h)
+          [ inl o ↦ g.messages.due i e o | inr o ↦ ap (λ (z : Edge). z.passed) o.2 ∙ sym ((g.early before).1 e.value) ]
 
       no_box : (j i : ℕ) → slice_get a.outbox j ≡ Some i → ⊥
       no_box j i h = (let w = g.messages.box_is j i h in

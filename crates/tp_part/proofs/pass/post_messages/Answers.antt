@@ -6,15 +6,11 @@ loop-left-init c = posted_start c.args.value c.args.outgoing.now c.newest-left.r
     (vec_capacity c.args.outbox.now) c.newest-left.ensures c.requires.room
 
 pub push_reserved-requires : goal.push_reserved-requires
-push_reserved-requires c = let r = posted_room c.loop-left.invariant c.loop-left-test.true in let o = c.loop-left.outbox.ok.0 in omega (
-  arith,
-  r,
-  o,
-)
+push_reserved-requires c = omega (arith, posted_room c.loop-left.invariant c.loop-left-test.true, c.loop-left.outbox.ok.0)
 
 pub loop-left-preserved : goal.loop-left-preserved
-loop-left-preserved c = posted_next c.loop-left.invariant c.loop-left-test.true c.pass.ensures.passed c.older-left.ensures.older c.push_reserved.ensures.items
-    c.push_reserved.ensures.capacity
+loop-left-preserved c = posted_next c.loop-left.invariant
+    c.loop-left-test.true c.pass.ensures.passed c.older-left.ensures.older c.push_reserved.ensures.items c.push_reserved.ensures.capacity
 
 pub returns-clause-passed : goal.returns-clause-passed
 returns-clause-passed c = pass_end c.args.value c.args.outgoing.now c.loop-left.outgoing c.loop-left.left c.loop-left.invariant.passing

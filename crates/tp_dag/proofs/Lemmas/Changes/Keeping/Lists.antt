@@ -11,18 +11,16 @@ pub all_set : {A : Type 0} (P : ℕ → A → Type 0) (xs : List A) (i : ℕ) (y
     → ((k : ℕ) (x : A) → slice_get xs k ≡ Some x → k ≢ i → P k x) → P i y → (k : ℕ) (x : A) → slice_get (set xs i y) k ≡ Some x → P k x
 all_set P [] i y o h k x e = cc
 all_set P (z ∷ xs) zero y o h zero x e = subst (P 0) (some_same y x e) h
-all_set P (z ∷ xs) zero y o h (suc k) x e = o (suc k) x e (λ g. omega (arith, g))
-all_set P (z ∷ xs) (suc i) y o h zero x e = o 0 x e (λ g. omega (arith, g))
-all_set P (z ∷ xs) (suc i) y o h (suc k) x e =
-    all_set (λ j. P (suc j)) xs i y (λ j u g n. o (suc j) u g (λ m. n (omega (arith, m)))) h k x e
+all_set P (z ∷ xs) zero y o h (suc k) x e = o (suc k) x e (λ g. omega arith)
+all_set P (z ∷ xs) (suc i) y o h zero x e = o 0 x e (λ g. omega arith)
+all_set P (z ∷ xs) (suc i) y o h (suc k) x e = all_set (λ j. P (suc j)) xs i y (λ j u g n. o (suc j) u g (λ m. n (omega arith))) h k x e
 
 pub all_push : {A : Type 0} (P : ℕ → A → Type 0) (xs : List A) (y : A) → ((k : ℕ) (x : A) → slice_get xs k ≡ Some x → P k x)
     → ((k : ℕ) → k ≡ length xs → P k y) → (k : ℕ) (x : A) → slice_get (xs ++ y ∷ []) k ≡ Some x → P k x
 all_push P [] y o h zero x e = subst (P 0) (some_same y x e) (h 0 refl)
 all_push P [] y o h (suc k) x e = cc
 all_push P (z ∷ xs) y o h zero x e = o 0 x e
-all_push P (z ∷ xs) y o h (suc k) x e =
-    all_push (λ j. P (suc j)) xs y (λ j u g. o (suc j) u g) (λ j m. h (suc j) (omega (arith, m))) k x e
+all_push P (z ∷ xs) y o h (suc k) x e = all_push (λ j. P (suc j)) xs y (λ j u g. o (suc j) u g) (λ j m. h (suc j) (omega arith)) k x e
 
 pub set_here : {A : Type 0} (xs : List A) (i : ℕ) (x y : A) → slice_get xs i ≡ Some x → slice_get (set xs i y) i ≡ Some y
 set_here [] i x y e = cc
@@ -41,17 +39,14 @@ set_there (z ∷ xs) (suc i) (suc k) y o = set_there xs i k y (λ h. o (ap suc h
 pub get_push : {A : Type 0} (xs : List A) (k : ℕ) (y : A)
     → ((k ≢ length xs) × (slice_get (xs ++ y ∷ []) k ≡ slice_get xs k)) ⊎ ((k ≡ length xs) × (slice_get (xs ++ y ∷ []) k ≡ Some y))
 get_push [] zero y = inr (refl, refl)
-get_push [] (suc k) y = inl (λ e. omega (arith, e), refl)
-get_push (z ∷ xs) zero y = inl (λ e. omega (arith, e), refl)
-get_push (z ∷ xs) (suc k) y = elim (get_push xs k y) [
-  | inl h ↦ inl (λ e. h.0 (omega (arith, e)), h.1)
-  | inr h ↦ inr (ap suc h.0, h.1)
-]
+get_push [] (suc k) y = inl (λ e. omega arith, refl)
+get_push (z ∷ xs) zero y = inl (λ e. omega arith, refl)
+get_push (z ∷ xs) (suc k) y = elim (get_push xs k y) [ inl h ↦ inl (λ e. h.0 (omega arith), h.1) | inr h ↦ inr (ap suc h.0, h.1) ]
 
 pub at_below : {A : Type 0} (xs : List A) (k : ℕ) → k < length xs → (x : A) × (slice_get xs k ≡ Some x)
-at_below [] k l = absurd (omega (arith, l))
+at_below [] k l = absurd (omega arith)
 at_below (x ∷ xs) zero l = (x, refl)
-at_below (x ∷ xs) (suc k) l = at_below xs k (omega (arith, l))
+at_below (x ∷ xs) (suc k) l = at_below xs k (omega arith)
 
 -- ---- what a function makes of a list
 pub map_get : {A B : Type 0} (f : A → B) (xs : List A) (k : ℕ) (x : A) → slice_get xs k ≡ Some x → slice_get (map f xs) k ≡ Some (f x)
@@ -82,42 +77,33 @@ one_few false = omega arith
 -- one that passes counts
 pub count_at : {A : Type 0} (test : A → Bool) (xs : List A) (k : ℕ) (x : A) → slice_get xs k ≡ Some x → one (test x) ≤ count_where test xs
 count_at test [] k x h = cc
-count_at test (y ∷ ys) zero x h = let n = count_next test y ys in let same : y ≡ x = cc in
-    let m : one (test y) ≡ one (test x) = ap (λ z. one (test z)) same in omega (arith, n, m)
-count_at test (y ∷ ys) (suc k) x h = let n = count_next test y ys in let r = count_at test ys k x h in omega (arith, n, r)
+count_at test (y ∷ ys) zero x h = grind (arith, h)
+count_at test (y ∷ ys) (suc k) x h = grind (arith, count_at test ys k x h)
 
 -- the number is 0 if and only if none passes
 pub count_none : {A : Type 0} (test : A → Bool) (xs : List A) (k : ℕ) (x : A) → count_where test xs ≡ 0 → slice_get xs k ≡ Some x
     → IsFalse (test x)
-count_none test xs k x e h = by_one (test x) (let a = count_at test xs k x h in omega (arith, a, e))
-  where
-    by_one : (b : Bool) → one b ≡ 0 → IsFalse b
-    by_one true h = cc
-    by_one false h = refl
+count_none test xs k x e h = let a = count_at test xs k x h in grind (arith, a, e)
 
 pub count_zero : {A : Type 0} (test : A → Bool) (xs : List A) → ((k : ℕ) (x : A) → slice_get xs k ≡ Some x → one (test x) ≡ 0)
     → count_where test xs ≡ 0
 count_zero test [] h = refl
-count_zero test (y ∷ ys) h =
-    let n = count_next test y ys in let o = h 0 y refl in let r = count_zero test ys (λ k x g. h (suc k) x g) in omega (arith, n, o, r)
+count_zero test (y ∷ ys) h = grind (arith, h 0 y refl, count_zero test ys (λ k x g. h (suc k) x g))
 
 pub count_few : {A : Type 0} (test : A → Bool) (xs : List A) → count_where test xs ≤ length xs
 count_few test [] = omega arith
-count_few test (y ∷ ys) = let n = count_next test y ys in let r = count_few test ys in let o = one_few (test y) in omega (arith, n, r, o)
+count_few test (y ∷ ys) = grind (arith, count_few test ys)
 
 -- one place is written
 pub count_set : {A : Type 0} (test : A → Bool) (xs : List A) (k : ℕ) (x y : A) → slice_get xs k ≡ Some x
     → count_where test (set xs k y) + one (test x) ≡ count_where test xs + one (test y)
 count_set test [] k x y h = cc
-count_set test (z ∷ zs) zero x y h = let n = count_next test y zs in let m = count_next test z zs in let same : z ≡ x = cc in
-    let o : one (test z) ≡ one (test x) = ap (λ u. one (test u)) same in omega (arith, n, m, o)
-count_set test (z ∷ zs) (suc k) x y h =
-    let n = count_next test z (set zs k y) in let m = count_next test z zs in let r = count_set test zs k x y h in omega (arith, n, m, r)
+count_set test (z ∷ zs) zero x y h = grind (arith, h)
+count_set test (z ∷ zs) (suc k) x y h = grind (arith, count_set test zs k x y h)
 
 pub count_push : {A : Type 0} (test : A → Bool) (xs : List A) (x : A) → count_where test (xs ++ x ∷ []) ≡ count_where test xs + one (test x)
 count_push test [] x = count_next test x []
-count_push test (y ∷ ys) x =
-    let n = count_next test y (ys ++ x ∷ []) in let m = count_next test y ys in let r = count_push test ys x in omega (arith, n, m, r)
+count_push test (y ∷ ys) x = grind (arith, count_push test ys x)
 
 pub same_or : (n m : ℕ) → (n ≡ m) ⊎ (n ≢ m)
 same_or n m = grind arith
@@ -126,45 +112,39 @@ same_or n m = grind arith
 pub count_same : {A : Type 0} (f g : A → Bool) (xs : List A) → ((k : ℕ) (x : A) → slice_get xs k ≡ Some x → f x ≡ g x)
     → count_where f xs ≡ count_where g xs
 count_same f g [] h = refl
-count_same f g (x ∷ xs) h = let n = count_next f x xs in let m = count_next g x xs in let o = ap one (h 0 x refl) in
-    let r = count_same f g xs (λ k y e. h (suc k) y e) in omega (arith, n, m, o, r)
+count_same f g (x ∷ xs) h = grind (arith, h 0 x refl, count_same f g xs (λ k y e. h (suc k) y e))
 
 -- the tests f and g together are h
-pub count_sum : {A : Type 0} (f g h : A → Bool) (xs : List A)
-    → ((k : ℕ) (x : A) → slice_get xs k ≡ Some x → one (h x) ≡ one (f x) + one (g x)) → count_where h xs ≡ count_where f xs + count_where g xs
+pub count_sum : {A : Type 0} (f g h : A → Bool) (xs : List A) → ((k : ℕ) (x : A)
+    → slice_get xs k ≡ Some x → one (h x) ≡ one (f x) + one (g x)) → count_where h xs ≡ count_where f xs + count_where g xs
 count_sum f g h [] e = refl
-count_sum f g h (x ∷ xs) e = let l = count_next f x xs in let m = count_next g x xs in let n = count_next h x xs in let o = e 0 x refl in
-    let r = count_sum f g h xs (λ k y i. e (suc k) y i) in omega (arith, l, m, n, o, r)
+count_sum f g h (x ∷ xs) e = grind (arith, e 0 x refl, count_sum f g h xs (λ k y i. e (suc k) y i))
 
 pub count_map : {A B : Type 0} (f : B → Bool) (g : A → B) (h : A → Bool) (xs : List A) → ((x : A) → f (g x) ≡ h x)
     → count_where f (map g xs) ≡ count_where h xs
 count_map f g h [] e = refl
-count_map f g h (x ∷ xs) e = let n = count_next f (g x) (map g xs) in let m = count_next h x xs in let r = count_map f g h xs e in
-    let o : one (f (g x)) ≡ one (h x) = ap one (e x) in omega (arith, n, m, r, o)
+count_map f g h (x ∷ xs) e = grind (arith, e x, count_map f g h xs e)
 
 -- ==== How many of the first n pass a test, and the newest output of a task among them.
 first_cons : {A : Type 0} (test : A → Bool) (x : A) (xs : List A) (n : ℕ)
     → count_first test (x ∷ xs) (suc n) ≡ one (test x) + count_first test xs n
 first_cons test x xs zero = omega arith
-first_cons test x xs (suc n) = let r = first_cons test x xs n in omega (arith, r)
+first_cons test x xs (suc n) = omega (arith, first_cons test x xs n)
 
 pub first_all : {A : Type 0} (test : A → Bool) (xs : List A) → count_first test xs (length xs) ≡ count_where test xs
 first_all test [] = refl
-first_all test (x ∷ xs) = let long : length (x ∷ xs) ≡ suc (length xs) = omega arith in
-    let e : count_first test (x ∷ xs) (length (x ∷ xs)) ≡ count_first test (x ∷ xs) (suc (length xs)) = ap (count_first test
-    (x ∷ xs)) long in
-    let c = first_cons test x xs (length xs) in let r = first_all test xs in let n = count_next test x xs in omega (arith, e, c, r, n)
+first_all test (x ∷ xs) = let long : length (x ∷ xs) ≡ suc (length xs) = omega arith in let e : count_first test (x ∷ xs) (length (x ∷ xs))
+    ≡ count_first test (x ∷ xs) (suc (length xs)) = ap (count_first test (x ∷ xs)) long in
+    omega (arith, first_cons test x xs (length xs), first_all test xs, count_next test x xs)
 
 next_below : (f : ℕ → Bool) (n : ℕ) → count_below f (suc n) ≡ count_below f n + one (f n)
-next_below f n = elim (f n) as (λ b. cond b (count_below f n + 1) (count_below f n) ≡ count_below f n + one b)
-    [ true ↦ refl | false ↦ omega arith ]
+next_below f n = grind arith
 
 below_first : {A : Type 0} (f : ℕ → Bool) (g : A → Bool) (xs : List A) (n : ℕ) → n ≤ length xs
     → ((t : ℕ) (x : A) → slice_get xs t ≡ Some x → f t ≡ g x) → count_below f n ≡ count_first g xs n
 below_first f g xs zero l h = refl
-below_first f g xs (suc n) l h = let x = at_below xs n (omega (arith, l)) in let r = below_first f g xs n (omega (arith, l)) h in
-    let a = next_below f n in
-    let b : one (f n) ≡ at_passes g (slice_get xs n) = ap one (h n x.0 x.1) ∙ sym (ap (at_passes g) x.1) in omega (arith, r, a, b)
+below_first f g xs (suc n) l h = let x = at_below xs n (omega arith) in let r = below_first f g xs n (omega arith) h in
+    let b : one (f n) ≡ at_passes g (slice_get xs n) = ap one (h n x.0 x.1) ∙ sym (ap (at_passes g) x.1) in omega (arith, next_below f n)
 
 pub below_all : {A : Type 0} (f : ℕ → Bool) (g : A → Bool) (xs : List A) → ((t : ℕ) (x : A) → slice_get xs t ≡ Some x → f t ≡ g x)
     → count_below f (length xs) ≡ count_where g xs
@@ -173,19 +153,15 @@ below_all f g xs h = below_first f g xs (length xs) (omega arith) h ∙ first_al
 -- ---- outputs
 pub newest_agree : (s : ℕ) (xs ys : List Link) (n : ℕ) → ((k : ℕ) → k < n → slice_get ys k ≡ slice_get xs k) → newest s ys n ≡ newest s xs n
 newest_agree s xs ys zero h = refl
-newest_agree s xs ys (suc n) h = let r = newest_agree s xs ys n (λ k l. h k (omega (arith, l))) in
-    ap (λ (o : Option Link). cond (is_of s o) (suc n) (newest s ys n)) (h n (omega arith))
-    ∙ ap (λ (m : ℕ). cond (is_of s (slice_get xs n)) (suc n) m) r
+newest_agree s xs ys (suc n) h = let r = newest_agree s xs ys n (λ k l. h k (omega arith)) in let e = ap (is_of s) (h n (omega arith)) in cc
 
 pub newest_few : (s : ℕ) (xs : List Link) (n : ℕ) → newest s xs n ≤ n
 newest_few s xs zero = omega arith
-newest_few s xs (suc n) = elim (is_of s (slice_get xs n)) as (λ b. cond b (suc n) (newest s xs n) ≤ suc n)
-    [ true ↦ omega arith | false ↦ (let r = newest_few s xs n in omega (arith, r)) ]
+newest_few s xs (suc n) = grind (arith, newest_few s xs n)
 
 -- the others are not from the task
 at_skip : (s t : ℕ) (o : Option Link) → is_of s o ≡ false → at_passes (is_from_to s t) o ≡ 0
-at_skip s t None h = refl
-at_skip s t (Some e) h = ap one (ap (λ (b : Bool). b && (e.target == t)) h)
+at_skip s t o h = grind arith
 
 -- Place k is that of the newest of the first n inputs from task s: it counts, and those behind it do not.
 pub record IsNewest (s : ℕ) (xs : List Link) (n k : ℕ) : Type 0 where
@@ -194,27 +170,17 @@ pub record IsNewest (s : ℕ) (xs : List Link) (n k : ℕ) : Type 0 where
   pub rest : (t : ℕ) → owed s xs n t ≡ owed s xs k t + at_passes (is_from_to s t) (slice_get xs k)
 
 pub newest_at : (s : ℕ) (xs : List Link) (n k : ℕ) → newest s xs n ≡ suc k → IsNewest s xs n k
-newest_at s xs zero k e = absurd (omega (arith, e))
-newest_at s xs (suc n) k e = go (is_of s (slice_get xs n)) refl e (newest_at s xs n k)
-  where
-    go : (b : Bool) → is_of s (slice_get xs n) ≡ b → cond b (suc n) (newest s xs n) ≡ suc k → (newest s xs n ≡ suc k → IsNewest s xs n k)
-        → IsNewest s xs (suc n) k
-    go true h e before = let q : n ≡ k = omega (arith, e) in
-        subst (λ (j : ℕ). IsNewest s xs (suc n) j) q (record { within = omega arith; from = h; rest = λ t. refl })
-    go false h e before = let r = before e in record {
-      within = (let w = r.within in omega (arith, w));
-      from = r.from;
-      rest = λ t. let a = at_skip s t (slice_get xs n) h in let q = r.rest t in omega (arith, a, q);
-    }
+newest_at s xs zero k e = absurd (omega arith)
+newest_at s xs (suc n) k e = elim (cases_Bool (is_of s (slice_get xs n))) [
+  | inl h ↦ (let q : n ≡ k = grind (arith, h, e) in
+      subst (λ (j : ℕ). IsNewest s xs (suc n) j) q (record { within = omega arith; from = h; rest = λ t. refl }))
+  | inr h ↦ (let r = newest_at s xs n k (grind (arith, h, e)) in
+      record { within = omega (arith, r.within); from = r.from; rest = λ t. omega (arith, at_skip s t (slice_get xs n) h, r.rest t) })
+]
 
 pub newest_none : (s t : ℕ) (xs : List Link) (n : ℕ) → newest s xs n ≡ 0 → owed s xs n t ≡ 0
 newest_none s t xs zero e = refl
-newest_none s t xs (suc n) e = go (is_of s (slice_get xs n)) refl e (newest_none s t xs n)
-  where
-    go : (b : Bool) → is_of s (slice_get xs n) ≡ b → cond b (suc n) (newest s xs n) ≡ 0 → (newest s xs n ≡ 0 → owed s xs n t ≡ 0)
-        → owed s xs (suc n) t ≡ 0
-    go true h e before = absurd (omega (arith, e))
-    go false h e before = let a = at_skip s t (slice_get xs n) h in let r = before e in omega (arith, a, r)
+newest_none s t xs (suc n) e = let r = newest_none s t xs n in let a = at_skip s t (slice_get xs n) in grind (arith, r, a, e)
 
 -- ==== The numbers that are kept of tasks stay right when a task is written or added.
 pub and_here : (n m : ℕ) (b : Bool) → n ≡ m → ((n == m) && b) ≡ b
@@ -230,14 +196,13 @@ Moved n m from to = one from ≤ n → n ≤ MAX_TASKS → m + one from ≡ n + 
 -- n tasks passed, and m do when one is written or added
 pub tally_set : {n m : ℕ} (f : Task → Bool) (ts : List Task) (t : ℕ) (x y : Task) (b d : Bool) → n ≡ count_where f ts
     → length ts ≤ MAX_TASKS → slice_get ts t ≡ Some x → b ≡ f x → d ≡ f y → Moved n m b d → m ≡ count_where f (set ts t y)
-tally_set f ts t x y b d c few is g h moved = let s = count_set f ts t x y is in let a = count_at f ts t x is in
-    let k = count_few f ts in let p = ap one g in let q = ap one h in
-    let e = moved (omega (arith, c, a, p)) (omega (arith, c, k, few)) in omega (arith, c, s, p, q, e)
+tally_set f ts t x y b d c few is g h moved = let e = moved (omega (arith, count_at f ts t x is, ap one g))
+    (omega (arith, count_few f ts)) in omega (arith, count_set f ts t x y is, ap one g, ap one h)
 
 pub tally_push : {n m : ℕ} (f : Task → Bool) (ts : List Task) (y : Task) (d : Bool) → n ≡ count_where f ts → length ts ≤ MAX_TASKS
     → d ≡ f y → Moved n m false d → m ≡ count_where f (ts ++ y ∷ [])
-tally_push {n} {m} f ts y d c few h moved = let s = count_push f ts y in let k = count_few f ts in let q = ap one h in
-    let e : m + 0 ≡ n + one d = moved (omega arith) (omega (arith, c, k, few)) in omega (arith, c, s, q, e)
+tally_push {n} {m} f ts y d c few h moved = let e : m + 0 ≡ n + one d = moved (omega arith) (omega (arith, count_few f ts)) in
+    omega (arith, count_push f ts y, ap one h)
 
 -- a reader counts entries
 pub entries_of : (test : Entry → Bool) (ts : List Task) → count_where test (map entry_of ts) ≡ count_where (λ x. test (entry_of x)) ts
@@ -245,15 +210,14 @@ entries_of test ts = count_map test entry_of (λ x. test (entry_of x)) ts (λ x.
 
 -- ---- ready tasks
 -- one number is written, and the numbers of tasks change so
-ready_written : {ts new : List Task} {rs : List ℕ} (class m : ℕ) → AreCounts ts rs → class < 4
-    → ((n : ℕ) → n ≢ class → count_where (is_ready n) new ≡ count_where (is_ready n) ts)
-    → (slice_index_or rs class 0 ≡ count_where (is_ready class) ts → m ≡ count_where (is_ready class) new)
-    → AreCounts new (set rs class m)
+ready_written : {ts new : List Task} {rs : List ℕ} (class m : ℕ)
+    → AreCounts ts rs → class < 4 → ((n : ℕ) → n ≢ class → count_where (is_ready n) new ≡ count_where (is_ready n) ts)
+    → (slice_index_or rs class 0 ≡ count_where (is_ready class) ts → m ≡ count_where (is_ready class) new) → AreCounts new (set rs class m)
 ready_written {ts} {new} {rs} class m c l other here = record {
   long = length-set rs class m ∙ c.long;
   right = λ n d b. elim (same_or n class) [
     | inl e ↦ subst (λ (j : ℕ). slice_index_or (set rs class m) j d ≡ count_where (is_ready j) new) (sym e)
-        (let long = c.long in get_or-set_same rs class m d (omega (arith, l, long)) ∙ here (c.right class 0 l))
+        (get_or-set_same rs class m d (omega (arith, c.long)) ∙ here (c.right class 0 l))
     | inr e ↦ get_or-set_other rs class n m d e ∙ (c.right n d b ∙ sym (other n e))
   ];
 }
@@ -262,20 +226,19 @@ pub ready_set : {ts : List Task} {rs : List ℕ} (t m : ℕ) (x y : Task) (b d :
     → slice_get ts t ≡ Some x → x.class < 4 → y.class ≡ x.class → b ≡ may_begin x → d ≡ may_begin y
     → Moved (slice_index_or rs x.class 0) m b d → AreCounts (set ts t y) (set rs x.class m)
 ready_set {ts} {rs} t m x y b d c few is l same f g moved = ready_written x.class m c l
-    (λ n o. let s = count_set (is_ready n) ts t x y is in let u = one_else x.class n (may_begin x) (λ h. o (sym h)) in
-    let v = one_else y.class n (may_begin y) (λ h. o (sym h ∙ same)) in omega (arith, s, u, v))
-    (λ r. tally_set (is_ready x.class) ts t x y b d r few is (f ∙ sym (and_here x.class x.class (may_begin x) refl))
-    (g ∙ sym (and_here y.class x.class (may_begin y) same)) moved)
+    (λ n o. let u = one_else x.class n (may_begin x) (λ h. o (sym h)) in let v = one_else y.class n (may_begin y) (λ h. o (sym h ∙ same)) in
+    omega (arith, count_set (is_ready n) ts t x y is)) (λ r. tally_set (is_ready x.class) ts t x y b d r few is (f
+    ∙ sym (and_here x.class x.class (may_begin x) refl)) (g ∙ sym (and_here y.class x.class (may_begin y) same)) moved)
 
 pub ready_push : {ts : List Task} {rs : List ℕ} (m : ℕ) (y : Task) (d : Bool) → AreCounts ts rs → length ts ≤ MAX_TASKS → y.class < 4
     → d ≡ may_begin y → Moved (slice_index_or rs y.class 0) m false d → AreCounts (ts ++ y ∷ []) (set rs y.class m)
 ready_push {ts} {rs} m y d c few l g moved = ready_written y.class m c l
-    (λ n o. let s = count_push (is_ready n) ts y in let v = one_else y.class n (may_begin y) (λ h. o (sym h)) in omega (arith, s, v))
+    (λ n o. let v = one_else y.class n (may_begin y) (λ h. o (sym h)) in omega (arith, count_push (is_ready n) ts y))
     (λ r. tally_push (is_ready y.class) ts y d r few (g ∙ sym (and_here y.class y.class (may_begin y) refl)) moved)
 
 pub ready_few : {ts : List Task} {rs : List ℕ} (class : ℕ) → AreCounts ts rs → length ts ≤ MAX_TASKS → class < 4
     → slice_index_or rs class 0 ≤ MAX_TASKS
-ready_few {ts} class c few l = let r = c.right class 0 l in let k = count_few (is_ready class) ts in omega (arith, r, k, few)
+ready_few {ts} class c few l = omega (arith, c.right class 0 l, count_few (is_ready class) ts)
 
 -- ---- the first n tasks are as they were described
 abbrev pub reset_to : ℕ → List Task → List Task
@@ -304,7 +267,7 @@ first_of ts class (Some t) h below = by_task (slice_get ts t) refl h
       is = is;
       ready = p.1;
       lowest = λ u y h m. elim (le_or class y.class) [
-        | inl l ↦ (let e = eqb-true x.class class p.0 in omega (arith, e, l))
+        | inl l ↦ omega (arith, eqb-true x.class class p.0)
         | inr l ↦ not_here y.class (may_begin y) (sym (ap (ready_at y.class) h) ∙ below y.class l u) m
       ];
     }
@@ -317,11 +280,4 @@ found_of ts class P None h some = absurd (some (count_zero (is_ready class) ts (
 
 pub none_more : (ts : List Task) (class : ℕ) → ((k : ℕ) → k < class → NoneOf k ts) → count_where (is_ready class) ts ≡ 0
     → (k : ℕ) → k < class + 1 → NoneOf k ts
-none_more ts class below z k l t = elim (le_or class k) [
-  | inr m ↦ below k m t
-  | inl m ↦ (let e : k ≡ class = omega (arith, l, m) in by_task k e (slice_get ts t) refl)
-]
-  where
-    by_task : (k : ℕ) → k ≡ class → (o : Option Task) → slice_get ts t ≡ o → IsFalse (ready_at k o)
-    by_task k e None is = refl
-    by_task k e (Some x) is = subst (λ (j : ℕ). IsFalse (is_ready j x)) (sym e) (count_none (is_ready class) ts t x z is)
+none_more ts class below z k l t = let b = below k in let c = count_none (is_ready class) ts t in grind (arith, nat_tests, b, c, z, l)

@@ -10,8 +10,6 @@ invariant_of-self c = record {
 }
 
 pub returns : goal.returns
-returns c = ap (λ (es : List Event). record (state_of c.self.inside) {
-  started = false;
-  kept = kept_of c.self.inside.traced es;
-  tasks = map entry_of c.reset.new.self;
-}) c.clear.ensures.items ∙ described_again c.self.inside c.reset.new.self c.self.view_is c.reset.ensures
+returns c = ap (λ (es : List Event). record (state_of c.self.inside)
+    { started = false; kept = kept_of c.self.inside.traced es; tasks = map entry_of c.reset.new.self }) c.clear.ensures.items
+    ∙ described_again c.self.inside c.reset.new.self c.self.view_is c.reset.ensures

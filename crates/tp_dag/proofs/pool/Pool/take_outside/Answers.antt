@@ -12,9 +12,9 @@ invariant_of-self c = let x : Task = c.at-was.result in let is = c.at-was.ensure
     let y : Task = record x { missing = x.missing - 1; outside = x.outside - 1 } in
     let a = awaited c.self.inside c.args.task x c.self.view_is c.self.invariant.facts c.requires is in record {
       facts = rw c.put.ensures (facts_set c.args.task x y c.self.invariant.facts is refl refl refl refl
-          (let f = (c.self.invariant.facts.counted c.args.task x is).few in omega (arith, f))
-          (let some = a.0 in let l = a.1 in omega (arith, some, l)) (fresh_keeps a.2));
-      room = rw c.put.ensures (room_set c.self.inside.tasks c.args.task x y _ _ c.self.invariant.room is (omega arith) (omega arith) (λ h. refl) (λ h. refl));
+          (omega (arith, (c.self.invariant.facts.counted c.args.task x is).few)) (omega (arith, a.0, a.1)) (fresh_keeps a.2));
+      room = rw c.put.ensures
+          (room_set c.self.inside.tasks c.args.task x y _ _ c.self.invariant.room is (omega arith) (omega arith) (λ h. refl) (λ h. refl));
       settled = c.self.invariant.settled;
     }
 

@@ -5,10 +5,10 @@ pub returns-then-newest-eq0-clause-none : goal.returns-then-newest-eq0-clause-no
 returns-then-newest-eq0-clause-none c = read_newest c.args.value c.args.self.now (sym c.newest-newest.ensures ∙ c.if-newest-eq0.true)
 
 pub at-requires : goal.at-requires
-at-requires c = let f = newest_few c.args.value c.args.self.now (length c.args.self.now) in let e = c.newest-newest.ensures in
-    let h = c.if-newest-eq0.false in omega (arith, f, e, h)
+at-requires c = let e = c.newest-newest.ensures in
+    let h = c.if-newest-eq0.false in omega (arith, newest_few c.args.value c.args.self.now (length c.args.self.now))
 
 pub returns-clause-some : goal.returns-clause-some
-returns-clause-some c = let some : 1 ≤ c.newest-newest.result = (let h = c.if-newest-eq0.false in omega (arith, h)) in
+returns-clause-some c = let some : 1 ≤ c.newest-newest.result = omega (arith, c.if-newest-eq0.false) in
     let r = newest_read c.args.value c.args.self.now c.newest-newest.result c.at.result (sym c.newest-newest.ensures) some c.at.ensures in
     (r.1, arrived_like c.args.value (c.newest-newest.result - 1) c.args.self.now c.at.result c.requires c.at.ensures r.0)

@@ -2,15 +2,15 @@
 pub use Rattle.std.proofs.Common.{arith, ℕ, zero, suc, ◌≡◌, List, [], ◌∷◌, map, IsTrue, IsFalse, Option, Some, refl, ap, subst, sym, ◌∙◌}
 pub use Rattle.std.proofs.Common.{◌+◌, ◌<◌, ◌≤◌, length, Bool, true, false, ◌≢◌, length-set, inl, inr, ◌++◌, ◌⊎◌, drop, None, ◌*◌, ◌-◌}
 pub use Rattle.std.proofs.{Common.{cond, append_assoc, drop-cons, take, ◌↔◌, IfSome, IfNone}, Math.ListN.set, lemmas.Bool.and_parts}
-pub use Rattle.std.proofs.lemmas.{Bool.{eqb-true, eq-eqb, ne_eqb, Decides.nat_tests}, Grind.common_steps, List.get_or-set_same}
-pub use Rattle.std.proofs.lemmas.List.{get_or-set_other, length_push, append-nil, length-map, map-append, map-set, Edits.map_over_more}
+pub use Rattle.std.proofs.lemmas.{Bool.{cases_Bool, eqb-true, eq-eqb, ne_eqb, Decides.nat_tests}, Grind.common_steps, List.get_or-set_same}
+pub use Rattle.std.proofs.lemmas.List.{get_or-set_other, length_push, length-map, map-append, map-set, Edits.map_over_more}
 pub use Rattle.std.proofs.lemmas.Option.{slice_get_within, slice_get_past, slice_get-get_or, get_or_from_slice_get, slice_get-map}
 pub use Rattle.std.specs.{List.{slice_index_or, list_all}, Option.{is_some, option_map}, Prelude.{slice_get, ◌&&◌, not, ◌==◌}}
 pub use Rattle.std.specs.{Prelude.{if◌then◌else◌, ◌||◌, nat_lt}, Vec.vec_capacity}
 pub use Rattle.tp_base.specs.declared.{limits.TheConstants.MAX_STEPS, refusal.Refusal.Refusal}
 pub use Rattle.tp_dag.specs.Calls.{GoesTo, with_event, Becomes, Awaits, as_described, no_events, with_input, with_task, lacks_steps}
-pub use Rattle.tp_dag.specs.Calls.{IsLowest, MayHaveInput, MaySpawn, with_spawned, is_fresh_at, outside_at, one_more, one_less}
-pub use Rattle.tp_dag.specs.Counted.{one, entry_of, as_new, may_begin, is_ready, AreCounts, AreCounted, TaskList, ready_at}
+pub use Rattle.tp_dag.specs.Calls.{IsLowest, MayHaveInput, MaySpawn, is_fresh_at, outside_at, one_more, one_less}
+pub use Rattle.tp_dag.specs.Counted.{one, entry_of, as_new, may_begin, is_ready, AreCounts, TaskList, ready_at}
 pub use Rattle.tp_dag.specs.{Counted.{NoneOf, NoneReady, ComesFirst}, Describing.{Graph, with_inputs, with_next, described, inputs_refusal}}
 pub use Rattle.tp_dag.specs.{Describing.{fault_of, class_of, from_of, inputs_of, next_fault, IsFirstFault}, Kept.{MayPassOn, HasRoom}}
 pub use Rattle.tp_dag.specs.Kept.{state_of, kept_of, blocks, done_at, is_from_to, owed, IsCounted, Owing, Facts, is_into, IsPool, input_of}

@@ -7,8 +7,7 @@ abbrev pub bit : Bool → ℕ
 bit b = cond b 1 0
 
 pub bit-le : (b : Bool) → bit b ≤ 1
-bit-le true = omega arith
-bit-le false = omega arith
+bit-le b = grind (arith, nat_tests)
 
 -- the number of children of a process
 abbrev pub kids : EpochState → ℕ
@@ -37,25 +36,23 @@ below_one n c = grind (arith, nat_tests, size_at n c, size_past n c)
 pub kids_all : (n : ℕ) → total n (kids_of n) ≡ n - 1
 kids_all n =
     tree_sum n (kids_of n) (λ c. size n c - 1) (λ j m. omega (arith, size_at n j m, below_one n (2 * j + 1), below_one n (2 * j + 2)))
-    (λ c m. omega (arith, size_past n c m))
-    ∙ ap (λ z. z - 1) (size_all n)
+    (λ c m. omega (arith, size_past n c m)) ∙ ap (λ z. z - 1) (size_all n)
 
 -- the useful events of a wave at process j: it comes down, goes down to the children, comes back from them, and goes up
 abbrev pub wave_cost : ℕ → ℕ → ℕ
 wave_cost n j = inner j + (1 + (kids_of n j + kids_of n j))
 
 wave_total : (n : ℕ) → 0 < n → total n (wave_cost n) + 3 ≡ 4 * n
-wave_total n first =
-    omega (
-      arith,
-      total_add n inner (λ j. 1 + (kids_of n j + kids_of n j)),
-      total_add n (λ j. 1) (λ j. kids_of n j + kids_of n j),
-      total_add n (kids_of n) (kids_of n),
-      ones n,
-      kids_all n,
-      inner_all n,
-      first,
-    )
+wave_total n first = omega (
+  arith,
+  total_add n inner (λ j. 1 + (kids_of n j + kids_of n j)),
+  total_add n (λ j. 1) (λ j. kids_of n j + kids_of n j),
+  total_add n (kids_of n) (kids_of n),
+  ones n,
+  kids_all n,
+  inner_all n,
+  first,
+)
 
 -- ==== Liveness, the bound: the number of useful events that are left until each process knows the end.
 -- the useful events of the end that are left at a process
@@ -65,10 +62,8 @@ tell p = cond p.over (bit p.over_left + bit p.over_right) (inner p.number + kids
 -- those, and those of wave w, if it is the newest
 abbrev cost : ℕ → EpochState → ℕ
 cost w p =
-    cond (eqb p.wave w)
-    (cond p.here (bit (not p.over) + (bit p.down_left + bit p.down_right + (bit p.up_left + bit p.up_right))) 0)
-    (inner p.number + (1 + (kids p + kids p)))
-    + tell p
+    cond (eqb p.wave w) (cond p.here (bit (not p.over) + (bit p.down_left + bit p.down_right + (bit p.up_left + bit p.up_right))) 0)
+    (inner p.number + (1 + (kids p + kids p))) + tell p
 
 -- the useful events of r more waves
 abbrev budget : ℕ → ℕ → ℕ
@@ -81,43 +76,36 @@ costs n q at = total n (λ i. cost (at 0).wave (at i)) + budget n (q + 2 - (at 0
 cost_put : (n q i : ℕ) (at : ℕ → EpochState) (new : EpochState) (d : ℕ) → i < n → (put i new at 0).wave ≡ (at 0).wave
     → cost (at 0).wave new + d ≤ cost (at 0).wave (at i) → costs n q (put i new at) + d ≤ costs n q at
 cost_put n q i at new d l same less =
-    let sum : total n (λ j. cost (at 0).wave (put i new at j)) + cost (at 0).wave (at i) ≡ total n
-    (λ j. cost (at 0).wave (at j)) + cost (at 0).wave new
-    = total_put n i new at (cost (at 0).wave) l in
+    let sum = total_put n i new at (cost (at 0).wave) l in
     let P : ℕ → Type 0 = λ w. total n (λ j. cost w (put i new at j)) + budget n (q + 2 - w) + d ≤ costs n q at in
     subst P (sym same) (omega (arith, sum, less))
 
 ends_cost : (w : ℕ) (p : EpochState) → p.over ≡ false → cost w (ends p) + inner p.number ≤ cost w p
-ends_cost w p o =
-    grind (arith, nat_tests)
+ends_cost w p o = grind (arith, nat_tests)
 
 acts_cost : (w : ℕ) (p : EpochState) → (p.here ≡ true → p.wave ≡ w) → cost w (acts p).state + bit (is_step (acts p).next) ≤ cost w p
 acts_cost w p e =
     acts_cases p (λ m. cost w m.state + bit (is_step m.next) ≤ cost w p)
-    (λ o t. rw (o, t) (omega arith)) (λ o t. rw (o, t) (omega arith)) (λ o a b. omega arith)
-    (λ o h t. rw (eq-eqb p.wave w (e h), h, t) (omega arith)) (λ o h t. rw (eq-eqb p.wave w (e h), h, t) (omega arith))
-    (λ c z t. rw (eq-eqb p.wave w (e c.here), c.here, c.over) (omega arith))
-    (λ c z t. rw (eq-eqb p.wave w (e c.here), c.here, c.over) (omega arith))
-    (λ c z. rw (eq-eqb p.wave w (e c.here), c.here, c.over) (omega arith)) (λ o. omega arith)
+    (λ o t. rw (o, t) (omega arith)) (λ o t. rw (o, t) (omega arith)) (λ o a b. omega arith) (λ o h t. grind (arith, nat_tests, e))
+    (λ o h t. grind (arith, nat_tests, e)) (λ c z t. grind (arith, nat_tests, e)) (λ c z t. grind (arith, nat_tests, e))
+    (λ c z. grind (arith, nat_tests, e)) (λ o. omega arith)
 
 pub acts_wave : (p : EpochState) → (acts p).state.wave ≡ p.wave
-acts_wave p = ap (λ (z : EpochState). z.wave) (acts_keeps p)
+acts_wave p = (acts_keeps p).0
 
 -- A control message that is taken lowers the cost of its receiver by at least one.
 takes_cost : (n w : ℕ) (g : Gifts) (x : World) (from u : ℕ) (c : Token) (p : EpochState) → Known n w g x from u c → w ≤ p.wave + 1
     → (p.here ≡ true → p.wave ≡ w) → (p.number ≡ 0 → (p.wave ≡ w) × (Finished n w x → p.over ≡ true))
     → cost w (takes from u c p) + bit (is_due from u c p) ≤ cost w p
 takes_cost n w g x from u c p t close here root =
-    let one : (p.number ≡ 0 → ⊥) → inner p.number ≡ 1 = λ off. ap (λ b. cond b 0 1) (ne_eqb p.number 0 off) in
     let lower : (z : EpochState) → cost w z + 1 ≤ cost w p → cost w z + bit (is_due from u c p) ≤ cost w p
     = λ z less. omega (arith, less, bit-le (is_due from u c p)) in
-    takes_cases from u c p (Known n w g x from u) (λ z. cost w z + bit (is_due from u c p) ≤ cost w p) t (λ t away next.
-    lower (opens u p)
-    (rw (eq-eqb u w (omega (arith, next, t, close)), ne_eqb p.wave w (λ e. absurd (omega (arith, e, next, t))))
-    (omega (arith, bit-le (not p.over), one (λ z. absurd (omega (arith, (root z).0, next, t)))))))
-    (λ s r t h same waits e. lower (takes_left s r p) (rw (eq-eqb p.wave w (here h), h, waits) (omega arith)))
-    (λ s r t h same waits e. lower (takes_right s r p) (rw (eq-eqb p.wave w (here h), h, waits) (omega arith)))
-    (λ t o. lower (ends p) (omega (arith, ends_cost w p o, one (λ z. absurd (cc ((root z).1 t, o)))))) (λ d. omega (arith, ap bit d))
+    takes_cases from u c p (Known n w g x from u) (λ z. cost w z + bit (is_due from u c p) ≤ cost w p) t
+    (λ t away next. let top : p.number ≡ 0 → p.wave ≡ w = λ z. (root z).0 in lower (opens u p) (grind (arith, nat_tests, t, close, top)))
+    (λ s r t h same waits e. lower (takes_left s r p) (grind (arith, nat_tests, here)))
+    (λ s r t h same waits e. lower (takes_right s r p) (grind (arith, nat_tests, here)))
+    (λ t o. let top : p.number ≡ 0 → p.over ≡ true = λ z. (root z).1 t in lower (ends p) (grind (arith, nat_tests, top)))
+    (λ d. omega (arith, ap bit d))
 
 pub takes_wave : (n w : ℕ) (g : Gifts) (x : World) (from u : ℕ) (c : Token) (p : EpochState) → Known n w g x from u c → p.wave ≡ w
     → (takes from u c p).wave ≡ p.wave
@@ -130,21 +118,19 @@ module _ (n q : ℕ) (x : World) (v : Good n q x) where
   newest i l h = ((v.inv.each i l).here h).wave ∙ sym v.inv.root.wave
 
   -- The newest wave of process 0 is unchanged.
-  pub root_stays : (i : ℕ) (new : EpochState) → (i ≡ 0 → new.wave ≡ (x.at 0).wave) → (put i new x.at 0).wave ≡ (x.at 0).wave
-  root_stays i new same = put_holds (λ j z. j ≡ 0 → z.wave ≡ (x.at 0).wave) i 0 new x.at (λ e f. same (sym e)) (λ off f. refl) refl
+  pub root_stays : (i : ℕ) (new : EpochState) → (i ≡ 0 → new.wave ≡ (x.at i).wave) → (put i new x.at 0).wave ≡ (x.at 0).wave
+  root_stays i new same = put_first (λ z. z.wave ≡ (x.at 0).wave) i new x.at (λ e old. same e ∙ old) refl
 
   -- A control message that process i takes leaves it unchanged, too.
   pub taken_stays : (i from u : ℕ) (c : Token) → Known n v.wave v.gifts x from u c
       → (put i (takes from u c (x.at i)) x.at 0).wave ≡ (x.at 0).wave
   taken_stays i from u c t =
-      root_stays i (takes from u c (x.at i))
-      (λ e. takes_wave n v.wave v.gifts x from u c (x.at i) t (subst (λ z. (x.at z).wave ≡ v.wave) (sym e) v.inv.root.wave) ∙ rw e)
+      root_stays i _ (λ e. takes_wave n v.wave v.gifts x from u c (x.at i) t (subst (λ z. (x.at z).wave ≡ v.wave) (sym e) v.inv.root.wave))
 
   acted_cost : (i : ℕ) → i < n → costs n q (put i (acts (x.at i)).state x.at) + bit (is_step (acts (x.at i)).next) ≤ costs n q x.at
   acted_cost i l =
       cost_put n q i x.at (acts (x.at i)).state (bit (is_step (acts (x.at i)).next)) l
-      (root_stays i (acts (x.at i)).state (λ e. acts_wave (x.at i) ∙ rw e))
-      (acts_cost (x.at 0).wave (x.at i) (newest i l))
+      (root_stays i (acts (x.at i)).state (λ e. acts_wave (x.at i))) (acts_cost (x.at 0).wave (x.at i) (newest i l))
 
   came_cost : (o : Option ControlMessage) → ((a : ControlMessage) → o ≡ Some a → KnownOf n v.wave v.gifts x a)
       → costs n q (came n x o).at + bit (is_taken n x o) ≤ costs n q x.at
@@ -153,23 +139,15 @@ module _ (n q : ℕ) (x : World) (v : Good n q x) where
       let p : EpochState = x.at a.to in
       cond_both (ltb a.to n) (record x { at = put a.to (took a p) x.at }) x
       (λ z. costs n q z.at + bit (is_taken n x (Some a)) ≤ costs n q x.at) (λ m.
-      let l : a.to < n = ltb-true a.to n m in
-      let hold : Holds n v.wave v.floor v.gifts x.at a.to p = v.inv.each a.to l in
+      let l : a.to < n = ltb-true a.to n m in let hold : Holds n v.wave v.floor v.gifts x.at a.to p = v.inv.each a.to l in
       let known_of : Known n (x.at 0).wave v.gifts x a.from a.wave a.token
-      = subst (λ w. Known n w v.gifts x a.from a.wave a.token) (sym v.inv.root.wave) (t a refl).0 in
-      elim (cases_Bool (is_for a p)) [
-        | inl mine ↦
-            rw (m, mine)
-            (cost_put n q a.to x.at (takes a.from a.wave a.token p) (bit (is_due a.from a.wave a.token p)) l
+      = subst (λ w. Known n w v.gifts x a.from a.wave a.token) (sym v.inv.root.wave) (t a refl).0 in elim (cases_Bool (is_for a p)) [
+        | inl mine ↦ rw (m, mine) (cost_put n q a.to x.at (takes a.from a.wave a.token p) (bit (is_due a.from a.wave a.token p)) l
             (taken_stays a.to a.from a.wave a.token (t a refl).0)
             (takes_cost n (x.at 0).wave v.gifts x a.from a.wave a.token p known_of (omega (arith, v.inv.root.wave, hold.close))
-            (newest a.to l) (λ e.
-            subst (λ (z : EpochState). (z.wave ≡ (x.at 0).wave) × (Finished n (x.at 0).wave x → z.over ≡ true))
-            (ap x.at (sym e ∙ hold.number))
-            (refl, λ t. t.root.over))))
+            (newest a.to l) (λ e. rw (sym hold.number ∙ e) (refl, λ t. t.root.over))))
         | inr other ↦ rw (m, other) (subst (λ f. costs n q f + 0 ≤ costs n q x.at) (sym (put_id a.to x.at)) (omega arith))
-      ])
-      (λ f. rw f (omega arith))
+      ]) (λ f. rw f (omega arith))
 
 opened-le : (w : ℕ) (p : EpochState) → cost (w + 1) (opens (w + 1) p) ≤ tell p + (1 + (kids p + kids p))
 opened-le w p = rw (eq-eqb (w + 1) (w + 1) refl) (omega (arith, bit-le (not p.over)))
@@ -179,24 +157,19 @@ module _ (n q : ℕ) (x : World) (quiet : IsQuiet n x) (v : Good n q x) where
   started_cost : (i : ℕ) → i < n → costs n q (put i (ready (x.at i)) x.at) ≤ costs n q x.at
   started_cost i l =
       ready_cases (x.at i) (λ z. costs n q (put i z x.at) ≤ costs n q x.at) (λ number o gone.
-      let e : i ≡ 0 = sym (v.inv.each i l).number ∙ number in
-      let away : (x.at 0).here ≡ false = rw e at gone in
-      let w : ℕ = (x.at 0).wave in
-      let new : EpochState = opens (w + 1) (x.at 0) in
+      let e : i ≡ 0 = sym (v.inv.each i l).number ∙ number in let away : (x.at 0).here ≡ false = rw e at gone in
+      let w : ℕ = (x.at 0).wave in let new : EpochState = opens (w + 1) (x.at 0) in
       let each : (j : ℕ) → j < n → cost (w + 1) (put 0 new x.at j) ≤ tell (x.at j) + wave_cost n j = λ j m.
       let mine : inner (x.at j).number + (1 + (kids (x.at j) + kids (x.at j))) ≡ wave_cost n j
       = rw ((v.inv.each j m).number, (v.inv.each j m).processes) in
-      put_holds (λ j z. inner (x.at j).number + (1 + (kids (x.at j) + kids (x.at j))) ≡ wave_cost n j
-      → cost (w + 1) z ≤ tell (x.at j) + wave_cost n j) 0 j new x.at
-      (λ f mine. rw f (omega (arith, rw f at mine, opened-le w (x.at 0)))) (λ off mine.
+      put_holds (λ j z. cost (w + 1) z ≤ tell (x.at j) + wave_cost n j) 0 j new x.at
+      (λ f. rw f (omega (arith, rw f at mine, opened-le w (x.at 0)))) (λ off.
       let k : HasGiven v.wave (x.at j) = given_before n q v.wave v.floor v.gifts x (rw e at l) v.inv away j m in
-      rw (ne_eqb (x.at j).wave (w + 1) (λ f. absurd (omega (arith, f, k.wave, v.inv.root.wave)))) (omega (arith, mine))) mine in
+      rw (ne_eqb (x.at j).wave (w + 1) (λ f. absurd (omega (arith, f, k.wave, v.inv.root.wave)))) (omega (arith, mine))) in
       let all : total n (λ j. cost (w + 1) (put 0 new x.at j)) ≤ total n (λ j. tell (x.at j) + wave_cost n j) = total-le n _ _ each in
       let rest : total n (λ j. tell (x.at j)) ≤ total n (λ j. cost w (x.at j)) = total-le n _ _ (λ j m. omega arith) in
       let few : w ≤ q + 1 = omega (arith, v.inv.pace.fewer (nothing_under_way n x quiet) away, v.inv.root.wave) in
-      let step : q + 2 - w ≡ suc (q + 2 - (w + 1)) = omega (arith, few) in
-      let paid : budget n (q + 2 - w) ≡ budget n (q + 2 - (w + 1)) + total n (wave_cost n)
-      = ap (budget n) step in
+      let step : q + 2 - w ≡ suc (q + 2 - (w + 1)) = omega (arith, few) in let paid = ap (budget n) step in
       let less : costs n q (put 0 new x.at) ≤ costs n q x.at =
       omega (arith, all, rest, total_add n (λ j. tell (x.at j)) (wave_cost n), paid) in
       subst (λ z. costs n q (put z (opens ((x.at z).wave + 1) (x.at z)) x.at) ≤ costs n q x.at) (sym e) less)
@@ -204,8 +177,7 @@ module _ (n q : ℕ) (x : World) (quiet : IsQuiet n x) (v : Good n q x) where
 
   moved_cost : (i : ℕ) → i < n → costs n q (put i (moved (x.at i)).state x.at) + bit (is_step (moved (x.at i)).next) ≤ costs n q x.at
   moved_cost i l =
-      let r : EpochState = ready (x.at i) in
-      let y : World = record x { at = put i r x.at } in
+      let r : EpochState = ready (x.at i) in let y : World = record x { at = put i r x.at } in
       let acted : costs n q (put i (acts r).state x.at) + bit (is_step (acts r).next) ≤ costs n q y.at
       = acted_from i r x.at (λ f a. costs n q f + bit (is_step a) ≤ costs n q y.at) (acted_cost n q y (good_ready n q i x l v) i l) in
       subst (λ m. costs n q (put i m.state x.at) + bit (is_step m.next) ≤ costs n q x.at) (sym (moves_are n q i x l v))
@@ -213,15 +185,14 @@ module _ (n q : ℕ) (x : World) (quiet : IsQuiet n x) (v : Good n q x) where
 
   does_cost : (i : ℕ) (a : Act) → i < n → costs n q (does n x i a).at + bit (is_useful n x (Does i a)) ≤ costs n q x.at
   does_cost i Moves l = rw (lt-ltb i n l) (moved_cost i l)
-  does_cost i a l =
-      elim (does_counts n x i a) [
-        | inl e ↦ absurd (cc e)
-        | inr c ↦
-            let new : EpochState = recount c.new.pending c.new.sent c.new.received (x.at i) in
-            subst (λ f. costs n q f + 0 ≤ costs n q x.at) (sym c.at)
-            (subst (λ z. costs n q (put i z x.at) + 0 ≤ costs n q x.at) (sym c.same)
-            (cost_put n q i x.at new 0 l (root_stays n q x v i new (λ e. ap (λ j. (x.at j).wave) e)) (omega arith)))
-      ]
+  does_cost i a l = elim (does_counts n x i a) [
+    | inl e ↦ absurd (cc e)
+    | inr c ↦
+        let new : EpochState = recount c.new.pending c.new.sent c.new.received (x.at i) in
+        subst (λ f. costs n q f + 0 ≤ costs n q x.at) (sym c.at)
+        (subst (λ z. costs n q (put i z x.at) + 0 ≤ costs n q x.at) (sym c.same)
+        (cost_put n q i x.at new 0 l (root_stays n q x v i new (λ e. refl)) (omega arith)))
+  ]
 
   useless : (i : ℕ) (a : Act) → ltb i n ≡ false → is_useful n x (Does i a) ≡ false
   useless i Moves e = rw e
@@ -255,60 +226,37 @@ abbrev pub IsOf : ℕ → ControlMessage → Type 0
 IsOf n l = (l.processes ≡ n) × (l.to < n)
 
 is_there : (n m c : ℕ) (b : Bool) → c ≡ n → b ≡ true → bit b ≤ bit (ltb m c) → m < n
-is_there n m c b e t less =
-    elim (cases_Bool (ltb m c)) [ inl s ↦ omega (arith, ltb-true m c s, e) | inr f ↦ absurd (omega (arith, ap bit t, ap bit f, less)) ]
+is_there n m c b e t less = grind (arith, nat_tests)
 
 pub slim_after : (n : ℕ) (events : List Event) → ((j : ℕ) → Slim ((after n events).at j)) × All (IsOf n) (after n events).controls
-slim_after n events =
-    kept_after n (λ at ls. ((j : ℕ) → Slim (at j)) × All (IsOf n) ls)
-    (record {
-      count = λ q i a s r x l v h. (λ j. put_keeps Slim i j _ x.at (λ o. o) (h.0 j), h.1);
-      start = λ q x l v o away h.
-          (λ j. put_keeps Slim 0 j _ x.at (λ o. (omega arith, omega arith, omega arith, omega arith, o.4, o.5)) (h.0 j), h.1);
-      act = λ q i x l v h.
-          let p : EpochState = x.at i in
-          let o : Slim p = h.0 i in
-          let e : p.processes ≡ n = (v.inv.each i l).processes in
-          let up : p.number ≡ i = (v.inv.each i l).number in (
-            λ j.
-                put_keeps Slim i j _ x.at (λ o.
-                acts_cases p (λ m. Slim m.state) (λ a t. (o.0, o.1, o.2, o.3, omega arith, o.5))
-                (λ a t. (o.0, o.1, o.2, o.3, o.4, omega arith)) (λ a b c. o) (λ a b t. (omega arith, o.1, o.2, o.3, o.4, o.5))
-                (λ a b t. (o.0, omega arith, o.2, o.3, o.4, o.5)) (λ c z t. (o.0, o.1, o.2, o.3, omega arith, omega arith)) (λ c z t. o)
-                (λ c z. o) (λ a. o)) (h.0 j),
-            let more : (to : ℕ) (c : Token) → to < n → All (IsOf n) (control p to c ∷ x.controls)
-                = λ to c m. all_more (IsOf n) (control p to c) x.controls (e, m) h.1 in
-                acts_cases p (λ m. All (IsOf n) (posted m.next x.controls))
-                (λ a t. more (left_of p) Over (is_there n (left_of p) p.processes p.over_left e t o.4))
-                (λ a t. more (right_of p) Over (is_there n (right_of p) p.processes p.over_right e t o.5)) (λ a b c. h.1)
-                (λ a b t. more (left_of p) Down (is_there n (left_of p) p.processes p.down_left e t o.0))
-                (λ a b t. more (right_of p) Down (is_there n (right_of p) p.processes p.down_right e t o.1)) (λ c z t. h.1) (λ c z t. h.1)
-                (λ c z. more (parent p.number) (report_of p) (omega (arith, up, l))) (λ a. h.1),
-          );
-      take = λ q k x v a l e t h. (
-        λ j.
-            put_keeps Slim a.to j _ x.at (λ o.
-            takes_cases a.from a.wave a.token (x.at a.to) (λ c. Unit {0}) Slim tt
-            (λ k b c. (omega arith, omega arith, omega arith, omega arith, o.4, o.5))
-            (λ s r k b c d e. (o.0, o.1, omega arith, o.3, o.4, o.5)) (λ s r k b c d e. (o.0, o.1, o.2, omega arith, o.4, o.5))
-            (λ k b. (o.0, o.1, o.2, o.3, omega arith, omega arith)) (λ d. o)) (h.0 j),
-        h.1,
+slim_after n events = kept_after n (λ at ls. ((j : ℕ) → Slim (at j)) × All (IsOf n) ls) (record {
+  count = λ q i a s r x l v h. (λ j. put_keeps Slim i j _ x.at (λ o. o) (h.0 j), h.1);
+  start = λ q x l v o away h. (λ j. put_keeps Slim 0 j _ x.at (λ o. omega arith) (h.0 j), h.1);
+  act = λ q i x l v h.
+      let p : EpochState = x.at i in let o : Slim p = h.0 i in let e : p.processes ≡ n = (v.inv.each i l).processes in
+      let up : p.number ≡ i = (v.inv.each i l).number in (
+        λ j. put_keeps Slim i j _ x.at (λ o.
+            acts_cases p (λ m. Slim m.state) (λ a t. omega arith) (λ a t. omega arith) (λ a b c. o) (λ a b t. omega arith)
+            (λ a b t. omega arith) (λ c z t. omega arith) (λ c z t. o) (λ c z. o) (λ a. o)) (h.0 j),
+        let more : (to : ℕ) (c : Token) → to < n → All (IsOf n) (control p to c ∷ x.controls)
+            = λ to c m. all_more (IsOf n) (control p to c) x.controls (e, m) h.1 in
+            acts_cases p (λ m. All (IsOf n) (posted m.next x.controls))
+            (λ a t. more (left_of p) Over (is_there n (left_of p) p.processes p.over_left e t o.4))
+            (λ a t. more (right_of p) Over (is_there n (right_of p) p.processes p.over_right e t o.5)) (λ a b c. h.1)
+            (λ a b t. more (left_of p) Down (is_there n (left_of p) p.processes p.down_left e t o.0))
+            (λ a b t. more (right_of p) Down (is_there n (right_of p) p.processes p.down_right e t o.1)) (λ c z t. h.1) (λ c z t. h.1)
+            (λ c z. more (parent p.number) (report_of p) (omega (arith, up, l))) (λ a. h.1),
       );
-    }) events
-    (λ j. (omega arith, omega arith, omega arith, omega arith, omega arith, omega arith), λ k l there. absurd (cc there))
+  take = λ q k x v a l e t h. (
+    λ j. put_keeps Slim a.to j _ x.at (λ o. takes_cases a.from a.wave a.token (x.at a.to) (λ c. Unit {0}) Slim tt (λ k b c. omega arith)
+        (λ s r k b c d e. omega arith) (λ s r k b c d e. omega arith) (λ k b. omega arith) (λ d. o)) (h.0 j),
+    h.1,
+  );
+}) events (λ j. omega arith, λ k l there. absurd (cc there))
 
 cost-le : (n w j : ℕ) (p : EpochState) → p.number ≡ j → p.processes ≡ n → Slim p → cost w p ≤ wave_cost n j + (inner j + kids_of n j)
 cost-le n w j p number processes slim =
-    let is : kids p ≡ kids_of n j = rw (number, processes) in
-    let a : cond (eqb p.wave w)
-    (cond p.here (bit (not p.over) + (bit p.down_left + bit p.down_right + (bit p.up_left + bit p.up_right))) 0)
-    (inner p.number + (1 + (kids p + kids p))) ≤ wave_cost n j
-    = cond_both (eqb p.wave w) _ _ (λ z. z ≤ wave_cost n j) (λ t.
-    cond_both p.here _ 0 (λ z. z ≤ wave_cost n j) (λ t. omega (arith, bit-le (not p.over), slim, is)) (λ t. omega arith))
-    (λ t. omega (arith, is, ap inner number)) in
-    let b : tell p ≤ inner j + kids_of n j
-    = cond_both p.over _ _ (λ z. z ≤ inner j + kids_of n j) (λ t. omega (arith, slim, is)) (λ t. omega (arith, is, ap inner number)) in
-    omega (arith, a, b)
+    let is : kids p ≡ kids_of n j = rw (number, processes) in let same = ap inner number in grind (arith, nat_tests, is, same, slim)
 
 budget-le : (n r : ℕ) → r ≤ 2 → budget n r ≤ 2 * total n (wave_cost n)
 budget-le n zero l = omega arith
@@ -318,11 +266,9 @@ budget-le n (suc (suc (suc r))) l = absurd (omega arith)
 
 pub soon : SoonLaw
 soon n later events l z =
-    let v = good_after n events in
-    let at : ℕ → EpochState = (after n events).at in
+    let v = good_after n events in let at : ℕ → EpochState = (after n events).at in
     let all : total n (λ j. cost (at 0).wave (at j)) ≤ total n (λ j. wave_cost n j + (inner j + kids_of n j)) = total-le n _ _
-    (λ j m. cost-le n (at 0).wave j (at j) (v.1.inv.each j m).number (v.1.inv.each j m).processes ((slim_after n events).0 j)) in
-    omega (
+    (λ j m. cost-le n (at 0).wave j (at j) (v.1.inv.each j m).number (v.1.inv.each j m).processes ((slim_after n events).0 j)) in omega (
       arith,
       soon_from n v.0 later events z v.1,
       all,

@@ -16,14 +16,11 @@ last_cases {A = A} xs k x y = all_push (λ (j : ℕ) (z : A). (slice_get xs j �
 -- if the number is not 0, one passes
 pub find_one : {A : Type 0} (test : A → Bool) (xs : List A) → count_where test xs ≢ 0
     → (k : ℕ) × (x : A) × (slice_get xs k ≡ Some x) × IsTrue (test x)
-find_one {A = A} test [] h = absurd (h refl)
-find_one {A = A} test (y ∷ ys) h = pick (test y) refl (λ e. let n = count_next test y ys in let o : one (test y) ≡ 0 = ap one e in
-    find_one test ys (λ z. h (omega (arith, n, o, z))))
-  where
-    pick : (b : Bool) → test y ≡ b → (test y ≡ false → (k : ℕ) × (x : A) × (slice_get ys k ≡ Some x) × IsTrue (test x))
-        → (k : ℕ) × (x : A) × (slice_get (y ∷ ys) k ≡ Some x) × IsTrue (test x)
-    pick true e rest = (0, y, refl, e)
-    pick false e rest = let r = rest e in (suc r.0, r.1, r.2, r.3)
+find_one test [] h = absurd (h refl)
+find_one test (y ∷ ys) h = elim (cases_Bool (test y)) [
+  | inl e ↦ (0, y, refl, e)
+  | inr e ↦ (let r = find_one test ys (λ z. h (omega (arith, count_next test y ys, ap one e))) in (suc r.0, r.1, r.2, r.3))
+]
 
 pub there : {A : Type 0} (xs : List A) (k : ℕ) (x y : A) → slice_get xs k ≡ Some x → slice_get xs k ≡ Some y → x ≡ y
 there xs k x y a b = some_same x y (sym a ∙ b)
@@ -83,16 +80,9 @@ pub push_cases : {A : Type 0} (xs ys : List A) (k : ℕ) (x : A) → slice_get (
     → (slice_get xs k ≡ Some x) ⊎ ((j : ℕ) × (k ≡ length xs + j) × (slice_get ys j ≡ Some x))
 push_cases [] ys k x e = inr (k, (let z : k ≡ 0 + k = omega arith in z), e)
 push_cases (z ∷ xs) ys zero x e = inl e
-push_cases (z ∷ xs) ys (suc k) x e = elim (push_cases xs ys k x e) [
-  | inl h ↦ inl h
-  | inr h ↦ inr (h.0, (let n = h.1 in let m : suc k ≡ length (z ∷ xs) + h.0 = omega (arith, n) in m), h.2)
-]
+push_cases (z ∷ xs) ys (suc k) x e = elim (push_cases xs ys k x e)
+    [ inl h ↦ inl h | inr h ↦ inr (h.0, (let m : suc k ≡ length (z ∷ xs) + h.0 = omega (arith, h.1) in m), h.2) ]
 
 -- what an index returns
 pub index_is : {A : Type 0} (xs : List A) (k : ℕ) (x : A) → k < length xs → x ≡ slice_index_or xs k x → slice_get xs k ≡ Some x
 index_is xs k x l h = (let y = at_below xs k l in y.1 ∙ ap Some (sym (h ∙ get_or_from_slice_get xs k y.0 x y.1)))
-
--- ---- checks
--- A check that does not hold.
-pub free : (b : Bool) (r : Refusal) (o : Option Refusal) → b ≡ false → cond b (Some r) o ≡ o
-free b r o h = ap (λ (x : Bool). cond x (Some r) o) h

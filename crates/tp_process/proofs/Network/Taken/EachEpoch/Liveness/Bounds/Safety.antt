@@ -4,37 +4,7 @@ pub use Judgement.*
 
 begins : (n : ℕ) → Good n 0 (beginning n)
 begins n =
-    record {
-      wave = 0;
-      floor = λ i. 0;
-      gifts = record { own = λ i. none; all = λ i. none };
-      inv = record {
-        balance = omega (arith, total-zero n);
-        each = λ i m.
-            record {
-              place = record { number = refl; processes = refl; near = omega arith; close = omega arith };
-              floor = omega arith;
-              above = λ p e. refl;
-              given = λ k.
-                  record {
-                    sent = omega arith;
-                    received = omega arith;
-                    idle = λ b e. absurd (omega (arith, b));
-                    gave = (λ m. record { wave = refl; gone = refl }, λ m. record { wave = refl; gone = refl });
-                    sums = refl;
-                  };
-              here = λ f. absurd (cc f);
-            };
-        beyond = λ c m. refl;
-        root = record { wave = refl; floors = λ f. absurd (cc f); last = λ f. absurd (cc f); quiet = λ f. absurd (cc f) };
-        over = λ i m f. absurd (cc f);
-        controls = λ k l there. absurd (cc there);
-        pace = newest_pace n 0 _ (beginning n);
-        posts = λ i m.
-            record { down = λ f. absurd (cc f); up = λ a b. absurd (omega (arith, b)); over = λ f. absurd (cc f) };
-        small = λ i m. record { sent = omega arith; received = omega arith };
-      };
-    }
+    record { wave = 0; floor = λ i. 0; gifts = record { own = λ i. none; all = λ i. none }; inv = search (rules, total-zero, newest_pace) }
 
 -- After a move of process i the invariant holds.
 abbrev IsGoodMove : ℕ → ℕ → ℕ → World → Move → Type 0
@@ -46,16 +16,14 @@ owing p dl dr told ol or = record p { down_left = dl; down_right = dr; over = to
 
 module _ (n q i : ℕ) (x : World) (l : i < n) (v : Good n q x) where
   -- The control messages that a process owes change, or it learns of the end.
-  good_owes : (dl dr told ol or : Bool) (ls : List ControlMessage)
-      → (Settled (x.at i) → Settled (owing (x.at i) dl dr told ol or))
+  good_owes : (dl dr told ol or : Bool) (ls : List ControlMessage) → (Settled (x.at i) → Settled (owing (x.at i) dl dr told ol or))
       → (told ≡ true → ((x.at i).over ≡ true) ⊎ Finished n v.wave (changed i (owing (x.at i) dl dr told ol or) x.under_way ls x))
       → (All (KnownOf n v.wave v.gifts (changed i (owing (x.at i) dl dr told ol or) x.under_way ls x)) x.controls
       → All (KnownOf n v.wave v.gifts (changed i (owing (x.at i) dl dr told ol or) x.under_way ls x)) ls)
       → ((a : ControlMessage) → Has x.controls a → Has ls a) → Posts n v.wave ls i (owing (x.at i) dl dr told ol or)
       → Good n q (changed i (owing (x.at i) dl dr told ol or) x.under_way ls x)
   good_owes dl dr told ol or ls settled over known_of more posts =
-      let p : EpochState = owing (x.at i) dl dr told ol or in
-      let hold : Holds n v.wave v.floor v.gifts x.at i (x.at i) = v.inv.each i l in
+      let p : EpochState = owing (x.at i) dl dr told ol or in let hold : Holds n v.wave v.floor v.gifts x.at i (x.at i) = v.inv.each i l in
       let k : Keeps v.wave v.gifts v.gifts i (x.at i) p = same_reports v.wave i v.gifts (x.at i) p (λ e. e) (λ y. y) in
       good
       (step n q v.wave i v.floor v.gifts v.gifts x l v.inv p k refl refl x.under_way ls q (balance_same n i x p refl refl v.inv.balance)
@@ -67,16 +35,11 @@ module _ (n q i : ℕ) (x : World) (l : i < n) (v : Good n q x) where
   -- A process that learns of the end owes a notification to each child.
   good_ends : Finished n v.wave (record x { at = put i (ends (x.at i)) x.at }) → Good n q (record x { at = put i (ends (x.at i)) x.at })
   good_ends f =
-      let p : EpochState = x.at i in
-      let hold : Holds n v.wave v.floor v.gifts x.at i p = v.inv.each i l in
+      let p : EpochState = x.at i in let hold : Holds n v.wave v.floor v.gifts x.at i p = v.inv.each i l in
       let had : Posts n v.wave x.controls i p = v.inv.posts i l in
       good_owes p.down_left p.down_right true (has p (left_of p)) (has p (right_of p)) x.controls
       (λ o. record { over = refl; left = o.left; right = o.right }) (λ e. inr f) (λ t. t) (λ a h. h)
-      (record {
-        down = had.down;
-        up = had.up;
-        over = λ f. no_child n i p (λ c. (u : ℕ) × Has x.controls (control_of n i c u Over)) hold.number hold.processes;
-      })
+      (grind (arith, had, no_child n i p (λ c. (u : ℕ) × Has x.controls (control_of n i c u Over)) hold.number hold.processes))
 
   -- A process sends a control message to a child.
   good_message : (dl dr ol or : Bool) (to : ℕ) (c : Token)
@@ -87,8 +50,7 @@ module _ (n q i : ℕ) (x : World) (l : i < n) (v : Good n q x) where
       → Posts n v.wave (control (x.at i) to c ∷ x.controls) i (owing (x.at i) dl dr (x.at i).over ol or))
       → IsGoodMove n q i x (record { state = owing (x.at i) dl dr (x.at i).over ol or; next = Send (control (x.at i) to c) })
   good_message dl dr ol or to c known_of way posts =
-      let ls : List ControlMessage = control (x.at i) to c ∷ x.controls in
-      let p : EpochState = owing (x.at i) dl dr (x.at i).over ol or in
+      let ls : List ControlMessage = control (x.at i) to c ∷ x.controls in let p : EpochState = owing (x.at i) dl dr (x.at i).over ol or in
       let more : (b : ControlMessage) → Has x.controls b → Has ls b = λ b h. has_more _ b x.controls h in
       let still : Finished n v.wave x → Finished n v.wave (changed i p x.under_way ls x)
       = finished_put n v.wave i v.gifts v.gifts x p x.under_way ls (same_reports v.wave i v.gifts (x.at i) p (λ e. e) (λ y. y))
@@ -105,12 +67,10 @@ module _ (n q : ℕ) (x : World) (l : 0 < n) (v : Good n q x) (c : CanGive (x.at
   root_ends t =
       let both = and_parts (x.at 0).known (eqb (x.at 0).last_received ((x.at 0).taken_sent + (x.at 0).sent)) t in
       let quiet = end_is_quiet n q v.wave v.floor v.gifts x l v.inv c.here c.idle c.left c.right both.0 (eqb-true _ _ both.1) in
-      good_ends n q 0 x l v
-      (record {
+      good_ends n q 0 x l v (record {
         quiet = quiet_put n 0 x (ends (x.at 0)) x.controls (λ e. e) quiet;
         root = record { over = refl; left = c.left; right = c.right };
-        given = λ j p m.
-            rw (ne_eqb j 0 (λ e. absurd (omega (arith, e, p))))
+        given = λ j p m. rw (ne_eqb j 0 (λ e. absurd (omega (arith, e, p))))
             (all_given n q v.wave v.floor v.gifts x l v.inv c.here c.idle c.left c.right j p m);
       })
 
@@ -124,10 +84,8 @@ module _ (n q i : ℕ) (x : World) (l : i < n) (v : Good n q x) where
 
   good_acts : IsGoodMove n q i x (acts (x.at i))
   good_acts =
-      let p : EpochState = x.at i in
-      let hold : Holds n v.wave v.floor v.gifts x.at i p = v.inv.each i l in
-      let left : left_of p ≡ 2 * i + 1 = omega (arith, hold.number) in
-      let right : right_of p ≡ 2 * i + 2 = omega (arith, hold.number) in
+      let p : EpochState = x.at i in let hold : Holds n v.wave v.floor v.gifts x.at i p = v.inv.each i l in
+      let left : left_of p ≡ 2 * i + 1 = omega (arith, hold.number) in let right : right_of p ≡ 2 * i + 2 = omega (arith, hold.number) in
       let down : (dl dr : Bool) (to : ℕ) → p.number ≡ parent to
       → Path v.wave (put i (owing p dl dr p.over p.over_left p.over_right) x.at) p.number to p.wave Down = λ dl dr to d.
       let new : EpochState = owing p dl dr p.over p.over_left p.over_right in (
@@ -137,16 +95,14 @@ module _ (n q i : ℕ) (x : World) (l : i < n) (v : Good n q x) where
       acts_cases p (IsGoodMove n q i x) (λ o t.
       good_message n q i x l v p.down_left p.down_right false p.over_right (left_of p) Over (λ y still. still (v.inv.over i l o)) tt
       (λ had new. record { down = had.down; up = had.up; over = λ f. (λ e m. (p.wave, new (2 * i + 1) p.wave left refl), (had.over f).1) }))
-      (λ o t.
-      good_message n q i x l v p.down_left p.down_right p.over_left false (right_of p) Over (λ y still. still (v.inv.over i l o)) tt
+      (λ o t. good_message n q i x l v p.down_left p.down_right p.over_left false (right_of p) Over (λ y still. still (v.inv.over i l o)) tt
       (λ had new.
       record { down = had.down; up = had.up; over = λ f. ((had.over f).0, λ e m. (p.wave, new (2 * i + 2) p.wave right refl)) }))
       (λ o a b. good_same n q i x l v) (λ o h t.
       good_message n q i x l v false p.down_right p.over_left p.over_right (left_of p) Down (λ y still. hold.near)
       (down false p.down_right (left_of p) (omega arith)) (λ had new.
       record { down = λ f. (λ e m. new (2 * i + 1) v.wave left (hold.here h).wave, (had.down f).1); up = had.up; over = had.over }))
-      (λ o h t.
-      good_message n q i x l v p.down_left false p.over_left p.over_right (right_of p) Down (λ y still. hold.near)
+      (λ o h t. good_message n q i x l v p.down_left false p.over_left p.over_right (right_of p) Down (λ y still. hold.near)
       (down p.down_left false (right_of p) (omega arith)) (λ had new.
       record { down = λ f. ((had.down f).0, λ e m. new (2 * i + 2) v.wave right (hold.here h).wave); up = had.up; over = had.over }))
       (λ c z t.
@@ -156,10 +112,8 @@ module _ (n q i : ℕ) (x : World) (l : i < n) (v : Good n q x) where
       let e : i ≡ 0 = is_root z in
       subst (λ k.
       IsGoodMove n q k x (record { state = gone (x.at k) true ((x.at k).taken_received + (x.at k).received); next = Again })) (sym e)
-      (root_goes_on n q x (rw e at l) v (rw e at c) (rw e at t)))
-      (λ c z.
-      good (give_step n q v.wave i v.floor v.gifts x l v.inv c.here c.idle c.left c.right
-      (λ e. eqb-false p.number 0 z (hold.number ∙ e))))
+      (root_goes_on n q x (rw e at l) v (rw e at c) (rw e at t))) (λ c z.
+      good (give_step n q v.wave i v.floor v.gifts x l v.inv c.here c.idle c.left c.right (λ e. eqb-false p.number 0 z (hold.number ∙ e))))
       (λ o. good_same n q i x l v)
 
   pub good_ready : Good n q (record x { at = put i (ready (x.at i)) x.at })
@@ -172,17 +126,12 @@ module _ (n q i : ℕ) (x : World) (l : i < n) (v : Good n q x) where
   -- The counts are right: `next` is not refused.
   pub counted : is_miscounted (x.at i) ≡ false
   counted = false_from_ne_true _ (λ t.
-      let p : EpochState = x.at i in
-      let root : i ≡ 0 = is_root (grind (arith, nat_tests, t)) in
-      let first : 0 < n = rw root at l in
-      let s : is_miscounted (x.at 0) ≡ true = rw root at t in
-      let known : (x.at 0).known ≡ true = grind (arith, nat_tests, s) in
+      let p : EpochState = x.at i in let root : i ≡ 0 = is_root (grind (arith, nat_tests, t)) in let first : 0 < n = rw root at l in
+      let s : is_miscounted (x.at 0) ≡ true = rw root at t in let known : (x.at 0).known ≡ true = grind (arith, nat_tests, s) in
       elim (cases_Bool (x.at 0).here) [
         | inl here ↦
-            let left : (x.at 0).up_left ≡ false = grind (arith, nat_tests, s, here) in
-            let right : (x.at 0).up_right ≡ false = grind (arith, nat_tests, s, here) in
-            let less = no_less n q v.wave v.floor v.gifts x first v.inv here (grind (arith, nat_tests, s)) left right known in
-            grind (arith, nat_tests, s, here, less)
+            let less = no_less n q v.wave v.floor v.gifts x first v.inv here (grind (arith, nat_tests, s))
+            (grind (arith, nat_tests, s, here)) (grind (arith, nat_tests, s, here)) known in grind (arith, nat_tests, s, here, less)
         | inr away ↦
             let hold : Holds n v.wave v.floor v.gifts x.at 0 (x.at 0) = v.inv.each 0 first in
             let one : n ≡ 1 = grind (arith, nat_tests, s, away, first, hold.number, hold.processes) in
@@ -204,8 +153,7 @@ module _ (n q i : ℕ) (x : World) (l : i < n) (v : Good n q x) where
   good_takes : (from wave : ℕ) (c : Token) → Known n v.wave v.gifts x from wave c → Path v.wave x.at from i wave c
       → Good n q (record x { at = put i (takes from wave c (x.at i)) x.at })
   good_takes from wave c t way =
-      let p : EpochState = x.at i in
-      let hold : Holds n v.wave v.floor v.gifts x.at i p = v.inv.each i l in
+      let p : EpochState = x.at i in let hold : Holds n v.wave v.floor v.gifts x.at i p = v.inv.each i l in
       takes_cases from wave c p (λ c. Known n v.wave v.gifts x from wave c × Path v.wave x.at from i wave c)
       (λ z. Good n q (record x { at = put i z x.at })) (t, way) (λ t away next.
       good (visit_step n q v.wave i v.floor v.gifts x l v.inv wave away next t.0
@@ -215,9 +163,7 @@ module _ (n q i : ℕ) (x : World) (l : i < n) (v : Good n q x) where
       (λ s r t here same waits e.
       let from_right : from ≡ 2 * i + 2 = omega (arith, e, hold.number) in
       good (right_step n q v.wave i v.floor v.gifts x l v.inv s r here waits (rw from_right at (t.0.1 (same ∙ (hold.here here).wave)))))
-      (λ t o.
-      good_ends n q i x l v
-      (finished_put n v.wave i v.gifts v.gifts x (ends p) x.under_way x.controls
+      (λ t o. good_ends n q i x l v (finished_put n v.wave i v.gifts v.gifts x (ends p) x.under_way x.controls
       (same_reports v.wave i v.gifts p (ends p) (λ e. e) (λ y. y)) (quiet_put n i x (ends p) x.controls (λ e. e))
       (λ e s. record { over = refl; left = s.left; right = s.right }) t.0)) (λ d. good_same n q i x l v)
 
@@ -237,7 +183,7 @@ happens_cases n x (Comes k) Q same act take = comes (control_at x.controls k) re
 pub moved_idle : (p : EpochState) → (moved p).state.pending ≡ p.pending
 moved_idle p =
     cond_both (is_miscounted p) _ _ (λ (m : Move). m.state.pending ≡ p.pending) (λ t. refl)
-    (λ t. ap (λ (z : EpochState). z.pending) (acts_keeps (ready p)) ∙ ready_cases p (λ z. z.pending ≡ p.pending) (λ a b c. refl) refl)
+    (λ t. (acts_keeps (ready p)).1 ∙ ready_cases p (λ z. z.pending ≡ p.pending) (λ a b c. refl) refl)
 
 -- The invariant holds of y, which is x after an event. A quiet world stays quiet, and so does the wave of its last message.
 record Goes (n q : ℕ) (x y : World) : Type 0 where
@@ -258,13 +204,11 @@ module _ (n q : ℕ) (x : World) (v : Good n q x) where
   good_does i Closes l = goes_put i (closed (x.at i)) x.controls (λ e. omega (arith, e)) (good_closes n q i x l v)
   good_does i (Sends j) l =
       cond_both (can_send (x.at i) && ltb j n) _ x (Goes n q x) (λ t.
-      let a = and_parts (can_send (x.at i)) (ltb j n) t in
-      let g = good_sends n q i x l v j (ltb-true j n a.1) a.0 in
+      let a = and_parts (can_send (x.at i)) (ltb j n) t in let g = good_sends n q i x l v j (ltb-true j n a.1) a.0 in
       record { last = v.wave; good = g; calm = λ z. absurd (cc (rw (z.idle i l) at a.0)) }) (λ t. goes_same)
   good_does i Receives l =
       cond_both (can_receive (x.at i) && ltb 0 (x.under_way i)) _ x (Goes n q x) (λ t.
-      let a = and_parts (can_receive (x.at i)) (ltb 0 (x.under_way i)) t in
-      let some : 0 < x.under_way i = ltb-true 0 (x.under_way i) a.1 in
+      let a = and_parts (can_receive (x.at i)) (ltb 0 (x.under_way i)) t in let some : 0 < x.under_way i = ltb-true 0 (x.under_way i) a.1 in
       let g = good_receives n q i x l v a.0 some in
       record { last = v.wave; good = g; calm = λ z. absurd (omega (arith, some, z.none_under_way i l)) }) (λ t. goes_same)
   good_does i Moves l =
@@ -284,8 +228,7 @@ good_after n (e ∷ past) =
 
 -- ==== What every step preserves holds at all times: P says it of the processes and of the control messages sent.
 pub record IsKept (n : ℕ) (P : (ℕ → EpochState) → List ControlMessage → Type 0) : Type 0 where
-  pub count : (q i a s r : ℕ) (x : World) → i < n → Good n q x → P x.at x.controls
-      → P (put i (recount a s r (x.at i)) x.at) x.controls
+  pub count : (q i a s r : ℕ) (x : World) → i < n → Good n q x → P x.at x.controls → P (put i (recount a s r (x.at i)) x.at) x.controls
   pub start : (q : ℕ) (x : World) → 0 < n → Good n q x → (x.at 0).over ≡ false → (x.at 0).here ≡ false → P x.at x.controls
       → P (put 0 (opens ((x.at 0).wave + 1) (x.at 0)) x.at) x.controls
   pub act : (q i : ℕ) (x : World) → i < n → Good n q x → P x.at x.controls
@@ -311,8 +254,7 @@ module _ (n : ℕ) (P : (ℕ → EpochState) → List ControlMessage → Type 0)
       (acted_from i (ready (x.at i)) x.at (λ f a. P f (posted a x.controls))
       (k.act q i y l (good_ready n q i x l v) (kept_ready q i x l v h))))
   kept_does q x i a l v h (inr c) =
-      subst (λ f. P f (does n x i a).controls) (sym c.at)
-      (subst (P (put i c.new x.at)) (sym c.controls)
+      subst (λ f. P f (does n x i a).controls) (sym c.at) (subst (P (put i c.new x.at)) (sym c.controls)
       (subst (λ z. P (put i z x.at) x.controls) (sym c.same) (k.count q i c.new.pending c.new.sent c.new.received x l v h)))
 
   pub kept : (q : ℕ) (x : World) (e : Event) → Good n q x → P x.at x.controls → P (happens n x e).at (happens n x e).controls
@@ -344,9 +286,7 @@ pub never_early : NeverEarlyLaw
 never_early n i later events l over = quiet_stays n later events ((good_after n events).1.inv.over i l over).quiet
 
 pub notified_parts : (p : EpochState) → has_notified p ≡ true → (p.over ≡ true) × (p.over_left ≡ false) × (p.over_right ≡ false)
-notified_parts p t =
-    let a = and_parts (p.over && not p.over_left) (not p.over_right) t in
-    let b = and_parts p.over (not p.over_left) a.0 in (b.0, not-true p.over_left b.1, not-true p.over_right a.1)
+notified_parts p t = (grind (arith, nat_tests), grind (arith, nat_tests), grind (arith, nat_tests))
 
 pub notified_over : (p : EpochState) → has_notified p ≡ true → p.over ≡ true
 notified_over p t = (notified_parts p t).0
@@ -370,6 +310,5 @@ nothing_under_way n x z = total-equal n x.under_way (λ j. 0) z.none_under_way �
 
 pub few_waves : FewWavesLaw
 few_waves n later events l z =
-    let v = good_after n events in
-    let u = calm_after n v.0 later events z v.1 in
+    let v = good_after n events in let u = calm_after n v.0 later events z v.1 in
     omega (arith, u.1.inv.pace.few (nothing_under_way n _ u.0), u.1.inv.root.wave, v.1.inv.root.wave, v.1.inv.pace.past)

@@ -14,20 +14,20 @@ pub use Rattle.tp_base.specs.{Checks.first_refusal, declared.refusal.Refusal.Ref
 pub use Rattle.tp_dag.proofs.Lemmas.Changes.Keeping.Lists.{all_set, all_push, set_here, set_there, get_push, some_same, at_below, le_or}
 pub use Rattle.tp_dag.proofs.Lemmas.Changes.Keeping.Lists.{map_get, map_got, map_same, count_next, count_none, count_at, count_zero}
 pub use Rattle.tp_dag.proofs.Lemmas.Changes.Keeping.Lists.{count_few, count_sum, count_set, count_push, same_or, count_same}
-pub use Rattle.tp_dag.specs.Calls.{release_checks, outside_at, Becomes, one_less, Awaits, GoesTo, with_event, IsReported, IsDispatched}
-pub use Rattle.tp_dag.specs.{Calls.{with_spawned, spawn_checks, lacks_steps}, Counted.one, State.{count_where, Input, PoolState, Entry}}
+pub use Rattle.tp_dag.specs.Calls.{release_checks, Becomes, one_less, Awaits, GoesTo, with_event, IsReported, IsDispatched}
+pub use Rattle.tp_dag.specs.{Calls.{with_spawned, spawn_checks}, Counted.one, State.{count_where, Input, PoolState, Entry}}
 pub use Rattle.tp_dag.specs.{State.{is_fresh, is_done, count_below}, declared.entry.{Event.Event, Stage.Stage}}
 pub use Rattle.tp_dag.specs.declared.{limits.TheConstants.{MAX_INPUTS, MAX_TASKS, MAX_OUTSIDE}, pool.Next.Next as PoolNext}
 pub use Rattle.tp_part.specs.Calls.{own_places, with_place, edges_to, with_message, with_messages, MayDescribe, new_part, task_checks}
-pub use Rattle.tp_part.specs.Calls.{start_checks, next_checks, arrived_checks, done_checks, with_task, with_own, with_foreign, Ends}
-pub use Rattle.tp_part.specs.{Calls.{with_arrival, Runs, IsWaiting, IsOver, is_read, has_arrived, task_at, is_running_at}, Edges.is_of}
+pub use Rattle.tp_part.specs.Calls.{next_checks, arrived_checks, done_checks, with_task, with_own, with_foreign, Ends}
+pub use Rattle.tp_part.specs.{Calls.{with_arrival, Runs, IsWaiting, IsOver, is_read, has_arrived}, Edges.is_of}
 pub use Rattle.tp_part.specs.{Edges.{newest, places, is_edge, has_edge, new_edge, passed_on, pass, pass_one}, Kept.{AreAlike, Ascends}}
 pub use Rattle.tp_part.specs.Kept.{AreAwaited, SameBut, is_awaited_at, progress_of, state_of, is_passed, IsDone, Holds, AreIncoming}
 pub use Rattle.tp_part.specs.{Kept.{AreNumbers, ArePosted}, Laws.{Task, Graph, Owns, HasInput, Call, CallAt, Does, LeadTo, calls_at}}
 pub use Rattle.tp_part.specs.Laws.{is_run, is_end, is_send, is_arrival, Has, WasSent, Brings, IsCarried, IsRun, times, AreOnce, IsHere}
 pub use Rattle.tp_part.specs.Laws.{newest_of, IsSettled, WaitsOrStops, AllEnded, NeverSilent, is_progress, is_among, reads, owned_by, goes}
 pub use Rattle.tp_part.specs.Laws.{sum_below, messages, AllEnd, Call.{Described, Started, Ran, Sent, Waited, Stopped, Ended, Came}}
-pub use Rattle.tp_part.specs.{State.{PartState, Progress, place_in, IsReady, HasSentAll, AreDone}, declared.edges.Edge.Edge}
+pub use Rattle.tp_part.specs.{State.{PartState, Progress, place_in, IsReady, HasSentAll, AreDone, Reads, IsAt}, declared.edges.Edge.Edge}
 pub use Rattle.tp_part.specs.declared.part.Part.TheInside.{Inside}
 pub use Rattle.tp_base.specs.declared.refusal.Refusal.TheVariants as refusal
 pub use Rattle.tp_dag.specs.declared.entry.Stage.TheVariants as stage

@@ -16,53 +16,35 @@ with_gift i p g = record { own = put i (mine p) g.own; all = put i (ours p) g.al
 module _ (n q w i : ℕ) (low : ℕ → ℕ) (g : Gifts) (x : World) (l : i < n) (v : Inv n q w low g x) (there : (x.at i).here ≡ true)
     (idle : (x.at i).pending ≡ 0) (no_left : (x.at i).up_left ≡ false) (no_right : (x.at i).up_right ≡ false) where
   pub give_keeps : (known : Bool) (last : ℕ) → Keeps w g (with_gift i (x.at i) g) i (x.at i) (gone (x.at i) known last)
-  give_keeps known last =
-      record {
-        wave = λ e. e;
-        given = λ y. absurd (cc (y.gone, there));
-        own = λ j off. put_other i j (mine (x.at i)) g.own off;
-        all = λ j off. put_other i j (ours (x.at i)) g.all off;
-      }
+  give_keeps known last = grind (arith, nat_tests, there)
 
   give_own : (roof : ℕ → ℕ) (known : Bool) (last : ℕ) → roof i ≤ (x.at i).sent
       → Holds n w roof (with_gift i (x.at i) g) (put i (gone (x.at i) known last) x.at) i (gone (x.at i) known last)
   give_own roof known last under =
-      let hold : Holds n w low g x.at i (x.at i) = v.each i l in
-      let z : Here n w g x.at i (x.at i) = hold.here there in
+      let hold : Holds n w low g x.at i (x.at i) = v.each i l in let z : Here n w g x.at i (x.at i) = hold.here there in
       let new : EpochState = gone (x.at i) known last in
       let k : Keeps w g (with_gift i (x.at i) g) i (x.at i) new = give_keeps known last in
-      record {
+      let kept = given_kept n w i g (with_gift i (x.at i) g) x.at new k in record {
         place = hold.place;
         floor = under;
         above = λ p e. wave_kept n w i g (with_gift i (x.at i) g) x.at new k (parent i) (hold.above p e);
-        given = λ y.
-            record {
-              sent = rw (eq-eqb i i refl) (omega arith);
-              received = rw (eq-eqb i i refl) (omega arith);
-              idle = λ b e. idle;
-              gave = (
-                λ m. given_kept n w i g (with_gift i (x.at i) g) x.at new k (2 * i + 1) (z.gave.0 no_left m),
-                λ m. given_kept n w i g (with_gift i (x.at i) g) x.at new k (2 * i + 2) (z.gave.1 no_right m),
-              );
-              sums =
-                  rw (
-                    eq-eqb i i refl,
-                    ne_eqb (2 * i + 1) i (λ e. absurd (omega (arith, e))),
-                    ne_eqb (2 * i + 2) i
-                        (λ e. absurd (omega (arith, e))),
-                  )
-                  (counts_equal (ours (x.at i)) (plus (mine (x.at i)) (plus (g.all (2 * i + 1)) (g.all (2 * i + 2))))
-                  (omega (arith, rw (no_left, no_right) at z.sent)) (omega (arith, rw (no_left, no_right) at z.received)));
-            };
+        given = λ y. record {
+          sent = rw (eq-eqb i i refl) (omega arith);
+          received = rw (eq-eqb i i refl) (omega arith);
+          idle = λ b e. idle;
+          gave = (λ m. kept (2 * i + 1) (z.gave.0 no_left m), λ m. kept (2 * i + 2) (z.gave.1 no_right m));
+          sums =
+              rw (eq-eqb i i refl, ne_eqb (2 * i + 1) i (λ e. absurd (omega arith)), ne_eqb (2 * i + 2) i (λ e. absurd (omega arith)))
+              (counts_equal _ _ (omega (arith, rw (no_left, no_right) at z.sent)) (omega (arith, rw (no_left, no_right) at z.received)));
+        };
         here = λ f. absurd (cc f);
       }
 
   -- A process passes the wave up to its parent.
-  pub give_step : (i ≡ 0 → ⊥) → Inv n q w low (with_gift i (x.at i) g)
-      (record x {
-        at = put i (record (x.at i) { here = false }) x.at;
-        controls = control (x.at i) (parent (x.at i).number) (report_of (x.at i)) ∷ x.controls;
-      })
+  pub give_step : (i ≡ 0 → ⊥) → Inv n q w low (with_gift i (x.at i) g) (record x {
+    at = put i (record (x.at i) { here = false }) x.at;
+    controls = control (x.at i) (parent (x.at i).number) (report_of (x.at i)) ∷ x.controls;
+  })
   give_step below =
       let hold : Holds n w low g x.at i (x.at i) = v.each i l in
       let new : EpochState = gone (x.at i) (x.at i).known (x.at i).last_received in
@@ -75,20 +57,16 @@ module _ (n q w i : ℕ) (low : ℕ → ℕ) (g : Gifts) (x : World) (l : i < n)
       (all_more (KnownOf n w (with_gift i (x.at i) g) (changed i new x.under_way (post ∷ x.controls) x)) post x.controls (
         (
           hold.near,
-          λ e.
-              rw hold.number
-              (record {
-                given = rw (eq-eqb i i refl) (record { wave = (hold.here there).wave; gone = refl });
-                sent = rw (eq-eqb i i refl);
-                received = rw (eq-eqb i i refl);
-              }),
+          λ e. rw hold.number (record {
+            given = rw (eq-eqb i i refl) (record { wave = (hold.here there).wave; gone = refl });
+            sent = rw (eq-eqb i i refl);
+            received = rw (eq-eqb i i refl);
+          }),
         ),
-        λ e.
-            subst (λ j. (put i new x.at (parent j)).wave ≡ w) (sym hold.number)
+        λ e. subst (λ j. (put i new x.at (parent j)).wave ≡ w) (sym hold.number)
             (wave_kept n w i g (with_gift i (x.at i) g) x.at new (give_keeps (x.at i).known (x.at i).last_received) (parent i)
             (hold.above (omega (arith, below)) (hold.here there).wave)),
-      )) more
-      (record {
+      )) more (record {
         down = λ f. absurd (cc f);
         up = λ a b k f. (
           (x.at i).taken_sent + (x.at i).sent,
@@ -106,8 +84,7 @@ given_below n q w low g x v top j p m =
     let kids : ChildrenGave n w x.at i = elim (cases_eq i 0) [
       | inl e ↦ subst (ChildrenGave n w x.at) (sym e) top
       | inr off ↦ ((v.each i l).given (up (omega (arith, off)))).gave
-    ] in
-    (λ a p. kids.0 a, λ a p. kids.1 a)) (suc j) j (omega arith) m p
+    ] in (λ a p. kids.0 a, λ a p. kids.1 a)) (suc j) j (omega arith) m p
 
 -- The wave ends at process 0: it is idle, and its children have reported.
 module _ (n q w : ℕ) (low : ℕ → ℕ) (g : Gifts) (x : World) (l : 0 < n) (v : Inv n q w low g x) (there : (x.at 0).here ≡ true)
@@ -127,17 +104,14 @@ module _ (n q w : ℕ) (low : ℕ → ℕ) (g : Gifts) (x : World) (l : 0 < n) (
   -- the invariant of each process after that
   held : (j : ℕ) → j < n → Holds n w (λ j. (x.at j).sent) (with_gift 0 (x.at 0) g) (put 0 judged x.at) j (put 0 judged x.at j)
   held j m =
-      put_holds (λ j z. Holds n w (λ j. (x.at j).sent) (with_gift 0 (x.at 0) g) (put 0 judged x.at) j z) 0 j judged x.at (λ e.
-      rw e
+      put_holds (λ j z. Holds n w (λ j. (x.at j).sent) (with_gift 0 (x.at 0) g) (put 0 judged x.at) j z) 0 j judged x.at (λ e. rw e
       (give_own n q w 0 low g x l v there idle no_left no_right (λ j. (x.at j).sent) true ((x.at 0).taken_received + (x.at 0).received)
-      (omega arith))) (λ off.
-      holds_kept n w 0 g (with_gift 0 (x.at 0) g) x.at judged keeps l low (λ j. (x.at j).sent) j (x.at j)
+      (omega arith))) (λ off. holds_kept n w 0 g (with_gift 0 (x.at 0) g) x.at judged keeps l low (λ j. (x.at j).sent) j (x.at j)
       (λ y. (keeps.own j off, keeps.all j off)) (omega arith) (v.each j m))
 
   visited : (j : ℕ) → j < n → Visited n w (with_gift 0 (x.at 0) g) (put 0 judged x.at) j (put 0 judged x.at j)
   visited j m =
-      (held j m).given
-      (put_holds (λ j z. HasGiven w z) 0 j judged x.at (λ e. record { wave = v.root.wave; gone = refl })
+      (held j m).given (put_holds (λ j z. HasGiven w z) 0 j judged x.at (λ e. record { wave = v.root.wave; gone = refl })
       (λ off. all_given j (omega (arith, off)) m))
 
   beyond_kept : (c : ℕ) → n ≤ c → (with_gift 0 (x.at 0) g).all c ≡ none
@@ -146,12 +120,12 @@ module _ (n q w : ℕ) (low : ℕ → ℕ) (g : Gifts) (x : World) (l : 0 < n) (
   -- The sums at process 0 are the sums of all reports.
   sent_in_all : total n (λ j. ((with_gift 0 (x.at 0) g).own j).sent) ≡ (x.at 0).taken_sent + (x.at 0).sent
   sent_in_all =
-      tree_sum n (λ j. ((with_gift 0 (x.at 0) g).own j).sent) (λ j. ((with_gift 0 (x.at 0) g).all j).sent)
+      tree_sum n _ (λ j. ((with_gift 0 (x.at 0) g).all j).sent)
       (λ j m. ap (λ z. z.sent) (visited j m).sums) (λ c m. ap (λ z. z.sent) (beyond_kept c m))
 
   received_in_all : total n (λ j. ((with_gift 0 (x.at 0) g).own j).received) ≡ (x.at 0).taken_received + (x.at 0).received
   received_in_all =
-      tree_sum n (λ j. ((with_gift 0 (x.at 0) g).own j).received) (λ j. ((with_gift 0 (x.at 0) g).all j).received)
+      tree_sum n _ (λ j. ((with_gift 0 (x.at 0) g).all j).received)
       (λ j m. ap (λ z. z.received) (visited j m).sums) (λ c m. ap (λ z. z.received) (beyond_kept c m))
 
   -- The wave counts at least as many sent messages as there were when the wave before it ended.
@@ -182,13 +156,10 @@ module _ (n q w : ℕ) (low : ℕ → ℕ) (g : Gifts) (x : World) (l : 0 < n) (
   -- and if it counts as many, the world is quiet.
   quiet_there : (x.at 0).taken_received + (x.at 0).received ≡ total n (λ j. (x.at j).sent) → IsQuiet n (record x { at = put 0 judged x.at })
   quiet_there enough =
-      let begun : 0 < w = ((v.each 0 l).here there).begun in
-      record {
-        idle = λ j m.
-            (visited j m).idle begun
+      let begun : 0 < w = ((v.each 0 l).here there).begun in record {
+        idle = λ j m. (visited j m).idle begun
             (total_same n _ _ less_received (omega (arith, enough, received_in_all, same_received, v.balance)) j m);
-        none_under_way = λ j m.
-            sym (total_same n (λ j. 0) x.under_way (λ j m. omega arith)
+        none_under_way = λ j m. sym (total_same n (λ j. 0) x.under_way (λ j m. omega arith)
             (omega (arith, enough, received_in_all, total-le n _ _ less_received, same_received, v.balance, total-zero n)) j m);
       }
 
@@ -203,32 +174,22 @@ module _ (n q w : ℕ) (low : ℕ → ℕ) (g : Gifts) (x : World) (l : 0 < n) (
       let sent_now : q < w → (x.at 0).taken_sent + (x.at 0).sent ≡ total n (λ j. (x.at j).sent)
       = λ m. sym sent_in_all ∙ total-equal n _ _ (λ j k. ap (λ z. z.sent) (own_now m j k)) in
       let received_now : q < w → (x.at 0).taken_received + (x.at 0).received ≡ total n (λ j. (x.at j).received)
-      = λ m. sym received_in_all ∙ total-equal n _ _ (λ j k. ap (λ z. z.received) (own_now m j k)) in
-      record {
+      = λ m. sym received_in_all ∙ total-equal n _ _ (λ j k. ap (λ z. z.received) (own_now m j k)) in record {
         past = v.pace.past;
         late = λ m j k y. own_now m j k ∙ sym (put_same mine 0 j judged x.at refl);
         during = λ f. absurd (cc f);
         between = λ f m. (refl, received_now m ∙ sym same_received);
         few = v.pace.few;
         fewer = λ e f.
-            elim (cases_lt (q + 1) w) [
-              | inl m ↦
-                  let z = v.pace.during there m in
-                  let same : (x.at 0).last_received ≡ (x.at 0).taken_sent + (x.at 0).sent
-                  = omega (arith, z.1, sent_now (omega (arith, m)), v.balance, e) in
-                  absurd (cc (more, and_from (x.at 0).known _ z.0 (eq-eqb _ _ same)))
-              | inr less ↦ less
-            ];
+            let d = v.pace.during there in grind (arith, nat_tests, d, sent_now, v.balance, e, more);
       }
 
   -- The wave ends and the end is not detected.
   pub judge_step : is_end (x.at 0) ≡ false → Inv n q w (λ j. (x.at j).sent) (with_gift 0 (x.at 0) g) (record x { at = put 0 judged x.at })
   judge_step more =
-      let h : Gifts = with_gift 0 (x.at 0) g in
-      let y : World = record x { at = put 0 judged x.at } in
+      let h : Gifts = with_gift 0 (x.at 0) g in let y : World = record x { at = put 0 judged x.at } in
       let ended : Finished n w x → Finished n w y
-      = finished_put n w 0 g h x judged x.under_way x.controls keeps (quiet_put n 0 x judged x.controls (λ e. e)) (λ e o. o) in
-      record {
+      = finished_put n w 0 g h x judged x.under_way x.controls keeps (quiet_put n 0 x judged x.controls (λ e. e)) (λ e o. o) in record {
         balance = balance_same n 0 x judged refl refl v.balance;
         each = held;
         beyond = beyond_kept;
@@ -236,11 +197,8 @@ module _ (n q w : ℕ) (low : ℕ → ℕ) (g : Gifts) (x : World) (l : 0 < n) (
         over = λ j m f. ended (v.over j m (sym (put_same (λ z. z.over) 0 j judged x.at refl) ∙ f));
         controls = controls_kept n w 0 g h x y judged keeps refl ended x.controls v.controls;
         pace = judge_pace more;
-        posts = λ j m.
-            put_holds (λ j z. Posts n w x.controls j z) 0 j judged x.at (λ e.
-            rw e
-            (record { down = λ f. absurd (cc f); up = λ a. absurd (omega (arith, a)); over = (v.posts 0 l).over }))
-            (λ off. v.posts j m);
+        posts = λ j m. put_holds (λ j z. Posts n w x.controls j z) 0 j judged x.at (λ e. rw e
+            (record { down = λ f. absurd (cc f); up = λ a. absurd (omega (arith, a)); over = (v.posts 0 l).over })) (λ off. v.posts j m);
         small = λ j m. put_keeps IsSmall 0 j judged x.at (λ o. o) (v.small j m);
       }
 
@@ -250,68 +208,51 @@ module _ (n q w : ℕ) (low : ℕ → ℕ) (g : Gifts) (x : World) (l : 0 < n) (
   given_before j m =
       let top : HasGiven w (x.at 0) = record { wave = v.root.wave; gone = away } in
       let z : Visited n w g x.at 0 (x.at 0) = (v.each 0 l).given top in
-      elim (cases_eq j 0) [
-        | inl e ↦ rw e top
-        | inr off ↦ given_below n q w low g x v z.gave j (omega (arith, off)) m
-      ]
+      elim (cases_eq j 0) [ inl e ↦ rw e top | inr off ↦ given_below n q w low g x v z.gave j (omega (arith, off)) m ]
 
   later_known : (y : World) → (Finished n w x → Finished n (w + 1) y) → All (KnownOf n (w + 1) g y) x.controls
   later_known y quiet k a there =
       let t = v.controls k a there in (later a.from a.wave a.token t.0, way a.from a.to a.wave a.token t.0 t.1)
     where
       later : (from wave : ℕ) (c : Token) → Known n w g x from wave c → Known n (w + 1) g y from wave c
-      later from wave Down t = omega (arith, t)
-      later from wave (Up s r) t = (omega (arith, t.0), λ e. absurd (omega (arith, t.0, e)))
       later from wave Over t = quiet t
+      later from wave _ t = grind (arith, t)
 
       way : (from to wave : ℕ) (c : Token) → Known n w g x from wave c → Path w x.at from to wave c → Path (w + 1) y.at from to wave c
-      way from to wave Down t p = (p.0, λ e. absurd (omega (arith, t, e)))
-      way from to wave (Up s r) t p = λ e. absurd (omega (arith, t.0, e))
       way from to wave Over t p = tt
+      way from to wave _ t p = grind (arith, t, p)
 
   pub start_step : (x.at 0).over ≡ false → Inv n q (w + 1) low g (record x { at = put 0 (opens ((x.at 0).wave + 1) (x.at 0)) x.at })
   start_step open_yet =
-      let u : ℕ = (x.at 0).wave + 1 in
-      let new : EpochState = opens u (x.at 0) in
-      let y : World = record x { at = put 0 new x.at } in
-      let next : u ≡ w + 1 = omega (arith, v.root.wave) in
-      let hold : Holds n w low g x.at 0 (x.at 0) = v.each 0 l in
+      let u : ℕ = (x.at 0).wave + 1 in let new : EpochState = opens u (x.at 0) in let y : World = record x { at = put 0 new x.at } in
+      let next : u ≡ w + 1 = omega (arith, v.root.wave) in let hold : Holds n w low g x.at 0 (x.at 0) = v.each 0 l in
       let quiet : IsQuiet n x → IsQuiet n y = quiet_put n 0 x new x.controls (λ e. e) in
       let ended : Finished n w x → Finished n (w + 1) y = λ f. absurd (cc (f.root.over, open_yet)) in
       let none_gave : (j : ℕ) → j < n → HasGiven (w + 1) (put 0 new x.at j) → ⊥ = λ j m.
       put_holds (λ j z. HasGiven (w + 1) z → ⊥) 0 j new x.at (λ e k. absurd (cc k.gone))
-      (λ off k. absurd (omega (arith, k.wave, (given_before j m).wave))) in
-      record {
+      (λ off k. absurd (omega (arith, k.wave, (given_before j m).wave))) in record {
         balance = balance_same n 0 x new refl refl v.balance;
-        each = λ j m.
-            put_holds (λ j z. j < n → Holds n (w + 1) low g (put 0 new x.at) j z) 0 j new x.at (λ e m.
-            record {
-              place = record {
-                number = hold.number ∙ sym e;
-                processes = hold.processes;
-                near = omega (arith, next);
-                close = omega (arith, next);
-              };
-              floor = rw e hold.floor;
-              above = λ p f. absurd (omega (arith, p, e));
-              given = λ k. absurd (cc k.gone);
-              here = λ f.
-                  rw (e, next)
-                  (opens_here n (w + 1) 0 low g (put 0 (opens (w + 1) (x.at 0)) x.at) (x.at 0) hold.number hold.processes
-                  (omega arith) v.beyond);
-            })
-            (λ off m.
-            let k : HasGiven w (x.at j) = given_before j m in
-            let h : Holds n w low g x.at j (x.at j) = v.each j m in
-            record {
-              place =
-                  record { number = h.number; processes = h.processes; near = omega (arith, k.wave); close = omega (arith, k.wave) };
+        each = λ j m. put_holds (λ j z. j < n → Holds n (w + 1) low g (put 0 new x.at) j z) 0 j new x.at (λ e m. record {
+          place = record {
+            number = hold.number ∙ sym e;
+            processes = hold.processes;
+            near = omega (arith, next);
+            close = omega (arith, next);
+          };
+          floor = rw e hold.floor;
+          above = λ p f. absurd (omega (arith, p, e));
+          given = λ k. absurd (cc k.gone);
+          here = λ f. rw (e, next)
+              (opens_here n (w + 1) 0 low g (put 0 (opens (w + 1) (x.at 0)) x.at) (x.at 0) hold.number hold.processes
+              (omega arith) v.beyond);
+        }) (λ off m.
+            let k : HasGiven w (x.at j) = given_before j m in let h : Holds n w low g x.at j (x.at j) = v.each j m in record {
+              place = record { number = h.number; processes = h.processes; near = omega (arith, k.wave); close = omega (arith, k.wave) };
               floor = h.floor;
               above = λ p f. absurd (omega (arith, f, k.wave));
               given = λ z. absurd (omega (arith, z.wave, k.wave));
               here = λ f. absurd (cc (f, k.gone));
-            })
-            m;
+            }) m;
         beyond = v.beyond;
         root = record {
           wave = next;
@@ -321,31 +262,21 @@ module _ (n q w : ℕ) (low : ℕ → ℕ) (g : Gifts) (x : World) (l : 0 < n) (
         };
         over = λ j m f. ended (v.over j m (sym (put_same (λ z. z.over) 0 j new x.at refl) ∙ f));
         controls = later_known y ended;
-        pace =
-            record {
-              past = omega (arith, v.pace.past);
-              late = λ m j k y. absurd (none_gave j k y);
-              during = λ f m.
-                  let z = v.pace.between away (omega arith) in
-                  (z.0, z.1 ∙ sym (total_same-put n 0 new x.at (λ z. z.received) refl));
-              between = λ f. absurd (cc f);
-              few = λ e. omega (arith, v.pace.fewer e away);
-              fewer = λ e f. absurd (cc f);
-            };
-        posts = λ j m.
-            put_holds (λ j z. Posts n (w + 1) x.controls j z) 0 j new x.at (λ e.
-            rw e
-            (record {
-              down = λ f. no_child n 0 (x.at 0) (λ c. Has x.controls (control_of n 0 c (w + 1) Down)) hold.number hold.processes;
-              up = λ a. absurd (omega (arith, a));
-              over = (v.posts 0 l).over;
-            }))
-            (λ off.
+        pace = record {
+          past = omega (arith, v.pace.past);
+          late = λ m j k y. absurd (none_gave j k y);
+          during = λ f m.
+              let z = v.pace.between away (omega arith) in (z.0, z.1 ∙ sym (total_same-put n 0 new x.at (λ z. z.received) refl));
+          between = λ f. absurd (cc f);
+          few = λ e. omega (arith, v.pace.fewer e away);
+          fewer = λ e f. absurd (cc f);
+        };
+        posts = λ j m. put_holds (λ j z. Posts n (w + 1) x.controls j z) 0 j new x.at (λ e. rw e (record {
+          down = λ f. no_child n 0 (x.at 0) (λ c. Has x.controls (control_of n 0 c (w + 1) Down)) hold.number hold.processes;
+          up = λ a. absurd (omega (arith, a));
+          over = (v.posts 0 l).over;
+        })) (λ off.
             let k : HasGiven w (x.at j) = given_before j m in
-            record {
-              down = λ f. absurd (cc (f, k.gone));
-              up = λ a b z f. absurd (omega (arith, z, k.wave));
-              over = (v.posts j m).over;
-            });
+            record { down = λ f. absurd (cc (f, k.gone)); up = λ a b z f. absurd (omega (arith, z, k.wave)); over = (v.posts j m).over });
         small = λ j m. put_keeps IsSmall 0 j new x.at (λ o. o) (v.small j m);
       }

@@ -39,42 +39,25 @@ pub acts_cases : (p : EpochState) (P : Move → Type 0)
     → P (record { state = record p { down_right = false }; next = Send (control p (right_of p) Down) }))
     → (CanGive p → eqb p.number 0 ≡ true → is_end p ≡ true → P (record { state = ends p; next = Again }))
     → (CanGive p → eqb p.number 0 ≡ true → is_end p ≡ false
-    → P (record { state = gone p true (p.taken_received + p.received); next = Again }))
-    → (CanGive p → eqb p.number 0 ≡ false
+    → P (record { state = gone p true (p.taken_received + p.received); next = Again })) → (CanGive p → eqb p.number 0 ≡ false
     → P (record { state = record p { here = false }; next = Send (control p (parent p.number) (report_of p)) }))
     → (p.over ≡ false → P (record { state = p; next = Nothing })) → P (acts p)
 acts_cases p P tell_left tell_right told down_left down_right judge_end judge_on give none =
     cond_both p.over _ _ P (λ o.
     cond_both p.over_left _ _ P (tell_left o) (λ a. cond_both p.over_right _ _ P (tell_right o) (told o a))) (λ o.
-    cond_both p.here _ _ P (λ h.
-    cond_both p.down_left _ _ P (down_left o h) (λ dl.
-    cond_both p.down_right _ _ P (down_right o h) (λ dr.
+    cond_both p.here _ _ P (λ h. cond_both p.down_left _ _ P (down_left o h) (λ dl. cond_both p.down_right _ _ P (down_right o h) (λ dr.
     cond_both (can_give p) _ _ P (λ t.
-    let l : p.up_left ≡ false = grind (arith, nat_tests) in
-    let r : p.up_right ≡ false = grind (arith, nat_tests) in
+    let l : p.up_left ≡ false = grind (arith, nat_tests) in let r : p.up_right ≡ false = grind (arith, nat_tests) in
     let i : p.pending ≡ 0 = grind (arith, nat_tests) in
     let can : CanGive p = record { over = o; here = h; down_left = dl; down_right = dr; left = l; right = r; idle = i } in
     cond_both (eqb p.number 0) _ _ P (λ z. cond_both (is_end p) _ _ P (judge_end can z) (judge_on can z)) (give can)) (λ t. none o))))
     (λ h. none o))
 
--- r differs from p at most in what `acts` may change.
-abbrev pub Acted : EpochState → EpochState → Type 0
-Acted p r =
-    r ≡ record p {
-      known = r.known;
-      last_received = r.last_received;
-      here = r.here;
-      down_left = r.down_left;
-      down_right = r.down_right;
-      over = r.over;
-      over_left = r.over_left;
-      over_right = r.over_right;
-    }
-
-pub acts_keeps : (p : EpochState) → Acted p (acts p).state
+pub acts_keeps : (p : EpochState) → ((acts p).state.wave ≡ p.wave) × ((acts p).state.pending ≡ p.pending)
 acts_keeps p =
-    acts_cases p (λ m. Acted p m.state) (λ a b. refl) (λ a b. refl) (λ a b c. refl) (λ a b c. refl) (λ a b c. refl) (λ a b c. refl)
-    (λ a b c. refl) (λ a b. refl) (λ a. refl)
+    acts_cases p (λ m. (m.state.wave ≡ p.wave) × (m.state.pending ≡ p.pending)) (λ a b. (refl, refl)) (λ a b. (refl, refl))
+    (λ a b c. (refl, refl)) (λ a b c. (refl, refl)) (λ a b c. (refl, refl)) (λ a b c. (refl, refl)) (λ a b c. (refl, refl))
+    (λ a b. (refl, refl)) (λ a. (refl, refl))
 
 -- A control message is taken or refused, with what is known of it by its kind.
 pub takes_cases : (from u : ℕ) (c : Token) (p : EpochState) (K : Token → Type 0) (P : EpochState → Type 0) → K c
@@ -86,8 +69,7 @@ takes_cases from u Down p K P k down left right over none =
     cond_both (is_down_due u p) (opens u p) p P (λ d. down k (grind (arith, nat_tests)) (grind (arith, nat_tests))) none
 takes_cases from u (Up s r) p K P k down left right over none =
     cond_both (is_up_due u s r p) (cond (is_left from p) (takes_left s r p) (cond (is_right from p) (takes_right s r p) p)) p P (λ d.
-    let here : p.here ≡ true = grind (arith, nat_tests) in
-    let same : u ≡ p.wave = grind (arith, nat_tests) in
+    let here : p.here ≡ true = grind (arith, nat_tests) in let same : u ≡ p.wave = grind (arith, nat_tests) in
     cond_both (is_left from p) (takes_left s r p) (cond (is_right from p) (takes_right s r p) p) P
     (λ y. left s r k here same (grind (arith, nat_tests)) (grind (arith, nat_tests))) (λ y.
     cond_both (is_right from p) (takes_right s r p) p P (λ z. right s r k here same (grind (arith, nat_tests)) (grind (arith, nat_tests)))
@@ -125,22 +107,18 @@ counts_put i x new under same = record { new = new; same = same; at = refl; cont
 counts_none : (i : ℕ) (x : World) → IsCount i x x
 counts_none i x = record { new = x.at i; same = refl; at = sym (put_id i x.at); controls = refl }
 
+counts_if : (b : Bool) (p r : EpochState) → Recounts p r → Recounts p (cond b r p)
+counts_if b p r same = cond_both b r p (Recounts p) (λ t. same) (λ t. refl)
+
 pub does_counts : (n : ℕ) (x : World) (i : ℕ) (a : Act) → (a ≡ Moves) ⊎ IsCount i x (does n x i a)
-does_counts n x i Opens =
-    let p : EpochState = x.at i in
-    inr (counts_put i x (opened p) x.under_way
-    (cond_both (not (eqb p.pending 0) && ltb p.pending LIMIT) _ p (Recounts p) (λ t. refl) (λ t. refl)))
+does_counts n x i Opens = inr (counts_put i x (opened (x.at i)) x.under_way (counts_if _ (x.at i) _ refl))
 does_counts n x i Closes = inr (counts_put i x (closed (x.at i)) x.under_way refl)
 does_counts n x i (Sends j) =
-    let p : EpochState = x.at i in
-    let under : ℕ → ℕ = put j (x.under_way j + 1) x.under_way in
-    inr (cond_both (can_send p && ltb j n) _ x (IsCount i x)
-    (λ t. counts_put i x (sent p) under (cond_both (can_send p) _ p (Recounts p) (λ t. refl) (λ t. refl))) (λ t. counts_none i x))
+    inr (cond_both (can_send (x.at i) && ltb j n) _ x (IsCount i x)
+    (λ t. counts_put i x (sent (x.at i)) _ (counts_if (can_send (x.at i)) (x.at i) _ refl)) (λ t. counts_none i x))
 does_counts n x i Receives =
-    let p : EpochState = x.at i in
-    let under : ℕ → ℕ = put i (x.under_way i - 1) x.under_way in
-    inr (cond_both (can_receive p && ltb 0 (x.under_way i)) _ x (IsCount i x)
-    (λ t. counts_put i x (received p) under (cond_both (can_receive p) _ p (Recounts p) (λ t. refl) (λ t. refl))) (λ t. counts_none i x))
+    inr (cond_both (can_receive (x.at i) && ltb 0 (x.under_way i)) _ x (IsCount i x)
+    (λ t. counts_put i x (received (x.at i)) _ (counts_if (can_receive (x.at i)) (x.at i) _ refl)) (λ t. counts_none i x))
 does_counts n x i Moves = inl refl
 
 -- ==== One process changes, and the newest wave stays.
@@ -165,32 +143,23 @@ module _ (n q w i : ℕ) (low : ℕ → ℕ) (g h : Gifts) (x : World) (l : i < 
       let same_last : (put i new x.at 0).last_received ≡ (x.at 0).last_received = put_same (λ z. z.last_received) i 0 new x.at last in
       record {
         balance = balance;
-        each = λ j m.
-            put_holds (λ j z. Holds n w low h (put i new x.at) j z) i j new x.at (λ e. rw e own)
+        each = λ j m. put_holds (λ j z. Holds n w low h (put i new x.at) j z) i j new x.at (λ e. rw e own)
             (λ off. holds_kept n w i g h x.at new k l low low j (x.at j) (λ y. (k.own j off, k.all j off)) (v.each j m).floor (v.each j m));
         beyond = λ c m. k.all c (λ e. absurd (omega (arith, e))) ∙ v.beyond c m;
         root = record {
-          wave =
-              put_holds (λ j z. j ≡ 0 → z.wave ≡ w) i 0 new x.at
-              (λ e f. (root (sym e)).0 ∙ subst (λ z. (x.at z).wave ≡ w) e v.root.wave) (λ off f. v.root.wave) refl;
+          wave = put_first (λ z. z.wave ≡ w) i new x.at (λ e old. (root e).0 ∙ old) v.root.wave;
           floors = λ f j m y.
-              let here : (x.at 0).here ≡ true =
-              put_holds (λ j z. z.here ≡ true → (x.at j).here ≡ true) i 0 new x.at
-              (λ e f. subst (λ z. (x.at z).here ≡ true) (sym e) (sym (root (sym e)).1 ∙ f)) (λ off f. f) f in
-              elim (cases_eq j i) [
-                | inl e ↦ rw e (floor (rw (e, eq-eqb i i refl) at y) here)
-                | inr off ↦ rw (k.own j off) (v.root.floors here j m (rw (ne_eqb j i off) at y))
-              ];
+              let here : (x.at 0).here ≡ true
+              = put_first (λ z. z.here ≡ true → (x.at 0).here ≡ true) i new x.at (λ e old t. old (sym (root e).1 ∙ t)) (λ t. t) f in
+              let old = v.root.floors here j m in let own = k.own j in grind (arith, nat_tests, floor, here, old, own, y);
           last = λ f. subst (λ z. z ≤ total n low) (sym same_last) (v.root.last (sym same_known ∙ f));
           quiet = λ f e. quiet (v.root.quiet (sym same_known ∙ f) (sym same_last ∙ e));
         };
-        over = λ j m.
-            put_holds (λ j z. z.over ≡ true → Finished n w y) i j new x.at
+        over = λ j m. put_holds (λ j z. z.over ≡ true → Finished n w y) i j new x.at
             (λ e o. elim (over o) [ inl t ↦ ended (v.over i l t) | inr f ↦ f ]) (λ off f. ended (v.over j m f));
         controls = known_of (controls_kept n w i g h x y new k refl ended x.controls v.controls);
         pace = pace;
-        posts = λ j m.
-            put_holds (λ j z. Posts n w ls j z) i j new x.at (λ e. rw e posts)
+        posts = λ j m. put_holds (λ j z. Posts n w ls j z) i j new x.at (λ e. rw e posts)
             (λ off. posts_more n w x.controls ls j (x.at j) more (v.posts j m));
         small = λ j m. put_holds (λ j z. IsSmall z) i j new x.at (λ e. small) (λ off. v.small j m);
       }
@@ -207,26 +176,21 @@ pub record Same (p new : EpochState) : Type 0 where
 
 module _ (n q w i : ℕ) (low : ℕ → ℕ) (g h : Gifts) (x : World) (l : i < n) (v : Inv n q w low g x) (new : EpochState)
     (k : Keeps w g h i (x.at i) new) (s : Same (x.at i) new) where
-  pub control_step : (ls : List ControlMessage) → Holds n w low h (put i new x.at) i new
-      → (i ≡ 0 → IsRootStep (x.at i) new)
+  pub control_step : (ls : List ControlMessage) → Holds n w low h (put i new x.at) i new → (i ≡ 0 → IsRootStep (x.at i) new)
       → (HasGiven w new → (low i ≤ (h.own i).sent) × (h.own i ≡ mine new))
       → (All (KnownOf n w h (changed i new x.under_way ls x)) x.controls → All (KnownOf n w h (changed i new x.under_way ls x)) ls)
       → ((a : ControlMessage) → Has x.controls a → Has ls a) → Posts n w ls i new → Inv n q w low h (changed i new x.under_way ls x)
   control_step ls own root given known_of more posts =
       let quiet : IsQuiet n x → IsQuiet n (changed i new x.under_way ls x) = quiet_put n i x new ls (λ e. s.pending ∙ e) in
       step n q w i low g h x l v new k s.known s.last x.under_way ls q
-      (balance_same n i x new s.sent s.received v.balance) own root (λ y here. (given y).0) quiet (λ e. inl (sym s.over ∙ e))
-      known_of
+      (balance_same n i x new s.sent s.received v.balance) own root (λ y here. (given y).0) quiet (λ e. inl (sym s.over ∙ e)) known_of
       (pace_kept n q w i g h x new ls l v.pace s.received s.known s.last (λ e. (root e).1) k.own (λ m y. (given y).1))
       more posts (record { sent = rw s.sent (v.small i l).sent; received = rw s.received (v.small i l).received })
 
 -- A child whose flag a new wave, or the end, does not set is none of the n processes: anything holds of it.
 pub no_child : (n i : ℕ) (p : EpochState) (P : ℕ → Type 0) → p.number ≡ i → p.processes ≡ n
     → EachChild n i (has p (left_of p)) (has p (right_of p)) P
-no_child n i p P number processes = (
-  λ f m. absurd (omega (arith, ltb-false (2 * p.number + 1) p.processes f, number, processes)),
-  λ f m. absurd (omega (arith, ltb-false (2 * p.number + 2) p.processes f, number, processes)),
-)
+no_child n i p P number processes = (λ f m. absurd (grind (arith, nat_tests)), λ f m. absurd (grind (arith, nat_tests)))
 
 -- what holds of a process when wave w comes
 pub opens_here : (n w i : ℕ) (low : ℕ → ℕ) (g : Gifts) (at : ℕ → EpochState) (p : EpochState) → p.number ≡ i → p.processes ≡ n → 0 < w
@@ -234,17 +198,18 @@ pub opens_here : (n w i : ℕ) (low : ℕ → ℕ) (g : Gifts) (at : ℕ → Epo
 opens_here n w i low g at p number processes begun beyond =
     let none_sent : (c : ℕ) → n ≤ c → (g.all c).sent ≡ 0 = λ c m. ap (λ u. u.sent) (beyond c m) in
     let none_received : (c : ℕ) → n ≤ c → (g.all c).received ≡ 0 = λ c m. ap (λ u. u.received) (beyond c m) in
-    record {
-      begun = begun;
-      wave = refl;
-      there = (
-        λ f. omega (arith, ltb-true (2 * p.number + 1) p.processes f, number, processes),
-        λ f. omega (arith, ltb-true (2 * p.number + 2) p.processes f, number, processes),
-      );
-      gave = no_child n i p (λ c. HasGiven w (at c)) number processes;
-      sent = grind (arith, nat_tests, number, processes, none_sent (2 * i + 1), none_sent (2 * i + 2));
-      received = grind (arith, nat_tests, number, processes, none_received (2 * i + 1), none_received (2 * i + 2));
-    }
+    let gave = no_child n i p (λ c. HasGiven w (at c)) number processes in
+    grind (
+      arith,
+      nat_tests,
+      number,
+      processes,
+      none_sent (2 * i + 1),
+      none_sent (2 * i + 2),
+      none_received (2 * i + 1),
+      none_received (2 * i + 2),
+      gave,
+    )
 
 -- p with the sums of a child; left and right say which children have not reported
 abbrev summed : ℕ → ℕ → Bool → Bool → EpochState → EpochState
@@ -256,25 +221,19 @@ module _ (n q w i : ℕ) (low : ℕ → ℕ) (g : Gifts) (x : World) (l : i < n)
   pub visit_step : (u : ℕ) → (x.at i).here ≡ false → u ≡ (x.at i).wave + 1 → u ≤ w → (0 < i → (x.at (parent i)).wave ≡ w)
       → Inv n q w low g (record x { at = put i (opens u (x.at i)) x.at })
   visit_step u away next near above =
-      let hold : Holds n w low g x.at i (x.at i) = v.each i l in
-      let new : EpochState = opens u (x.at i) in
+      let hold : Holds n w low g x.at i (x.at i) = v.each i l in let new : EpochState = opens u (x.at i) in
       let newest : u ≡ w = omega (arith, hold.close, next, near) in
       let k : Keeps w g g i (x.at i) new =
       same_reports w i g (x.at i) new (λ e. newest) (λ y. absurd (omega (arith, y.wave, newest, next))) in
-      let old : Holds n w low g x.at i new =
-      record {
-        place = record { number = hold.number; processes = hold.processes; near = near; close = omega (arith, newest) };
-        floor = hold.floor;
-        above = λ p e. above p;
-        given = λ y. absurd (cc y.gone);
-        here = λ f. rw newest (opens_here n w i low g x.at (x.at i) hold.number hold.processes (omega (arith, newest, next)) v.beyond);
-      } in
+      let close : w ≤ u + 1 = omega (arith, newest) in
+      let there : Here n w g x.at i new
+      = rw newest (opens_here n w i low g x.at (x.at i) hold.number hold.processes (omega (arith, newest, next)) v.beyond) in
+      let old : Holds n w low g x.at i new = search rules in
       control_step n q w i low g g x l v new k
       (record { pending = refl; sent = refl; received = refl; over = refl; known = refl; last = refl })
       x.controls (holds_kept n w i g g x.at new k l low low i new (λ y. (refl, refl)) hold.floor old)
       (λ e. absurd (omega (arith, subst (λ z. (x.at z).wave ≡ w) (sym e) v.root.wave, newest, next))) (λ y. absurd (cc y.gone)) (λ t. t)
-      (λ a h. h)
-      (record {
+      (λ a h. h) (record {
         down = λ f. no_child n i (x.at i) (λ c. Has x.controls (control_of n i c w Down)) hold.number hold.processes;
         up = λ a b k f. absurd (cc f);
         over = (v.posts i l).over;
@@ -284,51 +243,28 @@ module _ (n q w i : ℕ) (low : ℕ → ℕ) (g : Gifts) (x : World) (l : i < n)
   child_step : (s r : ℕ) (left right : Bool) → (Settled (x.at i) → SettledBy (x.at i).over left right) → (x.at i).here ≡ true
       → Here n w g x.at i (summed s r left right (x.at i)) → Inv n q w low g (record x { at = put i (summed s r left right (x.at i)) x.at })
   child_step s r left right settled there here =
-      let p : EpochState = x.at i in
-      let hold : Holds n w low g x.at i p = v.each i l in
-      let new : EpochState = summed s r left right p in
+      let p : EpochState = x.at i in let hold : Holds n w low g x.at i p = v.each i l in let new : EpochState = summed s r left right p in
       let k : Keeps w g g i p new = same_reports w i g p new (λ e. e) (λ y. y) in
       let old : Holds n w low g x.at i new =
-      record {
-        place = hold.place;
-        floor = hold.floor;
-        above = hold.above;
-        given = λ y. absurd (cc (y.gone, there));
-        here = λ f. here;
-      } in
+      search rules in
       control_step n q w i low g g x l v new k
       (record { pending = refl; sent = refl; received = refl; over = refl; known = refl; last = refl })
       x.controls (holds_kept n w i g g x.at new k l low low i new (λ y. (refl, refl)) hold.floor old) (λ e. (refl, refl, settled))
-      (λ y. absurd (cc (y.gone, there))) (λ t. t) (λ a h. h)
-      (v.posts i l)
+      (λ y. absurd (cc (y.gone, there))) (λ t. t) (λ a h. h) (v.posts i l)
 
   pub left_step : (s r : ℕ) → (x.at i).here ≡ true → (x.at i).up_left ≡ true → Reported w g x.at (2 * i + 1) s r
       → Inv n q w low g (record x { at = put i (takes_left s r (x.at i)) x.at })
   left_step s r there waits t =
       let z : Here n w g x.at i (x.at i) = (v.each i l).here there in
       child_step s r false (x.at i).up_right (λ o. record { over = o.over; left = refl; right = o.right }) there
-      (record {
-        begun = z.begun;
-        wave = z.wave;
-        there = (λ f. absurd (cc f), z.there.1);
-        gave = (λ f m. t.given, z.gave.1);
-        sent = omega (arith, rw waits at z.sent, t.sent);
-        received = omega (arith, rw waits at z.received, t.received);
-      })
+      (grind (arith, nat_tests, z, t, waits))
 
   pub right_step : (s r : ℕ) → (x.at i).here ≡ true → (x.at i).up_right ≡ true → Reported w g x.at (2 * i + 2) s r
       → Inv n q w low g (record x { at = put i (takes_right s r (x.at i)) x.at })
   right_step s r there waits t =
       let z : Here n w g x.at i (x.at i) = (v.each i l).here there in
       child_step s r (x.at i).up_left false (λ o. record { over = o.over; left = o.left; right = refl }) there
-      (record {
-        begun = z.begun;
-        wave = z.wave;
-        there = (z.there.0, λ f. absurd (cc f));
-        gave = (z.gave.0, λ f m. t.given);
-        sent = omega (arith, rw waits at z.sent, t.sent);
-        received = omega (arith, rw waits at z.received, t.received);
-      })
+      (grind (arith, nat_tests, z, t, waits))
 
 -- ==== Work and messages at a process.
 -- p with other counters
@@ -341,33 +277,19 @@ module _ (n q i : ℕ) (x : World) (l : i < n) (v : Good n q x) where
       → (total n (λ j. (put i (recount a s r (x.at i)) x.at j).sent)
       ≡ total n (λ j. (put i (recount a s r (x.at i)) x.at j).received) + total n under)
       → (IsQuiet n x → IsQuiet n (changed i (recount a s r (x.at i)) under x.controls x))
-      → Pace n c v.wave v.gifts (changed i (recount a s r (x.at i)) under x.controls x)
-      → s ≤ LIMIT → r ≤ LIMIT
+      → Pace n c v.wave v.gifts (changed i (recount a s r (x.at i)) under x.controls x) → s ≤ LIMIT → r ≤ LIMIT
       → Good n c (record x { at = put i (recount a s r (x.at i)) x.at; under_way = under })
   count c a s r under more_sent more_received idle balance quiet pace small_sent small_received =
-      let new : EpochState = recount a s r (x.at i) in
-      let hold : Holds n v.wave v.floor v.gifts x.at i (x.at i) = v.inv.each i l in
-      let own : Holds n v.wave v.floor v.gifts x.at i new =
-      record {
+      let new : EpochState = recount a s r (x.at i) in let hold : Holds n v.wave v.floor v.gifts x.at i (x.at i) = v.inv.each i l in
+      let own : Holds n v.wave v.floor v.gifts x.at i new = record {
         place = hold.place;
         floor = omega (arith, hold.floor, more_sent);
         above = hold.above;
-        given = λ k.
-            let z : Visited n v.wave v.gifts x.at i (x.at i) = hold.given k in
-            record {
-              sent = omega (arith, z.sent, more_sent);
-              received = omega (arith, z.received, more_received);
-              idle = λ b e.
-                  let same : (x.at i).received ≡ r = omega (arith, z.received, more_received, e) in
-                  idle same (z.idle b (omega (arith, e, same)));
-              gave = z.gave;
-              sums = z.sums;
-            };
+        given = λ k. let z = hold.given k in grind (arith, z, more_sent, more_received, idle);
         here = hold.here;
       } in
       let k : Keeps v.wave v.gifts v.gifts i (x.at i) new = same_reports v.wave i v.gifts (x.at i) new (λ e. e) (λ y. y) in
-      good
-      (step n q v.wave i v.floor v.gifts v.gifts x l v.inv new k refl refl under x.controls c balance
+      good (step n q v.wave i v.floor v.gifts v.gifts x l v.inv new k refl refl under x.controls c balance
       (holds_kept n v.wave i v.gifts v.gifts x.at new k l v.floor v.floor i new (λ y. (refl, refl)) own.floor own)
       (λ e. (refl, refl, λ o. o)) (λ y here. v.inv.root.floors here i l y) quiet (λ o. inl o) (λ t. t) pace (λ a h. h)
       (v.inv.posts i l) (record { sent = small_sent; received = small_received }))
@@ -390,21 +312,17 @@ module _ (n q i : ℕ) (x : World) (l : i < n) (v : Good n q x) where
   good_opens =
       cond_both (not (eqb (x.at i).pending 0) && ltb (x.at i).pending LIMIT) (record (x.at i) { pending = (x.at i).pending + 1 }) (x.at i)
       (λ z. Good n q (record x { at = put i z x.at }))
-      (λ t. count_work ((x.at i).pending + 1) (λ e. absurd (eqb-false (x.at i).pending 0 (not-true _ (and_parts _ _ t).0) e)))
-      (λ t. good_same)
+      (λ t. count_work ((x.at i).pending + 1) (λ e. absurd (grind (arith, nat_tests, t, e)))) (λ t. good_same)
 
   pub good_sends : (j : ℕ) → j < n → can_send (x.at i) ≡ true
       → Good n v.wave (record x { at = put i (sent (x.at i)) x.at; under_way = put j (x.under_way j + 1) x.under_way })
   good_sends j m t =
       let a = and_parts (not (eqb (x.at i).pending 0)) (ltb (x.at i).sent LIMIT) t in
       let active : (x.at i).pending ≡ 0 → ⊥ = eqb-false (x.at i).pending 0 (not-true _ a.0) in
-      let new : EpochState = record (x.at i) { sent = (x.at i).sent + 1 } in
-      let under : ℕ → ℕ = put j (x.under_way j + 1) x.under_way in
-      let more = total_put n i new x.at (λ z. z.sent) l in
-      let same = total_put n i new x.at (λ z. z.received) l in
+      let new : EpochState = record (x.at i) { sent = (x.at i).sent + 1 } in let under : ℕ → ℕ = put j (x.under_way j + 1) x.under_way in
+      let more = total_put n i new x.at (λ z. z.sent) l in let same = total_put n i new x.at (λ z. z.received) l in
       let one = total_put n j (x.under_way j + 1) x.under_way (λ z. z) m in
-      rw t
-      (count v.wave (x.at i).pending ((x.at i).sent + 1) (x.at i).received under (omega arith) (omega arith) (λ e f. f)
+      rw t (count v.wave (x.at i).pending ((x.at i).sent + 1) (x.at i).received under (omega arith) (omega arith) (λ e f. f)
       (omega (arith, more, same, one, v.inv.balance)) (λ z. absurd (active (z.idle i l)))
       (newest_pace n v.wave v.gifts (changed i new under x.controls x)) (omega (arith, ltb-true (x.at i).sent LIMIT a.1))
       (v.inv.small i l).received)
@@ -413,12 +331,9 @@ module _ (n q i : ℕ) (x : World) (l : i < n) (v : Good n q x) where
       → Good n v.wave (record x { at = put i (received (x.at i)) x.at; under_way = put i (x.under_way i - 1) x.under_way })
   good_receives t some =
       let new : EpochState = record (x.at i) { pending = (x.at i).pending + 1; received = (x.at i).received + 1 } in
-      let under : ℕ → ℕ = put i (x.under_way i - 1) x.under_way in
-      let same = total_put n i new x.at (λ z. z.sent) l in
-      let more = total_put n i new x.at (λ z. z.received) l in
-      let one = total_put n i (x.under_way i - 1) x.under_way (λ z. z) l in
-      rw t
-      (count v.wave ((x.at i).pending + 1) (x.at i).sent ((x.at i).received + 1) under (omega arith) (omega arith)
+      let under : ℕ → ℕ = put i (x.under_way i - 1) x.under_way in let same = total_put n i new x.at (λ z. z.sent) l in
+      let more = total_put n i new x.at (λ z. z.received) l in let one = total_put n i (x.under_way i - 1) x.under_way (λ z. z) l in
+      rw t (count v.wave ((x.at i).pending + 1) (x.at i).sent ((x.at i).received + 1) under (omega arith) (omega arith)
       (λ e f. absurd (omega (arith, e)))
       (omega (arith, more, same, one, some, v.inv.balance)) (λ z. absurd (omega (arith, some, z.none_under_way i l)))
       (newest_pace n v.wave v.gifts (changed i new under x.controls x)) (v.inv.small i l).sent

@@ -21,27 +21,29 @@ put_put i x y f j = elim (cases_eq j i) [ inl e ↦ rw (eq-eqb j i e) | inr d �
 pub total_same-put : {A : Type 0} (n i : ℕ) (x : A) (at : ℕ → A) (f : A → ℕ) → f x ≡ f (at i)
     → total n (λ j. f (put i x at j)) ≡ total n (λ j. f (at j))
 total_same-put n i x at f e =
-    total-equal n (λ j. f (put i x at j)) (λ j. f (at j)) (λ j l.
-    put_holds (λ j y. f y ≡ f (at j)) i j x at (λ d. rw d e) (λ off. refl))
+    total-equal n (λ j. f (put i x at j)) (λ j. f (at j)) (λ j l. put_holds (λ j y. f y ≡ f (at j)) i j x at (λ d. rw d e) (λ off. refl))
 
 -- and changes by the change of that number.
 pub total_put : {A : Type 0} (n i : ℕ) (new : A) (at : ℕ → A) (f : A → ℕ) → i < n
     → total n (λ j. f (put i new at j)) + f (at i) ≡ total n (λ j. f (at j)) + f new
 total_put zero i new at f l = absurd (omega arith)
-total_put (suc n) i new at f l =
-    elim (cases_eq i n) [
-      | inl e ↦
-          let rest : total n (λ j. f (put i new at j)) ≡ total n (λ j. f (at j))
-          = total-equal n _ _ (λ j m. ap f (put_other i j new at (λ d. absurd (omega (arith, d, e, m))))) in
-          rw (e, eq-eqb n n refl) (omega (arith, rw e at rest))
-      | inr off ↦ rw (ne_eqb n i (λ d. off (sym d))) (omega (arith, total_put n i new at f (omega (arith, off))))
-    ]
+total_put (suc n) i new at f l = elim (cases_eq i n) [
+  | inl e ↦
+      let rest : total n (λ j. f (put i new at j)) ≡ total n (λ j. f (at j))
+      = total-equal n _ _ (λ j m. ap f (put_other i j new at (λ d. absurd (omega (arith, d, e, m))))) in
+      rw (e, eq-eqb n n refl) (omega (arith, rw e at rest))
+  | inr off ↦ rw (ne_eqb n i (λ d. off (sym d))) (omega (arith, total_put n i new at f (omega (arith, off))))
+]
 
 pub put_keeps : {A : Type 0} (P : A → Type 0) (i j : ℕ) (x : A) (f : ℕ → A) → (P (f i) → P x) → P (f j) → P (put i x f j)
 put_keeps P i j x f step old = put_holds (λ k y. P y) i j x f (λ e. step (subst (λ z. P (f z)) e old)) (λ off. old)
 
 pub put_same : {A B : Type 0} (of : A → B) (i j : ℕ) (x : A) (f : ℕ → A) → of x ≡ of (f i) → of (put i x f j) ≡ of (f j)
 put_same of i j x f e = put_keeps (λ y. of y ≡ of (f j)) i j x f (λ old. e ∙ old) refl
+
+-- A property of place 0 is preserved if a change there preserves it.
+pub put_first : {A : Type 0} (P : A → Type 0) (i : ℕ) (x : A) (f : ℕ → A) → (i ≡ 0 → P (f i) → P x) → P (f 0) → P (put i x f 0)
+put_first P i x f step old = put_holds (λ k y. P y) i 0 x f (λ e. step (sym e) (subst (λ z. P (f z)) e old)) (λ off. old)
 
 -- Putting the value that is there already changes nothing.
 pub put_id : {A : Type 0} (e : ℕ) (f : ℕ → A) → put e (f e) f ≡ f
@@ -55,8 +57,7 @@ frontier : (n : ℕ) (f s : ℕ → ℕ) → ((k : ℕ) → k < n → s k ≡ f 
 frontier n f s e zero l = omega arith
 frontier n f s e (suc k) l =
     let rest : total k f + total (suc (2 * k)) s ≡ s 0 + total k s = frontier n f s e k (omega arith) in
-    let one : 2 * k + 1 ≡ suc (2 * k) = omega arith in
-    let two : 2 * k + 2 ≡ suc (suc (2 * k)) = omega arith in
+    let one : 2 * k + 1 ≡ suc (2 * k) = omega arith in let two : 2 * k + 2 ≡ suc (suc (2 * k)) = omega arith in
     let both : 2 * suc k ≡ suc (suc (2 * k)) = omega arith in
     let here : s k ≡ f k + (s (suc (2 * k)) + s (suc (suc (2 * k)))) = rw (one, two) at (e k (omega arith)) in
     rw both (omega (arith, rest, here))
@@ -305,17 +306,16 @@ size_all n = sym (tree_sum n (λ i. 1) (size n) (size_at n) (size_past n)) ∙ o
 pub down_tree : (n : ℕ) (P : ℕ → Type 0) → P 0
     → ((i : ℕ) → i < n → P i → (2 * i + 1 < n → P (2 * i + 1)) × (2 * i + 2 < n → P (2 * i + 2))) → (b j : ℕ) → j < b → j < n → P j
 down_tree n P top step zero j k m = absurd (omega arith)
-down_tree n P top step (suc b) j k m =
-    elim (cases_eq j 0) [
-      | inl e ↦ subst P (sym e) top
-      | inr off ↦
-          let above : ℕ = parent j in
-          let kids = step above (omega (arith, off)) (down_tree n P top step b above (omega (arith, off)) (omega (arith, off))) in
-          elim (cases_eq j (2 * above + 1)) [
-            | inl e ↦ subst P (sym e) (kids.0 (omega (arith, e)))
-            | inr other ↦ let e : j ≡ 2 * above + 2 = omega (arith, other, off) in subst P (sym e) (kids.1 (omega (arith, e)))
-          ]
-    ]
+down_tree n P top step (suc b) j k m = elim (cases_eq j 0) [
+  | inl e ↦ subst P (sym e) top
+  | inr off ↦
+      let above : ℕ = parent j in
+      let kids = step above (omega (arith, off)) (down_tree n P top step b above (omega (arith, off)) (omega (arith, off))) in
+      elim (cases_eq j (2 * above + 1)) [
+        | inl e ↦ subst P (sym e) (kids.0 (omega (arith, e)))
+        | inr other ↦ let e : j ≡ 2 * above + 2 = omega (arith, other, off) in subst P (sym e) (kids.1 (omega (arith, e)))
+      ]
+]
 
 pub size_below : (n i : ℕ) → i < n → size n i ≤ n
 size_below n i l =
@@ -338,10 +338,8 @@ module _ (n q w : ℕ) (low : ℕ → ℕ) (g : Gifts) (x : World) (v : Inv n q 
       let child : (c : ℕ) → n ≤ c + b → (c < n → HasGiven w (x.at c)) → IsSmallGift n c g
       = λ c near h. elim (cases_lt c n) [ inl m ↦ given_small b c near m (h m) | inr past ↦ past_small c past ] in
       let left : IsSmallGift n (2 * k + 1) g = child (2 * k + 1) (omega (arith, near)) z.gave.0 in
-      let right : IsSmallGift n (2 * k + 2) g = child (2 * k + 2) (omega (arith, near)) z.gave.1 in
-      record {
-        sent =
-            omega (arith, ap (λ z. z.sent) z.sums, z.sent, (v.small k l).sent, left.sent, right.sent, size_at n k l);
+      let right : IsSmallGift n (2 * k + 2) g = child (2 * k + 2) (omega (arith, near)) z.gave.1 in record {
+        sent = omega (arith, ap (λ z. z.sent) z.sums, z.sent, (v.small k l).sent, left.sent, right.sent, size_at n k l);
         received =
             omega (arith, ap (λ z. z.received) z.sums, z.received, (v.small k l).received, left.received, right.received, size_at n k l);
       }
@@ -350,8 +348,7 @@ module _ (n q w : ℕ) (low : ℕ → ℕ) (g : Gifts) (x : World) (v : Inv n q 
   gift_small c h = elim (cases_lt c n) [ inl m ↦ given_small n c (omega arith) m (h m) | inr past ↦ past_small c past ]
 
 pub taken-le : (waits : Bool) (u m : ℕ) → (waits ≡ false → u ≤ m) → taken waits u ≤ m
-taken-le true u m f = omega arith
-taken-le false u m f = f refl
+taken-le waits u m f = grind (arith, nat_tests, f)
 
 -- ==== One process changes: what holds of the others is preserved, and its report may change if it had not passed the wave up.
 pub record Keeps (w : ℕ) (g h : Gifts) (i : ℕ) (old new : EpochState) : Type 0 where
@@ -380,29 +377,21 @@ module _ (n w i : ℕ) (g h : Gifts) (at : ℕ → EpochState) (p : EpochState) 
     pub child_kept : (c : ℕ) → (c < n → HasGiven w (at c)) → h.all c ≡ g.all c
     child_kept c x = elim (cases_eq c i) [ inl e ↦ all_kept c (x (rw e l)) | inr d ↦ k.all c d ]
 
-    taken_same : (of : Counts → ℕ) (c : ℕ) (waits : Bool) → (waits ≡ false → c < n → HasGiven w (at c))
+    taken_same : (c : ℕ) (waits : Bool) → (waits ≡ false → c < n → HasGiven w (at c)) → (of : Counts → ℕ)
         → taken waits (of (h.all c)) ≡ taken waits (of (g.all c))
-    taken_same of c true x = refl
-    taken_same of c false x = ap of (child_kept c (x refl))
+    taken_same c true x of = refl
+    taken_same c false x of = ap of (child_kept c (x refl))
 
     pub visited_kept : (j : ℕ) (q : EpochState) → h.own j ≡ g.own j → h.all j ≡ g.all j → Visited n w g at j q
         → Visited n w h (put i p at) j q
     visited_kept j q own all v =
-        record {
-          sent = rw own v.sent;
-          received = rw own v.received;
-          idle = rw own v.idle;
-          gave = (λ m. given_kept (2 * j + 1) (v.gave.0 m), λ m. given_kept (2 * j + 2) (v.gave.1 m));
-          sums = rw (own, all, child_kept (2 * j + 1) v.gave.0, child_kept (2 * j + 2) v.gave.1) v.sums;
-        }
+        let gave = λ (m : 2 * j + 1 < n). given_kept (2 * j + 1) (v.gave.0 m) in
+        let gave2 = λ (m : 2 * j + 2 < n). given_kept (2 * j + 2) (v.gave.1 m) in
+        grind (arith, all, own, v, gave, gave2, child_kept (2 * j + 1) v.gave.0, child_kept (2 * j + 2) v.gave.1)
 
     pub here_kept : (j : ℕ) (q : EpochState) → Here n w g at j q → Here n w h (put i p at) j q
     here_kept j q v =
-        let left : (of : Counts → ℕ) → taken q.up_left (of (h.all (2 * j + 1))) ≡ taken q.up_left (of (g.all (2 * j + 1)))
-        = λ of. taken_same of (2 * j + 1) q.up_left v.gave.0 in
-        let right : (of : Counts → ℕ) → taken q.up_right (of (h.all (2 * j + 2))) ≡ taken q.up_right (of (g.all (2 * j + 2)))
-        = λ of. taken_same of (2 * j + 2) q.up_right v.gave.1 in
-        record {
+        let left = taken_same (2 * j + 1) q.up_left v.gave.0 in let right = taken_same (2 * j + 2) q.up_right v.gave.1 in record {
           begun = v.begun;
           wave = v.wave;
           there = v.there;
@@ -414,14 +403,13 @@ module _ (n w i : ℕ) (g h : Gifts) (at : ℕ → EpochState) (p : EpochState) 
     -- a process other than i, whose floor may rise to what it has sent
     pub holds_kept : (low roof : ℕ → ℕ) (j : ℕ) (q : EpochState) → (HasGiven w q → (h.own j ≡ g.own j) × (h.all j ≡ g.all j))
         → roof j ≤ q.sent → Holds n w low g at j q → Holds n w roof h (put i p at) j q
-    holds_kept low roof j q same under v =
-        record {
-          place = v.place;
-          floor = under;
-          above = λ p e. wave_kept (parent j) (v.above p e);
-          given = λ x. visited_kept j q (same x).0 (same x).1 (v.given x);
-          here = λ x. here_kept j q (v.here x);
-        }
+    holds_kept low roof j q same under v = record {
+      place = v.place;
+      floor = under;
+      above = λ p e. wave_kept (parent j) (v.above p e);
+      given = λ x. visited_kept j q (same x).0 (same x).1 (v.given x);
+      here = λ x. here_kept j q (v.here x);
+    }
 
 module _ (n w i : ℕ) (g h : Gifts) (x y : World) (p : EpochState) (k : Keeps w g h i (x.at i) p) (moves : y.at ≡ put i p x.at)
     (ended : Finished n w x → Finished n w y) where
@@ -430,8 +418,7 @@ module _ (n w i : ℕ) (g h : Gifts) (x y : World) (p : EpochState) (k : Keeps w
   known_kept from wave (Up s r) t = (
     t.0,
     λ e.
-        let old : Reported w g x.at from s r = t.1 e in
-        record {
+        let old : Reported w g x.at from s r = t.1 e in record {
           given = rw moves (given_kept n w i g h x.at p k from old.given);
           sent = rw (all_kept n w i g h x.at p k from old.given) old.sent;
           received = rw (all_kept n w i g h x.at p k from old.given) old.received;
@@ -454,15 +441,11 @@ has_more a l ls h = record { which = suc h.which; there = h.there }
 
 pub posts_more : (n w : ℕ) (ls more : List ControlMessage) (i : ℕ) (p : EpochState) → ((l : ControlMessage) → Has ls l → Has more l)
     → Posts n w ls i p → Posts n w more i p
-posts_more n w ls more i p grow v =
-    record {
-      down = λ f. (λ e m. grow _ ((v.down f).0 e m), λ e m. grow _ ((v.down f).1 e m));
-      up = λ a b k f. let z = v.up a b k f in (z.0, z.1, grow _ z.2);
-      over = λ f. (
-        λ e m. let z = (v.over f).0 e m in (z.0, grow _ z.1),
-        λ e m. let z = (v.over f).1 e m in (z.0, grow _ z.1),
-      );
-    }
+posts_more n w ls more i p grow v = record {
+  down = λ f. (λ e m. grow _ ((v.down f).0 e m), λ e m. grow _ ((v.down f).1 e m));
+  up = λ a b k f. let z = v.up a b k f in (z.0, z.1, grow _ z.2);
+  over = λ f. (λ e m. let z = (v.over f).0 e m in (z.0, grow _ z.1), λ e m. let z = (v.over f).1 e m in (z.0, grow _ z.1));
+}
 
 -- ==== Steps that change one process and send and receive no message preserve `Pace`.
 -- the world with another process i, other messages under way and other control messages
@@ -479,14 +462,11 @@ quiet_put n i x new ls step z =
 pub finished_put : (n w i : ℕ) (g h : Gifts) (x : World) (new : EpochState) (under : ℕ → ℕ) (ls : List ControlMessage)
     → Keeps w g h i (x.at i) new → (IsQuiet n x → IsQuiet n (changed i new under ls x)) → (i ≡ 0 → Settled (x.at i) → Settled new)
     → Finished n w x → Finished n w (changed i new under ls x)
-finished_put n w i g h x new under ls k quiet root f =
-    record {
-      quiet = quiet f.quiet;
-      root =
-          put_holds (λ j z. j ≡ 0 → Settled z) i 0 new x.at (λ e d. root (sym e) (subst (λ j. Settled (x.at j)) e f.root))
-          (λ off d. f.root) refl;
-      given = λ j p m. given_kept n w i g h x.at new k j (f.given j p m);
-    }
+finished_put n w i g h x new under ls k quiet root f = record {
+  quiet = quiet f.quiet;
+  root = put_first Settled i new x.at root f.root;
+  given = λ j p m. given_kept n w i g h x.at new k j (f.given j p m);
+}
 
 pub balance_same : (n i : ℕ) (x : World) (new : EpochState) → new.sent ≡ (x.at i).sent → new.received ≡ (x.at i).received
     → (total n (λ j. (x.at j).sent) ≡ total n (λ j. (x.at j).received) + total n x.under_way)
@@ -497,35 +477,24 @@ balance_same n i x new s r e =
 
 -- The pace at the time of a message: the newest wave is the wave of the last message.
 pub newest_pace : (n w : ℕ) (g : Gifts) (y : World) → Pace n w w g y
-newest_pace n w g y =
-    record {
-      past = omega arith;
-      late = λ m. absurd (omega arith);
-      during = λ f m. absurd (omega arith);
-      between = λ f m. absurd (omega arith);
-      few = λ e. omega arith;
-      fewer = λ e f. omega arith;
-    }
+newest_pace n w g y = grind arith
 
 pub pace_kept : (n q w i : ℕ) (g h : Gifts) (x : World) (new : EpochState) (ls : List ControlMessage) → i < n → Pace n q w g x
     → new.received ≡ (x.at i).received → new.known ≡ (x.at i).known → new.last_received ≡ (x.at i).last_received
     → (i ≡ 0 → new.here ≡ (x.at i).here) → ((j : ℕ) → (j ≡ i → ⊥) → h.own j ≡ g.own j) → (q < w → HasGiven w new → h.own i ≡ mine new)
     → Pace n q w h (changed i new x.under_way ls x)
 pace_kept n q w i g h x new ls l v same_received same_known same_last same_here others own =
-    let here : (put i new x.at 0).here ≡ (x.at 0).here =
-    put_holds (λ j z. j ≡ 0 → z.here ≡ (x.at 0).here) i 0 new x.at
-    (λ e f. same_here (sym e) ∙ subst (λ z. (x.at z).here ≡ (x.at 0).here) e refl) (λ off f. refl) refl in
+    let here : (put i new x.at 0).here ≡ (x.at 0).here
+    = put_first (λ z. z.here ≡ (x.at 0).here) i new x.at (λ e old. same_here e ∙ old) refl in
     let known : (put i new x.at 0).known ≡ (x.at 0).known = put_same (λ z. z.known) i 0 new x.at same_known in
     let last : (put i new x.at 0).last_received ≡ (x.at 0).last_received = put_same (λ z. z.last_received) i 0 new x.at same_last in
     let sum : total n (λ j. (put i new x.at j).received) ≡ total n (λ j. (x.at j).received)
-    = total_same-put n i new x.at (λ z. z.received) same_received in
-    record {
+    = total_same-put n i new x.at (λ z. z.received) same_received in record {
       past = v.past;
-      late = λ m j k y.
-          elim (cases_eq j i) [
-            | inl e ↦ rw (e, eq-eqb i i refl) (own m (rw (e, eq-eqb i i refl) at y))
-            | inr off ↦ rw (ne_eqb j i off) (others j off ∙ v.late m j k (rw (ne_eqb j i off) at y))
-          ];
+      late = λ m j k y. elim (cases_eq j i) [
+        | inl e ↦ rw (e, eq-eqb i i refl) (own m (rw (e, eq-eqb i i refl) at y))
+        | inr off ↦ rw (ne_eqb j i off) (others j off ∙ v.late m j k (rw (ne_eqb j i off) at y))
+      ];
       during = λ f m. let z = v.during (sym here ∙ f) m in (known ∙ z.0, last ∙ z.1 ∙ sym sum);
       between = λ f m. let z = v.between (sym here ∙ f) m in (known ∙ z.0, last ∙ z.1 ∙ sym sum);
       few = v.few;

@@ -1,9 +1,9 @@
 -- The names of std, of tp_base and of specs/ that the proofs of this crate use, collected in one module.
 pub use Rattle.std.proofs.Common.{◌≡◌, ℕ, ◌+◌, ◌<◌, refl, sym, ◌∙◌, ap, subst, inl, inr, zero, suc, ◌*◌, ◌≤◌, arith, Some, ◌⊎◌, Bool, true}
-pub use Rattle.std.proofs.Common.{false, cond, List, [], ◌∷◌, ltb, ◌-◌, eqb, not, ◌&&◌, ◌++◌, Option, None, length, ◌^◌, ◌||◌}
+pub use Rattle.std.proofs.Common.{false, cond, List, [], ◌∷◌, ltb, ◌-◌, eqb, not, ◌&&◌, ◌++◌, Option, None, length, ◌^◌, ◌||◌, rules}
 pub use Rattle.std.proofs.{Math.Nat.add-mul, lemmas.Bool.{eq-eqb, ne_eqb, cases_eq, cases_lt, lt-ltb, le-ltb, ltb-true}}
 pub use Rattle.std.proofs.lemmas.Bool.{eqb-false, not-true, and_parts, cond_both, ltb-false, and_from, eqb-true, cases_Bool, and_left}
-pub use Rattle.std.proofs.lemmas.Bool.{and_right, or_from, or_cases, or_parts, not-false, false_from_ne_true, not_from_true, and_cases}
+pub use Rattle.std.proofs.lemmas.Bool.{and_right, or_from, or_parts, not-false, false_from_ne_true, not_from_true}
 pub use Rattle.std.proofs.lemmas.{Bool.{not_from_false, Decides.nat_tests}, List.append_assoc}
 pub use Rattle.tp_base.{proofs.Totals.{total-equal, total_one-changes, total-le, total_same, total-zero}, specs.{Totals.total, Tree.parent}}
 pub use Rattle.tp_process.specs.Calls.{is_miscounted, opened, closed, sent, received, can_send, can_receive}
