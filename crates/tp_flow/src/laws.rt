@@ -1,4 +1,5 @@
-//! Theorems about all descriptions, and about all orders in which their tasks may run.
+//! Theorems about all descriptions, about all graphs whose missing inputs are counted, and about all orders in which the tasks may run.
+ghost use Rattle.tp_flow.specs.CountdownLaws.{ReadyAfterInputs, ReadyOnce, AllAreReady, ChainsAreReaders};
 ghost use Rattle.tp_flow.specs.Laws.{OrdersConflicts, GivesTheSequentialResult, ReadsTheSequentialValues};
 
 /// If two tasks access one handle and one of them writes it, then the later one waits for the earlier one, by a chain of inputs. So in any
@@ -19,4 +20,28 @@ pub fn gives_the_sequential_result<V>()
 #[tactic(auto, using(crate::proofs::Keeping::reads_the_sequential_values))]
 pub fn reads_the_sequential_values<V>()
     ensures { ReadsTheSequentialValues V }
+{}
+
+/// When a task begins, each task that it reads is done.
+#[tactic(auto, using(crate::proofs::Counting::ready_after_inputs))]
+pub fn ready_after_inputs()
+    ensures { ReadyAfterInputs }
+{}
+
+/// No task is handed over twice, so none begins twice; and a task's number is that of its inputs without those that arrived.
+#[tactic(auto, using(crate::proofs::Counting::ready_once))]
+pub fn ready_once()
+    ensures { ReadyOnce }
+{}
+
+/// No task is forgotten: if each task that was handed over is done, and each input that a done task makes has arrived, every task is done.
+#[tactic(auto, using(crate::proofs::Counting::all_are_ready))]
+pub fn all_are_ready()
+    ensures { AllAreReady }
+{}
+
+/// The chain that `link` returns for a task has each input that names the task, once, and no other one.
+#[tactic(auto, using(crate::proofs::Counting::chains_are_readers))]
+pub fn chains_are_readers()
+    ensures { ChainsAreReaders }
 {}

@@ -1,8 +1,10 @@
 //! Small descriptions as tables: the tiles of a Cholesky factorization, readers between two writers, a handle that is named twice, what is
-//! refused, and what a refusal leaves.
+//! refused, and what a refusal leaves. And graphs that are linked or refused.
 
 use crate::access::{Access, Handle, Mode};
+use crate::countdown::link;
 use crate::flow::Flow;
+use crate::limits::NO_INPUT;
 use std::alloc::Global;
 use tp_base::Refusal;
 
@@ -125,4 +127,46 @@ fn out_of_memory(rt: HostRuntime) {
     assert!(rt; handle == Ok(Handle(0)));
     assert!(rt; goes_on(&mut flow, 0, R, &mut inputs) && goes_on(&mut flow, 1, W, &mut inputs));
     assert!(rt; inputs.as_slice() == [0].as_slice());
+}
+
+/// The offsets and inputs of a graph, and what `link` writes to `missing`, `newest`, `older` and `readers`, or its refusal.
+type Linked = (
+    &'static [u32],
+    &'static [u32],
+    Result<[[u32; 4]; 4], (Refusal, u32)>,
+);
+
+const N: u32 = NO_INPUT;
+
+fn is_linked(row: &Linked) -> bool {
+    let (mut a, mut b, mut c, mut d) = ([7; 4], [7; 4], [7; 4], [7; 4]);
+    match (
+        link(row.0, row.1, &mut a[..], &mut b[..], &mut c[..], &mut d[..]),
+        row.2,
+    ) {
+        (Ok(()), Ok(expected)) => [a, b, c, d] == expected,
+        (Err(refusal), Err(expected)) => refusal == expected && [a, b, c, d] == [[7; 4]; 4],
+        _ => false,
+    }
+}
+
+#[test]
+fn linked_graphs(rt: HostRuntime) {
+    let diamond = [[0, 1, 1, 2], [1, 2, 3, N], [N, 0, N, N], [1, 2, 3, 3]];
+    let last_reads_all = [[0, 0, 0, 4], [3, 0, 2, N], [N, N, N, 1], [3, 3, 3, 3]];
+    let inputs_named_twice = [[0, 2, 0, 2], [3, N, 2, N], [N, 0, N, 1], [1, 1, 3, 3]];
+    let rows: [Linked; 9] = [
+        (&[0, 0, 1, 2, 4], &[0, 0, 1, 2], Ok(diamond)),
+        (&[0, 0, 0, 0, 4], &[1, 0, 2, 0], Ok(last_reads_all)),
+        (&[0, 0, 2, 2, 4], &[0, 0, 2, 0], Ok(inputs_named_twice)),
+        (&[], &[], Err((Refusal::BadSpec, 0))),
+        (&[1, 1, 2, 3, 4], &[9, 9, 9, 9], Err((Refusal::BadSpec, 0))),
+        (&[0, 0, 1, 4], &[0, 9, 0, 0], Err((Refusal::BadSpec, 0))),
+        (&[0, 0, 3, 2, 4], &[0, 9, 0, 0], Err((Refusal::NoTask, 1))),
+        (&[0, 0, 3, 2, 4], &[0, 0, 0, 9], Err((Refusal::BadSpec, 2))),
+        (&[0, 0, 5, 5, 4], &[9, 0, 0, 0], Err((Refusal::BadSpec, 1))),
+    ];
+    for row in rows {
+        assert!(rt; is_linked(&row));
+    }
 }
