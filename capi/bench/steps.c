@@ -25,10 +25,10 @@ static double now(void) {
 /* Returns the resident memory in bytes, as Linux reports it; 0 if it does not. */
 static long resident(void) {
     long all = 0, here = 0;
-    FILE *told = fopen("/proc/self/statm", "r");
-    if (!told) return 0;
-    if (fscanf(told, "%ld %ld", &all, &here) != 2) here = 0;
-    fclose(told);
+    FILE *file = fopen("/proc/self/statm", "r");
+    if (!file) return 0;
+    if (fscanf(file, "%ld %ld", &all, &here) != 2) here = 0;
+    fclose(file);
     return here * sysconf(_SC_PAGESIZE);
 }
 

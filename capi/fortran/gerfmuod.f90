@@ -190,7 +190,7 @@ module gerfmuod
       integer(c_int32_t) :: refused
     end function
 
-    ! The same beside the caller, on `threads` other threads: it returns at once.
+    ! The same on `threads` other threads: it returns at once.
     function gerfmuod_team_run_async(team, threads, body, context) bind(c) result(refused)
       import :: c_ptr, c_funptr, c_int32_t
       type(c_ptr), value :: team, context
@@ -199,8 +199,8 @@ module gerfmuod
       integer(c_int32_t) :: refused
     end function
 
-    ! Waits for the end of that run, or for so many milliseconds unless they are gerfmuod_team_no_limit: then it returns
-    ! gerfmuod_refused_running if the run goes on.
+    ! Waits for the end of that run. If the run goes on for `milliseconds`, it returns gerfmuod_refused_running, unless they
+    ! are gerfmuod_team_no_limit.
     function gerfmuod_team_wait(team, milliseconds) bind(c) result(refused)
       import :: c_ptr, c_int32_t
       type(c_ptr), value :: team

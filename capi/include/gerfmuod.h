@@ -3,8 +3,8 @@
  * A program may include only what it uses: gerfmuod/core.h for the detector of a task runtime, gerfmuod/process.h for that of a
  * distributed program, gerfmuod/team.h for a task graph on threads, and gerfmuod/graph.h for one with threads of its own;
  * gerfmuod/parts.h for one whose threads are in groups that share no lock, gerfmuod/part.h for one over several processes;
- * gerfmuod/workers.h for tasks that make tasks.
- * gerfmuod/mpi.h, which has the latter over MPI, is not among these.
+ * gerfmuod/workers.h for tasks that make tasks, and for a task graph whose threads share no lock.
+ * gerfmuod/mpi.h and gerfmuod/mpi_pool.h, which have graphs and such tasks over MPI, are not among these.
  */
 #ifndef GERFMUOD_ALL_H
 #define GERFMUOD_ALL_H

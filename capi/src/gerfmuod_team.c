@@ -104,7 +104,7 @@ uint32_t gerfmuod_team_describe(gerfmuod_team *team, uint32_t tasks, const uint8
     return answer.refused;
 }
 
-/* Tells the caller of a task that was added, unless it was refused, and releases the lock. */
+/* Gives the caller the number of a task that was added, unless it was refused, and releases the lock. */
 static uint32_t spawned(gerfmuod_team *team, gerfmuod_graph_result answer, gerfmuod_team_attach attach, void *data, uint32_t *number) {
     if (!answer.refused) {
         if (number) *number = answer.number;

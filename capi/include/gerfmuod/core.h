@@ -212,7 +212,7 @@ GERFMUOD_CHECKED uint32_t gerfmuod_core_open(gerfmuod_core *core, uint32_t nodes
 GERFMUOD_CHECKED uint32_t gerfmuod_core_open_unrecorded(gerfmuod_core *core, uint32_t nodes);
 
 /* Frees what the core allocated. It is then closed, and may be opened again. Returns 0, or the refusal, and nothing has
- * changed: NO_POOL, as for a core that is closed; BUSY. */
+ * changed: NO_POOL, as for a core that is closed; BUSY. No compiler warns if it is ignored. */
 uint32_t gerfmuod_core_close(gerfmuod_core *core);
 
 /* Begins anew with no steps, as a new core of the same nodes and kind, and gives back the memory of the steps: for programs that

@@ -39,6 +39,7 @@
 
 #include "refusals.h"
 
+#include <stdbool.h>
 #include <stddef.h>
 #include <stdint.h>
 
@@ -176,6 +177,57 @@ enum gerfmuod_graph_call {
 
 /* Makes a call that is named above. Refused: BAD_SPEC if there is none of this number. */
 GERFMUOD_CHECKED gerfmuod_graph_result gerfmuod_graph_call(gerfmuod_graph *graph, uint32_t call, uint32_t first, uint32_t second);
+
+/* ---- A graph whose threads share no lock
+ *
+ * The two functions below are for threads with a list of ready tasks each, as gerfmuod/workers.h has them: they replace all calls above.
+ * The whole graph is known before it runs. gerfmuod_graph_link writes, for each task, the number of its missing inputs, and the chain of
+ * the places in `inputs` that name it. The tasks with missing[t] == 0 are ready. A thread that has run a task passes that on:
+ *
+ *     for (uint32_t k = newest[task]; k != GERFMUOD_GRAPH_NO_INPUT; k = older[k]) {
+ *         uint32_t reader = readers[k];
+ *         lock(reader);
+ *         bool is_ready = gerfmuod_graph_arrive(&missing[reader]);
+ *         unlock(reader);
+ *         if (is_ready) put(reader); // into a list of ready tasks, once
+ *     }
+ *
+ * Tasks may share locks, as long as that of a task is the same for all threads. Proved, for every graph and every order in which threads
+ * run ready tasks and pass on each one that is done, once:
+ *   - a chain has each place in `inputs` that names its task, once, and no other, and ends with GERFMUOD_GRAPH_NO_INPUT;
+ *   - a task becomes ready once, after each of its inputs is done. When nothing that is ready or has to be passed on is left, all tasks
+ *     are done;
+ *   - missing[t] is the number of inputs of task t that have not arrived; each call returns what is described below.
+ * Not proved: that calls for a task come one at a time (its lock is for that), where ready tasks are kept, or how the end is noticed. */
+
+/* No place in `inputs`: the end of a chain. */
+#define GERFMUOD_GRAPH_NO_INPUT UINT32_MAX
+/* The most tasks, and the most inputs, of a graph that is linked. */
+#define GERFMUOD_GRAPH_MAX_LINKED 536870912u
+
+/* Links a graph of offsets_count - 1 tasks: task t reads the tasks inputs[offsets[t]] to inputs[offsets[t + 1] - 1]. Writes the number of
+ * missing inputs of each task to `missing`; the last place in `inputs` that names the task to `newest`; for each place in `inputs`, the
+ * last one before it that names the same task to `older`, and the task that reads it to `readers`. The arrays do not overlap. Allocates
+ * nothing. Refused, and nothing changes, for the first reason that applies. With 0 in `number`: BAD_SPEC if there is no offset, the first
+ * one is not 0, the last one is not `inputs_count`, or an array that is written does not have the length of the tasks or the inputs;
+ * HISTORY_FULL if there are more than GERFMUOD_GRAPH_MAX_LINKED. Then with the first task that has one in `number`: BAD_SPEC if its offsets
+ * decrease or pass the end of `inputs`; NO_TASK if an input is not below its number. */
+GERFMUOD_CHECKED gerfmuod_graph_result gerfmuod_graph_link(const uint32_t *offsets, size_t offsets_count, const uint32_t *inputs,
+                                                           size_t inputs_count, uint32_t *missing, size_t missing_count,
+                                                           uint32_t *newest, size_t newest_count, uint32_t *older, size_t older_count,
+                                                           uint32_t *readers, size_t readers_count);
+
+/* An input of a task has arrived: one less is missing, unless none is. Returns whether it was the last one, so that the task is ready. */
+GERFMUOD_CHECKED bool gerfmuod_graph_arrive(uint32_t *missing);
+
+/* With ThreadSanitizer, each of these two first reports what it reads and writes. */
+#if defined(__SANITIZE_THREAD__)
+#include "tsan.h"
+#elif defined(__has_feature)
+#if __has_feature(thread_sanitizer)
+#include "tsan.h"
+#endif
+#endif
 
 /* The library has the same sizes, which are proved. */
 GERFMUOD_ASSERT(gerfmuod_graph_has_512_bytes, sizeof(gerfmuod_graph) == 512);

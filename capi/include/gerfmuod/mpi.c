@@ -119,7 +119,7 @@ struct gerfmuod_mpi {
     message *sending; /* whose sends are perhaps not complete */
     message *stops;
     uint64_t *sent_to, *received_from;
-    int64_t told; /* the failure of which the others were told, or NO_FAILURE */
+    int64_t announced; /* the failure that was sent to the others, or NO_FAILURE */
 };
 
 /* Signed, as MPICH compares MPI_UINT64_T too. */
@@ -178,7 +178,7 @@ uint32_t gerfmuod_mpi_open(gerfmuod_mpi **opened, MPI_Comm communicator) {
     gerfmuod_part_open(&graph->part, (uint32_t)graph->me, (uint32_t)graph->processes);
     pthread_mutex_init(&graph->lock, NULL);
     pthread_cond_init(&graph->work, NULL);
-    graph->failure = graph->told = NO_FAILURE;
+    graph->failure = graph->announced = NO_FAILURE;
     graph->hash = hash_of_none, graph->hashes = hashes, graph->stride = 1;
     return GERFMUOD_OK;
 }
@@ -478,10 +478,10 @@ static void send_letter(gerfmuod_mpi *graph, letter l) {
     free_type(&b);
 }
 
-/* Tells the others that the run was stopped. */
+/* Sends the others the failure that stopped the run. */
 static void announce(gerfmuod_mpi *graph) {
     for (int p = 0; p < graph->processes; p++)
-        if (p != graph->me) send(graph, &graph->stops, p, (buffer){&graph->told, 1, MPI_INT64_T}, STOP);
+        if (p != graph->me) send(graph, &graph->stops, p, (buffer){&graph->announced, 1, MPI_INT64_T}, STOP);
 }
 
 static int by_task(const void *one, const void *other) {
@@ -577,8 +577,8 @@ static bool advance(gerfmuod_mpi *graph, gerfmuod_part_result *next, bool *has_e
     *failure = graph->is_stopped ? graph->failure : NO_FAILURE;
     letters due = graph->due;
     graph->due = graph->taken, graph->taken = due, graph->due.count = 0;
-    bool announces = graph->told == NO_FAILURE && graph->is_stopped && graph->failure >> 32 == graph->me;
-    if (announces) graph->told = graph->failure;
+    bool announces = graph->announced == NO_FAILURE && graph->is_stopped && graph->failure >> 32 == graph->me;
+    if (announces) graph->announced = graph->failure;
     pthread_mutex_unlock(&graph->lock);
     for (uint32_t k = 0; k < due.count; k++) send_letter(graph, due.at[k]);
     if (announces) announce(graph);

@@ -136,7 +136,7 @@ static void stop(gerfmuod_mpi_pool *pool, int64_t failure) {
     drop_all(&pool->ready);
 }
 
-/* A body failed here. The others are told once; what was due to them before still goes. */
+/* A body failed here. Each other process gets one message about it; what was due to them before still goes. */
 static void stop_all(gerfmuod_mpi_pool *pool, uint32_t number) {
     int64_t failure = (int64_t)pool->me << 32 | number;
     for (item *i = pool->stops, *next; i; i = next) {

@@ -30,8 +30,8 @@ extern "C" {
 typedef struct gerfmuod_mpi_pool gerfmuod_mpi_pool;
 
 /* A body: runs a task with its `size` bytes of arguments, which are at a multiple of 16 and are freed after it. It may make tasks. It
- * calls no function of MPI. It returns 0, or another number if it failed: the run is then stopped everywhere. Bodies run at the same
- * time, as many as there are threads. */
+ * calls no function of MPI. It returns 0, or another number if it failed: the run is then stopped everywhere. Bodies run at the
+ * same time, at most one on each thread. */
 typedef int (*gerfmuod_mpi_pool_body)(gerfmuod_mpi_pool *pool, void *context, const void *arguments, size_t size);
 
 /* Opens a pool without tasks. Collective, over all processes of the communicator. *pool is NULL if the call is refused: NO_MEMORY. */

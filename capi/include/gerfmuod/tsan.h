@@ -1,6 +1,6 @@
-/* gerfmuod/tsan.h: the calls on a core, a process and its tasks as ThreadSanitizer sees them. core.h and process.h include this file if
- * they are compiled with -fsanitize=thread. The library is not, so each call first reports that it reads or writes the first bytes of the
- * core, or all of the process or the tasks, whose fields a program may read. */
+/* gerfmuod/tsan.h: the calls on a core, a process and its tasks, and the arrays of a graph as ThreadSanitizer sees them. core.h, process.h
+ * and graph.h include this file if they are compiled with -fsanitize=thread. The library is not, so each call first reports that it reads
+ * or writes the first bytes of the core, or all of the process, the tasks or the arrays, which a program may read. */
 #ifndef GERFMUOD_TSAN_H
 #define GERFMUOD_TSAN_H
 
@@ -160,6 +160,29 @@ GERFMUOD_TSAN(bool, READ, tasks_is_idle, (const gerfmuod_tasks *tasks), (tasks))
 #undef GERFMUOD_TSAN_PROCESS
 #undef GERFMUOD_TSAN_SETTLE
 #undef GERFMUOD_TSAN_BOTH
+#endif
+
+#if defined(GERFMUOD_GRAPH_H) && !defined(gerfmuod_graph_link)
+#define GERFMUOD_TSAN_READS(array) __tsan_read_range((void *)(uintptr_t)array, array##_count * sizeof *array)
+#define GERFMUOD_TSAN_WRITES(array) __tsan_write_range(array, array##_count * sizeof *array)
+#define GERFMUOD_TSAN_LINK                                                                                        \
+    (GERFMUOD_TSAN_READS(offsets), GERFMUOD_TSAN_READS(inputs), GERFMUOD_TSAN_WRITES(missing), GERFMUOD_TSAN_WRITES(newest), \
+     GERFMUOD_TSAN_WRITES(older), GERFMUOD_TSAN_WRITES(readers))
+#define GERFMUOD_TSAN_WRITE __tsan_write_range(missing, sizeof *missing)
+GERFMUOD_TSAN(gerfmuod_graph_result, LINK, graph_link,
+              (const uint32_t *offsets, size_t offsets_count, const uint32_t *inputs, size_t inputs_count, uint32_t *missing,
+               size_t missing_count, uint32_t *newest, size_t newest_count, uint32_t *older, size_t older_count, uint32_t *readers,
+               size_t readers_count),
+              (offsets, offsets_count, inputs, inputs_count, missing, missing_count, newest, newest_count, older, older_count, readers,
+               readers_count))
+GERFMUOD_TSAN(bool, WRITE, graph_arrive, (uint32_t *missing), (missing))
+
+#define gerfmuod_graph_link gerfmuod_tsan_graph_link
+#define gerfmuod_graph_arrive gerfmuod_tsan_graph_arrive
+#undef GERFMUOD_TSAN_READS
+#undef GERFMUOD_TSAN_WRITES
+#undef GERFMUOD_TSAN_LINK
+#undef GERFMUOD_TSAN_WRITE
 #endif
 
 #undef GERFMUOD_TSAN

@@ -26,15 +26,15 @@ CASE(trace_and_audit) {
     assert_true(asked.outcome == GERFMUOD_NO_ROOM && asked.length > 0);
     char *trace = malloc(asked.length), answer[256];
     assert_non_null(trace);
-    gerfmuod_written told = gerfmuod_core_trace(&core, trace, asked.length);
-    assert_true(told.outcome == GERFMUOD_WRITTEN && told.length == asked.length);
+    gerfmuod_written written = gerfmuod_core_trace(&core, trace, asked.length);
+    assert_true(written.outcome == GERFMUOD_WRITTEN && written.length == asked.length);
     assert_memory_equal(trace, "trace 2\nnodes 3\ninsert 2 5 0\n", 29);
     const char *summary = "steps 55\ntasks 2 done 2\nmessages 2 received 2\ngeneration 2\nended 1\n";
-    has(answer, gerfmuod_audit(trace, told.length, answer, sizeof answer), GERFMUOD_WRITTEN, summary);
-    gerfmuod_written small = gerfmuod_audit(trace, told.length, answer, 3);
+    has(answer, gerfmuod_audit(trace, written.length, answer, sizeof answer), GERFMUOD_WRITTEN, summary);
+    gerfmuod_written small = gerfmuod_audit(trace, written.length, answer, 3);
     assert_true(small.outcome == GERFMUOD_NO_ROOM && small.length == strlen(summary));
     memcpy(trace + 18, "x", 1); /* inxert */
-    has(answer, gerfmuod_audit(trace, told.length, answer, sizeof answer), GERFMUOD_COMPLAINT, "syntax line 3\n");
+    has(answer, gerfmuod_audit(trace, written.length, answer, sizeof answer), GERFMUOD_COMPLAINT, "syntax line 3\n");
     free(trace);
     gerfmuod_core_close(&core);
 }

@@ -1,4 +1,5 @@
-/* unlocked.c: two threads make a call each on one core, process or its tasks, with or without the mutex that protects it.
+/* unlocked.c: two threads make a call each on one core, process or its tasks, or on the arrays of a graph, with or without the mutex that
+ * protects it.
  *
  *   unlocked CALL.. [unlocked]     built with -fsanitize=thread
  *
@@ -6,6 +7,7 @@
  * writes meets one that only reads, and a call that only reads one that writes, so that each has to be reported as what it is. The second
  * thread waits for a counter that orders nothing else, so the calls never overlap, and nothing else is wrong. */
 #include <gerfmuod/core.h>
+#include <gerfmuod/graph.h>
 #include <gerfmuod/process.h>
 #include <pthread.h>
 #include <stdio.h>
@@ -17,6 +19,8 @@ static gerfmuod_tasks tasks;
 static gerfmuod_control_message message;
 static gerfmuod_step step = {GERFMUOD_STEP_READY, 0, 0, 0, 0};
 static gerfmuod_step_result result;
+static uint32_t missing[1], newest[1];
+static const uint32_t offsets[2];
 static char text[99];
 static pthread_mutex_t lock = PTHREAD_MUTEX_INITIALIZER;
 static uint32_t calls_made;
@@ -73,7 +77,10 @@ static volatile uint64_t returned[2]; /* so that no compiler leaves out a read *
     X(tasks_running, false, gerfmuod_tasks_running(&tasks))                                              \
     X(tasks_due, false, gerfmuod_tasks_due(&tasks))                                                      \
     X(tasks_is_opening, false, gerfmuod_tasks_is_opening(&tasks))                                        \
-    X(tasks_is_idle, false, gerfmuod_tasks_is_idle(&tasks))
+    X(tasks_is_idle, false, gerfmuod_tasks_is_idle(&tasks))                                              \
+    X(graph_link, true, gerfmuod_graph_link(offsets, 2, NULL, 0, missing, 1, newest, 1, NULL, 0, NULL, 0).refused) \
+    X(graph_arrive, true, gerfmuod_graph_arrive(missing))                                                \
+    X(graph_fields, false, missing[0]) /* the program's own read of a number that the library writes */
 
 enum call {
 #define NAME(name, writes, expression) name,
@@ -99,6 +106,7 @@ static uint64_t make(enum call call) {
 }
 
 static enum call other_of(enum call call) {
+    if (call >= graph_link) return does_write[call] ? graph_fields : graph_arrive;
     if (call < process_init) return does_write[call] ? core_status : core_step;
     if (call > process_fields) return does_write[call] ? tasks_waiting : tasks_add;
     return does_write[call] ? process_pending : process_add_work;

@@ -94,7 +94,7 @@ static void play(void) {
     add_to_graph(0, first_later);
     need(!gerfmuod_graph_call(&graph, GERFMUOD_GRAPH_START, threads, 0).refused, "start");
     for (uint32_t w = 0; w < threads; w++) runs[w] = GERFMUOD_GRAPH_NONE;
-    while (left) { /* any thread goes on: one that was told to sleep wakes up by itself, too */
+    while (left) { /* any thread goes on: one that was to sleep wakes up by itself, too */
         uint32_t w = below(threads), done = runs[w];
         if (is_away[w]) continue;
         if (done == 0) add_to_graph(first_later, tasks);

@@ -4,7 +4,7 @@
  *                                                          input; an input from outside; a signal; or the order of ready tasks
  *
  * Each graph has up to 64 tasks, some of them added in its run. On half of the graphs any calls are made, valid and invalid ones.
- * The others are run by threads that do as they are told: those that sleep come back when they are signalled, and sometimes
+ * The others are run by threads that do what a turn returns: those that sleep come back when they are signalled, and sometimes
  * unasked. Such a run comes to its end: whenever no thread can go on, an input from outside is awaited. Many run again. The exit
  * status is 1 at the first difference. */
 #include "../random.h"
@@ -99,7 +99,7 @@ static void describe(void) {
           model_describe(&m, classes, has_classes ? given : 0, offsets, lengths, inputs, count));
 }
 
-/* ---- threads that do as they are told */
+/* ---- threads that do what a turn returns */
 static void turn(uint32_t w) {
     uint32_t kind = GERFMUOD_GRAPH_TURN, done = thread[w].state == RUNS ? thread[w].task : GERFMUOD_GRAPH_NONE;
     if (thread[w].state == SPINS) kind = GERFMUOD_GRAPH_TURN_SPUN;

@@ -182,7 +182,7 @@ CASE(threads_without_a_ring) {
     gerfmuod_team_close(team);
 }
 
-/* A turn that waits reads the clock as it begins, as it is first told to wait, and as it ends, however often it polls. */
+/* A turn that waits reads the clock as it begins, as a turn first returns that it waits, and as it ends, however often it polls. */
 CASE(readings_of_a_wait) {
     pthread_t waiting;
     gerfmuod_team *team = team_with(MANY, 0);

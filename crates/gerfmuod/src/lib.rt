@@ -8,6 +8,7 @@ mod batch;
 mod calls;
 mod exports;
 mod graph;
+mod links;
 mod names;
 mod part;
 mod pool;
