@@ -12,37 +12,54 @@ mod graph;
 use crate::graph::Chain;
 use pool_kernels::check_graph;
 use std::alloc::Global;
-use std::io;
+use std::env::Env;
+use std::fmt::Write;
+use std::process::ExitCode;
 use std::sync::Wait;
 use std::thread::Threads;
 use tp_base::TaskId;
 use tp_graph::Value;
+use tp_shell::{Ending, Status, begin, end};
 use tp_work::{Config, Fault, run_in_order};
 
-fn main(rt: HostRuntime) -> io::Result<()> {
-    let (length, config) = (4, Config::new(2, 2));
-    if let Err(fault) = check_graph(rt.alloc(), &Chain { length }, config.nodes) {
-        return println!(rt; "not in order: {fault:?}");
+fn main(rt: HostRuntime) -> ExitCode {
+    let text = chain_text(&rt, 4, Config::new(2, 2));
+    ExitCode::from(end(&rt, "chain", &text, rt.stdout(), rt.stderr()))
+}
+
+/// Returns a line for each task of a chain of `length` tasks, or why there is none.
+fn chain_text<R: Threads + Wait + Sync + Env + AllocGlobal>(
+    rt: &R,
+    length: u32,
+    config: Config,
+) -> Result<String, Ending>
+    requires { IsWithinLimits config }
+{
+    let about = "Runs a chain of four tasks, and prints each task with its value";
+    begin(rt, "chain", about, false)?;
+    let alloc = rt.alloc();
+    let mut text = String::new(alloc);
+    if let Err(fault) = check_graph(alloc, &Chain { length }, config.nodes) {
+        writeln!(text, "not in order: {fault:?}")?;
+        return Err(Ending::Told(Status::Refused, text));
     }
-    match run_chain(&rt, rt.alloc(), length, config) {
+    match run_chain(rt, alloc, length, config) {
         Ok(results) => {
             for (task, value) in &results {
                 if let Ok(number) = value.lone() {
-                    println!(rt; "{} {number}", task.0)?;
+                    writeln!(text, "{} {number}", task.0)?;
                 }
             }
-            Ok(())
+            Ok(text)
         }
         Err(fault) => {
-            print!(rt;
-                "refused {} {}",
-                fault.refusal.number(),
-                fault.refusal.name()
-            )?;
-            if let Some(task) = fault.failed {
-                print!(rt; ": task {}", task.0)?;
+            let refusal = fault.refusal;
+            write!(text, "refused {} {}", refusal.number(), refusal.name())?;
+            match fault.failed {
+                Some(task) => writeln!(text, ": task {}", task.0)?,
+                None => writeln!(text)?,
             }
-            println!(rt)
+            Err(Ending::Told(Status::Failed, text))
         }
     }
 }

@@ -7,29 +7,44 @@ mod tree;
 
 use crate::member::{Content, Fault, Mailbox, Member, Totals};
 use std::alloc::{AllocError, Global};
+use std::env::Env;
+use std::fmt::Write;
+use std::process::ExitCode;
 use std::sync::{Mutex, Wait};
-use std::thread::{JoinHandle, SpawnError, Threads};
+use std::thread::{self, JoinHandle, SpawnError, Threads};
 use std::time::Clock;
-use std::{io, thread};
+use tp_shell::{Ending, Status, begin, end};
 
-fn main(rt: HostRuntime) -> io::Result<()> {
+fn main(rt: HostRuntime) -> ExitCode {
+    let text = totals_text(&rt);
+    ExitCode::from(end(&rt, "detector", &text, rt.stdout(), rt.stderr()))
+}
+
+/// Returns a line for each number of processes: the totals of what they did.
+fn totals_text<R: Threads + Wait + Clock + Sync + Env + AllocGlobal>(
+    rt: &R,
+) -> Result<String, Ending> {
+    let about = "Runs trees of tasks by 1 to 16 processes, and prints what each comes to";
+    begin(rt, "detector", about, false)?;
+    let mut text = String::new(rt.alloc());
     for processes in [1, 2, 3, 8, 16] {
-        match run_processes(&rt, rt.alloc(), processes) {
+        match run_processes(rt, rt.alloc(), processes) {
             Ok((totals, left)) => {
-                let Totals {
-                    tasks,
-                    checksum,
-                    sent,
-                    received,
-                } = totals;
-                println!(rt;
-                    "processes {processes} tasks {tasks} checksum {checksum:016x} sent {sent} received {received} left {left}"
+                let (tasks, checksum) = (totals.tasks, totals.checksum);
+                let (sent, received) = (totals.sent, totals.received);
+                write!(
+                    text,
+                    "processes {processes} tasks {tasks} checksum {checksum:016x}"
                 )?;
+                writeln!(text, " sent {sent} received {received} left {left}")?;
             }
-            Err(fault) => println!(rt; "processes {processes}: {fault:?}")?,
+            Err(fault) => {
+                let line = format!(in rt.alloc(); "processes {processes}: {fault:?}\n")?;
+                return Err(Ending::Told(Status::Failed, line));
+            }
         }
     }
-    Ok(())
+    Ok(text)
 }
 
 /// Runs this number of processes, each in a thread of its own. Returns the totals of what they did, and the number of
@@ -100,7 +115,7 @@ fn totals_of<R: Threads>(
     rt: &R,
     handles: Vec<JoinHandle<Result<Totals, Fault>>>,
 ) -> Result<Totals, Fault> {
-    let mut totals = Totals::none();
+    let mut totals = Totals::default();
     let mut fault = None;
     for handle in handles {
         match handle.join(rt) {

@@ -68,7 +68,7 @@ impl From<Refusal> for Fault {
 }
 
 /// Totals of what processes have done in all epochs.
-#[derive(Clone, Copy, Debug, PartialEq, Eq)]
+#[derive(Clone, Copy, Debug, Default, PartialEq, Eq)]
 pub struct Totals {
     pub tasks: u64,
     pub checksum: u64,
@@ -78,15 +78,6 @@ pub struct Totals {
 }
 
 impl Totals {
-    pub fn none() -> Totals {
-        Totals {
-            tasks: 0,
-            checksum: 0,
-            sent: 0,
-            received: 0,
-        }
-    }
-
     /// Returns the totals of both.
     pub fn plus(self, other: Totals) -> Totals {
         Totals {
@@ -135,7 +126,7 @@ impl<'a, R: Wait + Clock> Member<'a, R> {
             process: Process::new(number, processes)?,
             waiting: Vec::new(alloc),
             kept: Vec::new(alloc),
-            totals: Totals::none(),
+            totals: Totals::default(),
         })
     }
 
@@ -268,8 +259,6 @@ impl<'a, R: Wait + Clock> Member<'a, R> {
 }
 
 fn find_mailbox(mailboxes: &[Mailbox], number: u64) -> Result<&Mailbox, Fault> {
-    match usize::try_from(number) {
-        Ok(number) => mailboxes.get(number).ok_or(Fault::NoMailbox),
-        Err(_) => Err(Fault::NoMailbox),
-    }
+    let place = usize::try_from(number).map_err(|_| Fault::NoMailbox)?;
+    mailboxes.get(place).ok_or(Fault::NoMailbox)
 }

@@ -1,101 +1,52 @@
 //! Reads whole numbers from standard input, one a line, and prints their prefix sums, computed by a pool of threads.
-//! The options `--nodes` and `--workers` take 1 to 8. The status is 1 if there are no sums, 2 if the arguments or the
-//! input are at fault, and 3 if reading or writing fails, or memory runs out there.
+//! The options `--nodes` and `--workers` take 1 to 8.
 #![tactic(auto)]
 
-ghost use Rattle.clap.specs.{Values.kind_of, declared.error.kind.ErrorKind.TheVariants.{DisplayHelp, OutOfMemory}};
-ghost use Rattle.std.specs.Prelude.{◌≡◌, ◌≢◌, ◌≤◌, ◌⊎◌, IfOk, IsErr, MatchResult};
-ghost use Rattle.tp_work.specs.Outcomes.{IsWithinLimits};
+ghost use Rattle.std.specs.Prelude.{◌≡◌, ◌⊎◌, IfOk};
+ghost use Rattle.tp_shell.specs.declared.status.Status.TheVariants.{Failed, Refused};
 
 mod kernel;
 mod relation;
 mod sums;
 
 use crate::sums::{PrefixFault, prefix_sums};
-use clap::error::ErrorKind;
-use clap::{Command, Error};
-use pool_kernels::{GridFault, RunFault};
+use pool_kernels::{GridFault, RunFault, TableFault};
+use std::alloc::AllocError;
 use std::env::Env;
+use std::fmt::Write;
 use std::io;
 use std::process::ExitCode;
 use std::sync::Wait;
 use std::thread::Threads;
-use tp_shell::{arguments, config_of, with_counts, words_of};
-use tp_work::Config;
+use tp_shell::{Ending, Status, begin, end};
 
 fn main(rt: HostRuntime) -> ExitCode {
-    match run(&rt) {
-        Ok(status) => ExitCode::from(status),
-        Err(_) => ExitCode::from(3),
-    }
+    let text = sums_text(&rt);
+    ExitCode::from(end(&rt, "prefix", &text, rt.stdout(), rt.stderr()))
 }
 
-/// Reads, computes and prints. Returns the exit status, or why reading or writing failed.
-fn run<R: Threads + Wait + Sync + Env + Input + Print + Eprint + AllocGlobal>(
+/// Returns the sums of the numbers that are read, one a line, or why there are none.
+fn sums_text<R: Threads + Wait + Sync + Env + Input + AllocGlobal>(
     rt: &R,
-) -> io::Result<u8>
-    ensures { IfOk result (λ status. status ≤ 2) }
-{
-    match config_asked(rt)? {
-        Ok(config) => sum_up(rt, config),
-        Err(status) => Ok(status),
-    }
-}
-
-/// Returns the numbers of nodes and workers, or the exit status if the arguments ask for help or are at fault.
-fn config_asked<R: Env + Print + Eprint + AllocGlobal>(rt: &R) -> io::Result<Result<Config, u8>>
-    ensures { IfOk result (λ asked. MatchResult asked IsWithinLimits (λ status. (status ≡ 0) ⊎ (status ≡ 2))) }
-{
-    let arguments = match arguments(rt) {
-        Ok(arguments) => arguments,
-        Err(io::ErrorKind::OutOfMemory) => return Err(io::ErrorKind::OutOfMemory.into()),
-        Err(_) => {
-            eprintln!(rt; "the arguments are not text")?;
-            return Ok(Err(2));
-        }
-    };
-    let words = words_of(rt.alloc(), &arguments)?;
-    let command = with_counts(rt.alloc(), Command::new(rt.alloc(), "prefix"))?;
-    match command.try_get_matches_from(&words) {
-        Ok(matches) => Ok(Ok(config_of(&matches))),
-        Err(error) => Ok(Err(show(rt, &error)?)),
-    }
-}
-
-/// Prints help if the arguments ask for it, and else what is wrong with them. Returns the exit status.
-fn show(rt: &(impl Print + Eprint), error: &Error) -> io::Result<u8>
-    ensures status { IfOk result (λ status.
-        ((status ≡ 0) × (kind_of error.now ≡ DisplayHelp)) ⊎ ((status ≡ 2) × (kind_of error.now ≢ DisplayHelp))) }
-    ensures memory { kind_of error.now ≡ OutOfMemory → IsErr result }
-{
-    match error.kind() {
-        ErrorKind::DisplayHelp => {
-            print!(rt; "{error}")?;
-            Ok(0)
-        }
-        ErrorKind::OutOfMemory => Err(io::ErrorKind::OutOfMemory.into()),
-        _ => {
-            eprint!(rt; "{error}")?;
-            Ok(2)
-        }
-    }
-}
-
-/// Reads the numbers, and prints their sums, or why there are none. Returns the exit status.
-fn sum_up<R: Threads + Wait + Sync + Input + Print + Eprint + AllocGlobal>(
-    rt: &R,
-    config: Config,
-) -> io::Result<u8>
-    requires { IsWithinLimits config }
-    ensures { IfOk result (λ status. status ≤ 2) }
-{
+) -> Result<String, Ending> {
+    let about = "Reads whole numbers, one a line, and prints their prefix sums";
+    let (alloc, config) = (rt.alloc(), begin(rt, "prefix", about, true)?);
+    let mut text = String::new(alloc);
     let Some(numbers) = numbers_of(rt)? else {
-        eprintln!(rt; "a line is no whole number of 64 bits")?;
-        return Ok(2);
+        writeln!(text, "a line is no whole number of 64 bits")?;
+        return Err(Ending::Told(Status::Refused, text));
     };
-    match prefix_sums(rt, rt.alloc(), &numbers, config) {
-        Ok(sums) => print_all(rt, &sums),
-        Err(fault) => complain(rt, &fault, numbers.len()),
+    match prefix_sums(rt, alloc, &numbers, config) {
+        Ok(sums) => {
+            for sum in &sums {
+                writeln!(text, "{sum}")?;
+            }
+            Ok(text)
+        }
+        Err(fault) => {
+            let status = complain(&mut text, &fault, numbers.len())?;
+            Err(Ending::Told(status, text))
+        }
     }
 }
 
@@ -111,33 +62,25 @@ fn numbers_of(rt: &(impl Input + AllocGlobal)) -> io::Result<Option<Vec<i64>>> {
     Ok(Some(numbers))
 }
 
-/// Prints numbers, one a line. Returns the exit status.
-fn print_all(rt: &impl Print, numbers: &[i64]) -> io::Result<u8>
-    ensures { IfOk result (λ status. status ≡ 0) }
-{
-    for number in numbers {
-        println!(rt; "{number}")?;
-    }
-    Ok(0)
-}
-
-/// Prints why there are no sums of `width` numbers. Returns the exit status.
-fn complain(rt: &impl Eprint, fault: &PrefixFault, width: usize) -> io::Result<u8>
-    ensures { IfOk result (λ status. status ≡ 1) }
+/// Writes why there are no sums of `width` numbers, and returns the exit status.
+fn complain(line: &mut String, fault: &PrefixFault, width: usize) -> Result<Status, AllocError>
+    ensures { IfOk result (λ status. (status ≡ Refused) ⊎ (status ≡ Failed)) }
 {
     match fault {
-        PrefixFault::TooMany => eprintln!(rt; "there are 1,048,576 numbers or more")?,
-        PrefixFault::Grid(GridFault::Table(fault)) => eprintln!(rt; "no grid: {fault:?}")?,
+        PrefixFault::TooMany => writeln!(line, "there are 1,048,576 numbers or more")?,
+        PrefixFault::Grid(GridFault::Table(TableFault::NoMemory)) => return Err(AllocError),
+        PrefixFault::Grid(GridFault::Table(fault)) => writeln!(line, "no grid: {fault:?}")?,
         PrefixFault::Grid(GridFault::Run(fault)) => {
             let refusal = fault.refusal();
-            eprint!(rt; "refused {} {}", refusal.number(), refusal.name())?;
-            if let Some((row, column)) = failed_at(fault, width) {
-                eprint!(rt; ": row {row}, column {column}")?;
+            write!(line, "refused {} {}", refusal.number(), refusal.name())?;
+            match failed_at(fault, width) {
+                Some((row, column)) => writeln!(line, ": row {row}, column {column}")?,
+                None => writeln!(line)?,
             }
-            eprintln!(rt)?;
+            return Ok(Status::Failed);
         }
     }
-    Ok(1)
+    Ok(Status::Refused)
 }
 
 /// Returns the row and the column of the task whose body failed, if one did.

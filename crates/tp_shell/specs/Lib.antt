@@ -1,4 +1,5 @@
 pub mod Command
+pub mod Endings
 pub mod Statuses
 pub mod Streams
 pub mod Texts

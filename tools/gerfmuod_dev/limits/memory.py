@@ -126,10 +126,8 @@ def address_space(tally, options, folder):
     whole output, or else that it is out of memory. It has to be refused at least once, and to succeed at least once.
     """
     for growth, line, command, stdin in commands("memory", options, folder):
-        limits = [FIRST_LIMIT]
-        while len(limits) < LIMITS:
-            limits.append(limits[-1] + limits[-1] * int(growth) // 100)
-        runs = ((f"{limit} KB", running.run(["prlimit", f"--as={1024 * limit}", *command], stdin)) for limit in limits)
+        grown = itertools.accumulate(range(LIMITS - 1), lambda limit, _: limit + limit * int(growth) // 100, initial=FIRST_LIMIT)
+        runs = ((f"{limit} KB", running.run(["prlimit", f"--as={1024 * limit}", *command], stdin)) for limit in grown)
         judge(tally, line, running.run(command, stdin), runs, ["refused", "whole"])
 
 
@@ -142,8 +140,7 @@ def live(tally, options, folder):
     library = running.preload_library(tally, "live", folder, "the memory that a stencil has at a time")
     with open(f"{folder}/heat", "w", encoding="utf-8") as file:
         inputs.write_cells(file, CELLS)
-    rows = (" ".join(str(row * column % 1009) for column in range(WIDTH)) for row in range(CELLS // WIDTH))
-    running.write(f"{folder}/relax", rows)
+    running.write(f"{folder}/relax", (" ".join(str(row * column % 1009) for column in range(WIDTH)) for row in range(CELLS // WIDTH)))
     environment, first = {**os.environ, "LD_PRELOAD": library or "", "LIVE_REPORT": f"{folder}/report"}, None
     for count, (name, size), steps in itertools.product("12", (("heat", "8000"), ("relax", "8")), STEPS) if library else ():
         command = [options.samples, name, str(steps), size, "--nodes", count, "--workers", count]

@@ -5,7 +5,7 @@ import os
 import re
 import shutil
 
-from .. import running
+from .. import repository, running
 from ..repository import TOP, text_of
 from ..running import Result
 from .terminal import USER, reasons
@@ -68,8 +68,7 @@ def threads(tally):
     # the first thread counts: the start of the second, third .. 65th fails
     for most in (*range(1, 65), 65, 66, 100):
         expected = Result(3, b"", b"refused 17 NoMemory\n") if most < 65 else Result(0, b"66\ntasks 7\nmessages 6\nended\n", b"")
-        command = ["run", "reduce:4:0", "--nodes", "8", "--workers", "8"]
-        yield expected, command, b"", f'exec {OTHER_USER} prlimit --nproc={most} "$@"'
+        yield expected, ["run", "reduce:4:0", "--nodes", "8", "--workers", "8"], b"", f'exec {OTHER_USER} prlimit --nproc={most} "$@"'
 
 
 def strange(tally, options, folder):
@@ -86,9 +85,8 @@ def strange(tally, options, folder):
     library = running.preload_library(tally, "interrupted", folder, "reads that are interrupted forever")
     # (after 67,108,864 interrupted reads the program gives up)
     cases = [(READ_FAULT, [command], INPUTS[command], f'LD_PRELOAD={library} exec "$@"') for command in INPUTS if library]
-    cases += arguments_and_pools()
-    if not options.quick:
-        cases += [*streams(), *lengths(program), *threads(tally)]
+    more = () if options.quick else (*streams(), *lengths(program), *threads(tally))
+    cases += [*arguments_and_pools(), *more]
     for expected, arguments, *more in cases:
         stdin, line = [*more, *[b"", 'exec "$@"'][len(more):]]
         result = running.run(["bash", "-c", line, "bash", program, *arguments], stdin)
@@ -97,17 +95,21 @@ def strange(tally, options, folder):
 
 
 def manners(tally, options, folder):
-    """Runs each subcommand in each situation of a table: a closed pipe, a full disk, no file, wrong arguments, help, the version.
+    """Runs each program and subcommand in each situation of a table: a closed pipe, a full disk, no file, wrong arguments, help, versions.
 
     A row of tools/data/limits/manners.json has a line of bash, the arguments that it adds, the status, and patterns of the output
     and of standard error, in which NAME is the program's name. Programs that read have more of them, and some rows are of one command.
-    No line of help has more than 80 characters. Then come the reasons of `tools/dev limits reasons`.
+    No line of help has more than 80 characters. Examples that the gate has not built are built unproved. Then come `limits reasons`.
     """
     table = json.loads(text_of(f"{TOP}/tools/data/limits/manners.json"))
+    folders = {name: "unproved/" * bool(repository.reason_not_built(name)) for name in table["examples"]}
+    if unproved := [*filter(folders.get, folders)]:
+        tally.judge(not running.run([f"{TOP}/tools/try", *unproved], timeout=None, stdout=None).status, "tools/try")
     readers = [command for command in table["commands"] if command[2]]
     rows = [*itertools.product(table["commands"], table["situations"]), *itertools.product(readers, table["reading"]), *table["alone"]]
     for (name, arguments, stdin), (situation, line, more, status, out, err) in rows:
-        command = ["bash", "-c", line, "bash", getattr(options, name), *arguments, *more]
+        program = f"{TOP}/{folders[name]}bin/{name}" if name in folders else getattr(options, name)
+        command = ["bash", "-c", line, "bash", program, *arguments, *more]
         result = running.run(command, stdin.encode(), env=USER, cwd=folder)
         is_well = all(re.fullmatch(pattern.replace("NAME", name), text.decode(), re.S) for pattern, text in zip((out, err), result[1:]))
         is_well &= result.status == status and (more != ["--help"] or max(map(len, result.out.decode().split("\n"))) <= 80)

@@ -79,9 +79,8 @@ def judge(tally, command, expected, result):
 def reasons(tally, options, _):
     """Runs `tp` with and without a terminal as its standard error.
 
-    Output and status are the same. A second line gives the reason of an error, if there is one, unless the environment has
-    GERFMUOD_QUIET. At a terminal the program announces that it reads there. A run of over a second prints its progress there, and
-    clears it at its end.
+    Output and status are the same. A second line gives the reason of an error, if there is one, unless the environment has GERFMUOD_QUIET.
+    At a terminal the program announces that it reads there. A run of over a second prints its progress there, and clears it at its end.
     """
     for arguments, text, status, out, err, reason in CASES["reasons"]:
         command, text = [options.tp, *arguments], text.encode()
@@ -94,12 +93,11 @@ def reasons(tally, options, _):
     tally.judge(is_well, f"a long run at a terminal: {paused.description()}")
     for name, text in ("sim", b"nodes 1\n"), ("audit", b"trace 1\nnodes 1\n"):
         command, announced = [options.tp, name], f"reads standard input: tp {name} < FILE\n"
-        expected = running.run(command, text)._replace(err=announced.encode())
-        judge(tally, command, expected, run_at_terminal(command, text, is_typed=True))
+        judge(tally, command, running.run(command, text)._replace(err=announced.encode()), run_at_terminal(command, text, is_typed=True))
 
 
 def progress(tally, options, folder):
-    """Runs the samples over lent data at a terminal, and on inputs that are too large to be stored.
+    """Runs the samples over borrowed data at a terminal, and on inputs that are too large to be stored.
 
     Runs without an end in sight have to print their progress. Runs that end have to leave the terminal clear, to print on
     standard output what they print without a terminal, and with `--quiet` no progress. If standard input is a terminal too, they
