@@ -110,7 +110,7 @@ void requests_freed_poll(void) {
     }
 }
 
-/* Which message a receive with a wildcard gets cannot be told from the notices. If it has got one, this is noted, also while the
+/* Which message a receive with a wildcard gets cannot be seen in the notices. If it has got one, this is noted, also while the
  * program has not completed it: the message is not for others then. */
 void wildcards_poll(void) {
     for (struct comm *comm = comm_each(NULL); comm; comm = comm_each(comm))

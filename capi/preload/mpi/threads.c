@@ -1,4 +1,4 @@
-/* threads.c: MPI_THREAD_MULTIPLE is not served. Whether a rank is idle cannot be told if another of its threads may call MPI.
+/* threads.c: MPI_THREAD_MULTIPLE is not served. Whether a rank is idle is unknown if another of its threads may call MPI.
  *
  * MPI_Init_thread grants at most MPI_THREAD_SERIALIZED. Many programs ignore that, so their calls are guarded. */
 #define _GNU_SOURCE

@@ -32,7 +32,7 @@ void unlock_tool(void) { pthread_mutex_unlock(&lock); }
 static void count_time(worker *w, uint64_t now) {
     task *t = w->now;
     if (!t || t->id != w->id || t->life >= DONE) return;
-    if (t->region->is_ended) now = t->region->ended; /* the thread is told later that the last barrier ended */
+    if (t->region->is_ended) now = t->region->ended; /* the runtime reports the end of the last barrier later */
     if (now <= w->since) return;
     uint64_t ns = now - w->since;
     if (*option.times) note_bar(w, now);

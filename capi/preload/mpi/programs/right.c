@@ -8,7 +8,7 @@
 #include <string.h>
 #include <unistd.h>
 
-static int me, n, next, before;
+static int me, n, next, before, times = 1, ran;
 static char *path;
 static MPI_Comm parent;
 enum { ROUNDS = 50 };
@@ -187,9 +187,11 @@ static void slow(void) {
     MPI_Barrier(WORLD);
 }
 
-/* Spawns this program once more, without the library, and has a communicator with the ranks of both. (MPICH 4.0.2 over UCX cannot.) */
+/* Spawns this program once more, without the library, and has a communicator with the ranks of both. (MPICH 4.0.2 over UCX cannot.)
+ * Only in the first turn: on a busy computer MPI_Comm_spawn of Open MPI 4.1.4 rarely never returns, with the new program in MPI_Init. */
 static void spawn(void) {
 #ifdef OPEN_MPI
+    if (ran > 1) return;
     char program[] = "env", *arguments[] = {"-u", "LD_PRELOAD", path, "spawn", NULL};
     MPI_Comm other = parent, merged;
     int x = parent == MPI_COMM_NULL ? 7 : 0, size;
@@ -270,6 +272,23 @@ static int receive_one(int way, int tag) {
     return x;
 }
 
+/* Others wait 3 seconds for rank 0, each in another call: one of those above, a synchronous send, or one that creates a communicator.
+ * Then all wait 3 seconds for the last rank, in MPI_Finalize. */
+static void late(void) {
+    enum { SYNCHRONOUS = 4, WAYS = 6 };
+    MPI_Comm copy;
+    if (me == 0) sleep(3);
+    for (int rank = 1, way, x = -1; rank < n; rank++) {
+        way = (rank + ran) % WAYS;
+        if (me == 0 && way < SYNCHRONOUS) MPI_Send(&rank, 1, MPI_INT, rank, 1, WORLD);
+        if (me == 0 && way == SYNCHRONOUS) MPI_Recv(&x, 1, MPI_INT, rank, 2, WORLD, NO_STATUS), check(x == rank, "late");
+        if (me == rank && way < SYNCHRONOUS) check(receive_one(way, 1) == me, "late");
+        if (me == rank && way == SYNCHRONOUS) MPI_Ssend(&me, 1, MPI_INT, 0, 2, WORLD);
+    }
+    MPI_Comm_dup(WORLD, &copy), MPI_Comm_free(&copy);
+    if (me == n - 1 && ran == times) sleep(3);
+}
+
 /* Each rank sends to others at random, in rounds, and receives as many messages as all send to it in that round. */
 static void random_messages(void) {
     unsigned seed = 1;
@@ -308,12 +327,12 @@ static const struct mode {
 } modes[] = {
     {"ring", ring}, {"synchronous", synchronous}, {"master", master}, {"requests", requests}, {"persistent", persistent},
     {"probes", probes}, {"collectives", collectives}, {"communicators", communicators}, {"cancelled", cancelled},
-    {"intercommunicator", intercommunicator}, {"files", files}, {"slow", slow}, {"partitions", partitions}, {"many", many},
-    {"threads", threads}, {"random", random_messages}, {"unseen", unseen}, {"spawn", spawn},
+    {"intercommunicator", intercommunicator}, {"files", files}, {"slow", slow}, {"late", late}, {"partitions", partitions},
+    {"many", many}, {"threads", threads}, {"random", random_messages}, {"unseen", unseen}, {"spawn", spawn},
 };
 
 int main(int count, char **arguments) {
-    int granted, times = count > 2 ? atoi(arguments[2]) : 1, ran = 0;
+    int granted;
     if (count < 2 || !strcmp(arguments[1], "modes")) {
         for (size_t k = 0; k < sizeof modes / sizeof *modes; k++) printf("%s\t2\t\n", modes[k].name);
         return 0;
@@ -323,6 +342,7 @@ int main(int count, char **arguments) {
     MPI_Comm_size(WORLD, &n);
     MPI_Comm_get_parent(&parent);
     path = arguments[0];
+    if (count > 2) times = atoi(arguments[2]);
     next = (me + 1) % n;
     before = (me + n - 1) % n;
     for (size_t k = 0; k < sizeof modes / sizeof *modes; k++)

@@ -219,7 +219,7 @@ static void two_threads(void) {
     pthread_join(other, NULL);
 }
 
-#define WAITS(rank, call, peer, function) "gerfmuod: " rank "(-[0-9]+)? +" call " +" peer ".* in " function
+#define WAITS(rank, call, peer, function) "gerfmuod: " rank "(-[0-9]+)? +" call " +" peer ".* wrong\\.c:[0-9]+ in " function
 static const struct mode {
     const char *name;
     void (*run)(void);
@@ -231,7 +231,7 @@ static const struct mode {
       "rank 1 has not received 4 bytes from rank 0, tag 7"}},
     {"lost", lost, 2, "",
      {"LOST: 1 message that no rank received",
-      "rank 1 has not received 4 bytes from rank 0, tag 7, MPI_COMM_WORLD, sent at .* in (send_to|lost)"}},
+      "rank 1 has not received 4 bytes from rank 0, tag 7, MPI_COMM_WORLD, sent at wrong\\.c:[0-9]+ in (send_to|lost)"}},
     {"barrier", barrier, 2, "", {WAITS("0", "MPI_Barrier", "rank LAST, in collective call 1", "barrier")}},
     {"cycle", cycle, 2, "", {WAITS("0", "MPI_Recv", "message from LAST, tag 5", "cycle")}},
     {"wait", two_receives, 2, "", {WAITS("0", "MPI_Waitall", "message from 1, tag 1", "two_receives")}},
@@ -267,7 +267,8 @@ static const struct mode {
     {"neighbours", neighbours, 2, "abort",
      {WAITS("0", "MPI_Neighbor_alltoall", "rank LAST, in collective call 1", "neighbours")}},
     {"mismatch", mismatch, 2, "abort",
-     {"collective call 1 of MPI_COMM_WORLD: rank LAST calls MPI_Bcast with root 0 at .* in mismatch, rank 0 calls MPI_Barrier"}},
+     {"collective call 1 of MPI_COMM_WORLD: rank LAST calls MPI_Bcast with root 0 at wrong\\.c:[0-9]+ in mismatch, "
+      "rank 0 calls MPI_Barrier"}},
     {"threads", two_threads, 2, "", {"rank [0-9]+: two threads call MPI at the same time"}},
     {"large", large, 2, "", {WAITS("0", "MPI_Send", "receive of 1, tag 9", "large")}},
     {"heads", heads, 2, "sync", {WAITS("0", "MPI_Send", "receive of 1, tag 9", "heads")}},
