@@ -2,7 +2,7 @@
 #               cores the first time); tp comes first, and `make bin/tp` builds nothing else. It keeps some 2 GB in crates/*/out,
 #               and while it runs up to 1 GB in the temporary folder (TMPDIR)
 # make demo     two runs of the program, without proofs, on the cases of tools/data/demo (a minute)
-# make try      the programs and the library without proofs, in unproved/bin and unproved/lib (some minutes)
+# make try      the programs and the library without proofs, in unproved/bin and unproved/lib; `--version` says so (some minutes)
 # make test     every test and every program, without proofs: those in C, C++, Fortran and Python with the library of
 #               `make lib`, and the cases of the programs with those of `make` (some minutes; see docs/GATE.md)
 # make mpi      tree search with the detector for distributed programs, Cholesky with a task graph in each process, and one task graph
@@ -87,9 +87,8 @@ ompt: lib/libgerfmuod_ompt.so
 lib/libgerfmuod_ompt.so: lib/libgerfmuod.a $(wildcard capi/preload/openmp/*.[ch])
 	@$(MAKE) --no-print-directory -s -C capi/preload/openmp
 
-# (one job per check: each further job of a check loads the libraries again)
 gate:
-	RT_JOBS=$$(tools/dev lanes) $(RT) ci $(if $(ANEW),$$($(RT) help | grep -o -e --anew | head -n 1))
+	$(RT) ci $(if $(ANEW),$$($(RT) help | grep -o -e --anew | head -n 1))
 
 mutants:
 	@tools/dev mutants $(if $(ALL),--all,$(CRATE))

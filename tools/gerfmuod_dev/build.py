@@ -1,17 +1,18 @@
 """Proves the crates of the programs, and builds them: bin/tp and bin/samples, or one of them.
 
-The crates are proved in crates/*/out, where later checks find what is proved, one after the other: those of tp first. The prover takes
-several processors for a large crate. Prints a line for each crate as it ends; if one is not proved, prints the output of its check, and
-the status is 1.
+The crates are proved side by side, each after those below it in a checkout of its own, and what is proved goes to crates/*/out, where later
+checks find it. Prints a line for each crate as it ends; if one is not proved, prints the output of its check, and the status is 1.
 """
 import contextlib
 import itertools
 import os
+import queue
 import re
 import shutil
 import subprocess
 import tempfile
 import time
+from concurrent.futures import ThreadPoolExecutor
 
 from . import repository, running
 
@@ -23,30 +24,47 @@ NOT_COPIED = shutil.ignore_patterns("out", "must-fail", "mutants")
 QUIET = re.compile(r"(== |logic|statements|library|crate|by-macro|only=|so far:|empty contracts|rt: chose)|.*: proved$")
 
 
-def prove(crate, place):
-    """Proves a crate over those below it, and builds it; returns whether that succeeded, and prints it."""
+def prove(crate, below, room, jobs):
+    """Proves a crate over those below it in a checkout, and builds it; returns whether that succeeded, and prints it."""
     began, verb = time.time(), "run" if crate.name in PROGRAMS else "check" if crate.is_program else "lib"
-    command = ["rt", verb, *["--", "--help"] * (verb == "run")]
-    # (a prover that is ended leaves hundreds of megabytes)
-    with tempfile.TemporaryDirectory() as folder:
-        environment = {**os.environ, "TMPDIR": folder}
-        result = running.run(command, cwd=f"crates/{crate.name}", stderr=subprocess.STDOUT, timeout=None, env=environment)
-    output = result.out.decode(errors="replace")
+    keep(below, room, ["rlib"])
+    keep([crate.name], room)
+    command = ["rt", verb, "--jobs", f"{jobs}", *["--", "--help"] * (verb == "run")]
+    # (a prover that is ended leaves hundreds of megabytes, which go with the checkout)
+    environment = {**os.environ, "TMPDIR": room}
+    result = running.run(command, cwd=f"{room}/crates/{crate.name}", stderr=subprocess.STDOUT, timeout=None, env=environment)
     if result.status:
-        lines = [line for line in output.splitlines() if not QUIET.match(line)]
-        print("\n".join([f"{place} {crate.name}: NOT PROVED", *lines]), flush=True)
+        lines = [line for line in result.out.decode(errors="replace").splitlines() if not QUIET.match(line)]
+        print("\n".join([f"{crate.name}: NOT PROVED", *lines]), flush=True)
         return False
+    keep([crate.name], ".", source=room)
     if crate.name in repository.BUILT:
-        repository.take(crate.name)
-    functions = re.search(r"^logic=proved functions=(\d+)", output, re.M)
-    what = f", bin/{crate.name} is built" if crate.name in PROGRAMS else f", {functions[1]} functions" if functions else ""
-    print(f"{place} {crate.name}: proved{what} ({time.time() - began:.0f} s)", flush=True)
+        repository.take(crate.name, room)
+    print(f"{crate.name}: proved{f', bin/{crate.name} is built' * (verb == 'run')} ({time.time() - began:.0f} s)", flush=True)
     return True
 
 
 def prove_all(names):
-    crates = {**repository.crates(names[:1]), **repository.crates(names)}
-    return all(prove(crate, f"[{number}/{len(crates)}]") for number, crate in enumerate(crates.values(), 1))
+    """Proves these crates and those below them; returns whether that succeeded."""
+    crates, ended, rooms = repository.crates(names), {}, queue.SimpleQueue()
+
+    def prove_in_turn(crate):
+        if not all([ended[name].result() for name in crate.below]):
+            return False
+        room = rooms.get()
+        try:
+            # (by then crates that can be proved at the same time have their rooms; the processors are shared among them)
+            time.sleep(0.1)
+            return prove(crate, repository.crates(crate.below), room, len(copies) // (len(copies) - rooms.qsize()))
+        finally:
+            rooms.put(room)
+
+    with checkouts([]) as (_, copies), ThreadPoolExecutor(len(crates)) as lanes:
+        for room in copies:
+            rooms.put(room)
+        for crate in crates.values():
+            ended[crate.name] = lanes.submit(prove_in_turn, crate)
+    return all([future.result() for future in ended.values()])
 
 
 def link(old, new):
@@ -64,11 +82,11 @@ def renew(source, target):
     shutil.copytree(source, target, copy_function=link)
 
 
-def keep(crates, target):
+def keep(crates, target, parts=("rlib", "incremental"), source="."):
     """Copies what was proved of these crates, and their libraries, to another folder of crates. (A program has no library.)"""
-    for name, part in itertools.product(crates, ("rlib", "incremental")):
-        if os.path.exists(f"crates/{name}/out/{part}"):
-            renew(f"crates/{name}/out/{part}", f"{target}/crates/{name}/out/{part}")
+    for name, part in itertools.product(crates, parts):
+        if os.path.exists(f"{source}/crates/{name}/out/{part}"):
+            renew(f"{source}/crates/{name}/out/{part}", f"{target}/crates/{name}/out/{part}")
 
 
 @contextlib.contextmanager

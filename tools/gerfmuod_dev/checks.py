@@ -67,8 +67,8 @@ def run_part(name, command, minutes, is_shown):
 def run_parts(has_gate):
     """Yields each part when it ends, and shows its output; with the gate, library and programs are built from what it has proved."""
     if has_gate:
-        began, lanes = time.time(), repository.lanes(repository.MEMORY_OF_A_CHECK)
-        yield run_part("gate", ["env", f"RT_JOBS={lanes}", "rt", "ci"], LIMIT_OF_GATE, True)
+        began = time.time()
+        yield run_part("gate", ["rt", "ci"], LIMIT_OF_GATE, True)
         yield run_part("lib", [TOOLS, "lib", "--since", str(began)], LIMIT, True)
     with ThreadPoolExecutor(repository.processors()) as pool:
         parts = [pool.submit(run_part, name, [TOOLS, *command.split()], LIMIT, False) for name, command in PARTS.items()]

@@ -92,7 +92,7 @@ def arguments(parser):
 def run(options):
     below = [name for name in repository.crates(build.LIBRARIES) if name != CRATE]
     programs = [] if options.since is None else build.PROGRAMS
-    for name in programs:
+    for name in {*repository.BUILT} - {CRATE} if programs else ():
         if is_since(f"crates/{name}/out/{repository.BUILT[name][0]}", options.since):
             repository.take(name)
     if repository.reason_not_built(CRATE):

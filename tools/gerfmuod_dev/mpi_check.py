@@ -19,10 +19,8 @@ from .mpi_graphs import ROOT
 from .shared_object import environment_options
 
 FOLDER, NAME = "capi/preload/mpi", "libgerfmuod_mpi_check.so"
-OPTIONS = ["-std=gnu11", "-O2", "-Wall", "-Wextra", "-Werror", "-Wno-stringop-overflow", "-Icapi/include", "-Icapi"]
-OPTIONS += environment_options("CFLAGS")
-LINK = ["-Llib", "-Wl,-Bstatic", "-lgerfmuod", "-Wl,-Bdynamic", "-ldl", "-Wl,-z,defs", f"-Wl,--version-script={FOLDER}/mpi_check.map"]
-LINK += environment_options("LDFLAGS")
+OPTIONS = "-std=gnu11 -O2 -Wall -Wextra -Werror -Wno-stringop-overflow -Icapi/include -Icapi".split() + environment_options("CFLAGS")
+LINK = f"-shared -fPIC -Llib -Wl,-Bstatic -lgerfmuod -Wl,-Bdynamic -ldl -Wl,-z,defs,--version-script={FOLDER}/mpi_check.map".split()
 # (a rank that yields while it polls loses a time slice each time on a busy machine)
 MPIS = [mpi._replace(runner=" ".join(mpi.runner).replace("idle 1", "idle 0").split()) for mpi in mpi_graphs.MPIS]
 FORTRAN_MODES = "right\t2\t\nwrong\t2\t\t: 0 +MPI_Recv +message from 1, tag 8, MPI_COMM_WORLD +\\S+ in \\w+\t4 bytes from rank 1, tag 7"
@@ -30,7 +28,7 @@ VERDICT = re.compile(r"DEADLOCK|UNSAFE|LOST|MISMATCH|no verdict|bug of this libr
 
 
 def build(compiler, path):
-    output_of([compiler, *OPTIONS, "-shared", "-fPIC", *sorted(glob.glob(f"{FOLDER}/*.c")), *LINK, "-o", path])
+    output_of([compiler, *OPTIONS, *sorted(glob.glob(f"{FOLDER}/*.c")), *LINK, *environment_options("LDFLAGS"), "-o", path])
 
 
 def compiled(mpi, folder, name):
@@ -38,14 +36,15 @@ def compiled(mpi, folder, name):
     return f"{folder}/{name}"
 
 
-def programs(mpi, folder):
-    """Compiles the programs for an MPI; yields the path of each, and the list of its modes."""
+def programs(mpi, folder, is_full):
+    """Compiles the programs for an MPI; yields the path of each, and the list of its modes. The long form also has programs of others."""
     compiled(mpi, folder, "cost")
     for path in (compiled(mpi, folder, name) for name in ("right", "wrong")):
         yield path, output_of([path, "modes"])
     for name in ("fortran", "fortran_2008") if shutil.which(mpi.fortran) else ():
         output_of([mpi.fortran, "-g", "-w", f"{FOLDER}/programs/{name}.f90", "-J", folder, "-o", f"{folder}/{name}"])
         yield f"{folder}/{name}", FORTRAN_MODES
+    yield f"{FOLDER}/programs/others.sh", output_of([f"{FOLDER}/programs/others.sh", "modes", mpi.compiler.split(".")[1]]) * is_full
 
 
 def printed_by(mpi, count, program, **variables):
@@ -81,20 +80,22 @@ def judge_names(tally, mpi, path):
 def check(tally, mpi, folder, options):
     build(mpi.compiler, f"{folder}/{NAME}")
     judge_names(tally, mpi, f"{folder}/{NAME}")
-    modes = [(path, mode) for path, modes in programs(mpi, folder) for mode in modes.splitlines()]
+    modes = [(path, mode) for path, modes in programs(mpi, folder, options.full) for mode in modes.splitlines()]
     for count in options.ranks:
         runs = []
         for path, mode in modes:
-            name, least, _, *patterns = mode.split("\t")
+            name, least, how, *patterns = mode.split("\t")
             jobs, times = ((20, 1) if patterns else (5, 20)) if options.full else (1, 1)
-            if count >= int(least) and name in (options.only or [name]):
+            if how.startswith("lacks "):
+                tally.skips(f"{name} over {mpi.name}", how[6:])
+            elif count >= int(least) and name in (options.only or [name]):
                 runs += [(job, path, mode, count, times) for job in range(jobs)]
         with ThreadPoolExecutor(max(6, 8 * repository.processors() // count)) as pool:
             list(pool.map(lambda run: judge(tally, mpi, folder, *run[1:]), sorted(runs)))
 
 
 def arguments(parser):
-    parser.add_argument("--full", action="store_true", help="20 jobs of each wrong program, and 5 of 20 runs of each right one")
+    parser.add_argument("--full", action="store_true", help="20 jobs of each wrong program, 5 of 20 runs of each right one, and others")
     parser.add_argument("--ranks", type=int, nargs="+", default=[4], help="the numbers of ranks (4)")
     parser.add_argument("--only", metavar="MODE", nargs="+", help="only the programs with these modes")
     parser.add_argument("--build", metavar="FOLDER", help="only build the library, in this folder")

@@ -24,7 +24,6 @@ PARTS = dict(
     rod="src/heat.rt src/rod_mix.rt specs/Heats.antt specs/HeatLaws.antt proofs/Sweeps.antt proofs/RodCuts.antt proofs/heat proofs/rod_mix",
     intervals="src/matrix_chain.rt specs/MatrixChains.antt proofs/MatrixCosts.antt proofs/matrix_chain",
 )
-MAY_WAIT = {"rod": 2, "intervals": 3}
 
 
 def lines_of_crates(folder="."):
@@ -61,14 +60,14 @@ def rename(folder, kind, new):
             # what a part takes from the root of its crate, and from modules that stay there
             text = visible.GROUP.sub(lambda group: one_a_module(group) if f"Rattle.{old}." in f"{group[2]}." else group[0], text)
             text = text.replace("use crate::{", f"use {old}::{{")
-        text = re.sub(rf"\bRattle\.{old}(?={copied})", f"Rattle.{new}", text)
+        text = re.sub(rf"\bRattle\.{old}(?={copied})", f"Rattle.{new}", text).replace(f'"{old}"', f'"{new}"')
         os.remove(path)
         running.write(re.sub(r"\.text$", "", path), text)
 
 
 def create(folder, name, kind):
     source, lines, theirs = KINDS[kind], lines_of_crates(), lines_of_crates(folder)
-    line = f"{name} may_wait={MAY_WAIT[kind]}: tp_base tp_graph {source} tp_work" if kind in PARTS else name + lines[source][len(source):]
+    line = f"{name} may_wait=2: tp_base tp_graph {source} tp_work" if kind in PARTS else name + lines[source][len(source):]
     lower = repository.crates([crate for crate in (*line.split(":")[1].split(), *theirs) if crate in lines])
     for crate in lower:
         shutil.rmtree(f"{folder}/crates/{crate}", ignore_errors=True)

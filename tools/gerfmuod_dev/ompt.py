@@ -73,10 +73,9 @@ def arguments(parser):
 
 def run(options):
     tally, folder, reason = options.tally, options.temporary, library.reason_not_built()
-    source = running.write(f"{folder}/a.c", "#include <omp-tools.h>\nint main(void) { return 0; }\n")
     if not tally.has("clang", WHAT):
         return
-    if not succeeds(["clang", "-fopenmp", source, "-o", f"{folder}/a"]):
+    if not succeeds("clang -fopenmp -fsyntax-only -include omp-tools.h -xc /dev/null".split()):
         tally.skips(WHAT, "libomp-dev")
     elif reason:
         tally.fails(f"{reason}: {WHAT} was not linked. make lib builds it")

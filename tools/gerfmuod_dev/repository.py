@@ -11,7 +11,8 @@ MEMORY_OF_A_TRIAL = 2_500_000
 # the folders of a crate that have its code, definitions and proofs
 SOURCES = ("src", "specs", "proofs")
 # what is built of a crate in its folder out/, and where that is copied
-BUILT = {"tp": ("tp", "bin/tp"), "samples": ("samples", "bin/samples"), "gerfmuod": ("libgerfmuod.a", "lib/proved/libgerfmuod.a")}
+BUILT = {name: (name, f"bin/{name}") for name in ("tp", "samples", "chain", "detector", "prefix")}
+BUILT["gerfmuod"] = "libgerfmuod.a", "lib/proved/libgerfmuod.a"
 # the file with the version of the library and of the programs, from which all takes it that is generated
 VERSION = "crates/gerfmuod/src/exports.rt"
 
@@ -61,11 +62,11 @@ def digest(names):
     return result.hexdigest()
 
 
-def take(crate):
+def take(crate, folder="."):
     """Copies what was built of a crate, newer than the sources, for make; next to it is written a digest of the sources."""
     name, path = BUILT[crate]
     os.makedirs(os.path.dirname(path), exist_ok=True)
-    shutil.copy(f"crates/{crate}/out/{name}", path)
+    shutil.copy(f"{folder}/crates/{crate}/out/{name}", path)
     with open(f"{path}.sources", "w", encoding="utf-8") as file:
         file.write(digest([crate]))
 

@@ -1,9 +1,8 @@
 """Adds the parts in C to the library for other languages, and links it as a shared object: libgerfmuod.so.0.
 
-The parts are in capi/src: gerfmuod_calls.c, the symbols of the calls that are inline for C, and gerfmuod_team.c, gerfmuod_parts.c
-and gerfmuod_workers.c, which are over POSIX threads. No proof covers them. The archive and the shared object define only names
-gerfmuod_* for others; the shared object has a soname and needs only the C library. CC, CFLAGS and LDFLAGS are those of the
-environment.
+The parts are in capi/src: gerfmuod_calls.c, the symbols of the calls that are inline for C, and gerfmuod_team.c, gerfmuod_parts.c and
+gerfmuod_workers.c, which are over POSIX threads. No proof covers them. The archive and the shared object define only names gerfmuod_* for
+others; the shared object has a soname and needs only the C library. CC, CFLAGS and LDFLAGS are those of the environment.
 """
 import os
 import re

@@ -49,7 +49,8 @@ def ways(program, argument, workers=(1, WORKERS)):
     return [Way(program, argument.format(count), 1, count) for count in workers]
 
 
-POOL, OPENMP = ways("pool", "{}"), ways("OpenMP tasks", "omp:{}")
+GRAINS = {"pool": "{}", "workers": "w{}", "OpenMP tasks": "omp:{}"}
+POOL, ON_WORKERS, OPENMP = (ways(*program) for program in GRAINS.items())
 TRACED, LOOP = Way("pool with a trace", "1t"), Way("one after the other", "loop")
 
 
@@ -159,17 +160,17 @@ def empty(bench, programs):
     """Measures graphs of empty bodies, and how the time of a task grows with their number."""
     for shape in SHAPES[:2] if bench.is_quick else SHAPES:
         size = shape, EMPTY_TASKS, 0
-        own = programs.own("bench/grain", size, [*POOL, TRACED, *OPENMP]), *programs.tbb("grain", size)
+        own = programs.own("bench/grain", size, [*POOL, TRACED, *ON_WORKERS, *OPENMP]), *programs.tbb("grain", size)
         yield from compare(bench, f"{shape}, empty bodies", own, functools.partial(instructions_by_way, bench, programs, shape))
     for shape, tasks in itertools.product(GROWING, (1_000, 10_000 if bench.is_quick else 1_000_000)):
-        yield from compare(bench, f"{shape}, {tasks:,} empty bodies", [programs.own("bench/grain", (shape, tasks, 0), POOL)])
+        yield from compare(bench, f"{shape}, {tasks:,} empty bodies", [programs.own("bench/grain", (shape, tasks, 0), POOL + ON_WORKERS)])
 
 
 def bodies(bench, programs):
-    workers, sizes = (1, 2, WORKERS), (WITH_BODIES[:1], MICROSECONDS[1::2]) if bench.is_quick else (WITH_BODIES, MICROSECONDS)
-    for shape, microseconds in itertools.product(*sizes):
+    workers = 1, 2, WORKERS
+    for shape, microseconds in itertools.product(*(WITH_BODIES[:1], MICROSECONDS[1::2]) if bench.is_quick else (WITH_BODIES, MICROSECONDS)):
         size = shape, BODY_TASKS, programs.iterations(microseconds)
-        own = programs.own("bench/grain", size, [LOOP, *ways("pool", "{}", workers), *ways("OpenMP tasks", "omp:{}", workers)])
+        own = programs.own("bench/grain", size, sum((ways(*program, workers) for program in GRAINS.items()), [LOOP]))
         yield from compare(bench, f"{shape}, bodies of {microseconds:g} us", [own, *programs.tbb("grain", size, workers)])
 
 
@@ -177,7 +178,7 @@ def small_runs(bench, programs):
     """Measures a tree that tasks spawn, a graph of 20 tasks that runs many times, and functions of Python."""
     for microseconds in (0, 1):
         size = 12 if bench.is_quick else 16, programs.iterations(microseconds)
-        own = programs.own("bench/tree", size, [LOOP, *POOL, *ways("workers", "w{}"), *OPENMP])
+        own = programs.own("bench/tree", size, [LOOP, *POOL, *ON_WORKERS, *OPENMP])
         peers = programs.tbb("tree", size, title="oneTBB task group")
         yield from compare(bench, f"binary tree that tasks spawn, depth {size[0]}, bodies of {microseconds} us", [own, *peers])
     own = [*(Way(f"pool, {name}", f"{name}:2", 1, 2) for name in ("again", "clear", "new")), *ways("OpenMP tasks", "omp:{}", [2])]

@@ -235,7 +235,7 @@ FRONT = {
     "threads and a barrier": (None, "threads and a barrier"),
     "a loop, 1 thread": ("one after the other", "plain loop"),
 }
-WITHOUT_RUNTIME = list(FRONT)[-2:]
+WITHOUT_RUNTIME = {"a loop, 1 thread": "parallelism does not pay off", "threads and a barrier": "threads and a barrier are faster"}
 FRONT_POOLS = ["wavefront:64:64:0", "reduce:1024:0"]
 
 
@@ -246,7 +246,7 @@ def front_rows(all_rows, case, place, names):
 
 def front(runs, body_rows, rod_rows):
     """Returns the table of README: some rows of three measurements, and where threads or a loop are better than a runtime."""
-    lines, without, runs, sizes = [], [], having(runs, load=0), bodies(body_rows)
+    lines, without, runs, sizes = [], {name: [] for name in FRONT}, having(runs, load=0), bodies(body_rows)
     pools, rods = ([names[order] for names in FRONT.values()] for order in (0, 1))
     for pool in FRONT_POOLS:
         counts = [each_unit(row) for row in front_rows(runs, pool, "1 by 1", pools)]
@@ -262,9 +262,9 @@ def front(runs, body_rows, rod_rows):
         # (those are bold that the quartiles do not tell from the least one)
         cells = [f"**{with_quartiles(row, form)}**" if row and overlap(row, best) else with_quartiles(row, form) for row in here]
         lines.append([f"{'' if case[0] == '`' else 'Rod: '}{case}, 4 workers, ms", *cells])
-        without += [f"{case} ({name})"] * (name in WITHOUT_RUNTIME)
-    parts = [table(["On four cores, a run (quartiles)", *FRONT], lines)]
-    return "\n\n".join(parts + [f"Parallelism does not pay off, with four workers, for {'; '.join(without)}."] * bool(without))
+        without[name].append(case)
+    beaten = "; ".join(f"{text} for {' and '.join(without[name])}" for name, text in WITHOUT_RUNTIME.items() if without[name])
+    return "\n\n".join([table(["On four cores, a run (quartiles)", *FRONT], lines), *[f"With four workers, {beaten}."] * bool(beaten)])
 
 
 def library(rows):
