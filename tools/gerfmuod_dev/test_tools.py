@@ -115,7 +115,7 @@ def test_crates_are_proved_and_mutants_that_survive_are_found(tmp_path):
     assert not list(tmp_path.glob("gerfmuod-*"))
 
 
-@pytest.mark.parametrize("command", ["build tp", "mutants --all", "new-pool none/new one", "try chain"])
+@pytest.mark.parametrize("command", ["build tp", "mutants --all", "new-pool none/new one", "try tp_flow"])
 def test_a_missing_toolchain_is_named_in_one_line(command, tmp_path):
     for name in ("python3", "sh", "timeout", "cc"):
         os.symlink(shutil.which(name), tmp_path / name)
