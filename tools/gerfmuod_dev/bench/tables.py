@@ -294,7 +294,7 @@ def speed_up(rows, row):
 
 def growth(rows, row):
     """Returns the nanoseconds a task, and their ratio to those of the smallest graph of this shape."""
-    least = next(other for other in having(rows, where=row.where) if other.case.split()[0] == row.case.split()[0])
+    least = next(other for other in having(rows, where=row.where, program=row.program) if other.case.split()[0] == row.case.split()[0])
     return f"{NANOSECONDS(rows, row)}; {ratio(row.milliseconds * least.units, least.milliseconds * row.units):.2f}"
 
 
