@@ -1,6 +1,6 @@
 # make          proves the programs with all that they use, and builds them: bin/tp and bin/samples (half an hour on four
-#               cores the first time); tp comes first, and `make bin/tp` builds nothing else. It keeps some 2 GB in crates/*/out,
-#               and while it runs up to 1 GB in the temporary folder (TMPDIR)
+#               cores the first time); `make bin/tp` builds nothing else. It keeps 7 GB and more in crates/*/out, and while it runs as
+#               much again in the temporary folder (TMPDIR)
 # make demo     two runs of the program, without proofs, on the cases of tools/data/demo (a minute)
 # make try      the programs and the library without proofs, in unproved/bin and unproved/lib; `--version` says so (some minutes)
 # make test     every test and every program, without proofs: those in C, C++, Fortran and Python with the library of
